@@ -1,0 +1,125 @@
+-- A script is bytes, and this module cuts it into pieces, one for each statement. A piece reaches to the next `;` that
+-- stands outside strings, quoted names and comments; spaces and comments in front of it are not part of it. The
+-- definitions look ahead: for each byte they say how many of the bytes behind it belong to what it opens.
+use Rattle.std.specs.Prelude.{◌++◌, ◌^◌, ℕ, zero, suc, Bool, true, false, ◌||◌, ◌&&◌, ◌==◌, nat_lt, if◌then◌else◌, List, [], ◌∷◌, length, map}
+use Rattle.sasi_types.specs.declared.piece.PieceEnd.{PieceEnd}
+use Rattle.sasi_types.specs.declared.piece.PieceEnd.TheVariants as ends
+
+-- ---- what a byte opens
+
+-- how many bytes there are up to and with the first c, or all
+abbrev pub to_byte : ℕ → List ℕ → ℕ
+to_byte c [] = 0
+to_byte c (b ∷ bs) = if b == c then 1 else suc (to_byte c bs)
+
+-- the first byte is c
+abbrev pub starts : ℕ → List ℕ → Bool
+starts c [] = false
+starts c (b ∷ bs) = b == c
+
+abbrev pub behind_first : List ℕ → List ℕ
+behind_first [] = []
+behind_first (b ∷ bs) = bs
+
+-- how many bytes there are up to and with the first `*/`, or all
+abbrev pub to_close : List ℕ → ℕ
+to_close [] = 0
+to_close (b ∷ bs) = if b == 42 && starts 47 bs then 2 else suc (to_close bs)
+
+-- there is a `*/`
+abbrev pub closes : List ℕ → Bool
+closes [] = false
+closes (b ∷ bs) = (b == 42 && starts 47 bs) || closes bs
+
+-- a byte and those behind it begin with `--` or `//`: a comment up to the end of the line
+abbrev pub is_line : ℕ → List ℕ → Bool
+is_line b behind = (b == 45 && starts 45 behind) || (b == 47 && starts 47 behind)
+
+-- they begin with `/*`: a comment up to the next `*/`
+abbrev pub is_block : ℕ → List ℕ → Bool
+is_block b behind = b == 47 && starts 42 behind
+
+-- how many of the bytes behind a byte belong to the string, the quoted name or the comment that it opens
+abbrev pub opened_by : ℕ → List ℕ → ℕ
+opened_by b behind =
+    if b == 39 then to_byte 39 behind
+    else if b == 34 then to_byte 34 behind
+    else if is_line b behind then to_byte 10 behind
+    else if is_block b behind then suc (to_close (behind_first behind))
+    else 0
+
+-- a space, a tab, CR or LF
+abbrev pub is_space : ℕ → Bool
+is_space b = b == 32 || b == 9 || b == 13 || b == 10
+
+-- ---- the cut
+
+-- the pieces that end with their `;`, and the bytes of the one that the script ends in: none where nothing is left
+pub record Cut : Type 0 where
+  pub whole : List (List ℕ)
+  pub rest : List ℕ
+
+abbrev pub joined : ℕ → List (List ℕ) → List ℕ → Cut
+joined b [] rest = record { whole = []; rest = b ∷ rest }
+joined b (p ∷ ps) rest = record { whole = (b ∷ p) ∷ ps; rest = rest }
+
+-- with one more byte in front, which ends no piece
+abbrev pub in_front : ℕ → Cut → Cut
+in_front b c = joined b c.whole c.rest
+
+-- with a piece in front that this byte ends
+abbrev pub ended_by : ℕ → Cut → Cut
+ended_by b c = record { whole = (b ∷ []) ∷ c.whole; rest = c.rest }
+
+-- The cut of bytes of which the first `inside` belong to a string, a quoted name or a comment. A piece has begun in front
+-- of them, or none has. A `/*` that nothing closes is no comment: it begins a piece.
+abbrev pub scan : Bool → ℕ → List ℕ → Cut
+scan begun inside [] = record { whole = []; rest = [] }
+scan true (suc inside) (b ∷ bs) = in_front b (scan true inside bs)
+scan false (suc inside) (b ∷ bs) = scan false inside bs
+scan true zero (b ∷ bs) = if b == 59 then ended_by b (scan false 0 bs) else in_front b (scan true (opened_by b bs) bs)
+scan false zero (b ∷ bs) =
+    if is_space b then scan false 0 bs
+    else if is_line b bs then scan false (opened_by b bs) bs
+    else if is_block b bs && closes (behind_first bs) then scan false (opened_by b bs) bs
+    else if b == 59 then ended_by b (scan false 0 bs)
+    else in_front b (scan true (opened_by b bs) bs)
+
+-- ---- the pieces
+
+-- the most bytes that a piece has
+abbrev pub PIECE_LIMIT : ℕ
+PIECE_LIMIT = 2 ^ 20
+
+-- a piece with its text, or how it is none
+pub data Piece : Type 0 where
+  Whole : List ℕ → Piece
+  -- more than 2^20 bytes; whether a `;` ends it, or the script
+  TooLong : Bool → Piece
+  -- the script ends inside it
+  Unfinished : Piece
+
+-- the piece that ended so, with its text
+abbrev pub piece_of : PieceEnd → List ℕ → Piece
+piece_of ends.Whole text = Whole text
+piece_of (ends.TooLong finished) text = TooLong finished
+piece_of ends.Unfinished text = Unfinished
+
+abbrev pub whole_piece : List ℕ → Piece
+whole_piece text = if nat_lt PIECE_LIMIT (length text) then TooLong true else Whole text
+
+-- of what is left behind the last `;`
+abbrev pub last_piece : List ℕ → List Piece
+last_piece [] = []
+last_piece (b ∷ bs) = (if nat_lt PIECE_LIMIT (length (b ∷ bs)) then TooLong false else Unfinished) ∷ []
+
+-- the pieces of a script: those that end with a `;`, and the last, if anything is left
+pub record Pieces : Type 0 where
+  pub whole : List Piece
+  pub last : List Piece
+
+abbrev pub pieces : List ℕ → Pieces
+pieces bytes = record { whole = map whole_piece (scan false 0 bytes).whole; last = last_piece (scan false 0 bytes).rest }
+
+abbrev pub all_pieces : List ℕ → List Piece
+all_pieces bytes = (pieces bytes).whole ++ (pieces bytes).last

@@ -1,0 +1,9 @@
+-- The token of a key.
+use Rattle.std.specs.Prelude.{ℕ, List, ◌++◌, take, replicate}
+use Rattle.std.specs.Int.{w64, from_be_bytes}
+use Rattle.sasi_types.specs.declared.partitioner.Partitioner.{Partitioner}
+use Rattle.sasi_types.specs.declared.partitioner.Partitioner.TheVariants.{Lead8}
+
+-- under lead8 the first eight bytes as a big-endian number, with zero bytes behind a shorter key
+unfoldable pub token_of : Partitioner → List ℕ → ℕ
+token_of Lead8 key = from_be_bytes w64 (take 8 (key ++ replicate 8 0))

@@ -1,0 +1,54 @@
+// The columns of a table, as they are declared.
+ghost use Rattle.std.specs.Prelude.{◌≡◌, ◌++◌, ◌∷◌, [], OnOk, OnErr};
+
+use crate::Name;
+use std::alloc::{AllocError, Global};
+use std::marker::Model;
+
+/// What the values of a column are.
+#[derive(Clone, Copy, Debug, PartialEq, Eq)]
+pub enum ColumnType {
+    Text,
+}
+
+/// The columns of a table with their types, in declared order.
+#[derive(Drop)]
+pub struct Columns {
+    items: Vec<(Name, ColumnType)>,
+}
+
+impl Model for Columns {
+    ghost use Rattle.std.specs.Prelude.{List, ℕ};
+    ghost use Rattle.sasi_types.specs.declared.column.ColumnType.{ColumnType};
+
+    ghost Value = { List (List ℕ × ColumnType) };
+
+    ghost view = { λ a. a.items.items };
+}
+
+impl Columns {
+    /// No columns.
+    pub fn new(alloc: Global) -> Columns
+        ensures { result ≡ [] }
+    {
+        Columns {
+            items: Vec::new(alloc),
+        }
+    }
+
+    /// The columns, in declared order.
+    pub fn as_slice(&self) -> &[(Name, ColumnType)]
+        ensures { result.now ≡ self.now }
+    {
+        &self.items
+    }
+
+    /// Adds a column at the end.
+    pub fn push(&mut self, name: Name, kind: ColumnType) -> Result<(), AllocError>
+        ensures ok { OnOk result (self.new ≡ self.old ++ (name, kind) ∷ []) }
+        ensures err { OnErr result (self.new ≡ self.old) }
+    {
+        self.items.push((name, kind))?;
+        Ok(())
+    }
+}

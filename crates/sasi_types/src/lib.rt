@@ -1,0 +1,25 @@
+// The small types that every layer shares: names and texts, keys and the order of their partitions, and statements as
+// they are read. The crate stands on std alone; its types are seen as their bytes and lists, whatever holds them.
+#![tactic(auto)]
+
+mod column;
+mod key;
+mod literal;
+mod name;
+mod partitioner;
+mod piece;
+mod place;
+mod row;
+mod statement;
+mod text;
+
+pub use column::{ColumnType, Columns};
+pub use key::{Key, KeyFault};
+pub use literal::{Literal, Literals};
+pub use name::{Name, Names};
+pub use partitioner::{Partitioner, Token};
+pub use piece::PieceEnd;
+pub use place::{Place, compare};
+pub use row::Row;
+pub use statement::{Select, Statement};
+pub use text::Text;
