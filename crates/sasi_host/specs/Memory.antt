@@ -1,5 +1,5 @@
 -- A source and a host in memory, as one sees them.
-use Rattle.std.specs.Prelude.{◌≡◌, ◌⊎◌, ◌<◌, ℕ, List, ◌++◌, min, length, Contains, Some}
+use Rattle.std.specs.Prelude.{◌⊎◌, ◌<◌, ℕ, List, ◌++◌, min, length, Contains, Some}
 use Rattle.sasi_host.specs.View.{SourceView, View, counted}
 
 pub record MemorySource : Type 0 where

@@ -8,6 +8,8 @@ mod host;
 mod mem_host;
 mod mem_source;
 mod source;
+#[cfg(test)]
+mod tests;
 
 pub use failed::Failed;
 pub use host::Host;

@@ -1,5 +1,5 @@
 -- A list that is cut or padded to a length.
-use Rattle.std.proofs.Common.{◌≡◌, ℕ, ◌-◌, ◌+◌, ◌<◌, ◌≤◌, Bool, true, false, min, nat_le, List, ◌++◌, length, take, drop, replicate, refl, sym, ◌∙◌, ap, arith}
+use Rattle.std.proofs.Common.{◌≡◌, ℕ, ◌-◌, ◌+◌, ◌≤◌, Bool, true, false, min, nat_le, List, ◌++◌, length, take, drop, replicate, refl, sym, ◌∙◌, ap, arith}
 use Rattle.std.proofs.lemmas.List.{take-append-le, take-replicate, drop-replicate, append-nil}
 use Rattle.std.proofs.Math.Seq.{take-append-add, take-length}
 

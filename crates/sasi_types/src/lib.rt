@@ -11,6 +11,8 @@ mod piece;
 mod place;
 mod row;
 mod statement;
+#[cfg(test)]
+mod tests;
 mod text;
 
 pub use column::{ColumnType, Columns};

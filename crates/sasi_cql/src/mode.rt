@@ -1,0 +1,21 @@
+// What is open behind a byte of a script.
+
+/// What is open behind a byte of a script.
+#[derive(Clone, Copy, Debug, PartialEq, Eq)]
+pub enum Mode {
+    /// Nothing.
+    Plain,
+    /// Nothing, but the byte is a `-` that the next may make a comment.
+    Dash,
+    /// Nothing, but the byte is a `/` that the next may make a comment.
+    Slash,
+    /// A string.
+    Quote,
+    QuotedName,
+    /// A comment up to the end of its line.
+    Line,
+    /// A comment up to the next `*/`.
+    Block,
+    /// Such a comment, and the byte is a `*` that the next may make its end.
+    Star,
+}

@@ -1,0 +1,354 @@
+// Cuts a script into its pieces, a byte at a time.
+ghost use Rattle.std.specs.Prelude.{◌≡◌, List, ℕ, [], ◌∷◌, ◌++◌, IfOk, OnOk, OnErr, true, false};
+ghost use Rattle.sasi_model.specs.Pieces.{pieces};
+ghost use Rattle.sasi_cql.specs.Standing.{resume, reported, behind, size_after, kept, mode_after, stage_after, leads, tentative, front_size, end_at, last_end_of, opens};
+ghost use Rattle.sasi_cql.specs.declared.stage.Stage.TheVariants.{Front, Begun, Ended};
+
+use crate::mode::Mode;
+use crate::stage::Stage;
+use sasi_types::PieceEnd;
+use std::alloc::{AllocError, Global};
+use std::marker::Model;
+
+// The most bytes that a piece has.
+const LIMIT: usize = 1 << 20;
+
+/// Cuts a script into its pieces, a byte at a time. It keeps at most 2^20 bytes of a piece, and none of a comment in
+/// front of one.
+#[derive(Drop)]
+pub struct Splitter {
+    text: Vec<u8>,
+    // How many bytes came of the piece, or of the comment that is open in front: at most LIMIT + 1, where it stops.
+    size: usize,
+    stage: Stage,
+    mode: Mode,
+}
+
+impl Model for Splitter {
+    ghost use Rattle.sasi_cql.specs.Standing.{Standing, IsStanding};
+
+    ghost Value = { Standing };
+
+    ghost view = { λ a. record { text = a.text.items; size = a.size; stage = a.stage; mode = a.mode } };
+
+    ghost invariant = { λ a. IsStanding a.text.items a.size a.stage a.mode };
+}
+
+fn opened(byte: u8) -> Mode
+    ensures { result ≡ opens byte }
+{
+    match byte {
+        b'\'' => Mode::Quote,
+        b'"' => Mode::QuotedName,
+        b'-' => Mode::Dash,
+        b'/' => Mode::Slash,
+        _ => Mode::Plain,
+    }
+}
+
+// What is open behind the byte.
+fn next_mode(mode: Mode, byte: u8) -> Mode
+    ensures { result ≡ mode_after mode byte }
+{
+    match (mode, byte) {
+        (Mode::Dash, b'-') | (Mode::Slash, b'/') => Mode::Line,
+        (Mode::Slash, b'*') => Mode::Block,
+        (Mode::Plain | Mode::Dash | Mode::Slash, _) => opened(byte),
+        (Mode::Quote, b'\'')
+        | (Mode::QuotedName, b'"')
+        | (Mode::Line, b'\n')
+        | (Mode::Star, b'/') => Mode::Plain,
+        (Mode::Block | Mode::Star, b'*') => Mode::Star,
+        (Mode::Star, _) => Mode::Block,
+        (mode, _) => mode,
+    }
+}
+
+// The stage behind a byte of a piece.
+fn next_stage(mode: Mode, byte: u8) -> Stage
+    ensures { result ≡ stage_after mode byte }
+{
+    match mode {
+        Mode::Plain | Mode::Dash | Mode::Slash if byte == b';' => Stage::Ended,
+        _ => Stage::Begun,
+    }
+}
+
+// Whether no piece has begun behind the byte, if none had before it.
+fn is_lead(mode: Mode, byte: u8) -> bool
+    ensures { result ≡ leads mode byte }
+{
+    match mode {
+        Mode::Plain => matches!(byte, b' ' | b'\t' | b'\r' | b'\n' | b'-' | b'/'),
+        Mode::Dash => byte == b'-',
+        Mode::Slash => byte == b'/' || byte == b'*',
+        _ => true,
+    }
+}
+
+// The count of bytes behind one more.
+fn next_size(size: usize) -> usize
+    ensures { result ≡ size_after size }
+{
+    if size > LIMIT { size } else { size + 1 }
+}
+
+// The count of bytes behind one in front of a piece, which left this mode.
+fn next_front_size(mode: Mode, size: usize) -> usize
+    ensures { result ≡ front_size mode size }
+{
+    match mode {
+        Mode::Dash | Mode::Slash => 1,
+        Mode::Block | Mode::Star => next_size(size),
+        _ => 0,
+    }
+}
+
+// Keeps a byte of a piece of which so many came before, unless that is as many as a piece has.
+fn keep(text: &mut Vec<u8>, size: usize, byte: u8) -> Result<(), AllocError>
+    ensures ok { OnOk result (text.new.items ≡ kept text.old.items size byte) }
+    ensures err { OnErr result (text.new.items ≡ text.old.items) }
+{
+    if size < LIMIT {
+        text.push(byte)?;
+    }
+    Ok(())
+}
+
+// Keeps the byte that may begin a piece or a comment, and nothing else.
+fn set_tentative(text: &mut Vec<u8>, mode: Mode) -> Result<(), AllocError>
+    ensures ok { OnOk result (text.new.items ≡ tentative mode) }
+    ensures err { OnErr result (text.new.items ≡ []) }
+{
+    text.clear();
+    match mode {
+        Mode::Dash => text.push(b'-')?,
+        Mode::Slash => text.push(b'/')?,
+        _ => {}
+    }
+    Ok(())
+}
+
+// How a piece of so many bytes ended at a byte of its own, if it did.
+fn end_of(stage: Stage, size: usize) -> Option<PieceEnd>
+    ensures { result ≡ end_at stage size }
+{
+    if stage != Stage::Ended {
+        None
+    } else if size > LIMIT {
+        Some(PieceEnd::TooLong { finished: true })
+    } else {
+        Some(PieceEnd::Whole)
+    }
+}
+
+// How the script's end ends a piece of so many bytes.
+fn last_end(stage: Stage, size: usize) -> Option<PieceEnd>
+    ensures { result ≡ last_end_of stage size }
+{
+    if stage == Stage::Ended || size == 0 {
+        None
+    } else if size > LIMIT {
+        Some(PieceEnd::TooLong { finished: false })
+    } else {
+        Some(PieceEnd::Unfinished)
+    }
+}
+
+impl Splitter {
+    /// A splitter at a script's start.
+    #[tactic(auto, unfolding(crate::specs::Standing::resume))]
+    pub fn new(alloc: Global) -> Splitter
+        ensures { (left : List ℕ) → resume result left ≡ pieces left }
+    {
+        Splitter {
+            text: Vec::new(alloc),
+            size: 0,
+            stage: Stage::Front,
+            mode: Mode::Plain,
+        }
+    }
+
+    // Forgets a piece that has ended.
+    #[tactic(auto, unfolding(crate::specs::Standing::resume))]
+    fn restart(&mut self)
+        ensures same { (left : List ℕ) → resume self.new left ≡ resume self.old left }
+        ensures stage { self.new.stage ≡ Ended → ⊥ }
+    {
+        if self.stage == Stage::Ended {
+            self.text.clear();
+            self.size = 0;
+            self.stage = Stage::Front;
+            self.mode = Mode::Plain;
+        }
+    }
+
+    // Takes a byte that leaves it open whether a piece begins.
+    #[tactic(auto, unfolding(crate::specs::Standing::resume))]
+    fn take_lead(&mut self, byte: u8) -> Result<(), AllocError>
+        requires stage { self.old.stage ≡ Front }
+        requires leads { leads self.old.mode byte ≡ true }
+        ensures { OnOk result ((left : List ℕ) → resume self.old (byte ∷ left) ≡ resume self.new left) }
+    {
+        let mode = next_mode(self.mode, byte);
+        let size = next_front_size(mode, self.size);
+        self.mode = Mode::Plain;
+        self.size = 0;
+        set_tentative(&mut self.text, mode)?;
+        self.mode = mode;
+        self.size = size;
+        Ok(())
+    }
+
+    // Begins a piece with the byte that is to come, unless it has begun.
+    #[tactic(auto, unfolding(crate::specs::Standing::resume))]
+    fn begin(&mut self, byte: u8)
+        requires open { self.old.stage ≡ Ended → ⊥ }
+        requires begins { self.old.stage ≡ Front → leads self.old.mode byte ≡ false }
+        ensures same { (left : List ℕ) → resume self.new (byte ∷ left) ≡ resume self.old (byte ∷ left) }
+        ensures stage { self.new.stage ≡ Begun }
+    {
+        if self.stage == Stage::Front {
+            self.stage = Stage::Begun;
+            self.mode = Mode::Plain;
+        }
+    }
+
+    // Takes a byte of a piece.
+    #[tactic(auto, unfolding(crate::specs::Standing::resume))]
+    fn take_body(&mut self, byte: u8) -> Result<Option<PieceEnd>, AllocError>
+        requires stage { self.old.stage ≡ Begun }
+        ensures { IfOk result (λ end. (left : List ℕ) →
+            resume self.old (byte ∷ left) ≡ behind (reported end self.new.text) (resume self.new left)) }
+    {
+        keep(&mut self.text, self.size, byte)?;
+        self.size = next_size(self.size);
+        self.stage = next_stage(self.mode, byte);
+        self.mode = next_mode(self.mode, byte);
+        Ok(end_of(self.stage, self.size))
+    }
+
+    /// Takes the next byte, and says how the piece ended if it did.
+    pub fn push(&mut self, byte: u8) -> Result<Option<PieceEnd>, AllocError>
+        ensures { IfOk result (λ end. (left : List ℕ) →
+            resume self.old (byte ∷ left) ≡ behind (reported end self.new.text) (resume self.new left)) }
+    {
+        self.restart();
+        if self.stage == Stage::Front && is_lead(self.mode, byte) {
+            self.take_lead(byte)?;
+            return Ok(None);
+        }
+        self.begin(byte);
+        self.take_body(byte)
+    }
+
+    /// The end of the script: how the last piece ended, if anything is left of one.
+    #[tactic(auto, unfolding(crate::specs::Standing::resume))]
+    pub fn end(&mut self) -> Option<PieceEnd>
+        ensures { resume self.old [] ≡ record { whole = []; last = reported result self.new.text } }
+    {
+        last_end(self.stage, self.size)
+    }
+
+    /// The text of the piece.
+    pub fn piece(&self) -> &[u8]
+        ensures { result.now ≡ self.now.text }
+    {
+        &self.text
+    }
+}
+
+#[cfg(test)]
+mod tests {
+    use super::*;
+
+    // Adds a line on a piece: its text, or how it is none.
+    fn note(lines: &mut Vec<u8>, end: PieceEnd, text: &[u8]) -> Result<(), AllocError> {
+        match end {
+            PieceEnd::Whole => lines.extend_from_slice(text)?,
+            PieceEnd::TooLong { finished: true } => lines.extend_from_slice(b"too long")?,
+            PieceEnd::TooLong { finished: false } => lines.extend_from_slice(
+                b"too long at the end",
+            )?,
+            PieceEnd::Unfinished => lines.extend_from_slice(b"unfinished")?,
+        }
+        lines.push(b'|')?;
+        Ok(())
+    }
+
+    // The pieces of `front`, then `count` times `byte`, then `back`.
+    fn cut(
+        alloc: Global,
+        front: &[u8],
+        byte: u8,
+        count: usize,
+        back: &[u8],
+    ) -> Result<Vec<u8>, AllocError> {
+        let mut splitter = Splitter::new(alloc);
+        let mut lines = Vec::new(alloc);
+        let script = front
+            .iter()
+            .copied()
+            .chain(std::iter::repeat_n(byte, count))
+            .chain(back.iter().copied());
+        for byte in script {
+            if let Some(end) = splitter.push(byte)? {
+                note(&mut lines, end, splitter.piece())?;
+            }
+        }
+        if let Some(end) = splitter.end() {
+            note(&mut lines, end, splitter.piece())?;
+        }
+        Ok(lines)
+    }
+
+    #[test]
+    fn cuts_scripts(rt: HostRuntime) {
+        let table: [(&[u8], &[u8]); 22] = [
+            (b"", b""),
+            (b" \t\r\n", b""),
+            (b"a;b;", b"a;|b;|"),
+            (b"  a ; b", b"a ;|unfinished|"),
+            (b";;", b";|;|"),
+            (b"'a;''b';c;", b"'a;''b';|c;|"),
+            (b"\"a;\"\"b\";", b"\"a;\"\"b\";|"),
+            (b"'\";';\"';\";", b"'\";';|\"';\";|"),
+            (b"a 'b;", b"unfinished|"),
+            (b"-- a;\nb;", b"b;|"),
+            (b"// a;\nb;", b"b;|"),
+            (b"/* a; */b;", b"b;|"),
+            (b"a -- b;\nc;d;", b"a -- b;\nc;|d;|"),
+            (b"a /* ; **/ b;", b"a /* ; **/ b;|"),
+            (b"a /*/ ; */;", b"a /*/ ; */;|"),
+            (b"-a;/b;", b"-a;|/b;|"),
+            (b"- -;/ /;", b"- -;|/ /;|"),
+            (b"-- a", b""),
+            (b"-", b"unfinished|"),
+            (b"/* a;", b"unfinished|"),
+            (b"/*/;", b"unfinished|"),
+            (b"-- 'a\n;'", b";|unfinished|"),
+        ];
+        for (script, want) in table {
+            let lines = cut(rt.alloc(), script, b' ', 0, b"").expect(&rt, "memory is left");
+            assert_eq!(rt; lines.as_slice(), want);
+        }
+    }
+
+    #[test]
+    fn tells_long_pieces(rt: HostRuntime) {
+        let table: [(&[u8], usize, &[u8], &[u8]); 6] = [
+            (b"a", LIMIT - 1, b";b;", b"too long|b;|"),
+            (b"", LIMIT, b"", b"unfinished|"),
+            (b"a", LIMIT, b"", b"too long at the end|"),
+            (b"/*", LIMIT - 2, b"", b"unfinished|"),
+            (b"/*", LIMIT - 1, b"", b"too long at the end|"),
+            (b"/*", LIMIT, b"*/b;", b"b;|"),
+        ];
+        for (front, count, back, want) in table {
+            let lines = cut(rt.alloc(), front, b'a', count, back).expect(&rt, "memory is left");
+            assert_eq!(rt; lines.as_slice(), want);
+        }
+        let whole = cut(rt.alloc(), b"", b'a', LIMIT - 1, b";").expect(&rt, "memory is left");
+        assert_eq!(rt; whole.len(), LIMIT + 1);
+    }
+}
