@@ -1,1 +1,5 @@
+pub mod Finds
+pub mod Fronts
+pub mod Items
+pub mod Meaning
 pub mod Standing

@@ -2,8 +2,20 @@
 // the model, whose pieces and statements it finds exactly.
 #![tactic(auto)]
 
+mod fault;
+mod front;
+mod grammar;
+mod lexer;
+mod list;
 mod mode;
+mod parser;
+mod quoted;
 mod splitter;
 mod stage;
+mod token;
+mod word;
 
+pub use fault::ParseFault;
+pub use grammar::statement_is_read;
+pub use parser::parse;
 pub use splitter::Splitter;

@@ -1,0 +1,50 @@
+// Strings between quotes.
+ghost use Rattle.std.specs.Prelude.{◌≡◌, IfOk};
+ghost use Rattle.sasi_model.specs.Tokens.{quoted_text};
+ghost use Rattle.sasi_cql.specs.Meaning.{closes, is_first_quote, size_of, undoubled};
+
+use sasi_types::Text;
+use std::alloc::{AllocError, Global};
+
+// A byte closes a string, where `quote` says that a quote stands in front that may be the first of two.
+fn closes(quote: bool, byte: u8) -> bool
+    ensures { result ≡ closes quote byte }
+{
+    quote && byte != b'\''
+}
+
+// It is a quote itself, and the first of two, if there are two.
+fn is_first_quote(quote: bool, byte: u8) -> bool
+    ensures { result ≡ is_first_quote quote byte }
+{
+    !quote && byte == b'\''
+}
+
+/// How many bytes a string has behind its opening quote, with the closing one.
+pub fn string_size(bytes: &[u8]) -> Option<usize>
+    ensures { result ≡ size_of (quoted_text bytes.now) }
+{
+    let mut quote = false;
+    'bytes: for (i, byte) in bytes.iter().enumerate() {
+        if closes(quote, *byte) {
+            return Some(i);
+        }
+        quote = is_first_quote(quote, *byte);
+    }
+    quote.then_some(bytes.len())
+}
+
+/// The text of a string from what stands between its quotes.
+pub fn text_of(alloc: Global, bytes: &[u8]) -> Result<Text, AllocError>
+    ensures { IfOk result (λ text. text ≡ undoubled bytes.now) }
+{
+    let mut text = Vec::new(alloc);
+    let mut quote = false;
+    'bytes: for byte in bytes {
+        if !quote {
+            text.push(*byte)?;
+        }
+        quote = is_first_quote(quote, *byte);
+    }
+    Ok(Text::new(text))
+}

@@ -1,0 +1,7 @@
+pub mod ColumnNames
+pub mod GivenTexts
+pub mod Ordered
+pub mod RowSteps
+pub mod TablePlaces
+pub mod Taking
+pub mod WholePieces

@@ -1,0 +1,49 @@
+// Pieces, as they are read.
+ghost use Rattle.std.specs.Prelude.{◌≡◌, IfOk};
+ghost use Rattle.sasi_model.specs.Pieces.{Whole, piece_of};
+ghost use Rattle.sasi_model.specs.Refusals.{read};
+ghost use Rattle.sasi_machine.specs.Reading.{reading_of};
+
+use crate::Refusal;
+use sasi_cql::{ParseFault, parse};
+use sasi_types::{PieceEnd, Statement};
+use std::alloc::{AllocError, Global};
+
+/// What a piece says.
+#[derive(Drop)]
+pub enum Reading {
+    /// A `;` alone.
+    Nothing,
+    Says(Statement),
+    Bad(Refusal),
+}
+
+/// What a piece says, whatever the tables are.
+#[tactic(auto, unfolding(sasi_model::specs::Refusals::read))]
+pub fn read(alloc: Global, piece: &[u8], end: PieceEnd) -> Result<Reading, AllocError>
+    ensures { IfOk result (λ reading. reading_of reading ≡ read (piece_of end piece.now)) }
+{
+    match end {
+        PieceEnd::Whole => read_whole(alloc, piece),
+        PieceEnd::TooLong { finished: true } => Ok(Reading::Bad(Refusal::NotBuilt)),
+        PieceEnd::TooLong { finished: false } => Ok(Reading::Bad(Refusal::ScriptEnds)),
+        PieceEnd::Unfinished => Ok(Reading::Bad(Refusal::ScriptEnds)),
+    }
+}
+
+#[tactic(auto, unfolding(sasi_model::specs::Refusals::read))]
+fn read_whole(alloc: Global, piece: &[u8]) -> Result<Reading, AllocError>
+    ensures { IfOk result (λ reading. reading_of reading ≡ read (Whole piece.now)) }
+{
+    if piece == b";".as_slice() {
+        return Ok(Reading::Nothing);
+    }
+    let Ok(text) = str::from_utf8(piece) else {
+        return Ok(Reading::Bad(Refusal::NotBuilt));
+    };
+    match parse(alloc, text) {
+        Ok(statement) => Ok(Reading::Says(statement)),
+        Err(ParseFault::Syntax) => Ok(Reading::Bad(Refusal::NotBuilt)),
+        Err(ParseFault::OutOfMemory) => Err(AllocError),
+    }
+}

@@ -1,0 +1,25 @@
+-- A run that nothing outside stopped goes through.
+use Rattle.std.proofs.Common.{◌≢◌, ℕ, ◌<◌, ◌≤◌, List, length, Option, None, Some, refl, ap, arith, length-append, IfSome}
+use Rattle.std.specs.Io.KnownBytes.{Consumes}
+use Rattle.sasi_model.specs.State.{State}
+use Rattle.sasi_run.specs.Headline.{Runs, SCRIPT_MOST, RanThrough}
+use Rattle.sasi_run.specs.declared.status.Status.{Status}
+use Rattle.sasi_run.specs.declared.status.Status.TheVariants.{Done, Refused, Usage, ScriptFault, OutputFault, OutOfMemory, ScriptTooLong}
+
+-- no more is read than there is
+within : (script read : List ℕ) (left : Option (List ℕ)) → Consumes (Some script) left read → length read ≤ length script
+within script read None c = absurd c
+within script read (Some rest) c = omega (arith, ap length c, length-append read rest)
+
+pub through : (status : Status) (s : State) (l l2 o o2 : Option (List ℕ)) → Runs status s l l2 o o2 → status ≢ Usage → status ≢ ScriptFault → status ≢ OutputFault → IfSome l (λ script. length script ≤ SCRIPT_MOST → RanThrough status)
+through status s None l2 o o2 runs u f e = tt
+through Done s (Some script) l2 o o2 runs u f e = λ _. tt
+through (Refused n) s (Some script) l2 o o2 runs u f e = λ _. tt
+through OutOfMemory s (Some script) l2 o o2 runs u f e = λ _. tt
+through Usage s (Some script) l2 o o2 runs u f e = absurd (u refl)
+through ScriptFault s (Some script) l2 o o2 runs u f e = absurd (f refl)
+through OutputFault s (Some script) l2 o o2 runs u f e = absurd (e refl)
+through ScriptTooLong s (Some script) l2 o o2 runs u f e = λ short.
+    let some : length runs.read ≤ length script = within script runs.read l2 runs.consumed in
+    let long : SCRIPT_MOST < length runs.read = runs.shows.long in
+    absurd (omega arith)

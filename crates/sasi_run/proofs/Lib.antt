@@ -1,0 +1,4 @@
+pub mod Known
+pub mod Taking
+pub mod Exits
+pub mod Complete

@@ -1,0 +1,4 @@
+pub mod Headline
+pub mod Numbers
+pub mod Session
+pub mod Words

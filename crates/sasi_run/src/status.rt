@@ -1,0 +1,38 @@
+// How a run ended.
+ghost use Rattle.std.specs.Prelude.{◌≡◌};
+ghost use Rattle.sasi_run.specs.Numbers.{number_of};
+
+/// How a run ended.
+#[derive(Clone, Copy, Debug, PartialEq, Eq)]
+pub enum Status {
+    /// The script was read to its end, and nothing was refused.
+    Done,
+    /// The script was read to its end, and so many pieces were refused.
+    Refused(u64),
+    /// The words are not those of the command line.
+    Usage,
+    /// The source failed.
+    ScriptFault,
+    /// The host didn't take a reply.
+    OutputFault,
+    OutOfMemory,
+    /// The source gave more than 2^40 bytes.
+    ScriptTooLong,
+}
+
+impl Status {
+    /// The status that the program ends with.
+    pub fn code(self) -> u8
+        ensures { result ≡ number_of self }
+    {
+        match self {
+            Status::Done => 0,
+            Status::Refused(_) => 1,
+            Status::Usage => 2,
+            Status::ScriptFault => 3,
+            Status::OutputFault => 5,
+            Status::OutOfMemory => 6,
+            Status::ScriptTooLong => 11,
+        }
+    }
+}

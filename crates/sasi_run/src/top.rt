@@ -1,0 +1,29 @@
+// The top call.
+ghost use Rattle.std.specs.Prelude.{◌≡◌, map, string_bytes};
+ghost use Rattle.sasi_run.specs.Headline.{Headline};
+
+use crate::reading::run_script;
+use crate::session::Session;
+use crate::{Status, command};
+use sasi_host::{Host, Source};
+use sasi_types::Partitioner;
+use std::alloc::Global;
+
+/// Runs a script and emits its replies. The words are those of the command line, without the program's own.
+pub fn run<S: Source, H: Host>(
+    alloc: Global,
+    words: &[String],
+    script: &mut S,
+    host: &mut H,
+) -> Status
+    ensures headline { Headline (map (λ w. string_bytes w) words.now) result (S.view script.old) (S.view script.new) (H.view host.old) (H.view host.new) }
+    ensures untouched { result ≡ Status.Usage → (script.new ≡ script.old) × (host.new ≡ host.old) }
+{
+    match command(words) {
+        None => Status::Usage,
+        Some(_) => {
+            let mut session = Session::new(alloc, Partitioner::Lead8);
+            run_script(&mut session, script, host)
+        }
+    }
+}
