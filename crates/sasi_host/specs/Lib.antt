@@ -1,2 +1,15 @@
+pub mod Names
+pub mod Faults
 pub mod View
+pub mod Disk
+pub mod NameLaws
+pub mod Moves
+pub mod Contents
+pub mod Durability
+pub mod Files
+pub mod Calls
+pub mod CallLaws
 pub mod Memory
+pub mod Sound
+pub mod Silent
+pub mod Picks

@@ -1,7 +1,12 @@
 -- A source and a host in memory, as one sees them.
-use Rattle.std.specs.Prelude.{◌⊎◌, ◌<◌, ℕ, List, ◌++◌, min, length, Contains, Some}
+use Rattle.std.specs.Prelude.{◌⊎◌, ◌<◌, ◌-◌, ◌^◌, ℕ, List, [], ◌∷◌, ◌++◌, min, length, Contains, Some}
+use Rattle.sasi_host.specs.declared.call.Call.{Call}
+use Rattle.sasi_host.specs.declared.mem_host.MemHost.{MemHost}
+use Rattle.sasi_host.specs.Names.{Folder}
 use Rattle.sasi_host.specs.View.{SourceView, View, counted}
+use Rattle.sasi_host.specs.Calls.{view_after}
 
+-- a source, as one sees it
 pub record MemorySource : Type 0 where
   -- the bytes that are left
   pub left : List ℕ
@@ -13,6 +18,7 @@ pub record MemorySource : Type 0 where
   pub reads : ℕ
   pub faults : ℕ
 
+-- what it tells
 abbrev pub source_view : MemorySource → SourceView
 source_view s = record { left = Some s.left; faults = s.faults }
 
@@ -24,30 +30,106 @@ count_given s room = min (min (length s.left) s.piece) room
 abbrev pub failed_read : MemorySource → MemorySource
 failed_read s = record s { reads = counted s.reads; faults = counted s.faults }
 
+-- ---- the host
+
+-- the host, as one sees it
 pub record MemoryHost : Type 0 where
-  pub emitted : List ℕ
-  -- the emits that fail, counted from 1, and the call from which on each later one fails
-  pub failing : List ℕ
+  -- the folder that it began with, and the calls that were done since
+  pub start : Folder
+  pub calls : List Call
+  -- the file calls and the emits that fail, each counted from 1, and the call from which on each later one fails
+  pub failing_disk : List ℕ
+  pub failing_emits : List ℕ
   pub stop : ℕ
-  -- how many emits were made, and how many of them failed
+  -- how many file calls and emits were made, each by itself and together
+  pub disk_calls : ℕ
   pub emits : ℕ
+  pub all_calls : ℕ
+  -- how many of them failed, and how many read a file
+  pub disk_faults : ℕ
   pub out_faults : ℕ
+  pub reads : ℕ
   -- how many growths of its memory were refused
   pub refused : ℕ
 
+-- what is seen of a host
+abbrev pub seen : MemHost → MemoryHost
+seen h = record {
+  start = h.disk.start;
+  calls = h.disk.calls.items;
+  failing_disk = h.failing_disk.items;
+  failing_emits = h.failing_emits.items;
+  stop = h.stop;
+  disk_calls = h.disk_calls;
+  emits = h.emits;
+  all_calls = h.all_calls;
+  disk_faults = h.disk_faults;
+  out_faults = h.out_faults;
+  reads = h.reads;
+  refused = h.refused;
+}
+
+-- what it tells
 abbrev pub host_view : MemoryHost → View
-host_view h = record { emitted = Some h.emitted; out_faults = h.out_faults }
+host_view h = view_after h.start h.calls h.disk_faults h.out_faults h.reads
+
+-- a host with this folder and nothing pending, which doesn't fail
+abbrev pub host_with : Folder → MemoryHost
+host_with start = record {
+  start = start;
+  calls = [];
+  failing_disk = [];
+  failing_emits = [];
+  stop = 2 ^ 64 - 1;
+  disk_calls = 0;
+  emits = 0;
+  all_calls = 0;
+  disk_faults = 0;
+  out_faults = 0;
+  reads = 0;
+  refused = 0;
+}
+
+-- one more call was done
+abbrev pub done : Call → MemoryHost → MemoryHost
+done call h = record h { calls = h.calls ++ call ∷ [] }
+
+-- ---- file calls
+
+-- a file call was made
+abbrev pub begun_disk : MemoryHost → MemoryHost
+begun_disk h = record h { disk_calls = counted h.disk_calls; all_calls = counted h.all_calls }
+
+-- a read was made
+abbrev pub begun_read : MemoryHost → MemoryHost
+begun_read h = record (begun_disk h) { reads = counted h.reads }
+
+-- the next file call is listed, or comes after the stop
+abbrev pub IsDiskToFail : MemoryHost → Type 0
+IsDiskToFail h = Contains h.failing_disk (counted h.disk_calls) ⊎ (h.stop < counted h.all_calls)
+
+-- a file call that was made fails, and leaves all but the counts
+abbrev pub disk_failed : MemoryHost → MemoryHost
+disk_failed h = record h { disk_faults = counted h.disk_faults }
+
+-- the same where a growth was refused
+abbrev pub disk_refused : MemoryHost → MemoryHost
+disk_refused h = record (disk_failed h) { refused = counted h.refused }
+
+-- ---- emits
+
+-- an emit was made
+abbrev pub begun_emit : MemoryHost → MemoryHost
+begun_emit h = record h { emits = counted h.emits; all_calls = counted h.all_calls }
 
 -- the next emit is listed, or comes after the stop
-abbrev pub IsToFail : MemoryHost → Type 0
-IsToFail h = Contains h.failing (counted h.emits) ⊎ (h.stop < counted h.emits)
+abbrev pub IsEmitToFail : MemoryHost → Type 0
+IsEmitToFail h = Contains h.failing_emits (counted h.emits) ⊎ (h.stop < counted h.all_calls)
 
--- an emit that failed leaves all but its counts
-abbrev pub failed_emit : MemoryHost → MemoryHost
-failed_emit h = record h { emits = counted h.emits; out_faults = counted h.out_faults }
+-- an emit that was made fails, and leaves all but the counts
+abbrev pub emit_failed : MemoryHost → MemoryHost
+emit_failed h = record h { out_faults = counted h.out_faults }
 
-abbrev pub refused_emit : MemoryHost → MemoryHost
-refused_emit h = record h { emits = counted h.emits; out_faults = counted h.out_faults; refused = counted h.refused }
-
-abbrev pub emitted_all : List ℕ → MemoryHost → MemoryHost
-emitted_all bytes h = record h { emits = counted h.emits; emitted = h.emitted ++ bytes }
+-- the same where a growth was refused
+abbrev pub emit_refused : MemoryHost → MemoryHost
+emit_refused h = record (emit_failed h) { refused = counted h.refused }

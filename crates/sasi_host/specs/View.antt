@@ -1,8 +1,13 @@
 -- What a source and a host tell of themselves, and what a call on them may do to it.
-use Rattle.std.specs.Prelude.{◌≡◌, ℕ, ◌+◌, ◌-◌, ◌^◌, ◌≤◌, min, List, ◌++◌, OnErr}
+use Rattle.std.specs.Prelude.{◌≡◌, ◌⊎◌, ℕ, ◌+◌, ◌-◌, ◌^◌, ◌≤◌, min, List, ◌++◌, length, take, IsSome, OnErr, IfErr, None, Some}
 use Rattle.std.specs.declared.result.Result.{Result}
 use Rattle.std.specs.declared.option.Option.{Option}
+use Rattle.std.specs.FinMap.{get}
 use Rattle.std.specs.Io.KnownBytes.{Appends}
+use Rattle.sasi_host.specs.declared.name.FileName.{FileName}
+use Rattle.sasi_host.specs.declared.fault.HostFault.{HostFault}
+use Rattle.sasi_host.specs.declared.fault.HostFault.TheVariants as fault
+use Rattle.sasi_host.specs.Names.{Bytes, Folder}
 
 -- what a source tells
 pub record SourceView : Type 0 where
@@ -11,12 +16,83 @@ pub record SourceView : Type 0 where
   -- how often it has failed
   pub faults : ℕ
 
--- what a host tells
-pub record View : Type 0 where
+-- what a host tells at one moment
+pub record View : Type 1 where
+  -- what the folder reads, where it tells it
+  pub files : Option Folder
   -- the bytes that were emitted, where it tells them
   pub emitted : Option (List ℕ)
+  -- an image: what a crash now may leave of the folder
+  pub image : Folder → Type 0
+  -- a number that doesn't fall
+  pub moment : ℕ
+  -- what a crash at some moment from this one on may have left, with the bytes emitted by then
+  pub left : ℕ → Folder → Bytes → Type 0
+  -- how often a file call has failed
+  pub disk_faults : ℕ
   -- how often an emit has failed
   pub out_faults : ℕ
+  -- how often a file was read
+  pub reads : ℕ
+
+-- ---- what the folder reads
+
+-- the folder is told
+abbrev pub IsTold : View → Type 0
+IsTold v = IsSome v.files
+
+-- what a file reads in a folder that may be told
+abbrev pub contents_in : Option Folder → FileName → Option Bytes
+contents_in None name = None
+contents_in (Some folder) name = get folder name
+
+-- what a file reads: none where it isn't there or isn't told
+abbrev pub contents : View → FileName → Option Bytes
+contents v name = contents_in v.files name
+
+-- the file is there, where the folder is told
+abbrev pub IsThere : View → FileName → Type 0
+IsThere v file = IsTold v → IsSome (contents v file)
+
+-- the file isn't there, where the folder is told
+abbrev pub IsAbsent : View → FileName → Type 0
+IsAbsent v file = contents v file ≡ None
+
+-- the file is there with these bytes, where the folder is told
+abbrev pub Holds : View → FileName → Bytes → Type 0
+Holds v file bytes = IsTold v → contents v file ≡ Some bytes
+
+-- the file is there and reaches to this place, where the folder is told
+abbrev pub Reaches : View → FileName → ℕ → Type 0
+Reaches v file at = IsTold v → (bytes : Bytes) × (contents v file ≡ Some bytes) × (at ≤ length bytes)
+
+-- ---- what a crash leaves
+
+-- what a crash now may leave, with what is emitted by now
+abbrev pub LeavesNow : View → Folder → Bytes → Type 0
+LeavesNow v folder out = v.image folder × (v.emitted ≡ Some out)
+
+-- what a crash at some moment between the two leaves has P, or an earlier crash might have left it
+pub record CrashLeaves (old new : View) (P : Folder → Bytes → Type 0) : Type 0 where
+  pub later : old.moment ≤ new.moment
+  pub left : (t : ℕ) (folder : Folder) (out : Bytes) → t ≤ old.moment → new.left t folder out → old.left t folder out ⊎ P folder out
+
+-- what an earlier crash may have left stays told
+abbrev pub KeepsMoments : View → View → Type 0
+KeepsMoments old new = (t : ℕ) (folder : Folder) (out : Bytes) → t ≤ old.moment → old.left t folder out → new.left t folder out
+
+-- the laws of what is told
+pub record IsSound (v : View) : Type 0 where
+  -- an image is told only where the folder is
+  pub told : (folder : Folder) → v.image folder → IsTold v
+  -- what the folder reads is one of its images
+  pub reads : (folder : Folder) → v.files ≡ Some folder → v.image folder
+  -- now is one of the moments since an earlier one
+  pub counts_now : (t : ℕ) (folder : Folder) (out : Bytes) → t ≤ v.moment → LeavesNow v folder out → v.left t folder out
+  -- since now there is no other moment
+  pub only_now : (folder : Folder) (out : Bytes) → v.left v.moment folder out → LeavesNow v folder out
+  -- a file has at most 2^62 bytes
+  pub fits : (name : FileName) (bytes : Bytes) → contents v name ≡ Some bytes → length bytes ≤ 2 ^ 62
 
 -- ---- counts and causes
 
@@ -33,20 +109,54 @@ pub record SourceCauses {T E : Type 0} (old new : SourceView) (result : Result T
   pub later : old.faults ≤ new.faults
   pub failed : OnErr result (Rose old.faults new.faults)
 
+-- the same of a file call, which leaves the other counts
+pub record DiskCauses {T E : Type 0} (old new : View) (result : Result T E) : Type 0 where
+  pub disk : old.disk_faults ≤ new.disk_faults
+  pub out : new.out_faults ≡ old.out_faults
+  pub reads : new.reads ≡ old.reads
+  pub failed : OnErr result (Rose old.disk_faults new.disk_faults)
+
+-- the same of a read, which is counted
+pub record ReadCauses {T E : Type 0} (old new : View) (result : Result T E) : Type 0 where
+  pub disk : old.disk_faults ≤ new.disk_faults
+  pub out : new.out_faults ≡ old.out_faults
+  pub reads : new.reads ≡ counted old.reads
+  pub failed : OnErr result (Rose old.disk_faults new.disk_faults)
+
+-- the same of a call that may also lack memory
+pub record ListCauses {T : Type 0} (old new : View) (result : Result T HostFault) : Type 0 where
+  pub disk : old.disk_faults ≤ new.disk_faults
+  pub out : new.out_faults ≡ old.out_faults
+  pub reads : new.reads ≡ old.reads
+  pub failed : IfErr result (λ f. f ≡ fault.Failed → Rose old.disk_faults new.disk_faults)
+
 -- the same of the replies
 pub record OutCauses {T E : Type 0} (old new : View) (result : Result T E) : Type 0 where
   pub out : old.out_faults ≤ new.out_faults
   pub failed : OnErr result (Rose old.out_faults new.out_faults)
+  pub disk : new.disk_faults ≡ old.disk_faults
+  pub reads : new.reads ≡ old.reads
 
 -- ---- what is emitted
 
--- a first part of the bytes was appended
+-- a crash while the bytes go out: a first part of them may be out
+abbrev pub PartlyOut : View → Bytes → Folder → Bytes → Type 0
+PartlyOut old bytes folder out = old.image folder × (b : Bytes) × (k : ℕ) × (old.emitted ≡ Some b) × (out ≡ b ++ take k bytes)
+
+-- a first part of the bytes was appended, and the folder left as it is
 pub record Emits (bytes : List ℕ) (old new : View) : Type 0 where
   pub front : List ℕ
   pub back : List ℕ
   pub parts : bytes ≡ front ++ back
   pub out : Appends old.emitted new.emitted front
+  pub files : new.files ≡ old.files
+  pub image : (folder : Folder) → new.image folder → old.image folder
+  pub during : CrashLeaves old new (PartlyOut old bytes)
 
 -- all of them were
 abbrev pub AllOut : List ℕ → View → View → Type 0
 AllOut bytes old new = Appends old.emitted new.emitted bytes
+
+-- each first part of the bytes counts as emitted at some moment of the call
+abbrev pub TellsPrefixes : List ℕ → View → View → Type 0
+TellsPrefixes bytes old new = (t : ℕ) (folder : Folder) (b : Bytes) (k : ℕ) → t ≤ old.moment → old.image folder → old.emitted ≡ Some b → new.left t folder (b ++ take k bytes)

@@ -1,17 +1,93 @@
-// What takes the replies.
-ghost use Rattle.std.specs.Prelude.{OnOk};
-ghost use Rattle.sasi_host.specs.View.{View, AllOut, Emits, OutCauses};
+// Where files are kept and replies are put.
+ghost use Rattle.std.specs.Prelude.{◌≡◌, ◌+◌, ◌^◌, ◌<◌, ◌≤◌, [], length, IfOk, OnOk};
+ghost use Rattle.std.specs.List.Sorted.{IsStrictlySortedBy};
+ghost use Rattle.sasi_host.specs.Names.{name_cmp};
+ghost use Rattle.sasi_host.specs.View.{View, IsThere, IsAbsent, Holds, Reaches, contents, KeepsMoments, IsSound, DiskCauses, ReadCauses, ListCauses, OutCauses, AllOut, Emits, TellsPrefixes};
+ghost use Rattle.sasi_host.specs.Disk.{Changes, Same, Step, InPlace, Torn, MaybeCreated, MaybeDeleted, Becomes, overlay, IsSynced, IsFolderSynced, Lists, Fills};
 
-use crate::Failed;
+use crate::{Failed, FileName, HostFault};
+use std::alloc::Global;
 
-/// What takes the replies.
+/// A folder of files, and where replies are put. Both are in one trait, so that they have one order of moments.
 pub trait Host {
     /// What it tells of itself.
     ghost view: { Self → View };
 
-    /// Appends the bytes to what was emitted. After an error a first part of them was appended.
+    /// The names of the folder's files, in their order. Files with foreign names are left out.
+    fn list(&mut self, alloc: Global) -> Result<Vec<FileName>, HostFault>
+        ensures ok { IfOk result (λ names. Lists (view self.old) names.items) }
+        ensures sorted { IfOk result (λ names. IsStrictlySortedBy name_cmp names.items) }
+        ensures changes { Changes Same (view self.old) (view self.new) }
+        ensures moments { KeepsMoments (view self.old) (view self.new) }
+        ensures causes { ListCauses (view self.old) (view self.new) result };
+
+    /// How many bytes the file has.
+    fn size(&mut self, file: FileName) -> Result<u64, Failed>
+        requires { IsThere (view self.old) file }
+        ensures ok { IfOk result (λ n. (bytes : _) → contents (view self.old) file ≡ Some bytes → n ≡ length bytes) }
+        ensures changes { Changes Same (view self.old) (view self.new) }
+        ensures moments { KeepsMoments (view self.old) (view self.new) }
+        ensures causes { DiskCauses (view self.old) (view self.new) result };
+
+    /// Fills the buffer with the file's bytes from this place on, and gives how many there were.
+    fn read(&mut self, file: FileName, at: u64, buf: &mut [u8]) -> Result<usize, Failed>
+        requires there { IsThere (view self.old) file }
+        requires some { 0 < length buf.old }
+        requires page { length buf.old ≤ 4096 }
+        ensures ok { IfOk result (λ n. (bytes : _) → contents (view self.old) file ≡ Some bytes → Fills bytes at buf.old buf.new n) }
+        ensures within { IfOk result (λ n. n ≤ length buf.old) }
+        ensures changes { Changes Same (view self.old) (view self.new) }
+        ensures moments { KeepsMoments (view self.old) (view self.new) }
+        ensures causes { ReadCauses (view self.old) (view self.new) result };
+
+    /// Makes an empty file. It is in each image once it and the folder are synced.
+    fn create(&mut self, file: FileName) -> Result<(), Failed>
+        requires { IsAbsent (view self.old) file }
+        ensures ok { OnOk result (Holds (view self.new) file []) }
+        ensures changes { Changes (Step file MaybeCreated) (view self.old) (view self.new) }
+        ensures moments { KeepsMoments (view self.old) (view self.new) }
+        ensures causes { DiskCauses (view self.old) (view self.new) result };
+
+    /// Writes over the file's bytes from this place on, and past its end where they reach further.
+    fn write(&mut self, file: FileName, at: u64, bytes: &[u8]) -> Result<(), Failed>
+        requires { Reaches (view self.old) file at }
+        ensures ok { OnOk result (Becomes file (λ old. overlay old at bytes.now) (view self.old) (view self.new)) }
+        ensures fits { OnOk result (at + length bytes.now ≤ 2 ^ 62) }
+        ensures changes { Changes (Step file (InPlace (Torn at (length bytes.now)))) (view self.old) (view self.new) }
+        ensures moments { KeepsMoments (view self.old) (view self.new) }
+        ensures causes { DiskCauses (view self.old) (view self.new) result };
+
+    /// Makes the file's bytes durable. Its name is so only with the folder's.
+    fn sync(&mut self, file: FileName) -> Result<(), Failed>
+        requires { IsThere (view self.old) file }
+        ensures ok { OnOk result (IsSynced (view self.new) file) }
+        ensures changes { Changes Same (view self.old) (view self.new) }
+        ensures moments { KeepsMoments (view self.old) (view self.new) }
+        ensures causes { DiskCauses (view self.old) (view self.new) result };
+
+    /// Takes the file out of the folder. It is out of each image once the folder is synced.
+    fn delete(&mut self, file: FileName) -> Result<(), Failed>
+        requires { IsThere (view self.old) file }
+        ensures ok { OnOk result (IsAbsent (view self.new) file) }
+        ensures changes { Changes (Step file MaybeDeleted) (view self.old) (view self.new) }
+        ensures moments { KeepsMoments (view self.old) (view self.new) }
+        ensures causes { DiskCauses (view self.old) (view self.new) result };
+
+    /// Makes the folder's names durable.
+    fn sync_folder(&mut self) -> Result<(), Failed>
+        ensures ok { OnOk result (IsFolderSynced (view self.new)) }
+        ensures changes { Changes Same (view self.old) (view self.new) }
+        ensures moments { KeepsMoments (view self.old) (view self.new) }
+        ensures causes { DiskCauses (view self.old) (view self.new) result };
+
+    /// Appends all the bytes to the replies. After an error a first part of them was.
     fn emit(&mut self, bytes: &[u8]) -> Result<(), Failed>
         ensures ok { OnOk result (AllOut bytes.now (view self.old) (view self.new)) }
         ensures emits { Emits bytes.now (view self.old) (view self.new) }
+        ensures moments { KeepsMoments (view self.old) (view self.new) }
+        ensures prefixes { OnOk result (TellsPrefixes bytes.now (view self.old) (view self.new)) }
         ensures causes { OutCauses (view self.old) (view self.new) result };
+
+    /// The laws of what it tells.
+    ghost sound: { (host : Self) → IsSound (view host) };
 }

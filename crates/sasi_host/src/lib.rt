@@ -1,18 +1,37 @@
-// The outside of a run, as two traits: the source that a script is read from, and the host that takes the replies. What
-// either tells of itself is one record, so that a contract above speaks of what was told before and after. Beside each
-// trait stands an instance in memory, which fails where it is told to.
+// The outside of a run: the source that a script is read from, and the host that keeps the files and takes the replies.
+// What either tells of itself is one record, so that a contract above speaks of what was told before and after, and of what
+// a crash meanwhile may have left. Beside each trait stands an instance in memory, which fails where it is told to.
 #![tactic(auto)]
 
+mod blob;
+mod call;
+mod crash;
+#[cfg(test)]
+mod crash_tests;
+mod damage;
+mod durable;
 mod failed;
+mod fault;
 mod host;
+mod mem_disk;
+mod mem_folder;
 mod mem_host;
+mod mem_host_calls;
 mod mem_source;
+mod name;
+mod noting;
+mod pick;
 mod source;
 #[cfg(test)]
 mod tests;
 
+pub use damage::{Damage, FormatRule, Seen};
+pub use durable::{make_file, write_durably};
 pub use failed::Failed;
+pub use fault::{HostFault, ReadFault};
 pub use host::Host;
 pub use mem_host::MemHost;
 pub use mem_source::MemSource;
+pub use name::{FileName, Kind};
+pub use pick::{BytePick, NamePick, Pick};
 pub use source::Source;

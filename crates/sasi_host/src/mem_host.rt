@@ -1,103 +1,193 @@
 // A host in memory.
-ghost use Rattle.std.specs.Prelude.{◌≡◌, ◌^◌, ◌-◌, ◌⊎◌, ◌<◌, ◌↔◌, ℕ, List, [], OnOk, OnErr, IsErr, IsTrue, Contains};
-ghost use Rattle.sasi_host.specs.View.{AllOut, Emits, OutCauses};
-ghost use Rattle.sasi_host.specs.Memory.{MemoryHost, host_view, IsToFail, failed_emit, refused_emit, emitted_all};
+ghost use Rattle.std.specs.Prelude.{◌≡◌, ◌⊎◌, ◌<◌, ◌≤◌, ◌↔◌, IsTrue, IsErr, OnOk, OnErr, IfOk, IfSome, IfNone, Some, None, Contains};
+ghost use Rattle.std.specs.FinMap as map;
+ghost use Rattle.sasi_host.specs.View.{contents};
+ghost use Rattle.sasi_host.specs.Disk.{IsCrashOf};
+ghost use Rattle.sasi_host.specs.Picks.{picked};
+ghost use Rattle.sasi_host.specs.Calls.{replay, opened};
+ghost use Rattle.sasi_host.specs.declared.call.Call.{Call};
+ghost use Rattle.sasi_host.specs.Memory.{seen, host_view, host_with, done, begun_disk, IsDiskToFail, disk_failed, disk_refused, begun_emit, IsEmitToFail, emit_failed, emit_refused};
 
-use crate::{Failed, Host};
-use std::alloc::Global;
-use std::marker::Model;
+use crate::mem_disk::MemDisk;
+use crate::mem_folder::MemFolder;
+use crate::{Failed, FileName, Pick};
+use std::alloc::{AllocError, Global};
 
-/// A host in memory. It fails at the emits that are listed, after its stop, and where its memory can't grow.
+/// A folder and replies in memory. Its calls fail where they are listed, after its stop, and where its memory can't grow.
 #[derive(Drop)]
 pub struct MemHost {
-    emitted: Vec<u8>,
-    failing: Vec<u64>,
-    stop: u64,
-    emits: u64,
-    out_faults: u64,
-    refused: u64,
-}
-
-impl Model for MemHost {
-    ghost use Rattle.sasi_host.specs.Memory.{MemoryHost};
-
-    ghost Value = { MemoryHost };
-
-    ghost view = { λ a. record { emitted = a.emitted.items; failing = a.failing.items; stop = a.stop; emits = a.emits; out_faults = a.out_faults; refused = a.refused } };
+    pub(crate) disk: MemDisk,
+    pub(crate) failing_disk: Vec<u64>,
+    pub(crate) failing_emits: Vec<u64>,
+    pub(crate) stop: u64,
+    pub(crate) disk_calls: u64,
+    pub(crate) emits: u64,
+    pub(crate) all_calls: u64,
+    pub(crate) disk_faults: u64,
+    pub(crate) out_faults: u64,
+    pub(crate) reads: u64,
+    pub(crate) refused: u64,
 }
 
 impl MemHost {
-    /// A host that has taken nothing, and doesn't fail.
+    /// A host with an empty folder, which doesn't fail.
     pub fn new(alloc: Global) -> MemHost
-        ensures { result ≡ record { emitted = []; failing = []; stop = 2 ^ 64 - 1; emits = 0; out_faults = 0; refused = 0 } }
+        ensures is { seen result ≡ host_with map.empty }
+        ensures no_file { (name : _) → contents (host_view (seen result)) name ≡ None }
+    {
+        MemHost::on(
+            MemDisk::new(alloc, MemFolder::new(alloc), MemFolder::new(alloc)),
+            alloc,
+        )
+    }
+
+    // A host on this folder, which doesn't fail.
+    pub(crate) fn on(disk: MemDisk, alloc: Global) -> MemHost
+        ensures { seen result ≡ record (host_with disk.start) { calls = disk.calls.items } }
     {
         MemHost {
-            emitted: Vec::new(alloc),
-            failing: Vec::new(alloc),
+            disk,
+            failing_disk: Vec::new(alloc),
+            failing_emits: Vec::new(alloc),
             stop: u64::MAX,
+            disk_calls: 0,
             emits: 0,
+            all_calls: 0,
+            disk_faults: 0,
             out_faults: 0,
+            reads: 0,
             refused: 0,
         }
     }
 
-    /// From now on the emits listed fail, counted from 1.
-    pub fn fail_emits(&mut self, calls: Vec<u64>)
-        ensures { self.new ≡ record self.old { failing = calls.items } }
+    /// From now on the file calls listed fail, counted from 1 and from the making of the host.
+    pub fn fail_disk(&mut self, calls: Vec<u64>)
+        ensures { seen self.new ≡ record (seen self.old) { failing_disk = calls.items } }
     {
-        self.failing = calls;
+        self.failing_disk = calls;
     }
 
-    /// Each call after so many fails, counted from the making of the host.
+    /// The same of emits.
+    pub fn fail_emits(&mut self, calls: Vec<u64>)
+        ensures { seen self.new ≡ record (seen self.old) { failing_emits = calls.items } }
+    {
+        self.failing_emits = calls;
+    }
+
+    /// Each call after so many fails. File calls and emits are counted together, from the making of the host.
     pub fn stop_after(&mut self, calls: u64)
-        ensures { self.new ≡ record self.old { stop = calls } }
+        ensures { seen self.new ≡ record (seen self.old) { stop = calls } }
     {
         self.stop = calls;
     }
 
+    /// Puts a file, which is at once in each image, name and bytes.
+    pub fn put(&mut self, file: FileName, bytes: &[u8]) -> Result<(), AllocError>
+        ensures ok { OnOk result (seen self.new ≡ done (Call.Put file bytes.now) (seen self.old)) }
+        ensures reads { OnOk result (contents (host_view (seen self.new)) file ≡ Some bytes.now) }
+        ensures err { OnErr result (seen self.new ≡ seen self.old) }
+    {
+        self.disk.put(file, bytes)
+    }
+
+    /// What the file reads: none exactly where it isn't there.
+    pub fn bytes(&self, file: FileName) -> Option<&[u8]>
+        ensures some { IfSome result (λ bytes. contents (host_view (seen self.now)) file ≡ Some bytes.now) }
+        ensures none { IfNone result (contents (host_view (seen self.now)) file ≡ None) }
+    {
+        self.disk.bytes(file)
+    }
+
     /// The bytes that were emitted.
     pub fn emitted(&self) -> &[u8]
-        ensures { result.now ≡ self.now.emitted }
+        ensures { (host_view (seen self.now)).emitted ≡ Some result.now }
     {
-        &self.emitted
+        &self.disk.emitted
+    }
+
+    /// How often a file was read.
+    pub fn reads(&self) -> u64
+        ensures { result ≡ (seen self.now).reads }
+    {
+        self.reads
     }
 
     /// How many growths of its memory were refused.
     pub fn refused(&self) -> u64
-        ensures { result ≡ self.now.refused }
+        ensures { result ≡ (seen self.now).refused }
     {
         self.refused
     }
-}
 
-// Whether a call fails: it is listed, or comes after the stop.
-fn is_to_fail(failing: &[u64], stop: u64, call: u64) -> bool
-    ensures { IsTrue result ↔ (Contains failing.now call ⊎ (stop < call)) }
-{
-    failing.contains(&call) || call > stop
-}
-
-impl Host for MemHost {
-    ghost view = { host_view };
-
-    fn emit(&mut self, bytes: &[u8]) -> Result<(), Failed>
-        ensures ok { OnOk result (AllOut bytes.now (host_view self.old) (host_view self.new)) }
-        ensures emits { Emits bytes.now (host_view self.old) (host_view self.new) }
-        ensures causes { OutCauses (host_view self.old) (host_view self.new) result }
-        ensures taken { OnOk result (self.new ≡ emitted_all bytes.now self.old) }
-        ensures to_fail { IsToFail self.old → IsErr result × (self.new ≡ failed_emit self.old) }
-        ensures failed { OnErr result (IsToFail self.old ⊎ (self.new ≡ refused_emit self.old)) }
+    /// What a crash now leaves, by this pick of its images. It has nothing pending, emits from nothing and doesn't fail.
+    pub fn crash(&self, pick: Pick) -> Result<MemHost, AllocError>
+        ensures image { IfOk result (λ h. IsCrashOf (host_view (seen self.now)) (host_view (seen h))) }
+        ensures picked { IfOk result (λ h. seen h ≡ host_with (picked pick (seen self.now).calls (seen self.now).start)) }
     {
-        self.emits = self.emits.saturating_add(1);
-        if is_to_fail(&self.failing, self.stop, self.emits) {
-            self.out_faults = self.out_faults.saturating_add(1);
+        Ok(MemHost::on(self.disk.crash(pick)?, self.disk.alloc))
+    }
+
+    // Counts a file call, which fails where it is to.
+    pub(crate) fn begin_disk(&mut self) -> Result<(), Failed>
+        ensures to_fail { IsErr result ↔ IsDiskToFail (seen self.old) }
+        ensures ok { OnOk result (seen self.new ≡ begun_disk (seen self.old)) }
+        ensures err { OnErr result (seen self.new ≡ disk_failed (begun_disk (seen self.old))) }
+        ensures later { self.old.disk_faults ≤ self.new.disk_faults }
+    {
+        self.disk_calls = self.disk_calls.saturating_add(1);
+        self.all_calls = self.all_calls.saturating_add(1);
+        if is_to_fail(
+            &self.failing_disk,
+            self.disk_calls,
+            self.all_calls,
+            self.stop,
+        ) {
+            self.disk_faults = self.disk_faults.saturating_add(1);
             return Err(Failed);
         }
-        if self.emitted.extend_from_slice(bytes).is_err() {
-            self.refused = self.refused.saturating_add(1);
+        Ok(())
+    }
+
+    // Counts a file call's want of memory.
+    pub(crate) fn refuse_disk(&mut self) -> Failed
+        ensures counts { seen self.new ≡ disk_refused (seen self.old) }
+        ensures later { self.old.disk_faults ≤ self.new.disk_faults }
+    {
+        self.disk_faults = self.disk_faults.saturating_add(1);
+        self.refused = self.refused.saturating_add(1);
+        Failed
+    }
+
+    // Counts an emit, which fails where it is to.
+    pub(crate) fn begin_emit(&mut self) -> Result<(), Failed>
+        ensures to_fail { IsErr result ↔ IsEmitToFail (seen self.old) }
+        ensures ok { OnOk result (seen self.new ≡ begun_emit (seen self.old)) }
+        ensures err { OnErr result (seen self.new ≡ emit_failed (begun_emit (seen self.old))) }
+        ensures later { self.old.out_faults ≤ self.new.out_faults }
+    {
+        self.emits = self.emits.saturating_add(1);
+        self.all_calls = self.all_calls.saturating_add(1);
+        if is_to_fail(&self.failing_emits, self.emits, self.all_calls, self.stop) {
             self.out_faults = self.out_faults.saturating_add(1);
             return Err(Failed);
         }
         Ok(())
     }
+
+    // Counts an emit's want of memory.
+    pub(crate) fn refuse_emit(&mut self) -> Failed
+        ensures counts { seen self.new ≡ emit_refused (seen self.old) }
+        ensures later { self.old.out_faults ≤ self.new.out_faults }
+    {
+        self.out_faults = self.out_faults.saturating_add(1);
+        self.refused = self.refused.saturating_add(1);
+        Failed
+    }
+}
+
+// Whether a call fails: it is listed, or comes after the stop.
+fn is_to_fail(failing: &[u64], call: u64, all_calls: u64, stop: u64) -> bool
+    ensures { IsTrue result ↔ (Contains failing.now call ⊎ (stop < all_calls)) }
+{
+    failing.contains(&call) || all_calls > stop
 }

@@ -1,5 +1,5 @@
 // The source and the host in memory, each call once.
-use crate::{Failed, Host, MemHost, MemSource, Source};
+use crate::{Failed, FileName, Host, Kind, MemHost, MemSource, Source};
 use std::alloc::AllocError;
 
 #[test]
@@ -39,5 +39,69 @@ fn host_fails_where_it_is_told_to(rt: HostRuntime) -> Result<(), AllocError> {
         assert_eq!(rt; host.emitted(), emitted);
     }
     assert_eq!(rt; host.refused(), 0);
+    Ok(())
+}
+
+// A name, whose index and part are those of a segment.
+fn name(kind: Kind, number: u32, index: u32, part: u32) -> FileName {
+    FileName {
+        kind,
+        number,
+        index,
+        part,
+    }
+}
+
+#[test]
+fn files_are_listed_in_their_order(rt: HostRuntime) -> Result<(), AllocError> {
+    let alloc = rt.alloc();
+    let names = [
+        name(Kind::Manifest, 2, 0, 0),
+        name(Kind::Manifest, 10, 0, 0),
+        name(Kind::Seal, 1, 0, 0),
+        name(Kind::Log, 1, 0, 0),
+        name(Kind::Data, 4_294_967_295, 0, 0),
+        name(Kind::Index, 1, 2, 10),
+        name(Kind::Index, 1, 3, 1),
+        name(Kind::Index, 2, 1, 1),
+        name(Kind::Segment, 1, 1, 1),
+        name(Kind::Segment, 1, 1, 2),
+    ];
+    let mut host = MemHost::new(alloc);
+    for file in names.iter().rev() {
+        host.put(*file, b"")?;
+    }
+    match host.list(alloc) {
+        Ok(listed) => assert_eq!(rt; listed.as_slice(), names.as_slice()),
+        Err(fault) => assert_eq!(rt; Err(fault), Ok(())),
+    }
+    Ok(())
+}
+
+#[test]
+fn files_are_read_from_any_place(rt: HostRuntime) -> Result<(), AllocError> {
+    let alloc = rt.alloc();
+    let file = name(Kind::Log, 1, 0, 0);
+    let mut host = MemHost::new(alloc);
+    host.put(file, b"abcdef")?;
+    if host.bytes(file).is_none() {
+        return Ok(());
+    }
+    assert_eq!(rt; host.size(file), Ok(6));
+    let mut buf = [0; 4];
+    let expected: [(u64, usize, &[u8]); 4] = [
+        (1, 4, b"bcde"),
+        (4, 2, b"efde"),
+        (6, 0, b"efde"),
+        (u64::MAX, 0, b"efde"),
+    ];
+    for (at, count, bytes) in expected {
+        if host.bytes(file).is_none() {
+            return Ok(());
+        }
+        assert_eq!(rt; host.read(file, at, &mut buf), Ok(count));
+        assert_eq!(rt; &buf[..], bytes);
+    }
+    assert_eq!(rt; host.reads(), 4);
     Ok(())
 }

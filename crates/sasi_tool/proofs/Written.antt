@@ -2,7 +2,6 @@
 use Rattle.std.proofs.Common.{◌≡◌, ℕ, ◌+◌, ◌-◌, List, ◌++◌, length, take, drop, Option, None, Some, refl, sym, subst, append_assoc, arith}
 use Rattle.std.proofs.lemmas.List.{take-append-drop, take_rest, take-take, drop-take}
 use Rattle.std.specs.Io.KnownBytes.{Appends, Keeps}
-use Rattle.sasi_host.specs.View.{View, Emits}
 
 both : (a b c : Option (List ℕ)) (xs ys : List ℕ) → Appends a b xs → Appends b c ys → Appends a c (xs ++ ys)
 both None b c xs ys p q = tt
@@ -25,5 +24,5 @@ pub wrote_more : (a b c : Option (List ℕ)) (bytes : List ℕ) (done count : �
 wrote_more a b c bytes done count p q = subst (λ xs. Appends a c xs) (parts bytes done count) (both a b c (take done bytes) (take count (take (length bytes - done) (drop done bytes))) p q)
 
 -- what a broken loop has written is a first part of the bytes
-pub first_part : (old new : View) (bytes : List ℕ) (done : ℕ) → Appends old.emitted new.emitted (take done bytes) → Emits bytes old new
-first_part old new bytes done p = record { front = take done bytes; back = drop done bytes; parts = sym (take-append-drop done bytes); out = p }
+pub first_part : (a b : Option (List ℕ)) (bytes : List ℕ) (done : ℕ) → Appends a b (take done bytes) → (front back : List ℕ) × (bytes ≡ front ++ back) × Appends a b front
+first_part a b bytes done p = (take done bytes, drop done bytes, sym (take-append-drop done bytes), p)

@@ -1,0 +1,10 @@
+pub mod Frames
+pub mod Torn
+pub mod Appends
+pub mod Creates
+pub mod Headers
+pub mod Windows
+pub mod Opens
+pub mod Pieces
+pub mod AtGates
+pub mod Nexts

@@ -1,0 +1,10 @@
+pub mod Format
+pub mod Records
+pub mod Gates
+pub mod Damages
+pub mod Causes
+pub mod AtGate
+pub mod Standing
+pub mod Reads
+pub mod Laws
+pub mod Undamaged

@@ -1,0 +1,51 @@
+-- What reads of a gated file give, over what the host tells.
+use Rattle.std.specs.Prelude.{Bool, ◌≡◌, ℕ, List, [], ◌∷◌, ◌++◌, Some}
+use Rattle.sasi_host.specs.declared.name.FileName.{FileName}
+use Rattle.sasi_host.specs.declared.damage.Damage.{Damage}
+use Rattle.sasi_host.specs.declared.fault.ReadFault.{ReadFault}
+use Rattle.sasi_host.specs.declared.fault.ReadFault.TheVariants as fault
+use Rattle.sasi_host.specs.Names.{Bytes}
+use Rattle.sasi_host.specs.View.{View, IsTold, contents}
+use Rattle.sasi_gated.specs.Format.{IsGated}
+use Rattle.sasi_gated.specs.Gates.{IsAtGate, ReadsAt}
+use Rattle.sasi_gated.specs.Damages.{Shows}
+use Rattle.sasi_gated.specs.Standing.{IsAtEnd, IsReading, ReadsOn}
+
+-- the file as it reads begins with its header, behind which the first gate stands
+abbrev pub Begins : View → FileName → ℕ → Type 0
+Begins v file at = (bytes : Bytes) → contents v file ≡ Some bytes → (rest : Bytes) × IsAtGate file bytes at [] rest
+
+-- at a gate of the file as it reads, this is read, and the reader then stands at the second place
+abbrev pub ReadsGate : View → FileName → ℕ → ℕ → Bool → Bytes → Type 0
+ReadsGate v file at after more out = (bytes : Bytes) (done : List Bytes) (rest : Bytes) → contents v file ≡ Some bytes → IsAtGate file bytes at done rest → ReadsAt more file bytes after done rest out
+
+-- of the records that are left, this is read, and the reader then stands at the second place
+abbrev pub ReadsRecords : View → View → FileName → ℕ → ℕ → Bool → Bytes → Type 0
+ReadsRecords old new file at after more out = (done left : List Bytes) → IsTold old → IsReading old file at done left → ReadsOn more new file after done left out
+
+-- where the records end at the first place, there is now this one more, and they end at the second place
+abbrev pub Gains : View → View → FileName → ℕ → ℕ → Bytes → Type 0
+Gains old new file at after payload = (records : List Bytes) → IsAtEnd old file at records → IsAtEnd new file after (records ++ payload ∷ [])
+
+-- ---- damage
+
+-- if the fault is damage, it has P
+abbrev pub OnDamage : (Damage → Type 0) → ReadFault → Type 0
+OnDamage P (fault.Damaged damage) = P damage
+OnDamage P _ = Unit {0}
+
+-- damage is what the file shows as it reads
+abbrev pub IsShown : View → FileName → ReadFault → Type 0
+IsShown v file = OnDamage (λ damage. (bytes : Bytes) → contents v file ≡ Some bytes → Shows file bytes damage)
+
+-- the same, where the reader stood at a gate
+abbrev pub IsShownAt : View → FileName → ℕ → ReadFault → Type 0
+IsShownAt v file at = OnDamage (λ damage. (bytes : Bytes) (done : List Bytes) (rest : Bytes) → contents v file ≡ Some bytes → IsAtGate file bytes at done rest → Shows file bytes damage)
+
+-- and no gated file is damaged
+abbrev pub SparesGated : View → FileName → ReadFault → Type 0
+SparesGated v file = OnDamage (λ _. (bytes : Bytes) (records : List Bytes) → contents v file ≡ Some bytes → IsGated file bytes records → ⊥)
+
+-- nor one whose records are being read
+abbrev pub SparesReading : View → FileName → ℕ → ReadFault → Type 0
+SparesReading v file at = OnDamage (λ _. (done left : List Bytes) → IsTold v → IsReading v file at done left → ⊥)

@@ -1,0 +1,39 @@
+-- A gated file that each crash leaves alike, and where one stands in it.
+use Rattle.std.specs.Prelude.{Bool, true, false, [], ◌≡◌, ℕ, List, ◌∷◌, ◌++◌}
+use Rattle.sasi_host.specs.declared.name.FileName.{FileName}
+use Rattle.sasi_host.specs.Names.{Bytes}
+use Rattle.sasi_host.specs.View.{View}
+use Rattle.sasi_host.specs.Disk.{IsKept}
+use Rattle.sasi_gated.specs.Format.{Closes, FromGate}
+use Rattle.sasi_gated.specs.Gates.{IsAtGate}
+
+-- what one knows of a gated file in hand
+pub record Handle : Type 0 where
+  pub file : FileName
+  -- the place of the gate before which it stands
+  pub at : ℕ
+  -- no call on it gave a fault
+  pub usable : Bool
+
+-- Each image has the file, alike in each. These records stand before the gate at this place, and these from it on.
+pub record IsReading (v : View) (file : FileName) (at : ℕ) (done left : List Bytes) : Type 0 where
+  pub bytes : Bytes
+  pub rest : Bytes
+  pub kept : IsKept v file bytes
+  pub at_gate : IsAtGate file bytes at done rest
+  pub records_left : FromGate rest left
+
+-- Each image has the file, alike in each, with these records, and the closed gate stands at this place.
+pub record IsAtEnd (v : View) (file : FileName) (at : ℕ) (records : List Bytes) : Type 0 where
+  pub bytes : Bytes
+  pub rest : Bytes
+  pub kept : IsKept v file bytes
+  pub at_gate : IsAtGate file bytes at records rest
+  pub closed : Closes rest
+
+-- what a read gives of the records that are left: true and the first of them, or false where there is none
+abbrev pub ReadsOn : Bool → View → FileName → ℕ → List Bytes → List Bytes → Bytes → Type 0
+ReadsOn true v file at done [] out = ⊥
+ReadsOn true v file at done (first ∷ others) out = (out ≡ first) × IsReading v file at (done ++ first ∷ []) others
+ReadsOn false v file at done [] out = IsAtEnd v file at done
+ReadsOn false v file at done (first ∷ others) out = ⊥

@@ -1,0 +1,42 @@
+// What stands at a gate.
+ghost use Rattle.sasi_gated.specs.AtGate.{GateIs};
+
+use sasi_fields::FieldReader;
+
+// The longest record.
+const LONGEST: u32 = 1 << 30;
+
+#[derive(Clone, Copy)]
+pub enum Gate<'a> {
+    // The end of the records.
+    Closed,
+    // A record of this length, whose payload begins with these bytes, as far as they are in hand.
+    Opened { length: u32, begun: &'a [u8] },
+    // Too few bytes.
+    CutOff,
+    // A length that no record has.
+    NoLength(u32),
+}
+
+// The gate that the bytes begin with.
+pub fn gate_in<'a>(bytes: &'a [u8]) -> Gate<'a>
+    ensures { GateIs bytes.now result }
+{
+    let mut reader = FieldReader::new(bytes);
+    let Ok(gate) = reader.u8() else {
+        return Gate::CutOff;
+    };
+    if gate == 0 {
+        return Gate::Closed;
+    }
+    let Ok(length) = reader.u32() else {
+        return Gate::CutOff;
+    };
+    if length == 0 || length > LONGEST {
+        return Gate::NoLength(length);
+    }
+    Gate::Opened {
+        length,
+        begun: &bytes[5..],
+    }
+}

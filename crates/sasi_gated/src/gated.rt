@@ -1,0 +1,138 @@
+// A gated file in hand.
+ghost use Rattle.std.specs.Prelude.{◌≡◌, ◌+◌, ◌∷◌, ◌++◌, [], ℕ, List, length, IfErr, IfOk, OnOk, IsTrue, is_ok, false, Some};
+ghost use Rattle.std.specs.Option.{option_copied, option_to_list};
+ghost use Rattle.sasi_host.specs.View.{DiskCauses, ListCauses, Reaches, IsAbsent, IsThere, IsTold, contents};
+ghost use Rattle.sasi_host.specs.Disk.{Anyhow, Changes, IsKept, LeftWith, Same, Step};
+ghost use Rattle.sasi_gated.specs.Format.{IsBeforeOrAfter, IsGated};
+ghost use Rattle.sasi_gated.specs.Gates.{IsAtGate, ReadsAt};
+ghost use Rattle.sasi_gated.specs.Damages.{Shows};
+ghost use Rattle.sasi_gated.specs.Causes.{ReadingCauses};
+ghost use Rattle.sasi_gated.specs.Reads.{OnDamage, IsShown, IsShownAt, SparesGated, SparesReading, ReadsGate, ReadsRecords, Begins, Gains};
+ghost use Rattle.sasi_gated.specs.Standing.{IsAtEnd, IsReading, ReadsOn};
+
+use crate::Record;
+use crate::append::append_at;
+use crate::create::new_file_bytes;
+use crate::header::HEADER_LENGTH;
+use crate::next::read_next;
+use crate::read::read_header;
+use sasi_host::{Failed, FileName, Host, HostFault, ReadFault, make_file};
+use std::alloc::Global;
+use std::marker::Model;
+
+/// A gated file, opened for reading from gate to gate, and then for appending. Seen as its name, the place where it stands
+/// and whether it is usable.
+#[derive(Drop)]
+pub struct Gated {
+    file: FileName,
+    at: u64,
+    usable: bool,
+}
+
+impl Model for Gated {
+    ghost use Rattle.std.specs.Prelude.{◌≤◌, ◌^◌};
+    ghost use Rattle.sasi_gated.specs.Standing.{Handle};
+
+    ghost Value = { Handle };
+
+    ghost view = { λ a. record { file = a.file; at = a.at; usable = a.usable } };
+
+    ghost invariant = { λ a. a.at ≤ 2 ^ 62 };
+}
+
+impl Gated {
+    /// Whether no call on it gave a fault.
+    pub fn is_usable(&self) -> bool
+        ensures { result ≡ self.now.usable }
+    {
+        self.usable
+    }
+
+    /// Makes a gated file with no record or with this first one, and syncs it and the folder. It stands at the closed gate.
+    pub fn create<H: Host>(
+        alloc: Global,
+        host: &mut H,
+        file: FileName,
+        first: Option<&Record>,
+    ) -> Result<Gated, HostFault>
+        requires { IsAbsent (H.view host.old) file }
+        ensures ok { IfOk result (λ gated. IsAtEnd (H.view host.new) file gated.at (option_to_list (option_copied first.entry))) }
+        ensures changes { Changes (Step file Anyhow) (H.view host.old) (H.view host.new) }
+        ensures room { IfOk result (λ gated. Reaches (H.view host.new) gated.file (gated.at + 1)) }
+        ensures usable { IfOk result (λ gated. IsTrue gated.usable) }
+        ensures file { IfOk result (λ gated. gated.file ≡ file) }
+        ensures causes { ListCauses (H.view host.old) (H.view host.new) result }
+    {
+        let bytes = new_file_bytes(alloc, file, first)?;
+        make_file(host, file, &bytes)?;
+        Ok(Gated {
+            file,
+            at: bytes.len() as u64 - 1,
+            usable: true,
+        })
+    }
+
+    /// Opens a gated file, and stands at its first gate.
+    pub fn open<H: Host>(host: &mut H, file: FileName) -> Result<Gated, ReadFault>
+        requires { IsThere (H.view host.old) file }
+        ensures header { IfOk result (λ gated. Begins (H.view host.old) file gated.at) }
+        ensures records { IfOk result (λ gated. (bytes : List ℕ) (records : List (List ℕ)) → IsKept (H.view host.old) file bytes → IsGated file bytes records
+            → IsReading (H.view host.new) file gated.at [] records) }
+        ensures damaged { IfErr result (IsShown (H.view host.old) file) }
+        ensures undamaged { IfErr result (SparesGated (H.view host.old) file) }
+        ensures changes { Changes Same (H.view host.old) (H.view host.new) }
+        ensures usable { IfOk result (λ gated. IsTrue gated.usable) }
+        ensures file { IfOk result (λ gated. gated.file ≡ file) }
+        ensures causes { ReadingCauses (H.view host.old) (H.view host.new) result }
+    {
+        read_header(host, file)?;
+        Ok(Gated {
+            file,
+            at: HEADER_LENGTH,
+            usable: true,
+        })
+    }
+
+    /// Reads at the gate before which it stands: the record behind it, whose payload is then all of `out`, or false where it
+    /// is closed.
+    pub fn next<H: Host>(&mut self, host: &mut H, out: &mut Vec<u8>) -> Result<bool, ReadFault>
+        requires there { IsThere (H.view host.old) self.old.file }
+        requires usable { IsTrue self.old.usable }
+        ensures gate { IfOk result (λ more. ReadsGate (H.view host.old) self.old.file self.old.at self.new.at more out.new.items) }
+        ensures records { IfOk result (λ more. ReadsRecords (H.view host.old) (H.view host.new) self.old.file self.old.at self.new.at more out.new.items) }
+        ensures room { IfOk result (λ more. more ≡ false → Reaches (H.view host.new) self.new.file (self.new.at + 1)) }
+        ensures damaged { IfErr result (IsShownAt (H.view host.old) self.old.file self.old.at) }
+        ensures undamaged { IfErr result (SparesReading (H.view host.old) self.old.file self.old.at) }
+        ensures changes { Changes Same (H.view host.old) (H.view host.new) }
+        ensures usable { self.new.usable ≡ is_ok result }
+        ensures file { self.new.file ≡ self.old.file }
+        ensures causes { ReadingCauses (H.view host.old) (H.view host.new) result }
+    {
+        self.usable = false;
+        let next = read_next(host, self.file, self.at, out)?;
+        self.at = next.at;
+        self.usable = true;
+        Ok(next.more)
+    }
+
+    /// Appends a record at the closed gate, by four host calls and with no memory: the record and the next closed gate are
+    /// written behind the gate and synced, and then the gate is opened and synced.
+    pub fn append<H: Host>(&mut self, host: &mut H, item: &Record) -> Result<(), Failed>
+        requires room { Reaches (H.view host.old) self.old.file (self.old.at + 1) }
+        requires usable { IsTrue self.old.usable }
+        ensures ok { OnOk result (Gains (H.view host.old) (H.view host.new) self.old.file self.old.at self.new.at item.now) }
+        ensures any_moment { (records : List (List ℕ)) → IsAtEnd (H.view host.old) self.old.file self.old.at records
+            → Changes (Step self.old.file (LeftWith (IsBeforeOrAfter self.old.file records item.now))) (H.view host.old) (H.view host.new) }
+        ensures changes { Changes (Step self.old.file Anyhow) (H.view host.old) (H.view host.new) }
+        ensures place { OnOk result (self.new.at ≡ self.old.at + (5 + length item.now)) }
+        ensures room { OnOk result (Reaches (H.view host.new) self.new.file (self.new.at + 1)) }
+        ensures usable { self.new.usable ≡ is_ok result }
+        ensures file { self.new.file ≡ self.old.file }
+        ensures causes { DiskCauses (H.view host.old) (H.view host.new) result }
+    {
+        self.usable = false;
+        self.at = append_at(host, self.file, self.at, item)?;
+        self.usable = true;
+        Ok(())
+    }
+}

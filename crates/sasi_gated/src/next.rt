@@ -1,0 +1,54 @@
+// A read at a gate, and where it leaves the reader.
+ghost use Rattle.std.specs.Prelude.{false, ◌≡◌, ◌+◌, ◌≤◌, ◌^◌, List, ℕ, IfErr, IfOk, Some};
+ghost use Rattle.sasi_host.specs.View.{IsThere, IsTold, Reaches, contents};
+ghost use Rattle.sasi_host.specs.Disk.{Changes, Same};
+ghost use Rattle.sasi_gated.specs.Gates.{IsAtGate, ReadsAt};
+ghost use Rattle.sasi_gated.specs.Damages.{Shows};
+ghost use Rattle.sasi_gated.specs.Causes.{ReadingCauses};
+ghost use Rattle.sasi_gated.specs.Reads.{OnDamage, IsShown, IsShownAt, SparesGated, SparesReading, ReadsGate, ReadsRecords, Begins, Gains};
+ghost use Rattle.sasi_gated.specs.Standing.{IsReading, ReadsOn};
+
+use crate::damage::cut_off;
+use crate::read::read_record;
+use sasi_host::{FileName, Host, ReadFault};
+
+// No file is longer.
+const LARGEST_FILE: u64 = 1 << 62;
+
+// Whether a record was read, and the place of the gate before which the reader then stands.
+#[derive(Clone, Copy)]
+pub struct Next {
+    pub more: bool,
+    pub at: u64,
+}
+
+pub fn read_next<H: Host>(
+    host: &mut H,
+    file: FileName,
+    at: u64,
+    out: &mut Vec<u8>,
+) -> Result<Next, ReadFault>
+    requires there { IsThere (H.view host.old) file }
+    requires place { at ≤ 2 ^ 62 }
+    ensures gate { IfOk result (λ next. ReadsGate (H.view host.old) file at next.at next.more out.new.items) }
+    ensures records { IfOk result (λ next. ReadsRecords (H.view host.old) (H.view host.new) file at next.at next.more out.new.items) }
+    ensures room { IfOk result (λ next. next.more ≡ false → Reaches (H.view host.new) file (next.at + 1)) }
+    ensures fits { IfOk result (λ next. next.at ≤ 2 ^ 62) }
+    ensures damaged { IfErr result (IsShownAt (H.view host.old) file at) }
+    ensures undamaged { IfErr result (SparesReading (H.view host.old) file at) }
+    ensures changes { Changes Same (H.view host.old) (H.view host.new) }
+    ensures causes { ReadingCauses (H.view host.old) (H.view host.new) result }
+{
+    out.clear();
+    if !read_record(host, file, at, out)? {
+        return Ok(Next { more: false, at });
+    }
+    let next = at + 5 + out.len() as u64;
+    if next > LARGEST_FILE {
+        return Err(ReadFault::Damaged(cut_off(file, next)));
+    }
+    Ok(Next {
+        more: true,
+        at: next,
+    })
+}

@@ -1,0 +1,4 @@
+pub mod Folders
+pub mod CallChanges
+pub mod PickedImages
+pub mod HostChanges

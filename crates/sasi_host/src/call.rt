@@ -1,0 +1,15 @@
+// What a host in memory was asked to do.
+use crate::FileName;
+use crate::blob::Blob;
+
+// A call that changed, synced or emitted something, or a file that was put.
+#[derive(Drop)]
+pub enum Call {
+    Created(FileName),
+    Wrote(FileName, u64, Blob),
+    Synced(FileName),
+    Deleted(FileName),
+    FolderSynced,
+    Emitted(Blob),
+    Put(FileName, Blob),
+}

@@ -1,0 +1,42 @@
+// What a file shows where it breaks a rule of its format.
+use crate::FileName;
+
+/// The rule of a format that a file breaks.
+#[derive(Clone, Copy, Debug, PartialEq, Eq)]
+pub enum FormatRule {
+    /// The file has fewer bytes than the format needs there.
+    Short,
+    /// The manifest of the highest seal, or a live log or file that it lists, isn't in the folder.
+    Missing,
+    /// No seal is there, and this file is one other than the first manifest and the first log.
+    NoSeal,
+    /// A magic text differs.
+    Magic,
+    /// The version isn't a known one.
+    Version,
+    /// A number field is outside its range, or names what isn't there.
+    Number,
+    /// An item doesn't follow the one before it.
+    Order,
+    /// A place field leads outside the file, or to a wrong part of it.
+    Place,
+    /// Bytes that must be UTF-8, a value of a type or a free name aren't.
+    Text,
+}
+
+/// Up to eight bytes of a file: the first `len` of `bytes`, and zeros after them.
+#[derive(Clone, Copy, Debug, PartialEq, Eq)]
+pub struct Seen {
+    pub bytes: [u8; 8],
+    pub len: u8,
+}
+
+/// A rule that a file breaks, where it does so, and what it has there.
+#[derive(Clone, Copy, Debug, PartialEq, Eq)]
+pub struct Damage {
+    pub file: FileName,
+    /// The place from the file's start.
+    pub at: u64,
+    pub rule: FormatRule,
+    pub seen: Seen,
+}

@@ -1,0 +1,91 @@
+// Names of files, in the order in which a folder lists them.
+ghost use Rattle.std.specs.Prelude.{◌≡◌};
+ghost use Rattle.std.proofs.Common.{rules};
+ghost use Rattle.std.specs.Cmp.{partial_order_from_own_ties, partial_order_from_total};
+ghost use Rattle.std.specs.Cmp.Rules.{comparing};
+ghost use Rattle.std.specs.Ordering.{as_partial_cmp};
+ghost use Rattle.sasi_host.specs.Names.{rank, name_cmp, name_eq};
+ghost use Rattle.sasi_host.specs.NameLaws.{names_total};
+
+use std::cmp::Ordering;
+
+/// What a file of the folder is for.
+#[derive(Clone, Copy, Debug)]
+pub enum Kind {
+    Manifest,
+    Seal,
+    Log,
+    Data,
+    Index,
+    Segment,
+}
+
+impl Kind {
+    /// Its place in the order of names.
+    pub fn rank(self) -> u8
+        ensures { result ≡ rank self }
+    {
+        match self {
+            Kind::Manifest => 0,
+            Kind::Seal => 1,
+            Kind::Log => 2,
+            Kind::Data => 3,
+            Kind::Index => 4,
+            Kind::Segment => 5,
+        }
+    }
+}
+
+/// The name of a file. `index` and `part` are 0 but for an index and a segment.
+#[derive(Clone, Copy, Debug)]
+pub struct FileName {
+    pub kind: Kind,
+    pub number: u32,
+    pub index: u32,
+    pub part: u32,
+}
+
+impl PartialEq for FileName {
+    ghost eq = { name_eq };
+
+    ghost laws = { Prim.search (comparing, rules) };
+
+    fn eq(&self, other: &FileName) -> bool {
+        self.kind.rank() == other.kind.rank()
+            && self.number == other.number
+            && self.index == other.index
+            && self.part == other.part
+    }
+}
+
+impl Eq for FileName {
+    ghost laws = { Prim.search (comparing, rules) };
+}
+
+impl Ord for FileName {
+    ghost cmp = { name_cmp };
+
+    ghost total = { Prim.search (comparing, rules) };
+
+    ghost matches_partial_cmp = { Prim.search (comparing, rules) };
+
+    ghost matches_eq = { Prim.search (comparing, rules) };
+
+    fn cmp(&self, other: &FileName) -> Ordering {
+        let kinds = self.kind.rank().cmp(&other.kind.rank());
+        let numbers = self.number.cmp(&other.number);
+        let indexes = self.index.cmp(&other.index);
+        let parts = self.part.cmp(&other.part);
+        kinds.then(numbers.then(indexes.then(parts)))
+    }
+}
+
+impl PartialOrd for FileName {
+    ghost partial_cmp = { as_partial_cmp name_cmp };
+
+    ghost laws = { partial_order_from_own_ties (partial_order_from_total names_total) (Prim.search (comparing, rules)) };
+
+    fn partial_cmp(&self, other: &FileName) -> Option<Ordering> {
+        Some(self.cmp(other))
+    }
+}
