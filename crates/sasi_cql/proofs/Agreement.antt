@@ -1,187 +1,222 @@
 -- The grammar as a relation and the function that finds the statement: the two agree.
-use Rattle.std.proofs.Common.{◌≡◌, ◌≢◌, ℕ, Bool, true, false, not, ◌&&◌, ◌==◌, cond, List, [], ◌∷◌, ◌++◌, length, map, codes, Option, None, Some, refl, sym, ap, ◌∙◌, append_assoc, arith}
-use Rattle.std.specs.List.{flat_map, list_all}
-use Rattle.std.specs.Cmp.Lexicographic.{same_text}
-use Rattle.sasi_types.specs.declared.column.ColumnType.{ColumnType}
+use Rattle.std.proofs.Common.{◌≡◌, ◌≤◌, ℕ, true, ◌==◌, List, [], ◌∷◌, ◌++◌, length, Option, None, Some, refl, ◌∙◌, leb, arith}
+use Rattle.std.specs.List.{flat_map}
 use Rattle.sasi_types.specs.declared.literal.Literal.{Literal}
-use Rattle.sasi_types.specs.declared.literal.Literal.TheVariants.{Text}
+use Rattle.sasi_types.specs.declared.literal.Number.{Number}
+use Rattle.sasi_types.specs.declared.statement.Select.{Select}
 use Rattle.sasi_types.specs.declared.statement.Statement.{Statement}
-use Rattle.sasi_types.specs.declared.statement.Statement.TheVariants.{CreateTable, Insert, Query}
-use Rattle.sasi_model.specs.Tokens.{Token, Word, Open, Close, Comma, Star, Semicolon}
-use Rattle.sasi_model.specs.Statements.{same, is_name, separated, name_item, literal_item, column_item, key_item, text_column, ReadsInsert, Reads, Read, read_names, read_literals, read_columns, ended, created, create_columns, create_key, inserted, insert_values, insert_names, statement_of}
-use Rattle.sasi_cql.proofs.ItemLists.{both, both_hold, passed, names_read, literals_read, columns_read, Spells, comma_in_front, names_spelled, literals_spelled, SpelledColumns, columns_spelled}
-
--- ---- what is spelled is found
-
-create_found : (table key : List ℕ) (others : List (List ℕ)) → list_all is_name (table ∷ key ∷ others) ≡ true
-    → statement_of (Word (codes "create") ∷ Word (codes "table") ∷ Word table ∷ Open ∷ separated (key_item key ∷ map column_item others) ++ Close ∷ Semicolon ∷ [])
-    ≡ Some (CreateTable table (map text_column (key ∷ others)) (key ∷ []))
-unfolding statement_of
-create_found table key [] ok =
-    let names = both (is_name table) _ ok in
-    rw (names.0, (both (is_name key) _ names.1).0) refl
-create_found table key (other ∷ others) ok =
-    let names = both (is_name table) _ ok in
-    let columns = both (is_name key) _ names.1 in
-    rw (names.0, columns.0, columns_read other others (Semicolon ∷ []) columns.1) refl
-
-insert_found : (table name : List ℕ) (names : List (List ℕ)) (literal : Literal) (literals : List Literal) → list_all is_name (table ∷ name ∷ names) ≡ true
-    → length (literal ∷ literals) ≡ length (name ∷ names)
-    → statement_of (Word (codes "insert") ∷ Word (codes "into") ∷ Word table ∷ Open ∷ (separated (map name_item (name ∷ names)) ++ Close ∷ Word (codes "values") ∷ Open ∷ (separated (map literal_item (literal ∷ literals)) ++ Close ∷ Semicolon ∷ [])))
-    ≡ Some (Insert table (name ∷ names) (literal ∷ literals))
-unfolding statement_of
-insert_found table name names literal literals ok many =
-    let tests = both (is_name table) _ ok in
-    let same_count : (length (literal ∷ literals) == length (name ∷ names)) ≡ true = grind arith in
-    rw (tests.0, names_read name names (Word (codes "values") ∷ Open ∷ (separated (map literal_item (literal ∷ literals)) ++ Close ∷ Semicolon ∷ [])) tests.1, literals_read literal literals (Semicolon ∷ []), same_count) refl
-
-query_found : (table : List ℕ) → is_name table ≡ true
-    → statement_of (Word (codes "select") ∷ Star ∷ Word (codes "from") ∷ Word table ∷ Semicolon ∷ []) ≡ Some (Query (record { table = table }))
-unfolding statement_of
-query_found table ok = rw ok refl
-
-insert_reads : (tokens : List Token) (table : List ℕ) (names : List (List ℕ)) (literals : List Literal) → ReadsInsert tokens table names literals
-    → statement_of tokens ≡ Some (Insert table names literals)
-insert_reads tokens table [] literals r = absurd (r.some refl)
-insert_reads tokens table (name ∷ names) [] r = let many = r.as_many in absurd (omega arith)
-insert_reads tokens table (name ∷ names) (Text text ∷ literals) r =
-    rw r.spelled (simp append_assoc (insert_found table name names (Text text) literals r.names r.as_many))
-
-pub found : (tokens : List Token) (statement : Statement) → Reads tokens statement → statement_of tokens ≡ Some statement
-found tokens (CreateTable table columns keys) r =
-    rw (r.spelled, r.columns_are, r.keys_are) (create_found table r.key r.others r.names)
-found tokens (Insert table columns values) r = insert_reads tokens table columns values r
-found tokens (Query select) r = rw r.spelled (query_found select.table r.name)
+use Rattle.sasi_types.specs.declared.statement.Statement.TheVariants.{CreateTable, Insert, Update, Delete, Query}
+use Rattle.sasi_model.specs.Tokens.{Token, Open, Close, Comma, Semicolon}
+use Rattle.sasi_model.specs.Statements.{word, these, ◌then◌, listed, name, literal, name_of, using_time, equation, Item, item, columns_of, keys_of, names_or_none, asked, Reads, when, expect, read_list, read_name, read_literal, read_time, read_equation, read_item, read_names_or_none, read_asked, read_where, ended, created, create_of, insert_values, insert_of, update_of, delete_of, query_of, statement_of}
+use Rattle.sasi_cql.proofs.Phrases.{passed, went_on, leads, joins, expected, these_lead, these_expected, Anything, one_sound, one_complete, Ends}
+use Rattle.sasi_cql.proofs.Productions.{other_front, names_sound, names_complete, literals_sound, literals_complete, time_sound, time_complete, equations_sound, equations_complete, NoKey, items_sound, items_complete, names_or_none_sound, names_or_none_complete, asked_sound, asked_complete, where_sound, where_complete}
 
 -- ---- what is found is spelled
 
-ends : (tokens : List Token) (statement result : Statement) → ended tokens statement ≡ Some result → (tokens ≡ Semicolon ∷ []) × (statement ≡ result)
-ends (Semicolon ∷ []) statement result h = (refl, cc)
-ends _ statement result h = absurd cc
+pub ends : (statement result : Statement) (tokens : List Token) → ended statement tokens ≡ Some result → (tokens ≡ []) × (statement ≡ result)
+ends statement result [] h = (refl, cc)
+ends statement result (token ∷ tokens) h = absurd cc
 
--- a CREATE TABLE with its key, and what stands behind it
-abbrev create_tokens : List ℕ → List ℕ → List Token → List Token
-create_tokens table key behind = Word (codes "create") ∷ Word (codes "table") ∷ Word table ∷ Open ∷ (key_item key ++ behind)
+last_these : (wanted tokens behind : List Token) → (wanted ++ []) ≡ wanted → expect wanted tokens ≡ Some behind → behind ≡ [] → these wanted tokens
+last_these wanted tokens behind same h none = expected wanted tokens behind h ∙ rw none same
 
-created_reads : (table key : List ℕ) (tokens : List Token) (columns : Read (List (List ℕ × ColumnType))) (s : Statement) → is_name table ≡ true → is_name key ≡ true
-    → SpelledColumns tokens columns → ended columns.behind (CreateTable table (text_column key ∷ columns.value) (key ∷ [])) ≡ Some s
-    → Reads (create_tokens table key (Comma ∷ tokens)) s
-created_reads table key tokens columns s is_table is_key spelled h =
-    let commas = comma_in_front column_item spelled.names spelled.spells.some (Close ∷ columns.behind) in
-    let end = ends columns.behind (CreateTable table (text_column key ∷ columns.value) (key ∷ [])) s h in
-    rw (← end.1)
-    (record {
-      key = key;
-      others = spelled.names;
-      spelled = ap (create_tokens table key) (ap (λ (ts : List Token). Comma ∷ ts) spelled.spells.spelled ∙ commas ∙ ap (λ (last : List Token). flat_map (λ next. Comma ∷ next) (map column_item spelled.names) ++ Close ∷ last) end.0);
-      names = both_hold (is_name table) _ is_table (both_hold (is_name key) _ is_key spelled.are_names);
-      columns_are = ap (λ (cs : List (List ℕ × ColumnType)). text_column key ∷ cs) spelled.columns_are;
-      keys_are = refl;
-    })
+create_spelled : (tokens behind : List Token) (s : Statement) → expect (word "create" ∷ word "table" ∷ []) tokens ≡ Some behind → create_of behind ≡ Some s → Reads tokens s
+unfolding create_of
+create_spelled tokens behind s p h =
+    let t = went_on (read_name behind) _ s h in
+    let o = went_on (expect (Open ∷ []) t.first.behind) _ s t.then_is in
+    let i = went_on (read_list read_item o.first) _ s o.then_is in
+    let c = went_on (expect (Close ∷ Semicolon ∷ []) i.first.behind) _ s i.then_is in
+    let m = went_on (created t.first.value i.first.value) _ s c.then_is in
+    let e = ends m.first s c.first m.then_is in
+    let test = passed (leb (length (flat_map keys_of i.first.value)) 1) _ m.first m.is in
+    let is : CreateTable t.first.value (flat_map columns_of i.first.value) (flat_map keys_of i.first.value) ≡ s = cc in
+    let spelled = joins _ _ tokens behind (these_lead (word "create" ∷ word "table" ∷ []) tokens behind p)
+    (joins _ _ behind t.first.behind (one_sound name_of behind t.first t.is)
+    (joins _ _ t.first.behind o.first (these_lead (Open ∷ []) t.first.behind o.first o.is)
+    (joins _ _ o.first i.first.behind (items_sound o.first i.first i.is)
+    (last_these (Close ∷ Semicolon ∷ []) i.first.behind c.first refl c.is e.0)))) in
+    rw (← is)
+    (record { items = i.first.value; spelled = spelled; columns_are = refl; keys_are = refl; one_key = grind arith })
 
-created_found : (table key : List ℕ) (tokens : List Token) (columns : Option (Read (List (List ℕ × ColumnType)))) (s : Statement) → is_name table ≡ true → is_name key ≡ true
-    → read_columns tokens ≡ columns → created table key columns ≡ Some s → Reads (create_tokens table key (Comma ∷ tokens)) s
-created_found table key tokens None s is_table is_key read h = absurd cc
-created_found table key tokens (Some columns) s is_table is_key read h =
-    created_reads table key tokens columns s is_table is_key (columns_spelled tokens columns read) h
+insert_spelled : (tokens behind : List Token) (s : Statement) → expect (word "insert" ∷ word "into" ∷ []) tokens ≡ Some behind → insert_of behind ≡ Some s → Reads tokens s
+unfolding insert_of
+insert_spelled tokens behind s p h =
+    let t = went_on (read_name behind) _ s h in
+    let o = went_on (expect (Open ∷ []) t.first.behind) _ s t.then_is in
+    let n = went_on (read_list read_name o.first) _ s o.then_is in
+    let w = went_on (expect (Close ∷ word "values" ∷ Open ∷ []) n.first.behind) _ s n.then_is in
+    let v = went_on (read_list read_literal w.first) _ s w.then_is in
+    let c = went_on (expect (Close ∷ []) v.first.behind) _ s v.then_is in
+    let u = went_on (read_time c.first) _ s c.then_is in
+    let l = went_on (expect (Semicolon ∷ []) u.first.behind) _ s u.then_is in
+    let test = passed (length v.first.value == length n.first.value) _ s l.then_is in
+    let e = ends (Insert t.first.value n.first.value v.first.value u.first.value) s l.first test.1 in
+    let spelled = joins _ _ tokens behind (these_lead (word "insert" ∷ word "into" ∷ []) tokens behind p)
+    (joins _ _ behind t.first.behind (one_sound name_of behind t.first t.is)
+    (joins _ _ t.first.behind o.first (these_lead (Open ∷ []) t.first.behind o.first o.is)
+    (joins _ _ o.first n.first.behind (names_sound o.first n.first n.is)
+    (joins _ _ n.first.behind w.first (these_lead (Close ∷ word "values" ∷ Open ∷ []) n.first.behind w.first w.is)
+    (joins _ _ w.first v.first.behind (literals_sound w.first v.first v.is)
+    (joins _ _ v.first.behind c.first (these_lead (Close ∷ []) v.first.behind c.first c.is)
+    (joins _ _ c.first u.first.behind (time_sound c.first u.first u.is)
+    (last_these (Semicolon ∷ []) u.first.behind l.first refl l.is e.0)))))))) in
+    rw (← e.1) (record { spelled = spelled; as_many = grind arith })
 
-columns_found : (table key : List ℕ) (tokens : List Token) (s : Statement) → is_name table ≡ true → is_name key ≡ true → create_columns table key tokens ≡ Some s
-    → Reads (create_tokens table key tokens) s
-columns_found table key (Comma ∷ tokens) s is_table is_key h = created_found table key tokens (read_columns tokens) s is_table is_key refl h
-columns_found table key (Close ∷ tokens) s is_table is_key h =
-    let end = ends tokens (CreateTable table (text_column key ∷ []) (key ∷ [])) s h in
-    rw (← end.1, end.0)
-    (record {
-      key = key;
-      others = [];
-      spelled = refl;
-      names = both_hold (is_name table) _ is_table (both_hold (is_name key) _ is_key refl);
-      columns_are = refl;
-      keys_are = refl;
-    })
-columns_found table key _ s is_table is_key h = absurd cc
+update_spelled : (tokens behind : List Token) (s : Statement) → expect (word "update" ∷ []) tokens ≡ Some behind → update_of behind ≡ Some s → Reads tokens s
+unfolding update_of
+update_spelled tokens behind s p h =
+    let t = went_on (read_name behind) _ s h in
+    let u = went_on (read_time t.first.behind) _ s t.then_is in
+    let w = went_on (expect (word "set" ∷ []) u.first.behind) _ s u.then_is in
+    let l = went_on (read_list read_equation w.first) _ s w.then_is in
+    let k = went_on (read_where l.first.behind) _ s l.then_is in
+    let e = ends (Update t.first.value u.first.value l.first.value k.first.value.0 k.first.value.1) s k.first.behind k.then_is in
+    rw (← e.1)
+    (joins _ _ tokens behind (these_lead (word "update" ∷ []) tokens behind p)
+    (joins _ _ behind t.first.behind (one_sound name_of behind t.first t.is)
+    (joins _ _ t.first.behind u.first.behind (time_sound t.first.behind u.first u.is)
+    (joins _ _ u.first.behind w.first (these_lead (word "set" ∷ []) u.first.behind w.first w.is)
+    (joins _ _ w.first l.first.behind (equations_sound w.first l.first l.is) (where_sound l.first.behind k.first k.is e.0))))))
 
-key_found : (table : List ℕ) (tokens : List Token) (s : Statement) → is_name table ≡ true → create_key table tokens ≡ Some s
-    → Reads (Word (codes "create") ∷ Word (codes "table") ∷ Word table ∷ Open ∷ tokens) s
-key_found table (Word key ∷ Word type ∷ Word primary ∷ Word of_key ∷ tokens) s is_table h =
-    let test = passed (is_name key && same type (codes "text") && same primary (codes "primary") && same of_key (codes "key")) (create_columns table key tokens) s h in
-    let of_key_test = both (is_name key && same type (codes "text") && same primary (codes "primary")) (same of_key (codes "key")) test.0 in
-    let primary_test = both (is_name key && same type (codes "text")) (same primary (codes "primary")) of_key_test.0 in
-    let key_test = both (is_name key) (same type (codes "text")) primary_test.0 in
-    rw (same_text type (codes "text") (sym key_test.1), same_text primary (codes "primary") (sym primary_test.1), same_text of_key (codes "key") (sym of_key_test.1))
-    (columns_found table key tokens s is_table key_test.0 test.1)
-key_found table _ s is_table h = absurd cc
+delete_spelled : (tokens behind : List Token) (s : Statement) → expect (word "delete" ∷ []) tokens ≡ Some behind → delete_of behind ≡ Some s → Reads tokens s
+unfolding delete_of
+delete_spelled tokens behind s p h =
+    let c = went_on (read_names_or_none behind) _ s h in
+    let f = went_on (expect (word "from" ∷ []) c.first.behind) _ s c.then_is in
+    let t = went_on (read_name f.first) _ s f.then_is in
+    let u = went_on (read_time t.first.behind) _ s t.then_is in
+    let k = went_on (read_where u.first.behind) _ s u.then_is in
+    let e = ends (Delete t.first.value c.first.value u.first.value k.first.value.0 k.first.value.1) s k.first.behind k.then_is in
+    rw (← e.1)
+    (joins _ _ tokens behind (these_lead (word "delete" ∷ []) tokens behind p)
+    (joins _ _ behind c.first.behind (names_or_none_sound behind c.first c.is)
+    (joins _ _ c.first.behind f.first (these_lead (word "from" ∷ []) c.first.behind f.first f.is)
+    (joins _ _ f.first t.first.behind (one_sound name_of f.first t.first t.is)
+    (joins _ _ t.first.behind u.first.behind (time_sound t.first.behind u.first u.is) (where_sound u.first.behind k.first k.is e.0))))))
 
--- an INSERT, and what stands behind its first `(`
-abbrev insert_tokens : List ℕ → List Token → List Token
-insert_tokens table behind = Word (codes "insert") ∷ Word (codes "into") ∷ Word table ∷ Open ∷ behind
+query_spelled : (tokens behind : List Token) (s : Statement) → expect (word "select" ∷ []) tokens ≡ Some behind → query_of behind ≡ Some s → Reads tokens s
+unfolding query_of
+query_spelled tokens behind s p h =
+    let c = went_on (read_asked behind) _ s h in
+    let f = went_on (expect (word "from" ∷ []) c.first.behind) _ s c.then_is in
+    let t = went_on (read_name f.first) _ s f.then_is in
+    let l = went_on (expect (Semicolon ∷ []) t.first.behind) _ s t.then_is in
+    let e = ends (Query (record { columns = c.first.value; table = t.first.value })) s l.first l.then_is in
+    rw (← e.1)
+    (joins _ _ tokens behind (these_lead (word "select" ∷ []) tokens behind p)
+    (joins _ _ behind c.first.behind (asked_sound behind c.first c.is)
+    (joins _ _ c.first.behind f.first (these_lead (word "from" ∷ []) c.first.behind f.first f.is)
+    (joins _ _ f.first t.first.behind (one_sound name_of f.first t.first t.is)
+    (last_these (Semicolon ∷ []) t.first.behind l.first refl l.is e.0)))))
 
-abbrev value_tokens : List Token → List Token
-value_tokens behind = Close ∷ Word (codes "values") ∷ Open ∷ behind
-
-inserted_reads : (table : List ℕ) (names : List (List ℕ)) (tokens : List Token) (literals : Read (List Literal)) (s : Statement) → is_name table ≡ true → list_all is_name names ≡ true → names ≢ []
-    → Spells literal_item tokens literals.value literals.behind → (length literals.value == length names) ≡ true → ended literals.behind (Insert table names literals.value) ≡ Some s
-    → Reads (insert_tokens table (separated (map name_item names) ++ value_tokens tokens)) s
-inserted_reads table names tokens literals s is_table are_names some spells many h =
-    let end = ends literals.behind (Insert table names literals.value) s h in
-    rw (← end.1)
-    (record {
-      spelled = rw (spells.spelled, end.0) (simp append_assoc);
-      names = both_hold (is_name table) _ is_table are_names;
-      some = some;
-      as_many = grind arith;
-    })
-
-inserted_found : (table : List ℕ) (names : List (List ℕ)) (tokens : List Token) (literals : Option (Read (List Literal))) (s : Statement) → is_name table ≡ true → list_all is_name names ≡ true → names ≢ []
-    → read_literals tokens ≡ literals → inserted table names literals ≡ Some s
-    → Reads (insert_tokens table (separated (map name_item names) ++ value_tokens tokens)) s
-inserted_found table names tokens None s is_table are_names some read h = absurd cc
-inserted_found table names tokens (Some literals) s is_table are_names some read h =
-    let test = passed (length literals.value == length names) (ended literals.behind (Insert table names literals.value)) s h in
-    inserted_reads table names tokens literals s is_table are_names some (literals_spelled tokens literals read) test.0 test.1
-
-values_found : (table : List ℕ) (names : List (List ℕ)) (tokens : List Token) (s : Statement) → is_name table ≡ true → list_all is_name names ≡ true → names ≢ []
-    → insert_values table names tokens ≡ Some s → Reads (insert_tokens table (separated (map name_item names) ++ Close ∷ tokens)) s
-values_found table names (Word values ∷ Open ∷ tokens) s is_table are_names some h =
-    let test = passed (same values (codes "values")) (inserted table names (read_literals tokens)) s h in
-    rw (same_text values (codes "values") (sym test.0))
-    (inserted_found table names tokens (read_literals tokens) s is_table are_names some refl test.1)
-values_found table names _ s is_table are_names some h = absurd cc
-
-names_found : (table : List ℕ) (tokens : List Token) (names : Option (Read (List (List ℕ)))) (s : Statement) → is_name table ≡ true → read_names tokens ≡ names
-    → insert_names table names ≡ Some s → Reads (insert_tokens table tokens) s
-names_found table tokens None s is_table read h = absurd cc
-names_found table tokens (Some names) s is_table read h =
-    let spelled = names_spelled tokens names read in
-    rw spelled.spells.spelled (values_found table names.value names.behind s is_table spelled.are_names spelled.spells.some h)
-
-listed_found : (first second table : List ℕ) (tokens : List Token) (s : Statement) (create insert : Bool) → is_name table ≡ true
-    → (same first (codes "create") && same second (codes "table")) ≡ create → (same first (codes "insert") && same second (codes "into")) ≡ insert
-    → cond create (create_key table tokens) (cond insert (insert_names table (read_names tokens)) None) ≡ Some s
-    → Reads (Word first ∷ Word second ∷ Word table ∷ Open ∷ tokens) s
-listed_found first second table tokens s true insert is_table creates inserts h =
-    let words = both (same first (codes "create")) (same second (codes "table")) creates in
-    rw (same_text first (codes "create") (sym words.0), same_text second (codes "table") (sym words.1)) (key_found table tokens s is_table h)
-listed_found first second table tokens s false true is_table creates inserts h =
-    let words = both (same first (codes "insert")) (same second (codes "into")) inserts in
-    rw (same_text first (codes "insert") (sym words.0), same_text second (codes "into") (sym words.1)) (names_found table tokens (read_names tokens) s is_table refl h)
-listed_found first second table tokens s false false is_table creates inserts h = absurd cc
-
--- a table's name that was not refused, and what follows it
-not_refused : (test : Bool) (result : Option Statement) (s : Statement) → cond (not test) None result ≡ Some s → (test ≡ true) × (result ≡ Some s)
-not_refused true result s h = (refl, h)
-not_refused false result s h = absurd cc
+-- what begins with these words, or with others
+one_of : (tokens : List Token) (s : Statement) (front : Option (List Token)) (next : List Token → Option Statement) (other : Option Statement)
+    → ((behind : List Token) → front ≡ Some behind → next behind ≡ Some s → Reads tokens s) → (other ≡ Some s → Reads tokens s) → when front next other ≡ Some s → Reads tokens s
+one_of tokens s None next other first others h = others h
+one_of tokens s (Some behind) next other first others h = first behind refl h
 
 pub spelled : (tokens : List Token) (statement : Statement) → statement_of tokens ≡ Some statement → Reads tokens statement
 unfolding statement_of
-spelled (Word first ∷ Word second ∷ Word table ∷ Open ∷ tokens) s h =
-    let test = not_refused (is_name table) _ s h in
-    listed_found first second table tokens s _ _ test.0 refl refl test.1
-spelled (Word first ∷ Star ∷ Word from ∷ Word table ∷ Semicolon ∷ []) s h =
-    let test = passed (same first (codes "select") && same from (codes "from") && is_name table) (Some (Query (record { table = table }))) s h in
-    let tests = both (same first (codes "select") && same from (codes "from")) (is_name table) test.0 in
-    let words = both (same first (codes "select")) (same from (codes "from")) tests.0 in
-    let is : Query (record { table = table }) ≡ s = cc in
-    rw (← is, same_text first (codes "select") (sym words.0), same_text from (codes "from") (sym words.1))
-    (record { spelled = refl; name = tests.1 })
-spelled _ s h = absurd cc
+spelled tokens s h =
+    one_of tokens s _ create_of _ (λ behind p q. create_spelled tokens behind s p q)
+    (one_of tokens s _ insert_of _ (λ behind p q. insert_spelled tokens behind s p q)
+    (one_of tokens s _ update_of _ (λ behind p q. update_spelled tokens behind s p q)
+    (one_of tokens s _ delete_of _ (λ behind p q. delete_spelled tokens behind s p q)
+    (one_of tokens s _ query_of _ (λ behind p q. query_spelled tokens behind s p q) (λ none. absurd cc))))) h
+
+-- ---- what is spelled is found
+
+create_found : (table : List ℕ) (items : List Item) (tokens : List Token) → length (flat_map keys_of items) ≤ 1
+    → (name table then these (Open ∷ []) then listed item items then these (Close ∷ Semicolon ∷ [])) tokens
+    → create_of tokens ≡ Some (CreateTable table (flat_map columns_of items) (flat_map keys_of items))
+unfolding create_of
+create_found table items tokens one_key j =
+    let o = j.ends in
+    let i = o.ends in
+    let closes : Ends NoKey i.behind = record { follows = rw i.ends refl; no_comma = rw i.ends refl } in
+    let few : leb (length (flat_map keys_of items)) 1 ≡ true = grind arith in
+    rw (one_complete name_of table tokens j.behind (leads _ _ tokens j) tt, these_expected (Open ∷ []) j.behind o.behind refl (leads _ _ j.behind o), items_complete items o.behind i.behind (leads _ _ o.behind i) closes, i.ends, few) refl
+
+values_found : (table : List ℕ) (columns : List (List ℕ)) (values : List Literal) (time : Option Number) (tokens : List Token) → length values ≡ length columns
+    → (listed literal values then these (Close ∷ []) then using_time time then these (Semicolon ∷ [])) tokens
+    → insert_values table columns tokens ≡ Some (Insert table columns values time)
+values_found table columns values time tokens many j =
+    let c = j.ends in
+    let u = c.ends in
+    let closes : Ends Anything j.behind = record { follows = tt; no_comma = other_front Comma Close [] [] _ j.behind refl c } in
+    let same_count : (length values == length columns) ≡ true = grind arith in
+    rw (literals_complete values tokens j.behind (leads _ _ tokens j) closes, these_expected (Close ∷ []) j.behind c.behind refl (leads _ _ j.behind c), time_complete time c.behind u.behind (leads _ _ c.behind u) (rw u.ends refl), u.ends, same_count) refl
+
+insert_found : (table : List ℕ) (columns : List (List ℕ)) (values : List Literal) (time : Option Number) (tokens : List Token) → length values ≡ length columns
+    → (name table then these (Open ∷ []) then listed name columns then these (Close ∷ word "values" ∷ Open ∷ []) then listed literal values then these (Close ∷ []) then using_time time then these (Semicolon ∷ [])) tokens
+    → insert_of tokens ≡ Some (Insert table columns values time)
+unfolding insert_of
+insert_found table columns values time tokens many j =
+    let o = j.ends in
+    let n = o.ends in
+    let w = n.ends in
+    let closes : Ends Anything n.behind = record { follows = tt; no_comma = other_front Comma Close [] (word "values" ∷ Open ∷ []) _ n.behind refl w } in
+    rw (
+      one_complete name_of table tokens j.behind (leads _ _ tokens j) tt,
+      these_expected (Open ∷ []) j.behind o.behind refl (leads _ _ j.behind o),
+      names_complete columns o.behind n.behind (leads _ _ o.behind n) closes,
+      these_expected (Close ∷ word "values" ∷ Open ∷ []) n.behind w.behind refl (leads _ _ n.behind w),
+    )
+    (values_found table columns values time w.behind many w.ends)
+
+update_found : (table : List ℕ) (time : Option Number) (sets : List (List ℕ × Literal)) (key : List ℕ × Literal) (tokens : List Token)
+    → (name table then using_time time then these (word "set" ∷ []) then listed equation sets then these (word "where" ∷ []) then equation key then these (Semicolon ∷ [])) tokens
+    → update_of tokens ≡ Some (Update table time sets key.0 key.1)
+unfolding update_of
+update_found table time sets key tokens j =
+    let u = j.ends in
+    let w = u.ends in
+    let l = w.ends in
+    let closes : Ends Anything l.behind = record { follows = tt; no_comma = other_front Comma (word "where") [] [] _ l.behind refl l.ends } in
+    rw (
+      one_complete name_of table tokens j.behind (leads _ _ tokens j) tt,
+      time_complete time j.behind u.behind (leads _ _ j.behind u) (other_front (word "using") (word "set") (word "timestamp" ∷ []) [] _ u.behind refl w),
+      these_expected (word "set" ∷ []) u.behind w.behind refl (leads _ _ u.behind w),
+      equations_complete sets w.behind l.behind (leads _ _ w.behind l) closes,
+      where_complete key l.behind l.ends,
+    )
+    refl
+
+delete_found : (columns : List (List ℕ)) (table : List ℕ) (time : Option Number) (key : List ℕ × Literal) (tokens : List Token)
+    → (names_or_none columns then these (word "from" ∷ []) then name table then using_time time then these (word "where" ∷ []) then equation key then these (Semicolon ∷ [])) tokens
+    → delete_of tokens ≡ Some (Delete table columns time key.0 key.1)
+unfolding delete_of
+delete_found columns table time key tokens j =
+    let f = j.ends in
+    let t = f.ends in
+    let u = t.ends in
+    let from = these_expected (word "from" ∷ []) j.behind f.behind refl (leads _ _ j.behind f) in
+    rw (
+      names_or_none_complete columns tokens j.behind (leads _ _ tokens j) (record { behind = f.behind; is = from }),
+      from,
+      one_complete name_of table f.behind t.behind (leads _ _ f.behind t) tt,
+      time_complete time t.behind u.behind (leads _ _ t.behind u) (other_front (word "using") (word "where") (word "timestamp" ∷ []) [] _ u.behind refl u.ends),
+      where_complete key u.behind u.ends,
+    )
+    refl
+
+query_found : (select : Select) (tokens : List Token) → (asked select.columns then these (word "from" ∷ []) then name select.table then these (Semicolon ∷ [])) tokens → query_of tokens ≡ Some (Query select)
+unfolding query_of
+query_found select tokens j =
+    let f = j.ends in
+    let t = f.ends in
+    let from = these_expected (word "from" ∷ []) j.behind f.behind refl (leads _ _ j.behind f) in
+    rw (asked_complete select.columns tokens j.behind (leads _ _ tokens j) (record { behind = f.behind; is = from }), from, one_complete name_of select.table f.behind t.behind (leads _ _ f.behind t) tt, t.ends) refl
+
+pub found : (tokens : List Token) (statement : Statement) → Reads tokens statement → statement_of tokens ≡ Some statement
+unfolding statement_of
+found tokens (CreateTable table columns keys) r =
+    let s = r.spelled in
+    rw (s.whole, s.starts, r.columns_are, r.keys_are) (create_found table r.items s.behind (rw r.keys_are at r.one_key) s.ends)
+found tokens (Insert table columns values time) r =
+    let s = r.spelled in
+    rw (s.whole, s.starts) (insert_found table columns values time s.behind r.as_many s.ends)
+found tokens (Update table time sets key value) r = rw (r.whole, r.starts) (update_found table time sets (key, value) r.behind r.ends)
+found tokens (Delete table columns time key value) r = rw (r.whole, r.starts) (delete_found columns table time (key, value) r.behind r.ends)
+found tokens (Query select) r = rw (r.whole, r.starts) (query_found select r.behind r.ends)

@@ -1,47 +1,61 @@
--- The tokens of bytes that begin with a word, a string or a sign.
-use Rattle.std.proofs.Common.{◌≡◌, ℕ, zero, suc, ◌+◌, ◌-◌, ◌≤◌, ◌<◌, true, false, List, [], ◌∷◌, length, take, drop, Option, None, Some, refl, arith}
-use Rattle.sasi_model.specs.Pieces.{is_space}
+-- The tokens of bytes, one after another.
+use Rattle.std.proofs.Common.{◌≡◌, ℕ, zero, suc, ◌+◌, ◌-◌, ◌*◌, ◌≤◌, ◌<◌, Bool, true, false, ◌==◌, List, [], ◌∷◌, ◌++◌, length, take, drop, map, Option, None, Some, refl, ap, ◌∙◌, length-take, get_or, drop-cons, leb, ltb, cond, arith}
+use Rattle.std.proofs.lemmas.List.{drop_all}
+use Rattle.uuid.specs.Text.{parsed, parsed_hyphenated}
+use Rattle.sasi_model.specs.Pieces.{behind_first, closes, opened_by, starts}
 use Rattle.sasi_model.specs.Tokens as model
-use Rattle.sasi_model.specs.Tokens.{is_letter, lower, word_on, QuotedText, quoted_text, quoted_then, tokens_from, tokens}
-use Rattle.sasi_cql.specs.Meaning.{StartsWord, size_of, undoubled}
+use Rattle.sasi_model.specs.Tokens.{is_gap, lexeme, QuotedText, quoted_text, string_lexeme, starts_word, uuid_in_front, decimal, decimal_on, tokens_from, tokens}
+use Rattle.sasi_cql.specs.declared.token.Token.{Token}
+use Rattle.sasi_cql.specs.Meaning.{at_most, meaning, IsLexeme, size_of, undoubled}
+use Rattle.sasi_cql.proofs.Comments.{not_closed_behind}
 use Rattle.sasi_cql.proofs.Strings.{closed}
+
+-- ---- one token after another
 
 skipped : (n : ℕ) (bs : List ℕ) → tokens_from n bs ≡ tokens (drop n bs)
 skipped zero bs = refl
 skipped (suc n) [] = refl
 skipped (suc n) (b ∷ bs) = skipped n bs
 
-no_space : (b : ℕ) → is_letter b ≡ true → is_space b ≡ false
-no_space b h = grind arith
+-- tokens that were found, and what is left; and whether no `*/` is behind the byte in front
+pub record Lexed (text : List ℕ) (found : List Token) (left : List ℕ) (unclosed : Bool) : Type 0 where
+  pub so_far : tokens text ≡ map meaning found ++ tokens left
+  pub no_close : unclosed ≡ true → closes (behind_first left) ≡ false
 
-word_tokens : (b : ℕ) (bs : List ℕ) → is_letter b ≡ true → tokens (b ∷ bs) ≡ model.Word (lower (b ∷ take (word_on bs) bs)) ∷ tokens (drop (word_on bs) bs)
-word_tokens b bs h = rw (no_space b h, h, skipped (word_on bs) bs) refl
+pub lexed_begun : (text : List ℕ) → Lexed text [] text false
+lexed_begun text = record { so_far = refl; no_close = λ h. absurd cc }
 
-pub word_first : (bytes : List ℕ) → StartsWord bytes
-    → tokens bytes ≡ model.Word (lower (take (1 + word_on (drop 1 bytes)) bytes)) ∷ tokens (drop (1 + word_on (drop 1 bytes)) bytes)
-word_first [] h = absurd h
-word_first (b ∷ bs) h =
-    let e : 1 + word_on bs ≡ suc (word_on bs) = omega arith in
-    rw e (word_tokens b bs h)
+pub lexed_gap : (text : List ℕ) (found : List Token) (left : List ℕ) (first : ℕ) (behind : List ℕ) (before unclosed : Bool) → left ≡ first ∷ behind → is_gap first behind ≡ true
+    → (unclosed ≡ true → closes (behind_first behind) ≡ false) → Lexed text found left before → Lexed text found (drop (opened_by first behind) behind) unclosed
+lexed_gap text found left first behind before unclosed is gap kept l = record {
+  so_far = l.so_far ∙ ap (λ (ts : List model.Token). map meaning found ++ ts) (rw (is, gap) (skipped (opened_by first behind) behind));
+  no_close = λ h. not_closed_behind (opened_by first behind) behind (kept h);
+}
 
-pub word_some : (bytes : List ℕ) → StartsWord bytes → 1 ≤ length bytes
-word_some [] h = absurd h
-word_some (b ∷ bs) h = omega arith
+one_more : (found : List Token) (token : Token) (behind : List model.Token) → map meaning found ++ meaning token ∷ behind ≡ map meaning (found ++ token ∷ []) ++ behind
+one_more [] token behind = refl
+one_more (t ∷ found) token behind = ap (λ (ts : List model.Token). meaning t ∷ ts) (one_more found token behind)
 
-string_tokens : (bs : List ℕ) (q : QuotedText) → quoted_text bs ≡ Some q → tokens (39 ∷ bs) ≡ model.Quoted q.text ∷ tokens (drop q.size bs)
-string_tokens bs q h = rw (h, skipped q.size bs) refl
+pub lexed_token : (text : List ℕ) (found : List Token) (left : List ℕ) (first : ℕ) (behind : List ℕ) (before unclosed : Bool) (token : Token) (rest : List ℕ) → left ≡ first ∷ behind → is_gap first behind ≡ false
+    → (unclosed ≡ true → closes (behind_first behind) ≡ false) → IsLexeme (lexeme first behind) behind token rest → Lexed text found left before → Lexed text (found ++ token ∷ []) rest unclosed
+lexed_token text found left first behind before unclosed token rest is gap kept x l = record {
+  so_far = l.so_far ∙ rw (is, gap, x.left_is, skipped (lexeme first behind).inside behind, ← x.token_is) (one_more found token (tokens (drop (lexeme first behind).inside behind)));
+  no_close = λ h. rw x.left_is (not_closed_behind (lexeme first behind).inside behind (kept h));
+}
+
+-- ---- strings
 
 pub string_first : (bs : List ℕ) (size : ℕ) → Some size ≡ size_of (quoted_text bs)
-    → tokens (39 ∷ bs) ≡ model.Quoted (undoubled (take (size - 1) bs)) ∷ tokens (drop size bs)
+    → string_lexeme (quoted_text bs) ≡ record { token = model.Quoted (undoubled (take (size - 1) bs)); inside = size }
 string_first bs size h = sized (quoted_text bs) refl h where
-  sized : (q : Option QuotedText) → quoted_text bs ≡ q → Some size ≡ size_of q → tokens (39 ∷ bs) ≡ model.Quoted (undoubled (take (size - 1) bs)) ∷ tokens (drop size bs)
+  sized : (q : Option QuotedText) → quoted_text bs ≡ q → Some size ≡ size_of q → string_lexeme q ≡ record { token = model.Quoted (undoubled (take (size - 1) bs)); inside = size }
   sized None p h = absurd cc
   sized (Some q) p h =
       let k = closed bs q p in
       let same_size : size ≡ q.size = cc in
       let is = k.size_is in
       let front : size - 1 ≡ k.before = omega arith in
-      rw (front, same_size, k.text_is) (string_tokens bs q p)
+      rw (front, same_size, k.text_is) refl
 
 pub string_size : (bs : List ℕ) (size : ℕ) → Some size ≡ size_of (quoted_text bs) → (0 < size) × (size ≤ length bs)
 string_size bs size h = sized (quoted_text bs) refl h where
@@ -54,8 +68,62 @@ string_size bs size h = sized (quoted_text bs) refl h where
       let bound = k.bound in
       (omega arith, omega arith)
 
-pub no_string : (bs : List ℕ) → None ≡ size_of (quoted_text bs) → tokens (39 ∷ bs) ≡ model.Unknown ∷ tokens bs
-no_string bs h = open_quote (quoted_text bs) refl h where
-  open_quote : (q : Option QuotedText) → quoted_text bs ≡ q → None ≡ size_of q → tokens (39 ∷ bs) ≡ model.Unknown ∷ tokens bs
-  open_quote None p h = rw p refl
-  open_quote (Some q) p h = absurd cc
+-- ---- uuids
+
+pub too_short : (bytes : List ℕ) → length bytes < 36 → None ≡ uuid_in_front bytes
+unfolding uuid_in_front
+too_short bytes h =
+    let all : length bytes ≤ 36 = omega arith in
+    let other : (length (take 36 bytes) == 36) ≡ false = simp length-take (grind arith) in
+    rw (drop_all 36 bytes all, other) refl
+
+pub goes_on : (bytes : List ℕ) → starts_word (drop 36 bytes) ≡ true → None ≡ uuid_in_front bytes
+unfolding uuid_in_front
+goes_on bytes h = rw h refl
+
+hyphenated : (text : List ℕ) → length text ≡ 36 → parsed text ≡ parsed_hyphenated text
+hyphenated text h = rw h refl
+
+pub uuid_first : (bytes : List ℕ) → starts_word (drop 36 bytes) ≡ false → length (take 36 bytes) ≡ 36 → parsed (take 36 bytes) ≡ uuid_in_front bytes
+unfolding uuid_in_front
+uuid_first bytes h size = hyphenated (take 36 bytes) size ∙ rw h refl
+
+pub uuid_size : (bytes uuid : List ℕ) → Some uuid ≡ uuid_in_front bytes → 36 ≤ length bytes
+uuid_size bytes uuid h = by_test (ltb (length bytes) 36) refl where
+  by_test : (short : Bool) → ltb (length bytes) 36 ≡ short → 36 ≤ length bytes
+  by_test true p = let none = too_short bytes (grind arith) in absurd cc
+  by_test false p = grind arith
+
+pub not_parsed : (text : List ℕ) → ((u : List ℕ) × (parsed text ≡ Some u) → false ≡ true) → None ≡ parsed text
+not_parsed text none = by_result (parsed text) none where
+  by_result : (result : Option (List ℕ)) → ((u : List ℕ) × (result ≡ Some u) → false ≡ true) → None ≡ result
+  by_result None h = refl
+  by_result (Some u) h = let wrong = h (u, refl) in absurd cc
+
+-- ---- quoted names
+
+pub starts_some : (c n : ℕ) (bytes : List ℕ) → starts c (drop n bytes) ≡ true → n + 1 ≤ length bytes
+starts_some c zero [] h = absurd cc
+starts_some c zero (b ∷ bs) h = omega arith
+starts_some c (suc n) [] h = absurd cc
+starts_some c (suc n) (b ∷ bs) h = let some = starts_some c n bs h in omega arith
+
+-- ---- integers
+
+grows : (n : ℕ) (digits : List ℕ) → n ≤ decimal_on n digits
+grows n [] = omega arith
+grows n (b ∷ bs) = let more = grows (10 * n + (b - 48)) bs in omega arith
+
+-- the digits so far have a value above the limit
+pub too_many_digits : (limit : ℕ) (digits : List ℕ) (i value : ℕ) → i < length digits → decimal digits ≡ decimal_on value (drop i digits) → None ≡ at_most limit (10 * value + (get_or digits i 0 - 48))
+    → None ≡ at_most limit (decimal digits)
+too_many_digits limit digits i value some so_far above =
+    let more = grows (10 * value + (get_or digits i 0 - 48)) (drop (suc i) digits) in
+    let all : decimal digits ≡ decimal_on (10 * value + (get_or digits i 0 - 48)) (drop (suc i) digits) = so_far ∙ rw (drop-cons digits i 0 some) refl in
+    by_tests (leb (10 * value + (get_or digits i 0 - 48)) limit) (leb (decimal digits) limit) refl refl above all more where
+      by_tests : (a b : Bool) → leb (10 * value + (get_or digits i 0 - 48)) limit ≡ a → leb (decimal digits) limit ≡ b → None ≡ cond a (Some (10 * value + (get_or digits i 0 - 48))) None
+          → decimal digits ≡ decimal_on (10 * value + (get_or digits i 0 - 48)) (drop (suc i) digits) → 10 * value + (get_or digits i 0 - 48) ≤ decimal_on (10 * value + (get_or digits i 0 - 48)) (drop (suc i) digits)
+          → None ≡ cond b (Some (decimal digits)) None
+      by_tests true b p q above all more = absurd cc
+      by_tests false false p q above all more = refl
+      by_tests false true p q above all more = absurd (grind arith)

@@ -1,7 +1,8 @@
 -- What a search for a value answers.
-use Rattle.std.specs.Prelude.{◌≡◌, ℕ, ◌++◌, if◌then◌else◌, List, map, Option, None, Some, Result, Ok, Err}
+use Rattle.std.specs.Prelude.{◌≡◌, ◌++◌, List, map, Option, None, Some, Result, Ok, Err}
 use Rattle.std.specs.Borrow.{Bor}
-use Rattle.sasi_model.specs.Statements.{is_name, Read}
+use Rattle.sasi_model.specs.Tokens as model
+use Rattle.sasi_model.specs.Statements.{Read}
 use Rattle.sasi_cql.specs.declared.fault.ParseFault.{ParseFault}
 use Rattle.sasi_cql.specs.declared.fault.ParseFault.TheVariants.{Syntax, OutOfMemory}
 use Rattle.sasi_cql.specs.declared.token.Token.{Token}
@@ -22,9 +23,15 @@ abbrev pub FindsRead : {A : Type 0} → Option (Read A) → Result (A × Bor (Li
 FindsRead found (Ok r) = found ≡ Some (record { value = r.0; behind = map meaning r.1.now })
 FindsRead found (Err fault) = IsMissing found fault
 
--- the word, if it is a name
-unfoldable pub named : List ℕ → Option (List ℕ)
-named word = if is_name word then Some word else None
+-- likewise of the tokens behind something
+abbrev pub FindsBehind : Option (List model.Token) → Result (Bor (List Token)) ParseFault → Type 0
+FindsBehind found (Ok behind) = found ≡ Some (map meaning behind.now)
+FindsBehind found (Err fault) = IsMissing found fault
+
+-- these are the tokens that were found
+abbrev pub IsBehind : Option (List model.Token) → Option (Bor (List Token)) → Type 0
+IsBehind found (Some behind) = found ≡ Some (map meaning behind.now)
+IsBehind found None = found ≡ None
 
 -- with these items in front
 abbrev pub all_before : {A : Type 0} → List A → Option (Read (List A)) → Option (Read (List A))

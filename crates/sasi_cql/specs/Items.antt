@@ -1,34 +1,37 @@
--- The items of lists.
-use Rattle.std.specs.Prelude.{◌≡◌, ℕ, codes, List, [], ◌∷◌, ◌++◌, map, Option, None, Some}
+-- The items of a CREATE TABLE.
+use Rattle.std.specs.Prelude.{◌≡◌, ℕ, List, map, Option, Some, Result, Ok, Err}
+use Rattle.std.specs.List.{flat_map}
 use Rattle.std.specs.Borrow.{Bor}
-use Rattle.sasi_model.specs.Tokens.{Token, Word, Quoted, Comma, Close, lower}
-use Rattle.sasi_model.specs.Statements.{Read, read_columns}
-use Rattle.sasi_cql.specs.declared.list.Item.{Item}
-use Rattle.sasi_cql.specs.declared.list.Next.{Next}
-use Rattle.sasi_cql.specs.declared.list.Next.TheVariants as next
-use Rattle.sasi_cql.specs.Meaning.{meaning, undoubled}
+use Rattle.sasi_types.specs.declared.column.ColumnType.{ColumnType}
+use Rattle.sasi_model.specs.Tokens as tokens
+use Rattle.sasi_model.specs.Statements as model
+use Rattle.sasi_model.specs.Statements.{columns_of, keys_of, Read}
+use Rattle.sasi_cql.specs.declared.fault.ParseFault.{ParseFault}
+use Rattle.sasi_cql.specs.declared.item.Item.{Item}
+use Rattle.sasi_cql.specs.declared.item.Item.TheVariants as written
+use Rattle.sasi_cql.specs.declared.token.Token.{Token}
+use Rattle.sasi_cql.specs.Finds.{IsMissing}
+use Rattle.sasi_cql.specs.Meaning.{meaning}
 
--- the tokens of an item that is written with these bytes
-abbrev pub name_front : List ℕ → List Token
-name_front bytes = Word (lower bytes) ∷ []
+-- the model's item
+abbrev pub meant : Item → model.Item
+meant (written.Column column type) = model.Column column type
+meant (written.KeyColumn column type) = model.KeyColumn column type
+meant (written.Key key) = model.Key key
 
-abbrev pub literal_front : List ℕ → List Token
-literal_front bytes = Quoted (undoubled bytes) ∷ []
+-- the result is the item that there is and the tokens behind it, or says that there is none, unless memory ran out
+abbrev pub FindsItem : Option (Read model.Item) → Result (Item × Bor (List Token)) ParseFault → Type 0
+FindsItem found (Ok r) = found ≡ Some (record { value = meant r.0; behind = map meaning r.1.now })
+FindsItem found (Err fault) = IsMissing found fault
 
-abbrev pub column_front : List ℕ → List Token
-column_front bytes = Word (lower bytes) ∷ Word (codes "text") ∷ []
+-- items that were found declare these columns and keys
+pub record Declares (found : Option (Read (List model.Item))) (columns : List (List ℕ × ColumnType)) (keys : List (List ℕ)) (behind : List tokens.Token) : Type 0 where
+  pub items : List model.Item
+  pub is : found ≡ Some (record { value = items; behind = behind })
+  pub columns_are : columns ≡ flat_map columns_of items
+  pub keys_are : keys ≡ flat_map keys_of items
 
--- the sign behind an item
-abbrev pub sign_of : Next → Token
-sign_of next.Item = Comma
-sign_of next.End = Close
-
--- the item that a list begins with, or none, and then what reads such a list finds none
-abbrev pub StartsList : {A : Type 0} → (List ℕ → List Token) → (List Token → Option (Read A)) → List Token → Option Item → Type 0
-StartsList front read tokens (Some item) = tokens ≡ front item.bytes.now ++ sign_of item.next ∷ map meaning item.behind.now
-StartsList front read tokens None = read tokens ≡ None
-
--- the column that a list begins with, behind its type; or none, and then there is no list of columns
-abbrev pub StartsColumns : List Token → Option (Bor (List ℕ) × Item) → Type 0
-StartsColumns tokens (Some r) = tokens ≡ Word (lower r.1.bytes.now) ∷ Word (lower r.0.now) ∷ sign_of r.1.next ∷ map meaning r.1.behind.now
-StartsColumns tokens None = read_columns tokens ≡ None
+-- the result is what the items declare that there are, or says that there are none, unless memory ran out
+abbrev pub FindsItems : Option (Read (List model.Item)) → Result (List (List ℕ × ColumnType) × List (List ℕ) × Bor (List Token)) ParseFault → Type 0
+FindsItems found (Ok r) = Declares found r.0 r.1 (map meaning r.2.now)
+FindsItems found (Err fault) = IsMissing found fault

@@ -1,7 +1,8 @@
 -- What the tokens of the code stand for.
-use Rattle.std.specs.Prelude.{◌≡◌, ◌<◌, ℕ, Bool, true, false, not, ◌&&◌, ◌==◌, List, [], ◌∷◌, length, Option, None, Some}
+use Rattle.std.specs.Prelude.{◌≡◌, ℕ, Bool, true, false, not, ◌&&◌, ◌==◌, nat_le, if◌then◌else◌, List, [], ◌∷◌, drop, Option, None, Some}
+use Rattle.std.specs.Borrow.{Bor}
 use Rattle.sasi_model.specs.Tokens as model
-use Rattle.sasi_model.specs.Tokens.{is_letter, lower, QuotedText, tokens}
+use Rattle.sasi_model.specs.Tokens.{Lexeme, lower, QuotedText}
 use Rattle.sasi_cql.specs.declared.token.Token.{Token}
 use Rattle.sasi_cql.specs.declared.token.Token.TheVariants as written
 
@@ -17,11 +18,15 @@ undoubled bytes = undoubled_from false bytes
 -- the token that the written one stands for
 abbrev pub meaning : Token → model.Token
 meaning (written.Word word) = model.Word (lower word.now)
+meaning (written.QuotedName name) = model.QuotedName name.now
 meaning (written.Quoted text) = model.Quoted (undoubled text.now)
+meaning (written.Integer number) = model.Integer number
+meaning (written.Uuid bytes) = model.Uuid bytes
 meaning written.Open = model.Open
 meaning written.Close = model.Close
 meaning written.Comma = model.Comma
 meaning written.Star = model.Star
+meaning written.Equal = model.Equal
 meaning written.Semicolon = model.Semicolon
 meaning written.Unknown = model.Unknown
 
@@ -30,15 +35,19 @@ abbrev pub size_of : Option QuotedText → Option ℕ
 size_of None = None
 size_of (Some q) = Some q.size
 
--- the bytes begin with this token, and these bytes are left behind it
-pub record Begins (bytes : List ℕ) (token : Token) (left : List ℕ) : Type 0 where
-  pub first : tokens bytes ≡ meaning token ∷ tokens left
-  pub shorter : length left < length bytes
+-- the token is the lexeme's, and what is left behind it of the bytes behind its first
+pub record IsLexeme (lexeme : Lexeme) (behind : List ℕ) (token : Token) (left : List ℕ) : Type 0 where
+  pub token_is : meaning token ≡ lexeme.token
+  pub left_is : left ≡ drop lexeme.inside behind
 
--- the bytes begin with a letter
-abbrev pub StartsWord : List ℕ → Type 0
-StartsWord [] = ⊥
-StartsWord (b ∷ bs) = is_letter b ≡ true
+-- what is left behind so many bytes where the test holds, and none where it fails
+abbrev pub Passes : Bool → ℕ → List ℕ → Option (Bor (List ℕ)) → Type 0
+Passes test size bytes (Some left) = (test ≡ true) × (left.now ≡ drop size bytes)
+Passes test size bytes None = test ≡ false
+
+-- the number, if it is not above the limit
+abbrev pub at_most : ℕ → ℕ → Option ℕ
+at_most limit n = if nat_le n limit then Some n else None
 
 -- a byte closes a string, where `quote` says that a quote stands in front that may be the first of two
 abbrev pub closes : Bool → ℕ → Bool

@@ -1,37 +1,99 @@
-// What the tokens of a statement begin with.
-ghost use Rattle.std.specs.Prelude.{map};
-ghost use Rattle.sasi_model.specs.Tokens.{Open, Star};
-ghost use Rattle.sasi_cql.specs.Fronts.{has_word_open, has_word_star, StartsWordAnd, StartsWords};
+// What tokens begin with: words and signs that are wanted, or one token of some kind.
+ghost use Rattle.std.specs.Prelude.{◌≡◌, map};
+ghost use Rattle.sasi_model.specs.Statements.{expect, number_of, read_literal, read_name, read_one, same_token, type_of};
+ghost use Rattle.sasi_cql.specs.Finds.{FindsBehind, FindsRead, IsBehind};
 ghost use Rattle.sasi_cql.specs.Meaning.{meaning};
 
+use crate::fault::ParseFault;
+use crate::literal::{literal_of, name_of, number_of, type_of};
 use crate::token::Token;
+use crate::word::spells;
+use sasi_types::{ColumnType, Literal, Name, Number};
+use std::alloc::Global;
 
-/// Two words, and the tokens behind them.
-pub fn two_words<'t, 'a>(tokens: &'t [Token<'a>]) -> Option<(&'a [u8], &'a [u8], &'t [Token<'a>])>
-    ensures { StartsWords (map meaning tokens.now) result }
+// The token is the wanted word, in whichever case, or the wanted sign.
+fn same_token(wanted: &Token, token: &Token) -> bool
+    ensures { result ≡ same_token (meaning wanted.now) (meaning token.now) }
 {
+    match (*wanted, *token) {
+        (Token::Word(wanted), Token::Word(word)) => spells(word, wanted),
+        (Token::Open, Token::Open)
+        | (Token::Close, Token::Close)
+        | (Token::Comma, Token::Comma)
+        | (Token::Star, Token::Star)
+        | (Token::Equal, Token::Equal)
+        | (Token::Semicolon, Token::Semicolon) => true,
+        _ => false,
+    }
+}
+
+/// What stands behind these words and signs, if they are in front. The calls go no deeper than they are many.
+pub fn after<'t, 'a>(wanted: &[Token], tokens: &'t [Token<'a>]) -> Option<&'t [Token<'a>]>
+    ensures { IsBehind (expect (map meaning wanted.now) (map meaning tokens.now)) result }
+{
+    let [first, others @ ..] = wanted else {
+        return Some(tokens);
+    };
     match tokens {
-        [Token::Word(first), Token::Word(second), behind @ ..] => Some((first, second, behind)),
+        [token, behind @ ..] if same_token(first, token) => after(others, behind),
         _ => None,
     }
 }
 
-/// A word and a `(`, and the tokens behind them.
-pub fn word_open<'t, 'a>(tokens: &'t [Token<'a>]) -> Option<(&'a [u8], &'t [Token<'a>])>
-    ensures { StartsWordAnd Open has_word_open (map meaning tokens.now) result }
+/// What stands behind these words and signs, which have to be in front.
+pub fn expect<'t, 'a>(
+    wanted: &[Token],
+    tokens: &'t [Token<'a>],
+) -> Result<&'t [Token<'a>], ParseFault>
+    ensures { FindsBehind (expect (map meaning wanted.now) (map meaning tokens.now)) result }
+{
+    after(wanted, tokens).ok_or(ParseFault::Syntax)
+}
+
+/// name
+pub fn read_name<'t, 'a>(
+    alloc: Global,
+    tokens: &'t [Token<'a>],
+) -> Result<(Name, &'t [Token<'a>]), ParseFault>
+    ensures { FindsRead (read_name (map meaning tokens.now)) result }
 {
     match tokens {
-        [Token::Word(word), Token::Open, behind @ ..] => Some((word, behind)),
-        _ => None,
+        [token, behind @ ..] => Ok((name_of(alloc, token)?, behind)),
+        [] => Err(ParseFault::Syntax),
     }
 }
 
-/// A word and a `*`, and the tokens behind them.
-pub fn word_star<'t, 'a>(tokens: &'t [Token<'a>]) -> Option<(&'a [u8], &'t [Token<'a>])>
-    ensures { StartsWordAnd Star has_word_star (map meaning tokens.now) result }
+/// literal
+pub fn read_literal<'t, 'a>(
+    alloc: Global,
+    tokens: &'t [Token<'a>],
+) -> Result<(Literal, &'t [Token<'a>]), ParseFault>
+    ensures { FindsRead (read_literal (map meaning tokens.now)) result }
 {
     match tokens {
-        [Token::Word(word), Token::Star, behind @ ..] => Some((word, behind)),
-        _ => None,
+        [token, behind @ ..] => Ok((literal_of(alloc, token)?, behind)),
+        [] => Err(ParseFault::Syntax),
+    }
+}
+
+/// integer
+pub fn read_number<'t, 'a>(tokens: &'t [Token<'a>]) -> Result<(Number, &'t [Token<'a>]), ParseFault>
+    ensures { FindsRead (read_one number_of (map meaning tokens.now)) result }
+{
+    match tokens {
+        [token, behind @ ..] => Ok((number_of(token)?, behind)),
+        [] => Err(ParseFault::Syntax),
+    }
+}
+
+/// type
+pub fn read_type<'t, 'a>(
+    tokens: &'t [Token<'a>],
+) -> Result<(ColumnType, &'t [Token<'a>]), ParseFault>
+    ensures { FindsRead (read_one type_of (map meaning tokens.now)) result }
+{
+    match tokens {
+        [token, behind @ ..] => Ok((type_of(token)?, behind)),
+        [] => Err(ParseFault::Syntax),
     }
 }

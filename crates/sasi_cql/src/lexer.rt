@@ -1,30 +1,21 @@
 // From the bytes of a text to its tokens.
 ghost use Rattle.std.specs.Prelude.{◌≡◌, ◌≤◌, ◌∷◌, length, map, false, Some, IfOk};
-ghost use Rattle.sasi_model.specs.Pieces.{is_space};
-ghost use Rattle.sasi_model.specs.Tokens.{is_letter, is_word_byte, quoted_text, sign, tokens, word_on};
-ghost use Rattle.sasi_cql.specs.Meaning.{meaning, size_of, Begins, StartsWord};
+ghost use Rattle.sasi_model.specs.Tokens.{lexeme, name_lexeme, other_lexeme, quoted_text, sign, string_lexeme, tokens, uuid_in_front, word_lexeme, word_on};
+ghost use Rattle.sasi_cql.specs.Meaning.{IsLexeme, meaning, size_of};
 
+use crate::byte::{is_digit, is_letter, is_word_byte, starts, starts_digit, starts_word};
+use crate::gap::gap;
+use crate::integer::{negative_integer, positive_integer};
 use crate::quoted::string_size;
 use crate::token::Token;
 use std::alloc::{AllocError, Global};
+use uuid::Uuid;
 
-fn is_space(byte: u8) -> bool
-    ensures { result ≡ is_space byte }
-{
-    matches!(byte, b' ' | b'\t' | b'\r' | b'\n')
-}
+// How many bytes a uuid has as it is written.
+const UUID_SIZE: usize = 36;
 
-fn is_letter(byte: u8) -> bool
-    ensures { result ≡ is_letter byte }
-{
-    matches!(byte, b'A'..=b'Z' | b'a'..=b'z')
-}
-
-fn is_word_byte(byte: u8) -> bool
-    ensures { result ≡ is_word_byte byte }
-{
-    is_letter(byte) || matches!(byte, b'0'..=b'9' | b'_')
-}
+// The most bytes that a name has.
+const NAME_LIMIT: usize = 48;
 
 fn sign(byte: u8) -> Token<'static>
     ensures { meaning result ≡ sign byte }
@@ -34,6 +25,7 @@ fn sign(byte: u8) -> Token<'static>
         b')' => Token::Close,
         b',' => Token::Comma,
         b'*' => Token::Star,
+        b'=' => Token::Equal,
         b';' => Token::Semicolon,
         _ => Token::Unknown,
     }
@@ -47,20 +39,35 @@ fn word_length(bytes: &[u8]) -> usize
     bytes.iter().take_while(|byte| is_word_byte(**byte)).count()
 }
 
-// The word that bytes begin with.
-fn word<'a>(bytes: &'a [u8]) -> (Token<'a>, &'a [u8])
-    requires { StartsWord bytes.now }
-    ensures { Begins bytes.now result.0 result.1.now }
+// The word that begins with a letter.
+fn word<'a>(first: u8, bytes: &'a [u8], behind: &'a [u8]) -> (Token<'a>, &'a [u8])
+    requires { bytes.now ≡ first ∷ behind.now }
+    ensures { IsLexeme (word_lexeme first behind.now) behind.now result.0 result.1.now }
 {
-    let (_, behind) = bytes.split_at(1);
-    let (word, left) = bytes.split_at(1 + word_length(behind));
+    let size = word_length(behind);
+    let (word, _) = bytes.split_at(1 + size);
+    let (_, left) = behind.split_at(size);
     (Token::Word(word), left)
+}
+
+// The quoted name behind its first quote, or the token that the quote alone is.
+fn quoted_name<'a>(behind: &'a [u8]) -> (Token<'a>, &'a [u8])
+    ensures { IsLexeme (name_lexeme behind.now) behind.now result.0 result.1.now }
+{
+    let size = word_length(behind);
+    let (name, rest) = behind.split_at(size);
+    if 1 <= size && size <= NAME_LIMIT && starts(b'"', rest) {
+        let (_, left) = behind.split_at(size + 1);
+        (Token::QuotedName(name), left)
+    } else {
+        (Token::Unknown, behind)
+    }
 }
 
 // The string with this size behind its opening quote.
 fn sized_string<'a>(behind: &'a [u8], size: usize) -> (Token<'a>, &'a [u8])
     requires { Some size ≡ size_of (quoted_text behind.now) }
-    ensures { Begins (39 ∷ behind.now) result.0 result.1.now }
+    ensures { IsLexeme (string_lexeme (quoted_text behind.now)) behind.now result.0 result.1.now }
 {
     let (text, _) = behind.split_at(size - 1);
     let (_, left) = behind.split_at(size);
@@ -70,7 +77,7 @@ fn sized_string<'a>(behind: &'a [u8], size: usize) -> (Token<'a>, &'a [u8])
 // The string behind an opening quote, or the token that the quote alone is. Where no quote closes it, each run of
 // quotes behind it is even, and so a string of its own: no byte is passed over more than twice.
 fn string<'a>(behind: &'a [u8]) -> (Token<'a>, &'a [u8])
-    ensures { Begins (39 ∷ behind.now) result.0 result.1.now }
+    ensures { IsLexeme (string_lexeme (quoted_text behind.now)) behind.now result.0 result.1.now }
 {
     match string_size(behind) {
         Some(size) => sized_string(behind, size),
@@ -78,18 +85,56 @@ fn string<'a>(behind: &'a [u8]) -> (Token<'a>, &'a [u8])
     }
 }
 
-// The first token of bytes that begin with no space.
-fn first_token<'a>(first: u8, bytes: &'a [u8], behind: &'a [u8]) -> (Token<'a>, &'a [u8])
-    requires bytes { bytes.now ≡ first ∷ behind.now }
-    requires begun { is_space first ≡ false }
-    ensures { Begins bytes.now result.0 result.1.now }
+// The sixteen bytes of the uuid that bytes begin with, if they begin with one.
+fn uuid_in_front(bytes: &[u8]) -> Option<[u8; 16]>
+    ensures { result ≡ uuid_in_front bytes.now }
+{
+    if bytes.len() < UUID_SIZE {
+        return None;
+    }
+    let (text, left) = bytes.split_at(UUID_SIZE);
+    if starts_word(left) {
+        return None;
+    }
+    match Uuid::try_parse_ascii(text) {
+        Ok(uuid) => Some(*uuid.as_bytes()),
+        Err(_) => None,
+    }
+}
+
+// The first token of bytes that begin with no uuid.
+#[tactic(auto, unfolding(sasi_model::specs::Tokens::other_lexeme))]
+fn other_token<'a>(first: u8, bytes: &'a [u8], behind: &'a [u8]) -> (Token<'a>, &'a [u8])
+    requires { bytes.now ≡ first ∷ behind.now }
+    ensures { IsLexeme (other_lexeme first behind.now) behind.now result.0 result.1.now }
 {
     if is_letter(first) {
-        word(bytes)
+        word(first, bytes, behind)
+    } else if is_digit(first) {
+        positive_integer(first, bytes, behind)
+    } else if first == b'-' && starts_digit(behind) {
+        negative_integer(behind)
     } else if first == b'\'' {
         string(behind)
+    } else if first == b'"' {
+        quoted_name(behind)
     } else {
         (sign(first), behind)
+    }
+}
+
+// The first token of bytes that begin with no gap.
+#[tactic(auto, unfolding(sasi_model::specs::Tokens::lexeme))]
+fn first_token<'a>(first: u8, bytes: &'a [u8], behind: &'a [u8]) -> (Token<'a>, &'a [u8])
+    requires { bytes.now ≡ first ∷ behind.now }
+    ensures { IsLexeme (lexeme first behind.now) behind.now result.0 result.1.now }
+{
+    match uuid_in_front(bytes) {
+        Some(uuid) => {
+            let (_, left) = bytes.split_at(UUID_SIZE);
+            (Token::Uuid(uuid), left)
+        }
+        None => other_token(first, bytes, behind),
     }
 }
 
@@ -99,9 +144,10 @@ pub fn tokens_of<'a>(alloc: Global, text: &'a [u8]) -> Result<Vec<Token<'a>>, Al
 {
     let mut found = Vec::new(alloc);
     let mut left = text;
+    let mut unclosed = false;
     'tokens: while let Some((first, behind)) = left.split_first() {
-        if is_space(*first) {
-            left = behind;
+        if let Some(rest) = gap(*first, behind, &mut unclosed) {
+            left = rest;
         } else {
             let (token, rest) = first_token(*first, left, behind);
             found.push(token)?;

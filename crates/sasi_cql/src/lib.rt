@@ -2,13 +2,19 @@
 // the model, whose pieces and statements it finds exactly.
 #![tactic(auto)]
 
+mod byte;
 mod fault;
 mod front;
+mod gap;
 mod grammar;
+mod integer;
+mod item;
 mod lexer;
 mod list;
+mod literal;
 mod mode;
 mod parser;
+mod part;
 mod quoted;
 mod splitter;
 mod stage;

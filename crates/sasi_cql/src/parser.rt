@@ -1,139 +1,63 @@
-// From the tokens of a text to the statement that they spell: a function for each production of the grammar.
-ghost use Rattle.std.specs.Prelude.{◌≡◌, ◌&&◌, ◌∷◌, [], codes, map, IfOk};
+// From the tokens of a text to the statement that they spell: a function for each statement of the grammar.
+ghost use Rattle.std.specs.Prelude.{◌≡◌, if◌then◌else◌, length, map, nat_le, IfOk, Some, None};
 ghost use Rattle.sasi_types.specs.declared.statement.Statement.{Statement};
-ghost use Rattle.sasi_model.specs.Tokens.{lower, tokens, Word, Open, Star, Semicolon};
-ghost use Rattle.sasi_model.specs.Statements.{create_columns, create_key, ended, insert_names, inserted, insert_values, is_name, read_literals, read_names, Reads, same, statement_of, text_column};
-ghost use Rattle.sasi_cql.specs.Finds.{Finds};
-ghost use Rattle.sasi_cql.specs.Fronts.{StartsKey};
+ghost use Rattle.sasi_model.specs.Tokens.{tokens};
+ghost use Rattle.sasi_model.specs.Statements.{create_of, delete_of, ended, insert_of, insert_values, query_of, read_asked, read_names_or_none, Reads, statement_of, update_of};
+ghost use Rattle.sasi_cql.specs.Finds.{Finds, FindsRead};
 ghost use Rattle.sasi_cql.specs.Meaning.{meaning};
 
 use crate::fault::ParseFault;
-use crate::front::{two_words, word_open, word_star};
+use crate::front::{after, expect, read_name};
+use crate::item::read_items;
 use crate::lexer::tokens_of;
-use crate::list::{read_columns, read_literals, read_names};
+use crate::list::{read_literals, read_names, read_sets};
+use crate::part::{read_time, read_where};
 use crate::token::Token;
-use crate::word::{is_name, lower_name, spells};
-use sasi_types::{ColumnType, Columns, Name, Names, Select, Statement};
-use std::alloc::{AllocError, Global};
+use sasi_types::{Columns, Name, Names, Select, Statement};
+use std::alloc::Global;
 
-// The statement, if its `;` is all that is left.
-fn ended(tokens: &[Token], statement: Statement) -> Result<Statement, ParseFault>
-    ensures { Finds (ended (map meaning tokens.now) statement) result }
+// The statement, if nothing stands behind it.
+fn ended(statement: Statement, tokens: &[Token]) -> Result<Statement, ParseFault>
+    ensures { Finds (ended statement (map meaning tokens.now)) result }
 {
     match tokens {
-        [Token::Semicolon] => Ok(statement),
+        [] => Ok(statement),
         _ => Err(ParseFault::Syntax),
     }
 }
 
-// ---- CREATE TABLE name (
+// ---- CREATE TABLE
 
-fn is_key_column(key: &[u8], kind: &[u8], primary: &[u8], of_key: &[u8]) -> bool
-    ensures { result ≡ (is_name (lower key.now) && same (lower kind.now) (codes "text") && same (lower primary.now) (codes "primary") && same (lower of_key.now) (codes "key")) }
+// At most one PRIMARY KEY may be said.
+fn created(table: Name, columns: Columns, keys: Names) -> Result<Statement, ParseFault>
+    ensures { Finds (if nat_le (length keys) 1 then Some (Statement.CreateTable table columns keys) else None) result }
 {
-    is_name(key) && spells(kind, b"text") && spells(primary, b"primary") && spells(of_key, b"key")
-}
-
-// name text PRIMARY KEY, and the tokens behind it.
-fn key_column<'t, 'a>(tokens: &'t [Token<'a>]) -> Option<(&'a [u8], &'t [Token<'a>])>
-    ensures { StartsKey (map meaning tokens.now) result }
-{
-    let (key, kind, typed) = two_words(tokens)?;
-    let (primary, of_key, behind) = two_words(typed)?;
-    is_key_column(key, kind, primary, of_key).then_some((key, behind))
-}
-
-// The names of a key that is one word.
-fn key_names(alloc: Global, key: &[u8]) -> Result<Names, AllocError>
-    ensures { IfOk result (λ names. names ≡ lower key.now ∷ []) }
-{
-    let name = lower_name(alloc, key)?;
-    let mut names = Names::new(alloc);
-    names.push(name)?;
-    Ok(names)
-}
-
-// The column of a key that is one word.
-fn key_columns(alloc: Global, key: &[u8]) -> Result<Columns, AllocError>
-    ensures { IfOk result (λ columns. columns ≡ text_column (lower key.now) ∷ []) }
-{
-    let name = lower_name(alloc, key)?;
-    let mut columns = Columns::new(alloc);
-    columns.push(name, ColumnType::Text)?;
-    Ok(columns)
-}
-
-// {, name text} ) ;
-fn create_columns(
-    alloc: Global,
-    table: Name,
-    key: &[u8],
-    tokens: &[Token],
-) -> Result<Statement, ParseFault>
-    ensures { Finds (create_columns table (lower key.now) (map meaning tokens.now)) result }
-{
-    let keys = key_names(alloc, key)?;
-    let columns = key_columns(alloc, key)?;
-    match tokens {
-        [Token::Comma, behind @ ..] => {
-            let (columns, left) = read_columns(alloc, columns, behind)?;
-            ended(
-                left,
-                Statement::CreateTable {
-                    table,
-                    columns,
-                    keys,
-                },
-            )
-        }
-        [Token::Close, behind @ ..] => ended(
-            behind,
-            Statement::CreateTable {
-                table,
-                columns,
-                keys,
-            },
-        ),
-        _ => Err(ParseFault::Syntax),
-    }
-}
-
-// name text PRIMARY KEY {, name text} ) ;
-fn create_key(alloc: Global, table: Name, tokens: &[Token]) -> Result<Statement, ParseFault>
-    ensures { Finds (create_key table (map meaning tokens.now)) result }
-{
-    let Some((key, behind)) = key_column(tokens) else {
-        return Err(ParseFault::Syntax);
-    };
-    create_columns(alloc, table, key, behind)
-}
-
-// ---- INSERT INTO name (
-
-// string {, string} ) ;
-fn inserted(
-    alloc: Global,
-    table: Name,
-    columns: Names,
-    tokens: &[Token],
-) -> Result<Statement, ParseFault>
-    ensures { Finds (inserted table columns (read_literals (map meaning tokens.now))) result }
-{
-    let (values, left) = read_literals(alloc, tokens)?;
-    if values.as_slice().len() != columns.as_slice().len() {
+    if keys.as_slice().len() > 1 {
         return Err(ParseFault::Syntax);
     }
-    ended(
-        left,
-        Statement::Insert {
-            table,
-            columns,
-            values,
-        },
-    )
+    Ok(Statement::CreateTable {
+        table,
+        columns,
+        keys,
+    })
 }
 
-// VALUES (
+// name ( item {, item} ) ;
+#[tactic(auto, unfolding(sasi_model::specs::Statements::create_of))]
+fn create_table(alloc: Global, tokens: &[Token]) -> Result<Statement, ParseFault>
+    ensures { Finds (create_of (map meaning tokens.now)) result }
+{
+    let (table, behind) = read_name(alloc, tokens)?;
+    let behind = expect(&[Token::Open], behind)?;
+    let (columns, keys, behind) = read_items(alloc, behind)?;
+    let behind = expect(&[Token::Close, Token::Semicolon], behind)?;
+    let statement = created(table, columns, keys)?;
+    ended(statement, behind)
+}
+
+// ---- INSERT INTO
+
+// literal {, literal} ) [USING TIMESTAMP integer] ;
 fn insert_values(
     alloc: Global,
     table: Name,
@@ -142,112 +66,140 @@ fn insert_values(
 ) -> Result<Statement, ParseFault>
     ensures { Finds (insert_values table columns (map meaning tokens.now)) result }
 {
-    match tokens {
-        [Token::Word(values), Token::Open, behind @ ..] => {
-            if spells(values, b"values") {
-                inserted(alloc, table, columns, behind)
-            } else {
-                Err(ParseFault::Syntax)
-            }
-        }
-        _ => Err(ParseFault::Syntax),
+    let (values, behind) = read_literals(alloc, tokens)?;
+    let behind = expect(&[Token::Close], behind)?;
+    let (time, behind) = read_time(behind)?;
+    let behind = expect(&[Token::Semicolon], behind)?;
+    if values.as_slice().len() != columns.as_slice().len() {
+        return Err(ParseFault::Syntax);
+    }
+    let statement = Statement::Insert {
+        table,
+        columns,
+        values,
+        time,
+    };
+    ended(statement, behind)
+}
+
+// name ( name {, name} ) VALUES ( literal {, literal} ) [USING TIMESTAMP integer] ;
+#[tactic(auto, unfolding(sasi_model::specs::Statements::insert_of))]
+fn insert(alloc: Global, tokens: &[Token]) -> Result<Statement, ParseFault>
+    ensures { Finds (insert_of (map meaning tokens.now)) result }
+{
+    let (table, behind) = read_name(alloc, tokens)?;
+    let behind = expect(&[Token::Open], behind)?;
+    let (columns, behind) = read_names(alloc, behind)?;
+    let behind = expect(&[Token::Close, Token::Word(b"values"), Token::Open], behind)?;
+    insert_values(alloc, table, columns, behind)
+}
+
+// ---- UPDATE
+
+// name [USING TIMESTAMP integer] SET name = literal {, name = literal} WHERE name = literal ;
+#[tactic(auto, unfolding(sasi_model::specs::Statements::update_of))]
+fn update(alloc: Global, tokens: &[Token]) -> Result<Statement, ParseFault>
+    ensures { Finds (update_of (map meaning tokens.now)) result }
+{
+    let (table, behind) = read_name(alloc, tokens)?;
+    let (time, behind) = read_time(behind)?;
+    let behind = expect(&[Token::Word(b"set")], behind)?;
+    let (sets, behind) = read_sets(alloc, behind)?;
+    let ((key, value), behind) = read_where(alloc, behind)?;
+    let statement = Statement::Update {
+        table,
+        time,
+        sets,
+        key,
+        value,
+    };
+    ended(statement, behind)
+}
+
+// ---- DELETE
+
+// [name {, name}], in front of FROM
+fn read_names_or_none<'t, 'a>(
+    alloc: Global,
+    tokens: &'t [Token<'a>],
+) -> Result<(Names, &'t [Token<'a>]), ParseFault>
+    ensures { FindsRead (read_names_or_none (map meaning tokens.now)) result }
+{
+    match after(&[Token::Word(b"from")], tokens) {
+        Some(_) => Ok((Names::new(alloc), tokens)),
+        None => read_names(alloc, tokens),
     }
 }
 
-// name {, name} )
-fn insert_names(alloc: Global, table: Name, tokens: &[Token]) -> Result<Statement, ParseFault>
-    ensures { Finds (insert_names table (read_names (map meaning tokens.now))) result }
+// [name {, name}] FROM name [USING TIMESTAMP integer] WHERE name = literal ;
+#[tactic(auto, unfolding(sasi_model::specs::Statements::delete_of))]
+fn delete(alloc: Global, tokens: &[Token]) -> Result<Statement, ParseFault>
+    ensures { Finds (delete_of (map meaning tokens.now)) result }
 {
-    let (columns, left) = read_names(alloc, tokens)?;
-    insert_values(alloc, table, columns, left)
+    let (columns, behind) = read_names_or_none(alloc, tokens)?;
+    let behind = expect(&[Token::Word(b"from")], behind)?;
+    let (table, behind) = read_name(alloc, behind)?;
+    let (time, behind) = read_time(behind)?;
+    let ((key, value), behind) = read_where(alloc, behind)?;
+    let statement = Statement::Delete {
+        table,
+        columns,
+        time,
+        key,
+        value,
+    };
+    ended(statement, behind)
+}
+
+// ---- SELECT
+
+// * | name {, name}
+fn read_asked<'t, 'a>(
+    alloc: Global,
+    tokens: &'t [Token<'a>],
+) -> Result<(Option<Names>, &'t [Token<'a>]), ParseFault>
+    ensures { FindsRead (read_asked (map meaning tokens.now)) result }
+{
+    if let Some(behind) = after(&[Token::Star], tokens) {
+        return Ok((None, behind));
+    }
+    let (columns, behind) = read_names(alloc, tokens)?;
+    Ok((Some(columns), behind))
+}
+
+// (* | name {, name}) FROM name ;
+#[tactic(auto, unfolding(sasi_model::specs::Statements::query_of))]
+fn query(alloc: Global, tokens: &[Token]) -> Result<Statement, ParseFault>
+    ensures { Finds (query_of (map meaning tokens.now)) result }
+{
+    let (columns, behind) = read_asked(alloc, tokens)?;
+    let behind = expect(&[Token::Word(b"from")], behind)?;
+    let (table, behind) = read_name(alloc, behind)?;
+    let behind = expect(&[Token::Semicolon], behind)?;
+    let select = Select { columns, table };
+    ended(Statement::Query { select }, behind)
 }
 
 // ---- statements
 
-fn both_spell(first: &[u8], second: &[u8], one: &[u8], other: &[u8]) -> bool
-    ensures { result ≡ (same (lower first.now) one.now && same (lower second.now) other.now) }
-{
-    spells(first, one) && spells(second, other)
-}
-
-// CREATE TABLE or INSERT INTO, with a name and a `(` behind it.
 #[tactic(auto, unfolding(sasi_model::specs::Statements::statement_of))]
-fn opened(
-    alloc: Global,
-    first: &[u8],
-    second: &[u8],
-    table: &[u8],
-    tokens: &[Token],
-) -> Result<Statement, ParseFault>
-    ensures { Finds (statement_of (Word (lower first.now) ∷ Word (lower second.now) ∷ Word (lower table.now) ∷ Open ∷ map meaning tokens.now)) result }
-{
-    if !is_name(table) {
-        return Err(ParseFault::Syntax);
-    }
-    let table = lower_name(alloc, table)?;
-    if both_spell(first, second, b"create", b"table") {
-        create_key(alloc, table, tokens)
-    } else if both_spell(first, second, b"insert", b"into") {
-        insert_names(alloc, table, tokens)
-    } else {
-        Err(ParseFault::Syntax)
-    }
-}
-
-// What begins with two words.
-#[tactic(auto, using(crate::proofs::Parsed::no_open))]
-fn listed(
-    alloc: Global,
-    first: &[u8],
-    second: &[u8],
-    tokens: &[Token],
-) -> Result<Statement, ParseFault>
-    ensures { Finds (statement_of (Word (lower first.now) ∷ Word (lower second.now) ∷ map meaning tokens.now)) result }
-{
-    let Some((table, behind)) = word_open(tokens) else {
-        return Err(ParseFault::Syntax);
-    };
-    opened(alloc, first, second, table, behind)
-}
-
-// SELECT * FROM name ;
-#[tactic(auto, unfolding(sasi_model::specs::Statements::statement_of))]
-fn selected(alloc: Global, first: &[u8], from: &[u8], table: &[u8]) -> Result<Statement, ParseFault>
-    ensures { Finds (statement_of (Word (lower first.now) ∷ Star ∷ Word (lower from.now) ∷ Word (lower table.now) ∷ Semicolon ∷ [])) result }
-{
-    if !(both_spell(first, from, b"select", b"from") && is_name(table)) {
-        return Err(ParseFault::Syntax);
-    }
-    let table = lower_name(alloc, table)?;
-    Ok(Statement::Query {
-        select: Select { table },
-    })
-}
-
-// What begins with a word and a `*`.
-#[tactic(auto, unfolding(sasi_model::specs::Statements::statement_of))]
-fn query(alloc: Global, first: &[u8], tokens: &[Token]) -> Result<Statement, ParseFault>
-    ensures { Finds (statement_of (Word (lower first.now) ∷ Star ∷ map meaning tokens.now)) result }
-{
-    match tokens {
-        [Token::Word(from), Token::Word(table), Token::Semicolon] => selected(
-            alloc, first, from, table,
-        ),
-        _ => Err(ParseFault::Syntax),
-    }
-}
-
-#[tactic(auto, using(crate::proofs::Parsed::no_front))]
 fn statement(alloc: Global, tokens: &[Token]) -> Result<Statement, ParseFault>
     ensures { Finds (statement_of (map meaning tokens.now)) result }
 {
-    if let Some((first, second, behind)) = two_words(tokens) {
-        return listed(alloc, first, second, behind);
+    if let Some(behind) = after(&[Token::Word(b"create"), Token::Word(b"table")], tokens) {
+        return create_table(alloc, behind);
     }
-    if let Some((first, behind)) = word_star(tokens) {
-        return query(alloc, first, behind);
+    if let Some(behind) = after(&[Token::Word(b"insert"), Token::Word(b"into")], tokens) {
+        return insert(alloc, behind);
     }
-    Err(ParseFault::Syntax)
+    if let Some(behind) = after(&[Token::Word(b"update")], tokens) {
+        return update(alloc, behind);
+    }
+    if let Some(behind) = after(&[Token::Word(b"delete")], tokens) {
+        return delete(alloc, behind);
+    }
+    let behind = expect(&[Token::Word(b"select")], tokens)?;
+    query(alloc, behind)
 }
 
 /// The statement that a piece's text spells.

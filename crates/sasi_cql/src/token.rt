@@ -1,16 +1,22 @@
 // The tokens of a text.
+use sasi_types::Number;
 
 /// A token of a text, whose bytes it borrows.
 #[derive(Clone, Copy, Debug)]
 pub enum Token<'a> {
     /// A word as it is written, in whichever case.
     Word(&'a [u8]),
+    /// What stands between double quotes.
+    QuotedName(&'a [u8]),
     /// What stands between the quotes of a string, where a quote is still doubled.
     Quoted(&'a [u8]),
+    Integer(Number),
+    Uuid([u8; 16]),
     Open,
     Close,
     Comma,
     Star,
+    Equal,
     Semicolon,
     /// A byte that begins no token.
     Unknown,

@@ -1,31 +1,24 @@
 // Words: keywords, in upper or lower case, and names.
 ghost use Rattle.std.specs.Prelude.{◌≡◌, IfOk};
 ghost use Rattle.std.specs.List.{list_any};
-ghost use Rattle.sasi_model.specs.Tokens.{lower, lower_byte};
+ghost use Rattle.sasi_model.specs.Tokens.{lower};
 ghost use Rattle.sasi_model.specs.Statements.{is_name, reserved, same};
-ghost use Rattle.sasi_cql.specs.Finds.{Finds, named};
 
-use crate::fault::ParseFault;
+use crate::byte::lower_byte;
 use sasi_types::Name;
 use std::alloc::{AllocError, Global};
 
 // The most bytes that a name has.
 const NAME_LIMIT: usize = 48;
 
-fn lower_byte(byte: u8) -> u8
-    ensures { result ≡ lower_byte byte }
-{
-    byte.to_ascii_lowercase()
-}
-
-/// The word spells the keyword, which is given in lower case. The calls go no deeper than the keyword is long.
+/// The word spells the keyword, in whichever case. The calls go no deeper than the keyword is long.
 pub fn spells(word: &[u8], keyword: &[u8]) -> bool
-    ensures { result ≡ same (lower word.now) keyword.now }
+    ensures { result ≡ same (lower word.now) (lower keyword.now) }
 {
     match (word, keyword) {
         ([], []) => true,
         ([byte, word @ ..], [wanted, keyword @ ..]) => {
-            lower_byte(*byte) == *wanted && spells(word, keyword)
+            lower_byte(*byte) == lower_byte(*wanted) && spells(word, keyword)
         }
         _ => false,
     }
@@ -69,16 +62,4 @@ pub fn is_name(word: &[u8]) -> bool
     ensures { result ≡ is_name (lower word.now) }
 {
     word.len() <= NAME_LIMIT && !is_reserved(word)
-}
-
-/// The name that a word is, if it is one.
-#[tactic(auto, unfolding(crate::specs::Finds::named))]
-pub fn name_of(alloc: Global, word: &[u8]) -> Result<Name, ParseFault>
-    ensures found { Finds (named (lower word.now)) result }
-    ensures name { IfOk result (λ name. name ≡ lower word.now) }
-{
-    if !is_name(word) {
-        return Err(ParseFault::Syntax);
-    }
-    Ok(lower_name(alloc, word)?)
 }

@@ -1,9 +1,8 @@
 -- Entries in the order of their places, as a finite map.
-use Rattle.std.proofs.Common.{◌≡◌, ℕ, cond, List, [], ◌∷◌, map, length, arith, Option, Some, refl, sym, ap, ◌∙◌}
+use Rattle.std.proofs.Common.{◌≡◌, ℕ, cond, List, [], ◌∷◌, map, length, arith, Some, refl, sym, ap, ◌∙◌}
 use Rattle.std.specs.Ordering.{nat_cmp, eq_by_cmp}
 use Rattle.std.specs.Cmp.{eq_by_cmp_equiv}
 use Rattle.std.specs.BTreeMap.{is_at}
-use Rattle.std.specs.Map.{lookup}
 use Rattle.std.specs.List.{AllByRecursion}
 use Rattle.std.specs.List.Sorted.{IsStrictlySortedBy}
 use Rattle.std.specs.FinMap as fin
@@ -12,50 +11,47 @@ use Rattle.std.proofs.lemmas.Map.Lookups.{CmpEqualImpliesEq, exact_pairs, exact_
 use Rattle.sasi_types.specs.declared.place.Place.{Place}
 use Rattle.sasi_types.specs.Key.{key_cmp}
 use Rattle.sasi_types.specs.Place.{place_cmp, place_total}
-use Rattle.sasi_model.specs.State.{Row}
+use Rattle.sasi_model.specs.Cells.{Partition}
+use Rattle.sasi_machine.specs.Contents.{partition_at}
 
 -- places that compare alike are one
 pub place_exact : CmpEqualImpliesEq place_cmp
 place_exact a b alike =
     ap (λ (p : ℕ × List ℕ). record { token = p.0; key = p.1 }) (exact_pairs nat_cmp key_cmp exact_unsigned exact_bytes (a.token, a.key) (b.token, b.key) alike)
 
--- rows with their places
+-- partitions with their places
 abbrev Entries : Type 0
-Entries = List (Place × Row)
+Entries = List (Place × Partition)
 
--- the first row at a place
-abbrev pub row_at : Entries → Place → Option Row
-row_at entries place = lookup (is_at (place_cmp place)) entries
-
-find-row_at : (entries : Entries) (place : Place) → fin.find place_cmp place entries ≡ row_at entries place
-find-row_at [] place = refl
-find-row_at (e ∷ es) place = ap (cond (is_at (place_cmp place) e.0) (Some e.1)) (find-row_at es place)
+find-partition_at : (entries : Entries) (place : Place) → fin.find place_cmp place entries ≡ partition_at entries place
+find-partition_at [] place = refl
+find-partition_at (e ∷ es) place = ap (cond (is_at (place_cmp place) e.0) (Some e.1)) (find-partition_at es place)
 
 -- what the map that the entries make has at a place
-pub get-from_rows : (entries : Entries) (place : Place) → fin.get (fin.from_entries {R = place_cmp} entries) place ≡ row_at entries place
-get-from_rows entries place = fin.get-from_entries place_total entries place ∙ find-row_at entries place
+pub get-from_partitions : (entries : Entries) (place : Place) → fin.get (fin.from_entries {R = place_cmp} entries) place ≡ partition_at entries place
+get-from_partitions entries place = fin.get-from_entries place_total entries place ∙ find-partition_at entries place
 
 -- entries that differ at one place make maps that differ there
-pub put_is_insert : (old new : Entries) (place : Place) (row : Row)
-    → ((q : Place) → row_at new q ≡ cond (is_at (place_cmp place) q) (Some row) (row_at old q))
-    → fin.from_entries {R = place_cmp} new ≡ fin.insert (fin.from_entries old) place row
-put_is_insert old new place row differs = fin.same_map place_total place_exact _ _ (λ q.
-    get-from_rows new q ∙ differs q ∙ ap (λ b. cond b (Some row) (row_at old q)) ((eq_by_cmp_equiv place_total).symm place q)
-    ∙ sym (fin.get-insert place_total (fin.from_entries old) place row q ∙ ap (cond (eq_by_cmp place_cmp q place) (Some row)) (get-from_rows old q)))
+pub put_is_insert : (old new : Entries) (place : Place) (partition : Partition)
+    → ((q : Place) → partition_at new q ≡ cond (is_at (place_cmp place) q) (Some partition) (partition_at old q))
+    → fin.from_entries {R = place_cmp} new ≡ fin.insert (fin.from_entries old) place partition
+put_is_insert old new place partition differs = fin.same_map place_total place_exact _ _ (λ q.
+    get-from_partitions new q ∙ differs q ∙ ap (λ b. cond b (Some partition) (partition_at old q)) ((eq_by_cmp_equiv place_total).symm place q)
+    ∙ sym (fin.get-insert place_total (fin.from_entries old) place partition q ∙ ap (cond (eq_by_cmp place_cmp q place) (Some partition)) (get-from_partitions old q)))
 
 -- an entry below all others is put in front of them
-put_in_front : (e : Place × Row) (es : Entries) → AllByRecursion (λ y. place_cmp e.0 y ≡ Less) (map (λ x. x.0) es) → fin.put place_cmp e.0 e.1 es ≡ e ∷ es
+put_in_front : (e : Place × Partition) (es : Entries) → AllByRecursion (λ y. place_cmp e.0 y ≡ Less) (map (λ x. x.0) es) → fin.put place_cmp e.0 e.1 es ≡ e ∷ es
 put_in_front e [] below = refl
 put_in_front e (x ∷ es) below = rw below.0 refl
 
-no_entries : (es : Entries) → length es ≡ 0 → es ≡ []
+pub no_entries : (es : Entries) → length es ≡ 0 → es ≡ []
 no_entries [] none = refl
 no_entries (e ∷ es) none = absurd (omega arith)
 
 -- entries in order are those of the map that they make
 pub entries-from_ordered : (es : Entries) → IsStrictlySortedBy place_cmp (map (λ e. e.0) es) → fin.entries (fin.from_entries {R = place_cmp} es) ≡ es
 unfolding IsStrictlySortedBy
-entries-from_ordered [] ordered = no_entries _ (sym (fin.len-entries (fin.empty {R = place_cmp})) ∙ fin.len-empty place_cmp Row)
+entries-from_ordered [] ordered = no_entries _ (sym (fin.len-entries (fin.empty {R = place_cmp})) ∙ fin.len-empty place_cmp Partition)
 entries-from_ordered (e ∷ es) ordered =
     fin.entries-insert place_total (fin.from_entries es) e.0 e.1
     ∙ ap (fin.put place_cmp e.0 e.1) (entries-from_ordered es ordered.1)

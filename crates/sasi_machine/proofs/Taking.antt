@@ -1,151 +1,219 @@
 -- What the statements leave: refused ones, and those that are taken.
-use Rattle.std.proofs.Common.{◌≡◌, ◌⊎◌, inl, inr, ℕ, ◌<◌, Bool, true, false, ◌||◌, nat_lt, nat_le, not, is_some, is_none, List, [], ◌∷◌, ◌++◌, length, map, Option, Some, None, get_or, set, slice_get, Result, Ok, Err, OnOk, IfOk, refl, sym, ap, ◌∙◌, arith}
-use Rattle.std.specs.List.{list_all, list_any}
-use Rattle.std.proofs.lemmas.List.{set-get_or}
-use Rattle.std.proofs.lemmas.Option.{slice_get_cases, get_or_from_slice_get, slice_get_read}
-use Rattle.sasi_types.specs.declared.column.ColumnType.{ColumnType}
-use Rattle.sasi_types.specs.declared.literal.Literal.{Literal}
+use Rattle.std.proofs.Common.{◌≡◌, inl, inr, ℕ, suc, ◌-◌, ◌<◌, ◌≤◌, List, [], ◌∷◌, ◌++◌, length, get_or, set, slice_get, Option, Some, None, Result, Ok, Err, OnOk, IfOk, refl, sym, ap, subst, ◌∙◌, arith}
+use Rattle.std.specs.Prelude.{max}
+use Rattle.std.specs.FinMap as fin
 use Rattle.sasi_types.specs.declared.partitioner.Partitioner.{Partitioner}
+use Rattle.std.proofs.lemmas.Option.{get_or_from_slice_get, slice_get_cases}
+use Rattle.sasi_types.specs.declared.column.ColumnType.{ColumnType}
+use Rattle.sasi_types.specs.declared.statement.Select.{Select}
 use Rattle.sasi_types.specs.declared.statement.Statement.{Statement}
-use Rattle.sasi_types.specs.declared.statement.Statement.TheVariants.{CreateTable, Insert, Query}
-use Rattle.sasi_model.specs.State.{State, Table, table_of, with_table}
-use Rattle.sasi_model.specs.Refusals.{Refusal, NoTable, TableExists, NotBuilt, repeats, given, text_of, is_column, is_empty, first_of, refusal, COLUMN_LIMIT, TABLE_LIMIT, TEXT_LIMIT}
-use Rattle.sasi_model.specs.Lines.{refusal_line}
-use Rattle.sasi_model.specs.Step.{new_table, inserted, execute, answer_of}
+use Rattle.sasi_types.specs.declared.statement.Statement.TheVariants.{CreateTable, Insert, Update, Delete, Query}
+use Rattle.sasi_cells.specs.Rows.{IsStored}
+use Rattle.sasi_model.specs.Cells.{greatest_of}
+use Rattle.sasi_model.specs.State.{Column, Definition, State, Table, apply, definition_of, definitions, greatest, greatest_among, greatest_in, key_type, table_of, with_table}
+use Rattle.sasi_model.specs.Refusals.{NoTable, Refusal, create_rules, first_of, refusal, rules, select_rules}
+use Rattle.sasi_model.specs.Lines.{ok_line, refusal_line, rows_lines}
+use Rattle.sasi_model.specs.Step.{answer_of, columns_asked, execute, new_definition, place_given, rows_among, rows_answered, tables_after, time_of}
+use Rattle.sasi_schema.specs.Answers.{IsTold}
+use Rattle.sasi_schema.specs.Numbers.{number_of_table}
 use Rattle.sasi_machine.specs.declared.outcome.Outcome.{Outcome}
-use Rattle.sasi_machine.specs.Accepted.{accepted_key}
+use Rattle.sasi_machine.specs.declared.write.Write.{Write}
+use Rattle.sasi_machine.specs.Contents.{Contents}
 use Rattle.sasi_machine.specs.Outcome.{outcome_of}
-use Rattle.sasi_machine.specs.Tables.{IsTableAt}
-use Rattle.sasi_machine.specs.Taken.{Takes, TakesRow}
+use Rattle.sasi_machine.specs.Tables.{AreContents, IsKept, IsRoomFor, IsWrittenAt, state_of, table_with, tables_of, written}
+use Rattle.sasi_machine.specs.Taken.{IsAnswered, IsRefused, Takes}
+use Rattle.sasi_machine.specs.Writes.{IsWrite, IsWriting, change_in, key_in, table_named, time_in}
+use Rattle.sasi_machine.proofs.GreatestTimes.{greatest_push, greatest_put, greatest_set}
+use Rattle.sasi_machine.proofs.Tabled.{IsThere, definitions_of, held_push, is_there, number_inside, number_some, tables_push}
+use Rattle.sasi_machine.proofs.WriteTimes.{change_within}
+
+-- ---- whatever the statement
+
+-- the rules are tried on what is kept
+pub rules_kept : (p : Partitioner) (ds : List Definition) (cs : List Contents) (g : ℕ) (statement : Statement) → IsKept ds cs g → rules (definitions (tables_of ds cs)) (greatest (state_of p ds cs)) statement ≡ rules ds g statement
+unfolding greatest
+rules_kept p ds cs g statement kept =
+    ap (λ (tables : List Definition). rules tables (greatest (state_of p ds cs)) statement) (definitions_of ds cs kept.held)
+    ∙ ap (λ (time : ℕ). rules ds time statement) (sym kept.greatest_is)
+
+told_refuses : (s : State) (statement : Statement) (told : Option Refusal) (reply_old reply_new : List ℕ) (outcome : Outcome) → IsTold told (rules (definitions s.tables) (greatest s) statement) → IsRefused told reply_old reply_new outcome → Takes s statement s reply_old reply_new outcome
+unfolding refusal
+told_refuses s statement None reply_old reply_new outcome told refused = absurd refused
+told_refuses s statement (Some r) reply_old reply_new outcome told refused = rw told (record { state_is = refl; reply_is = refused.0; outcome_is = refused.1 })
 
 -- a statement that is refused
-pub refuses : {E : Type 0} (s : State) (statement : Statement) (r : Refusal) (reply_old reply_new : List ℕ) (result : Result Outcome E) → refusal s statement ≡ Some r → OnOk result (reply_new ≡ reply_old ++ refusal_line r) → IfOk result (λ o. o ≡ outcome_of (Some r))
-    → IfOk result (λ o. Takes s statement s reply_old reply_new o)
-refuses s statement r reply_old reply_new (Ok o) is reply_is outcome_is = rw is (record { state_is = refl; reply_is = reply_is; outcome_is = outcome_is })
-refuses s statement r reply_old reply_new (Err e) is reply_is outcome_is = tt
+pub refuses : {E : Type 0} (p : Partitioner) (ds : List Definition) (cs : List Contents) (g : ℕ) (statement : Statement) (told : Option Refusal) (reply_old reply_new : List ℕ) (result : Result Outcome E) → IsKept ds cs g → IsTold told (rules ds g statement)
+    → IfOk result (λ o. IsRefused told reply_old reply_new o) → IfOk result (λ o. Takes (state_of p ds cs) statement (state_of p ds cs) reply_old reply_new o)
+refuses p ds cs g statement told reply_old reply_new (Ok o) kept is refused =
+    told_refuses (state_of p ds cs) statement told reply_old reply_new o (subst (IsTold told) (sym (rules_kept p ds cs g statement kept)) is) refused
+refuses p ds cs g statement told reply_old reply_new (Err e) kept is refused = tt
 
 -- a statement that isn't
-pub takes : (s : State) (statement : Statement) (new : State) (reply_old reply_new : List ℕ) (outcome : Outcome) → refusal s statement ≡ None → new ≡ (execute s statement).state → reply_new ≡ reply_old ++ answer_of s statement → outcome ≡ outcome_of None → Takes s statement new reply_old reply_new outcome
-takes s statement new reply_old reply_new outcome is new_is reply_is outcome_is = rw is (record { state_is = new_is; reply_is = reply_is; outcome_is = outcome_is })
+pub takes : (p : Partitioner) (ds : List Definition) (cs : List Contents) (g : ℕ) (statement : Statement) (new : State) (reply_old reply_new : List ℕ) (outcome : Outcome) → IsKept ds cs g → first_of (rules ds g statement) ≡ None
+    → new ≡ (execute (state_of p ds cs) statement).state → reply_new ≡ reply_old ++ answer_of (state_of p ds cs) statement → outcome ≡ outcome_of None → Takes (state_of p ds cs) statement new reply_old reply_new outcome
+unfolding refusal
+takes p ds cs g statement new reply_old reply_new outcome kept none new_is reply_is outcome_is =
+    rw (ap first_of (rules_kept p ds cs g statement kept) ∙ none) (record { state_is = new_is; reply_is = reply_is; outcome_is = outcome_is })
 
--- ---- a table that is found
+-- ---- writes
 
-inside : (tables : List Table) (at : ℕ) → at < length tables → is_some (slice_get tables at) ≡ true
-inside tables at below = elim (slice_get_cases tables at).1 [
-  | inl (t, below, got, read) ↦ rw got refl
-  | inr n ↦ absurd (omega arith)
-]
+-- the contents of the table of a number
+pub record IsHeld (ds : List Definition) (cs : List Contents) (name : List ℕ) (number : ℕ) (d : Definition) : Type 0 where
+  pub contents : Contents
+  pub some : 0 < number
+  pub inside : number ≤ length cs
+  pub got : slice_get cs (number - 1) ≡ Some contents
+  pub there : IsThere name ds cs (number - 1) d contents
 
--- whether a place was found is whether the table is there
-pub is_there : (name : List ℕ) (tables : List Table) (at : Option ℕ) → IsTableAt name tables at → is_some (table_of name tables) ≡ is_some at
-is_there name tables None found = rw found refl
-is_there name tables (Some at) found = ap is_some found.1 ∙ inside tables at found.0
+pub is_held : (ds : List Definition) (cs : List Contents) (name : List ℕ) (number : ℕ) (d : Definition) → AreContents ds cs → number_of_table name ds ≡ Some number → definition_of name ds ≡ Some d → IsHeld ds cs name number d
+is_held ds cs name number d held numbered found =
+    let some : 0 < number = number_some name ds number numbered in
+    let suc_is : number ≡ suc (number - 1) = omega arith in
+    let at : number_of_table name ds ≡ Some (suc (number - 1)) = numbered ∙ ap Some suc_is in
+    let inside : number - 1 < length cs = number_inside name ds cs (number - 1) held at in
+    elim (slice_get_cases cs (number - 1)).1 [
+      | inl (c, below, got, read) ↦ record { contents = c; some = some; inside = omega arith; got = got; there = is_there name ds cs (number - 1) d c held at found got }
+      | inr past ↦ absurd (omega arith)
+    ]
 
--- what was read there is the table of the name
-pub found_read : (name : List ℕ) (tables : List Table) (at : ℕ) (t : Table) → IsTableAt name tables (Some at) → t ≡ get_or tables at t → table_of name tables ≡ Some t
-found_read name tables at t found is = found.1 ∙ slice_get_read tables _ at t refl found.0 is
+-- what was read there
+pub read_held : (ds : List Definition) (cs : List Contents) (name : List ℕ) (number : ℕ) (d : Definition) → (h : IsHeld ds cs name number d) (c : Contents) → c ≡ get_or cs (number - 1) c → c ≡ h.contents
+read_held ds cs name number d h c is = is ∙ get_or_from_slice_get cs (number - 1) h.contents c h.got
+
+-- there is room for what is written
+pub write_fits : (p : Partitioner) (ds : List Definition) (cs : List Contents) (g : ℕ) (statement : Statement) (w : Write) → IsKept ds cs g → IsWrite ds p g statement w → IsRoomFor cs w
+write_fits p ds cs g statement w kept write =
+    let h = is_held ds cs (table_named statement) w.table write.definition kept.held write.number write.found in
+    record {
+      some = h.some;
+      inside = h.inside;
+      stored = λ c got.
+          let same : h.contents ≡ c = (let e : Some h.contents ≡ Some c = sym h.got ∙ got in cc) in
+          subst (λ (kind : ColumnType). IsStored kind w.place.key) (sym h.there.kind ∙ ap (λ (c : Contents). c.kind) same) write.written.change.stored;
+    }
+
+-- the greatest time is known of what is left
+pub write_kept : (p : Partitioner) (ds : List Definition) (cs new : List Contents) (g : ℕ) (statement : Statement) (w : Write) → IsKept ds cs g → IsWrite ds p g statement w → IsWrittenAt cs w new → IsKept ds new (max g (greatest_of w.change))
+write_kept p ds cs new g statement w kept write is =
+    let h = is_held ds cs (table_named statement) w.table write.definition kept.held write.number write.found in
+    let at = w.table - 1 in
+    let new_is : new ≡ set cs at (written w h.contents) = is h.contents h.got in
+    let later : greatest_of w.change ≤ write.written.time = rw write.written.change.change_is (change_within write.definition write.written.time statement) in
+    let times = greatest_set ds cs at h.contents (written w h.contents) (greatest_of w.change) kept.held h.got (greatest_put h.contents.partitions w.place w.change) in
+    record {
+      held = rw new_is (h.there.kept (written w h.contents) refl);
+      greatest_is = ap (λ (t : ℕ). max t (greatest_of w.change)) kept.greatest_is ∙ sym (ap (λ (cs : List Contents). greatest_among (tables_of ds cs)) new_is ∙ times);
+      limit = omega (arith, kept.limit, write.written.time_is.limit);
+    }
+
+-- the table after the write
+written_table : (p : Partitioner) (d : Definition) (statement : Statement) (t : ℕ) (w : Write) (c : Contents) → w.place ≡ place_given p d (key_in d statement) → w.change ≡ change_in d t statement
+    → apply (place_given p d (key_in d statement)) (change_in d t statement) (table_with d c) ≡ table_with d (written w c)
+written_table p d statement t w c place change = rw (← place, ← change) refl
+
+-- what a write does to the tables
+change_of : State → Statement → Table → Table
+change_of s statement t = apply (place_given s.partitioner t.definition (key_in t.definition statement)) (change_in t.definition (time_of (greatest s) (time_in statement)) statement) t
+
+writes_table : (s : State) (statement : Statement) → IsWriting statement → tables_after s statement ≡ with_table (table_named statement) (change_of s statement) s.tables
+unfolding change_of
+writes_table s (CreateTable table columns keys) is = absurd is
+writes_table s (Insert table columns values time) is = refl
+writes_table s (Update table time sets key value) is = refl
+writes_table s (Delete table columns time key value) is = refl
+writes_table s (Query select) is = absurd is
+
+answers_ok : (s : State) (statement : Statement) → IsWriting statement → answer_of s statement ≡ ok_line
+answers_ok s (CreateTable table columns keys) is = absurd is
+answers_ok s (Insert table columns values time) is = refl
+answers_ok s (Update table time sets key value) is = refl
+answers_ok s (Delete table columns time key value) is = refl
+answers_ok s (Query select) is = absurd is
+
+greatest_kept : (p : Partitioner) (ds : List Definition) (cs : List Contents) (g : ℕ) → IsKept ds cs g → greatest (state_of p ds cs) ≡ g
+unfolding greatest
+greatest_kept p ds cs g kept = sym kept.greatest_is
+
+write_tables : (p : Partitioner) (ds : List Definition) (cs new : List Contents) (g : ℕ) (statement : Statement) (w : Write) → IsKept ds cs g → IsWriting statement → IsWrite ds p g statement w → IsWrittenAt cs w new
+    → tables_of ds new ≡ tables_after (state_of p ds cs) statement
+unfolding change_of
+write_tables p ds cs new g statement w kept writing write is =
+    let s = state_of p ds cs in
+    let d = write.definition in
+    let h = is_held ds cs (table_named statement) w.table d kept.held write.number write.found in
+    let time : write.written.time ≡ time_of (greatest s) (time_in statement) = write.written.time_is.is ∙ ap (λ (g : ℕ). time_of g (time_in statement)) (sym (greatest_kept p ds cs g kept)) in
+    let change : w.change ≡ change_in d (time_of (greatest s) (time_in statement)) statement = write.written.change.change_is ∙ ap (λ (t : ℕ). change_in d t statement) time in
+    ap (tables_of ds) (is h.contents h.got)
+    ∙ sym (writes_table s statement writing ∙ h.there.changed (change_of s statement) (written w h.contents) (written_table p d statement (time_of (greatest s) (time_in statement)) w h.contents write.written.change.place change))
+
+-- a write that is taken
+pub write_taken : (p : Partitioner) (ds : List Definition) (cs new : List Contents) (g : ℕ) (statement : Statement) (w : Write) (reply_old reply_new : List ℕ) → IsKept ds cs g → IsWriting statement → IsWrite ds p g statement w → first_of (rules ds g statement) ≡ None
+    → IsWrittenAt cs w new → reply_new ≡ reply_old ++ ok_line → Takes (state_of p ds cs) statement (state_of p ds new) reply_old reply_new (outcome_of None)
+write_taken p ds cs new g statement w reply_old reply_new kept writing write none is reply_is =
+    takes p ds cs g statement (state_of p ds new) reply_old reply_new (outcome_of None) kept none
+    (ap (λ (tables : List Table). record { partitioner = p; tables = tables }) (write_tables p ds cs new g statement w kept writing write is))
+    (reply_is ∙ ap (λ line. reply_old ++ line) (sym (answers_ok (state_of p ds cs) statement writing)))
+    refl
 
 -- ---- CREATE TABLE
 
--- the name is taken
-pub create_exists : (s : State) (name : List ℕ) (columns : List (List ℕ × ColumnType)) → is_some (table_of name s.tables) ≡ true → refusal s (CreateTable name columns []) ≡ Some (TableExists name)
-unfolding refusal
-create_exists s name columns there = rw there refl
+pub create_kept : (ds : List Definition) (cs : List Contents) (g : ℕ) (d : Definition) (c : Contents) → IsKept ds cs g → c.kind ≡ key_type d → greatest_in (fin.values c.partitions) ≡ 0 → IsKept (ds ++ d ∷ []) (cs ++ c ∷ []) g
+create_kept ds cs g d c kept kind none =
+    record {
+      held = held_push ds cs d c kept.held kind;
+      greatest_is = kept.greatest_is ∙ sym (ap greatest_among (tables_push ds cs d c kept.held) ∙ greatest_push (tables_of ds cs) (table_with d c) none);
+      limit = kept.limit;
+    }
 
--- of rules that all give one refusal, it doesn't matter which applies
-first_that_applies : (a b c : Bool) → (a || (b || c)) ≡ true → first_of ((a, NotBuilt) ∷ (b, NotBuilt) ∷ (c, NotBuilt) ∷ []) ≡ Some NotBuilt
-first_that_applies true b c some = refl
-first_that_applies false true c some = refl
-first_that_applies false false true some = refl
-first_that_applies false false false some = cc
+-- what a new table holds
+abbrev pub empty_contents : Definition → Contents
+empty_contents d = record { kind = key_type d; partitions = fin.empty }
 
-none_applies : (a b c : Bool) → (a || (b || c)) ≡ false → first_of ((a, NotBuilt) ∷ (b, NotBuilt) ∷ (c, NotBuilt) ∷ []) ≡ None
-none_applies true b c none = cc
-none_applies false true c none = cc
-none_applies false false true none = cc
-none_applies false false false none = refl
+pub pushed : (cs room new : List Contents) (c : Contents) (kind : ColumnType) (d : Definition) → room ≡ cs → new ≡ room ++ c ∷ [] → c ≡ record { kind = kind; partitions = fin.empty } → kind ≡ key_type d → new ≡ cs ++ empty_contents d ∷ []
+pushed cs room new c kind d same push is kind_is =
+    push ∙ ap (λ (cs : List Contents). cs ++ c ∷ []) same ∙ ap (λ (c : Contents). cs ++ c ∷ []) is ∙ ap (λ (k : ColumnType). cs ++ record { kind = k; partitions = fin.empty } ∷ []) kind_is
 
--- a CREATE TABLE that isn't built
-abbrev pub is_unbuilt : State → List (List ℕ × ColumnType) → Bool
-is_unbuilt s columns = repeats (map (λ c. c.0) columns) || (nat_lt COLUMN_LIMIT (length columns) || nat_le TABLE_LIMIT (length s.tables))
+-- a refusal behind what was taken back
+pub refused_anew : {E : Type 0} (told other : Option Refusal) (reply_old cleared reply_new : List ℕ) (result : Result Outcome E) → other ≡ told → reply_old ≡ [] → cleared ≡ [] → IfOk result (λ o. IsRefused other cleared reply_new o) → IfOk result (λ o. IsRefused told reply_old reply_new o)
+refused_anew told other reply_old cleared reply_new (Ok o) same empty is refused = rw (← same, empty, ← is) refused
+refused_anew told other reply_old cleared reply_new (Err e) same empty is refused = tt
 
--- a name stands twice, or a limit is passed
-pub create_unbuilt : (s : State) (name : List ℕ) (columns : List (List ℕ × ColumnType)) → is_some (table_of name s.tables) ≡ false → is_unbuilt s columns ≡ true → refusal s (CreateTable name columns []) ≡ Some NotBuilt
-unfolding refusal
-create_unbuilt s name columns absent unbuilt = rw absent (first_that_applies (repeats (map (λ c. c.0) columns)) (nat_lt COLUMN_LIMIT (length columns)) (nat_le TABLE_LIMIT (length s.tables)) unbuilt)
-
--- no rule applies
-pub create_built : (s : State) (name : List ℕ) (columns : List (List ℕ × ColumnType)) → is_some (table_of name s.tables) ≡ false → is_unbuilt s columns ≡ false → refusal s (CreateTable name columns []) ≡ None
-unfolding refusal
-create_built s name columns absent built = rw absent (none_applies (repeats (map (λ c. c.0) columns)) (nat_lt COLUMN_LIMIT (length columns)) (nat_le TABLE_LIMIT (length s.tables)) built)
-
--- the names of a new table are those of its columns
-pub repeats_of_new : (name : List ℕ) (columns : List (List ℕ × ColumnType)) → repeats ((new_table name columns).key ∷ (new_table name columns).columns) ≡ repeats (map (λ c. c.0) columns)
-repeats_of_new name [] = refl
-repeats_of_new name (key ∷ others) = refl
-
--- the answer of a new table is that of its columns
-pub new_repeats : (t : Table) (name : List ℕ) (columns : List (List ℕ × ColumnType)) (answer : Bool) → t ≡ new_table name columns → answer ≡ repeats (t.key ∷ t.columns) → answer ≡ repeats (map (λ c. c.0) columns)
-new_repeats t name columns answer is answer_is = answer_is ∙ rw is (repeats_of_new name columns)
-
-pub or_second : (a b : Bool) → b ≡ true → (a || b) ≡ true
-or_second true b is = refl
-or_second false b is = is
-
-pub or_first : (a b : Bool) → a ≡ true → (a || b) ≡ true
-or_first true b is = refl
-or_first false b is = cc
-
--- the refusal doesn't ask for the names that PRIMARY KEY is said of
-pub any_keys : {E : Type 0} (s new : State) (name : List ℕ) (columns : List (List ℕ × ColumnType)) (keys : List (List ℕ)) (reply_old reply_new : List ℕ) (result : Result Outcome E)
-    → IfOk result (λ o. Takes s (CreateTable name columns []) new reply_old reply_new o) → IfOk result (λ o. Takes s (CreateTable name columns keys) new reply_old reply_new o)
-unfolding refusal
-any_keys s new name columns keys reply_old reply_new result taken = taken
-
--- ---- INSERT
-
-pub insert_absent : (s : State) (name : List ℕ) (names : List (List ℕ)) (values : List Literal) → table_of name s.tables ≡ None → refusal s (Insert name names values) ≡ Some (NoTable name)
-unfolding refusal
-insert_absent s name names values absent = rw absent refl
-
--- a table that is there refuses an INSERT in one way
-only_unbuilt : (a b c d e : Bool) → (first_of ((a, NotBuilt) ∷ (b, NotBuilt) ∷ (c, NotBuilt) ∷ (d, NotBuilt) ∷ (e, NotBuilt) ∷ []) ≡ None) ⊎ (first_of ((a, NotBuilt) ∷ (b, NotBuilt) ∷ (c, NotBuilt) ∷ (d, NotBuilt) ∷ (e, NotBuilt) ∷ []) ≡ Some NotBuilt)
-only_unbuilt true b c d e = inr refl
-only_unbuilt false true c d e = inr refl
-only_unbuilt false false true d e = inr refl
-only_unbuilt false false false true e = inr refl
-only_unbuilt false false false false true = inr refl
-only_unbuilt false false false false false = inl refl
-
--- to write what stands there changes nothing
-same_set : (tables : List Table) (at : ℕ) (t : Table) → slice_get tables at ≡ Some t → set tables at t ≡ tables
-same_set tables at t got = ap (set tables at) (sym (get_or_from_slice_get tables at t t got)) ∙ set-get_or tables at t
-
--- an INSERT into the table there
-pub inserts : {E : Type 0} (p : Partitioner) (tables : List Table) (name : List ℕ) (names : List (List ℕ)) (values : List Literal) (at : ℕ) (t new : Table) (items : List Table) (reply_old reply_new : List ℕ) (result : Result Outcome E)
-    → IsTableAt name tables (Some at) → slice_get tables at ≡ Some t → items ≡ set tables at new → IfOk result (λ o. TakesRow (accepted_key t names values) p names values t new reply_old reply_new o)
-    → IfOk result (λ o. Takes (record { partitioner = p; tables = tables }) (Insert name names values) (record { partitioner = p; tables = items }) reply_old reply_new o)
-unfolding refusal
-inserts p tables name names values at t new items reply_old reply_new (Err e) found got items_are taken = tt
-inserts p tables name names values at t new items reply_old reply_new (Ok o) found got items_are taken =
-    let there : table_of name tables ≡ Some t = found.1 ∙ got in
-    elim (only_unbuilt (not (list_all (is_column t) names)) (repeats names) (is_none (given t.key names values)) (is_empty (given t.key names values)) (list_any (λ v. nat_lt TEXT_LIMIT (length (text_of v))) values)) [
-      | inl built ↦
-          let row = rw built at taken in
-          let items_after : items ≡ with_table name (inserted p names values) tables = items_are ∙ ap (set tables at) row.0 ∙ sym (found.2 (inserted p names values) t got) in
-          rw (there, built) (record { state_is = ap (λ (ts : List Table). record { partitioner = p; tables = ts }) items_after; reply_is = row.1; outcome_is = row.2 })
-      | inr unbuilt ↦
-          let row = rw unbuilt at taken in
-          let items_after : items ≡ tables = items_are ∙ ap (set tables at) row.0 ∙ same_set tables at t got in
-          rw (there, unbuilt) (record { state_is = ap (λ (ts : List Table). record { partitioner = p; tables = ts }) items_after; reply_is = row.1; outcome_is = row.2 })
-    ]
+pub create_taken : (p : Partitioner) (ds : List Definition) (cs : List Contents) (g : ℕ) (table : List ℕ) (columns : List Column) (keys : List (List ℕ)) (reply_old reply_new : List ℕ) → IsKept ds cs g → first_of (create_rules ds table columns keys) ≡ None → reply_new ≡ reply_old ++ ok_line
+    → Takes (state_of p ds cs) (CreateTable table columns keys) (state_of p (ds ++ new_definition table columns keys ∷ []) (cs ++ record { kind = key_type (new_definition table columns keys); partitions = fin.empty } ∷ [])) reply_old reply_new (outcome_of None)
+create_taken p ds cs g table columns keys reply_old reply_new kept none reply_is =
+    let d = new_definition table columns keys in
+    takes p ds cs g (CreateTable table columns keys) _ reply_old reply_new (outcome_of None) kept none
+    (ap (λ (tables : List Table). record { partitioner = p; tables = tables }) (tables_push ds cs d (record { kind = key_type d; partitions = fin.empty }) kept.held)) reply_is refl
 
 -- ---- SELECT
 
-pub query_absent : (s : State) (name : List ℕ) → table_of name s.tables ≡ None → refusal s (Query (record { table = name })) ≡ Some (NoTable name)
-unfolding refusal
-query_absent s name absent = rw absent refl
+query_absent : (p : Partitioner) (ds : List Definition) (cs : List Contents) (g : ℕ) (select : Select) (reply_old reply_new : List ℕ) (outcome : Outcome) → IsKept ds cs g → definition_of select.table ds ≡ None → IsRefused (Some (NoTable select.table)) reply_old reply_new outcome
+    → Takes (state_of p ds cs) (Query select) (state_of p ds cs) reply_old reply_new outcome
+query_absent p ds cs g select reply_old reply_new outcome kept absent refused =
+    refuses {E = ℕ} p ds cs g (Query select) (Some (NoTable select.table)) reply_old reply_new (Ok outcome) kept (rw absent refl) refused
 
-pub query_there : (s : State) (name : List ℕ) (t : Table) → table_of name s.tables ≡ Some t → refusal s (Query (record { table = name })) ≡ None
-unfolding refusal
-query_there s name t there = rw there refl
+pub query_none : {E : Type 0} (p : Partitioner) (ds : List Definition) (cs : List Contents) (g : ℕ) (select : Select) (name reply_old reply_new : List ℕ) (result : Result Outcome E) → IsKept ds cs g → definition_of select.table ds ≡ None → name ≡ select.table
+    → OnOk result (reply_new ≡ reply_old ++ refusal_line (NoTable name)) → IfOk result (λ o. o ≡ outcome_of (Some (NoTable name))) → IfOk result (λ o. Takes (state_of p ds cs) (Query select) (state_of p ds cs) reply_old reply_new o)
+query_none p ds cs g select name reply_old reply_new (Ok o) kept absent is reply_is outcome_is =
+    query_absent p ds cs g select reply_old reply_new o kept absent
+    (reply_is ∙ ap (λ (name : List ℕ). reply_old ++ refusal_line (NoTable name)) is, outcome_is ∙ ap (λ (name : List ℕ). outcome_of (Some (NoTable name))) is)
+query_none p ds cs g select name reply_old reply_new (Err e) kept absent is reply_is outcome_is = tt
+
+query_by : (p : Partitioner) (ds : List Definition) (cs : List Contents) (g : ℕ) (select : Select) (d : Definition) (c : Contents) (r : Option Refusal) (reply_old reply_new : List ℕ) (outcome : Outcome) → IsKept ds cs g → table_of select.table (tables_of ds cs) ≡ Some (table_with d c)
+    → first_of (rules ds g (Query select)) ≡ r → IsAnswered r (rows_lines (rows_among d (columns_asked d select.columns) (fin.entries c.partitions))) reply_old reply_new outcome
+    → Takes (state_of p ds cs) (Query select) (state_of p ds cs) reply_old reply_new outcome
+query_by p ds cs g select d c None reply_old reply_new outcome kept there is answered =
+    takes p ds cs g (Query select) (state_of p ds cs) reply_old reply_new outcome kept is refl
+    (answered.0 ∙ sym (ap (λ t. reply_old ++ rows_lines (rows_answered select.columns t)) there)) answered.1
+query_by p ds cs g select d c (Some r) reply_old reply_new outcome kept there is refused =
+    refuses {E = ℕ} p ds cs g (Query select) (Some r) reply_old reply_new (Ok outcome) kept is refused
+
+pub query_taken : {E : Type 0} (p : Partitioner) (ds : List Definition) (cs : List Contents) (g : ℕ) (select : Select) (d : Definition) (c : Contents) (reply_old reply_new : List ℕ) (result : Result Outcome E) → IsKept ds cs g → definition_of select.table ds ≡ Some d → table_of select.table (tables_of ds cs) ≡ Some (table_with d c)
+    → IfOk result (λ o. IsAnswered (first_of (select_rules select.table select.columns (Some d))) (rows_lines (rows_among d (columns_asked d select.columns) (fin.entries c.partitions))) reply_old reply_new o)
+    → IfOk result (λ o. Takes (state_of p ds cs) (Query select) (state_of p ds cs) reply_old reply_new o)
+query_taken p ds cs g select d c reply_old reply_new (Ok o) kept found there answered = query_by p ds cs g select d c (first_of (select_rules select.table select.columns (Some d))) reply_old reply_new o kept there (rw found refl) answered
+query_taken p ds cs g select d c reply_old reply_new (Err e) kept found there answered = tt
+
+-- an answer that no rule refuses
+pub answered : (first : Option Refusal) (answer reply_old reply_new : List ℕ) → first ≡ None → reply_new ≡ reply_old ++ answer → IsAnswered first answer reply_old reply_new (outcome_of None)
+answered first answer reply_old reply_new none reply_is = rw none (reply_is, refl)

@@ -1,6 +1,13 @@
-pub mod Accepted
+pub mod Checks
+pub mod Collected
+pub mod Contents
+pub mod Faults
+pub mod KeyLiteral
 pub mod Outcome
+pub mod Picks
 pub mod Reading
 pub mod Refusal
+pub mod Rules
 pub mod Tables
 pub mod Taken
+pub mod Writes

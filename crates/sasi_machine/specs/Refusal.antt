@@ -1,11 +1,24 @@
 -- Refusals, in the model's words.
+use Rattle.sasi_schema.specs.Faults.{limit_of}
 use Rattle.sasi_model.specs.Refusals as model
 use Rattle.sasi_machine.specs.declared.refusal.Refusal.{Refusal}
-use Rattle.sasi_machine.specs.declared.refusal.Refusal.TheVariants.{NoTable, TableExists, ScriptEnds, NotBuilt}
+use Rattle.sasi_machine.specs.declared.refusal.Refusal.TheVariants.{StatementTooLong, NotUtf8, NoTable, TableExists, NoColumn, ColumnRepeated, WrongType, NumberRange, KeyMissing, KeyEmpty, ValueTooLong, TimestampRange, ClockSpent, TooMany, ScriptEnds, NotBuilt}
 
 -- the model's refusal of that name
 abbrev pub refusal_of : Refusal → model.Refusal
+refusal_of StatementTooLong = model.StatementTooLong
+refusal_of (NotUtf8 place) = model.NotUtf8 place
 refusal_of (NoTable name) = model.NoTable name
 refusal_of (TableExists name) = model.TableExists name
+refusal_of (NoColumn name) = model.NoColumn name
+refusal_of (ColumnRepeated name) = model.ColumnRepeated name
+refusal_of (WrongType column) = model.WrongType column
+refusal_of (NumberRange column) = model.NumberRange column
+refusal_of (KeyMissing column) = model.KeyMissing column
+refusal_of (KeyEmpty column) = model.KeyEmpty column
+refusal_of (ValueTooLong column) = model.ValueTooLong column
+refusal_of TimestampRange = model.TimestampRange
+refusal_of ClockSpent = model.ClockSpent
+refusal_of (TooMany limit) = limit_of limit
 refusal_of ScriptEnds = model.ScriptEnds
 refusal_of NotBuilt = model.NotBuilt

@@ -1,14 +1,48 @@
--- The tables, and where one stands among them.
-use Rattle.std.specs.Prelude.{◌≡◌, ◌<◌, ℕ, List, Option, None, Some, length, slice_get, slice_set}
-use Rattle.sasi_model.specs.State.{State, Table, table_of, with_table}
-use Rattle.sasi_machine.specs.declared.tables.Tables.{Tables}
+-- Tables, of their definitions and of what they hold.
+use Rattle.std.specs.Prelude.{◌≡◌, ℕ, ◌-◌, ◌<◌, ◌≤◌, List, [], ◌∷◌, length, slice_get, slice_set, Some, unwrap_or, ⊤}
+use Rattle.std.specs.FinMap as map_
+use Rattle.sasi_types.specs.declared.partitioner.Partitioner.{Partitioner}
+use Rattle.sasi_cells.specs.Rows.{IsStored}
+use Rattle.sasi_model.specs.Cells.{empty_partition, merge}
+use Rattle.sasi_model.specs.State.{Definition, State, Table, greatest_among, key_type}
+use Rattle.sasi_model.specs.Refusals.{TIME_LIMIT}
+use Rattle.sasi_machine.specs.Contents.{Contents}
+use Rattle.sasi_machine.specs.declared.write.Write.{Write}
 
--- the state that they are
-abbrev pub state_of : Tables → State
-state_of tables = record { partitioner = tables.partitioner; tables = tables.items.items }
+abbrev pub table_with : Definition → Contents → Table
+table_with d c = record { definition = d; partitions = c.partitions }
 
--- the table of the name stands there, and to change it is to write there; or no table has the name
-abbrev pub IsTableAt : List ℕ → List Table → Option ℕ → Type 0
-IsTableAt name tables None = table_of name tables ≡ None
-IsTableAt name tables (Some at) = (at < length tables) × (table_of name tables ≡ slice_get tables at)
-    × ((change : Table → Table) (t : Table) → slice_get tables at ≡ Some t → with_table name change tables ≡ slice_set tables at (change t))
+abbrev pub tables_of : List Definition → List Contents → List Table
+tables_of [] contents = []
+tables_of (d ∷ ds) [] = []
+tables_of (d ∷ ds) (c ∷ cs) = table_with d c ∷ tables_of ds cs
+
+abbrev pub state_of : Partitioner → List Definition → List Contents → State
+state_of partitioner ds cs = record { partitioner = partitioner; tables = tables_of ds cs }
+
+-- there are contents of each table, with keys of its key's type
+abbrev pub AreContents : List Definition → List Contents → Type 0
+AreContents [] [] = ⊤
+AreContents [] (c ∷ cs) = ⊥
+AreContents (d ∷ ds) [] = ⊥
+AreContents (d ∷ ds) (c ∷ cs) = (c.kind ≡ key_type d) × AreContents ds cs
+
+-- the same, and the greatest time that they hold is known
+pub record IsKept (tables : List Definition) (contents : List Contents) (greatest : ℕ) : Type 0 where
+  pub held : AreContents tables contents
+  pub greatest_is : greatest ≡ greatest_among (tables_of tables contents)
+  pub limit : greatest ≤ TIME_LIMIT
+
+-- the contents after a write
+abbrev pub written : Write → Contents → Contents
+written write c = record c { partitions = map_.insert c.partitions write.place (merge (unwrap_or (map_.get c.partitions write.place) empty_partition) write.change) }
+
+-- the table of the write is there, and its keys are of the write's type
+pub record IsRoomFor (contents : List Contents) (write : Write) : Type 0 where
+  pub some : 0 < write.table
+  pub inside : write.table ≤ length contents
+  pub stored : (c : Contents) → slice_get contents (write.table - 1) ≡ Some c → IsStored c.kind write.place.key
+
+-- the contents of its table are those after the write
+abbrev pub IsWrittenAt : List Contents → Write → List Contents → Type 0
+IsWrittenAt old write new = (c : Contents) → slice_get old (write.table - 1) ≡ Some c → new ≡ slice_set old (write.table - 1) (written write c)

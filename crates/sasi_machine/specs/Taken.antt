@@ -1,12 +1,10 @@
 -- What a statement leaves.
 use Rattle.std.specs.Prelude.{◌≡◌, ◌++◌, ℕ, List, Option, None, Some}
-use Rattle.sasi_types.specs.declared.literal.Literal.{Literal}
-use Rattle.sasi_types.specs.declared.partitioner.Partitioner.{Partitioner}
 use Rattle.sasi_types.specs.declared.statement.Statement.{Statement}
-use Rattle.sasi_model.specs.State.{State, Table, place_of}
-use Rattle.sasi_model.specs.Refusals.{Says, NotBuilt}
-use Rattle.sasi_model.specs.Lines.{ok_line, refusal_line}
-use Rattle.sasi_model.specs.Step.{Stepped, step_as, put_at}
+use Rattle.sasi_model.specs.State.{State}
+use Rattle.sasi_model.specs.Refusals.{Refusal, Says}
+use Rattle.sasi_model.specs.Lines.{refusal_line}
+use Rattle.sasi_model.specs.Step.{Stepped, step_as}
 use Rattle.sasi_machine.specs.Outcome.{outcome_of}
 use Rattle.sasi_machine.specs.declared.outcome.Outcome.{Outcome}
 
@@ -20,9 +18,12 @@ pub record Follows (stepped : Stepped) (state : State) (reply_old reply_new : Li
 abbrev pub Takes : State → Statement → State → List ℕ → List ℕ → Outcome → Type 0
 Takes s statement = Follows (step_as s (Says statement))
 
--- a table took a row under the key that it accepted, or it accepted none, and the INSERT was refused
-abbrev pub TakesRow : Option (List ℕ) → Partitioner → List (List ℕ) → List Literal → Table → Table → List ℕ → List ℕ → Outcome → Type 0
-TakesRow None partitioner names values old new reply_old reply_new outcome =
-    (new ≡ old) × (reply_new ≡ reply_old ++ refusal_line NotBuilt) × (outcome ≡ outcome_of (Some NotBuilt))
-TakesRow (Some key) partitioner names values old new reply_old reply_new outcome =
-    (new ≡ put_at (place_of partitioner key) names values old) × (reply_new ≡ reply_old ++ ok_line) × (outcome ≡ outcome_of None)
+-- a refusal was replied
+abbrev pub IsRefused : Option Refusal → List ℕ → List ℕ → Outcome → Type 0
+IsRefused None reply_old reply_new outcome = ⊥
+IsRefused (Some r) reply_old reply_new outcome = (reply_new ≡ reply_old ++ refusal_line r) × (outcome ≡ outcome_of (Some r))
+
+-- an answer was replied, or a refusal
+abbrev pub IsAnswered : Option Refusal → List ℕ → List ℕ → List ℕ → Outcome → Type 0
+IsAnswered None answer reply_old reply_new outcome = (reply_new ≡ reply_old ++ answer) × (outcome ≡ outcome_of None)
+IsAnswered (Some r) answer reply_old reply_new outcome = (reply_new ≡ reply_old ++ refusal_line r) × (outcome ≡ outcome_of (Some r))

@@ -1,21 +1,33 @@
-// The plain machine: tables in memory, and one piece at a time with its reply. It stands on the parser, and promises that
-// each piece leaves the state, the reply and the refusal that the model's step says.
+// The plain machine: tables in memory, and one piece at a time with its reply. It stands on the parser, the schema and
+// the cells, and promises that each piece leaves the state, the reply and the refusal that the model's step says.
 #![tactic(auto)]
 
-mod execute;
-mod given;
+mod change;
+mod check;
+mod collect;
+mod fault;
+mod holding;
+mod literal_rule;
+mod literals;
 mod machine;
-mod names;
+mod merging;
+mod name_rule;
 mod outcome;
+mod picking;
+mod place;
+mod plan;
 pub mod print;
+mod query;
 mod read;
 mod refusal;
-mod row;
+mod refuse;
 mod rows;
-mod table;
-mod tables;
+mod target;
 #[cfg(test)]
 mod tests;
+mod time;
+mod write;
+mod writer;
 
 pub use machine::Machine;
 pub use outcome::Outcome;

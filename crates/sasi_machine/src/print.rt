@@ -1,17 +1,23 @@
 // Replies, and the lines that they are made of.
-ghost use Rattle.std.specs.Prelude.{◌≡◌, ◌++◌, [], OnOk};
-ghost use Rattle.sasi_model.specs.Lines.{ok_line, row_line, count_line, refusal_line, refusal_text, value_printed, text_printed};
+ghost use Rattle.std.specs.Prelude.{◌≡◌, ◌≢◌, ◌++◌, ℕ, [], codes, OnOk};
+ghost use Rattle.std.specs.List.{flat_map};
+ghost use Rattle.std.specs.Fmt.{decimal, signed_decimal};
+ghost use Rattle.uuid.specs.Text.{hyphenated_text, lower};
+ghost use Rattle.sasi_model.specs.Lines.{ok_line, row_line, count_line, joined, printed, refusal_line, refusal_text, text_printed, value_printed};
 ghost use Rattle.sasi_machine.specs.Refusal.{refusal_of};
+ghost use Rattle.sasi_machine.specs.declared.refusal.Refusal.TheVariants.{NotUtf8};
 
 use crate::Refusal;
-use sasi_types::{Place, Row, Text};
+use itoa::{Buffer, Integer};
+use sasi_schema::Limit;
+use sasi_types::{Row, Value};
 use std::alloc::{AllocError, Global};
 use std::marker::Model;
+use uuid::Uuid;
 
 /// The reply to a piece, seen as its bytes. After a call that fails it may hold a part of the line: clear it.
 #[derive(Drop)]
 pub struct Reply {
-    alloc: Global,
     bytes: Vec<u8>,
 }
 
@@ -29,7 +35,6 @@ impl Reply {
         ensures { result ≡ [] }
     {
         Reply {
-            alloc,
             bytes: Vec::new(alloc),
         }
     }
@@ -56,20 +61,21 @@ impl Reply {
         Ok(())
     }
 
-    /// Adds the line of a row: its key, and then its values.
-    pub fn row(&mut self, place: &Place, row: &Row) -> Result<(), AllocError>
-        ensures ok { OnOk result (self.new ≡ self.old ++ row_line (place.now, row.now)) }
+    /// Adds the line of a row.
+    pub fn row(&mut self, row: &Row) -> Result<(), AllocError>
+        ensures ok { OnOk result (self.new ≡ self.old ++ row_line row.now) }
     {
-        push_row(&mut self.bytes, place, row)
+        push_values(&mut self.bytes, row.values())?;
+        self.bytes.push(b'\n')?;
+        Ok(())
     }
 
     /// Adds the line that says how many rows there are.
-    pub fn count(&mut self, rows: usize) -> Result<(), AllocError>
+    pub fn count(&mut self, rows: u64) -> Result<(), AllocError>
         ensures ok { OnOk result (self.new ≡ self.old ++ count_line rows) }
     {
-        let number = rows.to_string(self.alloc)?;
         self.bytes.push(b'(')?;
-        self.bytes.extend_from_slice(number.as_bytes())?;
+        push_number(&mut self.bytes, rows)?;
         self.bytes.extend_from_slice(b" rows)\n")?;
         Ok(())
     }
@@ -78,9 +84,8 @@ impl Reply {
     pub fn refusal(&mut self, refusal: &Refusal) -> Result<(), AllocError>
         ensures ok { OnOk result (self.new ≡ self.old ++ refusal_line (refusal_of refusal.now)) }
     {
-        let number = refusal.number().to_string(self.alloc)?;
         self.bytes.extend_from_slice(b"error ")?;
-        self.bytes.extend_from_slice(number.as_bytes())?;
+        push_number(&mut self.bytes, refusal.number())?;
         self.bytes.push(b' ')?;
         push_reason(&mut self.bytes, refusal)?;
         self.bytes.push(b'\n')?;
@@ -88,10 +93,23 @@ impl Reply {
     }
 }
 
+// Adds a number in decimal.
+fn push_number<I: Integer>(reply: &mut Vec<u8>, number: I) -> Result<(), AllocError>
+    ensures ok { OnOk result (reply.new.items ≡ reply.old.items ++ I.text number) }
+{
+    let mut buffer = Buffer::new();
+    reply.extend_from_slice(buffer.format(number).as_bytes())?;
+    Ok(())
+}
+
 // Adds what stands behind the number of a refusal.
 fn push_reason(reply: &mut Vec<u8>, refusal: &Refusal) -> Result<(), AllocError>
     ensures ok { OnOk result (reply.new.items ≡ reply.old.items ++ refusal_text (refusal_of refusal.now)) }
 {
+    if let Refusal::NotUtf8(place) = refusal {
+        reply.extend_from_slice(b"NotUtf8 at ")?;
+        return push_number(reply, *place);
+    }
     let (reason, name) = reason_of(refusal);
     reply.extend_from_slice(reason)?;
     reply.extend_from_slice(name)?;
@@ -100,11 +118,24 @@ fn push_reason(reply: &mut Vec<u8>, refusal: &Refusal) -> Result<(), AllocError>
 
 // The name of a refusal, and the name that it is about.
 fn reason_of(refusal: &Refusal) -> (&[u8], &[u8])
-    ensures { result.0.now ++ result.1.now ≡ refusal_text (refusal_of refusal.now) }
+    ensures { ((place : ℕ) → refusal.now ≢ NotUtf8 place) → result.0.now ++ result.1.now ≡ refusal_text (refusal_of refusal.now) }
 {
     match refusal {
+        Refusal::StatementTooLong => (b"StatementTooLong 1048576", b""),
+        Refusal::NotUtf8(_) => (b"NotUtf8", b""),
         Refusal::NoTable(name) => (b"NoTable ", name.bytes()),
         Refusal::TableExists(name) => (b"TableExists ", name.bytes()),
+        Refusal::NoColumn(name) => (b"NoColumn ", name.bytes()),
+        Refusal::ColumnRepeated(name) => (b"ColumnRepeated ", name.bytes()),
+        Refusal::WrongType(name) => (b"WrongType ", name.bytes()),
+        Refusal::NumberRange(name) => (b"NumberRange ", name.bytes()),
+        Refusal::KeyMissing(name) => (b"KeyMissing ", name.bytes()),
+        Refusal::KeyEmpty(name) => (b"KeyEmpty ", name.bytes()),
+        Refusal::ValueTooLong(name) => (b"ValueTooLong ", name.bytes()),
+        Refusal::TimestampRange => (b"TimestampRange", b""),
+        Refusal::ClockSpent => (b"ClockSpent", b""),
+        Refusal::TooMany(Limit::Tables) => (b"TooMany tables 256", b""),
+        Refusal::TooMany(Limit::Columns) => (b"TooMany columns 64", b""),
         Refusal::ScriptEnds => (b"Unfinished", b""),
         Refusal::NotBuilt => (b"NotBuilt", b""),
     }
@@ -125,26 +156,51 @@ fn push_text(reply: &mut Vec<u8>, text: &[u8]) -> Result<(), AllocError>
     Ok(())
 }
 
-fn push_value(reply: &mut Vec<u8>, value: &Option<Text>) -> Result<(), AllocError>
-    ensures ok { OnOk result (reply.new.items ≡ reply.old.items ++ value_printed value.now) }
+// Adds a uuid, hyphenated and in lower case.
+fn push_uuid(reply: &mut Vec<u8>, bytes: [u8; 16]) -> Result<(), AllocError>
+    ensures ok { OnOk result (reply.new.items ≡ reply.old.items ++ hyphenated_text lower bytes) }
+{
+    let mut buffer = Uuid::encode_buffer();
+    let text = Uuid::from_bytes(bytes)
+        .hyphenated()
+        .encode_lower(&mut buffer);
+    reply.extend_from_slice(text.as_bytes())?;
+    Ok(())
+}
+
+fn push_value(reply: &mut Vec<u8>, value: &Option<Value>) -> Result<(), AllocError>
+    ensures ok { OnOk result (reply.new.items ≡ reply.old.items ++ printed value.now) }
 {
     match value {
         None => {
             reply.extend_from_slice(b"null")?;
             Ok(())
         }
-        Some(text) => push_text(reply, text.bytes()),
+        Some(Value::Text(text)) => push_text(reply, text.bytes()),
+        Some(Value::Int(number)) => push_number(reply, *number),
+        Some(Value::BigInt(number)) => push_number(reply, *number),
+        Some(Value::Uuid(bytes)) => push_uuid(reply, *bytes),
     }
 }
 
-fn push_row(reply: &mut Vec<u8>, place: &Place, row: &Row) -> Result<(), AllocError>
-    ensures ok { OnOk result (reply.new.items ≡ reply.old.items ++ row_line (place.now, row.now)) }
+// Adds the values of a row.
+fn push_values(reply: &mut Vec<u8>, values: &[Option<Value>]) -> Result<(), AllocError>
+    ensures ok { OnOk result (reply.new.items ≡ reply.old.items ++ joined values.now) }
 {
-    push_text(reply, place.key.bytes())?;
-    for value in row.values() {
+    let [first, others @ ..] = values else {
+        return Ok(());
+    };
+    push_value(reply, first)?;
+    push_others(reply, others)
+}
+
+// Adds the values behind the first.
+fn push_others(reply: &mut Vec<u8>, values: &[Option<Value>]) -> Result<(), AllocError>
+    ensures ok { OnOk result (reply.new.items ≡ reply.old.items ++ flat_map (λ value. codes " | " ++ printed value) values.now) }
+{
+    for value in values {
         reply.extend_from_slice(b" | ")?;
         push_value(reply, value)?;
     }
-    reply.push(b'\n')?;
     Ok(())
 }

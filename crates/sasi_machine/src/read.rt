@@ -25,8 +25,7 @@ pub fn read(alloc: Global, piece: &[u8], end: PieceEnd) -> Result<Reading, Alloc
 {
     match end {
         PieceEnd::Whole => read_whole(alloc, piece),
-        PieceEnd::TooLong { finished: true } => Ok(Reading::Bad(Refusal::NotBuilt)),
-        PieceEnd::TooLong { finished: false } => Ok(Reading::Bad(Refusal::ScriptEnds)),
+        PieceEnd::TooLong { .. } => Ok(Reading::Bad(Refusal::StatementTooLong)),
         PieceEnd::Unfinished => Ok(Reading::Bad(Refusal::ScriptEnds)),
     }
 }
@@ -38,8 +37,9 @@ fn read_whole(alloc: Global, piece: &[u8]) -> Result<Reading, AllocError>
     if piece == b";".as_slice() {
         return Ok(Reading::Nothing);
     }
-    let Ok(text) = str::from_utf8(piece) else {
-        return Ok(Reading::Bad(Refusal::NotBuilt));
+    let text = match str::from_utf8(piece) {
+        Ok(text) => text,
+        Err(error) => return Ok(Reading::Bad(Refusal::NotUtf8(error.valid_up_to()))),
     };
     match parse(alloc, text) {
         Ok(statement) => Ok(Reading::Says(statement)),

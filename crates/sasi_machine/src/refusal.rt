@@ -2,13 +2,27 @@
 ghost use Rattle.std.specs.Prelude.{◌≡◌};
 ghost use Rattle.sasi_model.specs.Lines.{number_of};
 
+use sasi_schema::Limit;
 use sasi_types::Name;
 
 /// Why a piece is refused.
 #[derive(Debug, Drop)]
 pub enum Refusal {
+    StatementTooLong,
+    /// The length of the longest front that is UTF-8.
+    NotUtf8(usize),
     NoTable(Name),
     TableExists(Name),
+    NoColumn(Name),
+    ColumnRepeated(Name),
+    WrongType(Name),
+    NumberRange(Name),
+    KeyMissing(Name),
+    KeyEmpty(Name),
+    ValueTooLong(Name),
+    TimestampRange,
+    ClockSpent,
+    TooMany(Limit),
     ScriptEnds,
     NotBuilt,
 }
@@ -21,8 +35,20 @@ impl Refusal {
         ensures { result ≡ number_of (refusal_of self.now) }
     {
         match self {
+            Refusal::StatementTooLong => 2,
+            Refusal::NotUtf8(_) => 3,
             Refusal::NoTable(_) => 4,
             Refusal::TableExists(_) => 5,
+            Refusal::NoColumn(_) => 6,
+            Refusal::ColumnRepeated(_) => 7,
+            Refusal::WrongType(_) => 8,
+            Refusal::NumberRange(_) => 9,
+            Refusal::KeyMissing(_) => 10,
+            Refusal::KeyEmpty(_) => 11,
+            Refusal::ValueTooLong(_) => 12,
+            Refusal::TimestampRange => 20,
+            Refusal::ClockSpent => 21,
+            Refusal::TooMany(_) => 24,
             Refusal::ScriptEnds => 25,
             Refusal::NotBuilt => 90,
         }

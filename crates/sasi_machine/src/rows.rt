@@ -1,76 +1,109 @@
-// The rows of a table, in the order of their places.
-ghost use Rattle.std.specs.Prelude.{◌≡◌, ◌++◌, OnOk, OnErr};
+// The partitions of a table, in the order of their places.
+ghost use Rattle.std.specs.Prelude.{◌≡◌, ◌++◌, ◌∷◌, [], length, unwrap_or, IfOk, OnOk, OnErr};
 ghost use Rattle.std.specs.BTreeMap.{IsOrdered};
 ghost use Rattle.std.specs.FinMap as map;
-ghost use Rattle.std.specs.Option.{option_copied};
+ghost use Rattle.std.specs.List.{flat_map};
 ghost use Rattle.sasi_types.specs.Place.{place_cmp};
-ghost use Rattle.sasi_model.specs.Lines.{rows_lines};
+ghost use Rattle.sasi_cells.specs.Rows.{IsStored};
+ghost use Rattle.sasi_model.specs.Cells.{empty_partition, merge};
+ghost use Rattle.sasi_model.specs.Lines.{row_line, rows_lines};
+ghost use Rattle.sasi_machine.specs.Contents.{KeysStored, rows_picked};
 
 use crate::Reply;
-use sasi_types::{Place, Row};
+use crate::merging::merge_at;
+use sasi_cells::{Partition, Picked};
+use sasi_types::{ColumnType, Place};
 use std::alloc::{AllocError, Global};
 use std::collections::BTreeMap;
 use std::marker::Model;
 
-/// The rows of a table, seen as a finite map from their places.
+/// What a table holds: its partitions, seen as a finite map from their places, with the type of their keys.
 #[derive(Drop)]
 pub struct Rows {
-    items: BTreeMap<Place, Row>,
+    alloc: Global,
+    kind: ColumnType,
+    partitions: BTreeMap<Place, Partition>,
 }
 
 impl Model for Rows {
     ghost use Rattle.std.specs.FinMap as map;
-    ghost use Rattle.sasi_model.specs.State.{Rows, coded_rows};
+    ghost use Rattle.sasi_machine.specs.Contents.{Contents, KeysStored, coded_contents};
 
-    ghost Value = { Rows };
+    ghost Value = { Contents };
 
-    ghost coded = { coded_rows };
+    ghost coded = { coded_contents };
 
-    ghost view = { λ a. map.from_entries a.items.entries };
+    ghost view = { λ a. record { kind = a.kind; partitions = map.from_entries a.partitions.entries } };
+
+    ghost invariant = { λ a. KeysStored a.kind a.partitions.entries };
 }
 
 impl Rows {
-    /// No rows.
-    pub fn new(alloc: Global) -> Rows
-        ensures { result ≡ map.empty }
+    /// No partitions; the keys are to be of this type.
+    pub fn new(alloc: Global, kind: ColumnType) -> Rows
+        ensures { result ≡ record { kind = kind; partitions = map.empty } }
     {
         Rows {
-            items: BTreeMap::new(alloc),
+            alloc,
+            kind,
+            partitions: BTreeMap::new(alloc),
         }
     }
 
-    /// The row at a place.
-    pub fn get(&self, place: &Place) -> Option<&Row>
-        ensures { option_copied result ≡ map.get self.now place.now }
-    {
-        self.items.get(place)
-    }
-
-    /// Puts a row at its place. Only a new place can fail.
-    pub fn put(&mut self, place: Place, row: Row) -> Result<(), AllocError>
-        ensures ok { OnOk result (self.new ≡ map.insert self.old place row) }
+    /// Merges a change into the partition at a place. The key has to be a value of the type.
+    pub fn merge(&mut self, place: Place, change: Partition) -> Result<(), AllocError>
+        requires { IsStored self.old.kind place.key }
+        ensures ok { OnOk result (self.new ≡ record self.old { partitions = map.insert self.old.partitions place (merge (unwrap_or (map.get self.old.partitions place) empty_partition) change) }) }
         ensures err { OnErr result (self.new ≡ self.old) }
     {
-        self.items.insert(place, row)?;
-        Ok(())
+        merge_at(self.alloc, &mut self.partitions, place, change)
     }
 
-    /// Prints the rows, in the order of their places, and how many there are.
-    pub fn print(&self, reply: &mut Reply) -> Result<(), AllocError>
-        ensures ok { OnOk result (reply.new ≡ reply.old ++ rows_lines (map.entries self.now)) }
+    /// Prints the rows that are there, in the order of their places, and how many they are.
+    pub fn print(&self, picked: &Picked, reply: &mut Reply) -> Result<(), AllocError>
+        requires { picked.now.key ≡ self.now.kind }
+        ensures ok { OnOk result (reply.new ≡ reply.old ++ rows_lines (rows_picked self.now.kind picked.now.columns (map.entries self.now.partitions))) }
     {
-        print_entries(&self.items, reply)
+        print_entries(self.alloc, &self.partitions, picked, reply)
     }
 }
 
 // The rows are printed as they stand in the tree, which is in the order of their places.
-fn print_entries(rows: &BTreeMap<Place, Row>, reply: &mut Reply) -> Result<(), AllocError>
-    ensures ok { OnOk result (reply.new ≡ reply.old ++ rows_lines rows.now.entries) }
-    ensures ordered { IsOrdered place_cmp rows.now }
+fn print_entries(
+    alloc: Global,
+    partitions: &BTreeMap<Place, Partition>,
+    picked: &Picked,
+    reply: &mut Reply,
+) -> Result<(), AllocError>
+    requires { KeysStored picked.now.key partitions.now.entries }
+    ensures ok { OnOk result (reply.new ≡ reply.old ++ rows_lines (rows_picked picked.now.key picked.now.columns partitions.now.entries)) }
+    ensures ordered { IsOrdered place_cmp partitions.now }
 {
-    let count = rows.len();
-    for (place, row) in rows {
-        reply.row(place, row)?;
+    let _most = partitions.len();
+    let mut rows = 0u64;
+    for (place, partition) in partitions {
+        rows += print_row(alloc, place, partition, picked, reply)?;
     }
-    reply.count(count)
+    reply.count(rows)
+}
+
+// Prints a row, if it is there, and gives how many that are.
+fn print_row(
+    alloc: Global,
+    place: &Place,
+    partition: &Partition,
+    picked: &Picked,
+    reply: &mut Reply,
+) -> Result<u64, AllocError>
+    requires { IsStored picked.now.key place.now.key }
+    ensures reply { OnOk result (reply.new ≡ reply.old ++ flat_map row_line (rows_picked picked.now.key picked.now.columns ((place.now, partition.now) ∷ []))) }
+    ensures rows { IfOk result (λ rows. rows ≡ length (rows_picked picked.now.key picked.now.columns ((place.now, partition.now) ∷ []))) }
+{
+    match partition.row(alloc, &place.key, picked)? {
+        Some(row) => {
+            reply.row(&row)?;
+            Ok(1)
+        }
+        None => Ok(0),
+    }
 }

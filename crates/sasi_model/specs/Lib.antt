@@ -1,7 +1,9 @@
 pub mod Pieces
 pub mod Tokens
 pub mod Statements
+pub mod Cells
 pub mod State
 pub mod Refusals
 pub mod Lines
 pub mod Step
+pub mod Codes

@@ -1,10 +1,12 @@
--- The lines that are replied. A text is printed in single quotes with its quotes doubled, and a missing value as null.
+-- The lines that are replied. A text is printed in single quotes with its quotes doubled, a number in decimal, a uuid
+-- hyphenated in lower case, and a missing value as null.
 use Rattle.std.specs.Prelude.{ℕ, ◌==◌, if◌then◌else◌, codes, List, [], ◌∷◌, ◌++◌, length, Option, None, Some}
 use Rattle.std.specs.List.{flat_map}
-use Rattle.std.specs.Fmt.{decimal}
-use Rattle.sasi_types.specs.declared.place.Place.{Place}
-use Rattle.sasi_model.specs.State.{Row}
-use Rattle.sasi_model.specs.Refusals.{Refusal, NoTable, TableExists, ScriptEnds, NotBuilt}
+use Rattle.std.specs.Fmt.{decimal, signed_decimal}
+use Rattle.uuid.specs.Text.{hyphenated_text, lower}
+use Rattle.sasi_types.specs.declared.value.Value.{Value}
+use Rattle.sasi_types.specs.declared.value.Value.TheVariants.{Text, Int, BigInt, Uuid}
+use Rattle.sasi_model.specs.Refusals.{Refusal, StatementTooLong, NotUtf8, NoTable, TableExists, NoColumn, ColumnRepeated, WrongType, NumberRange, KeyMissing, KeyEmpty, ValueTooLong, TimestampRange, ClockSpent, TooManyTables, TooManyColumns, ScriptEnds, NotBuilt}
 
 abbrev pub line : List ℕ → List ℕ
 line text = text ++ 10 ∷ []
@@ -21,32 +23,68 @@ printed_byte b = if b == 39 then 39 ∷ 39 ∷ [] else b ∷ []
 abbrev pub text_printed : List ℕ → List ℕ
 text_printed text = 39 ∷ flat_map printed_byte text ++ 39 ∷ []
 
-abbrev pub value_printed : Option (List ℕ) → List ℕ
-value_printed None = codes "null"
-value_printed (Some text) = text_printed text
+abbrev pub value_printed : Value → List ℕ
+value_printed (Text text) = text_printed text
+value_printed (Int number) = signed_decimal number
+value_printed (BigInt number) = signed_decimal number
+value_printed (Uuid bytes) = hyphenated_text lower bytes
 
--- the key and the values of a row
-abbrev pub row_line : Place × Row → List ℕ
-row_line entry = line (text_printed entry.0.key ++ flat_map (λ value. codes " | " ++ value_printed value) entry.1)
+abbrev pub printed : Option Value → List ℕ
+printed None = codes "null"
+printed (Some value) = value_printed value
+
+-- values with ` | ` between them
+abbrev pub joined : List (Option Value) → List ℕ
+joined [] = []
+joined (value ∷ values) = printed value ++ flat_map (λ next. codes " | " ++ printed next) values
+
+abbrev pub row_line : List (Option Value) → List ℕ
+row_line values = line (joined values)
 
 abbrev pub count_line : ℕ → List ℕ
 count_line rows = line (codes "(" ++ decimal rows ++ codes " rows)")
 
-abbrev pub rows_lines : List (Place × Row) → List ℕ
-rows_lines entries = flat_map row_line entries ++ count_line (length entries)
+abbrev pub rows_lines : List (List (Option Value)) → List ℕ
+rows_lines rows = flat_map row_line rows ++ count_line (length rows)
 
 -- ---- refusals
 
 abbrev pub number_of : Refusal → ℕ
+number_of StatementTooLong = 2
+number_of (NotUtf8 place) = 3
 number_of (NoTable name) = 4
 number_of (TableExists name) = 5
+number_of (NoColumn name) = 6
+number_of (ColumnRepeated name) = 7
+number_of (WrongType column) = 8
+number_of (NumberRange column) = 9
+number_of (KeyMissing column) = 10
+number_of (KeyEmpty column) = 11
+number_of (ValueTooLong column) = 12
+number_of TimestampRange = 20
+number_of ClockSpent = 21
+number_of TooManyTables = 24
+number_of TooManyColumns = 24
 number_of ScriptEnds = 25
 number_of NotBuilt = 90
 
 -- the name of a refusal, and its detail
 abbrev pub refusal_text : Refusal → List ℕ
+refusal_text StatementTooLong = codes "StatementTooLong 1048576"
+refusal_text (NotUtf8 place) = codes "NotUtf8 at " ++ decimal place
 refusal_text (NoTable name) = codes "NoTable " ++ name
 refusal_text (TableExists name) = codes "TableExists " ++ name
+refusal_text (NoColumn name) = codes "NoColumn " ++ name
+refusal_text (ColumnRepeated name) = codes "ColumnRepeated " ++ name
+refusal_text (WrongType column) = codes "WrongType " ++ column
+refusal_text (NumberRange column) = codes "NumberRange " ++ column
+refusal_text (KeyMissing column) = codes "KeyMissing " ++ column
+refusal_text (KeyEmpty column) = codes "KeyEmpty " ++ column
+refusal_text (ValueTooLong column) = codes "ValueTooLong " ++ column
+refusal_text TimestampRange = codes "TimestampRange"
+refusal_text ClockSpent = codes "ClockSpent"
+refusal_text TooManyTables = codes "TooMany tables 256"
+refusal_text TooManyColumns = codes "TooMany columns 64"
 refusal_text ScriptEnds = codes "Unfinished"
 refusal_text NotBuilt = codes "NotBuilt"
 

@@ -1,20 +1,40 @@
--- Which pieces are refused, and how. A piece is read first; then the rules of its statement are tried in their order, and
--- the first that applies is the refusal.
-use Rattle.std.specs.Prelude.{ℕ, Bool, true, false, not, ◌==◌, nat_lt, nat_le, ◌||◌, if◌then◌else◌, List, [], ◌∷◌, length, map, Option, None, Some, is_some, is_none}
-use Rattle.std.specs.List.{list_all, list_any}
+-- Which pieces are refused, and how. A piece is read first; then the rules of its statement are tried, and the first that
+-- applies is the refusal. The rules stand in the order of their numbers, and those of one number in the order of the text.
+use Rattle.std.specs.Prelude.{ℕ, pos, negsuc, ◌-◌, ◌^◌, Bool, true, false, not, ◌==◌, nat_lt, nat_le, ◌||◌, ◌&&◌, if◌then◌else◌, List, [], ◌∷◌, ◌++◌, length, map, Option, None, Some, is_some}
+use Rattle.std.specs.List.{list_any, zip}
+use Rattle.std.specs.Prelude.{int_le}
 use Rattle.std.specs.Str.{is_utf8}
+use Rattle.std.specs.Str.Lossy.{utf8_valid_len}
+use Rattle.sasi_types.specs.declared.column.ColumnType.{ColumnType}
+use Rattle.sasi_types.specs.declared.column.ColumnType.TheVariants as types
 use Rattle.sasi_types.specs.declared.literal.Literal.{Literal}
-use Rattle.sasi_types.specs.declared.literal.Literal.TheVariants as literals
+use Rattle.sasi_types.specs.declared.literal.Literal.TheVariants.{Text, Number as Integer, Uuid, Null}
+use Rattle.sasi_types.specs.declared.literal.Number.{Number}
+use Rattle.sasi_types.specs.declared.literal.Number.TheVariants.{Fits, Wide}
 use Rattle.sasi_types.specs.declared.statement.Statement.{Statement}
-use Rattle.sasi_types.specs.declared.statement.Statement.TheVariants.{CreateTable, Insert, Query}
+use Rattle.sasi_types.specs.declared.statement.Statement.TheVariants.{CreateTable, Insert, Update, Delete, Query}
 use Rattle.sasi_model.specs.Pieces.{Piece, Whole, TooLong, Unfinished}
 use Rattle.sasi_model.specs.Tokens.{tokens}
 use Rattle.sasi_model.specs.Statements.{same, statement_of}
-use Rattle.sasi_model.specs.State.{State, Table, table_of}
+use Rattle.sasi_model.specs.State.{Column, State, Definition, definitions, definition_of, place_in, column_at, type_or_text, key_name, number_of_column, greatest}
 
 pub data Refusal : Type 0 where
+  StatementTooLong : Refusal
+  -- the length of the longest front that is UTF-8
+  NotUtf8 : ℕ → Refusal
   NoTable : List ℕ → Refusal
   TableExists : List ℕ → Refusal
+  NoColumn : List ℕ → Refusal
+  ColumnRepeated : List ℕ → Refusal
+  WrongType : List ℕ → Refusal
+  NumberRange : List ℕ → Refusal
+  KeyMissing : List ℕ → Refusal
+  KeyEmpty : List ℕ → Refusal
+  ValueTooLong : List ℕ → Refusal
+  TimestampRange : Refusal
+  ClockSpent : Refusal
+  TooManyTables : Refusal
+  TooManyColumns : Refusal
   ScriptEnds : Refusal
   NotBuilt : Refusal
 
@@ -31,6 +51,9 @@ COLUMN_LIMIT = 64
 abbrev pub TEXT_LIMIT : ℕ
 TEXT_LIMIT = 65535
 
+abbrev pub TIME_LIMIT : ℕ
+TIME_LIMIT = 2 ^ 62
+
 -- ---- reading a piece
 
 -- what a piece says, whatever the state
@@ -45,55 +68,176 @@ reading_of None = Bad NotBuilt
 reading_of (Some statement) = Says statement
 
 unfoldable pub read : Piece → Reading
+read (TooLong finished) = Bad StatementTooLong
 read Unfinished = Bad ScriptEnds
-read (TooLong finished) = Bad (if finished then NotBuilt else ScriptEnds)
-read (Whole text) = if same text (59 ∷ []) then Nothing else if is_utf8 text then reading_of (statement_of (tokens text)) else Bad NotBuilt
+read (Whole text) = if same text (59 ∷ []) then Nothing else if is_utf8 text then reading_of (statement_of (tokens text)) else Bad (NotUtf8 (utf8_valid_len text))
 
--- ---- the rules of a statement
-
--- a name stands in the list twice
-abbrev pub repeats : List (List ℕ) → Bool
-repeats [] = false
-repeats (name ∷ names) = list_any (same name) names || repeats names
-
-abbrev pub text_of : Literal → List ℕ
-text_of (literals.Text text) = text
-
--- the value that an INSERT gives a column, if it names it
-abbrev pub given : List ℕ → List (List ℕ) → List Literal → Option (List ℕ)
-given column [] values = None
-given column (name ∷ names) [] = None
-given column (name ∷ names) (value ∷ values) = if same column name then Some (text_of value) else given column names values
-
-abbrev pub is_column : Table → List ℕ → Bool
-is_column t name = same name t.key || list_any (same name) t.columns
-
-abbrev pub is_empty : Option (List ℕ) → Bool
-is_empty None = false
-is_empty (Some text) = length text == 0
+-- ---- rules
 
 -- a rule applies, and gives a refusal
 abbrev pub Rule : Type 0
 Rule = Bool × Refusal
-
-abbrev pub insert_rules : List ℕ → List (List ℕ) → List Literal → Option Table → List Rule
-insert_rules table columns values None = (true, NoTable table) ∷ []
-insert_rules table columns values (Some t) =
-    (not (list_all (is_column t) columns), NotBuilt) ∷ (repeats columns, NotBuilt) ∷ (is_none (given t.key columns values), NotBuilt)
-    ∷ (is_empty (given t.key columns values), NotBuilt) ∷ (list_any (λ v. nat_lt TEXT_LIMIT (length (text_of v))) values, NotBuilt) ∷ []
-
--- the rules of a statement, in their order
-abbrev pub rules : State → Statement → List Rule
-rules s (CreateTable table columns keys) =
-    (is_some (table_of table s.tables), TableExists table) ∷ (repeats (map (λ c. c.0) columns), NotBuilt) ∷ (nat_lt COLUMN_LIMIT (length columns), NotBuilt)
-    ∷ (nat_le TABLE_LIMIT (length s.tables), NotBuilt) ∷ []
-rules s (Insert table columns values) = insert_rules table columns values (table_of table s.tables)
-rules s (Query select) = (is_none (table_of select.table s.tables), NoTable select.table) ∷ []
 
 -- the first rule that applies
 abbrev pub first_of : List Rule → Option Refusal
 first_of [] = None
 first_of (rule ∷ others) = if rule.0 then Some rule.1 else first_of others
 
+-- a name that stands in the list before
+abbrev pub repeat_rules : List (List ℕ) → List (List ℕ) → List Rule
+repeat_rules before [] = []
+repeat_rules before (name ∷ names) = (list_any (same name) before, ColumnRepeated name) ∷ repeat_rules (before ++ name ∷ []) names
+
+-- ---- literals
+
+-- a literal of that type; NULL is of every type
+abbrev pub is_of : ColumnType → Literal → Bool
+is_of types.Text (Text text) = true
+is_of types.Int (Integer number) = true
+is_of types.BigInt (Integer number) = true
+is_of types.Uuid (Uuid bytes) = true
+is_of type Null = true
+is_of type literal = false
+
+abbrev pub is_null : Literal → Bool
+is_null Null = true
+is_null literal = false
+
+-- a number of so many bits in two's complement, and one more for the sign
+abbrev pub is_within : ℕ → Number → Bool
+is_within bits (Fits z) = int_le (negsuc (2 ^ bits - 1)) z && int_le z (pos (2 ^ bits - 1))
+is_within bits Wide = false
+
+-- a number outside the column's type
+abbrev pub is_out_of_range : ColumnType → Literal → Bool
+is_out_of_range types.Int (Integer number) = not (is_within 31 number)
+is_out_of_range types.BigInt (Integer number) = not (is_within 63 number)
+is_out_of_range type literal = false
+
+-- an empty text
+abbrev pub is_empty_text : ColumnType → Literal → Bool
+is_empty_text types.Text (Text text) = length text == 0
+is_empty_text type literal = false
+
+-- a text of more bytes than a value has
+abbrev pub is_long_text : ColumnType → Literal → Bool
+is_long_text types.Text (Text text) = nat_lt TEXT_LIMIT (length text)
+is_long_text type literal = false
+
+-- ---- columns with their literals
+
+-- the type of a column, if the table has it
+abbrev pub typed_at : Definition → Option ℕ → Option ColumnType
+typed_at d None = None
+typed_at d (Some place) = Some (type_or_text (column_at place d.columns))
+
+abbrev pub type_of_column : Definition → List ℕ → Option ColumnType
+type_of_column d name = typed_at d (place_in name d.columns)
+
+-- a test of the literal, at a column that is there
+abbrev pub tests : (ColumnType → Literal → Bool) → Option ColumnType → Literal → Bool
+tests test None literal = false
+tests test (Some type) literal = test type literal
+
+-- a rule for each column with its literal
+abbrev pub each : (List ℕ → Literal → Rule) → List (List ℕ × Literal) → List Rule
+each rule [] = []
+each rule (given ∷ others) = rule given.0 given.1 ∷ each rule others
+
+abbrev pub is_column : Definition → List ℕ → Bool
+is_column d name = is_some (number_of_column d name)
+
+abbrev pub is_key : Definition → List ℕ → Bool
+is_key d name = is_column d name && same name (key_name d)
+
+abbrev pub wrong_type : Definition → List ℕ → Literal → Rule
+wrong_type d name literal = (tests (λ type given. not (is_of type given)) (type_of_column d name) literal, WrongType name)
+
+-- the same in a WHERE, where NULL is of no type
+abbrev pub wrong_where : Definition → List ℕ → Literal → Rule
+wrong_where d name literal = (tests (λ type given. not (is_of type given) || is_null given) (type_of_column d name) literal, WrongType name)
+
+abbrev pub number_range : Definition → List ℕ → Literal → Rule
+number_range d name literal = (tests is_out_of_range (type_of_column d name) literal, NumberRange name)
+
+abbrev pub key_empty : Definition → List ℕ → Literal → Rule
+key_empty d name literal = (is_key d name && tests is_empty_text (type_of_column d name) literal, KeyEmpty name)
+
+abbrev pub value_too_long : Definition → List ℕ → Literal → Rule
+value_too_long d name literal = (tests is_long_text (type_of_column d name) literal, ValueTooLong name)
+
+abbrev pub no_column : Definition → List ℕ → Rule
+no_column d name = (not (is_column d name), NoColumn name)
+
+-- the name is no column, or the key
+abbrev pub no_regular_column : Definition → List ℕ → Rule
+no_regular_column d name = (not (is_column d name) || is_key d name, NoColumn name)
+
+-- ---- times
+
+abbrev pub is_time : Number → Bool
+is_time (Fits z) = int_le (pos 1) z && int_le z (pos TIME_LIMIT)
+is_time Wide = false
+
+-- the greatest time that the state holds is the first argument
+abbrev pub time_rules : ℕ → Option Number → List Rule
+time_rules greatest None = (greatest == TIME_LIMIT, ClockSpent) ∷ []
+time_rules greatest (Some time) = (not (is_time time), TimestampRange) ∷ []
+
+-- ---- the rules of each statement
+
+abbrev pub names_in : List Column → List (List ℕ)
+names_in columns = map (λ column. column.0) columns
+
+abbrev pub create_rules : List Definition → List ℕ → List Column → List (List ℕ) → List Rule
+create_rules tables table columns keys =
+    (is_some (definition_of table tables), TableExists table)
+    ∷ (map (λ key. (not (list_any (same key) (names_in columns)), NoColumn key)) keys ++ (repeat_rules [] (names_in columns)
+    ++ (length keys == 0, KeyMissing table) ∷ (nat_le TABLE_LIMIT (length tables), TooManyTables) ∷ (nat_lt COLUMN_LIMIT (length columns), TooManyColumns) ∷ []))
+
+-- a value for the key
+abbrev pub is_key_value : Definition → List ℕ → Literal → Bool
+is_key_value d name literal = is_key d name && not (is_null literal)
+
+-- an INSERT gives the key a value
+abbrev pub gives_key : Definition → List (List ℕ × Literal) → Bool
+gives_key d given = list_any (λ g. is_key_value d g.0 g.1) given
+
+abbrev pub insert_rules : ℕ → List ℕ → List (List ℕ) → List (List ℕ × Literal) → Option Number → Option Definition → List Rule
+insert_rules greatest table columns given time None = (true, NoTable table) ∷ []
+insert_rules greatest table columns given time (Some d) =
+    map (no_column d) columns ++ (repeat_rules [] columns ++ (each (wrong_type d) given ++ (each (number_range d) given
+    ++ (not (gives_key d given), KeyMissing (key_name d)) ∷ (each (key_empty d) given ++ (each (value_too_long d) given ++ time_rules greatest time)))))
+
+-- the WHERE of an UPDATE or a DELETE names a column that isn't the key
+abbrev pub other_key : Definition → List ℕ → Rule
+other_key d key = (is_column d key && not (is_key d key), KeyMissing (key_name d))
+
+abbrev pub update_rules : ℕ → List ℕ → List (List ℕ × Literal) → List ℕ → Literal → Option Number → Option Definition → List Rule
+update_rules greatest table sets key value time None = (true, NoTable table) ∷ []
+update_rules greatest table sets key value time (Some d) =
+    map (λ set. no_regular_column d set.0) sets ++ no_column d key ∷ (repeat_rules [] (map (λ set. set.0) sets)
+    ++ (each (wrong_type d) sets ++ wrong_where d key value ∷ (each (number_range d) sets ++ number_range d key value
+    ∷ other_key d key ∷ key_empty d key value ∷ (each (value_too_long d) sets ++ value_too_long d key value ∷ time_rules greatest time))))
+
+abbrev pub delete_rules : ℕ → List ℕ → List (List ℕ) → List ℕ → Literal → Option Number → Option Definition → List Rule
+delete_rules greatest table columns key value time None = (true, NoTable table) ∷ []
+delete_rules greatest table columns key value time (Some d) =
+    map (no_regular_column d) columns ++ no_column d key ∷ (repeat_rules [] columns ++ wrong_where d key value ∷ number_range d key value ∷ other_key d key
+    ∷ key_empty d key value ∷ value_too_long d key value ∷ time_rules greatest time)
+
+abbrev pub select_rules : List ℕ → Option (List (List ℕ)) → Option Definition → List Rule
+select_rules table columns None = (true, NoTable table) ∷ []
+select_rules table None (Some d) = []
+select_rules table (Some columns) (Some d) = map (no_column d) columns
+
+-- the rules where these tables are there, and this is the greatest time that is held
+abbrev pub rules : List Definition → ℕ → Statement → List Rule
+rules tables greatest (CreateTable table columns keys) = create_rules tables table columns keys
+rules tables greatest (Insert table columns values time) = insert_rules greatest table columns (zip columns values) time (definition_of table tables)
+rules tables greatest (Update table time sets key value) = update_rules greatest table sets key value time (definition_of table tables)
+rules tables greatest (Delete table columns time key value) = delete_rules greatest table columns key value time (definition_of table tables)
+rules tables greatest (Query select) = select_rules select.table select.columns (definition_of select.table tables)
+
 unfoldable pub refusal : State → Statement → Option Refusal
-refusal s statement = first_of (rules s statement)
+refusal s statement = first_of (rules (definitions s.tables) (greatest s) statement)

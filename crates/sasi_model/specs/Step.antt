@@ -1,69 +1,153 @@
--- One piece after another: the state that it leaves, and the reply. A refused piece leaves the state as it was.
-use Rattle.std.specs.Prelude.{ℕ, ◌+◌, List, [], ◌∷◌, ◌++◌, map, Option, None, Some, unwrap_or, is_some, if◌then◌else◌}
+-- One piece after another: the state that it leaves, and the reply. A write is merged into what stands at its key, and a
+-- refused piece leaves the state as it was.
+use Rattle.std.specs.Prelude.{ℕ, ◌+◌, ◌==◌, suc, zero, Bool, false, List, [], ◌∷◌, ◌++◌, length, map, Option, None, Some, unwrap_or, is_some, if◌then◌else◌}
+use Rattle.std.specs.List.{zip}
+use Rattle.std.specs.Int.{w32, w64, cast_signed, from_be_bytes}
+use Rattle.std.specs.Prelude.{unsigned_abs}
 use Rattle.std.specs.FinMap as map_
+use Rattle.sasi_types.specs.declared.cell.Cell.{Cell}
 use Rattle.sasi_types.specs.declared.column.ColumnType.{ColumnType}
+use Rattle.sasi_types.specs.declared.column.ColumnType.TheVariants as types
 use Rattle.sasi_types.specs.declared.literal.Literal.{Literal}
+use Rattle.sasi_types.specs.declared.literal.Literal.TheVariants as literals
+use Rattle.sasi_types.specs.declared.literal.Number.{Number}
+use Rattle.sasi_types.specs.declared.literal.Number.TheVariants.{Fits, Wide}
 use Rattle.sasi_types.specs.declared.partitioner.Partitioner.{Partitioner}
 use Rattle.sasi_types.specs.declared.place.Place.{Place}
+use Rattle.sasi_types.specs.declared.value.Value.{Value}
+use Rattle.sasi_types.specs.declared.value.Value.TheVariants.{Text, Int, BigInt, Uuid}
+use Rattle.sasi_types.specs.Value.{stored}
 use Rattle.sasi_types.specs.declared.statement.Statement.{Statement}
-use Rattle.sasi_types.specs.declared.statement.Statement.TheVariants.{CreateTable, Insert, Query}
+use Rattle.sasi_types.specs.declared.statement.Statement.TheVariants.{CreateTable, Insert, Update, Delete, Query}
 use Rattle.sasi_model.specs.Pieces.{Piece}
-use Rattle.sasi_model.specs.State.{Row, Table, State, place_of, table_of, with_table}
-use Rattle.sasi_model.specs.Refusals.{Refusal, Reading, Nothing, Says, Bad, read, given, refusal}
+use Rattle.sasi_model.specs.Cells.{Cells, Partition, is_live, value_at}
+use Rattle.sasi_model.specs.State.{Column, Definition, Table, State, place_of, table_of, with_table, place_in, number_of_column, key_type, apply, greatest}
+use Rattle.sasi_model.specs.Refusals.{Refusal, Reading, Nothing, Says, Bad, read, refusal, type_of_column, is_key_value}
 use Rattle.sasi_model.specs.Lines.{ok_line, rows_lines, refusal_line}
 
--- ---- what a statement does to the tables
+-- ---- values
 
--- the table that a CREATE TABLE makes: the key column is its first
-abbrev pub new_table : List ℕ → List (List ℕ × ColumnType) → Table
-new_table name [] = record { name = name; key = []; columns = []; rows = map_.empty }
-new_table name (key ∷ others) = record { name = name; key = key.0; columns = map (λ c. c.0) others; rows = map_.empty }
+-- the value that a literal gives a column of that type; none for NULL, and where the literal is of another type
+abbrev pub value_given : ColumnType → Literal → Option Value
+value_given types.Text (literals.Text text) = Some (Text text)
+value_given types.Int (literals.Number (Fits number)) = Some (Int number)
+value_given types.BigInt (literals.Number (Fits number)) = Some (BigInt number)
+value_given types.Uuid (literals.Uuid bytes) = Some (Uuid bytes)
+value_given type literal = None
 
--- the first value of a row, and the others
-abbrev pub first_value : Row → Option (List ℕ)
-first_value [] = None
-first_value (value ∷ values) = value
+-- the value whose stored bytes these are
+abbrev pub value_stored : ColumnType → List ℕ → Value
+value_stored types.Text bytes = Text bytes
+value_stored types.Int bytes = Int (cast_signed w32 (from_be_bytes w32 bytes))
+value_stored types.BigInt bytes = BigInt (cast_signed w64 (from_be_bytes w64 bytes))
+value_stored types.Uuid bytes = Uuid bytes
 
-abbrev pub other_values : Row → Row
-other_values [] = []
-other_values (value ∷ values) = values
+abbrev pub stored_of : Option Value → List ℕ
+stored_of None = []
+stored_of (Some value) = stored value
 
--- a value that is given replaces the one that was there
-abbrev pub over : Option (List ℕ) → Option (List ℕ) → Option (List ℕ)
-over None old = old
-over (Some value) old = Some value
+-- ---- what a write changes
 
--- the row after an INSERT: each column has the value that is given it, or else keeps its own
-abbrev pub row_after : List (List ℕ) → List (List ℕ) → List Literal → Row → Row
-row_after [] names values old = []
-row_after (column ∷ columns) names values old = over (given column names values) (first_value old) ∷ row_after columns names values (other_values old)
+-- the time of a write: the one given, or one more than the greatest that the state holds
+abbrev pub time_of : ℕ → Option Number → ℕ
+time_of greatest None = greatest + 1
+time_of greatest (Some Wide) = 0
+time_of greatest (Some (Fits z)) = unsigned_abs z
 
--- the key that an INSERT gives
-abbrev pub key_given : Table → List (List ℕ) → List Literal → List ℕ
-key_given t names values = unwrap_or (given t.key names values) []
+-- the type of a column, of a name that may be none
+abbrev pub column_type : Definition → List ℕ → ColumnType
+column_type d name = unwrap_or (type_of_column d name) types.Text
 
--- a table, with the row at a place as the INSERT leaves it
-abbrev pub put_at : Place → List (List ℕ) → List Literal → Table → Table
-put_at place names values t = record t { rows = map_.insert t.rows place (row_after t.columns names values (unwrap_or (map_.get t.rows place) [])) }
+abbrev pub with_cell : Option ℕ → Cell → Cells → Cells
+with_cell None cell cells = cells
+with_cell (Some zero) cell cells = cells
+with_cell (Some (suc n)) cell cells = map_.insert cells (suc n) cell
 
--- a table after an INSERT
-abbrev pub inserted : Partitioner → List (List ℕ) → List Literal → Table → Table
-inserted partitioner names values t = put_at (place_of partitioner (key_given t names values)) names values t
+-- a cell for each regular column that is set: its value, or a tombstone for NULL
+abbrev pub cells_set : Definition → ℕ → List (List ℕ × Literal) → Cells
+cells_set d time [] = map_.empty
+cells_set d time (set ∷ sets) = with_cell (number_of_column d set.0) (record { time = time; value = value_given (column_type d set.0) set.1 }) (cells_set d time sets)
 
--- the rows of a table in their order, where it is there
-abbrev pub rows_of : Option Table → List (Place × Row)
-rows_of None = []
-rows_of (Some t) = map_.entries t.rows
+-- a live marker
+abbrev pub marker : ℕ → Cell
+marker time = record { time = time; value = Some (Text []) }
+
+-- an INSERT writes the marker and a cell for each regular column that it names
+abbrev pub insert_change : Definition → ℕ → List (List ℕ × Literal) → Partition
+insert_change d time given = record { deleted = 0; cells = map_.insert (cells_set d time given) 0 (marker time) }
+
+-- an UPDATE writes the cells alone
+abbrev pub update_change : Definition → ℕ → List (List ℕ × Literal) → Partition
+update_change d time sets = record { deleted = 0; cells = cells_set d time sets }
+
+-- a DELETE of columns writes tombstones, and one of the row a deletion
+abbrev pub delete_change : Definition → ℕ → List (List ℕ) → Partition
+delete_change d time [] = record { deleted = time; cells = map_.empty }
+delete_change d time (column ∷ columns) = record { deleted = 0; cells = cells_set d time (map (λ name. (name, literals.Null)) (column ∷ columns)) }
+
+-- the literal that gives the key its value
+abbrev pub key_literal : Definition → List (List ℕ × Literal) → Literal
+key_literal d [] = literals.Null
+key_literal d (given ∷ others) = if is_key_value d given.0 given.1 then given.1 else key_literal d others
+
+-- where the row of a key literal stands
+abbrev pub place_given : Partitioner → Definition → Literal → Place
+place_given partitioner d literal = place_of partitioner (stored_of (value_given (key_type d) literal))
+
+-- ---- what a query answers
+
+-- the value of a column by its number: the key's own, or that of its cell
+abbrev pub value_numbered : Definition → Place → Partition → ℕ → Option Value
+value_numbered d place p zero = Some (value_stored (key_type d) place.key)
+value_numbered d place p (suc n) = value_at p (suc n)
+
+abbrev pub count_up : ℕ → ℕ → List ℕ
+count_up from zero = []
+count_up from (suc n) = from ∷ count_up (suc from) n
+
+abbrev pub numbers_of : Definition → List (List ℕ) → List ℕ
+numbers_of d [] = []
+numbers_of d (name ∷ names) = unwrap_or (number_of_column d name) 0 ∷ numbers_of d names
+
+-- the numbers of the columns that are asked for: those named, or the key and then the others in declared order
+abbrev pub columns_asked : Definition → Option (List (List ℕ)) → List ℕ
+columns_asked d None = count_up 0 (length d.columns)
+columns_asked d (Some names) = numbers_of d names
+
+-- the rows that are there, in order
+abbrev pub rows_among : Definition → List ℕ → List (Place × Partition) → List (List (Option Value))
+rows_among d numbers [] = []
+rows_among d numbers (entry ∷ entries) =
+    if is_live entry.1 then map (value_numbered d entry.0 entry.1) numbers ∷ rows_among d numbers entries else rows_among d numbers entries
+
+abbrev pub rows_answered : Option (List (List ℕ)) → Option Table → List (List (Option Value))
+rows_answered columns None = []
+rows_answered columns (Some t) = rows_among t.definition (columns_asked t.definition columns) (map_.entries t.partitions)
+
+-- ---- one statement
+
+-- the table that a CREATE TABLE makes: its key column is the one that PRIMARY KEY is said of
+abbrev pub key_place : List Column → List (List ℕ) → ℕ
+key_place columns [] = 0
+key_place columns (key ∷ keys) = unwrap_or (place_in key columns) 0
+
+abbrev pub new_definition : List ℕ → List Column → List (List ℕ) → Definition
+new_definition name columns keys = record { name = name; columns = columns; key = key_place columns keys }
+
+abbrev pub new_table : List ℕ → List Column → List (List ℕ) → Table
+new_table name columns keys = record { definition = new_definition name columns keys; partitions = map_.empty }
 
 abbrev pub tables_after : State → Statement → List Table
-tables_after s (CreateTable table columns keys) = s.tables ++ new_table table columns ∷ []
-tables_after s (Insert table names values) = with_table table (inserted s.partitioner names values) s.tables
+tables_after s (CreateTable table columns keys) = s.tables ++ new_table table columns keys ∷ []
+tables_after s (Insert table columns values time) =
+    with_table table (λ t. apply (place_given s.partitioner t.definition (key_literal t.definition (zip columns values))) (insert_change t.definition (time_of (greatest s) time) (zip columns values)) t) s.tables
+tables_after s (Update table time sets key value) = with_table table (λ t. apply (place_given s.partitioner t.definition value) (update_change t.definition (time_of (greatest s) time) sets) t) s.tables
+tables_after s (Delete table columns time key value) = with_table table (λ t. apply (place_given s.partitioner t.definition value) (delete_change t.definition (time_of (greatest s) time) columns) t) s.tables
 tables_after s (Query select) = s.tables
 
 abbrev pub answer_of : State → Statement → List ℕ
-answer_of s (CreateTable table columns keys) = ok_line
-answer_of s (Insert table names values) = ok_line
-answer_of s (Query select) = rows_lines (rows_of (table_of select.table s.tables))
+answer_of s (Query select) = rows_lines (rows_answered select.columns (table_of select.table s.tables))
+answer_of s statement = ok_line
 
 -- ---- one piece
 

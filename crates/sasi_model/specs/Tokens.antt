@@ -1,20 +1,35 @@
--- The text of a piece as a list of tokens: words, strings and signs, with spaces between them. As with pieces, the
--- definitions look ahead. A byte that begins no token is the token Unknown, which no statement has.
-use Rattle.std.specs.Prelude.{◌+◌, ℕ, zero, suc, Bool, ◌||◌, ◌&&◌, ◌==◌, nat_le, if◌then◌else◌, List, [], ◌∷◌, take, map, Option, None, Some}
+-- The text of a piece as a list of tokens: words, names, literals and signs, with spaces and comments between them. As
+-- with pieces, the definitions look ahead: for each token they say how many of the bytes behind its first belong to it. A
+-- byte that begins no token is the token Unknown, which no statement has.
+use Rattle.std.specs.Prelude.{◌+◌, ◌-◌, ◌*◌, ◌^◌, ℕ, zero, suc, Bool, false, ◌||◌, ◌&&◌, ◌==◌, nat_lt, nat_le, if◌then◌else◌, pos, neg_ℤ, List, [], ◌∷◌, take, drop, map, Option, None, Some}
 use Rattle.std.specs.List.{prefix_len}
-use Rattle.sasi_model.specs.Pieces.{is_space}
+use Rattle.uuid.specs.Text.{parsed_hyphenated}
+use Rattle.sasi_types.specs.declared.literal.Number.{Number}
+use Rattle.sasi_types.specs.declared.literal.Number.TheVariants.{Fits, Wide}
+use Rattle.sasi_model.specs.Pieces.{is_space, is_line, is_block, closes, opened_by, starts, behind_first}
 
 pub data Token : Type 0 where
   -- a letter, and the letters, digits and `_` behind it, in lower case
   Word : List ℕ → Token
+  -- what stands between double quotes, in its own case
+  QuotedName : List ℕ → Token
   -- what stands between single quotes, a doubled one taken once
   Quoted : List ℕ → Token
+  Integer : Number → Token
+  -- by its sixteen bytes
+  Uuid : List ℕ → Token
   Open : Token
   Close : Token
   Comma : Token
   Star : Token
+  Equal : Token
   Semicolon : Token
   Unknown : Token
+
+-- a token, and how many of the bytes behind its first belong to it
+pub record Lexeme : Type 0 where
+  pub token : Token
+  pub inside : ℕ
 
 -- ---- words
 
@@ -37,6 +52,22 @@ lower_byte b = if is_upper b then b + 32 else b
 abbrev pub lower : List ℕ → List ℕ
 lower word = map lower_byte word
 
+-- how many bytes in front are letters, digits or `_`
+abbrev pub word_on : List ℕ → ℕ
+word_on behind = prefix_len is_word_byte behind
+
+abbrev pub word_lexeme : ℕ → List ℕ → Lexeme
+word_lexeme b behind = record { token = Word (lower (b ∷ take (word_on behind) behind)); inside = word_on behind }
+
+-- ---- quoted names
+
+-- of 1 to 48 letters, digits and `_`
+abbrev pub name_lexeme : List ℕ → Lexeme
+name_lexeme behind =
+    if nat_le 1 (word_on behind) && nat_le (word_on behind) 48 && starts 34 (drop (word_on behind) behind)
+    then record { token = QuotedName (take (word_on behind) behind); inside = suc (word_on behind) }
+    else record { token = Unknown; inside = 0 }
+
 -- ---- strings
 
 -- a string behind its opening quote: its text, and how many bytes it has with the closing quote
@@ -56,6 +87,52 @@ quoted_text (b ∷ c ∷ bs) =
     if b == 39 then (if c == 39 then quoted_on 39 2 (quoted_text bs) else Some (record { text = []; size = 1 }))
     else quoted_on b 1 (quoted_text (c ∷ bs))
 
+abbrev pub string_lexeme : Option QuotedText → Lexeme
+string_lexeme None = record { token = Unknown; inside = 0 }
+string_lexeme (Some q) = record { token = Quoted q.text; inside = q.size }
+
+-- ---- integers
+
+-- the value of decimal digits that stand behind those of n
+abbrev pub decimal_on : ℕ → List ℕ → ℕ
+decimal_on n [] = n
+decimal_on n (b ∷ bs) = decimal_on (10 * n + (b - 48)) bs
+
+abbrev pub decimal : List ℕ → ℕ
+decimal digits = decimal_on 0 digits
+
+-- 128 bits have the numbers from -2^127 to 2^127 - 1
+abbrev pub NUMBER_LIMIT : ℕ
+NUMBER_LIMIT = 2 ^ 127
+
+abbrev pub positive : ℕ → Number
+positive n = if nat_lt n NUMBER_LIMIT then Fits (pos n) else Wide
+
+abbrev pub negative : ℕ → Number
+negative n = if nat_le n NUMBER_LIMIT then Fits (neg_ℤ (pos n)) else Wide
+
+-- how many bytes in front are digits
+abbrev pub digits_on : List ℕ → ℕ
+digits_on behind = prefix_len is_digit behind
+
+abbrev pub positive_lexeme : ℕ → List ℕ → Lexeme
+positive_lexeme b behind = record { token = Integer (positive (decimal (b ∷ take (digits_on behind) behind))); inside = digits_on behind }
+
+-- behind its `-`
+abbrev pub negative_lexeme : List ℕ → Lexeme
+negative_lexeme behind = record { token = Integer (negative (decimal (take (digits_on behind) behind))); inside = digits_on behind }
+
+-- ---- uuids
+
+-- a letter, a digit or `_` is in front
+abbrev pub starts_word : List ℕ → Bool
+starts_word [] = false
+starts_word (b ∷ bs) = is_word_byte b
+
+-- the sixteen bytes of the uuid in front: 8-4-4-4-12 hexadecimal digits, with nothing of a word behind them
+unfoldable pub uuid_in_front : List ℕ → Option (List ℕ)
+uuid_in_front bytes = if starts_word (drop 36 bytes) then None else parsed_hyphenated (take 36 bytes)
+
 -- ---- the tokens
 
 -- what a sign stands for
@@ -65,27 +142,43 @@ sign b =
     else if b == 41 then Close
     else if b == 44 then Comma
     else if b == 42 then Star
+    else if b == 61 then Equal
     else if b == 59 then Semicolon
     else Unknown
 
--- how many of the bytes behind a word's first letter belong to it
-abbrev pub word_on : List ℕ → ℕ
-word_on behind = prefix_len is_word_byte behind
+abbrev pub starts_digit : List ℕ → Bool
+starts_digit [] = false
+starts_digit (b ∷ bs) = is_digit b
 
--- a string in front of the tokens behind it, which are given by how many bytes it has; or no string
-abbrev pub quoted_then : Option QuotedText → (ℕ → List Token) → List Token
-quoted_then None behind = Unknown ∷ behind 0
-quoted_then (Some q) behind = Quoted q.text ∷ behind q.size
+-- the token of a byte and those behind it, where it is no uuid
+unfoldable pub other_lexeme : ℕ → List ℕ → Lexeme
+other_lexeme b behind =
+    if is_letter b then word_lexeme b behind
+    else if is_digit b then positive_lexeme b behind
+    else if b == 45 && starts_digit behind then negative_lexeme behind
+    else if b == 39 then string_lexeme (quoted_text behind)
+    else if b == 34 then name_lexeme behind
+    else record { token = sign b; inside = 0 }
 
--- the tokens of bytes of which the first `inside` belong to the token in front of them
+-- a uuid is tried first
+abbrev pub lexeme_or : Option (List ℕ) → Lexeme → Lexeme
+lexeme_or None other = other
+lexeme_or (Some bytes) other = record { token = Uuid bytes; inside = 35 }
+
+unfoldable pub lexeme : ℕ → List ℕ → Lexeme
+lexeme b behind = lexeme_or (uuid_in_front (b ∷ behind)) (other_lexeme b behind)
+
+-- a byte and those behind it are no token: it is a space, or begins a comment. A `/*` that nothing closes is none
+unfoldable pub is_gap : ℕ → List ℕ → Bool
+is_gap b behind = is_space b || is_line b behind || (is_block b behind && closes (behind_first behind))
+
+-- the tokens of bytes of which the first `inside` belong to the token or the comment in front of them
 abbrev pub tokens_from : ℕ → List ℕ → List Token
 tokens_from inside [] = []
 tokens_from (suc inside) (b ∷ bs) = tokens_from inside bs
 tokens_from zero (b ∷ bs) =
-    if is_space b then tokens_from 0 bs
-    else if is_letter b then Word (lower (b ∷ take (word_on bs) bs)) ∷ tokens_from (word_on bs) bs
-    else if b == 39 then quoted_then (quoted_text bs) (λ n. tokens_from n bs)
-    else sign b ∷ tokens_from 0 bs
+    if is_gap b bs then tokens_from (opened_by b bs) bs
+    else (lexeme b bs).token ∷ tokens_from (lexeme b bs).inside bs
 
 abbrev pub tokens : List ℕ → List Token
 tokens text = tokens_from 0 text

@@ -1,3 +1,5 @@
 pub mod Key
 pub mod Place
+pub mod StoredBytes
 pub mod Token
+pub mod Value

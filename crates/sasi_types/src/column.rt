@@ -1,5 +1,5 @@
 // The columns of a table, as they are declared.
-ghost use Rattle.std.specs.Prelude.{◌≡◌, ◌++◌, ◌∷◌, [], OnOk, OnErr};
+ghost use Rattle.std.specs.Prelude.{◌≡◌, ◌++◌, ◌∷◌, [], IfOk, OnOk, OnErr};
 
 use crate::Name;
 use std::alloc::{AllocError, Global};
@@ -9,6 +9,9 @@ use std::marker::Model;
 #[derive(Clone, Copy, Debug, PartialEq, Eq)]
 pub enum ColumnType {
     Text,
+    Int,
+    BigInt,
+    Uuid,
 }
 
 /// The columns of a table with their types, in declared order.
@@ -43,6 +46,14 @@ impl Columns {
         &self.items
     }
 
+    /// The same columns once more.
+    pub fn copy(&self, alloc: Global) -> Result<Columns, AllocError>
+        ensures { IfOk result (λ copy. copy ≡ self.now) }
+    {
+        let items = copies(alloc, &self.items)?;
+        Ok(Columns { items })
+    }
+
     /// Adds a column at the end.
     pub fn push(&mut self, name: Name, kind: ColumnType) -> Result<(), AllocError>
         ensures ok { OnOk result (self.new ≡ self.old ++ (name, kind) ∷ []) }
@@ -51,4 +62,17 @@ impl Columns {
         self.items.push((name, kind))?;
         Ok(())
     }
+}
+
+fn copies(
+    alloc: Global,
+    columns: &[(Name, ColumnType)],
+) -> Result<Vec<(Name, ColumnType)>, AllocError>
+    ensures { IfOk result (λ copies. copies.items ≡ columns.now) }
+{
+    let mut copies = Vec::with_capacity(alloc, columns.len())?;
+    for column in columns {
+        copies.push((column.0.copy(alloc)?, column.1))?;
+    }
+    Ok(copies)
 }

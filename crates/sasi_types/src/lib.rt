@@ -2,6 +2,7 @@
 // they are read. The crate stands on std alone; its types are seen as their bytes and lists, whatever holds them.
 #![tactic(auto)]
 
+mod cell;
 mod column;
 mod key;
 mod literal;
@@ -14,10 +15,12 @@ mod statement;
 #[cfg(test)]
 mod tests;
 mod text;
+mod value;
 
+pub use cell::Cell;
 pub use column::{ColumnType, Columns};
 pub use key::{Key, KeyFault};
-pub use literal::{Literal, Literals};
+pub use literal::{Literal, Literals, Number, Sets};
 pub use name::{Name, Names};
 pub use partitioner::{Partitioner, Token};
 pub use piece::PieceEnd;
@@ -25,3 +28,4 @@ pub use place::{Place, compare};
 pub use row::Row;
 pub use statement::{Select, Statement};
 pub use text::Text;
+pub use value::{Stored, Value};

@@ -1,14 +1,28 @@
 // The values that a statement writes out.
-ghost use Rattle.std.specs.Prelude.{◌≡◌, ◌++◌, ◌∷◌, [], OnOk, OnErr};
+ghost use Rattle.std.specs.Prelude.{◌≡◌, ◌++◌, ◌∷◌, [], None, IfOk, OnOk, OnErr};
+ghost use Rattle.std.specs.List.{zip};
+ghost use Rattle.std.specs.Option.{option_to_list};
 
-use crate::Text;
+use crate::{Name, Names, Text};
 use std::alloc::{AllocError, Global};
 use std::marker::Model;
+
+/// An integer that a statement writes out.
+#[derive(Clone, Copy, Debug, PartialEq, Eq)]
+pub enum Number {
+    /// It has 128 bits.
+    Fits(i128),
+    /// It has more: it is outside every range.
+    Wide,
+}
 
 /// A value that a statement writes out.
 #[derive(Debug, Drop)]
 pub enum Literal {
     Text(Text),
+    Number(Number),
+    Uuid([u8; 16]),
+    Null,
 }
 
 /// A list of literals.
@@ -51,4 +65,72 @@ impl Literals {
         self.items.push(literal)?;
         Ok(())
     }
+}
+
+/// What an UPDATE sets: columns with their values, in order.
+#[derive(Drop)]
+pub struct Sets {
+    items: Vec<(Name, Literal)>,
+}
+
+impl Model for Sets {
+    ghost use Rattle.std.specs.Prelude.{List, ℕ};
+    ghost use Rattle.sasi_types.specs.declared.literal.Literal.{Literal};
+
+    ghost Value = { List (List ℕ × Literal) };
+
+    ghost view = { λ a. a.items.items };
+}
+
+impl Sets {
+    /// The empty list.
+    pub fn new(alloc: Global) -> Sets
+        ensures { result ≡ [] }
+    {
+        Sets {
+            items: Vec::new(alloc),
+        }
+    }
+
+    /// Columns with their values, as many as there are of both.
+    pub fn of(alloc: Global, columns: Names, values: Literals) -> Result<Sets, AllocError>
+        ensures { IfOk result (λ sets. sets ≡ zip columns values) }
+    {
+        let items = pairs(alloc, columns.into_vec(), values.items)?;
+        Ok(Sets { items })
+    }
+
+    /// Takes the last column and its value out.
+    pub fn pop(&mut self) -> Option<(Name, Literal)>
+        ensures items { self.old ≡ self.new ++ option_to_list result }
+        ensures end { result ≡ None → self.old ≡ [] }
+    {
+        self.items.pop()
+    }
+
+    /// The columns with their values, in order.
+    pub fn as_slice(&self) -> &[(Name, Literal)]
+        ensures { result.now ≡ self.now }
+    {
+        &self.items
+    }
+
+    /// Adds a column and its value at the end.
+    pub fn push(&mut self, column: Name, value: Literal) -> Result<(), AllocError>
+        ensures ok { OnOk result (self.new ≡ self.old ++ (column, value) ∷ []) }
+        ensures err { OnErr result (self.new ≡ self.old) }
+    {
+        self.items.push((column, value))?;
+        Ok(())
+    }
+}
+
+fn pairs(
+    alloc: Global,
+    columns: Vec<Name>,
+    values: Vec<Literal>,
+) -> Result<Vec<(Name, Literal)>, AllocError>
+    ensures { IfOk result (λ pairs. pairs.items ≡ zip columns.items values.items) }
+{
+    columns.into_iter().zip(values.into_iter()).collect(alloc)
 }

@@ -1,21 +1,22 @@
 // The values of a row.
-ghost use Rattle.std.specs.Prelude.{◌≡◌, ◌++◌, ◌∷◌, [], ◌<◌, OnOk, OnErr, length, slice_set};
+ghost use Rattle.std.specs.Prelude.{◌≡◌, ◌++◌, ◌∷◌, [], OnOk, OnErr};
 
-use crate::Text;
+use crate::Value;
 use std::alloc::{AllocError, Global};
 use std::marker::Model;
 
-/// The values of a row: one for each regular column, where it has one.
+/// The values of a row, one for each column asked for, where it has one.
 #[derive(Debug, Drop)]
 pub struct Row {
-    values: Vec<Option<Text>>,
+    values: Vec<Option<Value>>,
 }
 
 impl Model for Row {
-    ghost use Rattle.std.specs.Prelude.{List, ℕ};
+    ghost use Rattle.std.specs.Prelude.{List};
     ghost use Rattle.std.specs.declared.option.Option.{Option};
+    ghost use Rattle.sasi_types.specs.declared.value.Value.{Value as ColumnValue};
 
-    ghost Value = { List (Option (List ℕ)) };
+    ghost Value = { List (Option ColumnValue) };
 
     ghost view = { λ a. a.values.items };
 }
@@ -31,14 +32,14 @@ impl Row {
     }
 
     /// The values, in the order of the columns.
-    pub fn values(&self) -> &[Option<Text>]
+    pub fn values(&self) -> &[Option<Value>]
         ensures { result.now ≡ self.now }
     {
         &self.values
     }
 
     /// Adds the value of one more column.
-    pub fn push(&mut self, value: Option<Text>) -> Result<(), AllocError>
+    pub fn push(&mut self, value: Option<Value>) -> Result<(), AllocError>
         ensures ok { OnOk result (self.new ≡ self.old ++ value ∷ []) }
         ensures err { OnErr result (self.new ≡ self.old) }
     {

@@ -1,7 +1,7 @@
 // Tokens and their order against values worked out by hand, and each list once.
 use crate::{
     ColumnType, Columns, Key, KeyFault, Literal, Literals, Name, Names, Partitioner, Place, Row,
-    Text, compare,
+    Sets, Text, Value, compare,
 };
 use std::alloc::AllocError;
 use std::cmp::Ordering;
@@ -58,17 +58,42 @@ fn key_has_1_to_65535_bytes(rt: HostRuntime) -> Result<(), AllocError> {
 }
 
 #[test]
+fn values_are_stored_with_the_highest_byte_first(rt: HostRuntime) -> Result<(), AllocError> {
+    let alloc = rt.alloc();
+    let text = Text::new(b"it's".as_slice().to_vec(alloc)?);
+    let values: [(Value, ColumnType, &[u8]); 5] = [
+        (Value::Text(text), ColumnType::Text, b"it's"),
+        (Value::Int(-2), ColumnType::Int, b"\xff\xff\xff\xfe"),
+        (Value::Int(258), ColumnType::Int, b"\0\0\x01\x02"),
+        (
+            Value::BigInt(-1),
+            ColumnType::BigInt,
+            b"\xff\xff\xff\xff\xff\xff\xff\xff",
+        ),
+        (Value::Uuid([7; 16]), ColumnType::Uuid, &[7; 16]),
+    ];
+    for (value, kind, bytes) in values {
+        assert_eq!(rt; value.stored().as_slice(), bytes);
+        assert_eq!(rt; value.column_type(), kind);
+    }
+    Ok(())
+}
+
+#[test]
 fn lists_keep_their_order(rt: HostRuntime) -> Result<(), AllocError> {
     let alloc = rt.alloc();
     let mut names = Names::new(alloc);
     let mut columns = Columns::new(alloc);
     let mut literals = Literals::new(alloc);
     let mut row = Row::new(alloc);
+    let mut sets = Sets::new(alloc);
     for bytes in [b"a".as_slice(), b"b".as_slice()] {
         names.push(Name::new(bytes.to_vec(alloc)?))?;
         columns.push(Name::new(bytes.to_vec(alloc)?), ColumnType::Text)?;
         literals.push(Literal::Text(Text::new(bytes.to_vec(alloc)?)))?;
-        row.push(Some(Text::new(bytes.to_vec(alloc)?)))?;
+        let value = Value::Text(Text::new(bytes.to_vec(alloc)?));
+        row.push(Some(value.copy(alloc)?))?;
+        sets.push(Name::new(bytes.to_vec(alloc)?), Literal::Null)?;
     }
     row.push(None)?;
     assert_eq!(rt; names.as_slice().len(), 2);
@@ -79,6 +104,7 @@ fn lists_keep_their_order(rt: HostRuntime) -> Result<(), AllocError> {
         [_, Literal::Text(text)] => assert_eq!(rt; text.bytes(), b"b".as_slice()),
         _ => assert!(rt; false),
     }
+    assert_eq!(rt; sets.as_slice().len(), 2);
     assert_eq!(rt; row.values().len(), 3);
     assert!(rt; row.values()[2].is_none());
     Ok(())

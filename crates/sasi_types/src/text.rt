@@ -1,6 +1,7 @@
 // Texts.
-ghost use Rattle.std.specs.Prelude.{◌≡◌};
+ghost use Rattle.std.specs.Prelude.{◌≡◌, IfOk};
 
+use std::alloc::{AllocError, Global};
 use std::marker::Model;
 
 /// A text, seen as its bytes.
@@ -30,5 +31,12 @@ impl Text {
         ensures { result.now ≡ self.now }
     {
         &self.bytes
+    }
+    /// The same text once more.
+    pub fn copy(&self, alloc: Global) -> Result<Text, AllocError>
+        ensures { IfOk result (λ copy. copy ≡ self.now) }
+    {
+        let bytes = self.bytes.as_slice().to_vec(alloc)?;
+        Ok(Text { bytes })
     }
 }

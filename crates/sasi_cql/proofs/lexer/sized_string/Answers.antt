@@ -1,4 +1,4 @@
-use Rattle.std.proofs.Common.{arith}
+use Rattle.std.proofs.Common.{refl, arith}
 use Rattle.sasi_cql.proofs.Lexing.{string_first, string_size}
 use Rattle.sasi_cql.proofs.lexer.sized_string.Goals as goal
 
@@ -14,7 +14,6 @@ pub split_at-requires-2 : goal.split_at-requires-2
 split_at-requires-2 c = (string_size c.args.behind.now c.args.size c.requires).1
 
 pub returns : goal.returns
-returns c = record {
-  first = rw (c.split_at.ensures.front, c.split_at-2.ensures.back) (string_first c.args.behind.now c.args.size c.requires);
-  shorter = omega (arith, c.split_at-2.ensures.back_len);
-}
+returns c =
+    let first = string_first c.args.behind.now c.args.size c.requires in
+    record { token_is = rw (first, c.split_at.ensures.front) refl; left_is = rw (first, c.split_at-2.ensures.back) refl }

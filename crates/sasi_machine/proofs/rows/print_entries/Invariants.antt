@@ -1,8 +1,17 @@
-use Rattle.std.proofs.Common.{◌≡◌, ◌++◌}
+use Rattle.std.proofs.Common.{◌≡◌, ◌+◌, ◌++◌, length}
 use Rattle.std.specs.List.{flat_map}
 use Rattle.sasi_model.specs.Lines.{row_line}
+use Rattle.sasi_machine.specs.Contents.{rows_picked}
+use Rattle.sasi_machine.proofs.Stored.{AllStored}
 use Rattle.sasi_machine.proofs.rows.print_entries.Given as goal
 
--- what is printed so far and the lines of the rows that are left are the lines of all rows
+-- what is printed so far and the rows that are left are all rows
 abbrev pub invariant-loop-place : goal.invariant-loop-place
-invariant-loop-place l = l.reply ++ flat_map row_line l.place-iterator ≡ l.fn.reply ++ flat_map row_line l.rows.entries
+invariant-loop-place l =
+    let rest = rows_picked l.picked.key l.picked.columns l.place-iterator in
+    let all = rows_picked l.picked.key l.picked.columns l.partitions.entries in
+    record {
+      printed : l.reply ++ flat_map row_line rest ≡ l.fn.reply ++ flat_map row_line all;
+      counted : l.rows + length rest ≡ length all;
+      stored : AllStored l.picked.key l.place-iterator;
+    }

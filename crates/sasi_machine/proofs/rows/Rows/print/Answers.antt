@@ -1,16 +1,21 @@
-use Rattle.std.proofs.Common.{◌++◌, List, sym, ap, ◌∙◌}
+use Rattle.std.proofs.Common.{◌≡◌, ◌++◌, sym, ap, ◌∙◌}
 use Rattle.std.proofs.lemmas.Result.{on_ok_weaker}
-use Rattle.std.specs.FinMap as map
-use Rattle.sasi_types.specs.declared.place.Place.{Place}
-use Rattle.sasi_model.specs.State.{Row, Rows}
+use Rattle.std.specs.FinMap as fin
+use Rattle.sasi_types.specs.declared.column.ColumnType.{ColumnType}
 use Rattle.sasi_model.specs.Lines.{rows_lines}
+use Rattle.sasi_machine.specs.Contents.{Contents, rows_picked}
 use Rattle.sasi_machine.proofs.Ordered.{entries-from_ordered}
 use Rattle.sasi_machine.proofs.rows.Rows.print.Goals as goal
 
 pub returns : goal.returns
-returns c = record {
-  ok =
-      on_ok_weaker c.print_entries.result
-      (λ e. e ∙ ap (λ (es : List (Place × Row)). c.args.reply.now ++ rows_lines es) (sym (entries-from_ordered c.self.inside.items.entries c.print_entries.ensures.ordered) ∙ ap (λ (rows : Rows). map.entries rows) c.self.view_is))
-      c.print_entries.ensures.ok;
-}
+returns c =
+    let entries = c.self.inside.partitions.entries in
+    let kind : c.args.picked.now.key ≡ c.self.inside.kind = c.requires ∙ sym (ap (λ (x : Contents). x.kind) c.self.view_is) in
+    record {
+      ok =
+          on_ok_weaker c.print_entries.result
+          (λ e. e ∙ ap (λ (k : ColumnType). c.args.reply.now ++ rows_lines (rows_picked k c.args.picked.now.columns entries)) kind
+          ∙ ap (λ es. c.args.reply.now ++ rows_lines (rows_picked c.self.inside.kind c.args.picked.now.columns es)) (sym (entries-from_ordered entries c.print_entries.ensures.ordered))
+          ∙ ap (λ (x : Contents). c.args.reply.now ++ rows_lines (rows_picked x.kind c.args.picked.now.columns (fin.entries x.partitions))) c.self.view_is)
+          c.print_entries.ensures.ok;
+    }

@@ -1,0 +1,4 @@
+mod Joined
+mod Merges
+mod Places
+mod Partitions

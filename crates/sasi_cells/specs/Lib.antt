@@ -1,0 +1,6 @@
+pub mod Entries
+pub mod Places
+pub mod Changes
+pub mod Rows
+pub mod Typed
+pub mod Laws

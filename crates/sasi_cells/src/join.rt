@@ -1,0 +1,84 @@
+// Two lists of cells with rising columns, joined in one pass.
+ghost use Rattle.std.specs.Prelude.{◌≡◌, ◌+◌, ◌≤◌, ◌<◌, ◌++◌, ◌∷◌, [], length, None};
+ghost use Rattle.std.specs.Option.{option_to_list};
+ghost use Rattle.std.specs.Vec.{vec_len, vec_capacity};
+ghost use Rattle.std.specs.VecDeque.{deque_len};
+ghost use Rattle.sasi_cells.specs.Entries.{joined, lower_column, newest_entry, unshadowed_entries};
+
+use crate::order::newest;
+use sasi_types::Cell;
+use std::cmp::Ordering;
+use std::collections::VecDeque;
+
+// Which of two lists begins with the lower column; none where both are empty.
+fn lower_column(mine: &VecDeque<(u16, Cell)>, theirs: &VecDeque<(u16, Cell)>) -> Option<Ordering>
+    ensures { result ≡ lower_column mine.now.items theirs.now.items }
+{
+    match (mine.front(), theirs.front()) {
+        (None, None) => None,
+        (Some(_), None) => Some(Ordering::Less),
+        (None, Some(_)) => Some(Ordering::Greater),
+        (Some(a), Some(b)) => Some(a.0.cmp(&b.0)),
+    }
+}
+
+// Of two entries of one column the newer, if there is one.
+fn newest_entry(a: Option<(u16, Cell)>, b: Option<(u16, Cell)>) -> Option<(u16, Cell)>
+    ensures { result ≡ newest_entry a b }
+{
+    match (a, b) {
+        (Some((column, a)), Some((_, b))) => Some((column, newest(a, b))),
+        (None, b) => b,
+        (a, None) => a,
+    }
+}
+
+// Takes the entry of the lowest column of both.
+fn next_entry(
+    mine: &mut VecDeque<(u16, Cell)>,
+    theirs: &mut VecDeque<(u16, Cell)>,
+) -> Option<(u16, Cell)>
+    ensures items { joined mine.old.items theirs.old.items ≡ option_to_list result ++ joined mine.new.items theirs.new.items }
+    ensures len { deque_len mine.new + deque_len theirs.new + length (option_to_list result) ≤ deque_len mine.old + deque_len theirs.old }
+    ensures end { result ≡ None → joined mine.old.items theirs.old.items ≡ [] }
+{
+    match lower_column(mine, theirs) {
+        None => None,
+        Some(Ordering::Less) => mine.pop_front(),
+        Some(Ordering::Greater) => theirs.pop_front(),
+        Some(Ordering::Equal) => newest_entry(mine.pop_front(), theirs.pop_front()),
+    }
+}
+
+// Adds an entry at the end of a list that has room for it.
+fn add_within(cells: &mut Vec<(u16, Cell)>, entry: (u16, Cell))
+    requires { vec_len cells.old < vec_capacity cells.old }
+    ensures items { cells.new.items ≡ cells.old.items ++ entry ∷ [] }
+    ensures len { vec_len cells.new ≡ vec_len cells.old + 1 }
+    ensures capacity { vec_capacity cells.old ≤ vec_capacity cells.new }
+{
+    let _ = cells.push(entry);
+}
+
+// The newest cell of each column of both, without those that a deletion at this time shadows, put into a list that has
+// room for all. It takes no memory.
+pub(crate) fn join(
+    deleted: u64,
+    mine: Vec<(u16, Cell)>,
+    theirs: Vec<(u16, Cell)>,
+    room: Vec<(u16, Cell)>,
+) -> Vec<(u16, Cell)>
+    requires empty { room.items ≡ [] }
+    requires enough { vec_len mine + vec_len theirs ≤ vec_capacity room }
+    ensures { result.items ≡ unshadowed_entries deleted (joined mine.items theirs.items) }
+{
+    let mut cells = room;
+    let mut mine = VecDeque::from_vec(mine);
+    let mut theirs = VecDeque::from_vec(theirs);
+    'entries: while let Some(entry) = next_entry(&mut mine, &mut theirs) {
+        if entry.1.time > deleted {
+            add_within(&mut cells, entry);
+        }
+    }
+    cells
+}

@@ -1,0 +1,17 @@
+// Cells and partitions: what was written of the columns of one key, and how two of it are merged, so that the newest of
+// every column counts, whatever came first. The crate stands on sasi_types and meets the definitions of sasi_model.
+#![tactic(auto)]
+
+mod join;
+mod order;
+mod partition;
+mod picked;
+mod row;
+mod search;
+#[cfg(test)]
+mod tests;
+
+pub use order::newer;
+pub use partition::Partition;
+pub use picked::{Picked, PickedColumn, PickedList};
+pub use sasi_types::Cell;

@@ -1,0 +1,45 @@
+// Which of two cells is newer.
+ghost use Rattle.std.specs.Prelude.{◌≡◌, Some};
+ghost use Rattle.sasi_model.specs.Cells.{value_cmp, cell_cmp, newest};
+
+use sasi_types::{Cell, Value};
+use std::cmp::Ordering;
+
+/// The order of two cells of a column, where the greater is the newer: by time, and at one time a tombstone is above
+/// every value, and of two values the one with the greater stored bytes is above the other.
+pub fn newer(a: &Cell, b: &Cell) -> Ordering
+    ensures { result ≡ cell_cmp a.now b.now }
+{
+    a.time.cmp(&b.time).then(value_order(&a.value, &b.value))
+}
+
+// The order of two values at one time.
+fn value_order(a: &Option<Value>, b: &Option<Value>) -> Ordering
+    ensures { result ≡ value_cmp a.now b.now }
+{
+    match (a, b) {
+        (None, None) => Ordering::Equal,
+        (None, Some(_)) => Ordering::Greater,
+        (Some(_), None) => Ordering::Less,
+        (Some(a), Some(b)) => stored_order(a, b),
+    }
+}
+
+// The order of the bytes that stand for two values.
+fn stored_order(a: &Value, b: &Value) -> Ordering
+    ensures { result ≡ value_cmp (Some a.now) (Some b.now) }
+{
+    let first = a.stored();
+    let second = b.stored();
+    first.as_slice().cmp(second.as_slice())
+}
+
+// The newer of two cells.
+pub(crate) fn newest(a: Cell, b: Cell) -> Cell
+    ensures { result ≡ newest a b }
+{
+    match newer(&a, &b) {
+        Ordering::Less => b,
+        _ => a,
+    }
+}

@@ -1,0 +1,169 @@
+// What is written of one key.
+ghost use Rattle.std.specs.Prelude.{◌≡◌, ℕ, ◌<◌, true, OnOk, OnErr, IfOk};
+ghost use Rattle.std.specs.Option.{option_copied};
+ghost use Rattle.std.specs.Ordering.{nat_cmp};
+ghost use Rattle.std.specs.FinMap as map;
+ghost use Rattle.sasi_model.specs.Cells.{Partition as Written, empty_partition, IsNormal, merge, is_live, greatest_of};
+ghost use Rattle.sasi_cells.specs.Typed.{IsTyped};
+ghost use Rattle.sasi_types.specs.declared.column.ColumnType.{ColumnType};
+ghost use Rattle.sasi_cells.specs.Changes.{deletion, with_column};
+
+use crate::join::join;
+use crate::search;
+use sasi_types::Cell;
+use std::alloc::{AllocError, Global};
+use std::marker::Model;
+use std::mem;
+
+/// The cells of one key, and the time of its deletion: no cell is at or below that time. It is seen as the two, with the
+/// cells as a map from the numbers of their columns; column 0 is the marker of the row.
+#[derive(Debug, Drop)]
+pub struct Partition {
+    deleted: u64,
+    cells: Vec<(u16, Cell)>,
+}
+
+impl Model for Partition {
+    ghost use Rattle.sasi_model.specs.Cells.{Partition as Written};
+    ghost use Rattle.sasi_model.specs.Codes.{coded_partition};
+    ghost use Rattle.sasi_cells.specs.Entries.{IsOrdered, partition_of};
+
+    ghost Value = { Written };
+
+    ghost coded = { coded_partition };
+
+    ghost view = { λ a. partition_of a.deleted a.cells.items };
+
+    ghost invariant = { λ a. IsOrdered a.deleted a.cells.items };
+}
+
+impl Partition {
+    /// Nothing written.
+    pub fn new(alloc: Global) -> Partition
+        ensures { result ≡ empty_partition }
+    {
+        Partition::deletion(alloc, 0)
+    }
+
+    /// A deletion at this time, which shadows every cell up to it.
+    pub fn deletion(alloc: Global, time: u64) -> Partition
+        ensures { result ≡ deletion time }
+    {
+        Partition {
+            deleted: time,
+            cells: Vec::new(alloc),
+        }
+    }
+
+    /// The time of the deletion, 0 for none.
+    pub fn deleted(&self) -> u64
+        ensures { result ≡ self.now.deleted }
+    {
+        self.deleted
+    }
+
+    /// The cells with their columns, in the order of the columns.
+    pub fn cells(&self) -> &[(u16, Cell)]
+        ensures entries { result.now ≡ map.entries self.now.cells }
+        ensures normal { IsNormal self.now }
+    {
+        &self.cells
+    }
+
+    /// The cell of a column, if it has one.
+    pub fn cell(&self, column: u16) -> Option<&Cell>
+        ensures { option_copied result ≡ map.get self.now.cells column }
+    {
+        match search::search(&self.cells, column) {
+            Ok(at) => Some(&self.cells[at].1),
+            Err(_) => None,
+        }
+    }
+
+    /// Writes the cell of a column over what was there.
+    pub fn put(&mut self, column: u16, cell: Cell) -> Result<(), AllocError>
+        requires { self.old.deleted < cell.time }
+        ensures ok { OnOk result (self.new ≡ with_column self.old column cell) }
+        ensures err { OnErr result (self.new ≡ self.old) }
+    {
+        put_in(&mut self.cells, column, cell)
+    }
+
+    // The same partition once more.
+    fn copy(&self, alloc: Global) -> Result<Partition, AllocError>
+        ensures ok { IfOk result (λ copy. copy ≡ self.now) }
+        ensures normal { IsNormal self.now }
+    {
+        let cells = copy_cells(&self.cells, alloc)?;
+        Ok(Partition {
+            deleted: self.deleted,
+            cells,
+        })
+    }
+
+    /// Merges another partition of the key, of which the cells are copied.
+    pub fn merge(&mut self, other: &Partition) -> Result<(), AllocError>
+        ensures ok { OnOk result (self.new ≡ merge self.old other.now) }
+        ensures err { OnErr result (self.new ≡ self.old) }
+
+        // Whatever the order and the grouping of merges, and however often one is done again.
+        ensures commutes { (types : ℕ → ColumnType) → IsTyped types self.old → IsTyped types other.now → OnOk result (self.new ≡ merge other.now self.old) }
+        ensures associates { (third : Written) → OnOk result (merge self.new third ≡ merge self.old (merge other.now third)) }
+        ensures idempotent { merge other.now other.now ≡ other.now }
+    {
+        let copy = other.copy(*self.cells.allocator())?;
+        self.merge_from(copy)
+    }
+
+    /// Merges another partition of the key, and takes its cells.
+    pub fn merge_from(&mut self, other: Partition) -> Result<(), AllocError>
+        ensures ok { OnOk result (self.new ≡ merge self.old other) }
+        ensures err { OnErr result (self.new ≡ self.old) }
+    {
+        let alloc = *self.cells.allocator();
+        let room = Vec::with_capacity(alloc, self.cells.len() + other.cells.len())?;
+        let cells = mem::replace(&mut self.cells, Vec::new(alloc));
+        self.deleted = self.deleted.max(other.deleted);
+        self.cells = join(self.deleted, cells, other.cells, room);
+        self.cells.shrink_to_fit();
+        Ok(())
+    }
+
+    /// Whether the row is there: its marker or another cell has a value.
+    pub fn is_live(&self) -> bool
+        ensures { result ≡ is_live self.now }
+    {
+        search::any_live(&self.cells)
+    }
+
+    /// The greatest time of the deletion or a cell, 0 if there is none.
+    pub fn greatest(&self) -> u64
+        ensures { result ≡ greatest_of self.now }
+    {
+        search::greatest_time(&self.cells, self.deleted)
+    }
+}
+
+// Puts the cell of a column in its place.
+fn put_in(cells: &mut Vec<(u16, Cell)>, column: u16, cell: Cell) -> Result<(), AllocError>
+    requires { map.is_sorted nat_cmp cells.old.items ≡ true }
+    ensures ok { OnOk result (cells.new.items ≡ map.put nat_cmp column cell cells.old.items) }
+    ensures err { OnErr result (cells.new.items ≡ cells.old.items) }
+{
+    match search::search(cells, column) {
+        Ok(at) => cells[at].1 = cell,
+        Err(at) => cells.insert(at, (column, cell))?,
+    }
+    Ok(())
+}
+
+// The same cells once more.
+fn copy_cells(cells: &[(u16, Cell)], alloc: Global) -> Result<Vec<(u16, Cell)>, AllocError>
+    ensures { IfOk result (λ copy. copy.items ≡ cells.now) }
+{
+    let mut copy = Vec::with_capacity(alloc, cells.len())?;
+    for entry in cells {
+        copy.push((entry.0, entry.1.copy(alloc)?))?;
+    }
+    Ok(copy)
+}

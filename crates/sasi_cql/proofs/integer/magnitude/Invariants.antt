@@ -1,0 +1,6 @@
+use Rattle.std.proofs.Common.{◌≡◌, ◌≤◌, ◌^◌, drop}
+use Rattle.sasi_model.specs.Tokens.{decimal, decimal_on}
+use Rattle.sasi_cql.proofs.integer.magnitude.Given as goal
+
+abbrev pub invariant-digits : goal.invariant-digits
+invariant-digits l = (decimal l.digits ≡ decimal_on l.value (drop l.digit-index l.digits)) × (l.value ≤ 2 ^ 127)

@@ -1,0 +1,90 @@
+// What stands between tokens: spaces and comments.
+ghost use Rattle.std.specs.Prelude.{◌≡◌, ◌&&◌, ◌||◌, drop, true, false};
+ghost use Rattle.sasi_model.specs.Pieces.{behind_first, closes, is_block, is_line, is_space, opened_by, to_byte, to_close};
+ghost use Rattle.sasi_model.specs.Tokens.{is_gap};
+ghost use Rattle.sasi_cql.specs.Meaning.{Passes};
+
+use crate::byte::{is_space, starts};
+
+fn is_line(first: u8, behind: &[u8]) -> bool
+    ensures { result ≡ is_line first behind.now }
+{
+    (first == b'-' && starts(b'-', behind)) || (first == b'/' && starts(b'/', behind))
+}
+
+fn is_block(first: u8, behind: &[u8]) -> bool
+    ensures { result ≡ is_block first behind.now }
+{
+    first == b'/' && starts(b'*', behind)
+}
+
+// What stands behind the end of the line.
+fn behind_line<'a>(bytes: &'a [u8]) -> &'a [u8]
+    ensures { result.now ≡ drop (to_byte 10 bytes.now) bytes.now }
+{
+    let mut left = bytes;
+    'bytes: while let Some((first, behind)) = left.split_first() {
+        if *first == b'\n' {
+            return behind;
+        }
+        left = behind;
+    }
+    left
+}
+
+// What stands behind the first `*/`, if there is one.
+fn behind_close<'a>(bytes: &'a [u8]) -> Option<&'a [u8]>
+    ensures { Passes (closes bytes.now) (to_close bytes.now) bytes.now result }
+{
+    let mut left = bytes;
+    'bytes: while let Some((first, behind)) = left.split_first() {
+        if *first == b'*' && starts(b'/', behind) {
+            let (_, rest) = behind.split_at(1);
+            return Some(rest);
+        }
+        left = behind;
+    }
+    None
+}
+
+// What stands behind a space, or a comment up to the end of its line.
+fn short_gap<'a>(first: u8, behind: &'a [u8]) -> Option<&'a [u8]>
+    ensures { Passes (is_space first || is_line first behind.now) (opened_by first behind.now) behind.now result }
+{
+    if is_space(first) {
+        Some(behind)
+    } else if is_line(first, behind) {
+        Some(behind_line(behind))
+    } else {
+        None
+    }
+}
+
+// What stands behind a comment up to its `*/`. `unclosed` says that there is no further `*/`: a `/*` that nothing closes
+// is no comment, and the text behind it is searched only once.
+fn block<'a>(first: u8, behind: &'a [u8], unclosed: &mut bool) -> Option<&'a [u8]>
+    requires { unclosed.old ≡ true → closes behind.now ≡ false }
+    ensures found { Passes (is_block first behind.now && closes (behind_first behind.now)) (opened_by first behind.now) behind.now result }
+    ensures kept { unclosed.new ≡ true → closes (behind_first behind.now) ≡ false }
+{
+    if *unclosed || !is_block(first, behind) {
+        return None;
+    }
+    let (_, body) = behind.split_at(1);
+    let rest = behind_close(body);
+    *unclosed = rest.is_none();
+    rest
+}
+
+/// What stands behind a space or a comment, if there is one in front. `unclosed` says that there is no further `*/`.
+#[tactic(auto, unfolding(sasi_model::specs::Tokens::is_gap))]
+pub fn gap<'a>(first: u8, behind: &'a [u8], unclosed: &mut bool) -> Option<&'a [u8]>
+    requires { unclosed.old ≡ true → closes behind.now ≡ false }
+    ensures found { Passes (is_gap first behind.now) (opened_by first behind.now) behind.now result }
+    ensures kept { unclosed.new ≡ true → closes (behind_first behind.now) ≡ false }
+{
+    if let Some(rest) = short_gap(first, behind) {
+        return Some(rest);
+    }
+    block(first, behind, unclosed)
+}

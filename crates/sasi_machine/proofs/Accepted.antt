@@ -1,0 +1,130 @@
+-- Writes that no rule refuses.
+use Rattle.std.proofs.Common.{◌≡◌, ℕ, Bool, true, false, not, ◌&&◌, ◌||◌, if◌then◌else◌, List, [], ◌∷◌, map, ◌++◌, Option, None, Some, refl, sym}
+use Rattle.std.specs.Cmp.Lexicographic.{same_text}
+use Rattle.sasi_types.specs.declared.literal.Literal.{Literal}
+use Rattle.sasi_types.specs.declared.literal.Number.{Number}
+use Rattle.sasi_model.specs.Statements.{same}
+use Rattle.sasi_model.specs.State.{Definition, key_name, key_type}
+use Rattle.sasi_model.specs.Refusals.{delete_rules, each, first_of, gives_key, is_column, is_empty_text, is_key, is_key_value, is_null, is_of, key_empty, no_column, no_regular_column, number_range, other_key, repeat_rules, tests, time_rules, type_of_column, update_rules, value_too_long, wrong_type, wrong_where}
+use Rattle.sasi_model.specs.Step.{key_literal}
+use Rattle.sasi_schema.specs.Answers.{none_first, none_parts}
+use Rattle.sasi_schema.specs.Numbers.{IsKeyAt}
+use Rattle.sasi_machine.specs.declared.target.Target.{Target}
+use Rattle.sasi_machine.specs.Checks.{given_key_rules, given_rules, kind_rules, length_rules, missing_rule, range_rules, where_rules}
+use Rattle.sasi_machine.specs.KeyLiteral.{IsKeyLiteral}
+
+-- ---- tests
+
+and_parts : (a b : Bool) → (a && b) ≡ true → (a ≡ true) × (b ≡ true)
+and_parts true true e = (refl, refl)
+and_parts true false e = cc
+and_parts false b e = cc
+
+or_parts : (a b : Bool) → (a || b) ≡ false → (a ≡ false) × (b ≡ false)
+or_parts false false e = (refl, refl)
+or_parts false true e = cc
+or_parts true b e = cc
+
+not_false : (a : Bool) → not a ≡ false → a ≡ true
+not_false true e = refl
+not_false false e = cc
+
+not_true : (a : Bool) → not a ≡ true → a ≡ false
+not_true true e = cc
+not_true false e = refl
+
+other_true : (a b : Bool) → (a && b) ≡ false → a ≡ true → b ≡ false
+other_true true b e is = e
+other_true false b e is = cc
+
+-- ---- the key
+
+-- the type of the key's column
+key_typed : (d : Definition) (name : List ℕ) → IsKeyAt d.key d.columns → is_key d name ≡ true → type_of_column d name ≡ Some (key_type d)
+key_typed d name at is =
+    let named : name ≡ key_name d = same_text name (key_name d) (sym (and_parts (is_column d name) (same name (key_name d)) is).1) in
+    rw (named, at) refl
+
+-- what the rules say of the key's literal
+key_passes : (d : Definition) (name : List ℕ) (literal : Literal) → IsKeyAt d.key d.columns → is_key d name ≡ true → is_null literal ≡ false → (wrong_type d name literal).0 ≡ false → (number_range d name literal).0 ≡ false
+    → (key_empty d name literal).0 ≡ false → (value_too_long d name literal).0 ≡ false → IsKeyLiteral (key_type d) literal
+key_passes d name literal at is there wrong range empty long =
+    let typed = key_typed d name at is in
+    record {
+      typed = not_false (is_of (key_type d) literal) (rw typed at wrong);
+      there = there;
+      within = rw typed at range;
+      some = rw typed at (other_true (is_key d name) (tests is_empty_text (type_of_column d name) literal) empty is);
+      short = rw typed at long;
+    }
+
+-- that which is given the key
+pub key_accepted : (d : Definition) (given : List (List ℕ × Literal)) → IsKeyAt d.key d.columns → gives_key d given ≡ true → first_of (each (wrong_type d) given) ≡ None → first_of (each (number_range d) given) ≡ None
+    → first_of (each (key_empty d) given) ≡ None → first_of (each (value_too_long d) given) ≡ None → IsKeyLiteral (key_type d) (key_literal d given)
+key_accepted d [] at gives wrong range empty long = cc
+key_accepted d (g ∷ given) at gives wrong range empty long =
+    let wrongs = none_first (wrong_type d g.0 g.1) (each (wrong_type d) given) wrong in
+    let ranges = none_first (number_range d g.0 g.1) (each (number_range d) given) range in
+    let empties = none_first (key_empty d g.0 g.1) (each (key_empty d) given) empty in
+    let longs = none_first (value_too_long d g.0 g.1) (each (value_too_long d) given) long in
+    elim (is_key_value d g.0 g.1) as (λ b. is_key_value d g.0 g.1 ≡ b → (b || gives_key d given) ≡ true → IsKeyLiteral (key_type d) (if b then g.1 else key_literal d given)) [
+      | true ↦ λ is _.
+          let parts = and_parts (is_key d g.0) (not (is_null g.1)) is in
+          key_passes d g.0 g.1 at parts.0 (not_true (is_null g.1) parts.1) wrongs.0 ranges.0 empties.0 longs.0
+      | false ↦ λ _ later. key_accepted d given at later wrongs.1 ranges.1 empties.1 longs.1
+    ] refl gives
+
+-- ---- INSERT
+
+pub record IsAccepted (d : Definition) (sets : List (List ℕ × Literal)) (literal : Literal) : Type 0 where
+  pub ranges : first_of (each (number_range d) sets) ≡ None
+  pub key : IsKeyLiteral (key_type d) literal
+
+pub insert_accepted : (d : Definition) (greatest : ℕ) (given : List (List ℕ × Literal)) (time : Option Number) → IsKeyAt d.key d.columns → first_of (given_rules d greatest given time) ≡ None → IsAccepted d given (key_literal d given)
+insert_accepted d greatest given time at none =
+    let wrong = none_parts (each (wrong_type d) given) (each (number_range d) given ++ given_key_rules d greatest given time) none in
+    let range = none_parts (each (number_range d) given) (given_key_rules d greatest given time) wrong.1 in
+    let missing = none_first (missing_rule d given) (each (key_empty d) given ++ (each (value_too_long d) given ++ time_rules greatest time)) range.1 in
+    let empty = none_parts (each (key_empty d) given) (each (value_too_long d) given ++ time_rules greatest time) missing.1 in
+    let long = none_parts (each (value_too_long d) given) (time_rules greatest time) empty.1 in
+    record { ranges = range.0; key = key_accepted d given at (not_false (gives_key d given) missing.0) wrong.0 range.0 empty.0 long.0 }
+
+-- ---- UPDATE and DELETE
+
+where_tests : (d : Definition) (name : List ℕ) (literal : Literal) → IsKeyAt d.key d.columns → is_key d name ≡ true → (wrong_where d name literal).0 ≡ false → ((wrong_type d name literal).0 ≡ false) × (is_null literal ≡ false)
+where_tests d name literal at is wrong =
+    let typed = key_typed d name at is in
+    let parts = or_parts (not (is_of (key_type d) literal)) (is_null literal) (rw typed at wrong) in
+    (rw typed parts.0, parts.1)
+
+pub where_accepted : (d : Definition) (greatest : ℕ) (sets : List (List ℕ × Literal)) (target : Target) (time : Option Number) → IsKeyAt d.key d.columns → is_column d target.column ≡ true → first_of (kind_rules d greatest sets target time) ≡ None → IsAccepted d sets target.value
+where_accepted d greatest sets target time at column none =
+    let wrong = none_parts (each (wrong_type d) sets) (wrong_where d target.column target.value ∷ range_rules d greatest sets target time) none in
+    let wrong_key = none_first (wrong_where d target.column target.value) (range_rules d greatest sets target time) wrong.1 in
+    let range = none_parts (each (number_range d) sets) (number_range d target.column target.value ∷ where_rules d greatest sets target time) wrong_key.1 in
+    let range_key = none_first (number_range d target.column target.value) (where_rules d greatest sets target time) range.1 in
+    let other = none_first (other_key d target.column) (key_empty d target.column target.value ∷ length_rules d greatest sets target time) range_key.1 in
+    let empty = none_first (key_empty d target.column target.value) (length_rules d greatest sets target time) other.1 in
+    let long = none_parts (each (value_too_long d) sets) (value_too_long d target.column target.value ∷ time_rules greatest time) empty.1 in
+    let long_key = none_first (value_too_long d target.column target.value) (time_rules greatest time) long.1 in
+    let is : is_key d target.column ≡ true = not_false (is_key d target.column) (other_true (is_column d target.column) (not (is_key d target.column)) other.0 column) in
+    let tested = where_tests d target.column target.value at is wrong_key.0 in
+    record { ranges = range.0; key = key_passes d target.column target.value at is tested.1 tested.0 range_key.0 empty.0 long_key.0 }
+
+pub update_accepted : (d : Definition) (greatest : ℕ) (table : List ℕ) (sets : List (List ℕ × Literal)) (target : Target) (time : Option Number) → IsKeyAt d.key d.columns → first_of (update_rules greatest table sets target.column target.value time (Some d)) ≡ None → IsAccepted d sets target.value
+update_accepted d greatest table sets target time at none =
+    let kinds = kind_rules d greatest sets target time in
+    let repeats = repeat_rules [] (map (λ set. set.0) sets) in
+    let regular = none_parts (map (λ set. no_regular_column d set.0) sets) (no_column d target.column ∷ (repeats ++ kinds)) none in
+    let column = none_first (no_column d target.column) (repeats ++ kinds) regular.1 in
+    let once = none_parts repeats kinds column.1 in
+    where_accepted d greatest sets target time at (not_false (is_column d target.column) column.0) once.1
+
+pub delete_accepted : (d : Definition) (greatest : ℕ) (table : List ℕ) (columns : List (List ℕ)) (target : Target) (time : Option Number) → IsKeyAt d.key d.columns → first_of (delete_rules greatest table columns target.column target.value time (Some d)) ≡ None → IsAccepted d [] target.value
+delete_accepted d greatest table columns target time at none =
+    let kinds = kind_rules d greatest [] target time in
+    let repeats = repeat_rules [] columns in
+    let regular = none_parts (map (no_regular_column d) columns) (no_column d target.column ∷ (repeats ++ kinds)) none in
+    let column = none_first (no_column d target.column) (repeats ++ kinds) regular.1 in
+    let once = none_parts repeats kinds column.1 in
+    where_accepted d greatest [] target time at (not_false (is_column d target.column) column.0) once.1

@@ -1,0 +1,120 @@
+-- Tables of their definitions and contents.
+use Rattle.std.proofs.Common.{◌≡◌, ◌⊎◌, inl, inr, ℕ, zero, suc, ◌<◌, true, false, if◌then◌else◌, List, [], ◌∷◌, ◌++◌, length, set, slice_get, Option, None, Some, refl, sym, ap, ◌∙◌, arith}
+use Rattle.sasi_model.specs.Statements.{same}
+use Rattle.sasi_model.specs.State.{Definition, Table, definition_of, definitions, key_type, one_more, table_of, with_table}
+use Rattle.sasi_schema.specs.Numbers.{number_of_table}
+use Rattle.sasi_machine.specs.Contents.{Contents}
+use Rattle.sasi_machine.specs.Tables.{AreContents, table_with, tables_of}
+
+-- ---- the definitions
+
+pub definitions_of : (ds : List Definition) (cs : List Contents) → AreContents ds cs → definitions (tables_of ds cs) ≡ ds
+definitions_of [] cs held = refl
+definitions_of (d ∷ ds) [] held = absurd held
+definitions_of (d ∷ ds) (c ∷ cs) held = ap (λ (rest : List Definition). d ∷ rest) (definitions_of ds cs held.1)
+
+pub table_absent : (name : List ℕ) (ds : List Definition) (cs : List Contents) → definition_of name ds ≡ None → table_of name (tables_of ds cs) ≡ None
+table_absent name [] cs absent = refl
+table_absent name (d ∷ ds) [] absent = refl
+table_absent name (d ∷ ds) (c ∷ cs) absent =
+    elim (same d.name name) as (λ b. (if b then Some d else definition_of name ds) ≡ None → (if b then Some (table_with d c) else table_of name (tables_of ds cs)) ≡ None) [
+      | true ↦ λ e. cc
+      | false ↦ λ e. table_absent name ds cs e
+    ] absent
+
+-- ---- a table of a number
+
+-- a number is that of the first, or of a later table
+record IsLater (name : List ℕ) (d : Definition) (ds : List Definition) (at : ℕ) : Type 0 where
+  other : same d.name name ≡ false
+  place : ℕ
+  place_is : at ≡ suc place
+  later : number_of_table name ds ≡ Some (suc place)
+
+later_from : (name : List ℕ) (d : Definition) (ds : List Definition) (at : ℕ) (number : Option ℕ) → number_of_table name ds ≡ number → ((n : ℕ) → number ≡ Some n → 0 < n) → same d.name name ≡ false → one_more number ≡ Some (suc at) → IsLater name d ds at
+later_from name d ds at None is some other more = cc
+later_from name d ds at (Some zero) is some other more = absurd (omega (arith, some 0 refl))
+later_from name d ds at (Some (suc place)) is some other more = let e : suc (suc place) ≡ suc at = cc in record { other = other; place = place; place_is = omega arith; later = is }
+
+one_more_some : (o : Option ℕ) (n : ℕ) → one_more o ≡ Some n → 0 < n
+one_more_some None n e = cc
+one_more_some (Some k) n e = let is : suc k ≡ n = cc in omega arith
+
+pub number_some : (name : List ℕ) (ds : List Definition) (n : ℕ) → number_of_table name ds ≡ Some n → 0 < n
+number_some name [] n is = cc
+number_some name (d ∷ ds) n is =
+    elim (same d.name name) as (λ b. (if b then Some 1 else one_more (number_of_table name ds)) ≡ Some n → 0 < n) [
+      | true ↦ λ e. let one : 1 ≡ n = cc in omega arith
+      | false ↦ λ e. one_more_some (number_of_table name ds) n e
+    ] is
+
+first_or_later : (name : List ℕ) (d : Definition) (ds : List Definition) (at : ℕ) → number_of_table name (d ∷ ds) ≡ Some (suc at) → ((same d.name name ≡ true) × (at ≡ 0)) ⊎ IsLater name d ds at
+first_or_later name d ds at is =
+    elim (same d.name name) as (λ b. same d.name name ≡ b → (if b then Some 1 else one_more (number_of_table name ds)) ≡ Some (suc at) → ((same d.name name ≡ true) × (at ≡ 0)) ⊎ IsLater name d ds at) [
+      | true ↦ λ named e. let one : 1 ≡ suc at = cc in inl (named, omega arith)
+      | false ↦ λ other e. inr (later_from name d ds at (number_of_table name ds) refl (λ n there. number_some name ds n there) other e)
+    ] refl is
+
+-- its contents are there
+pub number_inside : (name : List ℕ) (ds : List Definition) (cs : List Contents) (at : ℕ) → AreContents ds cs → number_of_table name ds ≡ Some (suc at) → at < length cs
+number_inside name [] cs at held is = cc
+number_inside name (d ∷ ds) [] at held is = absurd held
+number_inside name (d ∷ ds) (c ∷ cs) at held is =
+    elim (first_or_later name d ds at is) [
+      | inl first ↦ omega (arith, first.1)
+      | inr later ↦ omega (arith, later.place_is, number_inside name ds cs later.place held.1 later.later)
+    ]
+
+-- what stands at the number of a table
+pub record IsThere (name : List ℕ) (ds : List Definition) (cs : List Contents) (at : ℕ) (d : Definition) (c : Contents) : Type 0 where
+  pub table : table_of name (tables_of ds cs) ≡ Some (table_with d c)
+  pub kind : c.kind ≡ key_type d
+  -- to change its partitions is to write there
+  pub changed : (change : Table → Table) (new : Contents) → change (table_with d c) ≡ table_with d new → with_table name change (tables_of ds cs) ≡ tables_of ds (set cs at new)
+  pub kept : (new : Contents) → new.kind ≡ c.kind → AreContents ds (set cs at new)
+
+there_first : (name : List ℕ) (d : Definition) (ds : List Definition) (c : Contents) (cs : List Contents) (t : Definition) (x : Contents) → AreContents (d ∷ ds) (c ∷ cs) → same d.name name ≡ true → definition_of name (d ∷ ds) ≡ Some t → c ≡ x → IsThere name (d ∷ ds) (c ∷ cs) 0 t x
+there_first name d ds c cs t x held named found is =
+    let t_is : d ≡ t = let e : Some d ≡ Some t = rw named at found in cc in
+    record {
+      table = rw named (ap (λ (d : Definition). Some (table_with d c)) t_is ∙ ap (λ (c : Contents). Some (table_with t c)) is);
+      kind = ap (λ (c : Contents). c.kind) (sym is) ∙ held.0 ∙ ap key_type t_is;
+      changed = λ change new e. rw named (ap (λ (first : Table). first ∷ tables_of ds cs) (ap change (ap (λ (d : Definition). table_with d c) t_is ∙ ap (table_with t) is) ∙ e ∙ ap (λ (d : Definition). table_with d new) (sym t_is)));
+      kept = λ new same_kind. (same_kind ∙ ap (λ (c : Contents). c.kind) (sym is) ∙ held.0, held.1);
+    }
+
+there_later : (name : List ℕ) (d : Definition) (ds : List Definition) (c : Contents) (cs : List Contents) (at : ℕ) (t : Definition) (x : Contents) → AreContents (d ∷ ds) (c ∷ cs) → same d.name name ≡ false → IsThere name ds cs at t x → IsThere name (d ∷ ds) (c ∷ cs) (suc at) t x
+there_later name d ds c cs at t x held other there =
+    record {
+      table = rw other there.table;
+      kind = there.kind;
+      changed = λ change new e. rw other (ap (λ (rest : List Table). table_with d c ∷ rest) (there.changed change new e));
+      kept = λ new same_kind. (held.0, there.kept new same_kind);
+    }
+
+pub is_there : (name : List ℕ) (ds : List Definition) (cs : List Contents) (at : ℕ) (d : Definition) (c : Contents) → AreContents ds cs → number_of_table name ds ≡ Some (suc at) → definition_of name ds ≡ Some d → slice_get cs at ≡ Some c → IsThere name ds cs at d c
+is_there name [] cs at t x held is found got = cc
+is_there name (d ∷ ds) [] at t x held is found got = absurd held
+is_there name (d ∷ ds) (c ∷ cs) at t x held is found got =
+    elim (first_or_later name d ds at is) [
+      | inl first ↦
+          let got_first : slice_get (c ∷ cs) 0 ≡ Some x = rw first.1 at got in
+          rw first.1 (there_first name d ds c cs t x held first.0 found (let e : Some c ≡ Some x = got_first in cc))
+      | inr later ↦
+          let got_later : slice_get (c ∷ cs) (suc later.place) ≡ Some x = rw later.place_is at got in
+          rw later.place_is (there_later name d ds c cs later.place t x held later.other (is_there name ds cs later.place t x held.1 later.later (rw later.other at found) got_later))
+    ]
+
+-- ---- one more table
+
+pub tables_push : (ds : List Definition) (cs : List Contents) (d : Definition) (c : Contents) → AreContents ds cs → tables_of (ds ++ d ∷ []) (cs ++ c ∷ []) ≡ tables_of ds cs ++ table_with d c ∷ []
+tables_push [] [] d c held = refl
+tables_push [] (x ∷ cs) d c held = absurd held
+tables_push (t ∷ ds) [] d c held = absurd held
+tables_push (t ∷ ds) (x ∷ cs) d c held = ap (λ (rest : List Table). table_with t x ∷ rest) (tables_push ds cs d c held.1)
+
+pub held_push : (ds : List Definition) (cs : List Contents) (d : Definition) (c : Contents) → AreContents ds cs → c.kind ≡ key_type d → AreContents (ds ++ d ∷ []) (cs ++ c ∷ [])
+held_push [] [] d c held kind = (kind, tt)
+held_push [] (x ∷ cs) d c held kind = absurd held
+held_push (t ∷ ds) [] d c held kind = absurd held
+held_push (t ∷ ds) (x ∷ cs) d c held kind = (held.0, held_push ds cs d c held.1 kind)

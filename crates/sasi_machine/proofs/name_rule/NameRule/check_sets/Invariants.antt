@@ -1,0 +1,12 @@
+use Rattle.std.proofs.Common.{◌≡◌, ℕ, List, map, drop}
+use Rattle.sasi_types.specs.declared.literal.Literal.{Literal}
+use Rattle.sasi_model.specs.Refusals.{first_of, Rule}
+use Rattle.sasi_schema.specs.Defined.{definition}
+use Rattle.sasi_machine.specs.Rules.{name_rule}
+use Rattle.sasi_machine.proofs.name_rule.NameRule.check_sets.Given as goal
+
+-- the names so far pass
+abbrev pub invariant-loop-set : goal.invariant-loop-set
+invariant-loop-set l =
+    let rule : List ℕ × Literal → Rule = λ set. name_rule l.self (definition l.table) set.0 in
+    first_of (map rule l.sets) ≡ first_of (map rule (drop l.set-index l.sets))

@@ -1,0 +1,39 @@
+-- The rules of writes, by the checks that try them. In each the time comes last.
+use Rattle.std.specs.Prelude.{◌≡◌, ℕ, ◌<◌, ◌≤◌, not, List, ◌∷◌, ◌++◌, Option}
+use Rattle.sasi_types.specs.declared.literal.Literal.{Literal}
+use Rattle.sasi_types.specs.declared.literal.Number.{Number}
+use Rattle.sasi_model.specs.State.{Definition, key_name}
+use Rattle.sasi_model.specs.Refusals.{Rule, KeyMissing, TIME_LIMIT, each, gives_key, key_empty, number_range, other_key, time_rules, value_too_long, wrong_type, wrong_where}
+use Rattle.sasi_model.specs.Step.{time_of}
+use Rattle.sasi_machine.specs.declared.target.Target.{Target}
+
+-- the time of a write, where this is the greatest that is held
+pub record IsTimeOf (greatest : ℕ) (given : Option Number) (time : ℕ) : Type 0 where
+  pub is : time ≡ time_of greatest given
+  pub above : 0 < time
+  pub limit : time ≤ TIME_LIMIT
+
+-- ---- INSERT
+
+abbrev pub missing_rule : Definition → List (List ℕ × Literal) → Rule
+missing_rule d given = (not (gives_key d given), KeyMissing (key_name d))
+
+abbrev pub given_key_rules : Definition → ℕ → List (List ℕ × Literal) → Option Number → List Rule
+given_key_rules d greatest given time = missing_rule d given ∷ (each (key_empty d) given ++ (each (value_too_long d) given ++ time_rules greatest time))
+
+abbrev pub given_rules : Definition → ℕ → List (List ℕ × Literal) → Option Number → List Rule
+given_rules d greatest given time = each (wrong_type d) given ++ (each (number_range d) given ++ given_key_rules d greatest given time)
+
+-- ---- UPDATE and DELETE
+
+abbrev pub length_rules : Definition → ℕ → List (List ℕ × Literal) → Target → Option Number → List Rule
+length_rules d greatest sets target time = each (value_too_long d) sets ++ value_too_long d target.column target.value ∷ time_rules greatest time
+
+abbrev pub where_rules : Definition → ℕ → List (List ℕ × Literal) → Target → Option Number → List Rule
+where_rules d greatest sets target time = other_key d target.column ∷ key_empty d target.column target.value ∷ length_rules d greatest sets target time
+
+abbrev pub range_rules : Definition → ℕ → List (List ℕ × Literal) → Target → Option Number → List Rule
+range_rules d greatest sets target time = each (number_range d) sets ++ number_range d target.column target.value ∷ where_rules d greatest sets target time
+
+abbrev pub kind_rules : Definition → ℕ → List (List ℕ × Literal) → Target → Option Number → List Rule
+kind_rules d greatest sets target time = each (wrong_type d) sets ++ wrong_where d target.column target.value ∷ range_rules d greatest sets target time

@@ -1,0 +1,11 @@
+-- Faults of checks, as refusals.
+use Rattle.std.specs.Prelude.{Option, None, Some}
+use Rattle.sasi_model.specs.Refusals as model
+use Rattle.sasi_machine.specs.Refusal.{refusal_of}
+use Rattle.sasi_machine.specs.declared.fault.Fault.{Fault}
+use Rattle.sasi_machine.specs.declared.fault.Fault.TheVariants.{OutOfMemory, Refused}
+
+-- the refusal that a fault is; want of memory is none
+abbrev pub told : Fault → Option model.Refusal
+told OutOfMemory = None
+told (Refused refusal) = Some (refusal_of refusal)

@@ -1,0 +1,78 @@
+-- What the writes of a table are: the key, and the change of its partition.
+use Rattle.std.specs.Prelude.{◌≡◌, ℕ, List, Option, None, Some, ⊤}
+use Rattle.std.specs.List.{zip}
+use Rattle.sasi_types.specs.declared.literal.Literal.{Literal}
+use Rattle.sasi_types.specs.declared.literal.Literal.TheVariants.{Null}
+use Rattle.sasi_types.specs.declared.literal.Number.{Number}
+use Rattle.sasi_types.specs.declared.partitioner.Partitioner.{Partitioner}
+use Rattle.sasi_types.specs.declared.statement.Statement.{Statement}
+use Rattle.sasi_types.specs.declared.statement.Statement.TheVariants.{CreateTable, Insert, Update, Delete, Query}
+use Rattle.sasi_cells.specs.Rows.{IsStored}
+use Rattle.sasi_model.specs.Cells.{Partition, empty_partition}
+use Rattle.sasi_model.specs.State.{Definition, definition_of, key_type}
+use Rattle.sasi_model.specs.Step.{delete_change, insert_change, key_literal, place_given, update_change}
+use Rattle.sasi_schema.specs.Numbers.{number_of_table}
+use Rattle.sasi_machine.specs.Checks.{IsTimeOf}
+use Rattle.sasi_machine.specs.declared.write.Write.{Write}
+
+-- an INSERT, an UPDATE or a DELETE
+abbrev pub IsWriting : Statement → Type 0
+IsWriting (CreateTable table columns keys) = ⊥
+IsWriting (Insert table columns values time) = ⊤
+IsWriting (Update table time sets key value) = ⊤
+IsWriting (Delete table columns time key value) = ⊤
+IsWriting (Query select) = ⊥
+
+-- the table that is written
+abbrev pub table_named : Statement → List ℕ
+table_named (CreateTable table columns keys) = table
+table_named (Insert table columns values time) = table
+table_named (Update table time sets key value) = table
+table_named (Delete table columns time key value) = table
+table_named (Query select) = select.table
+
+-- the time that is given
+abbrev pub time_in : Statement → Option Number
+time_in (Insert table columns values time) = time
+time_in (Update table time sets key value) = time
+time_in (Delete table columns time key value) = time
+time_in statement = None
+
+-- the literal of the key
+abbrev pub key_in : Definition → Statement → Literal
+key_in d (Insert table columns values time) = key_literal d (zip columns values)
+key_in d (Update table time sets key value) = value
+key_in d (Delete table columns time key value) = value
+key_in d statement = Null
+
+-- the change
+abbrev pub change_in : Definition → ℕ → Statement → Partition
+change_in d t (Insert table columns values time) = insert_change d t (zip columns values)
+change_in d t (Update table time sets key value) = update_change d t sets
+change_in d t (Delete table columns time key value) = delete_change d t columns
+change_in d t statement = empty_partition
+
+-- a write of a table of this definition: the change of the key's partition
+pub record IsChange (partitioner : Partitioner) (d : Definition) (key : Literal) (change : Partition) (write : Write) : Type 0 where
+  pub place : write.place ≡ place_given partitioner d key
+  pub stored : IsStored (key_type d) write.place.key
+  pub change_is : write.change ≡ change
+
+-- what an INSERT of these literals writes to the table of this definition
+pub record IsInsertTo (partitioner : Partitioner) (greatest : ℕ) (d : Definition) (given : List (List ℕ × Literal)) (time_given : Option Number) (write : Write) : Type 0 where
+  pub time : ℕ
+  pub time_is : IsTimeOf greatest time_given time
+  pub change : IsChange partitioner d (key_literal d given) (insert_change d time given) write
+
+-- what the statement writes to the table of this definition
+pub record IsWriteTo (partitioner : Partitioner) (greatest : ℕ) (d : Definition) (statement : Statement) (write : Write) : Type 0 where
+  pub time : ℕ
+  pub time_is : IsTimeOf greatest (time_in statement) time
+  pub change : IsChange partitioner d (key_in d statement) (change_in d time statement) write
+
+-- what the statement writes, to the table that it names
+pub record IsWrite (tables : List Definition) (partitioner : Partitioner) (greatest : ℕ) (statement : Statement) (w : Write) : Type 0 where
+  pub definition : Definition
+  pub found : definition_of (table_named statement) tables ≡ Some definition
+  pub number : number_of_table (table_named statement) tables ≡ Some w.table
+  pub written : IsWriteTo partitioner greatest definition statement w

@@ -1,0 +1,212 @@
+// The rules of writes on a table that is there, in their order.
+ghost use Rattle.std.specs.Prelude.{◌≡◌, ◌≤◌, ◌∷◌, ◌++◌, [], IfOk, map, Some};
+ghost use Rattle.sasi_model.specs.Refusals.{TIME_LIMIT as time_limit, delete_rules, gives_key, other_key, repeat_rules, update_rules};
+ghost use Rattle.sasi_schema.specs.Answers.{Answers};
+ghost use Rattle.sasi_schema.specs.Defined.{definition};
+ghost use Rattle.sasi_machine.specs.Checks.{IsTimeOf, given_key_rules, given_rules, kind_rules, length_rules, missing_rule, range_rules, where_rules};
+ghost use Rattle.sasi_machine.specs.Faults.{told};
+
+use crate::Refusal;
+use crate::collect::is_key_value;
+use crate::fault::Fault;
+use crate::literal_rule::LiteralRule;
+use crate::name_rule::NameRule;
+use crate::target::Target;
+use crate::time::time_of;
+use sasi_schema::{Table, repeated_column, repeated_name};
+use sasi_types::{Literal, Name, Number};
+use std::alloc::Global;
+
+// No name stands twice.
+pub fn check_once(alloc: Global, names: &[Name]) -> Result<(), Fault>
+    ensures { Answers told (repeat_rules [] names.now) result }
+{
+    match repeated_name(alloc, names)? {
+        Some(name) => Err(Fault::Refused(Refusal::ColumnRepeated(name))),
+        None => Ok(()),
+    }
+}
+
+// No column is set twice.
+fn check_set_once(alloc: Global, sets: &[(Name, Literal)]) -> Result<(), Fault>
+    ensures { Answers told (repeat_rules [] (map (λ set. set.0) sets.now)) result }
+{
+    match repeated_column(alloc, sets)? {
+        Some(name) => Err(Fault::Refused(Refusal::ColumnRepeated(name))),
+        None => Ok(()),
+    }
+}
+
+// ---- INSERT
+
+fn gives_key(table: &Table, given: &[(Name, Literal)]) -> bool
+    ensures { result ≡ gives_key (definition table.now) given.now }
+{
+    for (column, literal) in given {
+        if is_key_value(table, column, literal) {
+            return true;
+        }
+    }
+    false
+}
+
+fn check_key_is_given(alloc: Global, table: &Table, given: &[(Name, Literal)]) -> Result<(), Fault>
+    ensures { Answers told (missing_rule (definition table.now) given.now ∷ []) result }
+{
+    if !gives_key(table, given) {
+        return Err(Fault::Refused(Refusal::KeyMissing(table.key_name().copy(alloc)?)));
+    }
+    Ok(())
+}
+
+fn check_given_key(
+    alloc: Global,
+    table: &Table,
+    greatest: u64,
+    given: &[(Name, Literal)],
+    time: Option<Number>,
+) -> Result<u64, Fault>
+    requires { greatest ≤ time_limit }
+    ensures answers { Answers told (given_key_rules (definition table.now) greatest given.now time) result }
+    ensures time { IfOk result (IsTimeOf greatest time) }
+{
+    check_key_is_given(alloc, table, given)?;
+    LiteralRule::KeyEmpty.check_each(alloc, table, given)?;
+    LiteralRule::ValueTooLong.check_each(alloc, table, given)?;
+    time_of(greatest, time)
+}
+
+/// Tries the rules on what an INSERT gives its columns, and finds its time.
+pub fn check_given(
+    alloc: Global,
+    table: &Table,
+    greatest: u64,
+    given: &[(Name, Literal)],
+    time: Option<Number>,
+) -> Result<u64, Fault>
+    requires { greatest ≤ time_limit }
+    ensures answers { Answers told (given_rules (definition table.now) greatest given.now time) result }
+    ensures time { IfOk result (IsTimeOf greatest time) }
+{
+    LiteralRule::WrongType.check_each(alloc, table, given)?;
+    LiteralRule::NumberRange.check_each(alloc, table, given)?;
+    check_given_key(alloc, table, greatest, given, time)
+}
+
+// ---- UPDATE and DELETE
+
+// The column of the WHERE is the key, if it is a column.
+fn check_is_key(alloc: Global, table: &Table, column: &Name) -> Result<(), Fault>
+    ensures { Answers told (other_key (definition table.now) column.now ∷ []) result }
+{
+    if table.number_of(column).is_some() && !table.is_key(column) {
+        return Err(Fault::Refused(Refusal::KeyMissing(table.key_name().copy(alloc)?)));
+    }
+    Ok(())
+}
+
+fn check_lengths(
+    alloc: Global,
+    table: &Table,
+    greatest: u64,
+    sets: &[(Name, Literal)],
+    target: &Target,
+    time: Option<Number>,
+) -> Result<u64, Fault>
+    requires { greatest ≤ time_limit }
+    ensures answers { Answers told (length_rules (definition table.now) greatest sets.now target.now time) result }
+    ensures time { IfOk result (IsTimeOf greatest time) }
+{
+    LiteralRule::ValueTooLong.check_each(alloc, table, sets)?;
+    LiteralRule::ValueTooLong.check(alloc, table, &target.column, &target.value)?;
+    time_of(greatest, time)
+}
+
+fn check_where(
+    alloc: Global,
+    table: &Table,
+    greatest: u64,
+    sets: &[(Name, Literal)],
+    target: &Target,
+    time: Option<Number>,
+) -> Result<u64, Fault>
+    requires { greatest ≤ time_limit }
+    ensures answers { Answers told (where_rules (definition table.now) greatest sets.now target.now time) result }
+    ensures time { IfOk result (IsTimeOf greatest time) }
+{
+    check_is_key(alloc, table, &target.column)?;
+    LiteralRule::KeyEmpty.check(alloc, table, &target.column, &target.value)?;
+    check_lengths(alloc, table, greatest, sets, target, time)
+}
+
+fn check_ranges(
+    alloc: Global,
+    table: &Table,
+    greatest: u64,
+    sets: &[(Name, Literal)],
+    target: &Target,
+    time: Option<Number>,
+) -> Result<u64, Fault>
+    requires { greatest ≤ time_limit }
+    ensures answers { Answers told (range_rules (definition table.now) greatest sets.now target.now time) result }
+    ensures time { IfOk result (IsTimeOf greatest time) }
+{
+    LiteralRule::NumberRange.check_each(alloc, table, sets)?;
+    LiteralRule::NumberRange.check(alloc, table, &target.column, &target.value)?;
+    check_where(alloc, table, greatest, sets, target, time)
+}
+
+fn check_kinds(
+    alloc: Global,
+    table: &Table,
+    greatest: u64,
+    sets: &[(Name, Literal)],
+    target: &Target,
+    time: Option<Number>,
+) -> Result<u64, Fault>
+    requires { greatest ≤ time_limit }
+    ensures answers { Answers told (kind_rules (definition table.now) greatest sets.now target.now time) result }
+    ensures time { IfOk result (IsTimeOf greatest time) }
+{
+    LiteralRule::WrongType.check_each(alloc, table, sets)?;
+    LiteralRule::WrongWhere.check(alloc, table, &target.column, &target.value)?;
+    check_ranges(alloc, table, greatest, sets, target, time)
+}
+
+/// Tries the rules of an UPDATE, and finds its time.
+pub fn check_update(
+    alloc: Global,
+    table: &Table,
+    greatest: u64,
+    sets: &[(Name, Literal)],
+    target: &Target,
+    time: Option<Number>,
+) -> Result<u64, Fault>
+    requires { greatest ≤ time_limit }
+    ensures answers { Answers told (update_rules greatest table.now.name sets.now target.now.column target.now.value time (Some (definition table.now))) result }
+    ensures time { IfOk result (IsTimeOf greatest time) }
+{
+    NameRule::NoRegularColumn.check_sets(alloc, table, sets)?;
+    NameRule::NoColumn.check(alloc, table, &target.column)?;
+    check_set_once(alloc, sets)?;
+    check_kinds(alloc, table, greatest, sets, target, time)
+}
+
+/// Tries the rules of a DELETE, and finds its time.
+pub fn check_delete(
+    alloc: Global,
+    table: &Table,
+    greatest: u64,
+    columns: &[Name],
+    target: &Target,
+    time: Option<Number>,
+) -> Result<u64, Fault>
+    requires { greatest ≤ time_limit }
+    ensures answers { Answers told (delete_rules greatest table.now.name columns.now target.now.column target.now.value time (Some (definition table.now))) result }
+    ensures time { IfOk result (IsTimeOf greatest time) }
+{
+    NameRule::NoRegularColumn.check_names(alloc, table, columns)?;
+    NameRule::NoColumn.check(alloc, table, &target.column)?;
+    check_once(alloc, columns)?;
+    check_kinds(alloc, table, greatest, &[], target, time)
+}

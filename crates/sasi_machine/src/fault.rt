@@ -1,0 +1,41 @@
+// Why a check does not pass.
+ghost use Rattle.std.specs.Prelude.{◌≡◌};
+ghost use Rattle.sasi_machine.specs.declared.fault.Fault.TheVariants.{OutOfMemory};
+ghost use Rattle.sasi_schema.specs.Faults.{told as schema_told};
+
+use crate::Refusal;
+use sasi_schema::SchemaFault;
+use std::alloc::AllocError;
+
+/// Why a check does not pass.
+#[derive(Debug, Drop)]
+pub enum Fault {
+    OutOfMemory,
+    Refused(Refusal),
+}
+
+impl From<AllocError> for Fault {
+    ghost from_gives = { λ _ e. e ≡ OutOfMemory };
+
+    fn from(_error: AllocError) -> Fault {
+        Fault::OutOfMemory
+    }
+}
+
+impl Fault {
+    ghost use Rattle.sasi_machine.specs.Faults.{told};
+
+    /// The same fault as the machine tells it.
+    pub fn of_schema(fault: SchemaFault) -> Fault
+        ensures { told result ≡ schema_told fault }
+    {
+        match fault {
+            SchemaFault::OutOfMemory => Fault::OutOfMemory,
+            SchemaFault::TableExists(name) => Fault::Refused(Refusal::TableExists(name)),
+            SchemaFault::NoColumn(name) => Fault::Refused(Refusal::NoColumn(name)),
+            SchemaFault::ColumnRepeated(name) => Fault::Refused(Refusal::ColumnRepeated(name)),
+            SchemaFault::KeyMissing(name) => Fault::Refused(Refusal::KeyMissing(name)),
+            SchemaFault::TooMany(limit) => Fault::Refused(Refusal::TooMany(limit)),
+        }
+    }
+}

@@ -1,0 +1,57 @@
+// What the tables hold, in the order of the tables.
+ghost use Rattle.std.specs.Prelude.{◌≡◌, ◌<◌, ◌+◌, ◌++◌, ◌∷◌, [], IfOk, OnOk, OnErr, length, slice_get, slice_set, Some};
+ghost use Rattle.std.specs.Vec.{vec_len, vec_capacity};
+ghost use Rattle.sasi_model.specs.Cells.{greatest_of};
+ghost use Rattle.sasi_model.specs.State.{column_at, type_or_text};
+ghost use Rattle.sasi_model.specs.Step.{key_place};
+ghost use Rattle.sasi_cells.specs.Rows.{IsStored};
+ghost use Rattle.sasi_machine.specs.Tables.{IsWrittenAt, IsRoomFor};
+
+use crate::rows::Rows;
+use crate::write::Write;
+use sasi_schema::place_in;
+use sasi_types::{ColumnType, Name};
+use std::alloc::AllocError;
+
+/// The type of the key column of a table that is to be made.
+pub fn key_kind(columns: &[(Name, ColumnType)], keys: &[Name]) -> ColumnType
+    ensures { result ≡ type_or_text (column_at (key_place columns.now keys.now) columns.now) }
+{
+    let place = match keys.first() {
+        None => 0,
+        Some(key) => place_in(key, columns).unwrap_or(0),
+    };
+    match columns.get(place) {
+        None => ColumnType::Text,
+        Some(column) => column.1,
+    }
+}
+
+/// Makes room for one more.
+pub fn reserve_one(contents: &mut Vec<Rows>) -> Result<(), AllocError>
+    ensures room { OnOk result (vec_len contents.new < vec_capacity contents.new) }
+    ensures items { contents.new.items ≡ contents.old.items }
+{
+    contents.reserve(1)
+}
+
+/// Adds one at the end of a list that has room for it.
+pub fn add_within(contents: &mut Vec<Rows>, rows: Rows)
+    requires { vec_len contents.old < vec_capacity contents.old }
+    ensures { contents.new.items ≡ contents.old.items ++ rows ∷ [] }
+{
+    let _ = contents.push(rows);
+}
+
+/// Merges a change into what its table holds, and gives the greatest time of the change.
+pub fn merge_into(contents: &mut Vec<Rows>, write: Write) -> Result<u64, AllocError>
+    requires { IsRoomFor contents.old.items write }
+    ensures ok { OnOk result (IsWrittenAt contents.old.items write contents.new.items) }
+    ensures time { IfOk result (λ time. time ≡ greatest_of write.change) }
+    ensures err { OnErr result (contents.new.items ≡ contents.old.items) }
+{
+    let time = write.change.greatest();
+    let rows = &mut contents[write.table as usize - 1];
+    rows.merge(write.place, write.change)?;
+    Ok(time)
+}

@@ -1,0 +1,59 @@
+// The columns that a query asks for.
+ghost use Rattle.std.specs.Prelude.{◌≡◌, ◌≤◌, map, IfOk};
+ghost use Rattle.sasi_model.specs.Refusals.{COLUMN_LIMIT as column_limit};
+ghost use Rattle.sasi_model.specs.State.{key_type};
+ghost use Rattle.sasi_model.specs.Step.{columns_asked, count_up, numbers_of};
+ghost use Rattle.sasi_schema.specs.Defined.{definition};
+ghost use Rattle.sasi_machine.specs.Picks.{pick};
+
+use sasi_cells::{Picked, PickedColumn, PickedList};
+use sasi_schema::Table;
+use sasi_types::{Name, Names};
+use std::alloc::{AllocError, Global};
+
+/// The columns that are asked for: those named, or the key and then the others in declared order.
+pub fn picked(alloc: Global, table: &Table, columns: &Option<Names>) -> Result<Picked, AllocError>
+    ensures key { IfOk result (λ picked. picked.key ≡ key_type (definition table.now)) }
+    ensures columns { IfOk result (λ picked. picked.columns ≡ map pick (columns_asked (definition table.now) columns.now)) }
+{
+    let list = match columns {
+        None => all(alloc, table.columns.as_slice().len())?,
+        Some(names) => named(alloc, table, names.as_slice())?,
+    };
+    Ok(Picked {
+        key: table.key_type(),
+        columns: list,
+    })
+}
+
+fn pick(number: u16) -> PickedColumn
+    ensures { result ≡ pick number }
+{
+    match number {
+        0 => PickedColumn::Key,
+        number => PickedColumn::Column(number),
+    }
+}
+
+// All columns of so many.
+fn all(alloc: Global, count: usize) -> Result<PickedList, AllocError>
+    requires { count ≤ column_limit }
+    ensures { IfOk result (λ list. list ≡ map pick (count_up 0 count)) }
+{
+    let mut list = PickedList::new(alloc);
+    for number in 0..count {
+        list.push(pick(number as u16))?;
+    }
+    Ok(list)
+}
+
+// The columns of these names.
+fn named(alloc: Global, table: &Table, names: &[Name]) -> Result<PickedList, AllocError>
+    ensures { IfOk result (λ list. list ≡ map pick (numbers_of (definition table.now) names.now)) }
+{
+    let mut list = PickedList::new(alloc);
+    for name in names {
+        list.push(pick(table.number_of(name).unwrap_or(0)))?;
+    }
+    Ok(list)
+}

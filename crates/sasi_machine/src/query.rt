@@ -1,0 +1,52 @@
+// Queries of a table that is there.
+ghost use Rattle.std.specs.Prelude.{◌≡◌, Some, IfOk};
+ghost use Rattle.std.specs.FinMap as map;
+ghost use Rattle.sasi_model.specs.State.{key_type};
+ghost use Rattle.sasi_model.specs.Refusals.{first_of, select_rules};
+ghost use Rattle.sasi_model.specs.Lines.{rows_lines};
+ghost use Rattle.sasi_model.specs.Step.{columns_asked, rows_among};
+ghost use Rattle.sasi_schema.specs.Answers.{Answers};
+ghost use Rattle.sasi_schema.specs.Defined.{definition};
+ghost use Rattle.sasi_machine.specs.Faults.{told};
+ghost use Rattle.sasi_machine.specs.Taken.{IsAnswered};
+
+use crate::fault::Fault;
+use crate::name_rule::NameRule;
+use crate::picking::picked;
+use crate::refuse::refuse_fault;
+use crate::rows::Rows;
+use crate::{Outcome, Reply};
+use sasi_schema::Table;
+use sasi_types::Names;
+use std::alloc::{AllocError, Global};
+
+/// Prints the rows that a query asks for, or refuses it.
+pub fn query(
+    alloc: Global,
+    table: &Table,
+    rows: &Rows,
+    columns: &Option<Names>,
+    reply: &mut Reply,
+) -> Result<Outcome, AllocError>
+    requires { rows.now.kind ≡ key_type (definition table.now) }
+    ensures { IfOk result (λ outcome. IsAnswered (first_of (select_rules table.now.name columns.now (Some (definition table.now)))) (rows_lines (rows_among (definition table.now) (columns_asked (definition table.now) columns.now) (map.entries rows.now.partitions))) reply.old reply.new outcome) }
+{
+    match check(alloc, table, columns) {
+        Err(fault) => refuse_fault(reply, fault),
+        Ok(()) => {
+            let picked = picked(alloc, table, columns)?;
+            rows.print(&picked, reply)?;
+            Ok(Outcome::Done)
+        }
+    }
+}
+
+// The columns that are asked for are columns of the table.
+fn check(alloc: Global, table: &Table, columns: &Option<Names>) -> Result<(), Fault>
+    ensures { Answers told (select_rules table.now.name columns.now (Some (definition table.now))) result }
+{
+    match columns {
+        None => Ok(()),
+        Some(names) => NameRule::NoColumn.check_names(alloc, table, names.as_slice()),
+    }
+}

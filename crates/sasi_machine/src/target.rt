@@ -1,0 +1,9 @@
+// What the WHERE of an UPDATE or a DELETE says.
+use sasi_types::{Literal, Name};
+
+/// The WHERE of an UPDATE or a DELETE: the column has this value.
+#[derive(Drop)]
+pub struct Target {
+    pub column: Name,
+    pub value: Literal,
+}

@@ -1,0 +1,34 @@
+// The times of writes.
+ghost use Rattle.std.specs.Prelude.{◌≡◌, ◌≤◌, IfOk};
+ghost use Rattle.sasi_model.specs.Refusals.{TIME_LIMIT as time_limit, is_time, time_rules};
+ghost use Rattle.sasi_types.specs.declared.literal.Number.TheVariants.{Fits};
+ghost use Rattle.sasi_schema.specs.Answers.{Answers};
+ghost use Rattle.sasi_machine.specs.Checks.{IsTimeOf};
+ghost use Rattle.sasi_machine.specs.Faults.{told};
+
+use crate::Refusal;
+use crate::fault::Fault;
+use sasi_types::Number;
+
+/// The latest time of a write.
+pub const TIME_LIMIT: u64 = 1 << 62;
+
+/// The time of a write: the one given, or one more than the greatest that is held.
+pub fn time_of(greatest: u64, time: Option<Number>) -> Result<u64, Fault>
+    requires { greatest ≤ time_limit }
+    ensures answers { Answers told (time_rules greatest time) result }
+    ensures time { IfOk result (IsTimeOf greatest time) }
+{
+    match time {
+        None if greatest == TIME_LIMIT => Err(Fault::Refused(Refusal::ClockSpent)),
+        None => Ok(greatest + 1),
+        Some(Number::Fits(time)) if is_time(time) => Ok(time as u64),
+        Some(_) => Err(Fault::Refused(Refusal::TimestampRange)),
+    }
+}
+
+fn is_time(time: i128) -> bool
+    ensures { result ≡ is_time (Fits time) }
+{
+    1 <= time && time <= i128::from(TIME_LIMIT)
+}

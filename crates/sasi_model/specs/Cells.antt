@@ -1,0 +1,103 @@
+-- Cells and partitions. A cell is a time and a value, or a tombstone; of two cells of one column the newest counts. A
+-- partition is what is written of one key: a deletion, which shadows every cell up to its time, and a cell for each column
+-- that has one. Column 0 is the row marker. Merging takes the newest of everything, whatever came first.
+use Rattle.std.specs.Prelude.{◌≡◌, ℕ, Bool, false, ◌||◌, nat_le, max, if◌then◌else◌, List, [], ◌∷◌, ◌++◌, Option, None, Some, is_some}
+use Rattle.std.specs.declared.cmp.Ordering.{Ordering}
+use Rattle.std.specs.Ordering.{nat_cmp, ordering_then, is_lt}
+use Rattle.std.specs.Cmp.Lexicographic.{slice_cmp}
+use Rattle.std.specs.FinMap as map_
+use Rattle.sasi_types.specs.declared.cell.Cell.{Cell}
+use Rattle.sasi_types.specs.declared.value.Value.{Value}
+use Rattle.sasi_types.specs.Value.{stored}
+
+-- ---- cells
+
+-- a tombstone is above every value, and of two values the one with the greater stored bytes is above the other
+abbrev pub value_cmp : Option Value → Option Value → Ordering
+value_cmp None None = nat_cmp 0 0
+value_cmp None (Some b) = nat_cmp 1 0
+value_cmp (Some a) None = nat_cmp 0 1
+value_cmp (Some a) (Some b) = slice_cmp nat_cmp (stored a) (stored b)
+
+-- which of two cells is newer: by time, and then by value
+abbrev pub cell_cmp : Cell → Cell → Ordering
+cell_cmp a b = ordering_then (nat_cmp a.time b.time) (value_cmp a.value b.value)
+
+abbrev pub newest : Cell → Cell → Cell
+newest a b = if is_lt (cell_cmp a b) then b else a
+
+abbrev pub newest_of : Option Cell → Option Cell → Option Cell
+newest_of None b = b
+newest_of (Some a) None = Some a
+newest_of (Some a) (Some b) = Some (newest a b)
+
+-- ---- partitions
+
+-- the cells by their columns' numbers
+abbrev pub Cells : Type 0
+Cells = map_.FinMap nat_cmp Cell
+
+pub record Partition : Type 0 where
+  -- the time of the deletion, 0 for none
+  pub deleted : ℕ
+  pub cells : Cells
+
+abbrev pub empty_partition : Partition
+empty_partition = record { deleted = 0; cells = map_.empty }
+
+-- a deletion at this time shadows the cell, if there is one
+abbrev pub unshadowed : ℕ → Option Cell → Option Cell
+unshadowed deleted None = None
+unshadowed deleted (Some cell) = if nat_le cell.time deleted then None else Some cell
+
+-- no cell is shadowed
+abbrev pub IsNormal : Partition → Type 0
+IsNormal p = (column : ℕ) → unshadowed p.deleted (map_.get p.cells column) ≡ map_.get p.cells column
+
+-- what two partitions have of a column, where a deletion at this time shadows
+abbrev pub merged_cell : ℕ → Partition → Partition → ℕ → Option Cell
+merged_cell deleted p q column = unshadowed deleted (newest_of (map_.get p.cells column) (map_.get q.cells column))
+
+abbrev pub with_cell : ℕ → Option Cell → List (ℕ × Cell) → List (ℕ × Cell)
+with_cell column None cells = cells
+with_cell column (Some cell) cells = (column, cell) ∷ cells
+
+-- the same of some columns
+abbrev pub merged_cells : ℕ → Partition → Partition → List ℕ → List (ℕ × Cell)
+merged_cells deleted p q [] = []
+merged_cells deleted p q (column ∷ columns) = with_cell column (merged_cell deleted p q column) (merged_cells deleted p q columns)
+
+-- the greater deletion, and of each column the newest cell, unless that deletion shadows it
+unfoldable pub merge : Partition → Partition → Partition
+merge p q = record { deleted = max p.deleted q.deleted; cells = map_.from_entries (merged_cells (max p.deleted q.deleted) p q (map_.keys p.cells ++ map_.keys q.cells)) }
+
+-- ---- live rows
+
+abbrev pub is_live_cell : Cell → Bool
+is_live_cell cell = is_some cell.value
+
+abbrev pub any_live : List Cell → Bool
+any_live [] = false
+any_live (cell ∷ cells) = is_live_cell cell || any_live cells
+
+-- the row is there: its marker or another cell is live
+abbrev pub is_live : Partition → Bool
+is_live p = any_live (map_.values p.cells)
+
+abbrev pub value_of : Option Cell → Option Value
+value_of None = None
+value_of (Some cell) = cell.value
+
+-- the value of a column, where the row has one
+abbrev pub value_at : Partition → ℕ → Option Value
+value_at p column = value_of (map_.get p.cells column)
+
+-- ---- times
+
+abbrev pub greatest_time : List Cell → ℕ
+greatest_time [] = 0
+greatest_time (cell ∷ cells) = max cell.time (greatest_time cells)
+
+-- the greatest time of the deletion or a cell, 0 if there is none
+abbrev pub greatest_of : Partition → ℕ
+greatest_of p = max p.deleted (greatest_time (map_.values p.cells))

@@ -1,0 +1,104 @@
+-- How the values of the model are stored, by which a proof tells them apart. Nothing here says what a script means.
+use Rattle.std.specs.Prelude.{◌≡◌, ℕ, ℤ, pos, zero, suc, List, [], Option, refl}
+use Rattle.std.specs.FinMap as map_
+use Rattle.std.specs.Coded.{Coded, code_by, coded×, coded_ℕ, coded_ℤ, coded_list, coded_option}
+use Rattle.sasi_types.specs.declared.cell.Cell.{Cell}
+use Rattle.sasi_types.specs.declared.column.ColumnType.{ColumnType}
+use Rattle.sasi_types.specs.declared.column.ColumnType.TheVariants as types
+use Rattle.sasi_types.specs.declared.partitioner.Partitioner.{Partitioner}
+use Rattle.sasi_types.specs.declared.partitioner.Partitioner.TheVariants.{Lead8}
+use Rattle.sasi_types.specs.declared.place.Place.{Place}
+use Rattle.sasi_types.specs.declared.value.Value.{Value}
+use Rattle.sasi_types.specs.declared.value.Value.TheVariants as values
+use Rattle.sasi_model.specs.Cells.{Cells, Partition}
+use Rattle.sasi_model.specs.State.{Column, Definition, Partitions, Table, State}
+
+abbrev pub Form : Type 0
+Form = ℕ × (ℤ × List ℕ)
+
+abbrev pub value_form : Value → Form
+value_form (values.Text text) = (0, (pos 0, text))
+value_form (values.Int number) = (1, (number, []))
+value_form (values.BigInt number) = (2, (number, []))
+value_form (values.Uuid bytes) = (3, (pos 0, bytes))
+
+abbrev pub value_from : ℕ → ℤ → List ℕ → Value
+value_from zero number bytes = values.Text bytes
+value_from (suc zero) number bytes = values.Int number
+value_from (suc (suc zero)) number bytes = values.BigInt number
+value_from (suc (suc (suc n))) number bytes = values.Uuid bytes
+
+abbrev pub value_again : (value : Value) → value_from (value_form value).0 (value_form value).1.0 (value_form value).1.1 ≡ value
+value_again (values.Text text) = refl
+value_again (values.Int number) = refl
+value_again (values.BigInt number) = refl
+value_again (values.Uuid bytes) = refl
+
+abbrev pub coded_value : Coded Value
+coded_value = code_by Form (coded× coded_ℕ (coded× coded_ℤ (coded_list coded_ℕ))) value_form (λ c. value_from c.0 c.1.0 c.1.1) value_again
+
+abbrev pub coded_cell : Coded Cell
+coded_cell = code_by (ℕ × Option Value) (coded× coded_ℕ (coded_option coded_value)) (λ c. (c.time, c.value)) (λ p. record { time = p.0; value = p.1 }) (λ _. refl)
+
+abbrev pub coded_partition : Coded Partition
+coded_partition = code_by (ℕ × Cells) (coded× coded_ℕ (map_.code coded_ℕ coded_cell)) (λ p. (p.deleted, p.cells)) (λ c. record { deleted = c.0; cells = c.1 }) (λ _. refl)
+
+abbrev pub coded_bytes : Coded (List ℕ)
+coded_bytes = coded_list coded_ℕ
+
+abbrev pub coded_place : Coded Place
+coded_place = code_by (ℕ × List ℕ) (coded× coded_ℕ coded_bytes) (λ p. (p.token, p.key)) (λ c. record { token = c.0; key = c.1 }) (λ _. refl)
+
+abbrev pub coded_partitions : Coded Partitions
+coded_partitions = map_.code coded_place coded_partition
+
+abbrev pub column_type_number : ColumnType → ℕ
+column_type_number types.Text = 0
+column_type_number types.Int = 1
+column_type_number types.BigInt = 2
+column_type_number types.Uuid = 3
+
+abbrev pub column_type_of : ℕ → ColumnType
+column_type_of zero = types.Text
+column_type_of (suc zero) = types.Int
+column_type_of (suc (suc zero)) = types.BigInt
+column_type_of (suc (suc (suc n))) = types.Uuid
+
+abbrev pub column_type_again : (type : ColumnType) → column_type_of (column_type_number type) ≡ type
+column_type_again types.Text = refl
+column_type_again types.Int = refl
+column_type_again types.BigInt = refl
+column_type_again types.Uuid = refl
+
+abbrev pub coded_column_type : Coded ColumnType
+coded_column_type = code_by ℕ coded_ℕ column_type_number column_type_of column_type_again
+
+abbrev pub coded_columns : Coded (List Column)
+coded_columns = coded_list (coded× coded_bytes coded_column_type)
+
+abbrev pub coded_definition : Coded Definition
+coded_definition =
+    code_by (List ℕ × (List Column × ℕ)) (coded× coded_bytes (coded× coded_columns coded_ℕ))
+    (λ d. (d.name, (d.columns, d.key))) (λ c. record { name = c.0; columns = c.1.0; key = c.1.1 }) (λ _. refl)
+
+abbrev pub coded_table : Coded Table
+coded_table =
+    code_by (Definition × Partitions) (coded× coded_definition coded_partitions)
+    (λ t. (t.definition, t.partitions)) (λ c. record { definition = c.0; partitions = c.1 }) (λ _. refl)
+
+abbrev pub partitioner_number : Partitioner → ℕ
+partitioner_number Lead8 = 0
+
+abbrev pub partitioner_of : ℕ → Partitioner
+partitioner_of number = Lead8
+
+abbrev pub partitioner_again : (p : Partitioner) → partitioner_of (partitioner_number p) ≡ p
+partitioner_again Lead8 = refl
+
+abbrev pub coded_partitioner : Coded Partitioner
+coded_partitioner = code_by ℕ coded_ℕ partitioner_number partitioner_of partitioner_again
+
+abbrev pub coded_state : Coded State
+coded_state =
+    code_by (Partitioner × List Table) (coded× coded_partitioner (coded_list coded_table))
+    (λ s. (s.partitioner, s.tables)) (λ c. record { partitioner = c.0; tables = c.1 }) (λ _. refl)

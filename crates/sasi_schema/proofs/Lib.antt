@@ -1,0 +1,5 @@
+pub mod Allowed
+pub mod Keys
+pub mod Places
+pub mod Repeated
+pub mod Rises

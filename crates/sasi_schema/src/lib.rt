@@ -1,0 +1,19 @@
+// The definitions of tables: their names, columns and keys, and the rules by which a CREATE TABLE is refused. It stands
+// on the small types, and promises what the model says of a list of definitions.
+#![tactic(auto)]
+
+mod check;
+mod fault;
+mod number;
+mod repeats;
+mod schema;
+mod search;
+mod table;
+#[cfg(test)]
+mod tests;
+
+pub use fault::{Limit, SchemaFault};
+pub use repeats::{repeated_column, repeated_name};
+pub use schema::Schema;
+pub use search::place_in;
+pub use table::Table;

@@ -1,0 +1,34 @@
+// Names that stand twice in a list. The search takes a set of the names before, so that it is no slower for long lists.
+ghost use Rattle.std.specs.Prelude.{◌≡◌, [], IfOk, map};
+ghost use Rattle.std.specs.Option.{option_map};
+ghost use Rattle.sasi_model.specs.Refusals.{ColumnRepeated, first_of, repeat_rules};
+
+use sasi_types::Name;
+use std::alloc::{AllocError, Global};
+use std::collections::BTreeSet;
+
+/// The first name that stands in the list before.
+pub fn repeated_name(alloc: Global, names: &[Name]) -> Result<Option<Name>, AllocError>
+    ensures { IfOk result (λ name. first_of (repeat_rules [] names.now) ≡ option_map ColumnRepeated name) }
+{
+    let mut seen = BTreeSet::new(alloc);
+    for name in names {
+        if !seen.insert(name.copy(alloc)?)? {
+            return Ok(Some(name.copy(alloc)?));
+        }
+    }
+    Ok(None)
+}
+
+/// The first column whose name another before it has.
+pub fn repeated_column<T>(alloc: Global, columns: &[(Name, T)]) -> Result<Option<Name>, AllocError>
+    ensures { IfOk result (λ name. first_of (repeat_rules [] (map (λ column. column.0) columns.now)) ≡ option_map ColumnRepeated name) }
+{
+    let mut seen = BTreeSet::new(alloc);
+    for column in columns {
+        if !seen.insert(column.0.copy(alloc)?)? {
+            return Ok(Some(column.0.copy(alloc)?));
+        }
+    }
+    Ok(None)
+}

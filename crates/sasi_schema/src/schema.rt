@@ -1,0 +1,99 @@
+// The tables that are defined.
+ghost use Rattle.std.specs.Prelude.{◌≡◌, ◌+◌, ◌++◌, ◌≤◌, ◌∷◌, [], length, IfOk, OnOk, OnErr};
+ghost use Rattle.std.specs.Option.{option_copied, option_map};
+ghost use Rattle.sasi_model.specs.State.{definition_of};
+ghost use Rattle.sasi_model.specs.Refusals.{create_rules, COLUMN_LIMIT as column_limit};
+ghost use Rattle.sasi_model.specs.Step.{key_place, new_definition};
+ghost use Rattle.sasi_schema.specs.Answers.{Answers};
+ghost use Rattle.sasi_schema.specs.Defined.{definition};
+ghost use Rattle.sasi_schema.specs.Faults.{told};
+ghost use Rattle.sasi_schema.specs.Numbers.{number_of_table};
+
+use crate::SchemaFault;
+use crate::check::check;
+use crate::search::{named, place_in};
+use crate::table::Table;
+use sasi_types::{ColumnType, Columns, Name, Names};
+use std::alloc::Global;
+use std::marker::Model;
+
+/// The tables that are defined, in the order of their creation, seen as the list of their definitions.
+#[derive(Drop)]
+pub struct Schema {
+    alloc: Global,
+    tables: Vec<Table>,
+}
+
+impl Model for Schema {
+    ghost use Rattle.std.specs.Prelude.{List, map};
+    ghost use Rattle.sasi_model.specs.State.{Definition};
+    ghost use Rattle.sasi_model.specs.Codes.{coded_definition};
+    ghost use Rattle.std.specs.Coded.{coded_list};
+    ghost use Rattle.sasi_schema.specs.Defined.{definitions};
+    ghost use Rattle.sasi_schema.specs.Numbers.{RisesFrom};
+
+    ghost Value = { List Definition };
+
+    ghost coded = { coded_list coded_definition };
+
+    ghost view = { λ a. definitions a.tables.items };
+
+    ghost invariant = { λ a. RisesFrom 1 (map (λ t. t.number) a.tables.items) };
+}
+
+impl Schema {
+    /// No tables.
+    pub fn new(alloc: Global) -> Schema
+        ensures { result ≡ [] }
+    {
+        Schema {
+            alloc,
+            tables: Vec::new(alloc),
+        }
+    }
+
+    /// The table of a name.
+    pub fn table(&self, name: &Name) -> Option<&Table>
+        ensures definition { option_map definition (option_copied result) ≡ definition_of name.now self.now }
+        ensures number { option_map (λ t. t.number) (option_copied result) ≡ number_of_table name.now self.now }
+    {
+        named(name, &self.tables)
+    }
+
+    /// Defines a table, behind the others, and gives its number.
+    pub fn create_table(
+        &mut self,
+        table: &Name,
+        columns: &Columns,
+        keys: &Names,
+    ) -> Result<u32, SchemaFault>
+        ensures number { IfOk result (λ number. number ≡ length self.old + 1) }
+        ensures made { OnOk result (self.new ≡ self.old ++ new_definition table.now columns.now keys.now ∷ []) }
+        ensures answers { Answers told (create_rules self.old table.now columns.now keys.now) result }
+        ensures err { OnErr result (self.new ≡ self.old) }
+    {
+        let (columns_in, keys) = (columns.as_slice(), keys.as_slice());
+        check(self.alloc, &self.tables, table, columns_in, keys)?;
+        let key = key_place(columns_in, keys);
+        let number = self.tables.len() as u32 + 1;
+        let made = Table {
+            number,
+            name: table.copy(self.alloc)?,
+            columns: columns.copy(self.alloc)?,
+            key,
+        };
+        self.tables.push(made)?;
+        Ok(number)
+    }
+}
+
+// The place of the key column.
+fn key_place(columns: &[(Name, ColumnType)], keys: &[Name]) -> u16
+    requires { length columns.now ≤ column_limit }
+    ensures { result ≡ key_place columns.now keys.now }
+{
+    match keys.first() {
+        None => 0,
+        Some(key) => place_in(key, columns).unwrap_or(0) as u16,
+    }
+}
