@@ -1,10 +1,11 @@
 -- Ordered entries as partitions.
-use Rattle.std.proofs.Common.{◌≡◌, ℕ, ◌<◌, nat_le, ◌&&◌, Bool, true, false, cond, if◌then◌else◌, T, List, [], ◌∷◌, length, get_or, set, None, Some, Result, Ok, Err, OnOk, OnErr, max, not, refl, sym, ap, ◌∙◌, subst, arith}
+use Rattle.std.proofs.Common.{◌≡◌, ℕ, ◌<◌, nat_le, ◌&&◌, Bool, true, false, cond, if◌then◌else◌, T, List, [], ◌∷◌, length, get_or, set, Option, None, Some, Result, Ok, Err, OnOk, OnErr, max, not, refl, sym, ap, ◌∙◌, subst, arith}
 use Rattle.std.specs.Prelude.{map as map_list}
 use Rattle.std.specs.declared.cmp.Ordering.TheVariants.{Less, Equal, Greater}
 use Rattle.std.specs.Ordering.{nat_cmp, eq_by_cmp}
 use Rattle.std.specs.Cmp.{nat_cmp_total}
 use Rattle.std.specs.List.{list_all, insert}
+use Rattle.std.specs.Option.{option_map}
 use Rattle.std.specs.FinMap as map
 use Rattle.std.specs.FinMap.Entries.{by_order}
 use Rattle.std.proofs.lemmas.Bool.Decides.{nat_tests}
@@ -99,14 +100,14 @@ put_is_insert d es k cell h =
     ap (λ (cells : Cells). record { deleted = d; cells = cells }) (map.same_entries_map _ _ (entries_are _ (put_sorted es k cell h) ∙ sym (put_entries es k cell h)))
 
 -- over the entry of its column
-pub set_at : (es items : List Entry) (k at : ℕ) (e : Entry) (cell : Cell) → map.is_sorted nat_cmp es ≡ true → items ≡ es → IsColumnAt items k at → e ≡ get_or es at e → set es at (e.0, cell) ≡ map.put nat_cmp k cell es
-set_at es items k at e cell h same found read =
+pub set_at : (es items : List Entry) (k at : ℕ) (entry : Entry) (cell : Cell) → map.is_sorted nat_cmp es ≡ true → items ≡ es → IsColumnAt items k at → entry ≡ (k, cell) → set es at entry ≡ map.put nat_cmp k cell es
+set_at es items k at entry cell h same found is =
     let here = subst (λ l. IsColumnAt l k at) same found in
-    ap (λ (o : Entry). set es at (o.0, cell)) read ∙ set_is_put es k at e cell (test _ h) here.in_range (here.is e)
+    ap (set es at) is ∙ ap (λ (n : ℕ). set es at (n, cell)) (sym (here.is entry)) ∙ set_is_put es k at entry cell (test _ h) here.in_range (here.is entry)
 
 -- or between two others
-pub inserted_at : (es items : List Entry) (k at : ℕ) (cell : Cell) → items ≡ es → IsGapFor items k at → insert es at (k, cell) ≡ map.put nat_cmp k cell es
-inserted_at es items k at cell same gap = insert_is_put es k at cell (subst (λ l. IsGapFor l k at) same gap)
+pub inserted_at : (es items : List Entry) (k at : ℕ) (entry : Entry) (cell : Cell) → items ≡ es → IsGapFor items k at → entry ≡ (k, cell) → insert es at entry ≡ map.put nat_cmp k cell es
+inserted_at es items k at entry cell same gap is = ap (insert es at) is ∙ insert_is_put es k at cell (subst (λ l. IsGapFor l k at) same gap)
 
 later_is_above : (d k : ℕ) (cell : Cell) → d < cell.time → is_above d (k, cell) ≡ true
 later_is_above d k cell h = grind (arith, nat_tests)
@@ -141,13 +142,19 @@ entries_shown d es p h is = sym (entries_are es h.rising) ∙ ap (λ (o : Partit
 get_shown : (d : ℕ) (es : List Entry) (p : Partition) (c : ℕ) → IsOrdered d es → partition_of d es ≡ p → map.find nat_cmp c es ≡ map.get p.cells c
 get_shown d es p c h is = sym (get_is es c h.rising) ∙ ap (λ (o : Partition). map.get o.cells c) is
 
-pub cell_shown : (d : ℕ) (es items : List Entry) (p : Partition) (c at : ℕ) (e : Entry) → IsOrdered d es → partition_of d es ≡ p → items ≡ es → IsColumnAt items c at → e ≡ get_or es at e → Some e.1 ≡ map.get p.cells c
+-- a cell with its column
+abbrev of_column : ℕ → Option Cell → Option Entry
+of_column c cell = option_map (λ (o : Cell). (c, o)) cell
+
+pub cell_shown : (d : ℕ) (es items : List Entry) (p : Partition) (c at : ℕ) (e : Entry) → IsOrdered d es → partition_of d es ≡ p → items ≡ es → IsColumnAt items c at → e ≡ get_or es at e → Some e ≡ of_column c (map.get p.cells c)
 cell_shown d es items p c at e h is same found read =
     let here = subst (λ l. IsColumnAt l c at) same found in
-    ap (λ (o : Entry). Some o.1) read ∙ sym (find_at es c at e (test _ h.rising) here.in_range (here.is e)) ∙ get_shown d es p c h is
+    let column : e.0 ≡ c = ap (λ (o : Entry). o.0) read ∙ here.is e in
+    let shown : Some e.1 ≡ map.get p.cells c = ap (λ (o : Entry). Some o.1) read ∙ sym (find_at es c at e (test _ h.rising) here.in_range (here.is e)) ∙ get_shown d es p c h is in
+    ap (λ (n : ℕ). Some (n, e.1)) column ∙ ap (of_column c) shown
 
-pub no_cell_shown : (d : ℕ) (es items : List Entry) (p : Partition) (c at : ℕ) → IsOrdered d es → partition_of d es ≡ p → items ≡ es → IsGapFor items c at → None ≡ map.get p.cells c
-no_cell_shown d es items p c at h is same gap = sym (find_gap es c at (subst (λ l. IsGapFor l c at) same gap)) ∙ get_shown d es p c h is
+pub no_cell_shown : (d : ℕ) (es items : List Entry) (p : Partition) (c at : ℕ) → IsOrdered d es → partition_of d es ≡ p → items ≡ es → IsGapFor items c at → None ≡ of_column c (map.get p.cells c)
+no_cell_shown d es items p c at h is same gap = ap (of_column c) (sym (find_gap es c at (subst (λ l. IsGapFor l c at) same gap)) ∙ get_shown d es p c h is)
 
 pub greatest_shown : (d : ℕ) (es items : List Entry) (p : Partition) (r : ℕ) → IsOrdered d es → partition_of d es ≡ p → items ≡ es → r ≡ max d (greatest_time (cells_of items)) → r ≡ greatest_of p
 greatest_shown d es items p r h is same e =

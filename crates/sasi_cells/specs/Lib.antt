@@ -1,4 +1,5 @@
 pub mod Entries
+pub mod Kept
 pub mod Places
 pub mod Changes
 pub mod Rows

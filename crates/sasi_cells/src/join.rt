@@ -3,41 +3,47 @@ ghost use Rattle.std.specs.Prelude.{◌≡◌, ◌+◌, ◌≤◌, ◌<◌, ◌+
 ghost use Rattle.std.specs.Option.{option_to_list};
 ghost use Rattle.std.specs.Vec.{vec_len, vec_capacity};
 ghost use Rattle.std.specs.VecDeque.{deque_len};
+ghost use Rattle.sasi_model.specs.Cells.{newest};
 ghost use Rattle.sasi_cells.specs.Entries.{joined, lower_column, newest_entry, unshadowed_entries};
 
+use crate::Entry;
 use crate::order::newest;
-use sasi_types::Cell;
 use std::cmp::Ordering;
 use std::collections::VecDeque;
 
 // Which of two lists begins with the lower column; none where both are empty.
-fn lower_column(mine: &VecDeque<(u16, Cell)>, theirs: &VecDeque<(u16, Cell)>) -> Option<Ordering>
+fn lower_column(mine: &VecDeque<Entry>, theirs: &VecDeque<Entry>) -> Option<Ordering>
     ensures { result ≡ lower_column mine.now.items theirs.now.items }
 {
     match (mine.front(), theirs.front()) {
         (None, None) => None,
         (Some(_), None) => Some(Ordering::Less),
         (None, Some(_)) => Some(Ordering::Greater),
-        (Some(a), Some(b)) => Some(a.0.cmp(&b.0)),
+        (Some(a), Some(b)) => Some(a.column().cmp(&b.column())),
     }
 }
 
+// Of two entries of one column the newer.
+fn newest_of_column(a: Entry, b: Entry) -> Entry
+    ensures { result ≡ (a.0, newest a.1 b.1) }
+{
+    let column = a.column();
+    Entry::new(column, newest(a.into_cell(), b.into_cell()))
+}
+
 // Of two entries of one column the newer, if there is one.
-fn newest_entry(a: Option<(u16, Cell)>, b: Option<(u16, Cell)>) -> Option<(u16, Cell)>
+fn newest_entry(a: Option<Entry>, b: Option<Entry>) -> Option<Entry>
     ensures { result ≡ newest_entry a b }
 {
     match (a, b) {
-        (Some((column, a)), Some((_, b))) => Some((column, newest(a, b))),
+        (Some(a), Some(b)) => Some(newest_of_column(a, b)),
         (None, b) => b,
         (a, None) => a,
     }
 }
 
 // Takes the entry of the lowest column of both.
-fn next_entry(
-    mine: &mut VecDeque<(u16, Cell)>,
-    theirs: &mut VecDeque<(u16, Cell)>,
-) -> Option<(u16, Cell)>
+fn next_entry(mine: &mut VecDeque<Entry>, theirs: &mut VecDeque<Entry>) -> Option<Entry>
     ensures items { joined mine.old.items theirs.old.items ≡ option_to_list result ++ joined mine.new.items theirs.new.items }
     ensures len { deque_len mine.new + deque_len theirs.new + length (option_to_list result) ≤ deque_len mine.old + deque_len theirs.old }
     ensures end { result ≡ None → joined mine.old.items theirs.old.items ≡ [] }
@@ -51,7 +57,7 @@ fn next_entry(
 }
 
 // Adds an entry at the end of a list that has room for it.
-fn add_within(cells: &mut Vec<(u16, Cell)>, entry: (u16, Cell))
+fn add_within(cells: &mut Vec<Entry>, entry: Entry)
     requires { vec_len cells.old < vec_capacity cells.old }
     ensures items { cells.new.items ≡ cells.old.items ++ entry ∷ [] }
     ensures len { vec_len cells.new ≡ vec_len cells.old + 1 }
@@ -64,10 +70,10 @@ fn add_within(cells: &mut Vec<(u16, Cell)>, entry: (u16, Cell))
 // room for all. It takes no memory.
 pub(crate) fn join(
     deleted: u64,
-    mine: Vec<(u16, Cell)>,
-    theirs: Vec<(u16, Cell)>,
-    room: Vec<(u16, Cell)>,
-) -> Vec<(u16, Cell)>
+    mine: Vec<Entry>,
+    theirs: Vec<Entry>,
+    room: Vec<Entry>,
+) -> Vec<Entry>
     requires empty { room.items ≡ [] }
     requires enough { vec_len mine + vec_len theirs ≤ vec_capacity room }
     ensures { result.items ≡ unshadowed_entries deleted (joined mine.items theirs.items) }
@@ -76,7 +82,7 @@ pub(crate) fn join(
     let mut mine = VecDeque::from_vec(mine);
     let mut theirs = VecDeque::from_vec(theirs);
     'entries: while let Some(entry) = next_entry(&mut mine, &mut theirs) {
-        if entry.1.time > deleted {
+        if entry.time() > deleted {
             add_within(&mut cells, entry);
         }
     }

@@ -2,6 +2,7 @@
 // every column counts, whatever came first. The crate stands on sasi_types and meets the definitions of sasi_model.
 #![tactic(auto)]
 
+mod entry;
 mod join;
 mod order;
 mod partition;
@@ -11,7 +12,9 @@ mod search;
 #[cfg(test)]
 mod tests;
 
+pub use entry::Entry;
 pub use order::newer;
 pub use partition::Partition;
 pub use picked::{Picked, PickedColumn, PickedList};
+pub use row::stored_value;
 pub use sasi_types::Cell;

@@ -1,6 +1,6 @@
 // What is written of one key.
 ghost use Rattle.std.specs.Prelude.{◌≡◌, ℕ, ◌<◌, true, OnOk, OnErr, IfOk};
-ghost use Rattle.std.specs.Option.{option_copied};
+ghost use Rattle.std.specs.Option.{option_copied, option_map};
 ghost use Rattle.std.specs.Ordering.{nat_cmp};
 ghost use Rattle.std.specs.FinMap as map;
 ghost use Rattle.sasi_model.specs.Cells.{Partition as Written, empty_partition, IsNormal, merge, is_live, greatest_of};
@@ -9,7 +9,7 @@ ghost use Rattle.sasi_types.specs.declared.column.ColumnType.{ColumnType};
 ghost use Rattle.sasi_cells.specs.Changes.{deletion, with_column};
 
 use crate::join::join;
-use crate::search;
+use crate::{Entry, search};
 use sasi_types::Cell;
 use std::alloc::{AllocError, Global};
 use std::marker::Model;
@@ -20,7 +20,7 @@ use std::mem;
 #[derive(Debug, Drop)]
 pub struct Partition {
     deleted: u64,
-    cells: Vec<(u16, Cell)>,
+    cells: Vec<Entry>,
 }
 
 impl Model for Partition {
@@ -63,7 +63,7 @@ impl Partition {
     }
 
     /// The cells with their columns, in the order of the columns.
-    pub fn cells(&self) -> &[(u16, Cell)]
+    pub fn cells(&self) -> &[Entry]
         ensures entries { result.now ≡ map.entries self.now.cells }
         ensures normal { IsNormal self.now }
     {
@@ -71,11 +71,11 @@ impl Partition {
     }
 
     /// The cell of a column, if it has one.
-    pub fn cell(&self, column: u16) -> Option<&Cell>
-        ensures { option_copied result ≡ map.get self.now.cells column }
+    pub fn cell(&self, column: u16) -> Option<&Entry>
+        ensures { option_copied result ≡ option_map (λ cell. (column, cell)) (map.get self.now.cells column) }
     {
         match search::search(&self.cells, column) {
-            Ok(at) => Some(&self.cells[at].1),
+            Ok(at) => Some(&self.cells[at]),
             Err(_) => None,
         }
     }
@@ -145,25 +145,25 @@ impl Partition {
 }
 
 // Puts the cell of a column in its place.
-fn put_in(cells: &mut Vec<(u16, Cell)>, column: u16, cell: Cell) -> Result<(), AllocError>
+fn put_in(cells: &mut Vec<Entry>, column: u16, cell: Cell) -> Result<(), AllocError>
     requires { map.is_sorted nat_cmp cells.old.items ≡ true }
     ensures ok { OnOk result (cells.new.items ≡ map.put nat_cmp column cell cells.old.items) }
     ensures err { OnErr result (cells.new.items ≡ cells.old.items) }
 {
     match search::search(cells, column) {
-        Ok(at) => cells[at].1 = cell,
-        Err(at) => cells.insert(at, (column, cell))?,
+        Ok(at) => cells[at] = Entry::new(column, cell),
+        Err(at) => cells.insert(at, Entry::new(column, cell))?,
     }
     Ok(())
 }
 
 // The same cells once more.
-fn copy_cells(cells: &[(u16, Cell)], alloc: Global) -> Result<Vec<(u16, Cell)>, AllocError>
+fn copy_cells(cells: &[Entry], alloc: Global) -> Result<Vec<Entry>, AllocError>
     ensures { IfOk result (λ copy. copy.items ≡ cells.now) }
 {
     let mut copy = Vec::with_capacity(alloc, cells.len())?;
     for entry in cells {
-        copy.push((entry.0, entry.1.copy(alloc)?))?;
+        copy.push(entry.copy(alloc)?)?;
     }
     Ok(copy)
 }

@@ -61,7 +61,7 @@ impl Partition {
         let Some(cell) = self.cell(column) else {
             return Ok(None);
         };
-        let Some(value) = &cell.value else {
+        let Some(value) = cell.value() else {
             return Ok(None);
         };
         let copy = value.copy(alloc)?;
@@ -69,8 +69,8 @@ impl Partition {
     }
 }
 
-// The value that these bytes stand for.
-fn stored_value(alloc: Global, kind: ColumnType, bytes: &[u8]) -> Result<Value, AllocError>
+/// The value that these bytes stand for, which have to be as long as a value of the type is.
+pub fn stored_value(alloc: Global, kind: ColumnType, bytes: &[u8]) -> Result<Value, AllocError>
     requires { IsStored kind bytes.now }
     ensures { IfOk result (λ value. value ≡ value_stored kind bytes.now) }
 {

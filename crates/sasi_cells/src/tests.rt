@@ -40,12 +40,12 @@ fn partition(alloc: Global, written: Written) -> Result<Partition, AllocError> {
 fn is_written(partition: &Partition, written: Written) -> bool {
     let cell_is = match partition.cell(1) {
         None => written.time == 0,
-        Some(cell) => cell.time == written.time && is_text(&cell.value, written.text),
+        Some(cell) => cell.time() == written.time && is_text(cell.value(), written.text),
     };
     cell_is && partition.deleted() == written.deleted
 }
 
-fn is_text(value: &Option<Value>, text: Option<u8>) -> bool {
+fn is_text(value: Option<&Value>, text: Option<u8>) -> bool {
     match (value, text) {
         (None, None) => true,
         (Some(Value::Text(bytes)), Some(letter)) => bytes.bytes() == [letter].as_slice(),
@@ -149,7 +149,7 @@ fn shows_a_row(rt: HostRuntime) -> Result<(), Fail> {
     assert_eq!(rt; partition.cells().len(), 2);
     let row = partition.row(alloc, &key, &picked)?.expect(&rt, "a row");
     assert_eq!(rt; row.values().len(), 3);
-    assert!(rt; is_text(&row.values()[0], Some(b'x')));
+    assert!(rt; is_text(row.values()[0].as_ref(), Some(b'x')));
     assert!(rt; matches!(&row.values()[1], Some(Value::Int(256))));
     assert!(rt; row.values()[2].is_none());
     Ok(())

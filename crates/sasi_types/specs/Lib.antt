@@ -1,4 +1,5 @@
 pub mod Key
+pub mod Murmur
 pub mod Place
 pub mod StoredBytes
 pub mod Token

@@ -6,6 +6,7 @@ mod cell;
 mod column;
 mod key;
 mod literal;
+mod murmur;
 mod name;
 mod partitioner;
 mod piece;
@@ -15,6 +16,8 @@ mod statement;
 #[cfg(test)]
 mod tests;
 mod text;
+mod tree;
+mod type_list;
 mod value;
 
 pub use cell::Cell;
@@ -28,4 +31,6 @@ pub use place::{Place, compare};
 pub use row::Row;
 pub use statement::{Select, Statement};
 pub use text::Text;
+pub use tree::{Pair, PairList, TreeRef};
+pub use type_list::{TableTypes, TypeList};
 pub use value::{Stored, Value};

@@ -1,6 +1,9 @@
 // The token of a key, which orders the partitions of a table.
 ghost use Rattle.std.specs.Prelude.{◌≡◌, ◌++◌, take, replicate};
+ghost use Rattle.sasi_types.specs.Murmur.{ordered};
 ghost use Rattle.sasi_types.specs.Token.{token_of};
+
+use crate::murmur::hash;
 
 /// The token of a key: partitions are in the order of their tokens.
 pub type Token = u64;
@@ -10,6 +13,8 @@ pub type Token = u64;
 pub enum Partitioner {
     /// The first eight bytes of the key, with zero bytes behind a shorter one, as a big-endian number.
     Lead8,
+    /// The first half of MurmurHash3 of the key, in the order of signed numbers.
+    Murmur3,
 }
 
 impl Partitioner {
@@ -20,6 +25,7 @@ impl Partitioner {
     {
         match self {
             Partitioner::Lead8 => u64::from_be_bytes(first_eight(key)),
+            Partitioner::Murmur3 => ordered(hash(key)),
         }
     }
 }
@@ -32,4 +38,16 @@ fn first_eight(key: &[u8]) -> [u8; 8]
     let count = key.len().min(8);
     front[..count].copy_from_slice(&key[..count]);
     front
+}
+
+// The hash that is the least of the signed numbers.
+const LEAST: u64 = 1 << 63;
+
+// A hash as a token: the least of the signed numbers gives way to the greatest, and the top bit is flipped.
+#[tactic(auto, unfolding(crate::specs::Murmur::ordered))]
+fn ordered(hash: u64) -> Token
+    ensures { result ≡ ordered hash }
+{
+    let kept = if hash == LEAST { LEAST - 1 } else { hash };
+    kept ^ (1 << 63)
 }

@@ -1,0 +1,90 @@
+#!/usr/bin/env python3
+"""Runs the built program on scripts that hold rows of five shapes, and prints the memory that each row takes.
+
+A row may take three times its bytes and 200 more. Its bytes are those of its key and of its cells with their times, as
+they stand in a log: 20 for the row with a key of eight bytes besides, and 13 for each cell besides its value, the marker
+of the row among them. What a row takes is the growth of the peak memory from a number of rows to twice as many.
+"""
+import os
+import subprocess
+import sys
+import tempfile
+import time
+
+ROWS = 20000
+TIMES, MORE = 3, 200
+BESIDES_ROW, BESIDES_CELL = 20, 13
+
+# The columns of each shape, by the length of a text, or None for an int.
+SHAPES = {
+    'a text of 10 and an int': [10, None],
+    '20 ints': [None] * 20,
+    '60 ints': [None] * 60,
+    '20 texts of 32': [32] * 20,
+    'a text of 1,000': [1000],
+}
+
+
+def key(n):
+    """Keys of eight bytes in no order, all distinct."""
+    return '%08x' % ((n * 2654435761) % (1 << 32))
+
+
+def value(column, n):
+    return str(n) if column is None else "'%s'" % str(n).rjust(column, 'x')
+
+
+def script(columns, rows):
+    names = ['c%d' % at for at in range(len(columns))]
+    kinds = ['int' if column is None else 'text' for column in columns]
+    yield 'CREATE TABLE t (k text PRIMARY KEY, %s);\n' % ', '.join(map(' '.join, zip(names, kinds)))
+    for n in range(rows):
+        values = ', '.join(value(column, n) for column in columns)
+        yield "INSERT INTO t (k, %s) VALUES ('%s', %s);\n" % (', '.join(names), key(n), values)
+
+
+def peak(pid):
+    """The peak memory of a process so far in bytes, or 0 where it has ended."""
+    try:
+        with open('/proc/%d/status' % pid) as status:
+            return max(int(line.split()[1]) * 1024 for line in status if line.startswith('VmHWM'))
+    except (OSError, ValueError):
+        return 0
+
+
+def memory(program, columns, rows):
+    """The peak memory of a run in bytes."""
+    with tempfile.TemporaryDirectory() as folder, open(os.devnull, 'wb') as nothing:
+        path = os.path.join(folder, 'script')
+        with open(path, 'w') as out:
+            out.writelines(script(columns, rows))
+        process = subprocess.Popen([program, os.path.join(folder, 'data'), path], stdout=nothing)
+        most = 0
+        while process.poll() is None:
+            most = max(most, peak(process.pid))
+            time.sleep(0.0005)
+        if process.returncode:
+            sys.exit('the program failed')
+        return most
+
+
+def main():
+    top = os.path.dirname(os.path.dirname(os.path.abspath(__file__)))
+    program = sys.argv[1] if len(sys.argv) > 1 else os.path.join(top, 'sasi')
+    # It is built before the first run is measured.
+    subprocess.run([program], stderr=subprocess.DEVNULL)
+    program = os.path.join(top, 'crates/sasi_tool/out/sasi_tool') if len(sys.argv) < 2 else program
+    above = []
+    print('%-24s %10s %10s' % ('shape', 'bytes/row', 'limit'))
+    for name, columns in SHAPES.items():
+        size = BESIDES_ROW + BESIDES_CELL + sum(BESIDES_CELL + (column or 4) for column in columns)
+        limit = TIMES * size + MORE
+        row = (memory(program, columns, 2 * ROWS) - memory(program, columns, ROWS)) / ROWS
+        print('%-24s %10.0f %10d' % (name, row, limit))
+        if row > limit:
+            above.append(name)
+    if above:
+        sys.exit('above the limit: %s' % ', '.join(above))
+
+
+main()
