@@ -6,7 +6,7 @@ use Rattle.sasi_types.specs.declared.cell.Cell.{Cell}
 use Rattle.sasi_types.specs.declared.column.ColumnType.{ColumnType}
 use Rattle.sasi_types.specs.declared.column.ColumnType.TheVariants as types
 use Rattle.sasi_types.specs.declared.partitioner.Partitioner.{Partitioner}
-use Rattle.sasi_types.specs.declared.partitioner.Partitioner.TheVariants.{Lead8}
+use Rattle.sasi_types.specs.declared.partitioner.Partitioner.TheVariants.{Lead8, Murmur3}
 use Rattle.sasi_types.specs.declared.place.Place.{Place}
 use Rattle.sasi_types.specs.declared.value.Value.{Value}
 use Rattle.sasi_types.specs.declared.value.Value.TheVariants as values
@@ -39,6 +39,9 @@ coded_value = code_by Form (coded× coded_ℕ (coded× coded_ℤ (coded_list cod
 
 abbrev pub coded_cell : Coded Cell
 coded_cell = code_by (ℕ × Option Value) (coded× coded_ℕ (coded_option coded_value)) (λ c. (c.time, c.value)) (λ p. record { time = p.0; value = p.1 }) (λ _. refl)
+
+abbrev pub coded_entry : Coded (ℕ × Cell)
+coded_entry = coded× coded_ℕ coded_cell
 
 abbrev pub coded_partition : Coded Partition
 coded_partition = code_by (ℕ × Cells) (coded× coded_ℕ (map_.code coded_ℕ coded_cell)) (λ p. (p.deleted, p.cells)) (λ c. record { deleted = c.0; cells = c.1 }) (λ _. refl)
@@ -88,12 +91,15 @@ coded_table =
 
 abbrev pub partitioner_number : Partitioner → ℕ
 partitioner_number Lead8 = 0
+partitioner_number Murmur3 = 1
 
 abbrev pub partitioner_of : ℕ → Partitioner
-partitioner_of number = Lead8
+partitioner_of zero = Lead8
+partitioner_of _ = Murmur3
 
 abbrev pub partitioner_again : (p : Partitioner) → partitioner_of (partitioner_number p) ≡ p
 partitioner_again Lead8 = refl
+partitioner_again Murmur3 = refl
 
 abbrev pub coded_partitioner : Coded Partitioner
 coded_partitioner = code_by ℕ coded_ℕ partitioner_number partitioner_of partitioner_again

@@ -1,8 +1,12 @@
 pub mod Pieces
 pub mod Tokens
+pub mod Naming
 pub mod Statements
 pub mod Cells
 pub mod State
+pub mod Changes
+pub mod Written
+pub mod Stored
 pub mod Refusals
 pub mod Lines
 pub mod Step

@@ -1,6 +1,6 @@
 -- One piece after another: the state that it leaves, and the reply. A write is merged into what stands at its key, and a
 -- refused piece leaves the state as it was.
-use Rattle.std.specs.Prelude.{ℕ, ◌+◌, ◌==◌, suc, zero, Bool, false, List, [], ◌∷◌, ◌++◌, length, map, Option, None, Some, unwrap_or, is_some, if◌then◌else◌}
+use Rattle.std.specs.Prelude.{ℕ, ◌+◌, suc, zero, List, [], ◌∷◌, ◌++◌, length, map, Option, None, Some, unwrap_or, is_some, if◌then◌else◌}
 use Rattle.std.specs.List.{zip}
 use Rattle.std.specs.Int.{w32, w64, cast_signed, from_be_bytes}
 use Rattle.std.specs.Prelude.{unsigned_abs}
