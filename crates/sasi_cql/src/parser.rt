@@ -3,6 +3,7 @@ ghost use Rattle.std.specs.Prelude.{◌≡◌, if◌then◌else◌, length, map,
 ghost use Rattle.sasi_types.specs.declared.statement.Statement.{Statement};
 ghost use Rattle.sasi_model.specs.Tokens.{tokens};
 ghost use Rattle.sasi_model.specs.Statements.{create_of, delete_of, ended, insert_of, insert_values, query_of, read_asked, read_names_or_none, Reads, statement_of, update_of};
+ghost use Rattle.sasi_model.specs.Written.{IsWritten};
 ghost use Rattle.sasi_cql.specs.Finds.{Finds, FindsRead};
 ghost use Rattle.sasi_cql.specs.Meaning.{meaning};
 
@@ -206,6 +207,7 @@ fn statement(alloc: Global, tokens: &[Token]) -> Result<Statement, ParseFault>
 pub fn parse(alloc: Global, text: &str) -> Result<Statement, ParseFault>
     ensures statement { IfOk result (λ s. statement_of (tokens text.now) ≡ Some s) }
     ensures reads { IfOk result (λ s. Reads (tokens text.now) s) }
+    ensures written { IfOk result (λ s. IsWritten s) }
     ensures syntax { result ≡ Err ParseFault.Syntax → statement_of (tokens text.now) ≡ None }
     ensures refuses { result ≡ Err ParseFault.Syntax → (s : Statement) → ¬ (Reads (tokens text.now) s) }
 {

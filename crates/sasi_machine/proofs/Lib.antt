@@ -6,8 +6,10 @@ pub mod Merged
 pub mod Ordered
 pub mod Passed
 pub mod Picked
+pub mod Asking
 pub mod Printed
 pub mod Stored
+pub mod Storing
 pub mod Tabled
 pub mod Taking
 pub mod WholePieces

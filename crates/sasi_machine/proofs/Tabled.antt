@@ -1,7 +1,11 @@
 -- Tables of their definitions and contents.
-use Rattle.std.proofs.Common.{◌≡◌, ◌⊎◌, inl, inr, ℕ, zero, suc, ◌<◌, true, false, if◌then◌else◌, List, [], ◌∷◌, ◌++◌, length, set, slice_get, Option, None, Some, refl, sym, ap, ◌∙◌, arith}
+use Rattle.std.proofs.Common.{◌≡◌, ◌⊎◌, inl, inr, ℕ, zero, suc, ◌<◌, true, false, if◌then◌else◌, List, [], ◌∷◌, ◌++◌, length, set, slice_get, Option, None, Some, unwrap_or, refl, sym, ap, ◌∙◌, arith}
+use Rattle.std.specs.FinMap as fin
+use Rattle.sasi_types.specs.declared.place.Place.{Place}
+use Rattle.sasi_model.specs.Cells.{Partition, empty_partition, merge}
+use Rattle.sasi_model.specs.Changes.{changed_behind}
 use Rattle.sasi_model.specs.Statements.{same}
-use Rattle.sasi_model.specs.State.{Definition, Table, definition_of, definitions, key_type, one_more, table_of, with_table}
+use Rattle.sasi_model.specs.State.{Definition, Table, apply, definition_of, definitions, key_type, one_more, table_of, with_table}
 use Rattle.sasi_schema.specs.Numbers.{number_of_table}
 use Rattle.sasi_machine.specs.Contents.{Contents}
 use Rattle.sasi_machine.specs.Tables.{AreContents, table_with, tables_of}
@@ -68,6 +72,7 @@ number_inside name (d ∷ ds) (c ∷ cs) at held is =
 -- what stands at the number of a table
 pub record IsThere (name : List ℕ) (ds : List Definition) (cs : List Contents) (at : ℕ) (d : Definition) (c : Contents) : Type 0 where
   pub table : table_of name (tables_of ds cs) ≡ Some (table_with d c)
+  pub numbered : slice_get (tables_of ds cs) at ≡ Some (table_with d c)
   pub kind : c.kind ≡ key_type d
   -- to change its partitions is to write there
   pub changed : (change : Table → Table) (new : Contents) → change (table_with d c) ≡ table_with d new → with_table name change (tables_of ds cs) ≡ tables_of ds (set cs at new)
@@ -78,6 +83,7 @@ there_first name d ds c cs t x held named found is =
     let t_is : d ≡ t = let e : Some d ≡ Some t = rw named at found in cc in
     record {
       table = rw named (ap (λ (d : Definition). Some (table_with d c)) t_is ∙ ap (λ (c : Contents). Some (table_with t c)) is);
+      numbered = ap (λ (d : Definition). Some (table_with d c)) t_is ∙ ap (λ (c : Contents). Some (table_with t c)) is;
       kind = ap (λ (c : Contents). c.kind) (sym is) ∙ held.0 ∙ ap key_type t_is;
       changed = λ change new e. rw named (ap (λ (first : Table). first ∷ tables_of ds cs) (ap change (ap (λ (d : Definition). table_with d c) t_is ∙ ap (table_with t) is) ∙ e ∙ ap (λ (d : Definition). table_with d new) (sym t_is)));
       kept = λ new same_kind. (same_kind ∙ ap (λ (c : Contents). c.kind) (sym is) ∙ held.0, held.1);
@@ -87,6 +93,7 @@ there_later : (name : List ℕ) (d : Definition) (ds : List Definition) (c : Con
 there_later name d ds c cs at t x held other there =
     record {
       table = rw other there.table;
+      numbered = there.numbered;
       kind = there.kind;
       changed = λ change new e. rw other (ap (λ (rest : List Table). table_with d c ∷ rest) (there.changed change new e));
       kept = λ new same_kind. (held.0, there.kept new same_kind);
@@ -104,6 +111,45 @@ is_there name (d ∷ ds) (c ∷ cs) at t x held is found got =
           let got_later : slice_get (c ∷ cs) (suc later.place) ≡ Some x = rw later.place_is at got in
           rw later.place_is (there_later name d ds c cs later.place t x held later.other (is_there name ds cs later.place t x held.1 later.later (rw later.other at found) got_later))
     ]
+
+-- ---- a change of the table of a number
+
+-- it is a change of its contents
+pub changed_at : (ds : List Definition) (cs : List Contents) (at : ℕ) (place : Place) (change : Partition) (c : Contents) → AreContents ds cs → slice_get cs at ≡ Some c → (new : Contents) → new ≡ record c { partitions = fin.insert c.partitions place (merge (unwrap_or (fin.get c.partitions place) empty_partition) change) }
+    → changed_behind at place change (tables_of ds cs) ≡ tables_of ds (set cs at new)
+changed_at [] [] at place change c held got new is = cc
+changed_at [] (x ∷ cs) at place change c held got new is = absurd held
+changed_at (d ∷ ds) [] at place change c held got new is = absurd held
+changed_at (d ∷ ds) (x ∷ cs) zero place change c held got new is =
+    let same_contents : x ≡ c = (let e : Some x ≡ Some c = got in cc) in
+    ap (λ (t : Table). t ∷ tables_of ds cs) (ap (λ (x : Contents). apply place change (table_with d x)) same_contents ∙ ap (table_with d) (sym is))
+changed_at (d ∷ ds) (x ∷ cs) (suc at) place change c held got new is = ap (λ (rest : List Table). table_with d x ∷ rest) (changed_at ds cs at place change c held.1 got new is)
+
+-- the contents of a table of a number
+pub contents_at : (ds : List Definition) (cs : List Contents) (at : ℕ) (t : Table) → AreContents ds cs → slice_get (tables_of ds cs) at ≡ Some t → (c : Contents) × (slice_get cs at ≡ Some c) × (c.kind ≡ key_type t.definition)
+contents_at [] cs at t held got = cc
+contents_at (d ∷ ds) [] at t held got = absurd held
+contents_at (d ∷ ds) (c ∷ cs) zero t held got = let is : table_with d c ≡ t = (let e : Some (table_with d c) ≡ Some t = got in cc) in (c, refl, held.0 ∙ ap (λ (t : Table). key_type t.definition) is)
+contents_at (d ∷ ds) (c ∷ cs) (suc at) t held got = contents_at ds cs at t held.1 got
+
+-- they can be changed, and stay contents
+pub held_set : (ds : List Definition) (cs : List Contents) (at : ℕ) (c new : Contents) → AreContents ds cs → slice_get cs at ≡ Some c → new.kind ≡ c.kind → AreContents ds (set cs at new)
+held_set [] [] at c new held got kind = cc
+held_set [] (x ∷ cs) at c new held got kind = absurd held
+held_set (d ∷ ds) [] at c new held got kind = absurd held
+held_set (d ∷ ds) (x ∷ cs) zero c new held got kind = let same_contents : x ≡ c = (let e : Some x ≡ Some c = got in cc) in (kind ∙ ap (λ (c : Contents). c.kind) (sym same_contents) ∙ held.0, held.1)
+held_set (d ∷ ds) (x ∷ cs) (suc at) c new held got kind = (held.0, held_set ds cs at c new held.1 got kind)
+
+pub contents_below : (cs : List Contents) (at : ℕ) (c : Contents) → slice_get cs at ≡ Some c → at < length cs
+contents_below [] at c got = cc
+contents_below (x ∷ cs) zero c got = omega arith
+contents_below (x ∷ cs) (suc at) c got = omega (arith, contents_below cs at c got)
+
+-- as many tables as definitions
+pub length_tables : (ds : List Definition) (cs : List Contents) → AreContents ds cs → length (tables_of ds cs) ≡ length ds
+length_tables [] cs held = refl
+length_tables (d ∷ ds) [] held = absurd held
+length_tables (d ∷ ds) (c ∷ cs) held = omega (arith, length_tables ds cs held.1)
 
 -- ---- one more table
 

@@ -123,18 +123,18 @@ writes_table s (Update table time sets key value) is = refl
 writes_table s (Delete table columns time key value) is = refl
 writes_table s (Query select) is = absurd is
 
-answers_ok : (s : State) (statement : Statement) → IsWriting statement → answer_of s statement ≡ ok_line
+pub answers_ok : (s : State) (statement : Statement) → IsWriting statement → answer_of s statement ≡ ok_line
 answers_ok s (CreateTable table columns keys) is = absurd is
 answers_ok s (Insert table columns values time) is = refl
 answers_ok s (Update table time sets key value) is = refl
 answers_ok s (Delete table columns time key value) is = refl
 answers_ok s (Query select) is = absurd is
 
-greatest_kept : (p : Partitioner) (ds : List Definition) (cs : List Contents) (g : ℕ) → IsKept ds cs g → greatest (state_of p ds cs) ≡ g
+pub greatest_kept : (p : Partitioner) (ds : List Definition) (cs : List Contents) (g : ℕ) → IsKept ds cs g → greatest (state_of p ds cs) ≡ g
 unfolding greatest
 greatest_kept p ds cs g kept = sym kept.greatest_is
 
-write_tables : (p : Partitioner) (ds : List Definition) (cs new : List Contents) (g : ℕ) (statement : Statement) (w : Write) → IsKept ds cs g → IsWriting statement → IsWrite ds p g statement w → IsWrittenAt cs w new
+pub write_tables : (p : Partitioner) (ds : List Definition) (cs new : List Contents) (g : ℕ) (statement : Statement) (w : Write) → IsKept ds cs g → IsWriting statement → IsWrite ds p g statement w → IsWrittenAt cs w new
     → tables_of ds new ≡ tables_after (state_of p ds cs) statement
 unfolding change_of
 write_tables p ds cs new g statement w kept writing write is =

@@ -5,6 +5,7 @@ pub mod Faults
 pub mod KeyLiteral
 pub mod Outcome
 pub mod Picks
+pub mod Plans
 pub mod Reading
 pub mod Refusal
 pub mod Rules

@@ -1,5 +1,6 @@
 -- What was read, in the model's words.
 use Rattle.sasi_model.specs.Refusals as model
+use Rattle.sasi_model.specs.Written.{IsWritten}
 use Rattle.sasi_machine.specs.Refusal.{refusal_of}
 use Rattle.sasi_machine.specs.declared.read.Reading.{Reading}
 use Rattle.sasi_machine.specs.declared.read.Reading.TheVariants.{Nothing, Says, Bad}
@@ -9,3 +10,8 @@ abbrev pub reading_of : Reading → model.Reading
 reading_of Nothing = model.Nothing
 reading_of (Says statement) = model.Says statement
 reading_of (Bad refusal) = model.Bad (refusal_of refusal)
+
+-- a statement is one as it stands in a text
+abbrev pub IsReadFrom : Reading → Type 0
+IsReadFrom (Says statement) = IsWritten statement
+IsReadFrom _ = Unit {0}

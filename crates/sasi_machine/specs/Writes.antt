@@ -1,5 +1,5 @@
 -- What the writes of a table are: the key, and the change of its partition.
-use Rattle.std.specs.Prelude.{◌≡◌, ℕ, List, Option, None, Some, ⊤}
+use Rattle.std.specs.Prelude.{◌≡◌, ◌≤◌, ℕ, List, length, Option, None, Some, ⊤}
 use Rattle.std.specs.List.{zip}
 use Rattle.sasi_types.specs.declared.literal.Literal.{Literal}
 use Rattle.sasi_types.specs.declared.literal.Literal.TheVariants.{Null}
@@ -11,7 +11,8 @@ use Rattle.sasi_cells.specs.Rows.{IsStored}
 use Rattle.sasi_model.specs.Cells.{Partition, empty_partition}
 use Rattle.sasi_model.specs.State.{Definition, definition_of, key_type}
 use Rattle.sasi_model.specs.Step.{delete_change, insert_change, key_literal, place_given, update_change}
-use Rattle.sasi_schema.specs.Numbers.{number_of_table}
+use Rattle.sasi_model.specs.Refusals.{COLUMN_LIMIT}
+use Rattle.sasi_schema.specs.Numbers.{IsKeyAt, number_of_table}
 use Rattle.sasi_machine.specs.Checks.{IsTimeOf}
 use Rattle.sasi_machine.specs.declared.write.Write.{Write}
 
@@ -74,5 +75,7 @@ pub record IsWriteTo (partitioner : Partitioner) (greatest : ℕ) (d : Definitio
 pub record IsWrite (tables : List Definition) (partitioner : Partitioner) (greatest : ℕ) (statement : Statement) (w : Write) : Type 0 where
   pub definition : Definition
   pub found : definition_of (table_named statement) tables ≡ Some definition
+  pub key_is_there : IsKeyAt definition.key definition.columns
+  pub few : length definition.columns ≤ COLUMN_LIMIT
   pub number : number_of_table (table_named statement) tables ≡ Some w.table
   pub written : IsWriteTo partitioner greatest definition statement w

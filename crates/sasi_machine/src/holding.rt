@@ -2,30 +2,11 @@
 ghost use Rattle.std.specs.Prelude.{◌≡◌, ◌<◌, ◌+◌, ◌++◌, ◌∷◌, [], IfOk, OnOk, OnErr, length, slice_get, slice_set, Some};
 ghost use Rattle.std.specs.Vec.{vec_len, vec_capacity};
 ghost use Rattle.sasi_model.specs.Cells.{greatest_of};
-ghost use Rattle.sasi_model.specs.State.{column_at, type_or_text};
-ghost use Rattle.sasi_model.specs.Step.{key_place};
-ghost use Rattle.sasi_cells.specs.Rows.{IsStored};
 ghost use Rattle.sasi_machine.specs.Tables.{IsWrittenAt, IsRoomFor};
 
 use crate::rows::Rows;
 use crate::write::Write;
-use sasi_schema::place_in;
-use sasi_types::{ColumnType, Name};
 use std::alloc::AllocError;
-
-/// The type of the key column of a table that is to be made.
-pub fn key_kind(columns: &[(Name, ColumnType)], keys: &[Name]) -> ColumnType
-    ensures { result ≡ type_or_text (column_at (key_place columns.now keys.now) columns.now) }
-{
-    let place = match keys.first() {
-        None => 0,
-        Some(key) => place_in(key, columns).unwrap_or(0),
-    };
-    match columns.get(place) {
-        None => ColumnType::Text,
-        Some(column) => column.1,
-    }
-}
 
 /// Makes room for one more.
 pub fn reserve_one(contents: &mut Vec<Rows>) -> Result<(), AllocError>

@@ -16,6 +16,8 @@ mod outcome;
 mod picking;
 mod place;
 mod plan;
+mod planned;
+mod planning;
 pub mod print;
 mod query;
 mod read;
@@ -31,5 +33,7 @@ mod writer;
 
 pub use machine::Machine;
 pub use outcome::Outcome;
+pub use planned::Planned;
 pub use print::Reply;
 pub use refusal::Refusal;
+pub use write::Write;

@@ -1,35 +1,30 @@
 // The machine.
-ghost use Rattle.std.specs.Prelude.{◌≡◌, [], IfOk, OnOk, OnErr};
-ghost use Rattle.sasi_types.specs.declared.statement.Statement.TheVariants.{CreateTable, Query};
+ghost use Rattle.std.specs.Prelude.{◌≡◌, IfOk, OnOk, OnErr};
 ghost use Rattle.sasi_model.specs.Pieces.{piece_of};
 ghost use Rattle.sasi_model.specs.State.{empty_state};
+ghost use Rattle.sasi_model.specs.Changes.{with_new_table};
 ghost use Rattle.sasi_model.specs.Step.{step};
+ghost use Rattle.sasi_schema.specs.Defined.{definition};
 ghost use Rattle.sasi_machine.specs.Outcome.{outcome_of};
-ghost use Rattle.sasi_machine.specs.Taken.{Takes};
-ghost use Rattle.sasi_machine.specs.Writes.{IsWriting};
+ghost use Rattle.sasi_machine.specs.Plans.{IsFit, IsNext, written_state};
 
-use crate::fault::Fault;
-use crate::holding::{add_within, key_kind, merge_into, reserve_one};
-use crate::plan::plan;
-use crate::query::query;
-use crate::read::{Reading, read};
-use crate::refuse::{refuse, refuse_fault};
+use crate::holding::{add_within, merge_into, reserve_one};
+use crate::planned::Planned;
 use crate::rows::Rows;
-use crate::writer::Writer;
-use crate::{Outcome, Refusal, Reply};
-use sasi_schema::Schema;
-use sasi_types::{Columns, Name, Names, Partitioner, PieceEnd, Select, Statement};
+use crate::{Outcome, Reply, Write};
+use sasi_schema::{Schema, Table};
+use sasi_types::{Partitioner, PieceEnd};
 use std::alloc::{AllocError, Global};
 use std::marker::Model;
 
 /// The state that a script works on, in memory: the tables that are defined, and beside each what it holds.
 #[derive(Drop)]
 pub struct Machine {
-    alloc: Global,
-    partitioner: Partitioner,
-    schema: Schema,
-    contents: Vec<Rows>,
-    greatest: u64,
+    pub(crate) alloc: Global,
+    pub(crate) partitioner: Partitioner,
+    pub(crate) schema: Schema,
+    pub(crate) contents: Vec<Rows>,
+    pub(crate) greatest: u64,
 }
 
 impl Model for Machine {
@@ -61,8 +56,14 @@ impl Machine {
         }
     }
 
-    /// Takes one piece. The reply takes the place of what the buffer held; after an error it may be a part of one.
-    #[tactic(auto, unfolding(sasi_model::specs::Step::step))]
+    /// How its tables make tokens of keys.
+    pub fn partitioner(&self) -> Partitioner
+        ensures { result ≡ self.now.partitioner }
+    {
+        self.partitioner
+    }
+
+    /// Takes one piece: plans it, and does what it asks for. After an error the reply may be a part of one.
     pub fn step(
         &mut self,
         piece: &[u8],
@@ -74,89 +75,40 @@ impl Machine {
         ensures outcome { IfOk result (λ o. o ≡ outcome_of (step self.old (piece_of end piece.now)).refused) }
         ensures err { OnErr result (self.new ≡ self.old) }
     {
-        reply.clear();
-        match read(self.alloc, piece, end)? {
-            Reading::Nothing => Ok(Outcome::Done),
-            Reading::Bad(refusal) => refuse(reply, refusal),
-            Reading::Says(statement) => self.execute(statement, reply),
+        match self.plan(piece, end, reply)? {
+            Planned::Answered(outcome) => Ok(outcome),
+            Planned::Create(table) => {
+                self.create(table)?;
+                Ok(Outcome::Done)
+            }
+            Planned::Write(write) => {
+                self.write(write)?;
+                Ok(Outcome::Done)
+            }
         }
     }
 
-    // Executes a statement, or refuses it.
-    fn execute(&mut self, statement: Statement, reply: &mut Reply) -> Result<Outcome, AllocError>
-        requires { reply.old ≡ [] }
-        ensures ok { IfOk result (λ outcome. Takes self.old statement self.new reply.old reply.new outcome) }
+    /// Makes a table that was planned, or defined before.
+    pub fn create(&mut self, table: Table) -> Result<(), AllocError>
+        requires { IsNext self.old table }
+        ensures ok { OnOk result (self.new ≡ with_new_table self.old (definition table)) }
         ensures err { OnErr result (self.new ≡ self.old) }
     {
-        match statement {
-            Statement::CreateTable {
-                table,
-                columns,
-                keys,
-            } => self.create(&table, &columns, &keys, reply),
-            Statement::Query { select } => self.query(&select, reply),
-            write => self.write(write, reply),
-        }
-    }
-
-    // The line of the reply comes first, and room for what the table will hold, so that nothing fails behind the change.
-    fn create(
-        &mut self,
-        table: &Name,
-        columns: &Columns,
-        keys: &Names,
-        reply: &mut Reply,
-    ) -> Result<Outcome, AllocError>
-        requires { reply.old ≡ [] }
-        ensures ok { IfOk result (λ outcome. Takes self.old (CreateTable table.now columns.now keys.now) self.new reply.old reply.new outcome) }
-        ensures err { OnErr result (self.new ≡ self.old) }
-    {
-        reply.ok()?;
         reserve_one(&mut self.contents)?;
-        match self.schema.create_table(table, columns, keys) {
-            Ok(_) => {
-                let kind = key_kind(columns.as_slice(), keys.as_slice());
-                add_within(&mut self.contents, Rows::new(self.alloc, kind));
-                Ok(Outcome::Done)
-            }
-            Err(fault) => {
-                reply.clear();
-                refuse_fault(reply, Fault::of_schema(fault))
-            }
-        }
+        let rows = Rows::new(self.alloc, table.key_type());
+        self.schema.restore_table(table)?;
+        add_within(&mut self.contents, rows);
+        Ok(())
     }
 
-    // An INSERT, an UPDATE or a DELETE. The change comes last, behind all that may fail.
-    fn write(&mut self, statement: Statement, reply: &mut Reply) -> Result<Outcome, AllocError>
-        requires { IsWriting statement }
-        ensures ok { IfOk result (λ outcome. Takes self.old statement self.new reply.old reply.new outcome) }
+    /// Merges a change that was planned, or written before.
+    pub fn write(&mut self, write: Write) -> Result<(), AllocError>
+        requires { IsFit self.old write }
+        ensures ok { OnOk result (self.new ≡ written_state self.old write) }
         ensures err { OnErr result (self.new ≡ self.old) }
     {
-        let writer = Writer {
-            alloc: self.alloc,
-            partitioner: self.partitioner,
-            greatest: self.greatest,
-        };
-        match plan(&writer, &self.schema, statement) {
-            Ok(write) => {
-                reply.ok()?;
-                let time = merge_into(&mut self.contents, write)?;
-                self.greatest = self.greatest.max(time);
-                Ok(Outcome::Done)
-            }
-            Err(fault) => refuse_fault(reply, fault),
-        }
-    }
-
-    fn query(&self, select: &Select, reply: &mut Reply) -> Result<Outcome, AllocError>
-        ensures { IfOk result (λ outcome. Takes self.now (Query select.now) self.now reply.old reply.new outcome) }
-    {
-        match self.schema.table(&select.table) {
-            None => refuse(reply, Refusal::NoTable(select.table.copy(self.alloc)?)),
-            Some(table) => {
-                let rows = &self.contents[table.number as usize - 1];
-                query(self.alloc, table, rows, &select.columns, reply)
-            }
-        }
+        let time = merge_into(&mut self.contents, write)?;
+        self.greatest = self.greatest.max(time);
+        Ok(())
     }
 }

@@ -2,7 +2,7 @@
 ghost use Rattle.std.specs.Prelude.{◌≡◌, IfOk};
 ghost use Rattle.sasi_model.specs.Pieces.{Whole, piece_of};
 ghost use Rattle.sasi_model.specs.Refusals.{read};
-ghost use Rattle.sasi_machine.specs.Reading.{reading_of};
+ghost use Rattle.sasi_machine.specs.Reading.{IsReadFrom, reading_of};
 
 use crate::Refusal;
 use sasi_cql::{ParseFault, parse};
@@ -21,7 +21,8 @@ pub enum Reading {
 /// What a piece says, whatever the tables are.
 #[tactic(auto, unfolding(sasi_model::specs::Refusals::read))]
 pub fn read(alloc: Global, piece: &[u8], end: PieceEnd) -> Result<Reading, AllocError>
-    ensures { IfOk result (λ reading. reading_of reading ≡ read (piece_of end piece.now)) }
+    ensures reads { IfOk result (λ reading. reading_of reading ≡ read (piece_of end piece.now)) }
+    ensures written { IfOk result IsReadFrom }
 {
     match end {
         PieceEnd::Whole => read_whole(alloc, piece),
@@ -32,7 +33,8 @@ pub fn read(alloc: Global, piece: &[u8], end: PieceEnd) -> Result<Reading, Alloc
 
 #[tactic(auto, unfolding(sasi_model::specs::Refusals::read))]
 fn read_whole(alloc: Global, piece: &[u8]) -> Result<Reading, AllocError>
-    ensures { IfOk result (λ reading. reading_of reading ≡ read (Whole piece.now)) }
+    ensures reads { IfOk result (λ reading. reading_of reading ≡ read (Whole piece.now)) }
+    ensures written { IfOk result IsReadFrom }
 {
     if piece == b";".as_slice() {
         return Ok(Reading::Nothing);

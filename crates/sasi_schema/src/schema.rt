@@ -1,5 +1,5 @@
 // The tables that are defined.
-ghost use Rattle.std.specs.Prelude.{◌≡◌, ◌+◌, ◌++◌, ◌≤◌, ◌∷◌, [], length, IfOk, OnOk, OnErr};
+ghost use Rattle.std.specs.Prelude.{◌≡◌, ◌+◌, ◌++◌, ◌≤◌, ◌∷◌, [], length, IfOk, OnOk, OnErr, None};
 ghost use Rattle.std.specs.Option.{option_copied, option_map};
 ghost use Rattle.sasi_model.specs.State.{definition_of};
 ghost use Rattle.sasi_model.specs.Refusals.{create_rules, COLUMN_LIMIT as column_limit};
@@ -14,7 +14,7 @@ use crate::check::check;
 use crate::search::{named, place_in};
 use crate::table::Table;
 use sasi_types::{ColumnType, Columns, Name, Names};
-use std::alloc::Global;
+use std::alloc::{AllocError, Global};
 use std::marker::Model;
 
 /// The tables that are defined, in the order of their creation, seen as the list of their definitions.
@@ -60,6 +60,29 @@ impl Schema {
         named(name, &self.tables)
     }
 
+    /// The table that a CREATE TABLE would define, behind the others.
+    pub fn plan_table(
+        &self,
+        table: &Name,
+        columns: &Columns,
+        keys: &Names,
+    ) -> Result<Table, SchemaFault>
+        ensures number { IfOk result (λ t. t.number ≡ length self.now + 1) }
+        ensures made { IfOk result (λ t. definition t ≡ new_definition table.now columns.now keys.now) }
+        ensures answers { Answers told (create_rules self.now table.now columns.now keys.now) result }
+    {
+        let (columns_in, keys) = (columns.as_slice(), keys.as_slice());
+        check(self.alloc, &self.tables, table, columns_in, keys)?;
+        let key = key_place(columns_in, keys);
+        let number = self.tables.len() as u32 + 1;
+        Ok(Table {
+            number,
+            name: table.copy(self.alloc)?,
+            columns: columns.copy(self.alloc)?,
+            key,
+        })
+    }
+
     /// Defines a table, behind the others, and gives its number.
     pub fn create_table(
         &mut self,
@@ -72,18 +95,21 @@ impl Schema {
         ensures answers { Answers told (create_rules self.old table.now columns.now keys.now) result }
         ensures err { OnErr result (self.new ≡ self.old) }
     {
-        let (columns_in, keys) = (columns.as_slice(), keys.as_slice());
-        check(self.alloc, &self.tables, table, columns_in, keys)?;
-        let key = key_place(columns_in, keys);
-        let number = self.tables.len() as u32 + 1;
-        let made = Table {
-            number,
-            name: table.copy(self.alloc)?,
-            columns: columns.copy(self.alloc)?,
-            key,
-        };
-        self.tables.push(made)?;
+        let made = self.plan_table(table, columns, keys)?;
+        let number = made.number;
+        self.restore_table(made)?;
         Ok(number)
+    }
+
+    /// Adds a table, as it was defined before, behind the others.
+    pub fn restore_table(&mut self, table: Table) -> Result<(), AllocError>
+        requires number { table.number ≡ length self.old + 1 }
+        requires free { definition_of table.name self.old ≡ None }
+        ensures ok { OnOk result (self.new ≡ self.old ++ definition table ∷ []) }
+        ensures err { OnErr result (self.new ≡ self.old) }
+    {
+        self.tables.push(table)?;
+        Ok(())
     }
 }
 

@@ -1,11 +1,12 @@
 // Tables, as they are defined.
-ghost use Rattle.std.specs.Prelude.{◌≡◌, ◌≤◌, length};
+ghost use Rattle.std.specs.Prelude.{◌≡◌, ◌≤◌, length, IfOk};
 ghost use Rattle.sasi_model.specs.Refusals.{COLUMN_LIMIT as column_limit};
 ghost use Rattle.sasi_schema.specs.Numbers.{IsKeyAt};
 
 use crate::number::number_at;
 use crate::search::place_in;
 use sasi_types::{ColumnType, Columns, Name};
+use std::alloc::{AllocError, Global};
 
 /// A table, as it is defined.
 #[derive(Drop)]
@@ -25,6 +26,31 @@ impl Table {
     ghost use Rattle.sasi_model.specs.State.{number_of_column, place_in, key_name, key_type};
     ghost use Rattle.sasi_model.specs.Refusals.{is_key, type_of_column};
     ghost use Rattle.sasi_schema.specs.Defined.{definition};
+
+    /// A table of these columns, with the key column at this place.
+    pub fn new(number: u32, name: Name, columns: Columns, key: u16) -> Table
+        requires key { IsKeyAt key columns }
+        requires few { length columns ≤ column_limit }
+        ensures number { result.number ≡ number }
+        ensures definition { definition result ≡ record { name = name; columns = columns; key = key } }
+    {
+        Table {
+            number,
+            name,
+            columns,
+            key,
+        }
+    }
+
+    /// The same table once more.
+    pub fn copy(&self, alloc: Global) -> Result<Table, AllocError>
+        ensures number { IfOk result (λ copy. copy.number ≡ self.now.number) }
+        ensures definition { IfOk result (λ copy. definition copy ≡ definition self.now) }
+    {
+        let name = self.name.copy(alloc)?;
+        let columns = self.columns.copy(alloc)?;
+        Ok(Table::new(self.number, name, columns, self.key))
+    }
 
     /// The name of the key column.
     pub fn key_name(&self) -> &Name

@@ -3,15 +3,15 @@ use Rattle.sasi_model.specs.Refusals.{Bad, NotUtf8}
 use Rattle.sasi_machine.proofs.WholePieces.{read_bytes, read_nothing, read_statement}
 use Rattle.sasi_machine.proofs.read.read_whole.Goals as goal
 
-pub returns-in-Err : goal.returns-in-Err
-returns-in-Err c =
+pub returns-in-Err-clause-reads : goal.returns-in-Err-clause-reads
+returns-in-Err-clause-reads c =
     ap (λ place. Bad (NotUtf8 place)) (c.valid_up_to.ensures ∙ c.in-Err.ensures.valid_len)
     ∙ read_bytes c.args.piece.now (rw c.as_slice.ensures at (sym c.eq.ensures ∙ c.if-eq.false)) c.in-Err.ensures.cases.0
 
-pub returns-in-Ok-parse : goal.returns-in-Ok-parse
-returns-in-Ok-parse c =
+pub returns-in-Ok-parse-clause-reads : goal.returns-in-Ok-parse-clause-reads
+returns-in-Ok-parse-clause-reads c =
     read_statement c.args.piece.now c.in-Ok-parse.statement (rw c.as_slice.ensures at (sym c.eq.ensures ∙ c.if-eq.false)) c.in-Ok.ensures.cases.1 (rw c.in-Ok.ensures.cases.0 at c.in-Ok-parse.ensures.statement)
 
-pub returns-in-Err-Syntax : goal.returns-in-Err-Syntax
-returns-in-Err-Syntax c =
+pub returns-in-Err-Syntax-clause-reads : goal.returns-in-Err-Syntax-clause-reads
+returns-in-Err-Syntax-clause-reads c =
     read_nothing c.args.piece.now (rw c.as_slice.ensures at (sym c.eq.ensures ∙ c.if-eq.false)) c.in-Ok.ensures.cases.1 (rw c.in-Ok.ensures.cases.0 at (c.in-Err-Syntax.ensures.syntax (ap Err c.in-Err-Syntax.field-0-is)))

@@ -1,8 +1,7 @@
 use Rattle.std.proofs.Common.{◌<◌, ◌+◌, sym, ap, ◌∙◌, rules}
 use Rattle.sasi_schema.specs.Defined.{definitions}
 use Rattle.sasi_schema.proofs.Allowed.{allowed, few_tables}
-use Rattle.sasi_schema.proofs.Rises.{rises_made}
-use Rattle.sasi_schema.proofs.schema.Schema.create_table.Goals as goal
+use Rattle.sasi_schema.proofs.schema.Schema.plan_table.Goals as goal
 
 pub key_place-key-requires : goal.key_place-key-requires
 key_place-key-requires c = (allowed (definitions c.deref.result.now) c.args.table.now c.as_slice-columns_in.result.now c.as_slice-keys.result.now c.in_ok-check.ensures).few
@@ -19,14 +18,10 @@ overflow_add-number c =
     let few : c.len.result < 256 = few_tables c.deref.result.now c.len.result (c.len.ensures ∙ sym c.deref.ensures.len) is in
     search rules
 
-pub invariant_of-made : goal.invariant_of-made
-invariant_of-made c =
+pub invariant_of-result : goal.invariant_of-result
+invariant_of-result c =
     let is = allowed (definitions c.deref.result.now) c.args.table.now c.as_slice-columns_in.result.now c.as_slice-keys.result.now c.in_ok-check.ensures in
     record {
       key_is_there = rw (c.in_ok-copy-2.ensures, c.key_place-key.ensures, ← c.as_slice-columns_in.ensures) is.key;
       few = rw (c.in_ok-copy-2.ensures, ← c.as_slice-columns_in.ensures) is.few;
     }
-
-pub invariant_of-self-2 : goal.invariant_of-self-2
-invariant_of-self-2 c =
-    rises_made c.self.inside.tables.items c.push.new.self.items _ c.self.invariant (ap (λ n. n + 1) (c.len.ensures ∙ c.self.inside.tables.ok.0)) c.in_ok-push.ensures.items

@@ -1,0 +1,77 @@
+-- What pieces ask for: an answer alone, one more table, or a change of one partition.
+use Rattle.std.specs.Prelude.{◌≡◌, ℕ, ◌+◌, ◌-◌, ◌<◌, List, length, slice_get, None, Some}
+use Rattle.sasi_types.specs.declared.statement.Statement.{Statement}
+use Rattle.sasi_types.specs.declared.statement.Statement.TheVariants.{CreateTable, Insert, Update, Delete, Query}
+use Rattle.sasi_schema.specs.Defined.{definition}
+use Rattle.sasi_schema.specs.declared.table.Table.{Table}
+use Rattle.sasi_model.specs.Pieces.{Piece}
+use Rattle.sasi_model.specs.State as model
+use Rattle.sasi_model.specs.State.{State, definition_of, definitions, greatest, place_of}
+use Rattle.sasi_model.specs.Changes.{after_change, with_new_table}
+use Rattle.sasi_model.specs.Refusals.{Says, read, refusal}
+use Rattle.sasi_model.specs.Step.{new_definition, step}
+use Rattle.sasi_model.specs.Stored.{IsBodyOf, types_of}
+use Rattle.sasi_model.specs.Written.{IsWritten}
+use Rattle.sasi_machine.specs.Outcome.{outcome_of}
+use Rattle.sasi_machine.specs.Taken.{Takes}
+use Rattle.sasi_machine.specs.Writes.{IsWrite, IsWriting}
+use Rattle.sasi_machine.specs.declared.outcome.Outcome.{Outcome}
+use Rattle.sasi_machine.specs.declared.planned.Planned.{Planned}
+use Rattle.sasi_machine.specs.declared.planned.Planned.TheVariants.{Answered, Create, Write as Writes}
+use Rattle.sasi_machine.specs.declared.write.Write.{Write}
+
+-- ---- what can be done to a state
+
+-- the state after the write
+abbrev pub written_state : State → Write → State
+written_state s w = after_change s w.table w.place w.change
+
+-- the table has the next number, and its name is free
+pub record IsNext (s : State) (t : Table) : Type 0 where
+  pub number : t.number ≡ length s.tables + 1
+  pub free : definition_of t.name (definitions s.tables) ≡ None
+
+-- the table of the write is there, its place is that of its key, and key and change can be stored in the table
+pub record IsFit (s : State) (w : Write) : Type 0 where
+  pub some : 0 < w.table
+  pub table : model.Table
+  pub there : slice_get s.tables (w.table - 1) ≡ Some table
+  pub place : w.place ≡ place_of s.partitioner w.place.key
+  pub body : IsBodyOf (types_of table.definition) w.place.key w.change
+
+-- ---- what a statement asks for
+
+-- a statement that isn't refused makes this table
+abbrev pub Makes : State → Statement → Table → Type 0
+Makes s (CreateTable table columns keys) t = (refusal s (CreateTable table columns keys) ≡ None) × (definition t ≡ new_definition table columns keys) × (t.number ≡ length s.tables + 1)
+Makes s statement t = ⊥
+
+-- a statement that isn't refused writes this
+pub record WritesTo (s : State) (statement : Statement) (w : Write) : Type 0 where
+  pub writing : IsWriting statement
+  pub taken : refusal s statement ≡ None
+  pub write : IsWrite (definitions s.tables) s.partitioner (greatest s) statement w
+
+-- what it asks for, with the reply that was added
+abbrev pub Asks : State → Statement → List ℕ → List ℕ → Planned → Type 0
+Asks s statement reply_old reply_new (Answered outcome) = Takes s statement s reply_old reply_new outcome
+Asks s statement reply_old reply_new (Create t) = Takes s statement (with_new_table s (definition t)) reply_old reply_new (outcome_of None) × Makes s statement t
+Asks s statement reply_old reply_new (Writes w) = Takes s statement (written_state s w) reply_old reply_new (outcome_of None) × WritesTo s statement w
+
+-- ---- what a piece asks for
+
+-- the step of the piece leaves this state, with this reply, and ends so
+pub record StepsTo (s : State) (piece : Piece) (state : State) (reply : List ℕ) (outcome : Outcome) : Type 0 where
+  pub state_is : (step s piece).state ≡ state
+  pub reply_is : (step s piece).reply ≡ reply
+  pub outcome_is : outcome ≡ outcome_of (step s piece).refused
+
+-- the piece says a statement, as it stands in a text, that has P
+abbrev pub SaysOne : Piece → (Statement → Type 0) → Type 0
+SaysOne piece P = (statement : Statement) × (read piece ≡ Says statement) × IsWritten statement × P statement
+
+-- what its step changes
+abbrev pub Plans : State → Piece → List ℕ → Planned → Type 0
+Plans s piece reply (Answered outcome) = StepsTo s piece s reply outcome
+Plans s piece reply (Create t) = StepsTo s piece (with_new_table s (definition t)) reply (outcome_of None) × SaysOne piece (λ statement. Makes s statement t) × IsNext s t
+Plans s piece reply (Writes w) = StepsTo s piece (written_state s w) reply (outcome_of None) × SaysOne piece (λ statement. WritesTo s statement w) × IsFit s w
