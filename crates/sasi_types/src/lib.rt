@@ -3,8 +3,10 @@
 #![tactic(auto)]
 
 mod cell;
+mod class;
 mod column;
 mod key;
+mod kit_fault;
 mod literal;
 mod murmur;
 mod name;
@@ -21,8 +23,10 @@ mod type_list;
 mod value;
 
 pub use cell::Cell;
+pub use class::Class;
 pub use column::{ColumnType, Columns};
 pub use key::{Key, KeyFault};
+pub use kit_fault::KitFault;
 pub use literal::{Literal, Literals, Number, Sets};
 pub use name::{Name, Names};
 pub use partitioner::{Partitioner, Token};
