@@ -35,6 +35,20 @@ impl<'a> FieldReader<'a> {
         FieldReader { bytes, at: 0 }
     }
 
+    /// How many bytes it has read.
+    pub fn place(&self) -> usize
+        ensures { result ≡ length self.now.done }
+    {
+        self.at
+    }
+
+    /// The bytes that are left.
+    pub fn left(&self) -> &'a [u8]
+        ensures { result.now ≡ self.now.left }
+    {
+        &self.bytes[self.at..]
+    }
+
     /// The next bytes, so many of them.
     pub fn bytes(&mut self, count: usize) -> Result<&'a [u8], ShortField>
         ensures ok { IfOk result (λ field. Passes field.now self.old self.new) }

@@ -12,7 +12,8 @@ use Rattle.sasi_host.specs.Disk.{Fills}
 use Rattle.sasi_gated.specs.Format.{header, IsLength, Opens, Closes}
 use Rattle.sasi_gated.specs.Gates.{IsAtGate}
 use Rattle.sasi_gated.specs.AtGate.{States}
-use Rattle.sasi_gated.specs.Damages.{seen_bytes, EndsEarly, IsCutOff, Breaks, Shows, TellsSize}
+use Rattle.sasi_gated.specs.Damages.{EndsEarly, IsCutOff, Breaks, Shows, TellsSize}
+use Rattle.sasi_host.specs.Damages.{seen_bytes}
 use Rattle.sasi_gated.specs.Laws.{frame_is}
 use Rattle.sasi_gated.proofs.Windows.{window, window_length, nothing_more}
 

@@ -10,7 +10,7 @@ use Rattle.sasi_host.specs.Durability.{kept_same}
 use Rattle.sasi_host.specs.Disk.{Changes, IsKept, Same}
 use Rattle.sasi_gated.specs.Format.{header, IsGated}
 use Rattle.sasi_gated.specs.Gates.{IsAtGate}
-use Rattle.sasi_gated.specs.Reads.{OnDamage}
+use Rattle.sasi_host.specs.Damages.{OnDamage}
 use Rattle.sasi_gated.specs.Standing.{IsReading}
 use Rattle.sasi_gated.specs.Laws.{at_first_gate}
 

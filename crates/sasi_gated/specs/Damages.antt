@@ -7,12 +7,9 @@ use Rattle.sasi_host.specs.declared.damage.Seen.{Seen}
 use Rattle.sasi_host.specs.declared.damage.FormatRule.{FormatRule}
 use Rattle.sasi_host.specs.declared.damage.FormatRule.TheVariants.{Short, Magic, Version, Number}
 use Rattle.sasi_host.specs.Names.{Bytes}
+use Rattle.sasi_host.specs.Damages.{seen_bytes}
 use Rattle.sasi_gated.specs.Format.{magic, IsLength}
 use Rattle.sasi_gated.specs.Gates.{IsAtGate}
-
--- the bytes that a damage names
-abbrev pub seen_bytes : Seen → Bytes
-seen_bytes seen = take seen.len seen.bytes
 
 -- at this place stand other bytes than the format wants
 pub record Differs (bytes : Bytes) (at : ℕ) (seen wanted : Bytes) : Type 0 where

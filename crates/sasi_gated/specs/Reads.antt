@@ -5,6 +5,7 @@ use Rattle.sasi_host.specs.declared.damage.Damage.{Damage}
 use Rattle.sasi_host.specs.declared.fault.ReadFault.{ReadFault}
 use Rattle.sasi_host.specs.declared.fault.ReadFault.TheVariants as fault
 use Rattle.sasi_host.specs.Names.{Bytes}
+use Rattle.sasi_host.specs.Damages.{OnDamage}
 use Rattle.sasi_host.specs.View.{View, IsTold, contents}
 use Rattle.sasi_gated.specs.Format.{IsGated}
 use Rattle.sasi_gated.specs.Gates.{IsAtGate, ReadsAt}
@@ -28,11 +29,6 @@ abbrev pub Gains : View → View → FileName → ℕ → ℕ → Bytes → Type
 Gains old new file at after payload = (records : List Bytes) → IsAtEnd old file at records → IsAtEnd new file after (records ++ payload ∷ [])
 
 -- ---- damage
-
--- if the fault is damage, it has P
-abbrev pub OnDamage : (Damage → Type 0) → ReadFault → Type 0
-OnDamage P (fault.Damaged damage) = P damage
-OnDamage P _ = Unit {0}
 
 -- damage is what the file shows as it reads
 abbrev pub IsShown : View → FileName → ReadFault → Type 0

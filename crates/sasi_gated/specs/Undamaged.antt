@@ -10,7 +10,8 @@ use Rattle.sasi_host.specs.declared.damage.FormatRule.{FormatRule}
 use Rattle.sasi_host.specs.declared.damage.FormatRule.TheVariants.{Short, Missing, NoSeal, Magic, Version, Number, Order, Place, Text}
 use Rattle.sasi_host.specs.Names.{Bytes}
 use Rattle.sasi_gated.specs.Format.{magic, header, frame, IsLength, FromGate, IsGated}
-use Rattle.sasi_gated.specs.Damages.{seen_bytes, Differs, EndsEarly, Breaks, Shows}
+use Rattle.sasi_gated.specs.Damages.{Differs, EndsEarly, Breaks, Shows}
+use Rattle.sasi_host.specs.Damages.{seen_bytes}
 use Rattle.sasi_gated.specs.Laws.{frame_states, frame_length, magic_length, header_length, left_at}
 
 parts_same : (front seen rest a wanted b : Bytes) → front ++ seen ++ rest ≡ a ++ wanted ++ b → length front ≡ length a → length seen ≡ length wanted → seen ≡ wanted

@@ -1,13 +1,14 @@
 // A gated file in hand.
-ghost use Rattle.std.specs.Prelude.{◌≡◌, ◌+◌, ◌∷◌, ◌++◌, [], ℕ, List, length, IfErr, IfOk, OnOk, IsTrue, is_ok, false, Some};
+ghost use Rattle.std.specs.Prelude.{◌≡◌, ◌+◌, ◌≤◌, ◌^◌, ◌∷◌, ◌++◌, [], ℕ, List, length, if◌then◌else◌, IfErr, IfOk, OnOk, IsTrue, is_ok, false, Some};
 ghost use Rattle.std.specs.Option.{option_copied, option_to_list};
 ghost use Rattle.sasi_host.specs.View.{DiskCauses, ListCauses, Reaches, IsAbsent, IsThere, IsTold, contents};
 ghost use Rattle.sasi_host.specs.Disk.{Anyhow, Changes, IsKept, LeftWith, Same, Step};
-ghost use Rattle.sasi_gated.specs.Format.{IsBeforeOrAfter, IsGated};
+ghost use Rattle.sasi_gated.specs.Format.{IsBeforeOrAfter, IsGated, new_file};
 ghost use Rattle.sasi_gated.specs.Gates.{IsAtGate, ReadsAt};
 ghost use Rattle.sasi_gated.specs.Damages.{Shows};
 ghost use Rattle.sasi_gated.specs.Causes.{ReadingCauses};
-ghost use Rattle.sasi_gated.specs.Reads.{OnDamage, IsShown, IsShownAt, SparesGated, SparesReading, ReadsGate, ReadsRecords, Begins, Gains};
+ghost use Rattle.sasi_gated.specs.Reads.{IsShown, IsShownAt, SparesGated, SparesReading, ReadsGate, ReadsRecords, Begins, Gains};
+ghost use Rattle.sasi_host.specs.Damages.{OnDamage};
 ghost use Rattle.sasi_gated.specs.Standing.{IsAtEnd, IsReading, ReadsOn};
 
 use crate::Record;
@@ -48,6 +49,21 @@ impl Gated {
         self.usable
     }
 
+    /// Its name.
+    pub fn file(&self) -> FileName
+        ensures { result ≡ self.now.file }
+    {
+        self.file
+    }
+
+    /// The place of the gate before which it stands.
+    pub fn place(&self) -> u64
+        ensures place { result ≡ self.now.at }
+        ensures fits { result ≤ 2 ^ 62 }
+    {
+        self.at
+    }
+
     /// Makes a gated file with no record or with this first one, and syncs it and the folder. It stands at the closed gate.
     pub fn create<H: Host>(
         alloc: Global,
@@ -59,6 +75,8 @@ impl Gated {
         ensures ok { IfOk result (λ gated. IsAtEnd (H.view host.new) file gated.at (option_to_list (option_copied first.entry))) }
         ensures changes { Changes (Step file Anyhow) (H.view host.old) (H.view host.new) }
         ensures room { IfOk result (λ gated. Reaches (H.view host.new) gated.file (gated.at + 1)) }
+        ensures place { IfOk result (λ gated. gated.at + 1 ≡ length (new_file file (option_copied first.entry))) }
+        ensures fits { IfOk result (λ gated. gated.at ≤ 2 ^ 62) }
         ensures usable { IfOk result (λ gated. IsTrue gated.usable) }
         ensures file { IfOk result (λ gated. gated.file ≡ file) }
         ensures causes { ListCauses (H.view host.old) (H.view host.new) result }
@@ -81,6 +99,7 @@ impl Gated {
         ensures damaged { IfErr result (IsShown (H.view host.old) file) }
         ensures undamaged { IfErr result (SparesGated (H.view host.old) file) }
         ensures changes { Changes Same (H.view host.old) (H.view host.new) }
+        ensures place { IfOk result (λ gated. gated.at ≡ 16) }
         ensures usable { IfOk result (λ gated. IsTrue gated.usable) }
         ensures file { IfOk result (λ gated. gated.file ≡ file) }
         ensures causes { ReadingCauses (H.view host.old) (H.view host.new) result }
@@ -101,9 +120,12 @@ impl Gated {
         ensures gate { IfOk result (λ more. ReadsGate (H.view host.old) self.old.file self.old.at self.new.at more out.new.items) }
         ensures records { IfOk result (λ more. ReadsRecords (H.view host.old) (H.view host.new) self.old.file self.old.at self.new.at more out.new.items) }
         ensures room { IfOk result (λ more. more ≡ false → Reaches (H.view host.new) self.new.file (self.new.at + 1)) }
+        ensures short { OnOk result (length out.new.items ≤ 2 ^ 30) }
         ensures damaged { IfErr result (IsShownAt (H.view host.old) self.old.file self.old.at) }
         ensures undamaged { IfErr result (SparesReading (H.view host.old) self.old.file self.old.at) }
         ensures changes { Changes Same (H.view host.old) (H.view host.new) }
+        ensures place { IfOk result (λ more. self.new.at ≡ (if more then self.old.at + (5 + length out.new.items) else self.old.at)) }
+        ensures fits { OnOk result (self.new.at ≤ 2 ^ 62) }
         ensures usable { self.new.usable ≡ is_ok result }
         ensures file { self.new.file ≡ self.old.file }
         ensures causes { ReadingCauses (H.view host.old) (H.view host.new) result }
@@ -126,6 +148,7 @@ impl Gated {
         ensures changes { Changes (Step self.old.file Anyhow) (H.view host.old) (H.view host.new) }
         ensures place { OnOk result (self.new.at ≡ self.old.at + (5 + length item.now)) }
         ensures room { OnOk result (Reaches (H.view host.new) self.new.file (self.new.at + 1)) }
+        ensures fits { OnOk result (self.new.at ≤ 2 ^ 62) }
         ensures usable { self.new.usable ≡ is_ok result }
         ensures file { self.new.file ≡ self.old.file }
         ensures causes { DiskCauses (H.view host.old) (H.view host.new) result }

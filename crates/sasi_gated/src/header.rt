@@ -4,9 +4,9 @@ ghost use Rattle.std.specs.Int.{to_be_bytes, w32};
 ghost use Rattle.sasi_gated.specs.Format.{header, magic};
 ghost use Rattle.sasi_gated.specs.Damages.{Shows};
 
-use crate::damage::{cut_off, found};
+use crate::damage::cut_off;
 use sasi_fields::{FieldReader, ShortField, put_bytes, put_u32};
-use sasi_host::{Damage, FileName, FormatRule, Kind};
+use sasi_host::{Damage, FileName, FormatRule, Kind, found};
 use std::alloc::AllocError;
 
 // Behind so many bytes stands the first gate.

@@ -1,11 +1,12 @@
 // A read at a gate, and where it leaves the reader.
-ghost use Rattle.std.specs.Prelude.{false, ◌≡◌, ◌+◌, ◌≤◌, ◌^◌, List, ℕ, IfErr, IfOk, Some};
+ghost use Rattle.std.specs.Prelude.{false, ◌≡◌, ◌+◌, ◌≤◌, ◌^◌, List, ℕ, length, if◌then◌else◌, IfErr, IfOk, OnOk, Some};
 ghost use Rattle.sasi_host.specs.View.{IsThere, IsTold, Reaches, contents};
 ghost use Rattle.sasi_host.specs.Disk.{Changes, Same};
 ghost use Rattle.sasi_gated.specs.Gates.{IsAtGate, ReadsAt};
 ghost use Rattle.sasi_gated.specs.Damages.{Shows};
 ghost use Rattle.sasi_gated.specs.Causes.{ReadingCauses};
-ghost use Rattle.sasi_gated.specs.Reads.{OnDamage, IsShown, IsShownAt, SparesGated, SparesReading, ReadsGate, ReadsRecords, Begins, Gains};
+ghost use Rattle.sasi_gated.specs.Reads.{IsShown, IsShownAt, SparesGated, SparesReading, ReadsGate, ReadsRecords, Begins, Gains};
+ghost use Rattle.sasi_host.specs.Damages.{OnDamage};
 ghost use Rattle.sasi_gated.specs.Standing.{IsReading, ReadsOn};
 
 use crate::damage::cut_off;
@@ -33,7 +34,9 @@ pub fn read_next<H: Host>(
     ensures gate { IfOk result (λ next. ReadsGate (H.view host.old) file at next.at next.more out.new.items) }
     ensures records { IfOk result (λ next. ReadsRecords (H.view host.old) (H.view host.new) file at next.at next.more out.new.items) }
     ensures room { IfOk result (λ next. next.more ≡ false → Reaches (H.view host.new) file (next.at + 1)) }
+    ensures place { IfOk result (λ next. next.at ≡ (if next.more then at + (5 + length out.new.items) else at)) }
     ensures fits { IfOk result (λ next. next.at ≤ 2 ^ 62) }
+    ensures short { OnOk result (length out.new.items ≤ 2 ^ 30) }
     ensures damaged { IfErr result (IsShownAt (H.view host.old) file at) }
     ensures undamaged { IfErr result (SparesReading (H.view host.old) file at) }
     ensures changes { Changes Same (H.view host.old) (H.view host.new) }

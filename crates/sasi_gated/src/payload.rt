@@ -4,7 +4,8 @@ ghost use Rattle.sasi_host.specs.View.{IsThere, contents};
 ghost use Rattle.sasi_host.specs.Disk.{Changes, Same};
 ghost use Rattle.sasi_gated.specs.Damages.{TellsSize};
 ghost use Rattle.sasi_gated.specs.Causes.{ReadingCauses};
-ghost use Rattle.sasi_gated.specs.Reads.{OnDamage, IsShown, IsShownAt, SparesGated, SparesReading, ReadsGate, ReadsRecords, Begins, Gains};
+ghost use Rattle.sasi_gated.specs.Reads.{IsShown, IsShownAt, SparesGated, SparesReading, ReadsGate, ReadsRecords, Begins, Gains};
+ghost use Rattle.sasi_host.specs.Damages.{OnDamage};
 
 use crate::damage::cut_off;
 use sasi_host::{FileName, Host, ReadFault};

@@ -6,13 +6,14 @@ ghost use Rattle.sasi_gated.specs.Format.{header};
 ghost use Rattle.sasi_gated.specs.Damages.{Shows, TellsSize};
 ghost use Rattle.sasi_gated.specs.Gates.{Gives, IsAtGate};
 ghost use Rattle.sasi_gated.specs.Causes.{ReadingCauses};
-ghost use Rattle.sasi_gated.specs.Reads.{OnDamage, IsShown, IsShownAt, SparesGated, SparesReading, ReadsGate, ReadsRecords, Begins, Gains};
+ghost use Rattle.sasi_gated.specs.Reads.{IsShown, IsShownAt, SparesGated, SparesReading, ReadsGate, ReadsRecords, Begins, Gains};
+ghost use Rattle.sasi_host.specs.Damages.{OnDamage};
 
-use crate::damage::{cut_off, found};
+use crate::damage::cut_off;
 use crate::gate::{Gate, gate_in};
 use crate::header::check_header;
 use crate::payload::read_payload;
-use sasi_host::{FileName, FormatRule, Host, ReadFault};
+use sasi_host::{FileName, FormatRule, Host, ReadFault, found};
 
 // Reads the header, which has to be that of this file.
 pub fn read_header<H: Host>(host: &mut H, file: FileName) -> Result<(), ReadFault>

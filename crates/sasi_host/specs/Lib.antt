@@ -13,3 +13,4 @@ pub mod Memory
 pub mod Sound
 pub mod Silent
 pub mod Picks
+pub mod Damages

@@ -130,6 +130,13 @@ pub record ListCauses {T : Type 0} (old new : View) (result : Result T HostFault
   pub reads : new.reads ≡ old.reads
   pub failed : IfErr result (λ f. f ≡ fault.Failed → Rose old.disk_faults new.disk_faults)
 
+-- the same of a page, which takes at most one read
+pub record PageCauses {T : Type 0} (old new : View) (result : Result T HostFault) : Type 0 where
+  pub disk : old.disk_faults ≤ new.disk_faults
+  pub out : new.out_faults ≡ old.out_faults
+  pub reads : (new.reads ≡ old.reads) ⊎ (new.reads ≡ counted old.reads)
+  pub failed : IfErr result (λ f. f ≡ fault.Failed → Rose old.disk_faults new.disk_faults)
+
 -- the same of the replies
 pub record OutCauses {T E : Type 0} (old new : View) (result : Result T E) : Type 0 where
   pub out : old.out_faults ≤ new.out_faults

@@ -1,4 +1,7 @@
 // What a file shows where it breaks a rule of its format.
+ghost use Rattle.std.specs.Prelude.{◌≡◌, ◌≤◌, length};
+ghost use Rattle.sasi_host.specs.Damages.{seen_bytes};
+
 use crate::FileName;
 
 /// The rule of a format that a file breaks.
@@ -39,4 +42,25 @@ pub struct Damage {
     pub at: u64,
     pub rule: FormatRule,
     pub seen: Seen,
+}
+
+/// The damage of a file that breaks the rule at this place, where it has these bytes.
+pub fn found(file: FileName, at: u64, rule: FormatRule, bytes: &[u8]) -> Damage
+    requires { length bytes.now ≤ 8 }
+    ensures file { result.file ≡ file }
+    ensures at { result.at ≡ at }
+    ensures rule { result.rule ≡ rule }
+    ensures seen { seen_bytes result.seen ≡ bytes.now }
+{
+    let mut seen = [0; 8];
+    seen[..bytes.len()].copy_from_slice(bytes);
+    Damage {
+        file,
+        at,
+        rule,
+        seen: Seen {
+            bytes: seen,
+            len: bytes.len() as u8,
+        },
+    }
 }

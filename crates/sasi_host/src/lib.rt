@@ -9,6 +9,7 @@ mod crash;
 #[cfg(test)]
 mod crash_tests;
 mod damage;
+mod direct;
 mod durable;
 mod failed;
 mod fault;
@@ -20,12 +21,14 @@ mod mem_host_calls;
 mod mem_source;
 mod name;
 mod noting;
+mod page;
 mod pick;
 mod source;
 #[cfg(test)]
 mod tests;
 
-pub use damage::{Damage, FormatRule, Seen};
+pub use damage::{Damage, FormatRule, Seen, found};
+pub use direct::Direct;
 pub use durable::{make_file, write_durably};
 pub use failed::Failed;
 pub use fault::{HostFault, ReadFault};
@@ -33,5 +36,6 @@ pub use host::Host;
 pub use mem_host::MemHost;
 pub use mem_source::MemSource;
 pub use name::{FileName, Kind};
+pub use page::PageReader;
 pub use pick::{BytePick, NamePick, Pick};
 pub use source::Source;

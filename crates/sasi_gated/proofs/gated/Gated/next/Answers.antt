@@ -3,7 +3,7 @@ use Rattle.std.proofs.lemmas.Result.{err_from_is_err_and}
 use Rattle.sasi_host.specs.View.{IsTold, contents}
 use Rattle.sasi_gated.specs.Gates.{IsAtGate}
 use Rattle.sasi_gated.specs.Damages.{Shows}
-use Rattle.sasi_gated.specs.Reads.{OnDamage}
+use Rattle.sasi_host.specs.Damages.{OnDamage}
 use Rattle.sasi_gated.specs.Standing.{Handle, IsReading}
 use Rattle.sasi_gated.proofs.gated.Gated.next.Goals as goal
 
