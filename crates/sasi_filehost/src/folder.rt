@@ -1,0 +1,262 @@
+// A folder of real files.
+ghost use Rattle.std.specs.Prelude.{◌+◌, ◌^◌, ◌≤◌, length, IfOk, OnOk};
+ghost use Rattle.std.specs.List.Sorted.{IsStrictlySortedBy};
+ghost use Rattle.sasi_host.specs.Names.{name_cmp};
+
+use crate::name_text::LONGEST_NAME;
+use crate::open_files::OpenFiles;
+use crate::{NameText, parse_name};
+use sasi_host::{FileName, HostFault};
+use std::alloc::{AllocError, Global};
+use std::collections::BTreeSet;
+use std::fs::OpenOptions;
+use std::os::unix::fs::FileExt;
+use std::path::Path;
+use std::{fs, io};
+
+// No file has more bytes.
+const LONGEST_FILE: u64 = 1 << 62;
+
+/// A folder with the files of it that are open.
+#[derive(Drop)]
+pub struct Folder {
+    rt: HostRuntime,
+    // The path of the folder, with a slash at its end.
+    folder: String,
+    // Room for the path of any file in it.
+    path: String,
+    // The folder itself, if it could be opened.
+    opened: Option<fs::File>,
+    written: OpenFiles,
+    read: OpenFiles,
+    durability: Durability,
+}
+
+// Whether what was written can still be made durable: after a sync that failed, the system may have dropped bytes, and a
+// later sync wouldn't say so.
+#[derive(Clone, Copy, Debug, PartialEq, Eq)]
+enum Durability {
+    Possible,
+    Lost,
+}
+
+// Makes the folder if it is missing, and opens it. A new folder is synced into the one that it is in.
+fn open_folder(rt: &HostRuntime, path: &str) -> io::Result<fs::File> {
+    match fs::create_dir(rt, path) {
+        Ok(()) => match Path::new(path).parent() {
+            Some(parent) => sync_parent(rt, parent)?,
+            None => {}
+        },
+        Err(error) if error.kind() == io::ErrorKind::AlreadyExists => {}
+        Err(error) => return Err(error),
+    }
+    fs::open(rt, path)
+}
+
+// Syncs the folder that a new folder is in.
+fn sync_parent(rt: &HostRuntime, parent: Path<'_>) -> io::Result<()> {
+    let parent = if parent.as_str().is_empty() {
+        "."
+    } else {
+        parent.as_str()
+    };
+    fs::File::open(rt, parent)?.sync_all()
+}
+
+impl Folder {
+    /// The folder at this path, with room for the path of any file in it.
+    pub fn at(rt: HostRuntime, path: &str) -> Result<Folder, AllocError> {
+        let alloc = rt.alloc();
+        let mut folder = String::from_str(alloc, path)?;
+        folder.push('/')?;
+        let room = folder.len().saturating_add(LONGEST_NAME);
+        let path = String::with_capacity(alloc, room)?;
+        let opened = open_folder(&rt, folder.as_str()).ok();
+        Ok(Folder {
+            rt,
+            folder,
+            path,
+            opened,
+            written: OpenFiles::new(),
+            read: OpenFiles::new(),
+            durability: Durability::Possible,
+        })
+    }
+
+    // Writes the path of a file, in the room for it.
+    fn spell(&mut self, file: FileName) -> io::Result<()> {
+        self.path.clear();
+        self.path.push_str(self.folder.as_str())?;
+        let name = NameText(file);
+        match write!(self.path, "{name}") {
+            Ok(()) => Ok(()),
+            Err(_) => Err(io::ErrorKind::OutOfMemory.into()),
+        }
+    }
+
+    // Opens a file of the folder.
+    fn open(&mut self, file: FileName, how: OpenOptions) -> io::Result<fs::File> {
+        if self.opened.is_none() {
+            return Err(io::ErrorKind::NotFound.into());
+        }
+        self.spell(file)?;
+        how.open(&self.rt, self.path.as_str())
+    }
+
+    // A file to be written or synced, open from now on.
+    fn to_write(&mut self, name: FileName) -> io::Result<&fs::File> {
+        if self.written.get(name).is_none() {
+            let mut how = OpenOptions::new();
+            how.read(true).write(true);
+            let file = self.open(name, how)?;
+            self.written.keep(name, file);
+        }
+        self.written.get(name).ok_or(io::ErrorKind::NotFound.into())
+    }
+
+    // A file to be read, open from now on.
+    fn to_read(&mut self, name: FileName) -> io::Result<&fs::File> {
+        if self.written.get(name).is_some() {
+            return self.to_write(name);
+        }
+        if self.read.get(name).is_none() {
+            let mut how = OpenOptions::new();
+            how.read(true);
+            let file = self.open(name, how)?;
+            self.read.keep(name, file);
+        }
+        self.read.get(name).ok_or(io::ErrorKind::NotFound.into())
+    }
+
+    // No file of this name is open any more: another one may get the name.
+    fn close(&mut self, name: FileName) {
+        self.written.close(name);
+        self.read.close(name);
+    }
+
+    /// The names of its files, in their order. A foreign name is left out.
+    pub fn list(&self, alloc: Global) -> Result<Vec<FileName>, HostFault>
+        ensures { IfOk result (λ names. IsStrictlySortedBy name_cmp names.items) }
+    {
+        let mut names = BTreeSet::new(alloc);
+        let entries = match fs::read_dir(&self.rt, self.folder.as_str()) {
+            Ok(entries) => entries,
+            Err(error) => return Err(fault_of(error)),
+        };
+        for entry in entries {
+            if let Some(name) = name_of(entry)? {
+                names.insert(name).map_err(AllocError::from)?;
+            }
+        }
+        in_order(&names, alloc)
+    }
+
+    /// How many bytes a file has.
+    pub fn size(&mut self, name: FileName) -> io::Result<u64> {
+        Ok(self.to_read(name)?.metadata()?.len())
+    }
+
+    /// Fills the buffer from this place on, as far as the file reaches.
+    pub fn read(&mut self, name: FileName, at: u64, buf: &mut [u8]) -> io::Result<usize>
+        ensures { IfOk result (λ count. count ≤ length buf.old) }
+    {
+        fill(self.to_read(name)?, at, buf)
+    }
+
+    /// Makes an empty file.
+    pub fn create(&mut self, name: FileName) -> io::Result<()> {
+        self.close(name);
+        let mut how = OpenOptions::new();
+        how.read(true).write(true).create_new(true);
+        let file = self.open(name, how)?;
+        self.written.keep(name, file);
+        Ok(())
+    }
+
+    /// Writes all the bytes from this place on.
+    pub fn write(&mut self, name: FileName, at: u64, bytes: &[u8]) -> io::Result<()>
+        ensures { OnOk result (at + length bytes.now ≤ 2 ^ 62) }
+    {
+        let count = bytes.len() as u64;
+        if count > LONGEST_FILE || at > LONGEST_FILE - count {
+            return Err(io::ErrorKind::FileTooLarge.into());
+        }
+        self.to_write(name)?.write_all_at(bytes, at)
+    }
+
+    /// Syncs a file's bytes and its length.
+    pub fn sync(&mut self, name: FileName) -> io::Result<()> {
+        let answer = self.to_write(name)?.sync_data();
+        self.settle(answer)
+    }
+
+    /// Takes a file out of the folder.
+    pub fn delete(&mut self, name: FileName) -> io::Result<()> {
+        self.close(name);
+        self.spell(name)?;
+        fs::remove_file(&self.rt, self.path.as_str())
+    }
+
+    /// Syncs the folder's names.
+    pub fn sync_names(&mut self) -> io::Result<()> {
+        let answer = match &self.opened {
+            Some(folder) => folder.sync_all(),
+            None => Err(io::ErrorKind::NotFound.into()),
+        };
+        self.settle(answer)
+    }
+
+    // What a sync gives, where after one that failed each fails.
+    fn settle(&mut self, answer: io::Result<()>) -> io::Result<()> {
+        if answer.is_err() {
+            self.durability = Durability::Lost;
+        }
+        match self.durability {
+            Durability::Possible => answer,
+            Durability::Lost => Err(io::ErrorKind::Other.into()),
+        }
+    }
+}
+
+// Why a folder can't be listed.
+fn fault_of(error: io::Error) -> HostFault {
+    match error.kind() {
+        io::ErrorKind::OutOfMemory => HostFault::OutOfMemory,
+        _ => HostFault::Failed,
+    }
+}
+
+// The file that an entry of the folder is; none where its name is a foreign one. One that isn't UTF-8 is.
+fn name_of(entry: io::Result<fs::DirEntry>) -> Result<Option<FileName>, HostFault> {
+    match entry {
+        Ok(entry) => Ok(parse_name(entry.file_name())),
+        Err(error) if error.kind() == io::ErrorKind::InvalidFilename => Ok(None),
+        Err(error) => Err(fault_of(error)),
+    }
+}
+
+fn in_order(names: &BTreeSet<FileName>, alloc: Global) -> Result<Vec<FileName>, HostFault>
+    ensures { IfOk result (λ names. IsStrictlySortedBy name_cmp names.items) }
+{
+    let names = names.iter().copied().collect(alloc)?;
+    Ok(names)
+}
+
+// Fills the buffer from this place on, as far as the file reaches.
+fn fill(file: &fs::File, at: u64, buf: &mut [u8]) -> io::Result<usize>
+    ensures { IfOk result (λ count. count ≤ length buf.old) }
+{
+    let mut done = 0;
+    for _ in 0..u64::MAX {
+        if done == buf.len() {
+            break;
+        }
+        match file.read_at(&mut buf[done..], at.saturating_add(done as u64)) {
+            Ok(0) => break,
+            Ok(count) => done += count,
+            Err(error) if error.kind() == io::ErrorKind::Interrupted => {}
+            Err(error) => return Err(error),
+        }
+    }
+    Ok(done)
+}
