@@ -1,0 +1,5 @@
+pub mod Bodies
+pub mod Cells
+pub mod Exits
+pub mod Puts
+pub mod Values

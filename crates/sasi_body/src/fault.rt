@@ -1,0 +1,76 @@
+// Why bytes aren't read as a body.
+ghost use Rattle.std.specs.Prelude.{◌≡◌, take};
+ghost use Rattle.std.specs.Int.{to_be_bytes, w64};
+ghost use Rattle.sasi_body.specs.Seen.{IsBrokenNumber};
+ghost use Rattle.sasi_host.specs.Damages.{seen_bytes};
+ghost use Rattle.sasi_body.specs.declared.fault.BodyFault.TheVariants.{OutOfMemory, OtherLength};
+
+use sasi_fields::{FieldFault, ShortField};
+use sasi_host::{FormatRule, Seen};
+use std::alloc::AllocError;
+
+/// A rule of the format that bytes break, where they do so, and what stands there.
+#[derive(Clone, Copy, Debug, PartialEq, Eq)]
+pub struct Broken {
+    pub rule: FormatRule,
+    /// The place from the start of the bytes.
+    pub at: usize,
+    pub seen: Seen,
+}
+
+/// Why bytes aren't read as a body.
+#[derive(Clone, Copy, Debug, PartialEq, Eq)]
+pub enum BodyFault {
+    OutOfMemory,
+    /// The bytes end within the body, or go on behind it.
+    OtherLength,
+    Broken(Broken),
+}
+
+/// The rule is broken at this place, where these bytes stand, of which the first eight are told.
+pub fn found(rule: FormatRule, at: usize, bytes: &[u8]) -> Broken
+    ensures rule { result.rule ≡ rule }
+    ensures at { result.at ≡ at }
+    ensures seen { seen_bytes result.seen ≡ take 8 bytes.now }
+{
+    let mut seen = [0; 8];
+    let len = bytes.len().min(8);
+    seen[..len].copy_from_slice(&bytes[..len]);
+    Broken {
+        rule,
+        at,
+        seen: Seen {
+            bytes: seen,
+            len: len as u8,
+        },
+    }
+}
+
+impl From<AllocError> for BodyFault {
+    ghost from_gives = { λ _ f. f ≡ OutOfMemory };
+
+    fn from(_: AllocError) -> BodyFault {
+        BodyFault::OutOfMemory
+    }
+}
+
+impl From<ShortField> for BodyFault {
+    ghost from_gives = { λ _ f. f ≡ OtherLength };
+
+    fn from(_: ShortField) -> BodyFault {
+        BodyFault::OtherLength
+    }
+}
+
+impl From<FieldFault> for BodyFault {
+    ghost from_gives = { λ fault f. IsBrokenNumber fault f };
+
+    fn from(fault: FieldFault) -> BodyFault {
+        match fault {
+            FieldFault::Short(_) => BodyFault::OtherLength,
+            FieldFault::BadField { at, seen } => {
+                BodyFault::Broken(found(FormatRule::Number, at, &seen.to_be_bytes()))
+            }
+        }
+    }
+}

@@ -1,0 +1,68 @@
+// Bodies put at the end of a list.
+ghost use Rattle.std.specs.Prelude.{◌≡◌, ◌<◌, ◌^◌, ◌++◌, length, OnOk, Some, All};
+ghost use Rattle.std.specs.Int.{to_be_bytes, w16};
+ghost use Rattle.std.specs.List.{flat_map};
+ghost use Rattle.sasi_body.specs.Format.{body, cell_bytes, key_bytes, value_bytes, HasBody, HasBytes, HasCellBytes};
+
+use sasi_cells::{Entry, Partition};
+use sasi_fields::{put_bytes, put_u8, put_u16, put_u64};
+use sasi_types::{Key, Value};
+use std::alloc::AllocError;
+
+/// Appends the body of a key and what was written of it.
+pub fn put_body(out: &mut Vec<u8>, key: &Key, part: &Partition) -> Result<(), AllocError>
+    requires { HasBody key.now part.now }
+    ensures { OnOk result (out.new.items ≡ out.old.items ++ body key.now part.now) }
+{
+    put_key(out, key)?;
+    put_u64(out, part.deleted())?;
+    put_cells(out, part.cells())
+}
+
+// The key behind its length.
+fn put_key(out: &mut Vec<u8>, key: &Key) -> Result<(), AllocError>
+    requires { length key.now < 2 ^ 16 }
+    ensures { OnOk result (out.new.items ≡ out.old.items ++ key_bytes key.now) }
+{
+    let bytes = key.bytes();
+    put_u16(out, bytes.len() as u16)?;
+    put_bytes(out, bytes)
+}
+
+// The number of the cells, and each of them.
+fn put_cells(out: &mut Vec<u8>, cells: &[Entry]) -> Result<(), AllocError>
+    requires few { length cells.now < 2 ^ 16 }
+    requires each { All HasCellBytes cells.now }
+    ensures { OnOk result (out.new.items ≡ out.old.items ++ to_be_bytes w16 (length cells.now) ++ flat_map cell_bytes cells.now) }
+{
+    put_u16(out, cells.len() as u16)?;
+    for entry in cells {
+        put_cell(out, entry)?;
+    }
+    Ok(())
+}
+
+// A column's number and its cell.
+fn put_cell(out: &mut Vec<u8>, entry: &Entry) -> Result<(), AllocError>
+    requires { HasCellBytes entry.now }
+    ensures { OnOk result (out.new.items ≡ out.old.items ++ cell_bytes entry.now) }
+{
+    put_u16(out, entry.column())?;
+    put_u64(out, entry.time())?;
+    match entry.value() {
+        None => put_u8(out, 0),
+        Some(value) => put_value(out, value),
+    }
+}
+
+// The tag, the length and the stored bytes of a value.
+fn put_value(out: &mut Vec<u8>, value: &Value) -> Result<(), AllocError>
+    requires { HasBytes value.now }
+    ensures { OnOk result (out.new.items ≡ out.old.items ++ value_bytes (Some value.now)) }
+{
+    let stored = value.stored();
+    let bytes = stored.as_slice();
+    put_u8(out, 1)?;
+    put_u16(out, bytes.len() as u16)?;
+    put_bytes(out, bytes)
+}
