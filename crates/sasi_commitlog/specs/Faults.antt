@@ -1,0 +1,32 @@
+-- Faults of a payload, where it stands in a file.
+use Rattle.std.specs.Prelude.{◌≡◌, ℕ, ◌+◌, ◌≤◌}
+use Rattle.sasi_host.specs.declared.name.FileName.{FileName}
+use Rattle.sasi_host.specs.declared.damage.Damage.{Damage}
+use Rattle.sasi_host.specs.declared.fault.ReadFault.{ReadFault}
+use Rattle.sasi_host.specs.Names.{Bytes}
+use Rattle.sasi_host.specs.Damages.{seen_bytes}
+use Rattle.sasi_host.specs.Damages.{OnDamage}
+use Rattle.sasi_body.specs.declared.fault.BodyFault.{BodyFault}
+use Rattle.sasi_body.specs.declared.fault.BodyFault.TheVariants as fault
+use Rattle.sasi_commitlog.specs.Format.{Tables}
+use Rattle.sasi_commitlog.specs.Damages.{RecordBreaks}
+
+-- the place of a broken rule is at most this one
+abbrev pub IsWithin : ℕ → BodyFault → Type 0
+IsWithin limit fault.OutOfMemory = Unit {0}
+IsWithin limit fault.OtherLength = Unit {0}
+IsWithin limit (fault.Broken broken) = broken.at ≤ limit
+
+-- the second fault is the first one, in bytes of which four more stand in front
+abbrev pub IsFaultBehind : BodyFault → BodyFault → Type 0
+IsFaultBehind fault.OutOfMemory behind = behind ≡ fault.OutOfMemory
+IsFaultBehind fault.OtherLength behind = behind ≡ fault.OtherLength
+IsFaultBehind (fault.Broken broken) behind = behind ≡ fault.Broken (record { rule = broken.rule; at = broken.at + 4; seen = broken.seen })
+
+-- damage is that of the record behind a gate
+pub record IsRecordDamage (tables : Tables) (file : FileName) (gate : ℕ) (payload : Bytes) (damage : Damage) : Type 0 where
+  pub named : damage.file ≡ file
+  pub breaks : RecordBreaks tables gate payload damage.rule damage.at (seen_bytes damage.seen)
+
+abbrev pub IsRecordFault : Tables → FileName → ℕ → Bytes → ReadFault → Type 0
+IsRecordFault tables file gate payload = OnDamage (IsRecordDamage tables file gate payload)

@@ -1,0 +1,6 @@
+pub mod Format
+pub mod Standing
+pub mod Damages
+pub mod Reads
+pub mod Faults
+pub mod Laws

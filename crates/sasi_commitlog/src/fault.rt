@@ -1,0 +1,62 @@
+// Faults of a payload, where it stands in a file.
+ghost use Rattle.std.specs.Prelude.{◌≡◌, ◌≢◌, ◌≤◌, ◌^◌, List, ℕ, length};
+ghost use Rattle.sasi_host.specs.declared.fault.ReadFault.TheVariants as read_fault;
+ghost use Rattle.sasi_body.specs.declared.fault.BodyFault.TheVariants as body_fault;
+ghost use Rattle.sasi_commitlog.specs.Format.{Tables};
+ghost use Rattle.sasi_commitlog.specs.Damages.{IsPayloadFault};
+ghost use Rattle.sasi_commitlog.specs.Faults.{IsFaultBehind, IsWithin, IsRecordFault};
+
+use sasi_body::{BodyFault, Broken, found};
+use sasi_host::{Damage, FileName, FormatRule, ReadFault};
+
+// The fault of a body, from the start of the payload that it ends.
+pub fn behind_number(fault: BodyFault) -> BodyFault
+    requires { IsWithin (2 ^ 62) fault }
+    ensures { IsFaultBehind fault result }
+{
+    match fault {
+        BodyFault::OutOfMemory => BodyFault::OutOfMemory,
+        BodyFault::OtherLength => BodyFault::OtherLength,
+        BodyFault::Broken(broken) => BodyFault::Broken(Broken {
+            rule: broken.rule,
+            at: broken.at + 4,
+            seen: broken.seen,
+        }),
+    }
+}
+
+// The fault of a payload behind the gate at this place, from the start of the file.
+pub fn fault_in_file(file: FileName, gate: u64, payload: &[u8], fault: BodyFault) -> ReadFault
+    requires place { gate ≤ 2 ^ 62 }
+    requires short { length payload.now ≤ 2 ^ 30 }
+    requires within { IsWithin (2 ^ 62) fault }
+    ensures shown { (tables : Tables) → IsPayloadFault tables payload.now fault → IsRecordFault tables file gate payload.now result }
+    ensures memory { fault ≡ body_fault.OutOfMemory → result ≡ read_fault.OutOfMemory }
+    ensures cause { result ≢ read_fault.Failed }
+{
+    match fault {
+        BodyFault::OutOfMemory => ReadFault::OutOfMemory,
+        BodyFault::OtherLength => {
+            let bytes = (payload.len() as u32).to_be_bytes();
+            ReadFault::Damaged(damage_at(file, gate + 1, found(FormatRule::Number, 0, &bytes)))
+        }
+        BodyFault::Broken(broken) => {
+            ReadFault::Damaged(damage_at(file, gate + 5 + broken.at as u64, broken))
+        }
+    }
+}
+
+// A broken rule as the damage of a file at this place.
+fn damage_at(file: FileName, at: u64, broken: Broken) -> Damage
+    ensures file { result.file ≡ file }
+    ensures at { result.at ≡ at }
+    ensures rule { result.rule ≡ broken.rule }
+    ensures seen { result.seen ≡ broken.seen }
+{
+    Damage {
+        file,
+        at,
+        rule: broken.rule,
+        seen: broken.seen,
+    }
+}

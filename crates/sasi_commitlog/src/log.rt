@@ -1,0 +1,149 @@
+// A segment of the commit log in hand.
+ghost use Rattle.std.specs.Prelude.{◌≡◌, ◌+◌, ◌<◌, ◌≤◌, ◌^◌, [], ℕ, List, IfErr, IfOk, IsSome, IsTrue, OnOk, None, is_ok};
+ghost use Rattle.sasi_host.specs.View.{IsAbsent, IsThere, ListCauses, Reaches};
+ghost use Rattle.sasi_host.specs.Disk.{Anyhow, Changes, IsKept, LeftWith, Same, Step};
+ghost use Rattle.sasi_host.specs.Names.{Bytes};
+ghost use Rattle.sasi_gated.specs.Causes.{ReadingCauses};
+ghost use Rattle.sasi_gated.specs.Reads.{Begins, IsShown, SparesGated};
+ghost use Rattle.sasi_body.specs.Format.{HasBody};
+ghost use Rattle.sasi_commitlog.specs.declared.mutation.Mutation.{Mutation};
+ghost use Rattle.sasi_commitlog.specs.Format.{log_name, IsLog, Tables};
+ghost use Rattle.sasi_commitlog.specs.Standing.{IsAtLogEnd, IsLogBeforeOrAfter, IsReadingLog};
+ghost use Rattle.sasi_commitlog.specs.Reads.{GainsMutation, IsLogShownAt, IsReadOf, ReadsLogGate, ReadsMutations, SparesLog};
+
+use crate::Mutation;
+use crate::segment::{append, read_next};
+use sasi_gated::Gated;
+use sasi_host::{FileName, Host, HostFault, Kind, ReadFault};
+use sasi_types::TableTypes;
+use std::alloc::Global;
+use std::marker::Model;
+
+/// A segment of the commit log, opened for reading mutation after mutation, and then for appending. Seen as its file's
+/// name, the place where it stands and whether it is usable.
+#[derive(Drop)]
+pub struct Log {
+    gated: Gated,
+    // The payload that was read or appended last.
+    payload: Vec<u8>,
+    usable: bool,
+}
+
+impl Model for Log {
+    ghost use Rattle.std.specs.Prelude.{◌&&◌};
+    ghost use Rattle.sasi_gated.specs.Standing.{Handle};
+
+    ghost Value = { Handle };
+
+    ghost view = { λ a. record { file = a.gated.file; at = a.gated.at; usable = a.usable && a.gated.usable } };
+}
+
+// The file of the segment with this number.
+fn log_file(number: u32) -> FileName
+    ensures { result ≡ log_name number }
+{
+    FileName {
+        kind: Kind::Log,
+        number,
+        index: 0,
+        part: 0,
+    }
+}
+
+impl Log {
+    /// Whether no call on it gave a fault.
+    pub fn is_usable(&self) -> bool
+        ensures { result ≡ self.now.usable }
+    {
+        self.usable && self.gated.is_usable()
+    }
+
+    /// Makes the segment with this number, which has no mutation yet, and syncs it and the folder. It stands at the closed
+    /// gate.
+    pub fn create<H: Host>(alloc: Global, host: &mut H, number: u32) -> Result<Log, HostFault>
+        requires { IsAbsent (H.view host.old) (log_name number) }
+        ensures ok { IfOk result (λ log. IsAtLogEnd (H.view host.new) (log_name number) log.at []) }
+        ensures changes { Changes (Step (log_name number) Anyhow) (H.view host.old) (H.view host.new) }
+        ensures room { IfOk result (λ log. Reaches (H.view host.new) (log_name number) (log.at + 1)) }
+        ensures usable { IfOk result (λ log. IsTrue log.usable) }
+        ensures file { IfOk result (λ log. log.file ≡ log_name number) }
+        ensures causes { ListCauses (H.view host.old) (H.view host.new) result }
+    {
+        let gated = Gated::create(alloc, host, log_file(number), None)?;
+        Ok(Log {
+            gated,
+            payload: Vec::new(alloc),
+            usable: true,
+        })
+    }
+
+    /// Opens the segment with this number, and stands before its first mutation.
+    pub fn open<H: Host>(alloc: Global, host: &mut H, number: u32) -> Result<Log, ReadFault>
+        requires { IsThere (H.view host.old) (log_name number) }
+        ensures header { IfOk result (λ log. Begins (H.view host.old) (log_name number) log.at) }
+        ensures mutations { IfOk result (λ log. (tables : Tables) (bytes : Bytes) (mutations : List Mutation) → IsKept (H.view host.old) (log_name number) bytes → IsLog number tables bytes mutations
+            → IsReadingLog (H.view host.new) (log_name number) log.at tables [] mutations) }
+        ensures damaged { IfErr result (IsShown (H.view host.old) (log_name number)) }
+        ensures undamaged { IfErr result (SparesGated (H.view host.old) (log_name number)) }
+        ensures changes { Changes Same (H.view host.old) (H.view host.new) }
+        ensures usable { IfOk result (λ log. IsTrue log.usable) }
+        ensures file { IfOk result (λ log. log.file ≡ log_name number) }
+        ensures causes { ReadingCauses (H.view host.old) (H.view host.new) result }
+    {
+        let gated = Gated::open(host, log_file(number))?;
+        Ok(Log {
+            gated,
+            payload: Vec::new(alloc),
+            usable: true,
+        })
+    }
+
+    /// The next mutation, of one of these tables, or none at the closed gate, where it then stands.
+    pub fn next<H: Host>(
+        &mut self,
+        host: &mut H,
+        tables: &TableTypes,
+    ) -> Result<Option<Mutation>, ReadFault>
+        requires there { IsThere (H.view host.old) self.old.file }
+        requires usable { IsTrue self.old.usable }
+        ensures gate { IfOk result (ReadsLogGate (H.view host.old) self.old.file tables.now self.old.at self.new.at) }
+        ensures mutations { IfOk result (ReadsMutations (H.view host.old) (H.view host.new) self.old.file tables.now self.old.at self.new.at) }
+        ensures of_tables { IfOk result (IsReadOf tables.now) }
+        ensures goes_on { IfOk result (λ read. IsSome read → self.old.at < self.new.at) }
+        ensures fits { OnOk result (self.new.at ≤ 2 ^ 62) }
+        ensures room { IfOk result (λ read. read ≡ None → Reaches (H.view host.new) self.new.file (self.new.at + 1)) }
+        ensures damaged { IfErr result (IsLogShownAt (H.view host.old) self.old.file tables.now self.old.at) }
+        ensures undamaged { IfErr result (SparesLog (H.view host.old) self.old.file tables.now self.old.at) }
+        ensures changes { Changes Same (H.view host.old) (H.view host.new) }
+        ensures usable { self.new.usable ≡ is_ok result }
+        ensures file { self.new.file ≡ self.old.file }
+        ensures causes { ReadingCauses (H.view host.old) (H.view host.new) result }
+    {
+        self.usable = false;
+        let alloc = *self.payload.allocator();
+        let read = read_next(alloc, &mut self.gated, &mut self.payload, host, tables)?;
+        self.usable = true;
+        Ok(read)
+    }
+
+    /// Appends a mutation at the closed gate, by four host calls: it is there after each crash once the call answers Ok.
+    pub fn append<H: Host>(&mut self, host: &mut H, mutation: &Mutation) -> Result<(), HostFault>
+        requires body { HasBody mutation.now.key mutation.now.change }
+        requires room { Reaches (H.view host.old) self.old.file (self.old.at + 1) }
+        requires usable { IsTrue self.old.usable }
+        ensures ok { OnOk result (GainsMutation (H.view host.old) (H.view host.new) self.old.file self.old.at self.new.at mutation.now) }
+        ensures any_moment { (mutations : List Mutation) → IsAtLogEnd (H.view host.old) self.old.file self.old.at mutations
+            → Changes (Step self.old.file (LeftWith (IsLogBeforeOrAfter self.old.file mutations mutation.now))) (H.view host.old) (H.view host.new) }
+        ensures changes { Changes (Step self.old.file Anyhow) (H.view host.old) (H.view host.new) }
+        ensures room { OnOk result (Reaches (H.view host.new) self.new.file (self.new.at + 1)) }
+        ensures usable { self.new.usable ≡ is_ok result }
+        ensures file { self.new.file ≡ self.old.file }
+        ensures causes { ListCauses (H.view host.old) (H.view host.new) result }
+    {
+        self.usable = false;
+        let alloc = *self.payload.allocator();
+        append(alloc, &mut self.gated, &mut self.payload, host, mutation)?;
+        self.usable = true;
+        Ok(())
+    }
+}

@@ -1,0 +1,12 @@
+// What is written to the log at once.
+use sasi_cells::Partition;
+use sasi_types::Key;
+
+/// What was written of one key of a table.
+#[derive(Debug, Drop)]
+pub struct Mutation {
+    /// The number of the table.
+    pub table: u32,
+    pub key: Key,
+    pub change: Partition,
+}

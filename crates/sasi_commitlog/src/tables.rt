@@ -1,0 +1,18 @@
+// The types of a table's columns, by the number of the table.
+ghost use Rattle.std.specs.Prelude.{◌≡◌};
+ghost use Rattle.std.specs.Option.{option_copied};
+ghost use Rattle.sasi_commitlog.specs.Format.{types_in};
+
+use sasi_types::TypeList;
+
+// The types that the list has for this table, if it has the table.
+pub fn types_of(tables: &[(u32, TypeList)], table: u32) -> Option<&TypeList>
+    ensures { option_copied result ≡ types_in tables.now table }
+{
+    for entry in tables {
+        if entry.0 == table {
+            return Some(&entry.1);
+        }
+    }
+    None
+}
