@@ -1,0 +1,153 @@
+-- What the bytes of a node tell.
+use Rattle.std.proofs.Common.{◌≡◌, ℕ, zero, suc, add-zero, ◌+◌, ◌-◌, ◌*◌, ◌^◌, ◌<◌, ◌≤◌, List, [], ◌∷◌, ◌++◌, length, take, drop, refl, sym, ◌∙◌, ap, subst, arith, append_assoc, take-append-drop, ⊎_elim}
+use Rattle.std.proofs.lemmas.List.{take_at, drop_at, take-take, drop-take, drop-drop, drop_more, drop_all, length-take-le}
+use Rattle.std.proofs.lemmas.Nat.{from_be_bytes-to_be_bytes_8}
+use Rattle.std.proofs.Math.Seq.{take-add}
+use Rattle.std.specs.List.{flat_map}
+use Rattle.std.specs.Int.{to_be_bytes, from_be_bytes, w16, w64}
+use Rattle.sasi_types.specs.declared.tree.Pair.{Pair}
+use Rattle.sasi_host.specs.declared.name.FileName.{FileName}
+use Rattle.sasi_host.specs.declared.damage.Damage.{Damage}
+use Rattle.sasi_host.specs.Names.{Bytes}
+use Rattle.sasi_tokentree.specs.Format.{pair_at, entry, head, node, IsBefore, IsRising, AreFit}
+use Rattle.sasi_tokentree.specs.Sizes.{entry_length, head_length, node_length}
+use Rattle.sasi_tokentree.specs.Reads.{HasAt, IsSeenIn, FindsBelow}
+use Rattle.sasi_host.specs.Damages.{seen_bytes}
+
+-- ---- parts of bytes
+
+-- a part of bytes stands in them
+pub part_stands : (bytes : Bytes) (offset n : ℕ) → offset + n ≤ length bytes → HasAt bytes offset (take n (drop offset bytes))
+part_stands bytes offset n le = record {
+  front = take offset bytes;
+  rest = drop n (drop offset bytes);
+  is = sym (append_assoc (take offset bytes) (take n (drop offset bytes)) (drop n (drop offset bytes)) ∙ ap (λ (l : Bytes). take offset bytes ++ l) (take-append-drop n (drop offset bytes)) ∙ take-append-drop offset bytes);
+  place = length-take-le offset bytes (omega arith);
+}
+
+pub seen_in : (file : FileName) (at : ℕ) (bytes : Bytes) (offset n : ℕ) (damage : Damage) → offset + n ≤ length bytes → damage.file ≡ file → damage.at ≡ at + offset → seen_bytes damage.seen ≡ take n (drop offset bytes) → IsSeenIn file at bytes damage
+seen_in file at bytes offset n damage le named place seen = record {
+  offset = offset;
+  named = named;
+  place = place;
+  stands = subst (λ (l : Bytes). HasAt bytes offset l) (sym seen) (part_stands bytes offset n le);
+}
+
+-- ---- the head
+
+within_head : (bytes : Bytes) (offset n : ℕ) → offset + n ≤ 8 → take n (drop offset bytes) ≡ drop offset (take (offset + n) (take 8 bytes))
+within_head bytes offset n le = sym (drop-take offset n bytes) ∙ ap (λ (l : Bytes). drop offset l) (sym (take-take (offset + n) 8 bytes le))
+
+pub head_part : (bytes : Bytes) (level count offset n : ℕ) → offset + n ≤ 8 → take 8 bytes ≡ head level count → take n (drop offset bytes) ≡ drop offset (take (offset + n) (head level count))
+head_part bytes level count offset n le is = within_head bytes offset n le ∙ ap (λ (l : Bytes). drop offset (take (offset + n) l)) is
+
+pub head_level : (level count : ℕ) → drop 0 (take 1 (head level count)) ≡ level ∷ []
+unfolding head
+head_level level count = refl
+
+pub head_zero : (level count : ℕ) → drop 1 (take 2 (head level count)) ≡ 0 ∷ []
+unfolding head
+head_zero level count = refl
+
+pub head_count : (level count : ℕ) → drop 2 (take 4 (head level count)) ≡ to_be_bytes w16 count
+unfolding head
+head_count level count = refl
+
+pub head_zeros : (level count : ℕ) → drop 4 (take 8 (head level count)) ≡ 0 ∷ 0 ∷ 0 ∷ 0 ∷ []
+unfolding head
+head_zeros level count = refl
+
+pub head_is : (bytes : Bytes) (level count : ℕ) → take 1 (drop 0 bytes) ≡ level ∷ [] → take 1 (drop 1 bytes) ≡ 0 ∷ [] → take 2 (drop 2 bytes) ≡ to_be_bytes w16 count → take 4 (drop 4 bytes) ≡ 0 ∷ 0 ∷ 0 ∷ 0 ∷ [] → take 8 bytes ≡ head level count
+unfolding head
+head_is bytes level count one two three four =
+    take-add 1 7 bytes ∙ ap (λ (l : Bytes). l ++ take 7 (drop 1 bytes)) one
+    ∙ ap (λ (l : Bytes). level ∷ l) (take-add 1 6 (drop 1 bytes) ∙ ap (λ (l : Bytes). l ++ take 6 (drop 1 (drop 1 bytes))) two ∙ ap (λ (l : Bytes). 0 ∷ take 6 l) (drop-drop 1 1 bytes)
+    ∙ ap (λ (l : Bytes). 0 ∷ l) (take-add 2 4 (drop 2 bytes) ∙ ap (λ (l : Bytes). l ++ take 4 (drop 2 (drop 2 bytes))) three ∙ ap (λ (l : Bytes). to_be_bytes w16 count ++ take 4 l) (drop-drop 2 2 bytes) ∙ ap (λ (l : Bytes). to_be_bytes w16 count ++ l) four))
+
+-- ---- entries
+
+drop_entries : (entries : List Pair) (index : ℕ) → drop (16 * index) (flat_map entry entries) ≡ flat_map entry (drop index entries)
+drop_entries entries zero = refl
+drop_entries [] (suc index) = drop_all (16 * suc index) [] (omega arith)
+drop_entries (first ∷ others) (suc index) =
+    ap (λ (n : ℕ). drop n (entry first ++ flat_map entry others)) (omega (arith, entry_length first)) ∙ sym (drop-drop (16 * index) (length (entry first)) (entry first ++ flat_map entry others))
+    ∙ ap (λ (l : Bytes). drop (16 * index) l) (drop_at (entry first) (flat_map entry others) (length (entry first)) refl) ∙ drop_entries others index
+
+-- from an entry on a node has it and the ones behind it
+pub from_entry : (level : ℕ) (entries : List Pair) (index : ℕ) → index < length entries → drop (8 + 16 * index) (node level entries) ≡ entry (pair_at entries index) ++ flat_map entry (drop (index + 1) entries)
+unfolding node
+from_entry level entries index lt =
+    sym (drop-drop (16 * index) 8 (node level entries))
+    ∙ ap (λ (l : Bytes). drop (16 * index) l) (drop_at (head level (length entries)) (flat_map entry entries) 8 (head_length level (length entries)))
+    ∙ drop_entries entries index
+    ∙ ap (λ (l : List Pair). flat_map entry l) (drop_more entries index (record { token = 0; place = 0 }) lt)
+
+pub same_number : (a b : ℕ) → a < 2 ^ 64 → b < 2 ^ 64 → to_be_bytes w64 a ≡ to_be_bytes w64 b → a ≡ b
+same_number a b a_fits b_fits same = sym (from_be_bytes-to_be_bytes_8 a a_fits) ∙ ap (from_be_bytes w64) same ∙ from_be_bytes-to_be_bytes_8 b b_fits
+
+pub entry_reads : (bytes : Bytes) (level : ℕ) (entries : List Pair) (index token place : ℕ) → AreFit entries → bytes ≡ node level entries → 24 + 16 * index ≤ length bytes → token < 2 ^ 64 → place < 2 ^ 64
+    → to_be_bytes w64 token ≡ take 8 (drop (8 + 16 * index) bytes) → to_be_bytes w64 place ≡ take 8 (drop (8 + 16 * index + 8) bytes) → record { token = token; place = place } ≡ pair_at entries index
+unfolding entry
+entry_reads bytes level entries index token place fit is le token_fits place_fits token_is place_is =
+    let p = pair_at entries index in
+    let rest = flat_map entry (drop (index + 1) entries) in
+    let lt : index < length entries = omega (arith, le, ap length is, node_length level entries) in
+    let here : drop (8 + 16 * index) bytes ≡ to_be_bytes w64 p.token ++ (to_be_bytes w64 p.place ++ rest) =
+    ap (λ (l : Bytes). drop (8 + 16 * index) l) is ∙ from_entry level entries index lt ∙ append_assoc (to_be_bytes w64 p.token) (to_be_bytes w64 p.place) rest
+    in
+    let behind : drop (8 + 16 * index + 8) bytes ≡ to_be_bytes w64 p.place ++ rest =
+    sym (drop-drop 8 (8 + 16 * index) bytes) ∙ ap (λ (l : Bytes). drop 8 l) here ∙ drop_at (to_be_bytes w64 p.token) (to_be_bytes w64 p.place ++ rest) 8 refl
+    in
+    let tokens : token ≡ p.token = same_number token p.token token_fits (fit index).0 (token_is ∙ ap (λ (l : Bytes). take 8 l) here ∙ take_at (to_be_bytes w64 p.token) (to_be_bytes w64 p.place ++ rest) 8 refl) in
+    let places : place ≡ p.place = same_number place p.place place_fits (fit index).1 (place_is ∙ ap (λ (l : Bytes). take 8 l) behind ∙ take_at (to_be_bytes w64 p.place) rest 8 refl) in
+    ap (λ (n : ℕ). record { token = n; place = place }) tokens ∙ ap (λ (n : ℕ). record { token = p.token; place = n }) places
+
+-- ---- order
+
+before_le : (a b : Pair) → IsBefore a b → a.token ≤ b.token
+before_le a b before = ⊎_elim (λ less. omega (arith, less)) (λ same. omega (arith, same.0)) before
+
+-- the tokens of rising pairs don't fall
+pub do_not_fall : (entries : List Pair) → IsRising entries → (first more : ℕ) → first + more < length entries → (pair_at entries first).token ≤ (pair_at entries (first + more)).token
+do_not_fall entries rising first zero lt = ap-le first
+  where
+    ap-le : (n : ℕ) → (pair_at entries n).token ≤ (pair_at entries (n + 0)).token
+    ap-le n = omega (arith, ap (λ (k : ℕ). (pair_at entries k).token) (add-zero n))
+do_not_fall entries rising first (suc more) lt =
+    let before = do_not_fall entries rising first more (omega arith) in
+    let step = before_le (pair_at entries (first + more)) (pair_at entries (first + more + 1)) (rising (first + more) (omega arith)) in
+    let same : first + more + 1 ≡ first + suc more = omega arith in
+    omega (arith, before, step, ap (λ (k : ℕ). (pair_at entries k).token) same)
+
+pub found_at : (level count token index : ℕ) (bytes : Bytes) (entries : List Pair) (last pair : Pair) → length bytes ≡ 8 + 16 * count → bytes ≡ node level entries → IsRising entries → index < count → pair ≡ pair_at entries index → token ≤ pair.token
+    → ((k : ℕ) → k < index → (pair_at entries k).token < token) → (0 < index → last ≡ pair_at entries (index - 1)) → FindsBelow entries token index last.place
+found_at level count token index bytes entries last pair long is rising lt pair_is reached below last_is = record {
+  counts = record {
+    within = omega (arith, long, ap length is, node_length level entries);
+    below = below;
+    above = λ k le k_lt.
+        let more = do_not_fall entries rising index (k - index) (omega arith) in
+        let same : index + (k - index) ≡ k = omega arith in
+        omega (arith, more, reached, ap (λ (p : Pair). p.token) pair_is, ap (λ (n : ℕ). (pair_at entries n).token) same);
+  };
+  last = λ some. ap (λ (p : Pair). p.place) (last_is some);
+}
+
+pub found_all : (level count token : ℕ) (bytes : Bytes) (entries : List Pair) (last : Pair) → length bytes ≡ 8 + 16 * count → bytes ≡ node level entries
+    → ((k : ℕ) → k < count → (pair_at entries k).token < token) → (0 < count → last ≡ pair_at entries (count - 1)) → FindsBelow entries token count last.place
+found_all level count token bytes entries last long is below last_is = record {
+  counts = record {
+    within = omega (arith, long, ap length is, node_length level entries);
+    below = below;
+    above = λ k le k_lt. absurd (omega (arith, long, ap length is, node_length level entries));
+  };
+  last = λ some. ap (λ (p : Pair). p.place) (last_is some);
+}
+
+-- entries that rise aren't out of order
+pub no_disorder : (level count index : ℕ) (bytes : Bytes) (entries : List Pair) (last pair : Pair) → length bytes ≡ 8 + 16 * count → bytes ≡ node level entries → IsRising entries → index < count → 0 < index → last ≡ pair_at entries (index - 1) → pair ≡ pair_at entries index
+    → (IsBefore last pair → ⊥) → ⊥
+no_disorder level count index bytes entries last pair long is rising lt some last_is pair_is out =
+    let same : index - 1 + 1 ≡ index = omega arith in
+    let step : IsBefore (pair_at entries (index - 1)) (pair_at entries (index - 1 + 1)) = rising (index - 1) (omega (arith, long, ap length is, node_length level entries)) in
+    out (subst (λ (p : Pair). IsBefore p pair) (sym last_is) (subst (λ (p : Pair). IsBefore (pair_at entries (index - 1)) p) (ap (λ (k : ℕ). pair_at entries k) same ∙ sym pair_is) step))

@@ -1,0 +1,108 @@
+-- What a fault at a part of a tree shows of the whole, and what reads one after another cost.
+use Rattle.std.proofs.Common.{◌≡◌, ℕ, zero, suc, ◌+◌, ◌-◌, ◌*◌, ◌<◌, ◌≤◌, min, List, length, refl, sym, ◌∙◌, ap, subst, arith, ⊎_elim, IfErr, Ok, Err}
+use Rattle.std.proofs.lemmas.Bool.Decides.{leb_tells}
+use Rattle.std.specs.declared.result.Result.{Result}
+use Rattle.sasi_types.specs.declared.tree.Pair.{Pair}
+use Rattle.sasi_host.specs.declared.name.FileName.{FileName}
+use Rattle.sasi_host.specs.declared.fault.ReadFault.{ReadFault}
+use Rattle.sasi_host.specs.declared.fault.ReadFault.TheVariants as fault
+use Rattle.sasi_host.specs.Names.{Bytes}
+use Rattle.sasi_host.specs.View.{View, Rose}
+use Rattle.sasi_host.specs.Disk.{Changes, Same}
+use Rattle.sasi_host.specs.Contents.{contents_same}
+use Rattle.sasi_tokentree.specs.Format.{nodes, size, part, above}
+use Rattle.sasi_tokentree.specs.Sizes.{part_length, first_above_length}
+use Rattle.sasi_tokentree.specs.Heights.{height, lead, no_lead, more_lead, one_high, more_high}
+use Rattle.sasi_tokentree.specs.Reads.{ReadsAtMost, SparesNode, SparesLevel, StandsFrom}
+use Rattle.sasi_tokentree.proofs.Standing.{stands_node, stands_above, stands_one}
+
+pub part_size : (entries : List Pair) (node count here : ℕ) → length entries ≡ count → here ≡ min (count - 255 * node) 255 → length (part entries node) ≡ here
+part_size entries node count here long is = omega (arith, part_length entries node, long, is)
+
+pub spares_part : (v : View) (file : FileName) (level at count node here : ℕ) (f : ReadFault) → 255 * node < count → here ≡ min (count - 255 * node) 255 → SparesNode v file level (at + 4088 * node) here f → SparesLevel v file level at count f
+spares_part v file level at count node here fault.Failed lt is spares = tt
+spares_part v file level at count node here fault.OutOfMemory lt is spares = tt
+spares_part v file level at count node here (fault.Damaged damage) lt is spares = λ bytes entries reads stands long.
+    spares bytes (part entries node) reads (stands_node bytes level at entries node stands (omega (arith, lt, long))) (part_size entries node count here long is)
+
+pub spares_one : (v : View) (file : FileName) (level at count : ℕ) (f : ReadFault) → count ≤ 255 → SparesNode v file level at count f → SparesLevel v file level at count f
+spares_one v file level at count fault.Failed le spares = tt
+spares_one v file level at count fault.OutOfMemory le spares = tt
+spares_one v file level at count (fault.Damaged damage) le spares = λ bytes entries reads stands long. spares bytes entries reads (stands_one bytes level at entries stands (omega (arith, le, long))) long
+
+pub up : (bytes : Bytes) (level at count : ℕ) (entries : List Pair) → 255 < count → length entries ≡ count → StandsFrom bytes level at entries → StandsFrom bytes (level + 1) (at + size count) (above at entries)
+up bytes level at count entries many long stands = subst (λ (n : ℕ). StandsFrom bytes (level + 1) (at + size n) (above at entries)) long (stands_above bytes level at entries stands (omega (arith, many, long)))
+
+pub up_length : (at count : ℕ) (entries : List Pair) → length entries ≡ count → length (above at entries) ≡ nodes count
+up_length at count entries long = first_above_length at entries (nodes (length entries)) ∙ ap nodes long
+
+pub spares_up : (v : View) (file : FileName) (level at count : ℕ) (f : ReadFault) → 255 < count → SparesLevel v file (level + 1) (at + size count) (nodes count) f → SparesLevel v file level at count f
+spares_up v file level at count fault.Failed many spares = tt
+spares_up v file level at count fault.OutOfMemory many spares = tt
+spares_up v file level at count (fault.Damaged damage) many spares = λ bytes entries reads stands long.
+    spares bytes (above at entries) reads (up bytes level at count entries many long stands) (up_length at count entries long)
+
+pub spares_before : (a b : View) (file : FileName) (level at count : ℕ) (f : ReadFault) → Changes Same a b → SparesLevel b file level at count f → SparesLevel a file level at count f
+spares_before a b file level at count fault.Failed same spares = tt
+spares_before a b file level at count fault.OutOfMemory same spares = tt
+spares_before a b file level at count (fault.Damaged damage) same spares = λ bytes entries reads. spares bytes entries (contents_same a b file same ∙ reads)
+
+-- ---- reads
+
+failed_later : {T : Type 0} (a b c : View) (result : Result T ReadFault) → a.disk_faults ≤ b.disk_faults → IfErr result (λ f. f ≡ fault.Failed → Rose b.disk_faults c.disk_faults) → IfErr result (λ f. f ≡ fault.Failed → Rose a.disk_faults c.disk_faults)
+failed_later a b c (Ok x) le failed = tt
+failed_later a b c (Err f) le failed = λ is. let rose = failed is in omega (arith, rose, le)
+
+-- reads after reads
+pub reads_on : {S T : Type 0} (a b c : View) (n m most : ℕ) (first : Result S ReadFault) (second : Result T ReadFault) → n + m ≤ most → ReadsAtMost n a b first → ReadsAtMost m b c second → ReadsAtMost most a c second
+reads_on a b c n m most first second le one two = record {
+  disk = omega (arith, one.disk, two.disk);
+  out = two.out ∙ one.out;
+  reads = omega (arith, le, one.reads, two.reads);
+  failed = failed_later a b c second one.disk two.failed;
+}
+
+-- fewer reads are at most more
+pub reads_within : {T : Type 0} (a b : View) (n most : ℕ) (result : Result T ReadFault) → n ≤ most → ReadsAtMost n a b result → ReadsAtMost most a b result
+reads_within a b n most result le one = record {
+  disk = one.disk;
+  out = one.out;
+  reads = omega (arith, le, one.reads);
+  failed = one.failed;
+}
+
+-- an answer after them isn't a failure
+pub ok_reads : {S T : Type 0} (a b : View) (n : ℕ) (first : Result S ReadFault) (x : T) → ReadsAtMost n a b first → ReadsAtMost n a b (Ok x)
+ok_reads a b n first x one = record {
+  disk = one.disk;
+  out = one.out;
+  reads = one.reads;
+  failed = tt;
+}
+
+pub one_level_reads : (most count : ℕ) → 0 < count → count ≤ most → 2 ≤ 2 * height most count
+one_level_reads zero count some le = absurd (omega arith)
+one_level_reads (suc most) count some le = ⊎_elim (λ one. omega (arith, one_high most count one.1)) (λ more. omega (arith, more_high most count more.1)) (leb_tells count 255)
+
+-- the levels above and one node more
+pub more_level_reads : {S T : Type 0} (a b c : View) (most count : ℕ) (first : Result S ReadFault) (second : Result T ReadFault) → 255 < count → count ≤ most
+    → ((bound : ℕ) → nodes count ≤ bound → ReadsAtMost (2 * height bound (nodes count)) a b first) → ReadsAtMost 2 b c second → ReadsAtMost (2 * height most count) a c second
+more_level_reads a b c zero count first second many le one two = absurd (omega arith)
+more_level_reads a b c (suc most) count first second many le one two =
+    reads_on a b c (2 * height most (nodes count)) 2 (2 * height (suc most) count) first second (omega (arith, more_high most count many)) (one most (omega (arith, many, le))) two
+
+pub above_reads : {S : Type 0} (a b : View) (most count : ℕ) (first : Result S ReadFault) → 255 < count → count ≤ most
+    → ((bound : ℕ) → nodes count ≤ bound → ReadsAtMost (2 * height bound (nodes count)) a b first) → ReadsAtMost (2 * height most count) a b first
+above_reads a b zero count first many le one = absurd (omega arith)
+above_reads a b (suc most) count first many le one = reads_within a b (2 * height most (nodes count)) (2 * height (suc most) count) first (omega (arith, more_high most count many)) (one most (omega (arith, many, le)))
+
+-- ---- the bytes before the last level
+
+pub lead_none : (most count : ℕ) → count ≤ 255 → 0 ≡ lead most count
+unfolding lead
+lead_none zero count le = refl
+lead_none (suc most) count le = sym (no_lead most count le)
+
+pub lead_more : (most count here above : ℕ) → 255 < count → count ≤ most → here ≡ size count → ((bound : ℕ) → nodes count ≤ bound → above ≡ lead bound (nodes count)) → here + above ≡ lead most count
+lead_more zero count here above many le is others = absurd (omega arith)
+lead_more (suc most) count here above many le is others = omega (arith, is, others most (omega (arith, many, le)), more_lead most count many)

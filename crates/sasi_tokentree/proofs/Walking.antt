@@ -1,0 +1,174 @@
+-- The pairs of a tree, found in its leaves.
+use Rattle.std.proofs.Common.{◌≡◌, ◌⊎◌, ℕ, zero, suc, ◌+◌, ◌-◌, ◌*◌, ◌/◌, ◌%◌, ◌^◌, ◌<◌, ◌≤◌, List, ◌∷◌, ◌++◌, length, take, drop, refl, sym, ◌∙◌, ap, subst, arith, append_assoc, length-append, take-append-drop, ⊎_elim, Some, None}
+use Rattle.std.proofs.lemmas.Bool.Decides.{leb_tells}
+use Rattle.std.proofs.lemmas.List.{take_at, drop_at, drop_more, drop_all, length-take-le}
+use Rattle.std.specs.List.{flat_map}
+use Rattle.std.specs.Int.{to_be_bytes, w64}
+use Rattle.sasi_types.specs.declared.tree.Pair.{Pair}
+use Rattle.sasi_types.specs.declared.tree.TreeRef.{TreeRef}
+use Rattle.sasi_host.specs.declared.name.FileName.{FileName}
+use Rattle.sasi_host.specs.declared.fault.ReadFault.{ReadFault}
+use Rattle.sasi_host.specs.declared.fault.ReadFault.TheVariants as fault
+use Rattle.sasi_host.specs.Names.{Bytes}
+use Rattle.sasi_host.specs.View.{View, contents}
+use Rattle.sasi_host.specs.Disk.{Changes, Same}
+use Rattle.sasi_host.specs.Contents.{contents_same}
+use Rattle.sasi_tokentree.specs.Format.{pair_at, entry, node, nodes, size, part, above, level_bytes, levels, tree_bytes, HasTree}
+use Rattle.sasi_tokentree.specs.Sizes.{entry_length, node_length, part_length, level_length, one_level, more_levels, first_above_length}
+use Rattle.sasi_tokentree.specs.Heights.{lead, no_lead, more_lead, top_is}
+use Rattle.sasi_tokentree.specs.Reads.{HasAt, HasNode, StandsFrom, CountsBelow, Spares, SparesLevel, SparesPair}
+use Rattle.sasi_host.specs.Damages.{OnDamage}
+use Rattle.sasi_tokentree.specs.Walks.{TakesNext}
+use Rattle.sasi_tokentree.proofs.NodeParts.{from_entry, same_number}
+use Rattle.sasi_tokentree.proofs.NodeReads.{has_window}
+use Rattle.sasi_tokentree.proofs.Standing.{part_at, stands_node}
+
+-- ---- a pair in its leaf
+
+regroup : (a b c d e : Bytes) → (a ++ (b ++ (c ++ d))) ++ e ≡ ((a ++ b) ++ c) ++ (d ++ e)
+regroup a b c d e = simp append_assoc
+
+entry_in_node : (bytes : Bytes) (level at : ℕ) (entries : List Pair) (k : ℕ) → HasNode bytes level at entries → k < length entries → HasAt bytes (at + (8 + 16 * k)) (entry (pair_at entries k))
+entry_in_node bytes level at entries k has lt =
+    let before = take (8 + 16 * k) (node level entries) in
+    let behind = flat_map entry (drop (k + 1) entries) in
+    record {
+      front = has.stands.front ++ before;
+      rest = behind ++ has.stands.rest;
+      is =
+          has.stands.is ∙ ap (λ (l : Bytes). has.stands.front ++ l ++ has.stands.rest) (sym (take-append-drop (8 + 16 * k) (node level entries)) ∙ ap (λ (l : Bytes). before ++ l) (from_entry level entries k lt))
+          ∙ regroup has.stands.front before (entry (pair_at entries k)) behind has.stands.rest;
+      place = length-append has.stands.front before ∙ omega (arith, has.stands.place, length-take-le (8 + 16 * k) (node level entries) (omega (arith, lt, node_length level entries)));
+    }
+
+-- each pair stands in its leaf
+pub entry_stands : (bytes : Bytes) (at index : ℕ) (entries : List Pair) → StandsFrom bytes 0 at entries → index < length entries → HasAt bytes (at + 4088 * (index / 255) + (8 + 16 * (index % 255))) (entry (pair_at entries index))
+entry_stands bytes at index entries stands lt =
+    let leaf = index / 255 in
+    let k = index % 255 in
+    let same : 255 * leaf + k ≡ index = omega arith in
+    subst (λ (p : Pair). HasAt bytes (at + 4088 * leaf + (8 + 16 * k)) (entry p)) (part_at entries leaf k (omega arith) ∙ ap (λ (n : ℕ). pair_at entries n) same)
+    (entry_in_node bytes 0 (at + 4088 * leaf) (part entries leaf) k (stands_node bytes 0 at entries leaf stands (omega (arith, lt))) (omega (arith, lt, part_length entries leaf)))
+
+pub ends_within : (bytes : Bytes) (at index : ℕ) (entries : List Pair) → StandsFrom bytes 0 at entries → index < length entries → at + 4088 * (index / 255) + (8 + 16 * (index % 255)) + 16 ≤ length bytes
+ends_within bytes at index entries stands lt =
+    let has = entry_stands bytes at index entries stands lt in
+    omega (arith, ap length has.is, has.place, length-append (has.front ++ entry (pair_at entries index)) has.rest, length-append has.front (entry (pair_at entries index)), entry_length (pair_at entries index))
+
+pub pair_reads : (bytes window : Bytes) (at index token place n m : ℕ) (entries : List Pair) → StandsFrom bytes 0 at entries → index < length entries → window ≡ take 16 (drop (at + 4088 * (index / 255) + (8 + 16 * (index % 255))) bytes) → n ≡ 8 → m ≡ 8
+    → token < 2 ^ 64 → place < 2 ^ 64 → to_be_bytes w64 token ≡ take n window → to_be_bytes w64 place ≡ take m (drop 8 window) → record { token = token; place = place } ≡ pair_at entries index
+unfolding entry
+pair_reads bytes window at index token place n m entries stands lt is n_is m_is token_fits place_fits token_is place_is =
+    let p = pair_at entries index in
+    let has = entry_stands bytes at index entries stands lt in
+    let whole : window ≡ to_be_bytes w64 p.token ++ to_be_bytes w64 p.place = is ∙ has_window bytes (at + 4088 * (index / 255) + (8 + 16 * (index % 255))) (entry p) has in
+    let first : take n window ≡ to_be_bytes w64 p.token = ap (λ (k : ℕ). take k window) n_is ∙ ap (λ (l : Bytes). take 8 l) whole ∙ take_at (to_be_bytes w64 p.token) (to_be_bytes w64 p.place) 8 refl in
+    let second : take m (drop 8 window) ≡ to_be_bytes w64 p.place = ap (λ (k : ℕ). take k (drop 8 window)) m_is ∙ ap (λ (l : Bytes). take 8 (drop 8 l)) whole ∙ ap (λ (l : Bytes). take 8 l) (drop_at (to_be_bytes w64 p.token) (to_be_bytes w64 p.place) 8 refl) in
+    let tokens : token ≡ p.token = same_number token p.token token_fits (stands.fit index).0 (token_is ∙ first) in
+    let places : place ≡ p.place = same_number place p.place place_fits (stands.fit index).1 (place_is ∙ second) in
+    ap (λ (k : ℕ). record { token = k; place = place }) tokens ∙ ap (λ (k : ℕ). record { token = p.token; place = k }) places
+
+pub short_spares : (v : View) (file : FileName) (at index : ℕ) (f : ReadFault) → OnDamage (λ _. (bytes : Bytes) → contents v file ≡ Some bytes → length bytes < at + 4088 * (index / 255) + (8 + 16 * (index % 255)) + 16) f → SparesPair v file at index f
+short_spares v file at index fault.Failed short = tt
+short_spares v file at index fault.OutOfMemory short = tt
+short_spares v file at index (fault.Damaged damage) short = λ bytes entries is stands lt. let less = short bytes is in omega (arith, less, ends_within bytes at index entries stands lt)
+
+-- ---- the tree whole
+
+lead_within : (most level at : ℕ) (entries : List Pair) → 0 < length entries → length entries ≤ most → lead most (length entries) + 16 ≤ length (levels most level at entries)
+lead_within zero level at entries some enough = absurd (omega arith)
+lead_within (suc most) level at entries some enough = ⊎_elim
+    (λ one. omega (arith, no_lead most (length entries) one.1, ap length (one_level most level at entries one.1), level_length level entries, some))
+    (λ more.
+    let next = above at entries in
+    let long : length next ≡ nodes (length entries) = first_above_length at entries (nodes (length entries)) in
+    let up = lead_within most (suc level) (at + size (length entries)) next (omega (arith, long, more.1)) (omega (arith, long, more.1, enough)) in
+    omega (arith, up, ap (λ (n : ℕ). lead most n) long, more_lead most (length entries) more.1, ap length (more_levels most level at entries more.1), level_length level entries, length-append (level_bytes level entries) (levels most (suc level) (at + size (length entries)) next)))
+    (leb_tells (length entries) 255)
+
+pairs_within : (most level at : ℕ) (entries : List Pair) → 0 < length entries → length entries ≤ most → 16 * length entries ≤ length (levels most level at entries)
+pairs_within zero level at entries some enough = absurd (omega arith)
+pairs_within (suc most) level at entries some enough = ⊎_elim
+    (λ one. omega (arith, ap length (one_level most level at entries one.1), level_length level entries))
+    (λ more. omega (arith, ap length (more_levels most level at entries more.1), level_length level entries, length-append (level_bytes level entries) (levels most (suc level) (at + size (length entries)) (above at entries))))
+    (leb_tells (length entries) 255)
+
+pub count_is : (bytes : Bytes) (tree : TreeRef) (pairs : List Pair) → HasTree bytes tree pairs → length pairs ≡ tree.pairs
+count_is bytes tree pairs has = sym (ap (λ (t : TreeRef). t.pairs) has.referred)
+
+root_is : (bytes : Bytes) (tree : TreeRef) (pairs : List Pair) (has : HasTree bytes tree pairs) → 0 < tree.pairs → tree.root ≡ length has.front + lead tree.pairs tree.pairs
+root_is bytes tree pairs has some =
+    let long = count_is bytes tree pairs has in
+    ap (λ (t : TreeRef). t.root) has.referred ∙ top_is (length pairs) (length has.front) (length pairs) (omega (arith, long, some)) (omega arith)
+    ∙ ap (λ (n : ℕ). length has.front + lead n n) long
+
+pub tree_stands : (bytes : Bytes) (tree : TreeRef) (pairs : List Pair) → HasTree bytes tree pairs → 0 < tree.pairs → length bytes ≤ 2 ^ 62 → StandsFrom bytes 0 (tree.root - lead tree.pairs tree.pairs) pairs
+tree_stands bytes tree pairs has some short =
+    let begun : length has.front ≡ tree.root - lead tree.pairs tree.pairs = omega (arith, root_is bytes tree pairs has some) in
+    record {
+      most = length pairs;
+      front = has.front;
+      rest = has.rest;
+      enough = omega arith;
+      some = omega (arith, count_is bytes tree pairs has, some);
+      is = has.is ∙ ap (λ (n : ℕ). has.front ++ levels (length pairs) 0 n pairs ++ has.rest) begun;
+      place = begun;
+      rising = has.rising;
+      fit = has.fit;
+      short = short;
+    }
+
+pub tree_stands_at : (bytes : Bytes) (tree : TreeRef) (pairs : List Pair) (start : ℕ) → HasTree bytes tree pairs → 0 < tree.pairs → length bytes ≤ 2 ^ 62 → start ≡ tree.root - lead tree.pairs tree.pairs → StandsFrom bytes 0 start pairs
+tree_stands_at bytes tree pairs start has some short is = subst (λ (n : ℕ). StandsFrom bytes 0 n pairs) (sym is) (tree_stands bytes tree pairs has some short)
+
+pub tree_fits : (bytes : Bytes) (tree : TreeRef) (pairs : List Pair) → HasTree bytes tree pairs → 0 < tree.pairs → length bytes ≤ 2 ^ 62 → (2 ^ 62 < tree.root) ⊎ (2 ^ 58 < tree.pairs) → ⊥
+tree_fits bytes tree pairs has some short long =
+    let count = count_is bytes tree pairs has in
+    let root = root_is bytes tree pairs has some in
+    let whole = ap length has.is in
+    let parts = length-append (has.front ++ tree_bytes (length has.front) pairs) has.rest in
+    let first = length-append has.front (tree_bytes (length has.front) pairs) in
+    let leads = lead_within (length pairs) 0 (length has.front) pairs (omega (arith, count, some)) (omega arith) in
+    let holds = pairs_within (length pairs) 0 (length has.front) pairs (omega (arith, count, some)) (omega arith) in
+    let same : lead (length pairs) (length pairs) ≡ lead tree.pairs tree.pairs = ap (λ (n : ℕ). lead n n) count in
+    ⊎_elim (λ far. omega (arith, far, root, whole, parts, first, leads, same, short)) (λ many. omega (arith, many, count, whole, parts, first, holds, short)) long
+
+-- ---- what shows damage of a part shows it of the tree
+
+pub long_spares : (v : View) (file : FileName) (tree : TreeRef) (f : ReadFault) → ((bytes : Bytes) → contents v file ≡ Some bytes → length bytes ≤ 2 ^ 62) → 0 < tree.pairs → (2 ^ 62 < tree.root) ⊎ (2 ^ 58 < tree.pairs) → Spares v file tree f
+long_spares v file tree fault.Failed short some long = tt
+long_spares v file tree fault.OutOfMemory short some long = tt
+long_spares v file tree (fault.Damaged damage) short some long = λ bytes pairs is has. tree_fits bytes tree pairs has some (short bytes is) long
+
+pub pair_spares : (v : View) (file : FileName) (tree : TreeRef) (index start : ℕ) (f : ReadFault) → ((bytes : Bytes) → contents v file ≡ Some bytes → length bytes ≤ 2 ^ 62) → index < tree.pairs → start ≡ tree.root - lead tree.pairs tree.pairs → SparesPair v file start index f → Spares v file tree f
+pair_spares v file tree index start fault.Failed short lt is spares = tt
+pair_spares v file tree index start fault.OutOfMemory short lt is spares = tt
+pair_spares v file tree index start (fault.Damaged damage) short lt is spares = λ bytes pairs reads has.
+    spares bytes pairs reads (subst (λ (n : ℕ). StandsFrom bytes 0 n pairs) (sym is) (tree_stands bytes tree pairs has (omega (arith, lt)) (short bytes reads))) (omega (arith, lt, count_is bytes tree pairs has))
+
+pub level_spares : (v : View) (file : FileName) (tree : TreeRef) (start : ℕ) (f : ReadFault) → ((bytes : Bytes) → contents v file ≡ Some bytes → length bytes ≤ 2 ^ 62) → 0 < tree.pairs → start ≡ tree.root - lead tree.pairs tree.pairs → SparesLevel v file 0 start tree.pairs f → Spares v file tree f
+level_spares v file tree start fault.Failed short some is spares = tt
+level_spares v file tree start fault.OutOfMemory short some is spares = tt
+level_spares v file tree start (fault.Damaged damage) short some is spares = λ bytes pairs reads has.
+    spares bytes pairs reads (subst (λ (n : ℕ). StandsFrom bytes 0 n pairs) (sym is) (tree_stands bytes tree pairs has some (short bytes reads))) (count_is bytes tree pairs has)
+
+pub tree_spares_before : (a b : View) (file : FileName) (tree : TreeRef) (f : ReadFault) → Changes Same a b → Spares b file tree f → Spares a file tree f
+tree_spares_before a b file tree fault.Failed same spares = tt
+tree_spares_before a b file tree fault.OutOfMemory same spares = tt
+tree_spares_before a b file tree (fault.Damaged damage) same spares = λ bytes pairs is. spares bytes pairs (contents_same a b file same ∙ is)
+
+-- ---- the pairs left
+
+pub takes_pair : (pairs : List Pair) (index : ℕ) (pair : Pair) → index < length pairs → pair ≡ pair_at pairs index → TakesNext pairs index (index + 1) (Some pair)
+takes_pair pairs index pair lt is = drop_more pairs index (record { token = 0; place = 0 }) lt ∙ ap (λ (p : Pair). p ∷ drop (index + 1) pairs) (sym is)
+
+pub takes_none : (bytes : Bytes) (tree : TreeRef) (pairs : List Pair) (index : ℕ) → HasTree bytes tree pairs → tree.pairs ≤ index → TakesNext pairs index index None
+takes_none bytes tree pairs index has le = (drop_all index pairs (omega (arith, le, count_is bytes tree pairs has)), refl)
+
+-- of no pairs none is below
+pub no_pairs : (bytes : Bytes) (tree : TreeRef) (pairs : List Pair) (token : ℕ) → HasTree bytes tree pairs → tree.pairs ≡ 0 → CountsBelow pairs token 0
+no_pairs bytes tree pairs token has none = record {
+  within = omega arith;
+  below = λ index lt. absurd (omega (arith, lt));
+  above = λ index le lt. absurd (omega (arith, lt, none, count_is bytes tree pairs has));
+}

@@ -1,0 +1,7 @@
+use Rattle.std.proofs.Common.{◌≡◌, ◌++◌, take}
+use Rattle.std.specs.List.{flat_map}
+use Rattle.sasi_tokentree.specs.Format.{entry}
+use Rattle.sasi_tokentree.proofs.node.put_entries.Given as goal
+
+abbrev pub invariant-loop-pair : goal.invariant-loop-pair
+invariant-loop-pair l = l.bytes.items ≡ l.fn.bytes.items ++ flat_map entry (take l.pair-index l.entries)

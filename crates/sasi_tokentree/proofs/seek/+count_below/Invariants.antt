@@ -1,0 +1,4 @@
+use Rattle.sasi_tokentree.proofs.seek.+count_below.Given as goal
+
+abbrev pub decreases-count_below : goal.decreases-count_below
+decreases-count_below g l = l.count

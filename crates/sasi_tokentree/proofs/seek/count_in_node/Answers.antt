@@ -1,0 +1,15 @@
+use Rattle.std.proofs.Common.{arith}
+use Rattle.std.proofs.lemmas.Result.{err_from_is_err_and}
+use Rattle.sasi_tokentree.specs.Format.{part}
+use Rattle.sasi_tokentree.proofs.Standing.{stands_node}
+use Rattle.sasi_tokentree.proofs.Seeks.{part_size, spares_part}
+use Rattle.sasi_tokentree.proofs.seek.count_in_node.Goals as goal
+
+pub returns-in_err-below-clause-undamaged : goal.returns-in_err-below-clause-undamaged
+returns-in_err-below-clause-undamaged g c =
+    let p = err_from_is_err_and c.from_residual.result c.from_residual.ensures.1 in
+    rw (p.1, p.2) (spares_part (g.H.Host.view c.args.host.now) c.args.file c.args.level c.args.at c.args.count c.args.node c.min-here.result c.in_err-below.field-0.0 c.requires.node (omega arith) c.in_err-below.ensures.undamaged)
+
+pub returns-clause-ok : goal.returns-clause-ok
+returns-clause-ok g c bytes entries is stands long =
+    c.in_ok-below.ensures.ok bytes (part entries c.args.node) is (stands_node bytes c.args.level c.args.at entries c.args.node stands (omega (arith, long))) (part_size entries c.args.node c.args.count c.min-here.result long (omega arith))

@@ -1,0 +1,49 @@
+use Rattle.std.proofs.Common.{◌∙◌, arith}
+use Rattle.std.proofs.lemmas.Result.{err_from_is_err_and}
+use Rattle.sasi_host.specs.Disk.{Same}
+use Rattle.sasi_host.specs.Contents.{contents_same}
+use Rattle.sasi_host.specs.Moves.{stays, then_same}
+use Rattle.sasi_tokentree.proofs.Windows.{shown_before}
+use Rattle.sasi_tokentree.proofs.Walking.{long_spares, level_spares, tree_spares_before, tree_stands_at, count_is, no_pairs, takes_none}
+use Rattle.sasi_tokentree.proofs.walk.first_from.Goals as goal
+
+pub returns-then-tree-eq0-clause-changes : goal.returns-then-tree-eq0-clause-changes
+returns-then-tree-eq0-clause-changes g c = stays (g.H.Host.view c.args.host.now)
+
+pub returns-then-tree-eq0-clause-ok : goal.returns-then-tree-eq0-clause-ok
+returns-then-tree-eq0-clause-ok g c bytes pairs is has = (0, no_pairs bytes c.args.tree pairs c.args.token has (omega arith), takes_none bytes c.args.tree pairs 0 has (omega arith))
+
+pub returns-then-is_too_long-clause-undamaged : goal.returns-then-is_too_long-clause-undamaged
+returns-then-is_too_long-clause-undamaged g c =
+    long_spares (g.H.Host.view c.args.host.now) c.args.file c.args.tree c.too_short.result (λ bytes is. (g.met.H.Host.sound c.args.host.now).fits c.args.file bytes is) (omega arith) (c.is_too_long.ensures.long c.if-is_too_long.true)
+
+pub returns-in_err-below-clause-undamaged : goal.returns-in_err-below-clause-undamaged
+returns-in_err-below-clause-undamaged g c =
+    let p = err_from_is_err_and c.from_residual.result c.from_residual.ensures.1 in
+    rw (p.1, p.2) (level_spares (g.H.Host.view c.args.host.now) c.args.file c.args.tree c.start_of-start.result c.in_err-below.field-0.0 (λ bytes is. (g.met.H.Host.sound c.args.host.now).fits c.args.file bytes is) (omega arith) c.start_of-start.ensures.is c.in_err-below.ensures.undamaged)
+
+pub returns-in_err-found-clause-damaged : goal.returns-in_err-found-clause-damaged
+returns-in_err-found-clause-damaged g c =
+    let p = err_from_is_err_and c.from_residual-in_err-found.result c.from_residual-in_err-found.ensures.1 in
+    rw (p.1, p.2) (shown_before _ _ c.args.file c.in_err-found.field-0.0 c.count_below.ensures.changes c.in_err-found.ensures.damaged)
+
+pub returns-in_err-found-clause-undamaged : goal.returns-in_err-found-clause-undamaged
+returns-in_err-found-clause-undamaged g c =
+    let p = err_from_is_err_and c.from_residual-in_err-found.result c.from_residual-in_err-found.ensures.1 in
+    rw (p.1, p.2) (tree_spares_before _ _ c.args.file c.args.tree c.in_err-found.field-0.0 c.count_below.ensures.changes c.in_err-found.ensures.undamaged)
+
+pub returns-in_err-found-clause-changes : goal.returns-in_err-found-clause-changes
+returns-in_err-found-clause-changes g c = then_same _ _ _ Same c.count_below.ensures.changes c.pair_from.ensures.changes
+
+pub returns-clause-ok : goal.returns-clause-ok
+returns-clause-ok g c bytes pairs is has =
+    let short = (g.met.H.Host.sound c.args.host.now).fits c.args.file bytes is in
+    let stands = tree_stands_at bytes c.args.tree pairs c.start_of-start.result has (omega arith) short c.start_of-start.ensures.is in
+    let now = contents_same _ _ c.args.file c.count_below.ensures.changes ∙ is in (
+      c.in_ok-below.below.count,
+      (c.in_ok-below.ensures.ok bytes pairs is stands (count_is bytes c.args.tree pairs has)).counts,
+      c.in_ok-found.ensures.ok bytes pairs now has,
+    )
+
+pub returns-clause-changes : goal.returns-clause-changes
+returns-clause-changes g c = then_same _ _ _ Same c.count_below.ensures.changes c.pair_from.ensures.changes

@@ -1,0 +1,27 @@
+use Rattle.std.proofs.Common.{◌<◌, length, arith}
+use Rattle.std.proofs.lemmas.Result.{err_from_is_err_and}
+use Rattle.sasi_host.specs.Moves.{stays}
+use Rattle.sasi_tokentree.proofs.Walking.{long_spares, pair_spares, tree_stands_at, count_is, takes_pair, takes_none}
+use Rattle.sasi_tokentree.proofs.walk.pair_from.Goals as goal
+
+pub returns-then-passed-tree-clause-changes : goal.returns-then-passed-tree-clause-changes
+returns-then-passed-tree-clause-changes g c = stays (g.H.Host.view c.args.host.now)
+
+pub returns-then-passed-tree-clause-ok : goal.returns-then-passed-tree-clause-ok
+returns-then-passed-tree-clause-ok g c bytes pairs is has = takes_none bytes c.args.tree pairs c.args.passed has (omega arith)
+
+pub returns-then-is_too_long-clause-undamaged : goal.returns-then-is_too_long-clause-undamaged
+returns-then-is_too_long-clause-undamaged g c =
+    long_spares (g.H.Host.view c.args.host.now) c.args.file c.args.tree c.too_short.result (λ bytes is. (g.met.H.Host.sound c.args.host.now).fits c.args.file bytes is) (omega arith) (c.is_too_long.ensures.long c.if-is_too_long.true)
+
+pub returns-in_err-pair-clause-undamaged : goal.returns-in_err-pair-clause-undamaged
+returns-in_err-pair-clause-undamaged g c =
+    let p = err_from_is_err_and c.from_residual.result c.from_residual.ensures.1 in
+    rw (p.1, p.2) (pair_spares (g.H.Host.view c.args.host.now) c.args.file c.args.tree c.args.passed c.start_of.result c.in_err-pair.field-0.0 (λ bytes is. (g.met.H.Host.sound c.args.host.now).fits c.args.file bytes is) (omega arith) c.start_of.ensures.is c.in_err-pair.ensures.undamaged)
+
+pub returns-clause-ok : goal.returns-clause-ok
+returns-clause-ok g c bytes pairs is has =
+    let short = (g.met.H.Host.sound c.args.host.now).fits c.args.file bytes is in
+    let stands = tree_stands_at bytes c.args.tree pairs c.start_of.result has (omega arith) short c.start_of.ensures.is in
+    let within : c.args.passed < length pairs = omega (arith, count_is bytes c.args.tree pairs has) in
+    takes_pair pairs c.args.passed c.in_ok-pair.pair within (c.in_ok-pair.ensures.ok bytes pairs is stands within)

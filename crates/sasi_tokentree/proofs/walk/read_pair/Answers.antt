@@ -1,0 +1,13 @@
+use Rattle.std.proofs.Common.{refl}
+use Rattle.std.proofs.lemmas.Result.{err_from_is_err_and}
+use Rattle.sasi_tokentree.proofs.Walking.{pair_reads, short_spares}
+use Rattle.sasi_tokentree.proofs.walk.read_pair.Goals as goal
+
+pub returns-in_err-read_bytes-clause-undamaged : goal.returns-in_err-read_bytes-clause-undamaged
+returns-in_err-read_bytes-clause-undamaged g c =
+    let p = err_from_is_err_and c.from_residual.result c.from_residual.ensures.1 in
+    rw (p.1, p.2) (short_spares (g.H.Host.view c.args.host.now) c.args.file c.args.at c.args.index c.in_err-read_bytes.field-0.0 c.in_err-read_bytes.ensures.short)
+
+pub returns-clause-ok : goal.returns-clause-ok
+returns-clause-ok g c bytes entries is stands lt =
+    pair_reads bytes c.read_bytes.new.out c.args.at c.args.index _ _ _ _ entries stands lt (c.in_ok-read_bytes.ensures.ok bytes is) refl refl c.number_in.type_inv c.number_in-2.type_inv c.number_in.ensures c.number_in-2.ensures

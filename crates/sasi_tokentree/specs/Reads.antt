@@ -1,0 +1,109 @@
+-- What reads of a tree give, over what the host tells.
+use Rattle.std.specs.Prelude.{◌≡◌, ◌⊎◌, ℕ, ◌+◌, ◌-◌, ◌^◌, ◌<◌, ◌≤◌, List, ◌++◌, length, take, drop, IfErr, Some}
+use Rattle.std.specs.declared.result.Result.{Result}
+use Rattle.std.specs.Int.{to_be_bytes, w64}
+use Rattle.sasi_types.specs.declared.tree.Pair.{Pair}
+use Rattle.sasi_types.specs.declared.tree.TreeRef.{TreeRef}
+use Rattle.sasi_host.specs.declared.name.FileName.{FileName}
+use Rattle.sasi_host.specs.declared.damage.Damage.{Damage}
+use Rattle.sasi_host.specs.declared.damage.Seen.{Seen}
+use Rattle.sasi_host.specs.declared.damage.FormatRule.TheVariants.{Short}
+use Rattle.sasi_host.specs.declared.fault.ReadFault.{ReadFault}
+use Rattle.sasi_host.specs.declared.fault.ReadFault.TheVariants as fault
+use Rattle.sasi_host.specs.Names.{Bytes}
+use Rattle.sasi_host.specs.Damages.{OnDamage, seen_bytes}
+use Rattle.sasi_host.specs.View.{View, contents, Rose}
+use Rattle.sasi_tokentree.specs.Format.{pair_at, node, levels, IsRising, AreFit, HasTree}
+
+-- ---- causes
+
+-- the counts of faults don't fall, a failure of the host has raised that of the disk, and at most so many reads were made
+pub record ReadsAtMost {T : Type 0} (most : ℕ) (old new : View) (result : Result T ReadFault) : Type 0 where
+  pub disk : old.disk_faults ≤ new.disk_faults
+  pub out : new.out_faults ≡ old.out_faults
+  pub reads : new.reads ≤ old.reads + most
+  pub failed : IfErr result (λ f. f ≡ fault.Failed → Rose old.disk_faults new.disk_faults)
+
+-- ---- damage
+
+-- these bytes stand at this place
+pub record HasAt (bytes : Bytes) (at : ℕ) (part : Bytes) : Type 0 where
+  pub front : Bytes
+  pub rest : Bytes
+  pub is : bytes ≡ front ++ part ++ rest
+  pub place : length front ≡ at
+
+-- these are the bytes of the file from this place on, as many as they are
+pub record IsWindow (bytes : Bytes) (at : ℕ) (window : Bytes) : Type 0 where
+  pub is : window ≡ take (length window) (drop at bytes)
+  pub within : at ≤ length bytes
+
+-- the damage is that this file is too short, and tells its size
+pub record TellsSize (bytes : Bytes) (damage : Damage) : Type 0 where
+  pub rule : damage.rule ≡ Short
+  pub place : damage.at ≡ length bytes
+  pub seen : seen_bytes damage.seen ≡ to_be_bytes w64 (length bytes)
+
+-- the damage is that of this file, which has the seen bytes at the place, or is as short as they say
+pub record IsSeen (file : FileName) (bytes : Bytes) (damage : Damage) : Type 0 where
+  pub named : damage.file ≡ file
+  pub stands : TellsSize bytes damage ⊎ HasAt bytes damage.at (seen_bytes damage.seen)
+
+-- damage is what the file shows as it reads
+abbrev pub IsShown : View → FileName → ReadFault → Type 0
+IsShown v file = OnDamage (λ damage. (bytes : Bytes) → contents v file ≡ Some bytes → IsSeen file bytes damage)
+
+-- and no file with the tree is damaged
+abbrev pub Spares : View → FileName → TreeRef → ReadFault → Type 0
+Spares v file tree = OnDamage (λ _. (bytes : Bytes) (pairs : List Pair) → contents v file ≡ Some bytes → HasTree bytes tree pairs → ⊥)
+
+-- ---- a level that stands in a file, with those above it
+
+-- at this place stands a node of these entries, which rise
+pub record HasNode (bytes : Bytes) (level at : ℕ) (entries : List Pair) : Type 0 where
+  pub stands : HasAt bytes at (node level entries)
+  pub rising : IsRising entries
+  pub fit : AreFit entries
+
+-- at this place stand the nodes of a level of these entries, and behind them those of the levels above it
+pub record StandsFrom (bytes : Bytes) (level at : ℕ) (entries : List Pair) : Type 0 where
+  pub most : ℕ
+  pub front : Bytes
+  pub rest : Bytes
+  pub enough : length entries ≤ most
+  pub some : 0 < length entries
+  pub is : bytes ≡ front ++ levels most level at entries ++ rest
+  pub place : length front ≡ at
+  pub rising : IsRising entries
+  pub fit : AreFit entries
+  pub short : length bytes ≤ 2 ^ 62
+
+-- so many of the entries, and no more, have tokens below this one
+pub record CountsBelow (entries : List Pair) (token count : ℕ) : Type 0 where
+  pub within : count ≤ length entries
+  pub below : (index : ℕ) → index < count → (pair_at entries index).token < token
+  pub above : (index : ℕ) → count ≤ index → index < length entries → token ≤ (pair_at entries index).token
+
+-- of these entries so many have tokens below this one, and this is the place of the last of them
+pub record FindsBelow (entries : List Pair) (token count place : ℕ) : Type 0 where
+  pub counts : CountsBelow entries token count
+  pub last : 0 < count → place ≡ (pair_at entries (count - 1)).place
+
+-- where damage is told, no node of so many entries stands there
+abbrev pub SparesNode : View → FileName → ℕ → ℕ → ℕ → ReadFault → Type 0
+SparesNode v file level at count = OnDamage (λ _. (bytes : Bytes) (entries : List Pair) → contents v file ≡ Some bytes → HasNode bytes level at entries → length entries ≡ count → ⊥)
+
+-- damage in these bytes, which stand at a place of the file
+pub record IsSeenIn (file : FileName) (at : ℕ) (window : Bytes) (damage : Damage) : Type 0 where
+  pub offset : ℕ
+  pub named : damage.file ≡ file
+  pub place : damage.at ≡ at + offset
+  pub stands : HasAt window offset (seen_bytes damage.seen)
+
+-- where damage is told, no level of so many entries stands there with those above it
+abbrev pub SparesLevel : View → FileName → ℕ → ℕ → ℕ → ReadFault → Type 0
+SparesLevel v file level at count = OnDamage (λ _. (bytes : Bytes) (entries : List Pair) → contents v file ≡ Some bytes → StandsFrom bytes level at entries → length entries ≡ count → ⊥)
+
+-- where damage is told, no leaves that reach to a pair with this index stand there
+abbrev pub SparesPair : View → FileName → ℕ → ℕ → ReadFault → Type 0
+SparesPair v file at index = OnDamage (λ _. (bytes : Bytes) (entries : List Pair) → contents v file ≡ Some bytes → StandsFrom bytes 0 at entries → index < length entries → ⊥)

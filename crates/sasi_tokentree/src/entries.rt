@@ -1,0 +1,135 @@
+// The bytes of a node, read.
+ghost use Rattle.std.specs.Prelude.{◌≡◌, ◌≢◌, ◌+◌, ◌*◌, ◌^◌, ◌<◌, ◌≤◌, ℕ, List, length, take, drop, IfErr, IfOk, OnOk, IsTrue, ◌↔◌, false};
+ghost use Rattle.std.specs.Int.{to_be_bytes, w64};
+ghost use Rattle.sasi_types.specs.declared.tree.Pair.{Pair};
+ghost use Rattle.sasi_tokentree.specs.Format.{pair_at, head, node, AreFit, IsBefore, IsRising};
+ghost use Rattle.sasi_tokentree.specs.Reads.{FindsBelow, IsSeenIn};
+
+use crate::order::is_before;
+use sasi_fields::FieldReader;
+use sasi_host::{Damage, FileName, FormatRule, found};
+use sasi_types::{Pair, Token};
+
+// The bytes of a node's head.
+pub const HEAD: usize = 8;
+
+// The bytes of an entry.
+pub const ENTRY: usize = 16;
+
+// So many entries of a node have tokens below the one that was asked for, and the last of them has this place.
+#[derive(Clone, Copy)]
+pub struct Below {
+    pub count: usize,
+    pub place: u64,
+}
+
+// At this offset of the node these bytes have to stand.
+fn check_part(
+    file: FileName,
+    at: u64,
+    bytes: &[u8],
+    offset: usize,
+    wanted: &[u8],
+) -> Result<(), Damage>
+    requires whole { offset + length wanted.now ≤ length bytes.now }
+    requires most { length wanted.now ≤ 8 }
+    requires place { at < 2 ^ 63 + 2 ^ 60 }
+    requires offset { offset < 2 ^ 62 }
+    ensures ok { OnOk result (take (length wanted.now) (drop offset bytes.now) ≡ wanted.now) }
+    ensures seen { IfErr result (IsSeenIn file at bytes.now) }
+    ensures differs { IfErr result (λ _. take (length wanted.now) (drop offset bytes.now) ≢ wanted.now) }
+{
+    let seen = &bytes[offset..offset + wanted.len()];
+    if seen != wanted {
+        return Err(found(file, at + offset as u64, FormatRule::Number, seen));
+    }
+    Ok(())
+}
+
+// The head of the node has to have this level and number of entries.
+pub fn check_head(
+    file: FileName,
+    at: u64,
+    level: u8,
+    count: u16,
+    bytes: &[u8],
+) -> Result<(), Damage>
+    requires whole { 8 ≤ length bytes.now }
+    requires place { at < 2 ^ 63 + 2 ^ 60 }
+    ensures ok { OnOk result (take 8 bytes.now ≡ head level count) }
+    ensures seen { IfErr result (IsSeenIn file at bytes.now) }
+    ensures differs { IfErr result (λ _. take 8 bytes.now ≢ head level count) }
+{
+    check_part(file, at, bytes, 0, &[level])?;
+    check_part(file, at, bytes, 1, &[0])?;
+    check_part(file, at, bytes, 2, &count.to_be_bytes())?;
+    check_part(file, at, bytes, 4, &[0; 4])?;
+    Ok(())
+}
+
+// The number that a field of eight bytes holds.
+pub fn number_in(field: &[u8]) -> u64
+    requires { length field.now ≡ 8 }
+    ensures { to_be_bytes w64 result ≡ field.now }
+{
+    FieldReader::new(field).u64().unwrap_or(0)
+}
+
+// An entry of the node.
+pub fn entry_in(bytes: &[u8], index: usize) -> Pair
+    requires { 24 + 16 * index ≤ length bytes.now }
+    ensures { (level : ℕ) (entries : List Pair) → AreFit entries → bytes.now ≡ node level entries → result ≡ pair_at entries index }
+{
+    let at = HEAD + ENTRY * index;
+    Pair {
+        token: number_in(&bytes[at..at + 8]),
+        place: number_in(&bytes[at + 8..at + 16]),
+    }
+}
+
+// Whether the entry with this index doesn't follow the one before it.
+fn is_out_of_order(index: usize, last: Pair, pair: Pair) -> bool
+    ensures some { IsTrue result → 0 < index }
+    ensures order { IsTrue result → IsBefore last pair → ⊥ }
+    ensures not { result ≡ false → 0 < index → IsBefore last pair }
+{
+    index > 0 && !is_before(last, pair)
+}
+
+// How many entries of the node have tokens below this one. Entries up to the first other one have to rise.
+pub fn find_below(
+    file: FileName,
+    at: u64,
+    count: usize,
+    bytes: &[u8],
+    token: Token,
+) -> Result<Below, Damage>
+    requires whole { length bytes.now ≡ 8 + 16 * count }
+    requires most { count ≤ 255 }
+    requires place { at < 2 ^ 63 + 2 ^ 60 }
+    ensures ok { IfOk result (λ below. (level : ℕ) (entries : List Pair) → AreFit entries → IsRising entries → bytes.now ≡ node level entries → FindsBelow entries token below.count below.place) }
+    ensures within { IfOk result (λ below. below.count ≤ count) }
+    ensures seen { IfErr result (IsSeenIn file at bytes.now) }
+    ensures spares { IfErr result (λ _. (level : ℕ) (entries : List Pair) → AreFit entries → IsRising entries → bytes.now ≡ node level entries → ⊥) }
+{
+    let mut last = Pair { token: 0, place: 0 };
+    for index in 0..count {
+        let pair = entry_in(bytes, index);
+        if is_out_of_order(index, last, pair) {
+            let offset = HEAD + ENTRY * index;
+            let seen = &bytes[offset..offset + 8];
+            return Err(found(file, at + offset as u64, FormatRule::Order, seen));
+        }
+        if token <= pair.token {
+            return Ok(Below {
+                count: index,
+                place: last.place,
+            });
+        }
+        last = pair;
+    }
+    Ok(Below {
+        count,
+        place: last.place,
+    })
+}

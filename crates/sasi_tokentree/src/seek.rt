@@ -1,0 +1,100 @@
+// The first pair at or after a token, looked for from the root down.
+ghost use Rattle.std.specs.Prelude.{◌≡◌, ◌⊎◌, ◌+◌, ◌*◌, ◌^◌, ◌<◌, ◌≤◌, List, ℕ, length, IfErr, IfOk, OnOk, Some};
+ghost use Rattle.sasi_types.specs.declared.tree.Pair.{Pair};
+ghost use Rattle.sasi_host.specs.declared.name.FileName.{FileName};
+ghost use Rattle.sasi_host.specs.View.{IsThere, contents};
+ghost use Rattle.sasi_host.specs.Disk.{Changes, Same};
+ghost use Rattle.sasi_tokentree.specs.Format.{part};
+ghost use Rattle.sasi_tokentree.specs.Heights.{greatest, height, lead};
+ghost use Rattle.sasi_tokentree.specs.Reads.{FindsBelow, IsShown, ReadsAtMost, SparesLevel, StandsFrom};
+
+use crate::entries::Below;
+use crate::nodes::node_below;
+use crate::shape::{FULL, FULL_BYTES, level_size, node_count};
+use sasi_host::{FileName, Host, PageReader, ReadFault};
+use sasi_types::Token;
+
+// How many bytes the levels before the last one take.
+pub fn lead_size(count: usize) -> u64
+    requires { count ≤ 2 ^ 58 }
+    ensures is { (most : ℕ) → count ≤ most → result ≡ lead most count }
+    ensures short { result ≤ 17 * count }
+{
+    if count <= FULL {
+        return 0;
+    }
+    level_size(count) + lead_size(node_count(count))
+}
+
+// How many entries have tokens below this one, of a level that begins at this place, with those above it behind it.
+pub fn count_below<H: Host, P: PageReader>(
+    host: &mut H,
+    pages: &mut P,
+    file: FileName,
+    at: u64,
+    level: u8,
+    count: usize,
+    token: Token,
+) -> Result<Below, ReadFault>
+    requires there { IsThere (H.view host.old) file }
+    requires agrees { P.agrees pages.old (H.view host.old).files }
+    requires some { 0 < count }
+    requires most { count ≤ greatest level }
+    requires place { at + 17 * count < 2 ^ 63 + 2 ^ 60 }
+    ensures ok { IfOk result (λ below. (bytes : List ℕ) (entries : List Pair) → contents (H.view host.old) file ≡ Some bytes → StandsFrom bytes level at entries → length entries ≡ count
+        → FindsBelow entries token below.count below.place) }
+    ensures within { IfOk result (λ below. below.count ≤ count) }
+    ensures damaged { IfErr result (IsShown (H.view host.old) file) }
+    ensures undamaged { IfErr result (SparesLevel (H.view host.old) file level at count) }
+    ensures agrees { P.agrees pages.new (H.view host.new).files }
+    ensures covers { (name : FileName) → P.covers pages.new name → P.covers pages.old name ⊎ (name ≡ file) }
+    ensures changes { Changes Same (H.view host.old) (H.view host.new) }
+    ensures causes { (most : ℕ) → count ≤ most → ReadsAtMost (2 * height most count) (H.view host.old) (H.view host.new) result }
+{
+    if count <= FULL {
+        let below = node_below(host, pages, file, at, level, count, token)?;
+        return Ok(below);
+    }
+    let next = at + level_size(count);
+    let above = count_below(host, pages, file, next, level + 1, node_count(count), token)?;
+    if above.count == 0 {
+        return Ok(Below { count: 0, place: 0 });
+    }
+    let node = above.count - 1;
+    let below = count_in_node(host, pages, file, at, level, count, node, token)?;
+    Ok(Below {
+        count: FULL * node + below.count,
+        place: below.place,
+    })
+}
+
+// How many entries of one node of a level have tokens below this one.
+fn count_in_node<H: Host, P: PageReader>(
+    host: &mut H,
+    pages: &mut P,
+    file: FileName,
+    at: u64,
+    level: u8,
+    count: usize,
+    node: usize,
+    token: Token,
+) -> Result<Below, ReadFault>
+    requires there { IsThere (H.view host.old) file }
+    requires agrees { P.agrees pages.old (H.view host.old).files }
+    requires node { 255 * node < count }
+    requires place { at + 17 * count < 2 ^ 63 + 2 ^ 60 }
+    ensures ok { IfOk result (λ below. (bytes : List ℕ) (entries : List Pair) → contents (H.view host.old) file ≡ Some bytes → StandsFrom bytes level at entries → length entries ≡ count
+        → FindsBelow (part entries node) token below.count below.place) }
+    ensures within { IfOk result (λ below. 255 * node + below.count ≤ count) }
+    ensures damaged { IfErr result (IsShown (H.view host.old) file) }
+    ensures undamaged { IfErr result (SparesLevel (H.view host.old) file level at count) }
+    ensures agrees { P.agrees pages.new (H.view host.new).files }
+    ensures covers { (name : FileName) → P.covers pages.new name → P.covers pages.old name ⊎ (name ≡ file) }
+    ensures changes { Changes Same (H.view host.old) (H.view host.new) }
+    ensures causes { ReadsAtMost 2 (H.view host.old) (H.view host.new) result }
+{
+    let here = (count - FULL * node).min(FULL);
+    let place = at + FULL_BYTES * node as u64;
+    let below = node_below(host, pages, file, place, level, here, token)?;
+    Ok(below)
+}

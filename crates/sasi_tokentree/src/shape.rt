@@ -1,0 +1,37 @@
+// Where the parts of a level stand, by its number of entries.
+ghost use Rattle.std.specs.Prelude.{◌≡◌, ◌+◌, ◌*◌, ◌^◌, ◌<◌, ◌≤◌, length};
+ghost use Rattle.sasi_tokentree.specs.Format.{nodes, part, size};
+
+use sasi_types::Pair;
+
+/// The entries of a full node.
+pub const FULL: usize = 255;
+
+/// The bytes of a full node.
+pub const FULL_BYTES: u64 = 4088;
+
+// How many nodes so many entries take.
+pub fn node_count(entries: usize) -> usize
+    ensures { result ≡ nodes entries }
+{
+    entries / FULL + usize::from(entries % FULL != 0)
+}
+
+// The entries of a node.
+pub fn node_entries(entries: &[Pair], index: usize) -> &[Pair]
+    requires { 255 * index < length entries.now }
+    ensures is { result.now ≡ part entries.now index }
+    ensures some { 0 < length result.now }
+    ensures most { length result.now ≤ 255 }
+{
+    let rest = &entries[FULL * index..];
+    &rest[..rest.len().min(FULL)]
+}
+
+// How many bytes the nodes of so many entries take.
+pub fn level_size(entries: usize) -> u64
+    requires { size entries < 2 ^ 64 }
+    ensures { result ≡ size entries }
+{
+    16 * entries as u64 + 8 * node_count(entries) as u64
+}

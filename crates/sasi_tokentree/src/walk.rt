@@ -1,0 +1,142 @@
+// One pair of a tree after another.
+ghost use Rattle.std.specs.Prelude.{◌≡◌, ◌⊎◌, ◌+◌, ◌-◌, ◌*◌, ◌^◌, ◌<◌, ◌≤◌, List, ℕ, length, IfErr, IfOk, IsTrue, Some, false};
+ghost use Rattle.sasi_types.specs.declared.tree.Pair.{Pair};
+ghost use Rattle.sasi_host.specs.declared.name.FileName.{FileName};
+ghost use Rattle.sasi_host.specs.View.{IsThere, contents};
+ghost use Rattle.sasi_host.specs.Disk.{Changes, Same};
+ghost use Rattle.sasi_tokentree.specs.Format.{pair_at};
+ghost use Rattle.sasi_tokentree.specs.Heights.{height, lead};
+ghost use Rattle.sasi_tokentree.specs.Reads.{IsShown, ReadsAtMost, Spares, SparesPair, StandsFrom};
+ghost use Rattle.sasi_tokentree.specs.Walks.{GivesFrom, GivesNext};
+
+use crate::damage::too_short;
+use crate::entries::{ENTRY, HEAD, number_in};
+use crate::seek::{count_below, lead_size};
+use crate::shape::{FULL, FULL_BYTES};
+use crate::window::read_bytes;
+use sasi_host::{FileName, Host, PageReader, ReadFault};
+use sasi_types::{Pair, Token, TreeRef};
+
+// No file is longer.
+const LARGEST_FILE: u64 = 1 << 62;
+
+// No file has more pairs.
+const MOST_PAIRS: u64 = 1 << 58;
+
+// A pair, if there is one, and how many pairs are passed with it.
+#[derive(Clone, Copy)]
+pub struct Found {
+    pub pair: Option<Pair>,
+    pub passed: u64,
+}
+
+// Whether no file has room for the tree.
+fn is_too_long(tree: TreeRef) -> bool
+    ensures long { IsTrue result → (2 ^ 62 < tree.root) ⊎ (2 ^ 58 < tree.pairs) }
+    ensures root { result ≡ false → tree.root ≤ 2 ^ 62 }
+    ensures pairs { result ≡ false → tree.pairs ≤ 2 ^ 58 }
+{
+    tree.root > LARGEST_FILE || tree.pairs > MOST_PAIRS
+}
+
+// Where the first leaf of the tree stands.
+fn start_of(tree: TreeRef) -> u64
+    requires { tree.pairs ≤ 2 ^ 58 }
+    ensures is { result ≡ tree.root - lead tree.pairs tree.pairs }
+    ensures before { result ≤ tree.root }
+{
+    tree.root.saturating_sub(lead_size(tree.pairs as usize))
+}
+
+// The pair with this index, of leaves that begin at this place.
+fn read_pair<H: Host, P: PageReader>(
+    host: &mut H,
+    pages: &mut P,
+    file: FileName,
+    at: u64,
+    index: u64,
+) -> Result<Pair, ReadFault>
+    requires there { IsThere (H.view host.old) file }
+    requires agrees { P.agrees pages.old (H.view host.old).files }
+    requires place { at + 17 * index < 2 ^ 63 + 2 ^ 59 }
+    ensures ok { IfOk result (λ pair. (bytes : List ℕ) (entries : List Pair) → contents (H.view host.old) file ≡ Some bytes → StandsFrom bytes 0 at entries → index < length entries → pair ≡ pair_at entries index) }
+    ensures damaged { IfErr result (IsShown (H.view host.old) file) }
+    ensures undamaged { IfErr result (SparesPair (H.view host.old) file at index) }
+    ensures agrees { P.agrees pages.new (H.view host.new).files }
+    ensures covers { (name : FileName) → P.covers pages.new name → P.covers pages.old name ⊎ (name ≡ file) }
+    ensures changes { Changes Same (H.view host.old) (H.view host.new) }
+    ensures causes { ReadsAtMost 2 (H.view host.old) (H.view host.new) result }
+{
+    let node = at + FULL_BYTES * (index / FULL as u64);
+    let offset = HEAD as u64 + ENTRY as u64 * (index % FULL as u64);
+    let mut bytes = [0; ENTRY];
+    read_bytes(host, pages, file, node + offset, &mut bytes)?;
+    Ok(Pair {
+        token: number_in(&bytes[..8]),
+        place: number_in(&bytes[8..16]),
+    })
+}
+
+// The pair behind so many passed ones.
+pub fn pair_from<H: Host, P: PageReader>(
+    host: &mut H,
+    pages: &mut P,
+    file: FileName,
+    tree: TreeRef,
+    passed: u64,
+) -> Result<Found, ReadFault>
+    requires there { IsThere (H.view host.old) file }
+    requires agrees { P.agrees pages.old (H.view host.old).files }
+    ensures ok { IfOk result (λ found. GivesNext (H.view host.old) file tree passed found.passed found.pair) }
+    ensures damaged { IfErr result (IsShown (H.view host.old) file) }
+    ensures undamaged { IfErr result (Spares (H.view host.old) file tree) }
+    ensures agrees { P.agrees pages.new (H.view host.new).files }
+    ensures covers { (name : FileName) → P.covers pages.new name → P.covers pages.old name ⊎ (name ≡ file) }
+    ensures changes { Changes Same (H.view host.old) (H.view host.new) }
+    ensures causes { ReadsAtMost 2 (H.view host.old) (H.view host.new) result }
+{
+    if passed >= tree.pairs {
+        return Ok(Found { pair: None, passed });
+    }
+    if is_too_long(tree) {
+        return Err(too_short(host, file));
+    }
+    let pair = read_pair(host, pages, file, start_of(tree), passed)?;
+    Ok(Found {
+        pair: Some(pair),
+        passed: passed + 1,
+    })
+}
+
+// The first pair at or after the token.
+pub fn first_from<H: Host, P: PageReader>(
+    host: &mut H,
+    pages: &mut P,
+    file: FileName,
+    tree: TreeRef,
+    token: Token,
+) -> Result<Found, ReadFault>
+    requires there { IsThere (H.view host.old) file }
+    requires agrees { P.agrees pages.old (H.view host.old).files }
+    ensures ok { IfOk result (λ found. GivesFrom (H.view host.old) file tree token found.passed found.pair) }
+    ensures damaged { IfErr result (IsShown (H.view host.old) file) }
+    ensures undamaged { IfErr result (Spares (H.view host.old) file tree) }
+    ensures agrees { P.agrees pages.new (H.view host.new).files }
+    ensures covers { (name : FileName) → P.covers pages.new name → P.covers pages.old name ⊎ (name ≡ file) }
+    ensures changes { Changes Same (H.view host.old) (H.view host.new) }
+    ensures causes { (most : ℕ) → tree.pairs ≤ most → ReadsAtMost (2 * height most tree.pairs + 2) (H.view host.old) (H.view host.new) result }
+{
+    if tree.pairs == 0 {
+        return Ok(Found {
+            pair: None,
+            passed: 0,
+        });
+    }
+    if is_too_long(tree) {
+        return Err(too_short(host, file));
+    }
+    let start = start_of(tree);
+    let below = count_below(host, pages, file, start, 0, tree.pairs as usize, token)?;
+    let found = pair_from(host, pages, file, tree, below.count as u64)?;
+    Ok(found)
+}
