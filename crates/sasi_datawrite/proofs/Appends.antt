@@ -1,0 +1,42 @@
+-- Bytes written behind what a file holds.
+use Rattle.std.proofs.Common.{◌≡◌, ℕ, List, ◌+◌, ◌++◌, length, take, Some, sym, ◌∙◌, ap, subst, arith, append_assoc}
+use Rattle.std.proofs.lemmas.List.{append-nil, drop_all, take_all}
+use Rattle.std.specs.FinMap.{get}
+use Rattle.sasi_host.specs.declared.name.FileName.{FileName}
+use Rattle.sasi_host.specs.Names.{Bytes}
+use Rattle.sasi_host.specs.View.{View, Holds}
+use Rattle.sasi_host.specs.Disk.{Relation, Same, Changes, Step, InPlace, Anyhow, Becomes, overlay}
+use Rattle.sasi_host.specs.Contents.{told_before}
+use Rattle.sasi_host.specs.Moves.{changes_as, stays}
+use Rattle.sasi_types.specs.declared.tree.Pair.{Pair}
+use Rattle.sasi_types.specs.declared.tree.TreeRef.{TreeRef}
+use Rattle.sasi_tokentree.specs.Format.{tree_bytes, tree_ref}
+use Rattle.sasi_tokentree.specs.Writes.{Writes, IsPast}
+use Rattle.sasi_datawrite.specs.Format.{footer, ending}
+
+-- nothing was done yet
+pub untouched : (v : View) (file : FileName) → Changes (Step file Anyhow) v v
+untouched v file = changes_as v v Same (Step file Anyhow) (stays v) (λ x y same. record { others = λ name other. ap (λ d. get d name) same; this = tt })
+
+-- bytes over no bytes are behind the others
+pub overlay_behind : (old more : Bytes) → overlay old (length old) more ≡ old ++ more
+overlay_behind old more =
+    ap (λ (l : Bytes). take (length old) old ++ more ++ l) (drop_all (length old + length more) old (omega arith)) ∙ append-nil (take (length old) old ++ more)
+    ∙ ap (λ (l : Bytes). l ++ more) (take_all (length old) old (omega arith))
+
+-- what was written where the file ended is behind what it held
+pub holds_behind : (a b : View) (S : Relation) (file : FileName) (at : ℕ) (bytes more : Bytes) → Changes S a b → Becomes file (λ old. overlay old at more) a b → length bytes ≡ at → Holds a file bytes → Holds b file (bytes ++ more)
+holds_behind a b S file at bytes more change becomes is holds told =
+    becomes bytes (holds (told_before S a b change told)) ∙ ap (λ (l : Bytes). Some l) (ap (λ (n : ℕ). overlay bytes n more) (sym is) ∙ overlay_behind bytes more)
+
+-- a call that leaves the folder as it is
+pub touches_same : (a b : View) (file : FileName) → Changes Same a b → Changes (Step file Anyhow) a b
+touches_same a b file same = changes_as a b Same (Step file Anyhow) same (λ x y is. record { others = λ name other. ap (λ d. get d name) is; this = tt })
+
+-- the key tree and the footer are behind what the file held
+pub ending_written : (a b c : View) (file : FileName) (end : ℕ) (pairs : List Pair) (latest : ℕ) (tree : TreeRef) (more : Bytes) → Writes a b file end (tree_bytes end pairs) → tree ≡ tree_ref end pairs → more ≡ footer tree latest end
+    → ((bytes : Bytes) → Holds b file bytes → Holds c file (bytes ++ more)) → (bytes : Bytes) → length bytes ≡ end → Holds a file bytes → Holds c file (bytes ++ ending pairs latest end)
+ending_written a b c file end pairs latest tree more written referred is appended bytes at holds =
+    subst (λ (l : Bytes). Holds c file l) (append_assoc bytes (tree_bytes end pairs) (footer (tree_ref end pairs) latest end))
+    (subst (λ (l : Bytes). Holds c file (bytes ++ tree_bytes end pairs ++ l)) (is ∙ ap (λ (t : TreeRef). footer t latest end) referred)
+    (appended (bytes ++ tree_bytes end pairs) (holds_behind a b (Step file (InPlace (IsPast end))) file end bytes (tree_bytes end pairs) written.changes written.becomes at holds)))

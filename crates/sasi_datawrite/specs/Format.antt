@@ -1,0 +1,77 @@
+-- The bytes of a data file: a header, the partitions, the key tree and a footer.
+use Rattle.std.specs.Prelude.{ℕ, ◌+◌, ◌≤◌, max, List, [], ◌∷◌, ◌++◌, length, map}
+use Rattle.std.specs.Int.{to_be_bytes, w32, w64}
+use Rattle.std.specs.List.{flat_map, AllByRecursion}
+use Rattle.std.specs.List.Sorted.{IsStrictlySortedBy}
+use Rattle.sasi_types.specs.declared.partitioner.Partitioner.{Partitioner}
+use Rattle.sasi_types.specs.declared.place.Place.{Place}
+use Rattle.sasi_types.specs.declared.tree.Pair.{Pair}
+use Rattle.sasi_types.specs.declared.tree.TreeRef.{TreeRef}
+use Rattle.sasi_types.specs.Place.{place_cmp}
+use Rattle.sasi_types.specs.Token.{token_of}
+use Rattle.sasi_model.specs.Cells.{Partition, greatest_of}
+use Rattle.sasi_host.specs.Names.{Bytes}
+use Rattle.sasi_body.specs.Format.{body, HasBody}
+use Rattle.sasi_tokentree.specs.Format.{tree_bytes, tree_ref}
+
+-- ---- what a file holds
+
+-- keys and what was written of them
+abbrev pub Content : Type 0
+Content = List (Bytes × Partition)
+
+-- where a key stands in its table
+abbrev pub place_of : Partitioner → Bytes × Partition → Place
+place_of partitioner one = record { token = token_of partitioner one.0; key = one.0 }
+
+-- one partition at least, each with a body, rising by token and then by key
+pub record IsContent (partitioner : Partitioner) (content : Content) : Type 0 where
+  pub some : 1 ≤ length content
+  pub rising : IsStrictlySortedBy place_cmp (map (place_of partitioner) content)
+  pub bodies : AllByRecursion (λ one. HasBody one.0 one.1) content
+
+-- the greatest time of a deletion or a cell
+abbrev pub greatest : Content → ℕ
+greatest [] = 0
+greatest (one ∷ others) = max (greatest_of one.1) (greatest others)
+
+-- ---- the parts of a file
+
+-- "SASIDAT1", the version 1 and 0
+unfoldable pub header : Bytes
+header = (83 ∷ 65 ∷ 83 ∷ 73 ∷ 68 ∷ 65 ∷ 84 ∷ 49 ∷ []) ++ to_be_bytes w32 1 ++ to_be_bytes w32 0
+
+-- a partition: the length of its body, and the body
+unfoldable pub partition_bytes : Bytes → Partition → Bytes
+partition_bytes key part = to_be_bytes w32 (length (body key part)) ++ body key part
+
+-- the partitions, one behind another
+abbrev pub partitions : Content → Bytes
+partitions = flat_map (λ one. partition_bytes one.0 one.1)
+
+-- what stands in front of the key tree
+abbrev pub front : Content → Bytes
+front content = header ++ partitions content
+
+-- the token of each key with the place of its partition, where the first one begins at this place
+abbrev pub pairs_from : Partitioner → ℕ → Content → List Pair
+pairs_from partitioner at [] = []
+pairs_from partitioner at (one ∷ others) = record { token = token_of partitioner one.0; place = at } ∷ pairs_from partitioner (at + length (partition_bytes one.0 one.1)) others
+
+-- the pairs of the key tree
+abbrev pub key_pairs : Partitioner → Content → List Pair
+key_pairs partitioner content = pairs_from partitioner (length header) content
+
+-- the root of the key tree, the number of partitions, the greatest time, the place where the partitions end, and "SASIDEND"
+unfoldable pub footer : TreeRef → ℕ → ℕ → Bytes
+footer tree latest end = to_be_bytes w64 tree.root ++ to_be_bytes w64 tree.pairs ++ to_be_bytes w64 latest ++ to_be_bytes w64 end ++ (83 ∷ 65 ∷ 83 ∷ 73 ∷ 68 ∷ 69 ∷ 78 ∷ 68 ∷ [])
+
+-- the key tree of these pairs behind so many bytes, and the footer
+abbrev pub ending : List Pair → ℕ → ℕ → Bytes
+ending pairs latest end = tree_bytes end pairs ++ footer (tree_ref end pairs) latest end
+
+-- ---- the file
+
+-- the one spelling of this content
+unfoldable pub data_bytes : Partitioner → Content → Bytes
+data_bytes partitioner content = front content ++ ending (key_pairs partitioner content) (greatest content) (length (front content))

@@ -1,0 +1,6 @@
+pub mod Format
+pub mod Files
+pub mod Calls
+pub mod Writing
+pub mod Causes
+pub mod Laws
