@@ -1,0 +1,56 @@
+// A data file of many partitions in a real folder, to be measured: it is written, and then walked or asked for each of its
+// keys. The words are the folder, the number of partitions, and write, walk or find; what is printed is how many partitions
+// were given and how many pages were read.
+#![tactic(auto)]
+
+mod content;
+mod counted;
+mod measured;
+
+use counted::Counted;
+use measured::{FILE, find_all, walk_all, write_all};
+use sasi_dataread::DataFile;
+use sasi_datawrite::PairFault;
+use sasi_filehost::FileHost;
+use std::env;
+use std::env::Env;
+use std::process::ExitCode;
+
+fn run(rt: HostRuntime, folder: &str, count: u64, what: &str) -> Result<(u64, u64), PairFault> {
+    let alloc = rt.alloc();
+    let mut host = FileHost::at(rt, folder)?;
+    write_all(alloc, &mut host, count)?;
+    let mut pages = Counted { pages: 0 };
+    let opened = DataFile::open(alloc, &mut host, &mut pages, FILE, &content::types(alloc)?)?;
+    let given = match what {
+        "walk" => walk_all(alloc, &mut host, &mut pages, &opened)?,
+        "find" => find_all(alloc, &mut host, &mut pages, &opened)?,
+        _ => 0,
+    };
+    Ok((given, pages.pages))
+}
+
+// The words behind the program's own.
+fn words<R: Env + AllocGlobal>(rt: &R) -> Option<Vec<String>> {
+    let args = env::args(rt).ok()?;
+    args.skip(1).collect(rt.alloc()).ok()
+}
+
+fn main(rt: HostRuntime) -> ExitCode {
+    let Some(words) = words(&rt) else {
+        return ExitCode::from(2);
+    };
+    let [folder, count, what] = words.as_slice() else {
+        return ExitCode::from(2);
+    };
+    let Ok(count) = count.parse::<u64>() else {
+        return ExitCode::from(2);
+    };
+    match run(rt, folder, count, what) {
+        Ok((given, pages)) => {
+            let _ = println!(rt; "{given} partitions, {pages} pages");
+            ExitCode::from(0)
+        }
+        Err(_) => ExitCode::from(1),
+    }
+}

@@ -1,0 +1,100 @@
+// A data file written, walked, and asked for each of its keys.
+ghost use Rattle.std.specs.Prelude.{◌≡◌, ◌≤◌, IfOk, OnOk, IsTrue, length};
+ghost use Rattle.sasi_types.specs.declared.partitioner.Partitioner.TheVariants.{Lead8};
+ghost use Rattle.sasi_datawrite.specs.Writing.{last_pair};
+
+use crate::content::{body, types};
+use crate::counted::Counted;
+use sasi_body::read_body;
+use sasi_dataread::DataFile;
+use sasi_datawrite::{DataRef, DataWriter, NoWatch, PairFault};
+use sasi_filehost::FileHost;
+use sasi_host::{FileName, Kind, ReadFault};
+use sasi_types::{Key, Partitioner, Token, TypeList};
+use std::alloc::Global;
+
+const NUMBER: u32 = 1;
+
+/// The data file that is measured.
+pub const FILE: FileName = FileName {
+    kind: Kind::Data,
+    number: NUMBER,
+    index: 0,
+    part: 0,
+};
+
+// Pushes the partition with this number, and gives its token.
+fn push(
+    alloc: Global,
+    host: &mut FileHost,
+    writer: &mut DataWriter,
+    types: &TypeList,
+    last: Token,
+    number: u64,
+) -> Result<Token, PairFault>
+    requires last { (last_pair writer.old.pairs).token ≤ last }
+    requires partitioner { writer.old.partitioner ≡ Lead8 }
+    requires usable { IsTrue writer.old.usable }
+    ensures last { IfOk result (λ token. (last_pair writer.new.pairs).token ≤ token) }
+    ensures partitioner { writer.new.partitioner ≡ Lead8 }
+    ensures usable { OnOk result (IsTrue writer.new.usable) }
+    ensures some { OnOk result (1 ≤ length writer.new.pairs) }
+{
+    let Ok((key, part)) = read_body(alloc, &body(alloc, number)?, types) else {
+        return Err(PairFault::Failed);
+    };
+    let token = Partitioner::Lead8.token(key.bytes());
+    if token < last {
+        return Err(PairFault::Failed);
+    }
+    writer.push(host, &mut NoWatch, &key, &part)?;
+    Ok(token)
+}
+
+/// Writes a file of so many partitions, and one more.
+pub fn write_all(alloc: Global, host: &mut FileHost, count: u64) -> Result<DataRef, PairFault> {
+    let types = types(alloc)?;
+    let mut writer = DataWriter::begin(alloc, host, NUMBER, Partitioner::Lead8)?;
+    let mut last = push(alloc, host, &mut writer, &types, 0, 0)?;
+    for number in 1..count {
+        last = push(alloc, host, &mut writer, &types, last, number)?;
+    }
+    Ok(writer.finish(host)?)
+}
+
+/// How many partitions a walk gives.
+pub fn walk_all(
+    alloc: Global,
+    host: &mut FileHost,
+    pages: &mut Counted,
+    opened: &DataFile,
+) -> Result<u64, ReadFault> {
+    let mut walk = opened.walk(alloc)?;
+    let mut count = 0u64;
+    for _turn in 0..u64::MAX {
+        if walk.next(alloc, host, pages)?.is_none() {
+            break;
+        }
+        count = count.saturating_add(1);
+    }
+    Ok(count)
+}
+
+/// How many of the keys are found.
+pub fn find_all(
+    alloc: Global,
+    host: &mut FileHost,
+    pages: &mut Counted,
+    opened: &DataFile,
+) -> Result<u64, ReadFault> {
+    let mut count = 0u64;
+    for number in 0..opened.partitions() {
+        let Ok(key) = Key::new(alloc, &number.to_be_bytes()) else {
+            return Err(ReadFault::OutOfMemory);
+        };
+        if opened.find(alloc, host, pages, number, &key)?.is_some() {
+            count = count.saturating_add(1);
+        }
+    }
+    Ok(count)
+}

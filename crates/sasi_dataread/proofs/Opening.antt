@@ -1,0 +1,82 @@
+-- A data file that was opened: what its footer and its partitions say of its content.
+use Rattle.std.proofs.Common.{◌≡◌, ℕ, ◌+◌, ◌-◌, ◌^◌, ◌<◌, ◌≤◌, List, ◌++◌, [], length, take, drop, sym, ◌∙◌, ap, arith, Some, IfOk, IfErr}
+use Rattle.std.specs.declared.result.Result.{Result}
+use Rattle.std.specs.declared.result.Result.TheVariants.{Ok, Err}
+use Rattle.sasi_host.specs.declared.fault.ReadFault.{ReadFault}
+use Rattle.sasi_host.specs.declared.fault.ReadFault.TheVariants as fault
+use Rattle.sasi_host.specs.Names.{Bytes}
+use Rattle.sasi_host.specs.View.{View, contents}
+use Rattle.sasi_types.specs.declared.column.ColumnType.{ColumnType}
+use Rattle.sasi_types.specs.declared.partitioner.Partitioner.{Partitioner}
+use Rattle.sasi_types.specs.declared.tree.TreeRef.{TreeRef}
+use Rattle.sasi_model.specs.Cells.{Partition}
+use Rattle.sasi_body.specs.Format.{body}
+use Rattle.sasi_body.specs.Typed.{IsBodyOf}
+use Rattle.sasi_body.specs.Laws.Same.{bodies_same}
+use Rattle.sasi_body.specs.Laws.Lengths.{body_short}
+use Rattle.sasi_tokentree.specs.Reads.{HasAt}
+use Rattle.sasi_datawrite.specs.Format.{Content, footer, front, greatest}
+use Rattle.sasi_datawrite.specs.Files.{IsDataFile}
+use Rattle.sasi_dataread.specs.Opened.{Opened, StandsAt}
+use Rattle.sasi_dataread.specs.Reads.{Gives, IsOpenOn, SparesPlace}
+use Rattle.sasi_dataread.specs.Bodies.{sized, cost, SparesBody}
+use Rattle.sasi_dataread.specs.Laws.{AreInRange, in_range, tree_of, footer_of, footer_length, footer_stands, partition_stands, partition_typed, partition_within}
+use Rattle.sasi_dataread.specs.Frames.{IsFramed}
+use Rattle.sasi_dataread.proofs.Windows.{same_at, same_64}
+use Rattle.sasi_dataread.proofs.Bodies.{sized_same}
+use Rattle.sasi_dataread.proofs.Framing.{footer_root, footer_pairs, footer_latest, footer_end}
+
+-- ---- the footer
+
+-- the same footers tell the same
+footers_same : (a b : TreeRef) (x y d e : ℕ) → a.root < 2 ^ 64 → a.pairs < 2 ^ 64 → x < 2 ^ 64 → d < 2 ^ 64 → b.root < 2 ^ 64 → b.pairs < 2 ^ 64 → y < 2 ^ 64 → e < 2 ^ 64 → footer a x d ≡ footer b y e → (a ≡ b) × (x ≡ y) × (d ≡ e)
+footers_same a b x y d e a_root a_pairs x_fits d_fits b_root b_pairs y_fits e_fits same =
+    let root : a.root ≡ b.root = same_64 a.root b.root a_root b_root (sym (footer_root a x d) ∙ ap (λ (l : Bytes). take 8 (drop 0 l)) same ∙ footer_root b y e) in
+    let pairs : a.pairs ≡ b.pairs = same_64 a.pairs b.pairs a_pairs b_pairs (sym (footer_pairs a x d) ∙ ap (λ (l : Bytes). take 8 (drop 8 l)) same ∙ footer_pairs b y e) in (
+      ap (λ (n : ℕ). record { root = n; pairs = a.pairs }) root ∙ ap (λ (n : ℕ). record { root = b.root; pairs = n }) pairs,
+      same_64 x y x_fits y_fits (sym (footer_latest a x d) ∙ ap (λ (l : Bytes). take 8 (drop 16 l)) same ∙ footer_latest b y e),
+      same_64 d e d_fits e_fits (sym (footer_end a x d) ∙ ap (λ (l : Bytes). take 8 (drop 24 l)) same ∙ footer_end b y e),
+    )
+
+-- what the footer of a data file tells
+pub frame_tells : (partitioner : Partitioner) (types : List ColumnType) (bytes : Bytes) (content : Content) (tree : TreeRef) (latest end : ℕ) → IsDataFile partitioner types bytes content → IsFramed bytes tree latest end → AreInRange (length bytes) tree latest end → length bytes ≤ 2 ^ 62
+    → (tree ≡ tree_of partitioner content) × (latest ≡ greatest content) × (end ≡ length (front content))
+frame_tells partitioner types bytes content tree latest end of framed read short =
+    let ranges = in_range partitioner types bytes content of short in
+    footers_same tree (tree_of partitioner content) latest (greatest content) end (length (front content)) read.root read.pairs read.latest_fits read.end_fits ranges.root ranges.pairs ranges.latest_fits ranges.end_fits
+    (same_at bytes (length bytes - 40) (footer tree latest end) (footer_of partitioner content) framed.ends (footer_stands partitioner types bytes content of) (footer_length tree latest end ∙ sym (footer_length (tree_of partitioner content) (greatest content) (length (front content)))))
+
+-- ---- a partition
+
+-- what was read is what stands there
+pub gives_at : (v : View) (opened : Opened) (place : ℕ) (key : Bytes) (part : Partition) → IsBodyOf opened.types key part → ((bytes : Bytes) → contents v opened.file ≡ Some bytes → HasAt bytes place (sized (body key part))) → Gives v opened place key part
+gives_at v opened place key part of stands partitioner content k p is at =
+    let typed = partition_typed partitioner opened.types is.bytes content place k p is.data_file at in
+    let same : body key part ≡ body k p =
+    sized_same is.bytes place (body key part) (body k p) (omega (arith, body_short key part of.has)) (omega (arith, body_short k p typed.has)) (stands is.bytes is.reads) (partition_stands partitioner opened.types is.bytes content place k p is.data_file at)
+    in
+    let both = bodies_same opened.types key k part p [] [] of typed (ap (λ (l : Bytes). l ++ []) same) in
+    (both.0, both.1)
+
+pub spares_at : (v : View) (opened : Opened) (place : ℕ) (f : ReadFault) → SparesBody v opened.file opened.types opened.end place f → SparesPlace v opened place f
+spares_at v opened place fault.Failed spares = tt
+spares_at v opened place fault.OutOfMemory spares = tt
+spares_at v opened place (fault.Damaged damage) spares = λ partitioner content key part is at.
+    spares is.bytes key part is.reads (partition_stands partitioner opened.types is.bytes content place key part is.data_file at) (partition_typed partitioner opened.types is.bytes content place key part is.data_file at)
+    (omega (arith, partition_within content place key part at, is.of.end))
+
+pub reads_at : (v : View) (opened : Opened) (place reads : ℕ) → ((bytes part : Bytes) → contents v opened.file ≡ Some bytes → HasAt bytes place (sized part) → length part < 2 ^ 32 → reads ≤ v.reads + cost place (length part))
+    → (partitioner : Partitioner) (content : Content) (key : Bytes) (part : Partition) → IsOpenOn v opened partitioner content → StandsAt content place key part → reads ≤ v.reads + cost place (length (body key part))
+reads_at v opened place reads bound partitioner content key part is at =
+    bound is.bytes (body key part) is.reads (partition_stands partitioner opened.types is.bytes content place key part is.data_file at)
+    (omega (arith, body_short key part (partition_typed partitioner opened.types is.bytes content place key part is.data_file at).has))
+
+-- the same of a call's whole result
+pub at_ok : (v : View) (opened : Opened) (place : ℕ) (result : Result (Bytes × Partition) ReadFault) → IfOk result (λ read. IsBodyOf opened.types read.0 read.1) → IfOk result (λ read. (bytes : Bytes) → contents v opened.file ≡ Some bytes → HasAt bytes place (sized (body read.0 read.1)))
+    → IfOk result (λ read. Gives v opened place read.0 read.1)
+at_ok v opened place (Ok read) of stands = gives_at v opened place read.0 read.1 of stands
+at_ok v opened place (Err f) of stands = tt
+
+pub at_undamaged : (v : View) (opened : Opened) (place : ℕ) (result : Result (Bytes × Partition) ReadFault) → IfErr result (SparesBody v opened.file opened.types opened.end place) → IfErr result (SparesPlace v opened place)
+at_undamaged v opened place (Ok read) spares = tt
+at_undamaged v opened place (Err f) spares = spares_at v opened place f spares

@@ -1,0 +1,64 @@
+-- Partitions that the key tree leads to.
+use Rattle.std.proofs.Common.{◌≡◌, ℕ, ◌^◌, ◌≤◌, ◌∷◌, length, drop, sym, ◌∙◌, ap, subst, Option, Some}
+use Rattle.sasi_host.specs.declared.name.FileName.{FileName}
+use Rattle.sasi_host.specs.declared.fault.ReadFault.{ReadFault}
+use Rattle.sasi_host.specs.declared.fault.ReadFault.TheVariants as fault
+use Rattle.sasi_host.specs.Names.{Bytes}
+use Rattle.sasi_host.specs.View.{View, contents}
+use Rattle.sasi_host.specs.Disk.{Changes, Same}
+use Rattle.sasi_host.specs.Contents.{contents_same}
+use Rattle.sasi_types.specs.declared.partitioner.Partitioner.{Partitioner}
+use Rattle.sasi_types.specs.declared.tree.Pair.{Pair}
+use Rattle.sasi_types.specs.declared.tree.TreeRef.{TreeRef}
+use Rattle.sasi_types.specs.Token.{token_of}
+use Rattle.sasi_model.specs.Cells.{Partition}
+use Rattle.sasi_tokentree.specs.Format.{HasTree}
+use Rattle.sasi_tokentree.specs.Reads.{Spares}
+use Rattle.sasi_tokentree.specs.Walks.{GivesNext, TakesNext}
+use Rattle.sasi_datawrite.specs.Format.{Content, header, key_pairs}
+use Rattle.sasi_dataread.specs.Opened.{Opened}
+use Rattle.sasi_dataread.specs.Reads.{Gives, IsOpenOn, SparesPlace}
+use Rattle.sasi_dataread.specs.Walks.{HaveTokens, SparesOpened}
+use Rattle.sasi_dataread.specs.Pairs.{has_tree, nth, nth_stands, nth_token, left_behind}
+
+-- no file is longer
+abbrev pub IsShort : View → FileName → Type 0
+IsShort v file = (bytes : Bytes) → contents v file ≡ Some bytes → length bytes ≤ 2 ^ 62
+
+pub open_same : (a b : View) (opened : Opened) (partitioner : Partitioner) (content : Content) → Changes Same a b → IsOpenOn a opened partitioner content → IsOpenOn b opened partitioner content
+open_same a b opened partitioner content same is = record { bytes = is.bytes; reads = contents_same a b opened.file same ∙ is.reads; data_file = is.data_file; of = is.of }
+
+-- the tree that one reads is the key tree
+pub tree_there : (v : View) (opened : Opened) (tree : TreeRef) → tree ≡ opened.tree → IsShort v opened.file → (partitioner : Partitioner) (content : Content) (is : IsOpenOn v opened partitioner content) → HaveTokens partitioner content → HasTree is.bytes tree (key_pairs partitioner content)
+tree_there v opened tree tree_is short partitioner content is have =
+    subst (λ (t : TreeRef). HasTree is.bytes t (key_pairs partitioner content)) (sym tree_is) (has_tree v opened partitioner content is have (short is.bytes is.reads))
+
+pub next_takes : (v : View) (opened : Opened) (file : FileName) (tree : TreeRef) (before after : ℕ) (found : Option Pair) → file ≡ opened.file → tree ≡ opened.tree → IsShort v opened.file → GivesNext v file tree before after found
+    → (partitioner : Partitioner) (content : Content) → IsOpenOn v opened partitioner content → HaveTokens partitioner content → TakesNext (key_pairs partitioner content) before after found
+next_takes v opened file tree before after found file_is tree_is short gives partitioner content is have =
+    gives is.bytes (key_pairs partitioner content) (ap (λ (f : FileName). contents v f) file_is ∙ is.reads) (tree_there v opened tree tree_is short partitioner content is have)
+
+pub tree_spares : (v : View) (opened : Opened) (file : FileName) (tree : TreeRef) (f : ReadFault) → file ≡ opened.file → tree ≡ opened.tree → IsShort v opened.file → Spares v file tree f → SparesOpened v opened f
+tree_spares v opened file tree fault.Failed file_is tree_is short spares = tt
+tree_spares v opened file tree fault.OutOfMemory file_is tree_is short spares = tt
+tree_spares v opened file tree (fault.Damaged damage) file_is tree_is short spares = λ partitioner content is have.
+    spares is.bytes (key_pairs partitioner content) (ap (λ (f : FileName). contents v f) file_is ∙ is.reads) (tree_there v opened tree tree_is short partitioner content is have)
+
+-- what stands at the place of a pair is the next partition
+pub took_partition : (v w : View) (opened : Opened) (before after : ℕ) (pair : Pair) (key : Bytes) (part : Partition) (partitioner : Partitioner) (content : Content) → IsOpenOn v opened partitioner content → Changes Same v w
+    → TakesNext (key_pairs partitioner content) before after (Some pair) → Gives w opened pair.place key part → (drop before content ≡ (key, part) ∷ drop after content) × (pair.token ≡ token_of partitioner key)
+took_partition v w opened before after pair key part partitioner content is change took gives =
+    let n = nth partitioner (length header) content before pair (drop after (key_pairs partitioner content)) took in
+    let same = gives partitioner content n.one.0 n.one.1 (open_same v w opened partitioner content change is) (nth_stands partitioner content before pair n) in
+    let one : n.one ≡ (key, part) = ap (λ (k : Bytes). (k, n.one.1)) (sym same.0) ∙ ap (λ (p : Partition). (key, p)) (sym same.1) in (
+      n.left ∙ ap (λ (l : Content). n.one ∷ l) (left_behind partitioner content before after pair took) ∙ ap (λ (o : Bytes × Partition). o ∷ drop after content) one,
+      nth_token partitioner (length header) content before pair n ∙ ap (λ (k : Bytes). token_of partitioner k) (sym same.0),
+    )
+
+pub place_spares : (v w : View) (opened : Opened) (before after : ℕ) (pair : Pair) (f : ReadFault) → ((partitioner : Partitioner) (content : Content) → IsOpenOn v opened partitioner content → HaveTokens partitioner content → TakesNext (key_pairs partitioner content) before after (Some pair))
+    → Changes Same v w → SparesPlace w opened pair.place f → SparesOpened v opened f
+place_spares v w opened before after pair fault.Failed takes change spares = tt
+place_spares v w opened before after pair fault.OutOfMemory takes change spares = tt
+place_spares v w opened before after pair (fault.Damaged damage) takes change spares = λ partitioner content is have.
+    let n = nth partitioner (length header) content before pair (drop after (key_pairs partitioner content)) (takes partitioner content is have) in
+    spares partitioner content n.one.0 n.one.1 (open_same v w opened partitioner content change is) (nth_stands partitioner content before pair n)

@@ -1,0 +1,28 @@
+use Rattle.std.proofs.Common.{◌≡◌, ◌⊎◌, ◌+◌, ◌*◌, ◌≤◌, ℕ, length}
+use Rattle.sasi_types.specs.declared.partitioner.Partitioner.{Partitioner}
+use Rattle.sasi_host.specs.declared.name.FileName.{FileName}
+use Rattle.sasi_host.specs.View.{IsThere}
+use Rattle.sasi_host.specs.Disk.{Changes, Same}
+use Rattle.sasi_tokentree.specs.Heights.{height}
+use Rattle.sasi_datawrite.specs.Format.{Content, header}
+use Rattle.sasi_dataread.specs.Reads.{IsOpenOn, Passes}
+use Rattle.sasi_dataread.specs.Walks.{HaveTokens}
+use Rattle.sasi_dataread.specs.Finds.{token_cost}
+use Rattle.sasi_dataread.proofs.Finding.{Searches}
+use Rattle.sasi_dataread.proofs.find.find_partition.Given as goal
+
+abbrev pub invariant-loop-turn : goal.invariant-loop-turn
+invariant-loop-turn g l =
+    let view = g.H.Host.view in
+    let pairs = l.opened.tree.pairs in
+    record {
+      there : IsThere (view l.host) l.opened.file;
+      agrees : g.P.PageReader.agrees l.pages (view l.host).files;
+      covers : (name : FileName) → g.P.PageReader.covers l.pages name → g.P.PageReader.covers l.fn.pages name ⊎ (name ≡ l.opened.file);
+      changes : Changes Same (view l.fn.host) (view l.host);
+      passes : (most : ℕ) → pairs ≤ most → Passes (2 * height most pairs + 2 + 2053 * l._turn) (view l.fn.host) (view l.host);
+      file : l.tree.file ≡ l.opened.file;
+      tree : l.tree.tree ≡ l.opened.tree;
+      searches : (most : ℕ) (partitioner : Partitioner) (content : Content) → pairs ≤ most → IsOpenOn (view l.fn.host) l.opened partitioner content → HaveTokens partitioner content
+          → Searches partitioner content l.token l.key l._turn l.tree.passed l.next (view l.host).reads ((view l.fn.host).reads + (2 * height most pairs + 2 + token_cost partitioner l.token (length header) content));
+    }

@@ -1,0 +1,26 @@
+use Rattle.std.proofs.Common.{◌≡◌, arith}
+use Rattle.sasi_dataread.proofs.Framing.{seen_in, footer_is, footer_end, footer_pairs, field_same}
+use Rattle.sasi_dataread.proofs.frame.footer_in.Goals as goal
+
+pub returns-then-is_wrong_end-clause-seen : goal.returns-then-is_wrong_end-clause-seen
+returns-then-is_wrong_end-clause-seen c =
+    seen_in c.args.file c.args.at c.args.bytes.now 24 8 c.found.result (omega (arith, c.requires.whole)) c.found.ensures.file c.found.ensures.at c.found.ensures.seen
+
+pub returns-then-is_wrong_end-clause-spares : goal.returns-then-is_wrong_end-clause-spares
+returns-then-is_wrong_end-clause-spares c tree latest end is ranges =
+    let same : c.number_in-end.result ≡ end = field_same c.args.bytes.now _ 24 c.number_in-end.result end (omega arith) ranges.end_fits c.number_in-end.ensures is (footer_end tree latest end) in
+    let over = c.is_wrong_end.ensures.wrong c.if-is_wrong_end.true (omega (arith, same, ranges.behind)) in
+    omega (arith, over, same, ranges.within)
+
+pub returns-then-pairs-eq0-clause-seen : goal.returns-then-pairs-eq0-clause-seen
+returns-then-pairs-eq0-clause-seen c =
+    seen_in c.args.file c.args.at c.args.bytes.now 8 8 c.found-then-pairs-eq0.result (omega (arith, c.requires.whole)) c.found-then-pairs-eq0.ensures.file c.found-then-pairs-eq0.ensures.at c.found-then-pairs-eq0.ensures.seen
+
+pub returns-then-pairs-eq0-clause-spares : goal.returns-then-pairs-eq0-clause-spares
+returns-then-pairs-eq0-clause-spares c tree latest end is ranges =
+    let same : c.number_in-pairs.result ≡ tree.pairs = field_same c.args.bytes.now _ 8 c.number_in-pairs.result tree.pairs (omega arith) ranges.pairs c.number_in-pairs.ensures is (footer_pairs tree latest end) in
+    omega (arith, same, ranges.some)
+
+pub returns-clause-ok : goal.returns-clause-ok
+returns-clause-ok c =
+    footer_is c.args.bytes.now (record { root = c.number_in-root.result; pairs = c.number_in-pairs.result }) c.number_in-latest.result c.number_in-end.result c.requires.whole c.number_in-root.ensures c.number_in-pairs.ensures c.number_in-latest.ensures c.number_in-end.ensures c.requires.mark

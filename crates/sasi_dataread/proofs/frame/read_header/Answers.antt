@@ -1,0 +1,25 @@
+use Rattle.std.proofs.Common.{ℕ, List, ◌∙◌, subst}
+use Rattle.std.proofs.lemmas.Result.{err_from_is_err_and}
+use Rattle.sasi_tokentree.specs.Reads.{HasAt}
+use Rattle.sasi_dataread.proofs.Windows.{window_at}
+use Rattle.sasi_dataread.proofs.Framing.{window_seen, run_header, header_read}
+use Rattle.sasi_dataread.proofs.frame.read_header.Goals as goal
+
+pub returns-in_err-bytes-clause-undamaged : goal.returns-in_err-bytes-clause-undamaged
+returns-in_err-bytes-clause-undamaged g c =
+    let p = err_from_is_err_and c.from_residual.result c.from_residual.ensures.1 in
+    rw (p.1, p.2) (run_header (g.H.Host.view c.args.host.now) c.args.file c.in_err-bytes.field-0.0 c.in_err-bytes.ensures.short)
+
+pub returns-in_err-check_header-clause-damaged : goal.returns-in_err-check_header-clause-damaged
+returns-in_err-check_header-clause-damaged g c =
+    let p = err_from_is_err_and c.from_residual-in_err-check_header.result c.from_residual-in_err-check_header.ensures.1 in
+    rw (p.1, p.2) (λ bytes is. window_seen c.args.file bytes 0 c.deref.result.now c.in_err-check_header.field-0.0 (window_at bytes c.deref.result.now 0 16 (c.deref.ensures.value ∙ c.in_ok-bytes.ensures.ok bytes is) (c.in_ok-bytes.ensures.within bytes is)) c.in_err-check_header.ensures.seen)
+
+pub returns-in_err-check_header-clause-undamaged : goal.returns-in_err-check_header-clause-undamaged
+returns-in_err-check_header-clause-undamaged g c =
+    let p = err_from_is_err_and c.from_residual-in_err-check_header.result c.from_residual-in_err-check_header.ensures.1 in
+    rw (p.1, p.2) (λ bytes is has. c.in_err-check_header.ensures.differs (header_read bytes c.deref.result.now (c.deref.ensures.value ∙ c.in_ok-bytes.ensures.ok bytes is) has))
+
+pub returns-clause-ok : goal.returns-clause-ok
+returns-clause-ok g c bytes is =
+    subst (λ (l : List ℕ). HasAt bytes 0 l) c.in_ok-check_header.ensures.ok (window_at bytes c.deref.result.now 0 16 (c.deref.ensures.value ∙ c.in_ok-bytes.ensures.ok bytes is) (c.in_ok-bytes.ensures.within bytes is))

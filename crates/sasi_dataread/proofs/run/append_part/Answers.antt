@@ -1,0 +1,17 @@
+use Rattle.std.proofs.Common.{◌≡◌, ◌+◌, ◌-◌, ◌%◌, ◌++◌, ℕ, List, take, drop, ap, ◌∙◌, arith}
+use Rattle.sasi_host.specs.Disk.{Same}
+use Rattle.sasi_host.specs.Moves.{then_same}
+use Rattle.sasi_dataread.proofs.Runs.{page_gives, size_shown}
+use Rattle.sasi_dataread.proofs.run.append_part.Goals as goal
+
+pub returns-then-filled-end-clause-damaged : goal.returns-then-filled-end-clause-damaged
+returns-then-filled-end-clause-damaged g c = size_shown _ _ c.args.file c.too_short.result c.page.ensures.changes c.too_short.ensures.damaged c.too_short.ensures.file
+
+pub returns-then-filled-end-clause-changes : goal.returns-then-filled-end-clause-changes
+returns-then-filled-end-clause-changes g c = then_same _ _ _ Same c.page.ensures.changes c.too_short.ensures.changes
+
+pub returns-clause-ok : goal.returns-clause-ok
+returns-clause-ok g c bytes is =
+    let n : c.args.at % 4096 + c.args.count - c.args.at % 4096 ≡ c.args.count = omega arith in
+    c.in_ok-append.ensures
+    ∙ ap (λ (l : List ℕ). c.args.out.now.items ++ l) (ap (λ (k : ℕ). take k (drop (c.args.at % 4096) c.page.new.out)) n ∙ page_gives bytes _ c.page.new.out c.args.at c.in_ok-filled.filled c.args.count (c.in_ok-filled.ensures.ok bytes is) (omega arith))

@@ -1,0 +1,48 @@
+-- Bodies in a data file, each behind its length.
+use Rattle.std.specs.Prelude.{◌≡◌, ℕ, ◌+◌, ◌^◌, ◌<◌, ◌≤◌, List, ◌++◌, length, Some}
+use Rattle.std.specs.Int.{to_be_bytes, w32}
+use Rattle.sasi_types.specs.declared.column.ColumnType.{ColumnType}
+use Rattle.sasi_model.specs.Cells.{Partition}
+use Rattle.sasi_host.specs.declared.name.FileName.{FileName}
+use Rattle.sasi_host.specs.declared.fault.ReadFault.{ReadFault}
+use Rattle.sasi_host.specs.Names.{Bytes}
+use Rattle.sasi_host.specs.Damages.{OnDamage}
+use Rattle.sasi_host.specs.View.{View, contents}
+use Rattle.sasi_body.specs.declared.fault.BodyFault.{BodyFault}
+use Rattle.sasi_body.specs.declared.fault.BodyFault.TheVariants as fault
+use Rattle.sasi_body.specs.Format.{body}
+use Rattle.sasi_body.specs.Typed.{IsBodyOf}
+use Rattle.sasi_tokentree.specs.Reads.{HasAt}
+use Rattle.sasi_dataread.specs.Reads.{pages_of}
+
+-- a length, and so many bytes
+abbrev pub sized : Bytes → Bytes
+sized body = to_be_bytes w32 (length body) ++ body
+
+-- a body at this place, in front of the end, may have so many bytes
+pub record IsLength (end place count : ℕ) : Type 0 where
+  pub some : 0 < count
+  pub short : count < 2 ^ 23
+  pub within : place + 4 + count ≤ end
+
+-- on how many pages its length and its bytes lie, where a page of both counts twice
+abbrev pub cost : ℕ → ℕ → ℕ
+cost place count = pages_of place 4 + pages_of (place + 4) count
+
+-- where damage is told, no such length stands at the place
+abbrev pub SparesLength : View → FileName → ℕ → ℕ → ReadFault → Type 0
+SparesLength v file end place = OnDamage (λ _. (bytes : Bytes) (count : ℕ) → contents v file ≡ Some bytes → HasAt bytes place (to_be_bytes w32 count) → IsLength end place count → ⊥)
+
+-- where damage is told, no such length with its bytes does
+abbrev pub SparesSized : View → FileName → ℕ → ℕ → ReadFault → Type 0
+SparesSized v file end place = OnDamage (λ _. (bytes body : Bytes) → contents v file ≡ Some bytes → HasAt bytes place (sized body) → IsLength end place (length body) → ⊥)
+
+-- a fault of a body is placed in so many bytes
+abbrev pub IsPlacedIn : ℕ → BodyFault → Type 0
+IsPlacedIn count (fault.Broken broken) = broken.at ≤ count
+IsPlacedIn count _ = Unit {0}
+
+-- where damage is told, no partition of the table stands at the place
+abbrev pub SparesBody : View → FileName → List ColumnType → ℕ → ℕ → ReadFault → Type 0
+SparesBody v file types end place =
+    OnDamage (λ _. (bytes key : Bytes) (part : Partition) → contents v file ≡ Some bytes → HasAt bytes place (sized (body key part)) → IsBodyOf types key part → place + 4 + length (body key part) ≤ end → ⊥)

@@ -1,0 +1,212 @@
+-- Where the parts of a data file stand.
+use Rattle.std.specs.Prelude.{◌≡◌, ℕ, zero, suc, ◌+◌, ◌-◌, ◌*◌, ◌^◌, ◌<◌, ◌≤◌, List, [], ◌∷◌, ◌++◌, length, map, refl}
+use Rattle.std.proofs.Common.{sym, ◌∙◌, ap, subst, arith, append_assoc, length-append, ⊎_elim}
+use Rattle.std.proofs.lemmas.List.{append-nil}
+use Rattle.std.proofs.lemmas.Bool.Decides.{leb_tells}
+use Rattle.std.specs.Int.{to_be_bytes, w16, w64}
+use Rattle.std.specs.List.{flat_map, AllByRecursion}
+use Rattle.sasi_types.specs.declared.column.ColumnType.{ColumnType}
+use Rattle.sasi_types.specs.declared.partitioner.Partitioner.{Partitioner}
+use Rattle.sasi_types.specs.declared.tree.Pair.{Pair}
+use Rattle.sasi_types.specs.declared.tree.TreeRef.{TreeRef}
+use Rattle.sasi_model.specs.Cells.{Partition, greatest_of, greatest_time}
+use Rattle.sasi_host.specs.Names.{Bytes}
+use Rattle.sasi_body.specs.Format.{body, key_bytes, part_bytes, cells_of, cell_bytes, IsCell, HasBody}
+use Rattle.sasi_body.specs.Typed.{IsBodyOf}
+use Rattle.sasi_cells.specs.Entries.{Entry}
+use Rattle.sasi_tokentree.specs.Format.{tree_bytes, tree_ref, levels, level_bytes, size, top, above}
+use Rattle.sasi_tokentree.specs.Sizes.{level_length, one_level, more_levels}
+use Rattle.sasi_tokentree.specs.Heights.{top_is, lead_short}
+use Rattle.sasi_tokentree.specs.Reads.{HasAt}
+use Rattle.sasi_datawrite.specs.Format.{Content, IsContent, header, footer, front, ending, greatest, key_pairs, partition_bytes, partitions, data_bytes}
+use Rattle.sasi_datawrite.specs.Files.{IsDataFile}
+use Rattle.sasi_datawrite.specs.Laws.{header_length, partition_length, pairs_length}
+use Rattle.sasi_dataread.specs.Opened.{StandsAt}
+use Rattle.sasi_dataread.specs.Bodies.{sized}
+
+-- ---- partitions
+
+pub partitions_on : (before others : Content) → partitions (before ++ others) ≡ partitions before ++ partitions others
+partitions_on [] others = refl
+partitions_on (one ∷ before) others = ap (λ (l : Bytes). partition_bytes one.0 one.1 ++ l) (partitions_on before others) ∙ sym (append_assoc (partition_bytes one.0 one.1) (partitions before) (partitions others))
+
+-- what is in front of a partition, the partition, and what is behind it
+pub front_parts : (before behind : Content) (key : Bytes) (part : Partition) → front (before ++ (key, part) ∷ behind) ≡ front before ++ (partition_bytes key part ++ partitions behind)
+front_parts before behind key part = ap (λ (l : Bytes). header ++ l) (partitions_on before ((key, part) ∷ behind)) ∙ sym (append_assoc header (partitions before) (partition_bytes key part ++ partitions behind))
+
+partition_is : (key : Bytes) (part : Partition) → partition_bytes key part ≡ sized (body key part)
+unfolding partition_bytes
+partition_is key part = refl
+
+pub file_is : (partitioner : Partitioner) (content : Content) → data_bytes partitioner content ≡ front content ++ ending (key_pairs partitioner content) (greatest content) (length (front content))
+unfolding data_bytes
+file_is partitioner content = refl
+
+-- a partition stands at its place
+pub partition_stands : (partitioner : Partitioner) (types : List ColumnType) (bytes : Bytes) (content : Content) (place : ℕ) (key : Bytes) (part : Partition) → IsDataFile partitioner types bytes content → StandsAt content place key part → HasAt bytes place (sized (body key part))
+partition_stands partitioner types bytes content place key part is at =
+    let end = ending (key_pairs partitioner content) (greatest content) (length (front content)) in
+    record {
+      front = front at.before;
+      rest = partitions at.behind ++ end;
+      is = is.is ∙ file_is partitioner content ∙ ap (λ (l : Bytes). l ++ end) (ap (λ (l : Content). front l) at.is ∙ front_parts at.before at.behind key part)
+          ∙ regroup (front at.before) (partition_bytes key part) (partitions at.behind) end ∙ ap (λ (l : Bytes). front at.before ++ l ++ (partitions at.behind ++ end)) (partition_is key part);
+      place = sym at.begins;
+    }
+  where
+    regroup : (a b c d : Bytes) → (a ++ (b ++ c)) ++ d ≡ a ++ b ++ (c ++ d)
+    regroup a b c d = simp append_assoc
+
+-- in front of where the partitions end
+pub partition_within : (content : Content) (place : ℕ) (key : Bytes) (part : Partition) → StandsAt content place key part → place + 4 + length (body key part) ≤ length (front content)
+partition_within content place key part at =
+    omega (
+      arith,
+      at.begins,
+      ap (λ (l : Content). length (front l)) at.is,
+      ap (λ (l : Bytes). length l) (front_parts at.before at.behind key part),
+      length-append (front at.before) (partition_bytes key part ++ partitions at.behind),
+      length-append (partition_bytes key part) (partitions at.behind),
+      partition_length key part,
+    )
+
+all_at : (P : Bytes × Partition → Type 0) (before behind : Content) (one : Bytes × Partition) → AllByRecursion P (before ++ one ∷ behind) → P one
+all_at P [] behind one all = all.0
+all_at P (first ∷ before) behind one all = all_at P before behind one all.1
+
+-- it is one of the table
+pub partition_typed : (partitioner : Partitioner) (types : List ColumnType) (bytes : Bytes) (content : Content) (place : ℕ) (key : Bytes) (part : Partition) → IsDataFile partitioner types bytes content → StandsAt content place key part → IsBodyOf types key part
+partition_typed partitioner types bytes content place key part is at =
+    all_at (λ one. IsBodyOf types one.0 one.1) at.before at.behind (key, part) (subst (λ (l : Content). AllByRecursion (λ one. IsBodyOf types one.0 one.1) l) at.is is.typed)
+
+-- ---- the header and the footer
+
+pub header_stands : (partitioner : Partitioner) (types : List ColumnType) (bytes : Bytes) (content : Content) → IsDataFile partitioner types bytes content → HasAt bytes 0 header
+header_stands partitioner types bytes content is =
+    let end = ending (key_pairs partitioner content) (greatest content) (length (front content)) in
+    record { front = []; rest = partitions content ++ end; is = is.is ∙ file_is partitioner content ∙ append_assoc header (partitions content) end; place = refl }
+
+-- what the footer tells
+abbrev pub tree_of : Partitioner → Content → TreeRef
+tree_of partitioner content = tree_ref (length (front content)) (key_pairs partitioner content)
+
+abbrev pub footer_of : Partitioner → Content → Bytes
+footer_of partitioner content = footer (tree_of partitioner content) (greatest content) (length (front content))
+
+pub footer_length : (tree : TreeRef) (latest end : ℕ) → length (footer tree latest end) ≡ 40
+unfolding footer
+footer_length tree latest end = refl
+
+abbrev tree_part : Partitioner → Content → Bytes
+tree_part partitioner content = tree_bytes (length (front content)) (key_pairs partitioner content)
+
+whole_length : (partitioner : Partitioner) (types : List ColumnType) (bytes : Bytes) (content : Content) → IsDataFile partitioner types bytes content → length bytes ≡ length (front content) + length (tree_part partitioner content) + 40
+whole_length partitioner types bytes content is =
+    omega (
+      arith,
+      ap (λ (l : Bytes). length l) (is.is ∙ file_is partitioner content),
+      length-append (front content) (tree_part partitioner content ++ footer_of partitioner content),
+      length-append (tree_part partitioner content) (footer_of partitioner content),
+      footer_length (tree_of partitioner content) (greatest content) (length (front content)),
+    )
+
+pub footer_stands : (partitioner : Partitioner) (types : List ColumnType) (bytes : Bytes) (content : Content) → IsDataFile partitioner types bytes content → HasAt bytes (length bytes - 40) (footer_of partitioner content)
+footer_stands partitioner types bytes content is = record {
+  front = front content ++ tree_part partitioner content;
+  rest = [];
+  is = is.is ∙ file_is partitioner content ∙ regroup (front content) (tree_part partitioner content) (footer_of partitioner content) ∙ sym (append-nil ((front content ++ tree_part partitioner content) ++ footer_of partitioner content));
+  place = omega (arith, whole_length partitioner types bytes content is, length-append (front content) (tree_part partitioner content));
+}
+  where
+    regroup : (a b c : Bytes) → a ++ (b ++ c) ≡ (a ++ b) ++ c
+    regroup a b c = simp append_assoc
+
+-- ---- sizes
+
+body_least : (key : Bytes) (part : Partition) → HasBody key part → 13 ≤ length (body key part)
+unfolding body
+body_least key part has =
+    omega (
+      arith,
+      has.key_some,
+      length-append (key_bytes key) (part_bytes part),
+      length-append (to_be_bytes w16 (length key)) key,
+      length-append (to_be_bytes w64 part.deleted ++ to_be_bytes w16 (length (cells_of part))) (flat_map cell_bytes (cells_of part)),
+      length-append (to_be_bytes w64 part.deleted) (to_be_bytes w16 (length (cells_of part))),
+    )
+
+partitions_least : (content : Content) → AllByRecursion (λ one. HasBody one.0 one.1) content → 17 * length content ≤ length (partitions content)
+partitions_least [] all = omega arith
+partitions_least (one ∷ others) all =
+    omega (arith, body_least one.0 one.1 all.0, partition_length one.0 one.1, length-append (partition_bytes one.0 one.1) (partitions others), partitions_least others all.1)
+
+pub front_least : (partitioner : Partitioner) (content : Content) → IsContent partitioner content → 16 + 17 * length content ≤ length (front content)
+front_least partitioner content is = omega (arith, header_length, length-append header (partitions content), partitions_least content is.bodies)
+
+levels_least : (most level at : ℕ) (entries : List Pair) → 0 < length entries → length entries ≤ most → 24 ≤ length (levels most level at entries)
+levels_least zero level at entries some enough = absurd (omega arith)
+levels_least (suc most) level at entries some enough = ⊎_elim
+    (λ one. omega (arith, some, ap length (one_level most level at entries one.1), level_length level entries))
+    (λ more. omega (arith, some, ap length (more_levels most level at entries more.1), level_length level entries, length-append (level_bytes level entries) (levels most (suc level) (at + size (length entries)) (above at entries))))
+    (leb_tells (length entries) 255)
+
+count_is : (partitioner : Partitioner) (content : Content) → length (key_pairs partitioner content) ≡ length content
+count_is partitioner content = pairs_length partitioner (length header) content
+
+tree_least : (partitioner : Partitioner) (content : Content) → IsContent partitioner content → 24 ≤ length (tree_part partitioner content)
+tree_least partitioner content is = levels_least (length (key_pairs partitioner content)) 0 (length (front content)) (key_pairs partitioner content) (omega (arith, is.some, count_is partitioner content)) (omega arith)
+
+-- a data file has 97 bytes or more
+pub least_size : (partitioner : Partitioner) (types : List ColumnType) (bytes : Bytes) (content : Content) → IsDataFile partitioner types bytes content → 97 ≤ length bytes
+least_size partitioner types bytes content is =
+    omega (arith, whole_length partitioner types bytes content is, tree_least partitioner content is.content_is, front_least partitioner content is.content_is, is.content_is.some)
+
+-- and the partitions end in front of the footer
+pub end_within : (partitioner : Partitioner) (types : List ColumnType) (bytes : Bytes) (content : Content) → IsDataFile partitioner types bytes content → length (front content) ≤ length bytes - 40
+end_within partitioner types bytes content is = omega (arith, whole_length partitioner types bytes content is)
+
+-- ---- the numbers in the footer
+
+pub pairs_are : (partitioner : Partitioner) (content : Content) → (tree_of partitioner content).pairs ≡ length content
+pairs_are partitioner content = count_is partitioner content
+
+root_is : (at n : ℕ) → 0 < n → top n at n ≤ at + 17 * n
+root_is at n some = omega (arith, top_is n at n some (omega arith), lead_short n n (omega arith))
+
+times_fit : (deleted : ℕ) (entries : List Entry) → AllByRecursion (IsCell deleted) entries → greatest_time (map (λ e. e.1) entries) ≤ 2 ^ 62
+times_fit deleted [] all = omega arith
+times_fit deleted (entry ∷ entries) all = omega (arith, all.0.time, times_fit deleted entries all.1)
+
+part_fits : (key : Bytes) (part : Partition) → HasBody key part → greatest_of part ≤ 2 ^ 62
+part_fits key part has = omega (arith, has.deleted, times_fit part.deleted (cells_of part) has.cells)
+
+greatest_fits : (content : Content) → AllByRecursion (λ one. HasBody one.0 one.1) content → greatest content ≤ 2 ^ 62
+greatest_fits [] all = omega arith
+greatest_fits (one ∷ others) all = omega (arith, part_fits one.0 one.1 all.0, greatest_fits others all.1)
+
+-- the numbers of a footer fit their fields, and lie in their ranges
+pub record AreInRange (size : ℕ) (tree : TreeRef) (latest end : ℕ) : Type 0 where
+  pub root : tree.root < 2 ^ 64
+  pub pairs : tree.pairs < 2 ^ 64
+  pub latest_fits : latest < 2 ^ 64
+  pub end_fits : end < 2 ^ 64
+  pub some : 0 < tree.pairs
+  pub behind : 33 ≤ end
+  pub within : end ≤ size - 40
+
+pub in_range : (partitioner : Partitioner) (types : List ColumnType) (bytes : Bytes) (content : Content) → IsDataFile partitioner types bytes content → length bytes ≤ 2 ^ 62 → AreInRange (length bytes) (tree_of partitioner content) (greatest content) (length (front content))
+in_range partitioner types bytes content is short =
+    let count = count_is partitioner content in
+    let first = front_least partitioner content is.content_is in
+    let end = end_within partitioner types bytes content is in
+    let n = length (key_pairs partitioner content) in
+    let root = root_is (length (front content)) n (omega (arith, is.content_is.some, count)) in
+    record {
+      root = omega (arith, root, count, first, end, short);
+      pairs = omega (arith, count, first, end, short);
+      latest_fits = omega (arith, greatest_fits content is.content_is.bodies);
+      end_fits = omega (arith, end, short);
+      some = omega (arith, count, is.content_is.some);
+      behind = omega (arith, first, is.content_is.some);
+      within = end;
+    }

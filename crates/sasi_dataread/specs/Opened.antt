@@ -1,0 +1,35 @@
+-- A data file that was opened, and where its partitions stand.
+use Rattle.std.specs.Prelude.{◌≡◌, ℕ, List, ◌∷◌, ◌++◌, length}
+use Rattle.sasi_types.specs.declared.column.ColumnType.{ColumnType}
+use Rattle.sasi_types.specs.declared.partitioner.Partitioner.{Partitioner}
+use Rattle.sasi_types.specs.declared.tree.TreeRef.{TreeRef}
+use Rattle.sasi_model.specs.Cells.{Partition}
+use Rattle.sasi_host.specs.declared.name.FileName.{FileName}
+use Rattle.sasi_host.specs.Names.{Bytes}
+use Rattle.sasi_tokentree.specs.Format.{tree_ref}
+use Rattle.sasi_datawrite.specs.Format.{Content, front, greatest, key_pairs}
+
+-- what one knows of a data file in hand
+pub record Opened : Type 0 where
+  pub file : FileName
+  -- the types of its table's columns
+  pub types : List ColumnType
+  -- what refers to the key tree, which has a pair for each partition
+  pub tree : TreeRef
+  -- the greatest time
+  pub latest : ℕ
+  -- where the partitions end
+  pub end : ℕ
+
+-- it was opened as the data file of this content
+pub record IsOf (opened : Opened) (partitioner : Partitioner) (content : Content) : Type 0 where
+  pub tree : opened.tree ≡ tree_ref (length (front content)) (key_pairs partitioner content)
+  pub latest : opened.latest ≡ greatest content
+  pub end : opened.end ≡ length (front content)
+
+-- in the data file of the content this partition begins at this place
+pub record StandsAt (content : Content) (place : ℕ) (key : Bytes) (part : Partition) : Type 0 where
+  pub before : Content
+  pub behind : Content
+  pub is : content ≡ before ++ (key, part) ∷ behind
+  pub begins : place ≡ length (front before)

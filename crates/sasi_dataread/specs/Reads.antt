@@ -1,0 +1,54 @@
+-- What reads of a data file give, over what the host tells.
+use Rattle.std.specs.Prelude.{◌≡◌, ℕ, List, ◌+◌, ◌/◌, ◌%◌, ◌<◌, ◌≤◌, length, Some}
+use Rattle.sasi_types.specs.declared.column.ColumnType.{ColumnType}
+use Rattle.sasi_types.specs.declared.partitioner.Partitioner.{Partitioner}
+use Rattle.sasi_model.specs.Cells.{Partition}
+use Rattle.sasi_host.specs.declared.name.FileName.{FileName}
+use Rattle.sasi_host.specs.declared.fault.ReadFault.{ReadFault}
+use Rattle.sasi_host.specs.Names.{Bytes}
+use Rattle.sasi_host.specs.Damages.{OnDamage}
+use Rattle.sasi_host.specs.View.{View, contents}
+use Rattle.sasi_datawrite.specs.Format.{Content}
+use Rattle.sasi_datawrite.specs.Files.{IsDataFile}
+use Rattle.sasi_dataread.specs.Opened.{Opened, IsOf, StandsAt}
+use Rattle.sasi_host.specs.Disk.{Changes, Same}
+
+-- on how many pages of 4,096 bytes so many bytes from a place on lie
+abbrev pub pages_of : ℕ → ℕ → ℕ
+pages_of at count = (at % 4096 + count + 4095) / 4096
+
+-- where damage is told, the file doesn't reach to this place
+abbrev pub SparesRun : View → FileName → ℕ → ReadFault → Type 0
+SparesRun v file end = OnDamage (λ _. (bytes : Bytes) → contents v file ≡ Some bytes → length bytes < end)
+
+-- the folder stays, no count of faults falls, and at most so many reads were made
+pub record Passes (most : ℕ) (old new : View) : Type 0 where
+  pub changes : Changes Same old new
+  pub disk : old.disk_faults ≤ new.disk_faults
+  pub out : new.out_faults ≡ old.out_faults
+  pub reads : new.reads ≤ old.reads + most
+
+-- ---- data files
+
+-- the file reads as the data file of a content, and was opened as that
+pub record IsOpenOn (v : View) (opened : Opened) (partitioner : Partitioner) (content : Content) : Type 0 where
+  pub bytes : Bytes
+  pub reads : contents v opened.file ≡ Some bytes
+  pub data_file : IsDataFile partitioner opened.types bytes content
+  pub of : IsOf opened partitioner content
+
+-- where damage is told, the file isn't a data file
+abbrev pub SparesData : View → FileName → ReadFault → Type 0
+SparesData v file = OnDamage (λ _. (bytes : Bytes) (partitioner : Partitioner) (types : List ColumnType) (content : Content) → contents v file ≡ Some bytes → IsDataFile partitioner types bytes content → ⊥)
+
+-- what was read is the partition that stands at the place
+abbrev pub Gives : View → Opened → ℕ → Bytes → Partition → Type 0
+Gives v opened place key part = (partitioner : Partitioner) (content : Content) (k : Bytes) (p : Partition) → IsOpenOn v opened partitioner content → StandsAt content place k p → (key ≡ k) × (part ≡ p)
+
+-- where damage is told, no partition of a data file stands at the place
+abbrev pub SparesPlace : View → Opened → ℕ → ReadFault → Type 0
+SparesPlace v opened place = OnDamage (λ _. (partitioner : Partitioner) (content : Content) (key : Bytes) (part : Partition) → IsOpenOn v opened partitioner content → StandsAt content place key part → ⊥)
+
+-- and it is its key
+abbrev pub GivesKey : View → Opened → ℕ → Bytes → Type 0
+GivesKey v opened place key = (partitioner : Partitioner) (content : Content) (k : Bytes) (p : Partition) → IsOpenOn v opened partitioner content → StandsAt content place k p → key ≡ k

@@ -1,0 +1,198 @@
+// A data file that is read.
+ghost use Rattle.std.specs.Prelude.{◌≡◌, ◌⊎◌, ◌+◌, ◌*◌, ◌≤◌, ℕ, IfErr, IfOk, Some, length};
+ghost use Rattle.sasi_types.specs.declared.partitioner.Partitioner.{Partitioner};
+ghost use Rattle.sasi_model.specs.Cells.{Partition as Part};
+ghost use Rattle.sasi_host.specs.declared.name.FileName.{FileName};
+ghost use Rattle.sasi_host.specs.Names.{Bytes};
+ghost use Rattle.sasi_host.specs.View.{IsThere, contents};
+ghost use Rattle.sasi_host.specs.Disk.{Changes, Same};
+ghost use Rattle.sasi_body.specs.Format.{body};
+ghost use Rattle.sasi_body.specs.Typed.{IsBodyOf};
+ghost use Rattle.sasi_tokentree.specs.Heights.{height};
+ghost use Rattle.sasi_tokentree.specs.Reads.{IsShown, ReadsAtMost};
+ghost use Rattle.sasi_datawrite.specs.Format.{Content, header};
+ghost use Rattle.sasi_datawrite.specs.Files.{IsDataFile};
+ghost use Rattle.sasi_dataread.specs.Opened.{IsOf, StandsAt};
+ghost use Rattle.sasi_dataread.specs.Reads.{Gives, GivesKey, IsOpenOn, SparesData, SparesPlace};
+ghost use Rattle.sasi_dataread.specs.Bodies.{cost};
+ghost use Rattle.sasi_dataread.specs.Frames.{IsFramed};
+ghost use Rattle.sasi_dataread.specs.Walks.{HaveTokens, SparesOpened};
+ghost use Rattle.sasi_dataread.specs.Finds.{FindsKey, token_cost};
+
+use crate::DataWalk;
+use crate::find::find_partition;
+use crate::frame::read_frame;
+use crate::partition::partition_at;
+use crate::types::copy_types;
+use sasi_cells::Partition;
+use sasi_host::{FileName, Host, PageReader, ReadFault};
+use sasi_tokentree::Tree;
+use sasi_types::{Key, Token, TreeRef, TypeList};
+use std::alloc::{AllocError, Global};
+use std::marker::Model;
+
+/// A data file that is read. It keeps what its footer tells, and the types of its table's columns.
+#[derive(Drop)]
+pub struct DataFile {
+    file: FileName,
+    types: TypeList,
+    tree: TreeRef,
+    latest: u64,
+    end: u64,
+}
+
+impl Model for DataFile {
+    ghost use Rattle.sasi_dataread.specs.Opened.{Opened};
+
+    ghost Value = { Opened };
+
+    ghost view = { λ a. record { file = a.file; types = a.types; tree = a.tree; latest = a.latest; end = a.end } };
+}
+
+impl DataFile {
+    /// Opens the data file of a table whose columns have these types, by its header and its footer.
+    pub fn open<H: Host, P: PageReader>(
+        alloc: Global,
+        host: &mut H,
+        pages: &mut P,
+        file: FileName,
+        types: &TypeList,
+    ) -> Result<DataFile, ReadFault>
+        requires there { IsThere (H.view host.old) file }
+        requires agrees { P.agrees pages.old (H.view host.old).files }
+        ensures ok { IfOk result (λ opened. (bytes : Bytes) (partitioner : Partitioner) (content : Content) → contents (H.view host.old) file ≡ Some bytes → IsDataFile partitioner types.now bytes content → IsOf opened partitioner content) }
+        ensures framed { IfOk result (λ opened. (bytes : Bytes) → contents (H.view host.old) file ≡ Some bytes → IsFramed bytes opened.tree opened.latest opened.end) }
+        ensures file { IfOk result (λ opened. opened.file ≡ file) }
+        ensures types { IfOk result (λ opened. opened.types ≡ types.now) }
+        ensures damaged { IfErr result (IsShown (H.view host.old) file) }
+        ensures undamaged { IfErr result (SparesData (H.view host.old) file) }
+        ensures agrees { P.agrees pages.new (H.view host.new).files }
+        ensures covers { (name : FileName) → P.covers pages.new name → P.covers pages.old name ⊎ (name ≡ file) }
+        ensures changes { Changes Same (H.view host.old) (H.view host.new) }
+        ensures causes { ReadsAtMost 3 (H.view host.old) (H.view host.new) result }
+    {
+        let footer = read_frame(alloc, host, pages, file)?;
+        let types = copy_types(alloc, types)?;
+        Ok(DataFile {
+            file,
+            types,
+            tree: footer.tree,
+            latest: footer.latest,
+            end: footer.end,
+        })
+    }
+
+    /// A walk over the partitions, from the first one on. It makes no read.
+    pub fn walk(&self, alloc: Global) -> Result<DataWalk, AllocError>
+        ensures { IfOk result (λ walk. walk ≡ record { opened = self.now; passed = 0 }) }
+    {
+        let copy = self.copy(alloc)?;
+        Ok(DataWalk::new(copy))
+    }
+
+    fn copy(&self, alloc: Global) -> Result<DataFile, AllocError>
+        ensures { IfOk result (λ copy. copy ≡ self.now) }
+    {
+        let types = copy_types(alloc, &self.types)?;
+        Ok(DataFile {
+            file: self.file,
+            types,
+            tree: self.tree,
+            latest: self.latest,
+            end: self.end,
+        })
+    }
+
+    /// How many partitions it has.
+    pub fn partitions(&self) -> u64
+        ensures { result ≡ self.now.tree.pairs }
+    {
+        self.tree.pairs
+    }
+
+    /// The greatest time of a deletion or a cell in it.
+    pub fn greatest(&self) -> u64
+        ensures { result ≡ self.now.latest }
+    {
+        self.latest
+    }
+
+    /// The key tree, which leads from tokens to the places of partitions, before its first pair.
+    pub fn tree(&self) -> Tree
+        ensures { result ≡ record { file = self.now.file; tree = self.now.tree; passed = 0 } }
+    {
+        Tree::new(self.file, self.tree)
+    }
+
+    /// The partition that begins at this place, which is that of a pair of the key tree.
+    pub fn at<H: Host, P: PageReader>(
+        &self,
+        alloc: Global,
+        host: &mut H,
+        pages: &mut P,
+        place: u64,
+    ) -> Result<(Key, Partition), ReadFault>
+        requires there { IsThere (H.view host.old) self.now.file }
+        requires agrees { P.agrees pages.old (H.view host.old).files }
+        ensures ok { IfOk result (λ read. Gives (H.view host.old) self.now place read.0 read.1) }
+        ensures in_table { IfOk result (λ read. IsBodyOf self.now.types read.0 read.1) }
+        ensures damaged { IfErr result (IsShown (H.view host.old) self.now.file) }
+        ensures undamaged { IfErr result (SparesPlace (H.view host.old) self.now place) }
+        ensures agrees { P.agrees pages.new (H.view host.new).files }
+        ensures covers { (name : FileName) → P.covers pages.new name → P.covers pages.old name ⊎ (name ≡ self.now.file) }
+        ensures changes { Changes Same (H.view host.old) (H.view host.new) }
+        ensures causes { ReadsAtMost 2051 (H.view host.old) (H.view host.new) result }
+        // It reads the pages on which the partition lies, where the file is a data file.
+        ensures reads { (partitioner : Partitioner) (content : Content) (key : Bytes) (part : Part) → IsOpenOn (H.view host.old) self.now partitioner content → StandsAt content place key part → (H.view host.new).reads ≤ (H.view host.old).reads + cost place (length (body key part)) }
+    {
+        partition_at(alloc, host, pages, self.file, &self.types, self.end, place)
+    }
+
+    /// The key of the partition that begins at this place, which is that of a pair of the key tree.
+    pub fn key_at<H: Host, P: PageReader>(
+        &self,
+        alloc: Global,
+        host: &mut H,
+        pages: &mut P,
+        place: u64,
+    ) -> Result<Key, ReadFault>
+        requires there { IsThere (H.view host.old) self.now.file }
+        requires agrees { P.agrees pages.old (H.view host.old).files }
+        ensures ok { IfOk result (λ key. GivesKey (H.view host.old) self.now place key) }
+        ensures damaged { IfErr result (IsShown (H.view host.old) self.now.file) }
+        ensures undamaged { IfErr result (SparesPlace (H.view host.old) self.now place) }
+        ensures agrees { P.agrees pages.new (H.view host.new).files }
+        ensures covers { (name : FileName) → P.covers pages.new name → P.covers pages.old name ⊎ (name ≡ self.now.file) }
+        ensures changes { Changes Same (H.view host.old) (H.view host.new) }
+        ensures causes { ReadsAtMost 2051 (H.view host.old) (H.view host.new) result }
+        ensures reads { (partitioner : Partitioner) (content : Content) (key : Bytes) (part : Part) → IsOpenOn (H.view host.old) self.now partitioner content → StandsAt content place key part → (H.view host.new).reads ≤ (H.view host.old).reads + cost place (length (body key part)) }
+    {
+        let (key, _part) = self.at(alloc, host, pages, place)?;
+        Ok(key)
+    }
+    /// The partition with this key, whose token this is; None exactly where the file has no such key. It goes down the key
+    /// tree once, and reads the partitions with the token up to that of the key.
+    pub fn find<H: Host, P: PageReader>(
+        &self,
+        alloc: Global,
+        host: &mut H,
+        pages: &mut P,
+        token: Token,
+        key: &Key,
+    ) -> Result<Option<Partition>, ReadFault>
+        requires there { IsThere (H.view host.old) self.now.file }
+        requires agrees { P.agrees pages.old (H.view host.old).files }
+        ensures ok { IfOk result (λ found. FindsKey (H.view host.old) self.now token key.now found) }
+        ensures damaged { IfErr result (IsShown (H.view host.old) self.now.file) }
+        ensures undamaged { IfErr result (SparesOpened (H.view host.old) self.now) }
+        ensures agrees { P.agrees pages.new (H.view host.new).files }
+        ensures covers { (name : FileName) → P.covers pages.new name → P.covers pages.old name ⊎ (name ≡ self.now.file) }
+        ensures changes { Changes Same (H.view host.old) (H.view host.new) }
+        ensures causes { (most : ℕ) → self.now.tree.pairs ≤ most → ReadsAtMost (2 * height most self.now.tree.pairs + 2 + 2053 * self.now.tree.pairs) (H.view host.old) (H.view host.new) result }
+        // Two pages a level and two more, and the pages of the partitions with the token, where the file is a data file.
+        ensures reads { (most : ℕ) (partitioner : Partitioner) (content : Content) → self.now.tree.pairs ≤ most → IsOpenOn (H.view host.old) self.now partitioner content → HaveTokens partitioner content
+            → (H.view host.new).reads ≤ (H.view host.old).reads + (2 * height most self.now.tree.pairs + 2 + token_cost partitioner token (length header) content) }
+    {
+        find_partition(alloc, host, pages, self, token, key)
+    }
+}

@@ -1,0 +1,97 @@
+// A partition found by its key.
+ghost use Rattle.std.specs.Prelude.{◌≡◌, ◌⊎◌, ◌+◌, ◌*◌, ◌≤◌, ℕ, length, IfErr, IfOk};
+ghost use Rattle.sasi_types.specs.declared.partitioner.Partitioner.{Partitioner};
+ghost use Rattle.sasi_model.specs.Cells.{Partition as Part};
+ghost use Rattle.sasi_host.specs.declared.name.FileName.{FileName};
+ghost use Rattle.sasi_host.specs.Names.{Bytes};
+ghost use Rattle.sasi_host.specs.View.{IsThere};
+ghost use Rattle.sasi_host.specs.Disk.{Changes, Same};
+ghost use Rattle.sasi_body.specs.Format.{body};
+ghost use Rattle.sasi_tokentree.specs.Heights.{height};
+ghost use Rattle.sasi_tokentree.specs.Reads.{IsShown, ReadsAtMost};
+ghost use Rattle.sasi_datawrite.specs.Format.{Content, header};
+ghost use Rattle.sasi_dataread.specs.Opened.{StandsAt};
+ghost use Rattle.sasi_dataread.specs.Reads.{IsOpenOn, SparesPlace};
+ghost use Rattle.sasi_dataread.specs.Bodies.{cost};
+ghost use Rattle.sasi_dataread.specs.Walks.{HaveTokens, SparesOpened};
+ghost use Rattle.sasi_dataread.specs.Finds.{FindsKey, GivesWith, LeadsTo, token_cost};
+
+use crate::DataFile;
+use sasi_cells::Partition;
+use sasi_host::{Host, PageReader, ReadFault};
+use sasi_types::{Key, Pair, Token};
+use std::alloc::Global;
+
+// Where the pair leads, if it has this token.
+fn place_for(next: Option<Pair>, token: Token) -> Option<u64>
+    ensures { LeadsTo token next result }
+{
+    let pair = next?;
+    if pair.token != token {
+        return None;
+    }
+    Some(pair.place)
+}
+
+// The partition that begins at this place, if it has this key.
+fn part_with<H: Host, P: PageReader>(
+    alloc: Global,
+    host: &mut H,
+    pages: &mut P,
+    opened: &DataFile,
+    place: u64,
+    key: &Key,
+) -> Result<Option<Partition>, ReadFault>
+    requires there { IsThere (H.view host.old) opened.now.file }
+    requires agrees { P.agrees pages.old (H.view host.old).files }
+    ensures ok { IfOk result (λ found. GivesWith (H.view host.old) opened.now place key.now found) }
+    ensures damaged { IfErr result (IsShown (H.view host.old) opened.now.file) }
+    ensures undamaged { IfErr result (SparesPlace (H.view host.old) opened.now place) }
+    ensures agrees { P.agrees pages.new (H.view host.new).files }
+    ensures covers { (name : FileName) → P.covers pages.new name → P.covers pages.old name ⊎ (name ≡ opened.now.file) }
+    ensures changes { Changes Same (H.view host.old) (H.view host.new) }
+    ensures causes { ReadsAtMost 2051 (H.view host.old) (H.view host.new) result }
+    ensures reads { (partitioner : Partitioner) (content : Content) (key : Bytes) (part : Part) → IsOpenOn (H.view host.old) opened.now partitioner content → StandsAt content place key part → (H.view host.new).reads ≤ (H.view host.old).reads + cost place (length (body key part)) }
+{
+    let (other, part) = opened.at(alloc, host, pages, place)?;
+    if *key != other {
+        return Ok(None);
+    }
+    Ok(Some(part))
+}
+
+// The partition with this key, looked for among those with its token.
+pub fn find_partition<H: Host, P: PageReader>(
+    alloc: Global,
+    host: &mut H,
+    pages: &mut P,
+    opened: &DataFile,
+    token: Token,
+    key: &Key,
+) -> Result<Option<Partition>, ReadFault>
+    requires there { IsThere (H.view host.old) opened.now.file }
+    requires agrees { P.agrees pages.old (H.view host.old).files }
+    ensures ok { IfOk result (λ found. FindsKey (H.view host.old) opened.now token key.now found) }
+    ensures damaged { IfErr result (IsShown (H.view host.old) opened.now.file) }
+    ensures undamaged { IfErr result (SparesOpened (H.view host.old) opened.now) }
+    ensures agrees { P.agrees pages.new (H.view host.new).files }
+    ensures covers { (name : FileName) → P.covers pages.new name → P.covers pages.old name ⊎ (name ≡ opened.now.file) }
+    ensures changes { Changes Same (H.view host.old) (H.view host.new) }
+    ensures causes { (most : ℕ) → opened.now.tree.pairs ≤ most → ReadsAtMost (2 * height most opened.now.tree.pairs + 2 + 2053 * opened.now.tree.pairs) (H.view host.old) (H.view host.new) result }
+    ensures reads { (most : ℕ) (partitioner : Partitioner) (content : Content) → opened.now.tree.pairs ≤ most → IsOpenOn (H.view host.old) opened.now partitioner content → HaveTokens partitioner content
+        → (H.view host.new).reads ≤ (H.view host.old).reads + (2 * height most opened.now.tree.pairs + 2 + token_cost partitioner token (length header) content) }
+{
+    let mut tree = opened.tree();
+    let mut next = tree.first(host, pages, token)?;
+    for _turn in 0..opened.partitions() {
+        let Some(place) = place_for(next, token) else {
+            return Ok(None);
+        };
+        let found = part_with(alloc, host, pages, opened, place, key)?;
+        if found.is_some() {
+            return Ok(found);
+        }
+        next = tree.next(host, pages)?;
+    }
+    Ok(None)
+}

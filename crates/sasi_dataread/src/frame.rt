@@ -1,0 +1,206 @@
+// The header and the footer of a data file.
+ghost use Rattle.std.specs.Prelude.{◌≡◌, ◌≢◌, ◌⊎◌, ◌+◌, ◌-◌, ◌^◌, ◌<◌, ◌≤◌, List, ℕ, length, take, drop, IfErr, IfOk, OnOk, IsTrue, Some, false};
+ghost use Rattle.std.specs.Int.{to_be_bytes, w64};
+ghost use Rattle.sasi_types.specs.declared.tree.TreeRef.{TreeRef as Tree};
+ghost use Rattle.sasi_host.specs.declared.name.FileName.{FileName};
+ghost use Rattle.sasi_host.specs.Names.{Bytes};
+ghost use Rattle.sasi_host.specs.View.{IsThere, contents};
+ghost use Rattle.sasi_host.specs.Disk.{Changes, Same};
+ghost use Rattle.sasi_tokentree.specs.Reads.{HasAt, IsSeenIn, IsShown, ReadsAtMost};
+ghost use Rattle.sasi_datawrite.specs.Format.{header, footer};
+ghost use Rattle.sasi_dataread.specs.Reads.{SparesData};
+ghost use Rattle.sasi_dataread.specs.Laws.{AreInRange};
+ghost use Rattle.sasi_dataread.specs.Frames.{IsFramed, SparesFooter, SparesHeader, end_mark};
+
+use crate::run::read_run;
+use sasi_fields::FieldReader;
+use sasi_host::{Damage, FileName, FormatRule, Host, PageReader, ReadFault, found};
+use sasi_types::TreeRef;
+use std::alloc::Global;
+
+// The bytes of a header.
+const HEADER: usize = 16;
+
+// The bytes of a footer.
+const FOOTER: u64 = 40;
+
+// No data file is shorter.
+const LEAST_SIZE: u64 = 97;
+
+// Where the partitions end at least.
+const LEAST_END: u64 = 33;
+
+const VERSION: u32 = 1;
+
+// What the footer tells: the key tree, the greatest time, and where the partitions end.
+#[derive(Clone, Copy)]
+pub struct Footer {
+    pub tree: TreeRef,
+    pub latest: u64,
+    pub end: u64,
+}
+
+// At this offset of the bytes, which stand at a place of the file, the wanted ones have to stand.
+fn check_part(
+    file: FileName,
+    at: u64,
+    bytes: &[u8],
+    offset: usize,
+    wanted: &[u8],
+    rule: FormatRule,
+) -> Result<(), Damage>
+    requires whole { offset + length wanted.now ≤ length bytes.now }
+    requires most { length wanted.now ≤ 8 }
+    requires place { at + length bytes.now < 2 ^ 64 }
+    ensures ok { OnOk result (take (length wanted.now) (drop offset bytes.now) ≡ wanted.now) }
+    ensures seen { IfErr result (IsSeenIn file at bytes.now) }
+    ensures differs { IfErr result (λ _. take (length wanted.now) (drop offset bytes.now) ≢ wanted.now) }
+{
+    let seen = &bytes[offset..offset + wanted.len()];
+    if seen != wanted {
+        return Err(found(file, at + offset as u64, rule, seen));
+    }
+    Ok(())
+}
+
+// The bytes have to be a header.
+fn check_header(file: FileName, bytes: &[u8]) -> Result<(), Damage>
+    requires { length bytes.now ≡ 16 }
+    ensures ok { OnOk result (bytes.now ≡ header) }
+    ensures seen { IfErr result (IsSeenIn file 0 bytes.now) }
+    ensures differs { IfErr result (λ _. bytes.now ≢ header) }
+{
+    check_part(file, 0, bytes, 0, b"SASIDAT1", FormatRule::Magic)?;
+    check_part(
+        file,
+        0,
+        bytes,
+        8,
+        &VERSION.to_be_bytes(),
+        FormatRule::Version,
+    )?;
+    check_part(file, 0, bytes, 12, &[0; 4], FormatRule::Number)?;
+    Ok(())
+}
+
+// The file has to begin with a header.
+fn read_header<H: Host, P: PageReader>(
+    alloc: Global,
+    host: &mut H,
+    pages: &mut P,
+    file: FileName,
+) -> Result<(), ReadFault>
+    requires there { IsThere (H.view host.old) file }
+    requires agrees { P.agrees pages.old (H.view host.old).files }
+    ensures ok { OnOk result ((bytes : Bytes) → contents (H.view host.old) file ≡ Some bytes → HasAt bytes 0 header) }
+    ensures damaged { IfErr result (IsShown (H.view host.old) file) }
+    ensures undamaged { IfErr result (SparesHeader (H.view host.old) file) }
+    ensures agrees { P.agrees pages.new (H.view host.new).files }
+    ensures covers { (name : FileName) → P.covers pages.new name → P.covers pages.old name ⊎ (name ≡ file) }
+    ensures changes { Changes Same (H.view host.old) (H.view host.new) }
+    ensures causes { ReadsAtMost 1 (H.view host.old) (H.view host.new) result }
+{
+    let bytes = read_run(alloc, host, pages, file, 0, HEADER)?;
+    check_header(file, &bytes)?;
+    Ok(())
+}
+
+// The last bytes of a file of this size, which have to end with the mark of a footer.
+fn read_end<H: Host, P: PageReader>(
+    alloc: Global,
+    host: &mut H,
+    pages: &mut P,
+    file: FileName,
+    size: u64,
+) -> Result<Vec<u8>, ReadFault>
+    requires there { IsThere (H.view host.old) file }
+    requires agrees { P.agrees pages.old (H.view host.old).files }
+    requires size { 40 ≤ size }
+    ensures ok { IfOk result (λ read. (bytes : Bytes) → contents (H.view host.old) file ≡ Some bytes → HasAt bytes (size - 40) read.items) }
+    ensures length { IfOk result (λ read. length read.items ≡ 40) }
+    ensures mark { IfOk result (λ read. take 8 (drop 32 read.items) ≡ end_mark) }
+    ensures damaged { IfErr result (IsShown (H.view host.old) file) }
+    ensures undamaged { IfErr result (SparesFooter (H.view host.old) file (size - 40)) }
+    ensures agrees { P.agrees pages.new (H.view host.new).files }
+    ensures covers { (name : FileName) → P.covers pages.new name → P.covers pages.old name ⊎ (name ≡ file) }
+    ensures changes { Changes Same (H.view host.old) (H.view host.new) }
+    ensures causes { ReadsAtMost 2 (H.view host.old) (H.view host.new) result }
+{
+    let at = size - FOOTER;
+    let bytes = read_run(alloc, host, pages, file, at, FOOTER as usize)?;
+    check_part(file, at, &bytes, 32, b"SASIDEND", FormatRule::Magic)?;
+    Ok(bytes)
+}
+
+// The number that a field of eight bytes holds.
+fn number_in(field: &[u8]) -> u64
+    requires { length field.now ≡ 8 }
+    ensures { to_be_bytes w64 result ≡ field.now }
+{
+    FieldReader::new(field).u64().unwrap_or(0)
+}
+
+// Whether the partitions can't end there, in front of this place.
+fn is_wrong_end(end: u64, at: u64) -> bool
+    ensures behind { result ≡ false → 33 ≤ end }
+    ensures within { result ≡ false → end ≤ at }
+    ensures wrong { IsTrue result → 33 ≤ end → at < end }
+{
+    end < LEAST_END || end > at
+}
+
+// The footer in these bytes, which stand at this place of the file.
+fn footer_in(file: FileName, at: u64, bytes: &[u8]) -> Result<Footer, Damage>
+    requires whole { length bytes.now ≡ 40 }
+    requires mark { take 8 (drop 32 bytes.now) ≡ end_mark }
+    requires place { at + 40 < 2 ^ 64 }
+    ensures ok { IfOk result (λ read. bytes.now ≡ footer read.tree read.latest read.end) }
+    ensures in_range { IfOk result (λ read. AreInRange (at + 40) read.tree read.latest read.end) }
+    ensures seen { IfErr result (IsSeenIn file at bytes.now) }
+    ensures spares { IfErr result (λ _. (tree : Tree) (latest end : ℕ) → bytes.now ≡ footer tree latest end → AreInRange (at + 40) tree latest end → ⊥) }
+{
+    let end = number_in(&bytes[24..32]);
+    if is_wrong_end(end, at) {
+        return Err(found(file, at + 24, FormatRule::Place, &bytes[24..32]));
+    }
+    let pairs = number_in(&bytes[8..16]);
+    if pairs == 0 {
+        return Err(found(file, at + 8, FormatRule::Number, &bytes[8..16]));
+    }
+    let root = number_in(&bytes[..8]);
+    let latest = number_in(&bytes[16..24]);
+    Ok(Footer {
+        tree: TreeRef { root, pairs },
+        latest,
+        end,
+    })
+}
+
+// The footer of a file that has a header and one.
+pub fn read_frame<H: Host, P: PageReader>(
+    alloc: Global,
+    host: &mut H,
+    pages: &mut P,
+    file: FileName,
+) -> Result<Footer, ReadFault>
+    requires there { IsThere (H.view host.old) file }
+    requires agrees { P.agrees pages.old (H.view host.old).files }
+    ensures ok { IfOk result (λ read. (bytes : Bytes) → contents (H.view host.old) file ≡ Some bytes → IsFramed bytes read.tree read.latest read.end) }
+    ensures in_range { IfOk result (λ read. (bytes : Bytes) → contents (H.view host.old) file ≡ Some bytes → AreInRange (length bytes) read.tree read.latest read.end) }
+    ensures damaged { IfErr result (IsShown (H.view host.old) file) }
+    ensures undamaged { IfErr result (SparesData (H.view host.old) file) }
+    ensures agrees { P.agrees pages.new (H.view host.new).files }
+    ensures covers { (name : FileName) → P.covers pages.new name → P.covers pages.old name ⊎ (name ≡ file) }
+    ensures changes { Changes Same (H.view host.old) (H.view host.new) }
+    ensures causes { ReadsAtMost 3 (H.view host.old) (H.view host.new) result }
+{
+    let size = host.size(file)?;
+    if size < LEAST_SIZE {
+        let damage = found(file, size, FormatRule::Short, &size.to_be_bytes());
+        return Err(ReadFault::Damaged(damage));
+    }
+    let bytes = read_end(alloc, host, pages, file, size)?;
+    read_header(alloc, host, pages, file)?;
+    let footer = footer_in(file, size - FOOTER, &bytes)?;
+    Ok(footer)
+}

@@ -1,0 +1,163 @@
+// Partitions read.
+ghost use Rattle.std.specs.Prelude.{◌≡◌, ◌⊎◌, ◌↔◌, ◌+◌, ◌^◌, ◌<◌, ◌≤◌, List, ℕ, length, IfErr, IfOk, IsTrue, Some, false};
+ghost use Rattle.std.specs.Int.{to_be_bytes, w32};
+ghost use Rattle.sasi_types.specs.declared.column.ColumnType.{ColumnType};
+ghost use Rattle.sasi_model.specs.Cells.{Partition as Part};
+ghost use Rattle.sasi_host.specs.declared.name.FileName.{FileName};
+ghost use Rattle.sasi_host.specs.declared.fault.ReadFault.TheVariants as read_fault;
+ghost use Rattle.sasi_host.specs.Names.{Bytes};
+ghost use Rattle.sasi_host.specs.View.{IsThere, contents};
+ghost use Rattle.sasi_host.specs.Disk.{Changes, Same};
+ghost use Rattle.sasi_host.specs.Damages.{OnDamage};
+ghost use Rattle.sasi_body.specs.declared.fault.BodyFault.TheVariants as body_fault;
+ghost use Rattle.sasi_body.specs.Format.{body};
+ghost use Rattle.sasi_body.specs.Seen.{IsFaultOf};
+ghost use Rattle.sasi_body.specs.Typed.{IsBodyOf};
+ghost use Rattle.sasi_tokentree.specs.Reads.{HasAt, IsSeen, IsShown, ReadsAtMost};
+ghost use Rattle.sasi_dataread.specs.Reads.{pages_of};
+ghost use Rattle.sasi_dataread.specs.Bodies.{sized, cost, IsLength, IsPlacedIn, SparesLength, SparesSized, SparesBody};
+
+use crate::damage::too_short;
+use crate::run::read_run;
+use sasi_body::{BodyFault, read_body};
+use sasi_cells::Partition;
+use sasi_fields::FieldReader;
+use sasi_host::{Damage, FileName, FormatRule, Host, PageReader, ReadFault, found};
+use sasi_types::{Key, TypeList};
+use std::alloc::Global;
+
+// The bytes of a length.
+const LENGTH: u64 = 4;
+
+// No body has so many bytes.
+const BODY_LIMIT: u64 = 1 << 23;
+
+// The number that a field of four bytes holds.
+fn length_in(field: &[u8]) -> u32
+    requires { length field.now ≡ 4 }
+    ensures { to_be_bytes w32 result ≡ field.now }
+{
+    FieldReader::new(field).u32().unwrap_or(0)
+}
+
+// Whether a body can't have so many bytes, where there is room for so many.
+fn is_wrong_length(count: u64, room: u64) -> bool
+    ensures some { result ≡ false → 0 < count }
+    ensures short { result ≡ false → count < 2 ^ 23 }
+    ensures within { result ≡ false → count ≤ room }
+    ensures wrong { IsTrue result → 0 < count → count < 2 ^ 23 → room < count }
+{
+    count == 0 || count >= BODY_LIMIT || count > room
+}
+
+// The length of the body at this place, which has to end in front of the end.
+fn read_length<H: Host, P: PageReader>(
+    alloc: Global,
+    host: &mut H,
+    pages: &mut P,
+    file: FileName,
+    end: u64,
+    place: u64,
+) -> Result<u64, ReadFault>
+    requires there { IsThere (H.view host.old) file }
+    requires agrees { P.agrees pages.old (H.view host.old).files }
+    ensures ok { IfOk result (λ count. (bytes : Bytes) → contents (H.view host.old) file ≡ Some bytes → HasAt bytes place (to_be_bytes w32 count)) }
+    ensures length { IfOk result (IsLength end place) }
+    ensures damaged { IfErr result (IsShown (H.view host.old) file) }
+    ensures undamaged { IfErr result (SparesLength (H.view host.old) file end place) }
+    ensures agrees { P.agrees pages.new (H.view host.new).files }
+    ensures covers { (name : FileName) → P.covers pages.new name → P.covers pages.old name ⊎ (name ≡ file) }
+    ensures changes { Changes Same (H.view host.old) (H.view host.new) }
+    ensures causes { ReadsAtMost (pages_of place 4) (H.view host.old) (H.view host.new) result }
+{
+    if place > end || end - place < LENGTH {
+        return Err(too_short(host, file));
+    }
+    let field = read_run(alloc, host, pages, file, place, LENGTH as usize)?;
+    let count = u64::from(length_in(&field));
+    if is_wrong_length(count, end - place - LENGTH) {
+        let damage = found(file, place, FormatRule::Number, &field);
+        return Err(ReadFault::Damaged(damage));
+    }
+    Ok(count)
+}
+
+// The bytes of the body at this place.
+fn read_sized<H: Host, P: PageReader>(
+    alloc: Global,
+    host: &mut H,
+    pages: &mut P,
+    file: FileName,
+    end: u64,
+    place: u64,
+) -> Result<Vec<u8>, ReadFault>
+    requires there { IsThere (H.view host.old) file }
+    requires agrees { P.agrees pages.old (H.view host.old).files }
+    ensures ok { IfOk result (λ read. (bytes : Bytes) → contents (H.view host.old) file ≡ Some bytes → HasAt bytes place (sized read.items)) }
+    ensures length { IfOk result (λ read. IsLength end place (length read.items)) }
+    ensures damaged { IfErr result (IsShown (H.view host.old) file) }
+    ensures undamaged { IfErr result (SparesSized (H.view host.old) file end place) }
+    ensures agrees { P.agrees pages.new (H.view host.new).files }
+    ensures covers { (name : FileName) → P.covers pages.new name → P.covers pages.old name ⊎ (name ≡ file) }
+    ensures changes { Changes Same (H.view host.old) (H.view host.new) }
+    ensures causes { ReadsAtMost 2051 (H.view host.old) (H.view host.new) result }
+    ensures reads { (bytes body : Bytes) → contents (H.view host.old) file ≡ Some bytes → HasAt bytes place (sized body) → length body < 2 ^ 32 → (H.view host.new).reads ≤ (H.view host.old).reads + cost place (length body) }
+{
+    let count = read_length(alloc, host, pages, file, end, place)?;
+    let body = read_run(alloc, host, pages, file, place + LENGTH, count as usize)?;
+    Ok(body)
+}
+
+// What a fault of the body at this place is in the file.
+fn fault_in_file(file: FileName, place: u64, bytes: &[u8], fault: BodyFault) -> ReadFault
+    requires short { length bytes.now < 2 ^ 23 }
+    requires place { place + 4 + length bytes.now < 2 ^ 64 }
+    requires within { IsPlacedIn (length bytes.now) fault }
+    ensures shown { (types : List ColumnType) (whole : Bytes) → IsFaultOf types bytes.now fault → HasAt whole place (sized bytes.now) → OnDamage (IsSeen file whole) result }
+    ensures memory { fault ≡ body_fault.OutOfMemory → result ≡ read_fault.OutOfMemory }
+    ensures works { result ≡ read_fault.Failed → ⊥ }
+{
+    match fault {
+        BodyFault::OutOfMemory => ReadFault::OutOfMemory,
+        BodyFault::OtherLength => {
+            let length = bytes.len() as u32;
+            let field = length.to_be_bytes();
+            ReadFault::Damaged(found(file, place, FormatRule::Number, &field))
+        }
+        BodyFault::Broken(broken) => ReadFault::Damaged(Damage {
+            file,
+            at: place + LENGTH + broken.at as u64,
+            rule: broken.rule,
+            seen: broken.seen,
+        }),
+    }
+}
+
+// The partition at this place, which has to end in front of the end.
+pub fn partition_at<H: Host, P: PageReader>(
+    alloc: Global,
+    host: &mut H,
+    pages: &mut P,
+    file: FileName,
+    types: &TypeList,
+    end: u64,
+    place: u64,
+) -> Result<(Key, Partition), ReadFault>
+    requires there { IsThere (H.view host.old) file }
+    requires agrees { P.agrees pages.old (H.view host.old).files }
+    ensures ok { IfOk result (λ read. (bytes : Bytes) → contents (H.view host.old) file ≡ Some bytes → HasAt bytes place (sized (body read.0 read.1))) }
+    ensures in_table { IfOk result (λ read. IsBodyOf types.now read.0 read.1) }
+    ensures damaged { IfErr result (IsShown (H.view host.old) file) }
+    ensures undamaged { IfErr result (SparesBody (H.view host.old) file types.now end place) }
+    ensures agrees { P.agrees pages.new (H.view host.new).files }
+    ensures covers { (name : FileName) → P.covers pages.new name → P.covers pages.old name ⊎ (name ≡ file) }
+    ensures changes { Changes Same (H.view host.old) (H.view host.new) }
+    ensures causes { ReadsAtMost 2051 (H.view host.old) (H.view host.new) result }
+    ensures reads { (bytes part : Bytes) → contents (H.view host.old) file ≡ Some bytes → HasAt bytes place (sized part) → length part < 2 ^ 32 → (H.view host.new).reads ≤ (H.view host.old).reads + cost place (length part) }
+{
+    let bytes = read_sized(alloc, host, pages, file, end, place)?;
+    match read_body(alloc, &bytes, types) {
+        Ok(read) => Ok(read),
+        Err(fault) => Err(fault_in_file(file, place, &bytes, fault)),
+    }
+}
