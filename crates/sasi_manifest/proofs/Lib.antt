@@ -1,0 +1,9 @@
+pub mod TextSpots
+pub mod Growing
+pub mod Exits
+pub mod KeyPlaces
+pub mod Records
+pub mod Moments
+pub mod Opening
+pub mod KeyWithin
+pub mod TypesApart

@@ -1,0 +1,45 @@
+-- The bytes of a manifest.
+use Rattle.std.specs.Prelude.{◌≡◌, ◌<◌, ◌≤◌, ℕ, ◌^◌, List, [], ◌∷◌, length, Option, Some, None}
+use Rattle.sasi_host.specs.declared.name.FileName.{FileName}
+use Rattle.sasi_host.specs.declared.name.Kind.TheVariants.{Manifest, Seal}
+use Rattle.sasi_host.specs.Names.{Bytes}
+use Rattle.sasi_gated.specs.Format.{IsGated}
+use Rattle.sasi_manifest.specs.declared.edit.Edit.{Edit}
+use Rattle.sasi_manifest.specs.declared.listing.Listing.{Listing}
+use Rattle.sasi_manifest.specs.Edits.{encoded}
+use Rattle.sasi_manifest.specs.Listings.{AllApply, after_all, counted, edits_of}
+
+abbrev pub manifest_name : ℕ → FileName
+manifest_name number = record { kind = Manifest; number = number; index = 0; part = 0 }
+
+-- the empty file that tells that the manifest of this number is whole
+abbrev pub seal_name : ℕ → FileName
+seal_name number = record { kind = Seal; number = number; index = 0; part = 0 }
+
+-- the record has these edits, at least one, and they apply
+pub record IsRecord (from : Option Listing) (payload : Bytes) (edits : List Edit) : Type 0 where
+  pub is : payload ≡ encoded edits
+  pub some : 1 ≤ length edits
+  pub few : length edits < 2 ^ 32
+  pub apply : AllApply from edits
+
+-- from what is listed, the records lead to this
+abbrev pub LeadsTo : Option Listing → List Bytes → Option Listing → Type 0
+LeadsTo from [] to = from ≡ to
+LeadsTo from (payload ∷ payloads) to = (edits : List Edit) × IsRecord from payload edits × LeadsTo (counted payload (after_all from edits)) payloads to
+
+-- the records build up the listing
+abbrev pub Builds : List Bytes → Listing → Type 0
+Builds records listing = LeadsTo None records (Some listing)
+
+-- the bytes are the manifest of this number, and it lists this
+abbrev pub IsManifest : ℕ → Bytes → Listing → Type 0
+IsManifest number bytes listing = (records : List Bytes) × IsGated (manifest_name number) bytes records × Builds records listing
+
+-- what a manifest of one record lists: the same tables, and its own length
+abbrev pub IsRewritten : Listing → Listing → Type 0
+IsRewritten listing rewritten = Some rewritten ≡ counted (encoded (edits_of listing)) (after_all None (edits_of listing))
+
+-- what a manifest lists after one more record of these edits
+abbrev pub IsNext : Listing → List Edit → Listing → Type 0
+IsNext listing edits next = Some next ≡ counted (encoded edits) (after_all (Some listing) edits)

@@ -1,0 +1,13 @@
+-- A broken rule, as it is told.
+use Rattle.std.specs.Prelude.{◌≡◌, ℕ}
+use Rattle.sasi_host.specs.declared.damage.FormatRule.{FormatRule}
+use Rattle.sasi_host.specs.Names.{Bytes}
+use Rattle.sasi_host.specs.Damages.{seen_bytes}
+use Rattle.sasi_manifest.specs.declared.misread.Misread.{Misread}
+use Rattle.sasi_manifest.specs.declared.misread.Misread.TheVariants.{OutOfMemory, NoEnd, Broken}
+
+-- this rule, at this place, where these bytes stand
+abbrev pub IsBroken : FormatRule → ℕ → Bytes → Misread → Type 0
+IsBroken rule at bytes OutOfMemory = ⊥
+IsBroken rule at bytes NoEnd = ⊥
+IsBroken rule at bytes (Broken told place seen) = (told ≡ rule) × (place ≡ at) × (seen_bytes seen ≡ bytes)

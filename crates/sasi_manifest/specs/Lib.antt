@@ -1,0 +1,17 @@
+pub mod Naming
+pub mod Listed
+pub mod Edits
+pub mod ListedTables
+pub mod Listings
+pub mod Format
+pub mod Consistent
+pub mod Types
+pub mod Forms
+pub mod IsBroken
+pub mod Misreads
+pub mod Carried
+pub mod Taken
+pub mod Damages
+pub mod Standing
+pub mod Reading
+pub mod Laws

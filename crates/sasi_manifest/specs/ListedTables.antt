@@ -1,0 +1,17 @@
+-- Listed tables, as they are held.
+use Rattle.std.specs.Prelude.{◌≤◌, List, [], length, map}
+use Rattle.sasi_schema.specs.Defined.{definition}
+use Rattle.sasi_schema.specs.Numbers.{RisesFrom}
+use Rattle.sasi_manifest.specs.declared.listed.ListedTable.{ListedTable}
+use Rattle.sasi_manifest.specs.Listed.{Listed}
+use Rattle.sasi_manifest.specs.Naming.{AreApart}
+
+-- what is said of the table
+abbrev pub listed : ListedTable → Listed
+listed t = record { definition = definition t.table; since = t.since }
+
+-- numbered from 1, at most 256, and each of a name of its own
+pub record IsInOrder (tables : List ListedTable) : Type 0 where
+  pub numbers : RisesFrom 1 (map (λ t. t.table.number) tables)
+  pub few : length tables ≤ 256
+  pub apart : AreApart [] (map (λ t. t.table.name) tables)

@@ -1,0 +1,104 @@
+-- What a manifest lists, and what edits make of it.
+use Rattle.std.specs.Prelude.{◌≡◌, ℕ, suc, ◌+◌, ◌<◌, ◌≤◌, ◌^◌, List, [], ◌∷◌, ◌++◌, length, map, Option, Some, None}
+use Rattle.sasi_types.specs.declared.partitioner.Partitioner.{Partitioner}
+use Rattle.sasi_host.specs.Names.{Bytes}
+use Rattle.sasi_model.specs.State.{Column, Definition}
+use Rattle.sasi_model.specs.Refusals.{names_in}
+use Rattle.sasi_manifest.specs.declared.edit.Edit.{Edit}
+use Rattle.sasi_manifest.specs.declared.edit.Edit.TheVariants.{Start, CreateTable}
+use Rattle.sasi_manifest.specs.declared.listing.Listing.{Listing}
+use Rattle.sasi_manifest.specs.Listed.{Listed}
+use Rattle.sasi_manifest.specs.Naming.{IsName, IsFree, AreNames, AreApart}
+
+-- the names of the listed tables
+abbrev pub listed_names : List Listed → List Bytes
+listed_names tables = map (λ t. t.definition.name) tables
+
+-- the definitions of the listed tables
+abbrev pub listed_definitions : List Listed → List Definition
+listed_definitions tables = map (λ t. t.definition) tables
+
+-- ---- edits
+
+-- a manifest's first edit: the live segments of the log are those from the floor to the last
+pub record CanStart (floor last : ℕ) : Type 0 where
+  pub floor_some : 1 ≤ floor
+  pub ordered : floor ≤ last
+  pub last_fits : last < 2 ^ 32
+
+-- the next table, of a free name, with 1 to 64 columns of names of their own, one of which is the key
+pub record CanCreate (listing : Listing) (number : ℕ) (name : Bytes) (columns : List Column) (key since : ℕ) : Type 0 where
+  pub next : number ≡ suc (length listing.tables)
+  pub few : number ≤ 256
+  pub name_fits : IsName name
+  pub free : IsFree (listed_names listing.tables) name
+  pub some_columns : 1 ≤ length columns
+  pub few_columns : length columns ≤ 64
+  pub column_names : AreNames (names_in columns)
+  pub apart : AreApart [] (names_in columns)
+  pub key_within : key < length columns
+  pub since_some : 1 ≤ since
+  pub since_within : since ≤ listing.last
+  pub since_fits : since < 2 ^ 32
+
+-- the edit may stand behind what is listed; nothing is listed before the first
+abbrev pub Applies : Option Listing → Edit → Type 0
+Applies None (Start partitioner floor last) = CanStart floor last
+Applies None (CreateTable number name columns key since) = ⊥
+Applies (Some listing) (Start partitioner floor last) = ⊥
+Applies (Some listing) (CreateTable number name columns key since) = CanCreate listing number name columns key since
+
+-- an edit whose fields have the width that its bytes give them
+abbrev pub IsWritable : Edit → Type 0
+IsWritable (Start partitioner floor last) = Unit {0}
+IsWritable (CreateTable number name columns key since) = (length name ≤ 48) × (length columns ≤ 64) × AreNames (names_in columns)
+
+-- no tables, before a record is counted; the header and the closed gate have 17 bytes
+abbrev pub started : Partitioner → ℕ → ℕ → Listing
+started partitioner floor last = record { partitioner = partitioner; floor = floor; last = last; records = 0; length = 17; tables = [] }
+
+-- a table as an edit makes it
+abbrev pub created : Bytes → List Column → ℕ → ℕ → Listed
+created name columns key since = record { definition = record { name = name; columns = columns; key = key }; since = since }
+
+abbrev pub with_table : Listed → Listing → Listing
+with_table table listing = record listing { tables = listing.tables ++ table ∷ [] }
+
+-- what is listed after an edit
+abbrev pub after : Option Listing → Edit → Option Listing
+after from (Start partitioner floor last) = Some (started partitioner floor last)
+after None (CreateTable number name columns key since) = None
+after (Some listing) (CreateTable number name columns key since) = Some (with_table (created name columns key since) listing)
+
+-- edits apply one after another
+abbrev pub AllApply : Option Listing → List Edit → Type 0
+AllApply from [] = Unit {0}
+AllApply from (edit ∷ edits) = Applies from edit × AllApply (after from edit) edits
+
+abbrev pub after_all : Option Listing → List Edit → Option Listing
+after_all from [] = from
+after_all from (edit ∷ edits) = after_all (after from edit) edits
+
+-- one record more, behind its gate and its length
+abbrev pub counted : Bytes → Option Listing → Option Listing
+counted payload None = None
+counted payload (Some listing) = Some (record listing { records = listing.records + 1; length = listing.length + (5 + length payload) })
+
+-- how many records there are, and how long the manifest is with them
+abbrev pub records_of : Option Listing → ℕ
+records_of None = 0
+records_of (Some listing) = listing.records
+
+abbrev pub length_of : Option Listing → ℕ
+length_of None = 17
+length_of (Some listing) = listing.length
+
+-- ---- the first record of a manifest that lists the same
+
+abbrev pub create_edits : ℕ → List Listed → List Edit
+create_edits number [] = []
+create_edits number (t ∷ tables) = CreateTable number t.definition.name t.definition.columns t.definition.key t.since ∷ create_edits (suc number) tables
+
+-- the start, and then its tables in order
+abbrev pub edits_of : Listing → List Edit
+edits_of listing = Start listing.partitioner listing.floor listing.last ∷ create_edits 1 listing.tables

@@ -1,0 +1,76 @@
+-- What the reading of a manifest gives.
+use Rattle.std.specs.Prelude.{◌≡◌, ℕ, ◌+◌, ◌≤◌, ◌^◌, IsTrue, List, Option, Some, None}
+use Rattle.sasi_host.specs.declared.damage.Damage.{Damage}
+use Rattle.sasi_host.specs.Names.{Bytes}
+use Rattle.sasi_host.specs.View.{View, IsThere, IsTold, contents}
+use Rattle.sasi_host.specs.Disk.{Changes, Same, IsKept}
+use Rattle.sasi_host.specs.Damages.{seen_bytes}
+use Rattle.sasi_gated.specs.Format.{Closes}
+use Rattle.sasi_gated.specs.Gates.{IsAtGate}
+use Rattle.sasi_gated.specs.Standing.{Handle}
+use Rattle.sasi_manifest.specs.declared.listing.Listing.{Listing}
+use Rattle.sasi_manifest.specs.declared.misread.Misread.{Misread}
+use Rattle.sasi_manifest.specs.declared.misread.Misread.TheVariants as misread
+use Rattle.sasi_manifest.specs.Consistent.{ConsistentIf}
+use Rattle.sasi_manifest.specs.Listings.{length_of, records_of}
+use Rattle.sasi_manifest.specs.Format.{Builds, IsManifest, LeadsTo, manifest_name}
+use Rattle.sasi_manifest.specs.Forms.{Finding, Lacks, record_form}
+use Rattle.sasi_manifest.specs.Damages.{IsTold as IsToldOf}
+use Rattle.sasi_manifest.specs.Standing.{Stands}
+
+-- the damage tells what the record behind the gate at this place lacks
+pub record IsTelling (number before : ℕ) (from : Option Listing) (payload : Bytes) (damage : Damage) : Type 0 where
+  pub named : damage.file ≡ manifest_name number
+  pub found : Finding
+  pub lacks : Lacks (record_form from) 0 payload found
+  pub told : IsToldOf before payload found damage.rule damage.at (seen_bytes damage.seen)
+
+-- the place that was found is within so many bytes
+abbrev pub IsSpotWithin : ℕ → Misread → Type 0
+IsSpotWithin size misread.OutOfMemory = Unit {0}
+IsSpotWithin size misread.NoEnd = Unit {0}
+IsSpotWithin size (misread.Broken rule at seen) = at ≤ size
+
+-- the records before the gate at this place lead to what is listed
+pub record IsReadTo (number : ℕ) (bytes : Bytes) (at : ℕ) (listed : Option Listing) : Type 0 where
+  pub done : List Bytes
+  pub rest : Bytes
+  pub at_gate : IsAtGate (manifest_name number) bytes at done rest
+  pub leads : LeadsTo None done listed
+
+-- all records were read, and the closed gate stands at this place
+pub record IsReadWhole (number : ℕ) (bytes : Bytes) (at : ℕ) (listing : Listing) : Type 0 where
+  pub done : List Bytes
+  pub rest : Bytes
+  pub at_gate : IsAtGate (manifest_name number) bytes at done rest
+  pub closed : Closes rest
+  pub builds : Builds done listing
+
+-- the same of the manifest as it reads
+abbrev pub ReadsTo : View → ℕ → ℕ → Option Listing → Type 0
+ReadsTo v number at listed = (bytes : Bytes) → contents v (manifest_name number) ≡ Some bytes → IsReadTo number bytes at listed
+
+abbrev pub ReadsWhole : View → ℕ → ℕ → Listing → Type 0
+ReadsWhole v number at listing = (bytes : Bytes) → contents v (manifest_name number) ≡ Some bytes → IsReadWhole number bytes at listing
+
+-- the manifest as it reads lists this
+abbrev pub ReadsListing : View → ℕ → Listing → Type 0
+ReadsListing v number listing = (bytes : Bytes) → contents v (manifest_name number) ≡ Some bytes → IsManifest number bytes listing
+
+-- and where each image has it alike, it stands
+abbrev pub StandsWhereKept : View → View → ℕ → ℕ → Listing → Type 0
+StandsWhereKept old new number at listing = (bytes : Bytes) → IsTold old → IsKept old (manifest_name number) bytes → Stands new number at listing
+
+-- a reading that goes on
+pub record GoesOn (a b : View) (number : ℕ) (gated : Handle) (listed : Option Listing) : Type 0 where
+  pub file : gated.file ≡ manifest_name number
+  pub usable : IsTrue gated.usable
+  pub fits : gated.at ≤ 2 ^ 62
+  pub reaches : length_of listed ≡ gated.at + 1
+  pub few_records : records_of listed ≤ gated.at
+  pub there : IsThere b (manifest_name number)
+  pub same : Changes Same a b
+  pub disk : a.disk_faults ≤ b.disk_faults
+  pub out : b.out_faults ≡ a.out_faults
+  pub reads : ReadsTo a number gated.at listed
+  pub consistent : ConsistentIf listed

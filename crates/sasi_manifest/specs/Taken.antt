@@ -1,0 +1,15 @@
+-- Edits that were read.
+use Rattle.std.specs.Prelude.{◌≡◌, ℕ, List, length, Option}
+use Rattle.sasi_fields.specs.Reading.{Reading, Passes}
+use Rattle.sasi_manifest.specs.declared.edit.Edit.{Edit}
+use Rattle.sasi_manifest.specs.declared.listing.Listing.{Listing}
+use Rattle.sasi_manifest.specs.Edits.{edits_bytes}
+use Rattle.sasi_manifest.specs.Listings.{AllApply, after_all}
+
+-- the reader has passed so many edits, which apply and make this of what was listed
+pub record TakesEdits (from to : Option Listing) (count : ℕ) (old new : Reading) : Type 0 where
+  pub edits : List Edit
+  pub many : length edits ≡ count
+  pub apply : AllApply from edits
+  pub passes : Passes (edits_bytes edits) old new
+  pub makes : after_all from edits ≡ to

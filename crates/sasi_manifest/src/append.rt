@@ -1,0 +1,51 @@
+// An append of edits to a manifest's file.
+ghost use Rattle.std.specs.Prelude.{◌≡◌, ◌+◌, ◌≤◌, ◌^◌, ℕ, List, length, Some, IsTrue, is_ok, OnErr, OnOk};
+ghost use Rattle.sasi_host.specs.View.{ListCauses, Reaches};
+ghost use Rattle.sasi_host.specs.Disk.{Anyhow, Changes, LeftWith, Step};
+ghost use Rattle.sasi_gated.specs.Format.{IsBeforeOrAfter};
+ghost use Rattle.sasi_gated.specs.Reads.{Gains};
+ghost use Rattle.sasi_gated.specs.Standing.{IsAtEnd};
+ghost use Rattle.sasi_manifest.specs.Edits.{encoded};
+ghost use Rattle.sasi_manifest.specs.Format.{IsNext};
+ghost use Rattle.sasi_manifest.specs.Listings.{AllApply};
+
+use crate::prepare::prepare;
+use crate::{Edit, Listing};
+use sasi_gated::Gated;
+use sasi_host::{Host, HostFault};
+use std::alloc::Global;
+
+// Appends the record of the edits, and lists what they make.
+pub fn append_edits<H: Host>(
+    alloc: Global,
+    host: &mut H,
+    gated: &mut Gated,
+    listing: &mut Listing,
+    edits: &[Edit],
+) -> Result<(), HostFault>
+    requires room { Reaches (H.view host.old) gated.old.file (gated.old.at + 1) }
+    requires usable { IsTrue gated.old.usable }
+    requires apply { AllApply (Some listing.old) edits.now }
+    requires some { 1 ≤ length edits.now }
+    requires short { length (encoded edits.now) ≤ 2 ^ 30 }
+    requires records { listing.old.records ≤ 2 ^ 62 }
+    requires length { listing.old.length ≤ 2 ^ 62 + 1 }
+    ensures ok { OnOk result (Gains (H.view host.old) (H.view host.new) gated.old.file gated.old.at gated.new.at (encoded edits.now)) }
+    ensures listing { OnOk result (IsNext listing.old edits.now listing.new) }
+    ensures err { OnErr result (listing.new ≡ listing.old) }
+    ensures any_moment { (records : List (List ℕ)) → IsAtEnd (H.view host.old) gated.old.file gated.old.at records
+        → Changes (Step gated.old.file (LeftWith (IsBeforeOrAfter gated.old.file records (encoded edits.now)))) (H.view host.old) (H.view host.new) }
+    ensures changes { Changes (Step gated.old.file Anyhow) (H.view host.old) (H.view host.new) }
+    ensures place { OnOk result (gated.new.at ≡ gated.old.at + (5 + length (encoded edits.now))) }
+    ensures fits { OnOk result (gated.new.at ≤ 2 ^ 62) }
+    ensures room { OnOk result (Reaches (H.view host.new) gated.new.file (gated.new.at + 1)) }
+    ensures usable { OnOk result (IsTrue gated.new.usable) }
+    ensures file { gated.new.file ≡ gated.old.file }
+    ensures causes { ListCauses (H.view host.old) (H.view host.new) result }
+{
+    let copy = listing.copy(alloc)?;
+    let next = prepare(alloc, Some(copy), edits)?;
+    gated.append(host, &next.record)?;
+    *listing = next.listing;
+    Ok(())
+}

@@ -1,0 +1,61 @@
+// What edits make of a listing.
+ghost use Rattle.std.specs.Prelude.{◌≡◌, ◌+◌, ◌<◌, ◌++◌, ◌∷◌, [], length, Some, IfOk};
+ghost use Rattle.sasi_schema.specs.Defined.{definition};
+ghost use Rattle.sasi_manifest.specs.Naming.{IsFree};
+ghost use Rattle.sasi_manifest.specs.Listings.{Applies, after, listed_names, started, with_table};
+
+use crate::{Edit, ListedTables, Listing};
+use sasi_schema::Table;
+use sasi_types::Partitioner;
+use std::alloc::{AllocError, Global};
+
+// What is listed after an edit.
+pub fn apply(alloc: Global, from: Option<Listing>, edit: &Edit) -> Result<Listing, AllocError>
+    requires { Applies from edit.now }
+    ensures { IfOk result (λ listing. Some listing ≡ after from edit.now) }
+{
+    match edit {
+        Edit::Start {
+            partitioner,
+            floor,
+            last,
+        } => Ok(started(alloc, *partitioner, *floor, *last)),
+        Edit::CreateTable {
+            number,
+            name,
+            columns,
+            key,
+            since,
+        } => {
+            let Some(listing) = from else {
+                unreachable!();
+            };
+            let (name, columns) = (name.copy(alloc)?, columns.copy(alloc)?);
+            with_table(listing, Table::new(*number, name, columns, *key), *since)
+        }
+    }
+}
+
+// No tables, before a record is counted.
+fn started(alloc: Global, partitioner: Partitioner, floor: u32, last: u32) -> Listing
+    ensures { result ≡ started partitioner floor last }
+{
+    Listing {
+        partitioner,
+        floor,
+        last,
+        records: 0,
+        length: 17,
+        tables: ListedTables::new(alloc),
+    }
+}
+
+fn with_table(mut listing: Listing, table: Table, since: u32) -> Result<Listing, AllocError>
+    requires number { table.number ≡ length listing.tables + 1 }
+    requires few { length listing.tables < 256 }
+    requires free { IsFree (listed_names listing.tables) table.name }
+    ensures { IfOk result (λ made. made ≡ with_table (record { definition = definition table; since = since }) listing) }
+{
+    listing.tables.push(table, since)?;
+    Ok(listing)
+}

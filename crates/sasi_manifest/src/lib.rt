@@ -1,0 +1,37 @@
+// Manifests: the files that say which tables there are, and which segments of the log are live. Each record is a list of
+// edits that take effect together, and the records build up one listing. It stands on gated files, and promises that a
+// crash leaves the former listing or the next.
+#![tactic(auto)]
+
+mod append;
+mod apply;
+mod columns;
+mod create;
+mod edit;
+mod edit_list;
+mod field;
+mod listed;
+mod listing;
+mod manifest;
+mod misread;
+mod name;
+mod named;
+mod open;
+mod prepare;
+mod put;
+mod read_edit;
+mod read_record;
+mod rewrite;
+mod seal;
+mod size;
+mod table_types;
+#[cfg(test)]
+mod tests;
+mod text;
+
+pub use edit::Edit;
+pub use edit_list::EditList;
+pub use listed::{ListedTable, ListedTables};
+pub use listing::Listing;
+pub use manifest::Manifest;
+pub use name::{manifest_name, seal_name};

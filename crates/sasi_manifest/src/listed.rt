@@ -1,0 +1,100 @@
+// The tables that a manifest lists.
+ghost use Rattle.std.specs.Prelude.{◌≡◌, ◌++◌, ◌∷◌, ◌<◌, ◌≤◌, ◌+◌, [], length, map, IfOk, OnOk, OnErr};
+ghost use Rattle.sasi_schema.specs.Defined.{definition};
+ghost use Rattle.sasi_schema.specs.Numbers.{RisesFrom};
+ghost use Rattle.sasi_manifest.specs.Naming.{AreApart, IsFree};
+
+use crate::named::{copies, is_listed};
+use sasi_schema::Table;
+use std::alloc::{AllocError, Global};
+use std::marker::Model;
+
+/// A table that a manifest lists.
+#[derive(Drop)]
+pub struct ListedTable {
+    pub table: Table,
+    /// The table's records stand in the segments of the log from this one on.
+    pub since: u32,
+}
+
+/// The tables that a manifest lists, in the order of their numbers, which are their places from 1.
+#[derive(Drop)]
+pub struct ListedTables {
+    items: Vec<ListedTable>,
+}
+
+impl Model for ListedTables {
+    ghost use Rattle.std.specs.Prelude.{List, [], map};
+    ghost use Rattle.sasi_manifest.specs.Listed.{Listed, listed_code};
+    ghost use Rattle.sasi_manifest.specs.ListedTables.{listed, IsInOrder};
+    ghost use Rattle.std.specs.Coded.{coded_list};
+
+    ghost Value = { List Listed };
+
+    ghost coded = { coded_list listed_code };
+
+    ghost view = { λ a. map listed a.items.items };
+
+    ghost invariant = { λ a. IsInOrder a.items.items };
+}
+
+impl ListedTables {
+    ghost use Rattle.std.specs.List.{list_any};
+    ghost use Rattle.sasi_model.specs.Statements.{same};
+    ghost use Rattle.sasi_manifest.specs.ListedTables.{listed};
+    ghost use Rattle.sasi_manifest.specs.Listings.{listed_names};
+
+    /// No tables.
+    pub fn new(alloc: Global) -> ListedTables
+        ensures { result ≡ [] }
+    {
+        ListedTables {
+            items: Vec::new(alloc),
+        }
+    }
+
+    /// How many there are.
+    pub fn len(&self) -> usize
+        ensures count { result ≡ length self.now }
+        ensures few { result ≤ 256 }
+    {
+        self.items.len()
+    }
+
+    /// Whether one of them has the name.
+    pub fn has(&self, name: &[u8]) -> bool
+        ensures { result ≡ list_any (same name.now) (listed_names self.now) }
+    {
+        is_listed(name, &self.items)
+    }
+
+    /// Adds a table behind the others.
+    pub fn push(&mut self, table: Table, since: u32) -> Result<(), AllocError>
+        requires number { table.number ≡ length self.old + 1 }
+        requires few { length self.old < 256 }
+        requires free { IsFree (listed_names self.old) table.name }
+        ensures ok { OnOk result (self.new ≡ self.old ++ record { definition = definition table; since = since } ∷ []) }
+        ensures err { OnErr result (self.new ≡ self.old) }
+    {
+        self.items.push(ListedTable { table, since })?;
+        Ok(())
+    }
+
+    /// The tables, in order.
+    pub fn as_slice(&self) -> &[ListedTable]
+        ensures tables { map listed result.now ≡ self.now }
+        ensures numbers { RisesFrom 1 (map (λ t. t.table.number) result.now) }
+        ensures apart { AreApart [] (map (λ t. t.table.name) result.now) }
+        ensures few { length result.now ≤ 256 }
+    {
+        &self.items
+    }
+
+    /// The same tables once more.
+    pub fn copy(&self, alloc: Global) -> Result<ListedTables, AllocError>
+        ensures { IfOk result (λ copy. copy ≡ self.now) }
+    {
+        let items = copies(alloc, &self.items)?;
+        Ok(ListedTables { items })
+    }
+}

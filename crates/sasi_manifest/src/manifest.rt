@@ -1,0 +1,152 @@
+// A manifest in hand.
+ghost use Rattle.std.specs.Prelude.{◌≡◌, ◌+◌, ◌≤◌, ◌^◌, [], length, None, Some, IsTrue, IfErr, IfOk, OnErr, OnOk, is_ok};
+ghost use Rattle.sasi_host.specs.View.{Holds, IsAbsent, IsThere, IsTold, ListCauses, Reaches, contents};
+ghost use Rattle.sasi_host.specs.Disk.{Anyhow, Changes, IsKept, LeftWith, Same, Step};
+ghost use Rattle.sasi_gated.specs.Causes.{ReadingCauses};
+ghost use Rattle.sasi_manifest.specs.declared.listing.Listing.{Listing as AListing};
+ghost use Rattle.sasi_manifest.specs.Consistent.{IsConsistent};
+ghost use Rattle.sasi_manifest.specs.Damages.{IsShownBy, SparesManifests};
+ghost use Rattle.sasi_manifest.specs.Edits.{encoded};
+ghost use Rattle.sasi_manifest.specs.Format.{IsManifest, IsNext, IsRewritten, manifest_name, seal_name};
+ghost use Rattle.sasi_manifest.specs.Listings.{AllApply, edits_of};
+ghost use Rattle.sasi_manifest.specs.Reading.{ReadsListing, StandsWhereKept};
+ghost use Rattle.sasi_manifest.specs.Standing.{Creates, IsEither, IsUnsealed, Stands, Touches};
+
+use crate::append::append_edits;
+use crate::create::create_sealed;
+use crate::open::open_manifest;
+use crate::{EditList, Listing};
+use sasi_gated::Gated;
+use sasi_host::{Host, HostFault, ReadFault};
+use std::alloc::Global;
+use std::marker::Model;
+
+/// A manifest, standing at its closed gate. Seen as its number, the place of that gate, whether it is usable, and what it
+/// lists.
+#[derive(Drop)]
+pub struct Manifest {
+    alloc: Global,
+    number: u32,
+    gated: Gated,
+    listing: Listing,
+    usable: bool,
+}
+
+impl Model for Manifest {
+    ghost use Rattle.sasi_manifest.specs.Standing.{Held, IsInHand};
+
+    ghost Value = { Held };
+
+    ghost view = { λ a. record { number = a.number; at = a.gated.at; usable = a.usable; listing = a.listing } };
+
+    ghost invariant = { λ a. IsInHand a.number a.gated a.listing a.usable };
+}
+
+impl Manifest {
+    /// What it lists.
+    pub fn listing(&self) -> &Listing
+        ensures listing { result.now ≡ self.now.listing }
+        ensures consistent { IsConsistent self.now.listing }
+    {
+        &self.listing
+    }
+
+    /// Its number.
+    pub fn number(&self) -> u32
+        ensures { result ≡ self.now.number }
+    {
+        self.number
+    }
+
+    /// Whether no call on it gave a fault.
+    pub fn is_usable(&self) -> bool
+        ensures { result ≡ self.now.usable }
+    {
+        self.usable
+    }
+
+    /// Makes a manifest of one record that lists the same, and its seal: the manifest's file is written and synced, and then
+    /// the seal is made and the folder synced.
+    pub fn create<H: Host>(
+        alloc: Global,
+        host: &mut H,
+        number: u32,
+        listing: &Listing,
+    ) -> Result<Manifest, HostFault>
+        requires manifest { IsAbsent (H.view host.old) (manifest_name number) }
+        requires seal { IsAbsent (H.view host.old) (seal_name number) }
+        requires apply { AllApply None (edits_of listing.now) }
+        requires short { length (encoded (edits_of listing.now)) ≤ 2 ^ 30 }
+        ensures ok { IfOk result (λ m. Stands (H.view host.new) number m.at m.listing) }
+        ensures sealed { OnOk result (IsUnsealed (H.view host.old) number → IsKept (H.view host.new) (seal_name number) []) }
+        ensures listing { IfOk result (λ m. IsRewritten listing.now m.listing) }
+        ensures any_moment { (made : AListing) → IsRewritten listing.now made → IsUnsealed (H.view host.old) number → Changes (Creates number made) (H.view host.old) (H.view host.new) }
+        ensures changes { Changes (Touches number) (H.view host.old) (H.view host.new) }
+        ensures room { IfOk result (λ m. Reaches (H.view host.new) (manifest_name number) (m.at + 1)) }
+        ensures number { IfOk result (λ m. m.number ≡ number) }
+        ensures usable { IfOk result (λ m. IsTrue m.usable) }
+        ensures causes { ListCauses (H.view host.old) (H.view host.new) result }
+    {
+        let made = create_sealed(alloc, host, number, listing)?;
+        Ok(Manifest {
+            alloc,
+            number,
+            gated: made.gated,
+            listing: made.listing,
+            usable: true,
+        })
+    }
+
+    /// Opens a manifest: reads all its records, and stands at its closed gate.
+    pub fn open<H: Host>(alloc: Global, host: &mut H, number: u32) -> Result<Manifest, ReadFault>
+        requires { IsThere (H.view host.old) (manifest_name number) }
+        ensures ok { IfOk result (λ m. ReadsListing (H.view host.old) number m.listing) }
+        ensures stands { IfOk result (λ m. StandsWhereKept (H.view host.old) (H.view host.new) number m.at m.listing) }
+        ensures room { IfOk result (λ m. Reaches (H.view host.new) (manifest_name number) (m.at + 1)) }
+        ensures damaged { IfErr result (IsShownBy (H.view host.old) number) }
+        ensures undamaged { IfErr result (SparesManifests (H.view host.old) number) }
+        ensures changes { Changes Same (H.view host.old) (H.view host.new) }
+        ensures number { IfOk result (λ m. m.number ≡ number) }
+        ensures usable { IfOk result (λ m. IsTrue m.usable) }
+        ensures causes { ReadingCauses (H.view host.old) (H.view host.new) result }
+    {
+        let opened = open_manifest(alloc, host, number)?;
+        Ok(Manifest {
+            alloc,
+            number,
+            gated: opened.gated,
+            listing: opened.listing,
+            usable: true,
+        })
+    }
+
+    /// Appends a record of the edits, which take effect together. What it lists stays after a fault.
+    pub fn append<H: Host>(&mut self, host: &mut H, edits: &EditList) -> Result<(), HostFault>
+        requires room { Reaches (H.view host.old) (manifest_name self.old.number) (self.old.at + 1) }
+        requires usable { IsTrue self.old.usable }
+        requires apply { AllApply (Some self.old.listing) edits.now }
+        requires some { 1 ≤ length edits.now }
+        requires short { length (encoded edits.now) ≤ 2 ^ 30 }
+        ensures ok { OnOk result (Stands (H.view host.old) self.old.number self.old.at self.old.listing → Stands (H.view host.new) self.old.number self.new.at self.new.listing) }
+        ensures listing { OnOk result (IsNext self.old.listing edits.now self.new.listing) }
+        ensures err { OnErr result (self.new.listing ≡ self.old.listing) }
+        ensures any_moment { (next : AListing) → IsNext self.old.listing edits.now next → Stands (H.view host.old) self.old.number self.old.at self.old.listing
+            → Changes (Step (manifest_name self.old.number) (LeftWith (IsEither self.old.number self.old.listing next))) (H.view host.old) (H.view host.new) }
+        ensures changes { Changes (Step (manifest_name self.old.number) Anyhow) (H.view host.old) (H.view host.new) }
+        ensures room { OnOk result (Reaches (H.view host.new) (manifest_name self.new.number) (self.new.at + 1)) }
+        ensures usable { self.new.usable ≡ is_ok result }
+        ensures number { self.new.number ≡ self.old.number }
+        ensures causes { ListCauses (H.view host.old) (H.view host.new) result }
+    {
+        self.usable = false;
+        append_edits(
+            self.alloc,
+            host,
+            &mut self.gated,
+            &mut self.listing,
+            edits.as_slice(),
+        )?;
+        self.usable = true;
+        Ok(())
+    }
+}

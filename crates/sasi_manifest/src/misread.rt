@@ -1,0 +1,55 @@
+// Why the content of a record isn't read.
+ghost use Rattle.std.specs.Prelude.{◌≡◌, ◌≤◌, ◌^◌, length};
+ghost use Rattle.sasi_manifest.specs.declared.misread.Misread.TheVariants as misread;
+ghost use Rattle.sasi_host.specs.Damages.{seen_bytes};
+ghost use Rattle.sasi_manifest.specs.IsBroken.{IsBroken};
+
+use sasi_host::{FormatRule, Seen};
+use std::alloc::AllocError;
+
+/// Why the content of a record isn't read.
+#[derive(Clone, Copy)]
+pub enum Misread {
+    OutOfMemory,
+    /// The content doesn't have the length that the record states.
+    NoEnd,
+    /// A rule is broken at this place of the payload, where these bytes stand.
+    Broken {
+        rule: FormatRule,
+        at: usize,
+        seen: Seen,
+    },
+}
+
+impl From<AllocError> for Misread {
+    ghost from_gives = { λ _ m. m ≡ misread.OutOfMemory };
+
+    fn from(_error: AllocError) -> Misread {
+        Misread::OutOfMemory
+    }
+}
+
+// A rule is broken at this place, where these bytes stand.
+pub fn broken(rule: FormatRule, at: usize, bytes: &[u8]) -> Misread
+    requires { length bytes.now ≤ 8 }
+    ensures { IsBroken rule at bytes.now result }
+{
+    Misread::Broken {
+        rule,
+        at,
+        seen: seen_of(bytes),
+    }
+}
+
+// The bytes, as a damage shows them.
+pub fn seen_of(bytes: &[u8]) -> Seen
+    requires { length bytes.now ≤ 8 }
+    ensures { seen_bytes result ≡ bytes.now }
+{
+    let mut seen = [0; 8];
+    seen[..bytes.len()].copy_from_slice(bytes);
+    Seen {
+        bytes: seen,
+        len: bytes.len() as u8,
+    }
+}

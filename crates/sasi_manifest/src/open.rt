@@ -1,0 +1,123 @@
+// The reading of a manifest.
+ghost use Rattle.std.specs.Prelude.{◌≡◌, ◌≢◌, ◌+◌, ◌-◌, ◌≤◌, ◌^◌, ◌∷◌, [], List, length, Option, Some, IfErr, IfOk, true};
+ghost use Rattle.sasi_host.specs.declared.fault.ReadFault.TheVariants as read_fault;
+ghost use Rattle.sasi_host.specs.View.{IsThere, Reaches};
+ghost use Rattle.sasi_host.specs.Disk.{Changes, Same};
+ghost use Rattle.sasi_gated.specs.Causes.{ReadingCauses};
+ghost use Rattle.sasi_host.specs.declared.damage.FormatRule.TheVariants.{Number};
+ghost use Rattle.sasi_host.specs.Damages.{seen_bytes};
+ghost use Rattle.sasi_host.specs.Damages.{OnDamage};
+ghost use Rattle.sasi_manifest.specs.declared.listing.Listing.{Listing as AListing};
+ghost use Rattle.sasi_manifest.specs.declared.edit.Edit.{Edit as AnEdit};
+ghost use Rattle.sasi_manifest.specs.Damages.{IsShownBy};
+ghost use Rattle.sasi_manifest.specs.Format.{IsRecord, manifest_name};
+ghost use Rattle.sasi_manifest.specs.Forms.{record_form};
+ghost use Rattle.sasi_manifest.specs.Listings.{after_all, counted, length_of, records_of};
+ghost use Rattle.sasi_manifest.specs.Misreads.{Misreads};
+ghost use Rattle.sasi_manifest.specs.Reading.{IsSpotWithin, IsTelling, ReadsWhole};
+ghost use Rattle.sasi_manifest.specs.Standing.{IsInHand};
+
+use crate::Listing;
+use crate::create::Opened;
+use crate::misread::{Misread, seen_of};
+use crate::name::manifest_name;
+use crate::read_record::read_record;
+use sasi_gated::Gated;
+use sasi_host::{Damage, FormatRule, Host, ReadFault};
+use std::alloc::Global;
+
+// Reads all records of a manifest.
+pub fn open_manifest<H: Host>(alloc: Global, host: &mut H, number: u32) -> Result<Opened, ReadFault>
+    requires { IsThere (H.view host.old) (manifest_name number) }
+    ensures ok { IfOk result (λ o. ReadsWhole (H.view host.old) number o.gated.at o.listing) }
+    ensures room { IfOk result (λ o. Reaches (H.view host.new) (manifest_name number) (o.gated.at + 1)) }
+    ensures in_hand { IfOk result (λ o. IsInHand number o.gated o.listing true) }
+    ensures damaged { IfErr result (IsShownBy (H.view host.old) number) }
+    ensures changes { Changes Same (H.view host.old) (H.view host.new) }
+    ensures causes { ReadingCauses (H.view host.old) (H.view host.new) result }
+{
+    let mut gated = Gated::open(host, manifest_name(number))?;
+    let mut payload = Vec::new(alloc);
+    let mut listed = None;
+    while gated.next(host, &mut payload)? {
+        listed = Some(take_record(alloc, number, listed, &payload)?);
+    }
+    match listed {
+        None => Err(ReadFault::Damaged(empty(number))),
+        Some(listing) => Ok(Opened { gated, listing }),
+    }
+}
+
+// What is listed after the record behind the gate where the listing ends.
+fn take_record(
+    alloc: Global,
+    number: u32,
+    listed: Option<Listing>,
+    payload: &[u8],
+) -> Result<Listing, ReadFault>
+    requires records { records_of listed ≤ 2 ^ 62 }
+    requires length { length_of listed ≤ 2 ^ 62 + 1 }
+    requires some { 1 ≤ length_of listed }
+    requires short { length payload.now ≤ 2 ^ 30 }
+    ensures ok { IfOk result (λ listing. (edits : List AnEdit) × IsRecord listed payload.now edits × (Some listing ≡ counted payload.now (after_all listed edits))) }
+    ensures damaged { IfErr result (OnDamage (IsTelling number (length_of listed - 1) listed payload.now)) }
+    ensures not_failed { IfErr result (λ f. f ≢ read_fault.Failed) }
+{
+    let before = end_of(&listed);
+    match read_record(alloc, listed, payload) {
+        Ok(listing) => Ok(listing),
+        Err(misread) => Err(told(number, before, payload, misread)),
+    }
+}
+
+// The place of the gate where the listing ends.
+fn end_of(listed: &Option<Listing>) -> u64
+    requires { 1 ≤ length_of listed.now }
+    ensures { result ≡ length_of listed.now - 1 }
+{
+    match listed {
+        None => 16,
+        Some(listing) => listing.length - 1,
+    }
+}
+
+// What was found of the record behind the gate at this place.
+fn told(number: u32, before: u64, payload: &[u8], misread: Misread) -> ReadFault
+    requires place { before ≤ 2 ^ 62 + 1 }
+    requires within { IsSpotWithin (2 ^ 62) misread }
+    requires short { length payload.now ≤ 2 ^ 30 }
+    ensures damaged { (from : Option AListing) → Misreads (record_form from) (record { done = []; left = payload.now }) misread → OnDamage (IsTelling number before from payload.now) result }
+    ensures not_failed { result ≢ read_fault.Failed }
+{
+    let file = manifest_name(number);
+    match misread {
+        Misread::OutOfMemory => ReadFault::OutOfMemory,
+        Misread::NoEnd => ReadFault::Damaged(Damage {
+            file,
+            at: before + 1,
+            rule: FormatRule::Number,
+            seen: seen_of(&(payload.len() as u32).to_be_bytes()),
+        }),
+        Misread::Broken { rule, at, seen } => ReadFault::Damaged(Damage {
+            file,
+            at: before + 5 + at as u64,
+            rule,
+            seen,
+        }),
+    }
+}
+
+// The first gate is closed.
+fn empty(number: u32) -> Damage
+    ensures file { result.file ≡ manifest_name number }
+    ensures at { result.at ≡ 16 }
+    ensures rule { result.rule ≡ Number }
+    ensures seen { seen_bytes result.seen ≡ 0 ∷ [] }
+{
+    Damage {
+        file: manifest_name(number),
+        at: 16,
+        rule: FormatRule::Number,
+        seen: seen_of(&[0]),
+    }
+}

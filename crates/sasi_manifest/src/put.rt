@@ -1,0 +1,89 @@
+// Edits put at the end of a payload.
+ghost use Rattle.std.specs.Prelude.{◌≡◌, ◌++◌, ◌∷◌, ◌≤◌, [], length, OnOk};
+ghost use Rattle.std.specs.Int.{to_be_bytes, w16};
+ghost use Rattle.sasi_model.specs.Refusals.{names_in};
+ghost use Rattle.sasi_manifest.specs.Edits.{column_bytes, edit_bytes, name_bytes, partitioner_code, type_code};
+ghost use Rattle.sasi_manifest.specs.Naming.{AreNames};
+ghost use Rattle.sasi_manifest.specs.Listings.{IsWritable};
+
+use crate::Edit;
+use sasi_fields::{put_bytes, put_u8, put_u16, put_u32};
+use sasi_types::{ColumnType, Name, Partitioner};
+use std::alloc::AllocError;
+
+pub fn put_edit(out: &mut Vec<u8>, edit: &Edit) -> Result<(), AllocError>
+    requires { IsWritable edit.now }
+    ensures { OnOk result (out.new.items ≡ out.old.items ++ edit_bytes edit.now) }
+{
+    match edit {
+        Edit::Start {
+            partitioner,
+            floor,
+            last,
+        } => {
+            put_u8(out, 1)?;
+            put_u8(out, code_of(*partitioner))?;
+            put_u32(out, *floor)?;
+            put_u32(out, *last)
+        }
+        Edit::CreateTable {
+            number,
+            name,
+            columns,
+            key,
+            since,
+        } => {
+            put_u8(out, 2)?;
+            put_u32(out, *number)?;
+            put_name(out, name)?;
+            put_columns(out, columns.as_slice())?;
+            put_u16(out, *key)?;
+            put_u32(out, *since)
+        }
+    }
+}
+
+// The byte that names a partitioner.
+fn code_of(partitioner: Partitioner) -> u8
+    ensures { result ≡ partitioner_code partitioner }
+{
+    match partitioner {
+        Partitioner::Lead8 => 0,
+        Partitioner::Murmur3 => 1,
+    }
+}
+
+fn put_name(out: &mut Vec<u8>, name: &Name) -> Result<(), AllocError>
+    requires { length name.now ≤ 48 }
+    ensures { OnOk result (out.new.items ≡ out.old.items ++ name_bytes name.now) }
+{
+    let bytes = name.bytes();
+    put_u8(out, bytes.len() as u8)?;
+    put_bytes(out, bytes)
+}
+
+// How many columns there are, and then these.
+fn put_columns(out: &mut Vec<u8>, columns: &[(Name, ColumnType)]) -> Result<(), AllocError>
+    requires few { length columns.now ≤ 64 }
+    requires names { AreNames (names_in columns.now) }
+    ensures { OnOk result (out.new.items ≡ out.old.items ++ (to_be_bytes w16 (length columns.now) ++ column_bytes columns.now)) }
+{
+    put_u16(out, columns.len() as u16)?;
+    for column in columns {
+        put_name(out, &column.0)?;
+        put_u8(out, type_code_of(column.1))?;
+    }
+    Ok(())
+}
+
+// The byte that names a type.
+fn type_code_of(kind: ColumnType) -> u8
+    ensures { result ≡ type_code kind }
+{
+    match kind {
+        ColumnType::Text => 0,
+        ColumnType::Int => 1,
+        ColumnType::BigInt => 2,
+        ColumnType::Uuid => 3,
+    }
+}

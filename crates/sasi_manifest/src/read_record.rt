@@ -1,0 +1,69 @@
+// Records of a manifest.
+ghost use Rattle.std.specs.Prelude.{◌≡◌, ◌+◌, ◌≤◌, ◌^◌, [], List, length, IfErr, IfOk, Some};
+ghost use Rattle.sasi_manifest.specs.declared.edit.Edit.{Edit as AnEdit};
+ghost use Rattle.sasi_manifest.specs.Format.{IsRecord};
+ghost use Rattle.sasi_manifest.specs.Forms.{edits_form, record_form};
+ghost use Rattle.sasi_manifest.specs.Listings.{after_all, counted, length_of, records_of};
+ghost use Rattle.sasi_manifest.specs.Misreads.{Misreads};
+ghost use Rattle.sasi_manifest.specs.Taken.{TakesEdits};
+
+use crate::Listing;
+use crate::apply::apply;
+use crate::field::ranged_u32;
+use crate::misread::Misread;
+use crate::read_edit::read_edit;
+use sasi_fields::FieldReader;
+use std::alloc::Global;
+
+// What is listed after the record with this payload.
+pub fn read_record(
+    alloc: Global,
+    listed: Option<Listing>,
+    payload: &[u8],
+) -> Result<Listing, Misread>
+    requires records { records_of listed ≤ 2 ^ 62 }
+    requires length { length_of listed ≤ 2 ^ 62 + 1 }
+    requires short { length payload.now ≤ 2 ^ 62 }
+    ensures ok { IfOk result (λ listing. (edits : List AnEdit) × IsRecord listed payload.now edits × (Some listing ≡ counted payload.now (after_all listed edits))) }
+    ensures misread { IfErr result (Misreads (record_form listed) (record { done = []; left = payload.now })) }
+{
+    let mut reader = FieldReader::new(payload);
+    let count = ranged_u32(&mut reader, 1, u32::MAX)?;
+    let Some(listing) = read_edits(alloc, &mut reader, count, listed)? else {
+        unreachable!();
+    };
+    if !reader.left().is_empty() {
+        return Err(Misread::NoEnd);
+    }
+    Ok(one_more(listing, payload.len() as u64))
+}
+
+// So many edits, which apply one after another.
+fn read_edits(
+    alloc: Global,
+    reader: &mut FieldReader,
+    count: u32,
+    listed: Option<Listing>,
+) -> Result<Option<Listing>, Misread>
+    ensures ok { IfOk result (λ to. TakesEdits listed to count reader.old reader.new) }
+    ensures misread { IfErr result (Misreads (edits_form count listed) reader.old) }
+{
+    let mut listed = listed;
+    for _turn in 0..count {
+        let edit = read_edit(alloc, reader, listed.as_ref())?;
+        listed = Some(apply(alloc, listed, &edit)?);
+    }
+    Ok(listed)
+}
+
+// The listing with one more record, of so many bytes.
+pub fn one_more(mut listing: Listing, size: u64) -> Listing
+    requires records { listing.records ≤ 2 ^ 62 }
+    requires length { listing.length ≤ 2 ^ 62 + 1 }
+    requires short { size ≤ 2 ^ 62 }
+    ensures { result ≡ record listing { records = listing.records + 1; length = listing.length + (5 + size) } }
+{
+    listing.records += 1;
+    listing.length += 5 + size;
+    listing
+}
