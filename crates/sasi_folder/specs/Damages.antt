@@ -1,0 +1,55 @@
+-- Where a folder shows that no store can be opened in it, and what it has there.
+use Rattle.std.specs.Prelude.{◌≡◌, ◌≢◌, ◌⊎◌, ℕ, ◌≤◌, [], IsSome, None, Some}
+use Rattle.std.specs.FinMap.{get}
+use Rattle.sasi_host.specs.declared.damage.Damage.{Damage}
+use Rattle.sasi_host.specs.declared.damage.FormatRule.TheVariants.{Missing, NoSeal}
+use Rattle.sasi_host.specs.declared.name.FileName.{FileName}
+use Rattle.sasi_host.specs.Damages.{seen_bytes}
+use Rattle.sasi_host.specs.Names.{Bytes, Folder}
+use Rattle.sasi_commitlog.specs.Damages.{ShowsLog}
+use Rattle.sasi_commitlog.specs.Format.{log_name}
+use Rattle.sasi_manifest.specs.declared.listing.Listing.{Listing}
+use Rattle.sasi_manifest.specs.Damages.{ShowsDamage}
+use Rattle.sasi_manifest.specs.Format.{IsManifest, manifest_name, seal_name}
+use Rattle.sasi_folder.specs.Stands.{IsSealed, types_listed}
+
+-- no seal was made, and this file is one that the making of a store doesn't begin with
+pub record ShowsNoSeal (folder : Folder) (damage : Damage) : Type 0 where
+  pub unsealed : (number : ℕ) → get folder (seal_name number) ≡ None
+  pub there : IsSome (get folder damage.file)
+  pub no_manifest : damage.file ≢ manifest_name 1
+  pub no_log : damage.file ≢ log_name 1
+  pub rule : damage.rule ≡ NoSeal
+  pub place : damage.at ≡ 0
+  pub seen : seen_bytes damage.seen ≡ []
+
+-- the file isn't there
+pub record ShowsMissing (folder : Folder) (file : FileName) (damage : Damage) : Type 0 where
+  pub absent : get folder file ≡ None
+  pub named : damage.file ≡ file
+  pub rule : damage.rule ≡ Missing
+  pub place : damage.at ≡ 0
+  pub seen : seen_bytes damage.seen ≡ []
+
+-- a live segment of the log isn't there, or breaks its format
+pub record ShowsSegment (folder : Folder) (listing : Listing) (damage : Damage) : Type 0 where
+  pub segment : ℕ
+  pub above : listing.floor ≤ segment
+  pub below : segment ≤ listing.last
+  pub shows : ShowsMissing folder (log_name segment) damage ⊎ ((bytes : Bytes) × (get folder (log_name segment) ≡ Some bytes) × ShowsLog (types_listed listing) (log_name segment) bytes damage)
+
+-- the manifest of this number isn't there, breaks its format, or lists a segment that does
+pub data ShowsListed (folder : Folder) (number : ℕ) (damage : Damage) : Type 0 where
+  no_manifest : ShowsMissing folder (manifest_name number) damage → ShowsListed folder number damage
+  broken_manifest : (bytes : Bytes) → get folder (manifest_name number) ≡ Some bytes → ShowsDamage number bytes damage → ShowsListed folder number damage
+  broken_log : (bytes : Bytes) (listing : Listing) → get folder (manifest_name number) ≡ Some bytes → IsManifest number bytes listing → ShowsSegment folder listing damage → ShowsListed folder number damage
+
+-- the same of the manifest of the highest seal
+pub record ShowsSealed (folder : Folder) (damage : Damage) : Type 0 where
+  pub number : ℕ
+  pub sealed : IsSealed folder number
+  pub shows : ShowsListed folder number damage
+
+-- **The folder shows the damage.**
+abbrev pub FolderShows : Folder → Damage → Type 0
+FolderShows folder damage = ShowsNoSeal folder damage ⊎ ShowsSealed folder damage

@@ -1,0 +1,9 @@
+pub mod Replay
+pub mod Stands
+pub mod Damages
+pub mod ReplayLaws
+pub mod FolderLaws
+pub mod FolderMoves
+pub mod Creating
+pub mod Serving
+pub mod Recording

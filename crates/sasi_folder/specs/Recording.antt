@@ -1,0 +1,125 @@
+-- What is recorded of a change fits what a store has in hand, and it belongs together after it.
+use Rattle.std.specs.Prelude.{◌≡◌, ℕ, zero, suc, ◌+◌, ◌-◌, ◌*◌, ◌≤◌, ◌<◌, ◌^◌, true, false, nat_eq, List, [], ◌∷◌, ◌++◌, length, slice_get, Some, refl}
+use Rattle.std.proofs.Common.{sym, ap, subst, ◌∙◌, arith, length-append}
+use Rattle.std.proofs.lemmas.Bool.Decides.{nat_tests}
+use Rattle.std.proofs.lemmas.List.{map-append}
+use Rattle.std.specs.Int.{to_be_bytes, w16, w32}
+use Rattle.sasi_types.specs.declared.place.Place.{Place}
+use Rattle.sasi_model.specs.Cells.{Partition}
+use Rattle.sasi_model.specs.State.{Column, Definition, State, Table, definitions}
+use Rattle.sasi_model.specs.Changes.{after_change, changed_behind, changed_tables, with_new_table}
+use Rattle.sasi_model.specs.Refusals.{names_in}
+use Rattle.sasi_model.specs.Stored.{IsBodyOf, types_of}
+use Rattle.sasi_gated.specs.Standing.{Handle}
+use Rattle.sasi_commitlog.specs.declared.mutation.Mutation.{Mutation}
+use Rattle.sasi_commitlog.specs.Format.{IsMutationOf, types_in}
+use Rattle.sasi_manifest.specs.declared.edit.Edit.TheVariants.{CreateTable}
+use Rattle.sasi_manifest.specs.declared.listing.Listing.{Listing}
+use Rattle.sasi_manifest.specs.Edits.{column_bytes, edits_bytes, encoded, encoded_length, name_bytes, type_code}
+use Rattle.sasi_manifest.specs.Format.{IsNext}
+use Rattle.sasi_manifest.specs.Listed.{Listed}
+use Rattle.sasi_manifest.specs.Listings.{CanCreate, created, listed_definitions}
+use Rattle.sasi_manifest.specs.Naming.{AreNames}
+use Rattle.sasi_manifest.specs.Standing.{Held}
+use Rattle.sasi_manifest.specs.Types.{numbered_types}
+use Rattle.sasi_folder.specs.FolderMoves.{AddsTable}
+use Rattle.sasi_folder.specs.Serving.{BelongTogether}
+use Rattle.sasi_folder.specs.Stands.{types_listed}
+
+-- ---- mutations
+
+same_definition : (tables : List Table) (listed : List Listed) (place : ℕ) (t : Table) → definitions tables ≡ listed_definitions listed → slice_get tables place ≡ Some t → (l : Listed) × (slice_get listed place ≡ Some l) × (l.definition ≡ t.definition)
+same_definition [] listed place t same there = cc
+same_definition (u ∷ tables) [] place t same there = cc
+same_definition (u ∷ tables) (l ∷ listed) zero t same there =
+    let first : u.definition ≡ l.definition = cc in
+    let is : u ≡ t = cc in
+    (l, refl, sym first ∙ ap (λ (x : Table). x.definition) is)
+same_definition (u ∷ tables) (l ∷ listed) (suc place) t same there = let rest : definitions tables ≡ listed_definitions listed = cc in same_definition tables listed place t rest there
+
+types_at : (first place : ℕ) (listed : List Listed) (l : Listed) → slice_get listed place ≡ Some l → types_in (numbered_types first listed) (first + place) ≡ Some (types_of l.definition)
+types_at first place [] l there = cc
+types_at first zero (x ∷ listed) l there =
+    let is : x ≡ l = cc in
+    let here : nat_eq first (first + 0) ≡ true = grind (arith, nat_tests) in
+    rw here (ap (λ (x : Listed). Some (types_of x.definition)) is)
+types_at first (suc place) (x ∷ listed) l there =
+    let other : nat_eq first (first + suc place) ≡ false = grind (arith, nat_tests) in
+    let number : suc first + place ≡ first + suc place = omega arith in
+    rw other (subst (λ n. types_in (numbered_types (suc first) listed) n ≡ Some (types_of l.definition)) number (types_at (suc first) place listed l there))
+
+-- a change that can be stored in a table is a mutation of the listed tables
+pub mutation_fits : (listing : Listing) (s : State) (m : Mutation) (t : Table) → definitions s.tables ≡ listed_definitions listing.tables → 0 < m.table → m.table < 2 ^ 32 → slice_get s.tables (m.table - 1) ≡ Some t → IsBodyOf (types_of t.definition) m.key m.change → IsMutationOf (types_listed listing) m
+mutation_fits listing s m t same some small there body =
+    let found = same_definition s.tables listing.tables (m.table - 1) t same there in
+    let number : 1 + (m.table - 1) ≡ m.table = omega (arith, some) in
+    let types = subst (λ n. types_in (types_listed listing) n ≡ Some (types_of found.0.definition)) number (types_at 1 (m.table - 1) listing.tables found.0 found.1) in
+    record {
+      types = types_of t.definition;
+      number = small;
+      listed = types ∙ ap (λ (d : Definition). Some (types_of d)) found.2;
+      body_is = body;
+    }
+
+-- ---- tables
+
+-- the record of one more table adds it
+pub adds_table : (listing next : Listing) (number : ℕ) (name : List ℕ) (columns : List Column) (key since : ℕ) → IsNext listing (CreateTable number name columns key since ∷ []) next → AddsTable listing next (created name columns key since)
+adds_table listing next number name columns key since is = record {
+  partitioner = cc;
+  floor = cc;
+  last = cc;
+  tables = cc;
+}
+
+name_length : (name : List ℕ) → length (name_bytes name) ≡ suc (length name)
+name_length name = refl
+
+columns_short : (columns : List Column) → AreNames (names_in columns) → length (column_bytes columns) ≤ 50 * length columns
+columns_short [] names = omega arith
+columns_short (c ∷ columns) names = omega (arith, names.0.short, columns_short columns names.1, length-append (name_bytes c.0) (type_code c.1 ∷ column_bytes columns))
+
+-- and is short
+pub create_short : (listing : Listing) (number : ℕ) (name : List ℕ) (columns : List Column) (key since : ℕ) → CanCreate listing number name columns key since → length (encoded (CreateTable number name columns key since ∷ [])) ≤ 2 ^ 30
+create_short listing number name columns key since can =
+    let at_end = to_be_bytes w16 key ++ to_be_bytes w32 since in
+    let with_columns = column_bytes columns ++ at_end in
+    let with_count = to_be_bytes w16 (length columns) ++ with_columns in
+    let with_name = name_bytes name ++ with_count in
+    let fields = to_be_bytes w32 number ++ with_name in
+    let end : length at_end ≡ 6 = refl in
+    let size : length fields ≤ 4000 = omega (
+      arith,
+      end,
+      can.name_fits.short,
+      can.few_columns,
+      columns_short columns can.column_names,
+      length-append (column_bytes columns) at_end,
+      length-append (to_be_bytes w16 (length columns)) with_columns,
+      length-append (name_bytes name) with_count,
+      length-append (to_be_bytes w32 number) with_name,
+    ) in
+    let body : length (edits_bytes (CreateTable number name columns key since ∷ [])) ≤ 4001 = omega (arith, size, length-append (2 ∷ fields) []) in
+    omega (arith, encoded_length (CreateTable number name columns key since ∷ []), body)
+
+-- ---- what belongs together afterwards
+
+changed_definitions_behind : (before : ℕ) (place : Place) (change : Partition) (ts : List Table) → definitions (changed_behind before place change ts) ≡ definitions ts
+changed_definitions_behind before place change [] = refl
+changed_definitions_behind zero place change (t ∷ ts) = refl
+changed_definitions_behind (suc before) place change (t ∷ ts) = ap (λ (ds : List Definition). t.definition ∷ ds) (changed_definitions_behind before place change ts)
+
+-- a change leaves the definitions
+pub changed_definitions : (number : ℕ) (place : Place) (change : Partition) (ts : List Table) → definitions (changed_tables number place change ts) ≡ definitions ts
+changed_definitions zero place change ts = refl
+changed_definitions (suc before) place change ts = changed_definitions_behind before place change ts
+
+pub together_written : (s : State) (manifest : Held) (log new : Handle) (number : ℕ) (place : Place) (change : Partition) → BelongTogether s manifest log → new.file ≡ log.file → BelongTogether (after_change s number place change) manifest new
+together_written s manifest log new number place change is file = record { file = file ∙ is.file; partitioner = is.partitioner; tables = changed_definitions number place change s.tables ∙ is.tables }
+
+pub together_created : (s : State) (manifest new : Held) (log : Handle) (t : Listed) → BelongTogether s manifest log → AddsTable manifest.listing new.listing t → BelongTogether (with_new_table s t.definition) new log
+together_created s manifest new log t is adds = record {
+  file = rw adds.last is.file;
+  partitioner = is.partitioner ∙ sym adds.partitioner;
+  tables = map-append (λ (x : Table). x.definition) s.tables _ ∙ ap (λ (ds : List Definition). ds ++ t.definition ∷ []) is.tables ∙ sym (rw adds.tables (map-append (λ (x : Listed). x.definition) manifest.listing.tables (t ∷ [])));
+}

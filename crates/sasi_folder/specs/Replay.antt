@@ -1,0 +1,44 @@
+-- The state that a listing and the segments of the log make: the listed tables, with the mutations of the segments merged
+-- into them one after another. A table takes the mutations of the segments from its own first one on.
+use Rattle.std.specs.Prelude.{ℕ, zero, suc, Bool, false, nat_le, if◌then◌else◌, List, [], ◌∷◌, map, slice_get, Option, None, Some}
+use Rattle.sasi_model.specs.State.{State, place_of}
+use Rattle.sasi_model.specs.Changes.{after_change, empty_table}
+use Rattle.sasi_commitlog.specs.declared.mutation.Mutation.{Mutation}
+use Rattle.sasi_manifest.specs.declared.listing.Listing.{Listing}
+use Rattle.sasi_manifest.specs.Listed.{Listed}
+
+-- ---- tables
+
+-- the listed tables, with nothing in them
+abbrev pub listed_state : Listing → State
+listed_state listing = record { partitioner = listing.partitioner; tables = map (λ t. empty_table t.definition) listing.tables }
+
+-- the table's first segment isn't behind this one
+abbrev pub reaches : ℕ → Option Listed → Bool
+reaches segment None = false
+reaches segment (Some table) = nat_le table.since segment
+
+-- the table of this number, from 1, takes the mutations of the segment
+abbrev pub takes : List Listed → ℕ → ℕ → Bool
+takes tables segment zero = false
+takes tables segment (suc before) = reaches segment (slice_get tables before)
+
+-- ---- mutations
+
+-- the state after a mutation of a segment
+abbrev pub after_mutation : List Listed → ℕ → State → Mutation → State
+after_mutation tables segment s m = if takes tables segment m.table then after_change s m.table (place_of s.partitioner m.key) m.change else s
+
+-- after all of a segment
+abbrev pub after_segment : List Listed → ℕ → State → List Mutation → State
+after_segment tables segment s [] = s
+after_segment tables segment s (m ∷ ms) = after_segment tables segment (after_mutation tables segment s m) ms
+
+-- after segments with rising numbers from this one on
+abbrev pub after_segments : List Listed → ℕ → State → List (List Mutation) → State
+after_segments tables segment s [] = s
+after_segments tables segment s (ms ∷ logs) = after_segments tables (suc segment) (after_segment tables segment s ms) logs
+
+-- the state that a listing and its live segments make
+unfoldable pub state_made : Listing → List (List Mutation) → State
+state_made listing logs = after_segments listing.tables listing.floor (listed_state listing) logs
