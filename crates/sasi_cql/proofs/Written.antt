@@ -1,9 +1,9 @@
 -- What the tokens of a text hold, and what a statement holds that they spell.
-use Rattle.std.proofs.Common.{◌≡◌, ℕ, zero, suc, ◌+◌, ◌≤◌, ◌<◌, Bool, true, false, cond, not, ◌&&◌, ◌||◌, ◌==◌, nat_eq, nat_le, List, [], ◌∷◌, ◌++◌, length, take, drop, get_or, map, Option, None, Some, refl, sym, ap, subst, ◌∙◌, arith, append_assoc, length-append}
+use Rattle.std.proofs.Common.{◌≡◌, ℕ, zero, suc, ◌+◌, ◌≤◌, ◌<◌, Bool, true, false, cond, not, ◌&&◌, ◌||◌, ◌==◌, nat_eq, nat_le, List, [], ◌∷◌, ◌++◌, length, take, drop, get_or, Option, None, Some, refl, sym, ap, subst, ◌∙◌, arith, append_assoc, length-append}
 use Rattle.std.proofs.lemmas.List.{append-nil, take_at, drop_at}
 use Rattle.std.proofs.Math.Seq.{get_or-append_seam}
 use Rattle.std.proofs.lemmas.List.Folds.{length-prefix_len}
-use Rattle.std.proofs.lemmas.Str.{IsUtf8-append, IsUtf8-take, IsUtf8-drop, IsUtf8-nil, IsCharBoundary-before_ascii, IsCharBoundary-after_ascii}
+use Rattle.std.proofs.lemmas.Str.{IsUtf8-append, IsUtf8-take, IsUtf8-drop, IsCharBoundary-before_ascii, IsCharBoundary-after_ascii}
 use Rattle.std.specs.List.{AllByRecursion, flat_map, list_all, list_any, prefix_len}
 use Rattle.std.specs.Prelude.{codes}
 use Rattle.std.specs.Str.{IsUtf8}
@@ -16,8 +16,8 @@ use Rattle.sasi_types.specs.declared.column.ColumnType.{ColumnType}
 use Rattle.sasi_types.specs.declared.literal.Number.{Number}
 use Rattle.sasi_types.specs.declared.statement.Select.{Select}
 use Rattle.sasi_model.specs.Pieces.{opened_by, starts}
-use Rattle.sasi_model.specs.Tokens.{Token, Word, QuotedName, Quoted, Integer, Uuid, Open, Close, Comma, Star, Equal, Semicolon, Unknown, QuotedText, Lexeme, is_gap, is_word_byte, is_upper, is_letter, is_digit, lexeme, lexeme_or, lower, lower_byte, name_lexeme, negative_lexeme, other_lexeme, positive_lexeme, quoted_on, quoted_text, sign, starts_digit, starts_word, string_lexeme, tokens, tokens_from, uuid_in_front, word_lexeme, word_on}
-use Rattle.sasi_model.specs.Statements.{Column, Item, Joined, Key, KeyColumn, One, Phrase, Reads, ReadsCreate, ReadsInsert, columns_of, delete, equation, item, keys_of, listed, literal, literal_of, name, name_of, names_or_none, query, reserved, same, update}
+use Rattle.sasi_model.specs.Tokens.{Token, Word, QuotedName, Quoted, Integer, Uuid, Open, Close, Comma, Star, Equal, Semicolon, Unknown, QuotedText, Lexeme, is_gap, is_word_byte, is_letter, is_digit, lexeme, lexeme_or, lower, lower_byte, name_lexeme, negative_lexeme, other_lexeme, positive_lexeme, quoted_on, quoted_text, sign, starts_digit, starts_word, string_lexeme, tokens, tokens_from, uuid_in_front, word_lexeme, word_on}
+use Rattle.sasi_model.specs.Statements.{Column, Item, Joined, Key, KeyColumn, Phrase, Reads, ReadsCreate, ReadsInsert, columns_of, delete, equation, item, keys_of, listed, literal, literal_of, name, name_of, names_or_none, query, reserved, same, update}
 use Rattle.sasi_model.specs.Naming.{IsName, IsWord}
 use Rattle.sasi_model.specs.Written.{IsWrittenToken, IsWrittenLiteral, IsWrittenColumn, IsWrittenSet, IsWritten}
 

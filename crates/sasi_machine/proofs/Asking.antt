@@ -1,7 +1,6 @@
 -- What statements ask for, where their step leaves the state that is kept.
 use Rattle.std.proofs.Common.{◌≡◌, drop, is_some, ℕ, zero, suc, ◌+◌, ◌-◌, ◌<◌, ◌≤◌, List, [], ◌∷◌, ◌++◌, length, map, set, slice_get, Option, Some, None, Result, Ok, Err, IfOk, refl, sym, ap, subst, ◌∙◌, arith}
 use Rattle.std.specs.Prelude.{max}
-use Rattle.std.specs.FinMap as fin
 use Rattle.sasi_types.specs.declared.partitioner.Partitioner.{Partitioner}
 use Rattle.sasi_types.specs.declared.statement.Statement.{Statement}
 use Rattle.sasi_types.specs.declared.statement.Statement.TheVariants.{CreateTable, Insert, Update, Delete, Query}
@@ -14,13 +13,13 @@ use Rattle.sasi_types.specs.declared.column.ColumnType.TheVariants as types
 use Rattle.sasi_types.specs.declared.place.Place.{Place}
 use Rattle.std.specs.List.{AllByRecursion}
 use Rattle.sasi_machine.proofs.Storing.{change_fits, write_rules}
-use Rattle.sasi_model.specs.Changes.{after_change, changed_tables, with_new_table}
+use Rattle.sasi_model.specs.Changes.{changed_tables, with_new_table}
 use Rattle.sasi_model.specs.Lines.{ok_line}
 use Rattle.sasi_model.specs.Pieces.{Piece}
 use Rattle.sasi_model.specs.Refusals.{Rule, Says, TIME_LIMIT, TableExists, create_rules, first_of, read, refusal, rules}
 use Rattle.sasi_model.specs.State as model
 use Rattle.sasi_model.specs.State.{Column, Definition, State, definition_of, definitions, greatest, greatest_among, key_type, place_of}
-use Rattle.sasi_model.specs.Step.{Stepped, answer_of, execute, new_definition, step, step_as, stored_of, tables_after, value_given}
+use Rattle.sasi_model.specs.Step.{Stepped, new_definition, step, step_as, stored_of, tables_after, value_given}
 use Rattle.sasi_schema.specs.Defined.{definition}
 use Rattle.sasi_schema.specs.declared.table.Table.{Table}
 use Rattle.sasi_machine.specs.declared.outcome.Outcome.{Outcome}
@@ -31,12 +30,11 @@ use Rattle.sasi_machine.specs.Contents.{Contents}
 use Rattle.sasi_machine.specs.Outcome.{outcome_of}
 use Rattle.sasi_machine.specs.Plans.{Asks, IsFit, IsNext, Makes, Plans, StepsTo, WritesTo, written_state}
 use Rattle.sasi_machine.specs.Tables.{AreContents, IsKept, IsRoomFor, IsWrittenAt, state_of, table_with, tables_of, written}
-use Rattle.sasi_machine.specs.Taken.{Follows, IsRefused, Takes}
-use Rattle.sasi_machine.specs.Writes.{IsWrite, IsWriting, change_in, key_in, table_named}
+use Rattle.sasi_machine.specs.Taken.{Takes}
+use Rattle.sasi_machine.specs.Writes.{IsWrite, IsWriting, key_in, table_named}
 use Rattle.sasi_machine.proofs.GreatestTimes.{greatest_put, greatest_set}
 use Rattle.sasi_machine.proofs.Tabled.{changed_at, contents_at, contents_below, definitions_of, held_set, length_tables, tables_push}
-use Rattle.sasi_machine.proofs.Taking.{IsHeld, answers_ok, empty_contents, greatest_kept, is_held, rules_kept, takes, write_tables}
-use Rattle.sasi_machine.proofs.WriteTimes.{change_within}
+use Rattle.sasi_machine.proofs.Taking.{answers_ok, empty_contents, greatest_kept, is_held, rules_kept, takes, write_tables}
 
 -- ---- the state that is kept
 

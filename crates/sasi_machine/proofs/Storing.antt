@@ -1,15 +1,13 @@
 -- What a planned write holds can be stored: its key and its change have a body in the table.
-use Rattle.std.proofs.Common.{◌≡◌, ◌≢◌, ◌⊎◌, inl, inr, ℕ, zero, suc, ◌+◌, ◌-◌, ◌<◌, ◌≤◌, ◌^◌, Bool, true, false, cond, not, ◌&&◌, ◌||◌, ◌==◌, nat_eq, nat_lt, nat_le, T, List, [], ◌∷◌, ◌++◌, length, drop, map, slice_get, Option, None, Some, is_some, refl, sym, ap, subst, ◌∙◌, arith}
+use Rattle.std.proofs.Common.{◌≡◌, ◌≢◌, ℕ, zero, suc, ◌+◌, ◌-◌, ◌<◌, ◌≤◌, ◌^◌, Bool, true, false, cond, not, ◌&&◌, ◌||◌, ◌==◌, nat_eq, nat_lt, T, List, [], ◌∷◌, ◌++◌, length, drop, map, slice_get, Option, None, Some, is_some, refl, sym, ap, subst, ◌∙◌, arith}
 use Rattle.std.specs.Prelude.{ℤ, pos, negsuc, FitsSigned, IfSome}
 use Rattle.std.specs.FinMap.Entries.{below_all}
 use Rattle.std.proofs.lemmas.Str.{IsUtf8-nil}
-use Rattle.std.specs.declared.cmp.Ordering.{Ordering}
-use Rattle.std.specs.declared.cmp.Ordering.TheVariants.{Less, Equal, Greater}
 use Rattle.std.specs.Ordering.{is_lt}
 use Rattle.std.proofs.lemmas.Bool.Decides.{nat_tests}
 use Rattle.std.specs.Cmp.{nat_cmp_total}
 use Rattle.std.specs.FinMap as fin
-use Rattle.std.specs.Int.{cast_unsigned, to_be_bytes, w32, w64}
+use Rattle.std.specs.Int.{w32, w64}
 use Rattle.std.proofs.lemmas.List.{length-map}
 use Rattle.sasi_types.specs.declared.literal.Number.{Number}
 use Rattle.sasi_types.specs.declared.statement.Statement.{Statement}
@@ -20,9 +18,8 @@ use Rattle.sasi_machine.specs.KeyLiteral.{IsKeyLiteral}
 use Rattle.sasi_machine.specs.Writes.{IsWriting, change_in, key_in}
 use Rattle.sasi_machine.proofs.Accepted.{delete_accepted, insert_accepted, update_accepted}
 use Rattle.sasi_schema.specs.Numbers.{IsKeyAt}
-use Rattle.std.specs.List.{AllByRecursion, list_any, zip}
+use Rattle.std.specs.List.{AllByRecursion, zip}
 use Rattle.std.specs.Ordering.{nat_cmp, eq_by_cmp}
-use Rattle.std.specs.Str.{IsUtf8}
 use Rattle.sasi_types.specs.declared.cell.Cell.{Cell}
 use Rattle.sasi_types.specs.declared.column.ColumnType.{ColumnType}
 use Rattle.sasi_types.specs.declared.column.ColumnType.TheVariants as types
@@ -31,14 +28,14 @@ use Rattle.sasi_types.specs.declared.literal.Literal.TheVariants as literals
 use Rattle.sasi_types.specs.declared.literal.Number.TheVariants.{Fits, Wide}
 use Rattle.sasi_types.specs.declared.value.Value.{Value}
 use Rattle.sasi_types.specs.declared.value.Value.TheVariants.{Text, Int, BigInt, Uuid}
-use Rattle.sasi_types.specs.Value.{stored, type_of}
+use Rattle.sasi_types.specs.Value.{type_of}
 use Rattle.sasi_cells.specs.Laws.Sorted.{equal_columns, first, second, find_first, find_behind}
-use Rattle.sasi_model.specs.Cells.{Cells, Partition}
+use Rattle.sasi_model.specs.Cells.{Cells}
 use Rattle.sasi_model.specs.State.{Column, Definition, column_at, key_type, number_at, number_of_column, name_or_none, numbered_at, one_more, place_in, type_or_text, key_name}
 use Rattle.sasi_model.specs.Statements.{same}
-use Rattle.sasi_model.specs.Refusals.{Rule, TEXT_LIMIT, TIME_LIMIT, delete_rules, each, first_of, insert_rules, is_column, is_key, is_key_value, is_long_text, is_of, is_out_of_range, is_within, key_empty, no_column, no_regular_column, number_range, other_key, repeat_rules, tests, time_rules, type_of_column, typed_at, update_rules, value_too_long, wrong_type, wrong_where}
+use Rattle.sasi_model.specs.Refusals.{Rule, TEXT_LIMIT, TIME_LIMIT, delete_rules, each, first_of, insert_rules, is_column, is_key, is_key_value, is_long_text, is_of, is_out_of_range, is_within, key_empty, no_column, no_regular_column, number_range, other_key, repeat_rules, time_rules, type_of_column, update_rules, value_too_long, wrong_type, wrong_where}
 use Rattle.sasi_model.specs.Step.{cells_set, column_type, delete_change, insert_change, key_literal, marker, stored_of, update_change, value_given, with_cell}
-use Rattle.sasi_model.specs.Stored.{Entry, HasBytes, HasCellBytes, IsBodyOf, IsCell, IsCount, IsListed, IsTypedAt, IsValueOf, HasBody, cells_of, regular_types, types_of}
+use Rattle.sasi_model.specs.Stored.{Entry, HasBytes, IsBodyOf, IsCell, IsListed, IsTypedAt, IsValueOf, regular_types, types_of}
 use Rattle.sasi_model.specs.Written.{IsWritten, IsWrittenLiteral, IsWrittenSet}
 use Rattle.sasi_schema.specs.Answers.{none_first, none_parts}
 

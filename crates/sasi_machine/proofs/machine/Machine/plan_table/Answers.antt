@@ -1,4 +1,4 @@
-use Rattle.std.proofs.Common.{ℕ, ◌+◌, Ok, ap, subst, sym, ◌∙◌}
+use Rattle.std.proofs.Common.{ℕ, Ok, subst}
 use Rattle.sasi_types.specs.declared.statement.Statement.TheVariants.{CreateTable}
 use Rattle.sasi_model.specs.State.{State}
 use Rattle.sasi_schema.specs.Faults as schema
