@@ -4,22 +4,24 @@ use Rattle.std.specs.Io.KnownBytes.{Consumes}
 use Rattle.sasi_model.specs.State.{State}
 use Rattle.sasi_run.specs.Headline.{Runs, SCRIPT_MOST, RanThrough}
 use Rattle.sasi_run.specs.declared.status.Status.{Status}
-use Rattle.sasi_run.specs.declared.status.Status.TheVariants.{Done, Refused, Usage, ScriptFault, OutputFault, OutOfMemory, ScriptTooLong}
+use Rattle.sasi_run.specs.declared.status.Status.TheVariants.{Done, Refused, Usage, ScriptFault, FolderFault, OutputFault, OutOfMemory, Damaged, ScriptTooLong}
 
 -- no more is read than there is
 within : (script read : List ℕ) (left : Option (List ℕ)) → Consumes (Some script) left read → length read ≤ length script
 within script read None c = absurd c
 within script read (Some rest) c = omega (arith, ap length c, length-append read rest)
 
-pub through : (status : Status) (s : State) (l l2 o o2 : Option (List ℕ)) → Runs status s l l2 o o2 → status ≢ Usage → status ≢ ScriptFault → status ≢ OutputFault → IfSome l (λ script. length script ≤ SCRIPT_MOST → RanThrough status)
-through status s None l2 o o2 runs u f e = tt
-through Done s (Some script) l2 o o2 runs u f e = λ _. tt
-through (Refused n) s (Some script) l2 o o2 runs u f e = λ _. tt
-through OutOfMemory s (Some script) l2 o o2 runs u f e = λ _. tt
-through Usage s (Some script) l2 o o2 runs u f e = absurd (u refl)
-through ScriptFault s (Some script) l2 o o2 runs u f e = absurd (f refl)
-through OutputFault s (Some script) l2 o o2 runs u f e = absurd (e refl)
-through ScriptTooLong s (Some script) l2 o o2 runs u f e = λ short.
+pub through : (status : Status) (s : State) (l l2 o o2 : Option (List ℕ)) → Runs status s l l2 o o2 → status ≢ Usage → status ≢ ScriptFault → status ≢ OutputFault → status ≢ FolderFault → IfSome l (λ script. length script ≤ SCRIPT_MOST → RanThrough status)
+through status s None l2 o o2 runs u f e d = tt
+through Done s (Some script) l2 o o2 runs u f e d = λ _. tt
+through (Refused n) s (Some script) l2 o o2 runs u f e d = λ _. tt
+through OutOfMemory s (Some script) l2 o o2 runs u f e d = λ _. tt
+through Usage s (Some script) l2 o o2 runs u f e d = absurd (u refl)
+through ScriptFault s (Some script) l2 o o2 runs u f e d = absurd (f refl)
+through OutputFault s (Some script) l2 o o2 runs u f e d = absurd (e refl)
+through FolderFault s (Some script) l2 o o2 runs u f e d = absurd (d refl)
+through (Damaged damage) s (Some script) l2 o o2 runs u f e d = λ _. tt
+through ScriptTooLong s (Some script) l2 o o2 runs u f e d = λ short.
     let some : length runs.read ≤ length script = within script runs.read l2 runs.consumed in
     let long : SCRIPT_MOST < length runs.read = runs.shows.long in
     absurd (omega arith)

@@ -1,17 +1,31 @@
 -- The headline: what a run reads and emits, by the status that it answers. The emitted bytes are the replies that the
 -- model gives to the pieces of the script; each status says how many of them, and has its cause.
-use Rattle.std.specs.Prelude.{◌≡◌, ℕ, ◌+◌, ◌-◌, ◌^◌, ◌≤◌, ◌<◌, ◌==◌, if◌then◌else◌, min, List, [], ◌∷◌, ◌++◌, length, take, Option, IfSome, ◌↔◌}
+use Rattle.std.specs.Prelude.{◌≡◌, ◌≢◌, ℕ, ◌+◌, ◌-◌, ◌^◌, ◌≤◌, ◌<◌, ◌==◌, if◌then◌else◌, min, List, [], ◌∷◌, ◌++◌, length, take, Option, None, Some, IfSome, IsSome, false, ◌↔◌}
 use Rattle.std.specs.Io.KnownBytes.{Appends, Consumes, IsAtEnd}
+use Rattle.std.specs.FinMap.{get}
 use Rattle.sasi_types.specs.declared.partitioner.Partitioner.TheVariants.{Lead8}
 use Rattle.sasi_host.specs.View.{Rose, SourceView, View}
+use Rattle.sasi_host.specs.declared.fault.ReadFault.{ReadFault}
+use Rattle.sasi_host.specs.declared.fault.ReadFault.TheVariants as read_fault
+use Rattle.sasi_host.specs.declared.damage.Damage.{Damage}
+use Rattle.sasi_host.specs.Names.{Folder}
+use Rattle.sasi_host.specs.declared.name.FileName.{FileName}
 use Rattle.sasi_model.specs.Pieces.{Piece, pieces, all_pieces}
-use Rattle.sasi_model.specs.State.{State, empty_state}
+use Rattle.sasi_model.specs.State.{State}
 use Rattle.sasi_model.specs.Step.{step, state_after, replies, refusals}
+use Rattle.sasi_commitlog.specs.declared.mutation.Mutation.{Mutation}
+use Rattle.sasi_manifest.specs.declared.listing.Listing.{Listing}
+use Rattle.sasi_folder.specs.Damages.{FolderShows}
+use Rattle.sasi_folder.specs.Replay.{state_made}
+use Rattle.sasi_folder.specs.Stands.{Holds, Stands, StandsSealed}
+use Rattle.sasi_run.specs.declared.deleting.Keep.TheVariants.{Store as KeepStore}
+use Rattle.sasi_run.specs.Deletion.{keeps}
+use Rattle.sasi_run.specs.Recovering.{Recovers}
 use Rattle.sasi_run.specs.Words.{AreWords}
 use Rattle.sasi_run.specs.declared.session.Stop.{Stop}
-use Rattle.sasi_run.specs.declared.session.Stop.TheVariants.{Output, Memory}
+use Rattle.sasi_run.specs.declared.session.Stop.TheVariants.{Disk, Output, Memory}
 use Rattle.sasi_run.specs.declared.status.Status.{Status}
-use Rattle.sasi_run.specs.declared.status.Status.TheVariants.{Done, Refused, Usage, ScriptFault, OutputFault, OutOfMemory, ScriptTooLong}
+use Rattle.sasi_run.specs.declared.status.Status.TheVariants.{Done, Refused, Usage, ScriptFault, FolderFault, OutputFault, OutOfMemory, Damaged, ScriptTooLong}
 
 -- the most bytes of a script that are run
 abbrev pub SCRIPT_MOST : ℕ
@@ -69,6 +83,8 @@ Shows Usage s read shown = (read ≡ []) × (shown ≡ [])
 Shows ScriptFault s read shown = ShowsWhole s read shown
 Shows ScriptTooLong s read shown = ShowsLimit s read shown
 Shows OutOfMemory s read shown = ShowsFirst s read shown
+Shows FolderFault s read shown = ShowsFirst s read shown
+Shows (Damaged damage) s read shown = (read ≡ []) × (shown ≡ [])
 Shows OutputFault s read shown = ShowsBroken s read shown
 
 -- the script was read to its end
@@ -76,6 +92,12 @@ abbrev pub EndsWith : Status → Option (List ℕ) → Type 0
 EndsWith Done left = IsAtEnd left
 EndsWith (Refused n) left = IsAtEnd left
 EndsWith _ left = Unit {0}
+
+-- the script was run to its end
+abbrev pub RanToEnd : Status → Type 0
+RanToEnd Done = Unit {0}
+RanToEnd (Refused n) = Unit {0}
+RanToEnd _ = ⊥
 
 -- the run read these bytes, and emitted what they show
 pub record Runs (status : Status) (s : State) (left_old left_new out_old out_new : Option (List ℕ)) : Type 0 where
@@ -87,7 +109,7 @@ pub record Runs (status : Status) (s : State) (left_old left_new out_old out_new
   pub shows : Shows status s read shown
   pub bounded : length read ≤ SCRIPT_MOST + READ_MOST
 
--- a run that nothing outside stopped
+-- a run that nothing outside stopped; where the folder stands for a state, it is not damaged
 abbrev pub RanThrough : Status → Type 0
 RanThrough Done = Unit {0}
 RanThrough (Refused n) = Unit {0}
@@ -95,22 +117,78 @@ RanThrough OutOfMemory = Unit {0}
 RanThrough Usage = ⊥
 RanThrough ScriptFault = ⊥
 RanThrough OutputFault = ⊥
+RanThrough FolderFault = ⊥
+RanThrough (Damaged damage) = Unit {0}
 RanThrough ScriptTooLong = ⊥
 
--- a run on this host begins in this state: nothing is kept in a folder yet, so each begins without tables
-abbrev pub StartsFrom : View → State → Type 0
-StartsFrom host s = s ≡ empty_state Lead8
+-- A run on this host begins in this state: its folder, as it reads, stands for it, and each image of it stands for a state.
+pub record StartsFrom (host : View) (s : State) : Type 0 where
+  pub folder : Folder
+  pub reads : host.files ≡ Some folder
+  pub stands : Stands Lead8 folder s
+  pub images : (image : Folder) → host.image image → (t : State) × Stands Lead8 image t
+
+-- The folder as it reads stands for the state, and has no file but those that tell it: a manifest, its seal, and the live segments of the log. Each image of it stands for the state.
+pub record StandsAlone (v : View) (s : State) : Type 0 where
+  pub folder : Folder
+  pub reads : v.files ≡ Some folder
+  pub number : ℕ
+  pub listing : Listing
+  pub logs : List (List Mutation)
+  pub holds : Holds folder number listing logs
+  pub makes : s ≡ state_made listing logs
+  pub alone : (name : FileName) → keeps (KeepStore number listing.floor listing.last) name ≡ false → get folder name ≡ None
+  pub images : (image : Folder) → v.image image → StandsSealed image s
+
+-- the script that a source tells, or else what was read of it
+abbrev pub script_of : Option (List ℕ) → List ℕ → List ℕ
+script_of None read = read
+script_of (Some script) read = script
+
+-- **The replies, and what a crash leaves.** What was emitted are replies as the status says, and at each moment since the start a crash leaves the state after the pieces whose replies were emitted, or after one more. A run to the script's end leaves the state after all of them, and no other file.
+pub record RunsFrom (status : Status) (s : State) (left_old left_new : Option (List ℕ)) (host_old host_new : View) : Type 0 where
+  pub runs : Runs status s left_old left_new host_old.emitted host_new.emitted
+  pub crash : (before : List ℕ) → host_old.emitted ≡ Some before → (folder : Folder) (out : List ℕ) → host_new.left host_old.moment folder out → Recovers host_old s (all_pieces (script_of left_old runs.read)) before folder out
+  pub ends : RanToEnd status → IsSome host_old.emitted → StandsAlone host_new (state_after s (all_pieces (script_of left_old runs.read)))
+
+-- **A damaged folder.** It shows the damage that is told, and the run took nothing of the script and emitted nothing.
+pub record TellsDamage (damage : Damage) (script_old script_new : SourceView) (host_old host_new : View) : Type 0 where
+  pub shows : (folder : Folder) → host_old.files ≡ Some folder → FolderShows folder damage
+  pub unread : script_new ≡ script_old
+  pub silent : host_new.emitted ≡ host_old.emitted
+
+-- a run that didn't begin, of words or of a folder
+abbrev pub IsRefusal : Status → Type 0
+IsRefusal Usage = Unit {0}
+IsRefusal FolderFault = Unit {0}
+IsRefusal OutOfMemory = Unit {0}
+IsRefusal (Damaged damage) = Unit {0}
+IsRefusal Done = ⊥
+IsRefusal (Refused n) = ⊥
+IsRefusal ScriptFault = ⊥
+IsRefusal OutputFault = ⊥
+IsRefusal ScriptTooLong = ⊥
+
+-- **A folder that stands for no state** isn't run on.
+pub record RefusesFolder (status : Status) (script_old script_new : SourceView) (host_old host_new : View) : Type 0 where
+  pub refusal : IsRefusal status
+  pub unread : script_new ≡ script_old
+  pub silent : host_new.emitted ≡ host_old.emitted
 
 -- what a run does, by what its source and its host tell before it and after it
 pub record Headline (words : List (List ℕ)) (status : Status) (script_old script_new : SourceView) (host_old host_new : View) : Type 0 where
-  -- the replies
-  pub shows : (s : State) → StartsFrom host_old s → Runs status s script_old.left script_new.left host_old.emitted host_new.emitted
+  -- the replies, and the crash
+  pub shows : (s : State) → StartsFrom host_old s → RunsFrom status s script_old.left script_new.left host_old host_new
   -- the causes
   pub usage : (status ≡ Usage) ↔ ¬ (AreWords words)
   pub script_fault : status ≡ ScriptFault → Rose script_old.faults script_new.faults
+  pub folder_fault : status ≡ FolderFault → Rose host_old.disk_faults host_new.disk_faults
   pub output_fault : status ≡ OutputFault → Rose host_old.out_faults host_new.out_faults
+  pub damaged : (damage : Damage) → status ≡ Damaged damage → TellsDamage damage script_old script_new host_old host_new
+  pub refused : (folder : Folder) → host_old.files ≡ Some folder → ((s : State) → ¬ Stands Lead8 folder s) → RefusesFolder status script_old script_new host_old host_new
+  pub undamaged : (s : State) (damage : Damage) → StartsFrom host_old s → status ≢ Damaged damage
   -- completeness
-  pub complete : AreWords words → ¬ (Rose script_old.faults script_new.faults) → ¬ (Rose host_old.out_faults host_new.out_faults)
+  pub complete : AreWords words → ¬ (Rose script_old.faults script_new.faults) → ¬ (Rose host_old.out_faults host_new.out_faults) → ¬ (Rose host_old.disk_faults host_new.disk_faults)
       → IfSome script_old.left (λ script. length script ≤ SCRIPT_MOST → RanThrough status)
 
 -- ---- the status of a run's end
@@ -118,6 +196,12 @@ pub record Headline (words : List (List ℕ)) (status : Status) (script_old scri
 abbrev pub status_of_stop : Stop → Status
 status_of_stop Memory = OutOfMemory
 status_of_stop Output = OutputFault
+status_of_stop Disk = FolderFault
+
+abbrev pub status_of_fault : ReadFault → Status
+status_of_fault read_fault.Failed = FolderFault
+status_of_fault read_fault.OutOfMemory = OutOfMemory
+status_of_fault (read_fault.Damaged damage) = Damaged damage
 
 abbrev pub status_of_count : ℕ → Status
 status_of_count n = if n == 0 then Done else Refused n

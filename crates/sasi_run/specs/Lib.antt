@@ -2,3 +2,11 @@ pub mod Headline
 pub mod Numbers
 pub mod Session
 pub mod Words
+pub mod Storing
+pub mod Crashing
+pub mod Recovering
+pub mod Replaying
+pub mod Opening
+pub mod Deletion
+pub mod NewFolder
+pub mod SealedFolder

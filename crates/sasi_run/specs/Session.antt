@@ -2,6 +2,8 @@
 -- word speaks of whatever may follow in the script, so that parts join to a run.
 use Rattle.std.specs.Prelude.{◌≡◌, ℕ, ◌+◌, ◌-◌, ◌^◌, min, if◌then◌else◌, length, List, [], ◌∷◌, ◌++◌, Option, Ok, Err, is_some, IsErrOf, ◌≤◌}
 use Rattle.std.specs.declared.result.Result.{Result}
+use Rattle.sasi_host.specs.declared.fault.HostFault.{HostFault}
+use Rattle.sasi_host.specs.declared.fault.HostFault.TheVariants as host_fault
 use Rattle.sasi_host.specs.View.{View, Rose, counted}
 use Rattle.std.specs.Io.KnownBytes.{Appends, Consumes}
 use Rattle.sasi_model.specs.Pieces.{Piece, pieces}
@@ -12,7 +14,12 @@ use Rattle.sasi_machine.specs.declared.outcome.Outcome.TheVariants as outcomes
 use Rattle.sasi_cql.specs.Standing.{Standing, resume, behind}
 use Rattle.sasi_run.specs.declared.session.Session.{Session}
 use Rattle.sasi_run.specs.declared.session.Stop.{Stop}
-use Rattle.sasi_run.specs.declared.session.Stop.TheVariants.{Output, Memory}
+use Rattle.sasi_run.specs.declared.session.Stop.TheVariants.{Output, Memory, Disk}
+
+-- a fault of the folder's files, or of memory
+abbrev pub stop_of : HostFault → Stop
+stop_of host_fault.Failed = Disk
+stop_of host_fault.OutOfMemory = Memory
 
 -- so many more, where a count stays at its type's last value
 abbrev pub counted_by : ℕ → ℕ → ℕ
@@ -33,22 +40,23 @@ EmitAppends old new (Err _) bytes = (front back : List ℕ) × (bytes ≡ front 
 
 -- the session has run this piece, and its reply was emitted
 pub record Answers (old new : Session) (out_old out_new : Option (List ℕ)) (piece : Piece) : Type 0 where
-  pub state : new.machine ≡ (step old.machine piece).state
-  pub shown : Appends out_old out_new (step old.machine piece).reply
-  pub count : new.refused ≡ counted_by old.refused (refused_by old.machine piece)
+  pub state : new.store.machine ≡ (step old.store.machine piece).state
+  pub shown : Appends out_old out_new (step old.store.machine piece).reply
+  pub count : new.refused ≡ counted_by old.refused (refused_by old.store.machine piece)
   pub reading : new.splitter ≡ old.splitter
 
 -- the session has taken these bytes: it has run the pieces that ended in them, and goes on behind them
 pub record Takes (old new : Session) (out_old out_new : Option (List ℕ)) (bytes : List ℕ) : Type 0 where
   pub done : List Piece
   pub reading : (left : List ℕ) → resume old.splitter (bytes ++ left) ≡ behind done (resume new.splitter left)
-  pub state : new.machine ≡ state_after old.machine done
-  pub shown : Appends out_old out_new (replies old.machine done)
-  pub count : new.refused ≡ counted_by old.refused (refusals old.machine done)
+  pub state : new.store.machine ≡ state_after old.store.machine done
+  pub shown : Appends out_old out_new (replies old.store.machine done)
+  pub count : new.refused ≡ counted_by old.refused (refusals old.store.machine done)
 
 -- where a run stopped: nothing of the next reply was emitted, or a first part of it
 abbrev pub ShownAt : Stop → State → Option (List ℕ) → Option (List ℕ) → List Piece → List Piece → Type 0
 ShownAt Memory s out_old out_new done next = Appends out_old out_new (replies s done)
+ShownAt Disk s out_old out_new done next = Appends out_old out_new (replies s done)
 ShownAt Output s out_old out_new done next = (piece : Piece) × (front back : List ℕ) × (next ≡ piece ∷ []) × ((step (state_after s done) piece).reply ≡ front ++ back)
     × Appends out_old out_new (replies s done ++ front)
 
@@ -61,17 +69,19 @@ pub record Stops (stop : Stop) (old : Session) (out_old out_new : Option (List �
   pub next : List Piece
   pub stand : Standing
   pub reading : (left : List ℕ) → resume old.splitter (taken ++ left) ≡ behind (done ++ next) (resume stand left)
-  pub shown : ShownAt stop old.machine out_old out_new done next
+  pub shown : ShownAt stop old.store.machine out_old out_new done next
 
--- the count of failed emits doesn't fall, and it rose where the output stopped the run
+-- the counts of failures don't fall, and that of emits rose where the output stopped the run, and that of the disk where the folder did
 pub record Faults {T : Type 0} (old new : View) (result : Result T Stop) : Type 0 where
   pub later : old.out_faults ≤ new.out_faults
+  pub disk_later : old.disk_faults ≤ new.disk_faults
   pub failed : IsErrOf result Output → Rose old.out_faults new.out_faults
+  pub disk_failed : IsErrOf result Disk → Rose old.disk_faults new.disk_faults
 
 -- the session has run the last piece, if anything was left of one
 pub record Finishes (old new : Session) (out_old out_new : Option (List ℕ)) : Type 0 where
-  pub shown : Appends out_old out_new (replies old.machine (resume old.splitter []).last)
-  pub count : new.refused ≡ counted_by old.refused (refusals old.machine (resume old.splitter []).last)
+  pub shown : Appends out_old out_new (replies old.store.machine (resume old.splitter []).last)
+  pub count : new.refused ≡ counted_by old.refused (refusals old.store.machine (resume old.splitter []).last)
 
 -- the session stands at the start of a script
 pub record IsFresh (session : Session) : Type 0 where

@@ -1,8 +1,11 @@
 // The loop over the reads of a script.
 ghost use Rattle.std.specs.Prelude.{◌≡◌, ◌≢◌};
 ghost use Rattle.sasi_host.specs.View.{Rose};
+ghost use Rattle.sasi_host.specs.declared.damage.Damage.{Damage};
+ghost use Rattle.sasi_run.specs.Crashing.{RunsOn};
 ghost use Rattle.sasi_run.specs.Session.{IsFresh};
-ghost use Rattle.sasi_run.specs.Headline.{Runs, status_of_stop, status_of_count};
+ghost use Rattle.sasi_run.specs.Storing.{IsReady};
+ghost use Rattle.sasi_run.specs.Headline.{status_of_stop, status_of_count};
 
 use crate::Status;
 use crate::session::{Session, Stop, feed, finish};
@@ -18,6 +21,7 @@ fn stop_status(stop: Stop) -> Status
     ensures { result ≡ status_of_stop stop }
 {
     match stop {
+        Stop::Disk => Status::FolderFault,
         Stop::Output => Status::OutputFault,
         Stop::Memory => Status::OutOfMemory,
     }
@@ -35,11 +39,14 @@ fn end_status(refused: u64) -> Status
 
 /// Runs the script to its end, or to what stops the run, from the tables that the session has.
 pub fn run_script<S: Source, H: Host>(session: &mut Session, script: &mut S, host: &mut H) -> Status
-    requires { IsFresh session.old }
-    ensures runs { Runs result session.old.machine (S.view script.old).left (S.view script.new).left (H.view host.old).emitted (H.view host.new).emitted }
+    requires fresh { IsFresh session.old }
+    requires ready { IsReady (H.view host.old) session.old.store }
+    ensures runs { RunsOn result session.old.store (S.view script.old).left (S.view script.new).left (H.view host.old) (H.view host.new) }
     ensures script_fault { result ≡ Status.ScriptFault → Rose (S.view script.old).faults (S.view script.new).faults }
     ensures output_fault { result ≡ Status.OutputFault → Rose (H.view host.old).out_faults (H.view host.new).out_faults }
+    ensures folder_fault { result ≡ Status.FolderFault → Rose (H.view host.old).disk_faults (H.view host.new).disk_faults }
     ensures words { result ≢ Status.Usage }
+    ensures undamaged { (damage : Damage) → result ≢ Status.Damaged damage }
 {
     let mut buf = [0; READ_SIZE];
     let mut taken: u64 = 0;

@@ -1,22 +1,26 @@
 // A run between two reads of its script.
 ghost use Rattle.std.specs.Prelude.{◌≡◌, OnOk, IfErr, ◌∷◌, []};
-ghost use Rattle.sasi_host.specs.View.{OutCauses};
+ghost use Rattle.sasi_host.specs.View.{AllOut, Emits, OutCauses};
+ghost use Rattle.sasi_host.specs.declared.fault.HostFault.TheVariants as host_fault;
 ghost use Rattle.sasi_model.specs.Pieces.{piece_of};
-ghost use Rattle.sasi_model.specs.State.{empty_state};
 ghost use Rattle.sasi_cql.specs.Standing.{resume};
-ghost use Rattle.sasi_run.specs.declared.session.Stop.TheVariants.{Memory, Output};
-ghost use Rattle.sasi_run.specs.Session.{counted_outcome, EmitAppends, Answers, Takes, Stops, ShownAt, Faults, Finishes};
+ghost use Rattle.sasi_run.specs.declared.session.Stop.TheVariants.{Disk, Memory, Output};
+ghost use Rattle.sasi_run.specs.Crashing.{AnswersOn, FailsOn, FinishesOn, StopsOn, TakesOn};
+ghost use Rattle.sasi_run.specs.Session.{counted_outcome, EmitAppends, Faults};
+ghost use Rattle.sasi_run.specs.Storing.{IsReady};
 
+use crate::store::{Store, step};
 use sasi_cql::Splitter;
-use sasi_host::{Failed, Host};
-use sasi_machine::{Machine, Outcome, Reply};
-use sasi_types::{Partitioner, PieceEnd};
+use sasi_host::{Failed, Host, HostFault};
+use sasi_machine::{Outcome, Reply};
+use sasi_types::PieceEnd;
 use std::alloc::{AllocError, Global};
 
 /// A run between two reads of its script.
 #[derive(Drop)]
 pub struct Session {
-    pub machine: Machine,
+    pub alloc: Global,
+    pub store: Store,
     pub splitter: Splitter,
     pub reply: Reply,
     /// How many pieces were refused; it stays at its last value.
@@ -26,6 +30,7 @@ pub struct Session {
 /// Why a run stops before its script's end.
 #[derive(Clone, Copy, Debug, PartialEq, Eq)]
 pub enum Stop {
+    Disk,
     Output,
     Memory,
 }
@@ -46,6 +51,19 @@ impl From<Failed> for Stop {
     }
 }
 
+impl From<HostFault> for Stop {
+    ghost use Rattle.sasi_run.specs.Session.{stop_of};
+
+    ghost from_gives = { λ fault e. e ≡ stop_of fault };
+
+    fn from(fault: HostFault) -> Self {
+        match fault {
+            HostFault::Failed => Stop::Disk,
+            HostFault::OutOfMemory => Stop::Memory,
+        }
+    }
+}
+
 // One more, if a piece was refused.
 fn count_refused(count: u64, outcome: Outcome) -> u64
     ensures { result ≡ counted_outcome count outcome }
@@ -59,6 +77,8 @@ fn count_refused(count: u64, outcome: Outcome) -> u64
 // Emits a reply by one call, unless there is none.
 fn show<H: Host>(host: &mut H, reply: &[u8]) -> Result<(), Failed>
     ensures bytes { EmitAppends (H.view host.old).emitted (H.view host.new).emitted result reply.now }
+    ensures all { OnOk result (AllOut reply.now (H.view host.old) (H.view host.new)) }
+    ensures emits { Emits reply.now (H.view host.old) (H.view host.new) }
     ensures causes { OutCauses (H.view host.old) (H.view host.new) result }
 {
     if reply.is_empty() {
@@ -69,13 +89,19 @@ fn show<H: Host>(host: &mut H, reply: &[u8]) -> Result<(), Failed>
 
 /// Runs the piece that has ended, and emits its reply.
 pub fn answer<H: Host>(session: &mut Session, host: &mut H, end: PieceEnd) -> Result<(), Stop>
-    ensures ok { OnOk result (Answers session.old session.new (H.view host.old).emitted (H.view host.new).emitted (piece_of end session.old.splitter.text)) }
-    ensures err { IfErr result (λ stop. ShownAt stop session.old.machine (H.view host.old).emitted (H.view host.new).emitted [] (piece_of end session.old.splitter.text ∷ [])) }
+    requires ready { IsReady (H.view host.old) session.old.store }
+    ensures ok { OnOk result (AnswersOn session.old session.new (H.view host.old) (H.view host.new) (piece_of end session.old.splitter.text)) }
+    ensures err { IfErr result (λ stop. FailsOn stop session.old (H.view host.old) (H.view host.new) (piece_of end session.old.splitter.text ∷ [])) }
     ensures causes { Faults (H.view host.old) (H.view host.new) result }
 {
-    let outcome = session
-        .machine
-        .step(session.splitter.piece(), end, &mut session.reply)?;
+    let outcome = step(
+        session.alloc,
+        &mut session.store,
+        host,
+        session.splitter.piece(),
+        end,
+        &mut session.reply,
+    )?;
     session.refused = count_refused(session.refused, outcome);
     show(host, session.reply.bytes())?;
     Ok(())
@@ -83,8 +109,9 @@ pub fn answer<H: Host>(session: &mut Session, host: &mut H, end: PieceEnd) -> Re
 
 // Takes the next byte of the script, and runs the piece that it ends, if it ends one.
 fn take_byte<H: Host>(session: &mut Session, host: &mut H, byte: u8) -> Result<(), Stop>
-    ensures ok { OnOk result (Takes session.old session.new (H.view host.old).emitted (H.view host.new).emitted (byte ∷ [])) }
-    ensures err { IfErr result (λ stop. Stops stop session.old (H.view host.old).emitted (H.view host.new).emitted (byte ∷ [])) }
+    requires ready { IsReady (H.view host.old) session.old.store }
+    ensures ok { OnOk result (TakesOn session.old session.new (H.view host.old) (H.view host.new) (byte ∷ [])) }
+    ensures err { IfErr result (λ stop. StopsOn stop session.old (H.view host.old) (H.view host.new) (byte ∷ [])) }
     ensures causes { Faults (H.view host.old) (H.view host.new) result }
 {
     let _refused = session.refused;
@@ -96,8 +123,9 @@ fn take_byte<H: Host>(session: &mut Session, host: &mut H, byte: u8) -> Result<(
 
 /// Takes the next bytes of the script, and runs each piece that ends in them.
 pub fn feed<H: Host>(session: &mut Session, host: &mut H, bytes: &[u8]) -> Result<(), Stop>
-    ensures ok { OnOk result (Takes session.old session.new (H.view host.old).emitted (H.view host.new).emitted bytes.now) }
-    ensures err { IfErr result (λ stop. Stops stop session.old (H.view host.old).emitted (H.view host.new).emitted bytes.now) }
+    requires ready { IsReady (H.view host.old) session.old.store }
+    ensures ok { OnOk result (TakesOn session.old session.new (H.view host.old) (H.view host.new) bytes.now) }
+    ensures err { IfErr result (λ stop. StopsOn stop session.old (H.view host.old) (H.view host.new) bytes.now) }
     ensures causes { Faults (H.view host.old) (H.view host.new) result }
 {
     for byte in bytes {
@@ -108,8 +136,9 @@ pub fn feed<H: Host>(session: &mut Session, host: &mut H, bytes: &[u8]) -> Resul
 
 /// Runs what the script's end cut off, if anything is left.
 pub fn finish<H: Host>(session: &mut Session, host: &mut H) -> Result<(), Stop>
-    ensures ok { OnOk result (Finishes session.old session.new (H.view host.old).emitted (H.view host.new).emitted) }
-    ensures err { IfErr result (λ stop. ShownAt stop session.old.machine (H.view host.old).emitted (H.view host.new).emitted [] (resume session.old.splitter []).last) }
+    requires ready { IsReady (H.view host.old) session.old.store }
+    ensures ok { OnOk result (FinishesOn session.old session.new (H.view host.old) (H.view host.new)) }
+    ensures err { IfErr result (λ stop. FailsOn stop session.old (H.view host.old) (H.view host.new) (resume session.old.splitter []).last) }
     ensures causes { Faults (H.view host.old) (H.view host.new) result }
 {
     let _refused = session.refused;
@@ -122,13 +151,14 @@ pub fn finish<H: Host>(session: &mut Session, host: &mut H) -> Result<(), Stop>
 impl Session {
     ghost use Rattle.sasi_run.specs.Session.{IsFresh};
 
-    /// A session at the start of a script, without tables.
-    pub fn new(alloc: Global, partitioner: Partitioner) -> Session
+    /// A session at the start of a script.
+    pub fn new(alloc: Global, store: Store) -> Session
         ensures fresh { IsFresh result }
-        ensures tables { result.machine ≡ empty_state partitioner }
+        ensures store { result.store ≡ store }
     {
         Session {
-            machine: Machine::new(alloc, partitioner),
+            alloc,
+            store,
             splitter: Splitter::new(alloc),
             reply: Reply::new(alloc),
             refused: 0,

@@ -2,6 +2,8 @@
 ghost use Rattle.std.specs.Prelude.{◌≡◌};
 ghost use Rattle.sasi_run.specs.Numbers.{number_of};
 
+use sasi_host::Damage;
+
 /// How a run ended.
 #[derive(Clone, Copy, Debug, PartialEq, Eq)]
 pub enum Status {
@@ -13,9 +15,13 @@ pub enum Status {
     Usage,
     /// The source failed.
     ScriptFault,
+    /// A file of the folder could not be read or written.
+    FolderFault,
     /// The host didn't take a reply.
     OutputFault,
     OutOfMemory,
+    /// A file of the folder breaks its format.
+    Damaged(Damage),
     /// The source gave more than 2^40 bytes.
     ScriptTooLong,
 }
@@ -30,8 +36,10 @@ impl Status {
             Status::Refused(_) => 1,
             Status::Usage => 2,
             Status::ScriptFault => 3,
+            Status::FolderFault => 4,
             Status::OutputFault => 5,
             Status::OutOfMemory => 6,
+            Status::Damaged(_) => 7,
             Status::ScriptTooLong => 11,
         }
     }

@@ -1,5 +1,6 @@
 // Whole runs in memory: scripts with the output and the status that they must have.
-use crate::{Status, command, run};
+use crate::runs::{run_words, words_of};
+use crate::{Status, command};
 use sasi_host::{MemHost, MemSource};
 use std::alloc::{AllocError, Global};
 use std::process::Abort;
@@ -23,14 +24,6 @@ const SOUND: Outside = Outside {
     failing_emit: 0,
 };
 
-fn words_of(alloc: Global, words: &[&str]) -> Result<Vec<String>, AllocError> {
-    let mut all = Vec::new(alloc);
-    for word in words {
-        all.push(String::from_str(alloc, word)?)?;
-    }
-    Ok(all)
-}
-
 fn one(alloc: Global, number: u64) -> Result<Vec<u64>, AllocError> {
     let mut numbers = Vec::new(alloc);
     numbers.push(number)?;
@@ -49,9 +42,7 @@ fn answer(
     let mut source = MemSource::new(bytes, piece, one(alloc, outside.failing_read)?);
     let mut host = MemHost::new(alloc);
     host.fail_emits(one(alloc, outside.failing_emit)?);
-    let words = words_of(alloc, words)?;
-    let status = run(alloc, &words, &mut source, &mut host);
-    Ok((status, host.emitted().to_vec(alloc)?))
+    run_words(alloc, words, &mut source, &mut host)
 }
 
 fn check(

@@ -1,11 +1,12 @@
 // The top call.
 ghost use Rattle.std.specs.Prelude.{◌≡◌, map, string_bytes};
-ghost use Rattle.sasi_run.specs.Headline.{Headline};
+ghost use Rattle.sasi_run.specs.Headline.{Headline, status_of_fault};
 
+use crate::open::open;
 use crate::reading::run_script;
 use crate::session::Session;
 use crate::{Status, command};
-use sasi_host::{Host, Source};
+use sasi_host::{Host, ReadFault, Source};
 use sasi_types::Partitioner;
 use std::alloc::Global;
 
@@ -22,8 +23,24 @@ pub fn run<S: Source, H: Host>(
     match command(words) {
         None => Status::Usage,
         Some(_) => {
-            let mut session = Session::new(alloc, Partitioner::Lead8);
-            run_script(&mut session, script, host)
+            match open(alloc, host, Partitioner::Lead8) {
+                Err(fault) => fault_status(fault),
+                Ok(store) => {
+                    let mut session = Session::new(alloc, store);
+                    run_script(&mut session, script, host)
+                }
+            }
         }
+    }
+}
+
+// The status of a folder that isn't opened.
+fn fault_status(fault: ReadFault) -> Status
+    ensures { result ≡ status_of_fault fault }
+{
+    match fault {
+        ReadFault::Failed => Status::FolderFault,
+        ReadFault::OutOfMemory => Status::OutOfMemory,
+        ReadFault::Damaged(damage) => Status::Damaged(damage),
     }
 }

@@ -1,30 +1,19 @@
-// The program: it reads the command line, makes the script file and the standard output the source and the host of a run,
-// and ends with the status that the run answers. Nothing is proved of what a real file or a terminal holds.
+// The program: it reads the command line, makes the script file and the folder the source and the host of a run, and ends
+// with the status that the run answers. Nothing is proved of what a real file or a terminal holds.
 #![tactic(auto)]
 
-mod output;
-mod script;
+mod message;
+#[cfg(test)]
+mod tests;
 
-use output::StandardOutput;
+use crate::message::Message;
+use sasi_filehost::{FileHost, FileSource};
 use sasi_host::{MemHost, MemSource};
 use sasi_run::{Status, command, run};
-use script::Script;
-use std::alloc::Global;
+use std::alloc::{AllocError, Global};
+use std::env;
 use std::env::Env;
 use std::process::ExitCode;
-use std::{env, fs, io};
-
-// The line on standard error, where there is one.
-fn message(status: Status) -> Option<&'static str> {
-    match status {
-        Status::Done | Status::Refused(_) => None,
-        Status::Usage => Some("usage: sasi [--partitioner lead8|murmur3] FOLDER SCRIPT"),
-        Status::ScriptFault => Some("script failed"),
-        Status::OutputFault => Some("output failed"),
-        Status::OutOfMemory => Some("out of memory"),
-        Status::ScriptTooLong => Some("script too long"),
-    }
-}
 
 // The words behind the program's own. A word that isn't UTF-8 makes them no words that a run takes.
 fn words<R: Env + AllocGlobal>(rt: &R) -> Result<Vec<String>, Status> {
@@ -44,21 +33,39 @@ fn run_nothing(alloc: Global, words: &[String]) -> Status {
     run(alloc, words, &mut script, &mut host)
 }
 
+// Runs a script file over a folder of real files.
+fn run_files(
+    rt: HostRuntime,
+    words: &[String],
+    folder: &str,
+    script: &str,
+) -> Result<Status, AllocError> {
+    let mut host = FileHost::at(rt, folder)?;
+    let mut script = FileSource::at(rt, script)?;
+    Ok(run(rt.alloc(), words, &mut script, &mut host))
+}
+
+// Runs the words of the command line.
+fn run_words(rt: HostRuntime, words: &[String]) -> Status {
+    let Some(command) = command(words) else {
+        return run_nothing(rt.alloc(), words);
+    };
+    let folder = words[command.folder].as_str();
+    let script = words[command.script].as_str();
+    match run_files(rt, words, folder, script) {
+        Ok(status) => status,
+        Err(AllocError) => Status::OutOfMemory,
+    }
+}
+
 fn main(rt: HostRuntime) -> ExitCode {
-    let alloc = rt.alloc();
     let status = match words(&rt) {
         Err(status) => status,
-        Ok(words) => match command(&words) {
-            None => run_nothing(alloc, &words),
-            Some(command) => {
-                let mut script = Script::new(fs::open(&rt, words[command.script].as_str()).ok());
-                let mut host = StandardOutput::new(io::writer(&rt));
-                run(alloc, &words, &mut script, &mut host)
-            }
-        },
+        Ok(words) => run_words(rt, &words),
     };
-    if let Some(message) = message(status) {
-        let _ = rt.eprintln(message);
+    let code = status.code();
+    if code >= 2 {
+        let _ = rt.eprintln(Message(status));
     }
-    ExitCode::from(status.code())
+    ExitCode::from(code)
 }

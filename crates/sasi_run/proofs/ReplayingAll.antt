@@ -1,0 +1,157 @@
+-- The live segments, one after another.
+use Rattle.std.proofs.Common.{◌≡◌, ℕ, suc, ◌+◌, ◌≤◌, List, [], ◌∷◌, ◌++◌, Some, length, map, refl, sym, ap, subst, ◌∙◌, arith, append_assoc, length-append}
+use Rattle.sasi_model.specs.State.{Definition, State, definitions}
+use Rattle.sasi_model.specs.Changes.{empty_table}
+use Rattle.sasi_host.specs.declared.fault.ReadFault.{ReadFault}
+use Rattle.sasi_host.specs.declared.fault.ReadFault.TheVariants as fault
+use Rattle.sasi_host.specs.Contents.{contents_same, there_where, told_after}
+use Rattle.sasi_host.specs.Disk.{Changes, Same}
+use Rattle.sasi_host.specs.Durability.{kept_same}
+use Rattle.sasi_host.specs.Moves.{stays, then_same}
+use Rattle.sasi_host.specs.Names.{Folder}
+use Rattle.sasi_host.specs.View.{View, IsThere, IsTold}
+use Rattle.sasi_commitlog.specs.declared.mutation.Mutation.{Mutation}
+use Rattle.sasi_commitlog.specs.Format.{log_name}
+use Rattle.sasi_commitlog.specs.Standing.{IsAtLogEnd}
+use Rattle.sasi_manifest.specs.declared.listing.Listing.{Listing}
+use Rattle.sasi_manifest.specs.Listed.{Listed}
+use Rattle.sasi_manifest.specs.Listings.{listed_definitions}
+use Rattle.sasi_folder.specs.Replay.{after_segment, after_segments, listed_state, state_made}
+use Rattle.sasi_folder.specs.ReplayLaws.{segments_last}
+use Rattle.sasi_folder.specs.FolderMoves.{segments_join}
+use Rattle.sasi_folder.specs.Stands.{HasSegment, types_listed}
+use Rattle.sasi_run.specs.Replaying.{AreThere, HasRead, HasReplayed, IsReplayShown, IsSegmentShown, KeepsSegment, KeepsSegments, MergedBefore, ReadsAll, ReadsSegment, Replays, ReplaysSegment, SparesReplay, SparesSegment}
+use Rattle.sasi_run.proofs.SealedStore.{bytes_there, reads_of}
+
+-- ---- the beginning
+
+empty_definitions : (tables : List Listed) → definitions (map (λ t. empty_table t.definition) tables) ≡ listed_definitions tables
+empty_definitions [] = refl
+empty_definitions (t ∷ tables) = ap (λ (ds : List Definition). t.definition ∷ ds) (empty_definitions tables)
+
+pub none_replayed : (v : View) (listing : Listing) (s : State) → s ≡ listed_state listing → HasReplayed v v listing listing.floor s
+none_replayed v listing s is = record {
+  from_floor = omega arith;
+  same = stays v;
+  disk = omega arith;
+  out = refl;
+  of_listing = record { partitioner = ap (λ (s : State). s.partitioner) is; tables = ap (λ (s : State). definitions s.tables) is ∙ empty_definitions listing.tables };
+  read = λ folder files there. record { logs = []; count = omega arith; segments = tt; state = is };
+  merged = λ logs told live kept. record { done = []; left = logs; parts = refl; count = omega arith; kept = kept; state = is };
+}
+
+-- ---- one segment more
+
+no_more : {A : Type 0} (xs : List A) → length xs ≡ 0 → xs ≡ []
+no_more [] none = refl
+no_more (x ∷ xs) none = absurd (omega (arith, none))
+
+-- the next of the segments that are left
+record IsNextLeft (a : View) (listing : Listing) (number : ℕ) (now : State) (logs : List (List Mutation)) : Type 0 where
+  pub done : List (List Mutation)
+  pub next : List Mutation
+  pub others : List (List Mutation)
+  pub parts : logs ≡ done ++ next ∷ others
+  pub count : listing.floor + length done ≡ number
+  pub kept : KeepsSegment a (types_listed listing) number next
+  pub others_kept : KeepsSegments a (types_listed listing) (suc number) others
+  pub state : now ≡ after_segments listing.tables listing.floor (listed_state listing) done
+
+next_left : (a : View) (listing : Listing) (number : ℕ) (now : State) (logs : List (List Mutation)) → number ≤ listing.last → listing.floor + length logs ≡ suc listing.last → (some : MergedBefore a listing number now logs) (left : List (List Mutation)) → some.left ≡ left
+    → KeepsSegments a (types_listed listing) number left → IsNextLeft a listing number now logs
+next_left a listing number now logs within live some [] left_is kept =
+    let parts : logs ≡ some.done ++ [] = some.parts ∙ ap (λ l. some.done ++ l) left_is in
+    absurd (omega (arith, within, live, some.count, ap length parts, length-append some.done []))
+next_left a listing number now logs within live some (next ∷ others) left_is kept = record {
+  done = some.done;
+  next = next;
+  others = others;
+  parts = some.parts ∙ ap (λ l. some.done ++ l) left_is;
+  count = some.count;
+  kept = kept.0;
+  others_kept = kept.1;
+  state = some.state;
+}
+
+module _ (a b : View) (listing : Listing) (number : ℕ) (now : State) (on : HasReplayed a b listing number now) (within : number ≤ listing.last) where
+  next_of : (logs : List (List Mutation)) → IsTold a → listing.floor + length logs ≡ suc listing.last → KeepsSegments a (types_listed listing) listing.floor logs → IsNextLeft a listing number now logs
+  next_of logs told live kept = let some = on.merged logs told live kept in next_left a listing number now logs within live some some.left refl some.kept
+
+  kept_on : (mutations : List Mutation) → KeepsSegment a (types_listed listing) number mutations → KeepsSegment b (types_listed listing) number mutations
+  kept_on mutations kept = (kept.0, kept_same a b (log_name number) kept.0 on.same kept.1, kept.2)
+
+  pub still_there : AreThere a listing → IsThere b (log_name number)
+  still_there there = there_where a b Same (log_name number) on.same (contents_same a b (log_name number) on.same) (there number on.from_floor within)
+
+  -- what the folder has of one segment more
+  pub read_more : (later : State) → ReadsSegment b listing number now later → (folder : Folder) → a.files ≡ Some folder → AreThere a listing → HasRead folder listing (suc number) later
+  read_more later reads folder files there =
+      let r = on.read folder files there in
+      let bytes = bytes_there a folder (log_name number) files (there number on.from_floor within) in
+      let segment = reads bytes.0 (contents_same a b (log_name number) on.same ∙ reads_of a folder (log_name number) bytes.0 files bytes.1) in
+      record {
+        logs = r.logs ++ segment.0 ∷ [];
+        count = omega (arith, r.count, length-append r.logs (segment.0 ∷ []));
+        segments = segments_join folder (types_listed listing) listing.floor r.logs segment.0 r.segments (subst (λ n. HasSegment folder (types_listed listing) n segment.0) (sym r.count) (bytes.0, bytes.1, segment.1));
+        state = segment.2 ∙ ap (λ s. after_segment listing.tables number s segment.0) r.state ∙ ap (λ k. after_segment listing.tables k (after_segments listing.tables listing.floor (listed_state listing) r.logs) segment.0) (sym r.count)
+            ∙ sym (segments_last listing.tables listing.floor (listed_state listing) r.logs segment.0);
+      }
+
+  -- where it is the last, all were read
+  pub read_all : (later : State) → ReadsSegment b listing number now later → number ≡ listing.last → AreThere a listing → ReadsAll a listing later
+  read_all later reads last there folder files = subst (λ n. HasRead folder listing (suc n) later) last (read_more later reads folder files there)
+
+  module _ (c : View) (later : State) (at : ℕ) (same : Changes Same b c) (replays : ReplaysSegment b c listing number at now later) where
+    merged_next : (logs : List (List Mutation)) → IsTold a → (n : IsNextLeft a listing number now logs) → (later ≡ after_segments listing.tables listing.floor (listed_state listing) (n.done ++ n.next ∷ [])) × IsAtLogEnd c (log_name number) at n.next
+    merged_next logs told n =
+        let segment = replays n.next (told_after Same a b on.same told) (kept_on n.next n.kept) in (
+          segment.0 ∙ ap (λ s. after_segment listing.tables number s n.next) n.state ∙ ap (λ k. after_segment listing.tables k (after_segments listing.tables listing.floor (listed_state listing) n.done) n.next) (sym n.count)
+              ∙ sym (segments_last listing.tables listing.floor (listed_state listing) n.done n.next),
+          segment.1,
+        )
+
+    pub replayed_more : b.disk_faults ≤ c.disk_faults → c.out_faults ≡ b.out_faults → later.partitioner ≡ now.partitioner → definitions later.tables ≡ listed_definitions listing.tables → ReadsSegment b listing number now later → HasReplayed a c listing (number + 1) later
+    replayed_more disk out partitioner tables reads = record {
+      from_floor = omega (arith, on.from_floor);
+      same = then_same a b c Same on.same same;
+      disk = omega (arith, on.disk, disk);
+      out = out ∙ on.out;
+      of_listing = record { partitioner = partitioner ∙ on.of_listing.partitioner; tables = tables };
+      read = λ folder files there. (let following : suc number ≡ number + 1 = omega arith in subst (λ k. HasRead folder listing k later) following (read_more later reads folder files there));
+      merged = λ logs told live kept. (
+          let n = next_of logs told live kept in
+          let following : suc number ≡ number + 1 = omega arith in
+          record {
+            done = n.done ++ n.next ∷ [];
+            left = n.others;
+            parts = n.parts ∙ sym (append_assoc n.done (n.next ∷ []) n.others);
+            count = omega (arith, n.count, length-append n.done (n.next ∷ []));
+            kept = subst (λ k. KeepsSegments a (types_listed listing) k n.others) following n.others_kept;
+            state = (merged_next logs told n).0;
+          }
+          );
+    }
+
+    -- where it is the last, all are merged
+    pub replayed_all : number ≡ listing.last → Replays a c listing at later
+    unfolding state_made
+    replayed_all last logs told live kept =
+        let n = next_of logs told live kept in
+        let merged = merged_next logs told n in
+        let none : n.others ≡ [] = no_more n.others (omega (arith, last, live, n.count, ap length n.parts, length-append n.done (n.next ∷ n.others))) in
+        let all : n.done ++ n.next ∷ [] ≡ logs = sym (n.parts ∙ ap (λ l. n.done ++ n.next ∷ l) none) in
+        (merged.0 ∙ ap (after_segments listing.tables listing.floor (listed_state listing)) all, (n.done, n.next, sym all, subst (λ k. IsAtLogEnd c (log_name k) at n.next) last merged.1))
+
+  -- ---- damage
+
+  pub shown_among : (f : ReadFault) → IsSegmentShown b listing number f → IsReplayShown a listing f
+  shown_among fault.Failed shown = tt
+  shown_among fault.OutOfMemory shown = tt
+  shown_among (fault.Damaged damage) shown = (number, on.from_floor, within, λ bytes told. shown bytes (contents_same a b (log_name number) on.same ∙ told))
+
+  pub spares_among : (f : ReadFault) → SparesSegment b listing number f → SparesReplay a listing f
+  spares_among fault.Failed spares = tt
+  spares_among fault.OutOfMemory spares = tt
+  spares_among (fault.Damaged damage) spares = λ logs told live kept.
+      let n = next_of logs told live kept in
+      spares n.next (told_after Same a b on.same told) (kept_on n.next n.kept)

@@ -1,0 +1,213 @@
+-- A segment that is being replayed.
+use Rattle.std.proofs.Common.{◌≡◌, ℕ, ◌≤◌, IsTrue, Bool, true, false, cond, List, [], ◌∷◌, ◌++◌, map, Option, Some, None, refl, sym, ap, subst, ◌∙◌, inl, arith, append_assoc}
+use Rattle.std.proofs.lemmas.List.{append-nil, map-append}
+use Rattle.std.specs.List.{AllByRecursion}
+use Rattle.sasi_model.specs.State.{State, definitions, place_of}
+use Rattle.sasi_model.specs.Changes.{after_change}
+use Rattle.sasi_host.specs.declared.name.FileName.{FileName}
+use Rattle.sasi_host.specs.declared.fault.ReadFault.{ReadFault}
+use Rattle.sasi_host.specs.declared.fault.ReadFault.TheVariants as fault
+use Rattle.sasi_host.specs.Names.{Bytes}
+use Rattle.sasi_host.specs.Contents.{contents_same, there_where, told_after}
+use Rattle.sasi_host.specs.Disk.{Changes, IsKept, Same}
+use Rattle.sasi_host.specs.Durability.{kept_contents}
+use Rattle.sasi_host.specs.Moves.{then_same}
+use Rattle.sasi_host.specs.View.{View, IsSound, IsThere, IsTold, Rose, contents}
+use Rattle.sasi_gated.specs.Format.{IsGated}
+use Rattle.sasi_gated.specs.Gates.{IsAtGate}
+use Rattle.sasi_gated.specs.Laws.{gated_at}
+use Rattle.sasi_gated.specs.Reads.{Begins, IsShown, SparesGated}
+use Rattle.sasi_gated.specs.Standing.{Handle}
+use Rattle.sasi_commitlog.specs.declared.mutation.Mutation.{Mutation}
+use Rattle.sasi_commitlog.specs.Damages.{ShowsLog}
+use Rattle.sasi_commitlog.specs.Format.{IsLog, IsMutationOf, Tables, log_name, payload_of}
+use Rattle.sasi_commitlog.specs.Reads.{IsLogShownAt, ReadsLogGate, ReadsMutation, ReadsMutations, ReadsNext, SparesLog}
+use Rattle.sasi_commitlog.specs.Standing.{IsAtLogEnd, IsReadingLog}
+use Rattle.sasi_manifest.specs.declared.listing.Listing.{Listing}
+use Rattle.sasi_manifest.specs.Listings.{listed_definitions}
+use Rattle.sasi_folder.specs.Recording.{changed_definitions}
+use Rattle.sasi_folder.specs.Replay.{after_mutation, after_segment, takes}
+use Rattle.sasi_folder.specs.ReplayLaws.{segment_more}
+use Rattle.sasi_folder.specs.Stands.{types_listed}
+use Rattle.sasi_run.specs.Replaying.{IsSegmentShown, KeepsSegment, ReadsSegment, ReplaysSegment, SparesSegment}
+
+-- so many mutations of a segment were merged, and these are left
+pub record MergedSome (b : View) (listing : Listing) (number at : ℕ) (before now : State) (mutations : List Mutation) : Type 0 where
+  pub done : List Mutation
+  pub left : List Mutation
+  pub parts : mutations ≡ done ++ left
+  pub reading : IsReadingLog b (log_name number) at (types_listed listing) done left
+  pub state : now ≡ after_segment listing.tables number before done
+
+-- so many mutations of the segment as it reads were merged, and the gate behind them stands at this place
+pub record ReadSome (bytes : Bytes) (listing : Listing) (number at : ℕ) (before now : State) : Type 0 where
+  pub done : List Mutation
+  pub rest : Bytes
+  pub at_gate : IsAtGate (log_name number) bytes at (map payload_of done) rest
+  pub of_tables : AllByRecursion (IsMutationOf (types_listed listing)) done
+  pub state : now ≡ after_segment listing.tables number before done
+
+-- a segment is being replayed
+pub record IsReplaying (a b : View) (listing : Listing) (number : ℕ) (log : Handle) (before now : State) : Type 0 where
+  pub file : log.file ≡ log_name number
+  pub usable : IsTrue log.usable
+  pub there : IsThere b (log_name number)
+  pub same : Changes Same a b
+  pub disk : a.disk_faults ≤ b.disk_faults
+  pub out : b.out_faults ≡ a.out_faults
+  pub partitioner : now.partitioner ≡ before.partitioner
+  pub tables : definitions now.tables ≡ listed_definitions listing.tables
+  pub read : (bytes : Bytes) → contents a (log_name number) ≡ Some bytes → ReadSome bytes listing number log.at before now
+  pub merged : (mutations : List Mutation) → IsTold a → KeepsSegment a (types_listed listing) number mutations → MergedSome b listing number log.at before now mutations
+
+-- a count that rose since a later moment rose since an earlier one
+pub failed_later : (first before later : ℕ) (f : ReadFault) → first ≤ before → (f ≡ fault.Failed → Rose before later) → f ≡ fault.Failed → Rose first later
+failed_later first before later f le rose is = grind (arith, le, rose is)
+
+all_join : {A : Type 0} (P : A → Type 0) (xs : List A) (x : A) → AllByRecursion P xs → P x → AllByRecursion P (xs ++ x ∷ [])
+all_join P [] x all one = (one, tt)
+all_join P (y ∷ ys) x all one = (all.0, all_join P ys x all.1 one)
+
+-- ---- a mutation is merged
+
+pub after_definitions : (listing : Listing) (number : ℕ) (s : State) (m : Mutation) → definitions (after_mutation listing.tables number s m).tables ≡ definitions s.tables
+after_definitions listing number s m = by (takes listing.tables number m.table)
+  where
+    by : (b : Bool) → definitions (cond {A = State} b (after_change s m.table (place_of s.partitioner m.key) m.change) s).tables ≡ definitions s.tables
+    by true = changed_definitions m.table (place_of s.partitioner m.key) m.change s.tables
+    by false = refl
+
+pub after_partitioner : (listing : Listing) (number : ℕ) (s : State) (m : Mutation) → (after_mutation listing.tables number s m).partitioner ≡ s.partitioner
+after_partitioner listing number s m = by (takes listing.tables number m.table)
+  where
+    by : (b : Bool) → (cond {A = State} b (after_change s m.table (place_of s.partitioner m.key) m.change) s).partitioner ≡ s.partitioner
+    by true = refl
+    by false = refl
+
+-- ---- the beginning
+
+pub begins_replay : (a b : View) (listing : Listing) (number : ℕ) (log : Handle) (s : State) → IsThere a (log_name number) → log.file ≡ log_name number → IsTrue log.usable → Changes Same a b → a.disk_faults ≤ b.disk_faults → b.out_faults ≡ a.out_faults → definitions s.tables ≡ listed_definitions listing.tables
+    → Begins a (log_name number) log.at → ((tables : Tables) (bytes : Bytes) (mutations : List Mutation) → IsKept a (log_name number) bytes → IsLog number tables bytes mutations → IsReadingLog b (log_name number) log.at tables [] mutations)
+    → IsReplaying a b listing number log s s
+begins_replay a b listing number log s there file usable same disk out tables begins mutations_are = record {
+  file = file;
+  usable = usable;
+  there = there_where a b Same (log_name number) same (contents_same a b (log_name number) same) there;
+  same = same;
+  disk = disk;
+  out = out;
+  partitioner = refl;
+  tables = tables;
+  read = λ bytes is. (let at = begins bytes is in record { done = []; rest = at.0; at_gate = at.1; of_tables = tt; state = refl });
+  merged = λ mutations told kept. record { done = []; left = mutations; parts = refl; reading = mutations_are (types_listed listing) kept.0 mutations kept.1 kept.2; state = refl };
+}
+
+-- ---- one mutation more
+
+module _ (a b : View) (listing : Listing) (number : ℕ) (log : Handle) (before now : State) (on : IsReplaying a b listing number log before now) where
+  -- what the segment read at first, it reads still
+  still : (bytes : Bytes) → contents a (log_name number) ≡ Some bytes → contents b log.file ≡ Some bytes
+  still bytes is = ap (contents b) on.file ∙ contents_same a b (log_name number) on.same ∙ is
+
+  gate_here : (bytes : Bytes) → contents a (log_name number) ≡ Some bytes → (done : List Bytes) × (rest : Bytes) × IsAtGate log.file bytes log.at done rest
+  gate_here bytes is = let some = on.read bytes is in (map payload_of some.done, some.rest, subst (λ (f : FileName). IsAtGate f bytes log.at (map payload_of some.done) some.rest) (sym on.file) some.at_gate)
+
+  module _ (c : View) (new : Handle) (read : Option Mutation) (same : Changes Same b c) (file : new.file ≡ log.file) (gate : ReadsLogGate b log.file (types_listed listing) log.at new.at read) (reads : ReadsMutations b c log.file (types_listed listing) log.at new.at read) where
+    next_read : (mutations : List Mutation) (told : IsTold a) (kept : KeepsSegment a (types_listed listing) number mutations) → (some : MergedSome b listing number log.at before now mutations) → ReadsNext read c (log_name number) new.at (types_listed listing) some.done some.left
+    next_read mutations told kept some =
+        subst (λ (f : FileName). ReadsNext read c f new.at (types_listed listing) some.done some.left) on.file
+        (reads some.done some.left (told_after Same a b on.same told) (subst (λ (f : FileName). IsReadingLog b f log.at (types_listed listing) some.done some.left) (sym on.file) some.reading))
+
+    merges : (m : Mutation) → read ≡ Some m → (later : State) → later ≡ after_mutation listing.tables number now m → (mutations : List Mutation) → (some : MergedSome b listing number log.at before now mutations) (left : List Mutation) → some.left ≡ left
+        → ReadsNext (Some m) c (log_name number) new.at (types_listed listing) some.done left → MergedSome c listing number new.at before later mutations
+    merges m is later became mutations some [] left_is next = absurd next
+    merges m is later became mutations some (first ∷ others) left_is (first_is, reading) = record {
+      done = some.done ++ first ∷ [];
+      left = others;
+      parts = some.parts ∙ ap (λ l. some.done ++ l) left_is ∙ sym (append_assoc some.done (first ∷ []) others);
+      reading = reading;
+      state = became ∙ ap (λ s. after_mutation listing.tables number s m) some.state ∙ ap (after_mutation listing.tables number (after_segment listing.tables number before some.done)) first_is ∙ sym (segment_more listing.tables number before some.done first);
+    }
+
+    -- what is read at the gate behind the mutations that were merged
+    read_here : (bytes : Bytes) → (told : contents a (log_name number) ≡ Some bytes) → (some : ReadSome bytes listing number log.at before now) → ReadsMutation read (types_listed listing) (log_name number) bytes new.at (map payload_of some.done) some.rest
+    read_here bytes told some =
+        let at = subst (λ (f : FileName). IsAtGate f bytes log.at (map payload_of some.done) some.rest) (sym on.file) some.at_gate in
+        subst (λ (f : FileName). ReadsMutation read (types_listed listing) f bytes new.at (map payload_of some.done) some.rest) on.file (gate bytes (map payload_of some.done) some.rest (still bytes told) at)
+
+    read_more : (m : Mutation) → read ≡ Some m → (later : State) → later ≡ after_mutation listing.tables number now m → (bytes : Bytes) → contents a (log_name number) ≡ Some bytes → ReadSome bytes listing number new.at before later
+    read_more m is later became bytes told =
+        let some = on.read bytes told in
+        let opened = subst (λ (r : Option Mutation). ReadsMutation r (types_listed listing) (log_name number) bytes new.at (map payload_of some.done) some.rest) is (read_here bytes told some) in
+        record {
+          done = some.done ++ m ∷ [];
+          rest = opened.1.0;
+          at_gate = subst (λ (l : List Bytes). IsAtGate (log_name number) bytes new.at l opened.1.0) (sym (map-append payload_of some.done (m ∷ []))) opened.1.2;
+          of_tables = all_join (IsMutationOf (types_listed listing)) some.done m some.of_tables opened.0;
+          state = became ∙ ap (λ s. after_mutation listing.tables number s m) some.state ∙ sym (segment_more listing.tables number before some.done m);
+        }
+
+    pub replays_more : (m : Mutation) → read ≡ Some m → (later : State) → later ≡ after_mutation listing.tables number now m → IsTrue new.usable → b.disk_faults ≤ c.disk_faults → c.out_faults ≡ b.out_faults → IsReplaying a c listing number new before later
+    replays_more m is later became usable disk out = record {
+      file = file ∙ on.file;
+      usable = usable;
+      there = there_where b c Same (log_name number) same (contents_same b c (log_name number) same) on.there;
+      same = then_same a b c Same on.same same;
+      disk = omega (arith, on.disk, disk);
+      out = out ∙ on.out;
+      partitioner = ap (λ (s : State). s.partitioner) became ∙ after_partitioner listing number now m ∙ on.partitioner;
+      tables = ap (λ (s : State). definitions s.tables) became ∙ after_definitions listing number now m ∙ on.tables;
+      read = λ bytes told. read_more m is later became bytes told;
+      merged = λ mutations told kept. (
+          let some = on.merged mutations told kept in
+          merges m is later became mutations some some.left refl (subst (λ (r : Option Mutation). ReadsNext r c (log_name number) new.at (types_listed listing) some.done some.left) is (next_read mutations told kept some))
+          );
+    }
+
+    -- ---- the end
+
+    ends : (mutations : List Mutation) (some : MergedSome b listing number log.at before now mutations) (left : List Mutation) → some.left ≡ left → ReadsNext None c (log_name number) new.at (types_listed listing) some.done left
+        → (now ≡ after_segment listing.tables number before mutations) × IsAtLogEnd c (log_name number) new.at mutations
+    ends mutations some [] left_is at_end =
+        let all : some.done ≡ mutations = sym (some.parts ∙ ap (λ l. some.done ++ l) left_is ∙ append-nil some.done) in
+        (some.state ∙ ap (after_segment listing.tables number before) all, subst (IsAtLogEnd c (log_name number) new.at) all at_end)
+    ends mutations some (first ∷ others) left_is at_end = absurd at_end
+
+    pub replayed_whole : read ≡ None → ReplaysSegment a c listing number new.at before now
+    replayed_whole is mutations told kept =
+        let some = on.merged mutations told kept in
+        ends mutations some some.left refl (subst (λ (r : Option Mutation). ReadsNext r c (log_name number) new.at (types_listed listing) some.done some.left) is (next_read mutations told kept some))
+
+    pub reads_whole : read ≡ None → ReadsSegment a listing number before now
+    reads_whole is bytes told =
+        let some = on.read bytes told in
+        let closed = subst (λ (r : Option Mutation). ReadsMutation r (types_listed listing) (log_name number) bytes new.at (map payload_of some.done) some.rest) is (read_here bytes told some) in
+        let gated = subst (λ (l : List Bytes). IsGated (log_name number) bytes l) (append-nil (map payload_of some.done)) (gated_at (log_name number) bytes log.at (map payload_of some.done) some.rest [] some.at_gate closed.1) in
+        (some.done, record { gated = gated; of_tables = some.of_tables }, some.state)
+
+  -- ---- damage
+
+  pub shown_on : (f : ReadFault) → IsLogShownAt b log.file (types_listed listing) log.at f → IsSegmentShown a listing number f
+  shown_on fault.Failed shown = tt
+  shown_on fault.OutOfMemory shown = tt
+  shown_on (fault.Damaged damage) shown = λ bytes told.
+      let at = gate_here bytes told in
+      subst (λ (f : FileName). ShowsLog (types_listed listing) f bytes damage) on.file (shown bytes at.0 at.1 (still bytes told) at.2)
+
+  pub spares_on : (f : ReadFault) → SparesLog b log.file (types_listed listing) log.at f → SparesSegment a listing number f
+  spares_on fault.Failed spares = tt
+  spares_on fault.OutOfMemory spares = tt
+  spares_on (fault.Damaged damage) spares = λ mutations told kept.
+      let some = on.merged mutations told kept in
+      spares some.done some.left (told_after Same a b on.same told) (subst (λ (f : FileName). IsReadingLog b f log.at (types_listed listing) some.done some.left) (sym on.file) some.reading)
+
+pub shown_first : (v : View) (listing : Listing) (number : ℕ) (f : ReadFault) → IsShown v (log_name number) f → IsSegmentShown v listing number f
+shown_first v listing number fault.Failed shown = tt
+shown_first v listing number fault.OutOfMemory shown = tt
+shown_first v listing number (fault.Damaged damage) shown = λ bytes told. inl (shown bytes told)
+
+pub spares_first : (v : View) (listing : Listing) (number : ℕ) (f : ReadFault) → IsSound v → SparesGated v (log_name number) f → SparesSegment v listing number f
+spares_first v listing number fault.Failed sound spares = tt
+spares_first v listing number fault.OutOfMemory sound spares = tt
+spares_first v listing number (fault.Damaged damage) sound spares = λ mutations told kept.
+    spares kept.0 (map payload_of mutations) (kept_contents v (log_name number) kept.0 sound told kept.1) kept.2.gated

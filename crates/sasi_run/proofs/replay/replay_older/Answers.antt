@@ -1,0 +1,50 @@
+use Rattle.std.proofs.Common.{◌≡◌, arith, subst, ◌∙◌}
+use Rattle.std.proofs.lemmas.Result.{err_from_is_err_and}
+use Rattle.sasi_host.specs.Disk.{Same}
+use Rattle.sasi_host.specs.Moves.{then_same}
+use Rattle.sasi_run.specs.Replaying.{HasReplayed}
+use Rattle.sasi_run.proofs.ReplayingAll.{none_replayed, replayed_more, shown_among, spares_among, still_there}
+use Rattle.sasi_run.proofs.ReplayingSegment.{failed_later}
+use Rattle.sasi_run.proofs.replay.replay_older.Goals as goal
+
+pub loop-number-init : goal.loop-number-init
+loop-number-init g c = none_replayed (g.H.Host.view c.args.host.now) c.args.listing.now c.args.machine.now c.requires.start
+
+pub replay_segment-requires-clause-there : goal.replay_segment-requires-clause-there
+replay_segment-requires-clause-there g c =
+    still_there (g.H.Host.view c.args.host.now) (g.H.Host.view c.loop-number.host) c.args.listing.now c.loop-number.number c.loop-number.machine c.loop-number.invariant (omega (arith, c.loop-number-test.true)) c.requires.there
+
+pub returns-in_err-replay_segment-clause-damaged : goal.returns-in_err-replay_segment-clause-damaged
+returns-in_err-replay_segment-clause-damaged g c =
+    let p = err_from_is_err_and c.from_residual.result c.from_residual.ensures.1 in
+    rw (p.1, p.2) (shown_among (g.H.Host.view c.args.host.now) (g.H.Host.view c.loop-number.host) c.args.listing.now c.loop-number.number c.loop-number.machine c.loop-number.invariant (omega (arith, c.loop-number-test.true)) c.in_err-replay_segment.field-0.0
+    c.in_err-replay_segment.ensures.damaged)
+
+pub returns-in_err-replay_segment-clause-undamaged : goal.returns-in_err-replay_segment-clause-undamaged
+returns-in_err-replay_segment-clause-undamaged g c =
+    let p = err_from_is_err_and c.from_residual.result c.from_residual.ensures.1 in
+    rw (p.1, p.2) (spares_among (g.H.Host.view c.args.host.now) (g.H.Host.view c.loop-number.host) c.args.listing.now c.loop-number.number c.loop-number.machine c.loop-number.invariant (omega (arith, c.loop-number-test.true)) c.in_err-replay_segment.field-0.0
+    c.in_err-replay_segment.ensures.undamaged)
+
+pub returns-in_err-replay_segment-clause-changes : goal.returns-in_err-replay_segment-clause-changes
+returns-in_err-replay_segment-clause-changes g c = then_same _ _ _ Same c.loop-number.invariant.same c.replay_segment.ensures.changes
+
+pub returns-in_err-replay_segment-clause-causes : goal.returns-in_err-replay_segment-clause-causes
+returns-in_err-replay_segment-clause-causes g c =
+    let p = err_from_is_err_and c.from_residual.result c.from_residual.ensures.1 in
+    let causes = c.in_err-replay_segment.ensures.causes in
+    rw (p.1, p.2) (record { disk = omega (arith, c.loop-number.invariant.disk, causes.disk); out = causes.out ∙ c.loop-number.invariant.out; failed = failed_later _ _ _ c.in_err-replay_segment.field-0.0 c.loop-number.invariant.disk causes.failed })
+
+pub loop-number-preserved : goal.loop-number-preserved
+loop-number-preserved g c =
+    let segment = c.in_ok-replay_segment.ensures in
+    replayed_more (g.H.Host.view c.args.host.now) (g.H.Host.view c.loop-number.host) c.args.listing.now c.loop-number.number c.loop-number.machine c.loop-number.invariant (omega (arith, c.loop-number-test.true)) (g.H.Host.view c.replay_segment.new.host) c.replay_segment.new.machine
+    c.in_ok-replay_segment.field-0.at segment.changes segment.replayed segment.causes.disk segment.causes.out segment.partitioner segment.tables segment.reads
+
+pub returns-clause-replayed : goal.returns-clause-replayed
+returns-clause-replayed g c =
+    let last : c.loop-number.number ≡ c.args.listing.now.last = omega (arith, c.loop-number-test.false, c.loop-number.auto.number, c.requires.live.ordered) in
+    subst (λ n. HasReplayed (g.H.Host.view c.args.host.now) (g.H.Host.view c.loop-number.host) c.args.listing.now n c.loop-number.machine) last c.loop-number.invariant
+
+pub returns-clause-causes : goal.returns-clause-causes
+returns-clause-causes g c = record { disk = c.loop-number.invariant.disk; out = c.loop-number.invariant.out; failed = tt }

@@ -1,0 +1,37 @@
+-- A folder in which no store was made yet.
+use Rattle.std.specs.Prelude.{◌≡◌, Bool, true, false, ◌||◌, List, [], ◌∷◌, ◌++◌, Some}
+use Rattle.std.specs.List.{AllByRecursion}
+use Rattle.sasi_types.specs.declared.partitioner.Partitioner.{Partitioner}
+use Rattle.sasi_host.specs.declared.damage.Damage.{Damage}
+use Rattle.sasi_host.specs.declared.damage.FormatRule.TheVariants.{NoSeal}
+use Rattle.sasi_host.specs.declared.name.FileName.{FileName}
+use Rattle.sasi_host.specs.Damages.{seen_bytes}
+use Rattle.sasi_host.specs.Names.{Folder, name_eq}
+use Rattle.sasi_host.specs.View.{View}
+use Rattle.sasi_model.specs.State.{empty_state}
+use Rattle.sasi_commitlog.specs.Format.{log_name}
+use Rattle.sasi_manifest.specs.Format.{manifest_name}
+use Rattle.sasi_folder.specs.Stands.{IsFresh, Stands}
+
+-- what the making of a store begins with: the first manifest and the first segment of the log
+abbrev pub is_first : FileName → Bool
+is_first name = name_eq name (manifest_name 1) || name_eq name (log_name 1)
+
+-- the damage tells the first of the names that is another one
+pub record IsForeign (names : List FileName) (damage : Damage) : Type 0 where
+  pub before : List FileName
+  pub behind : List FileName
+  pub is : names ≡ before ++ damage.file ∷ behind
+  pub firsts : AllByRecursion (λ name. is_first name ≡ true) before
+  pub other : is_first damage.file ≡ false
+  pub rule : damage.rule ≡ NoSeal
+  pub place : damage.at ≡ 0
+  pub seen : seen_bytes damage.seen ≡ []
+
+-- the folder isn't a new one, where it is told
+abbrev pub SparesFresh : View → Type 0
+SparesFresh v = (folder : Folder) → v.files ≡ Some folder → ¬ IsFresh folder
+
+-- the folder stands for the state without tables
+abbrev pub StandsEmpty : Partitioner → Folder → Folder → Type 0
+StandsEmpty partitioner x y = Stands partitioner y (empty_state partitioner)

@@ -1,0 +1,113 @@
+// A folder in which no store was made yet.
+ghost use Rattle.std.specs.Prelude.{◌≡◌, [], All, IfErr, IfOk, OnOk, true};
+ghost use Rattle.std.specs.List.Sorted.{IsStrictlySortedBy};
+ghost use Rattle.sasi_host.specs.declared.name.FileName.{FileName as AName};
+ghost use Rattle.sasi_host.specs.Damages.{OnDamage};
+ghost use Rattle.sasi_host.specs.Names.{name_cmp};
+ghost use Rattle.sasi_host.specs.View.{IsAbsent, IsTold, ListCauses};
+ghost use Rattle.sasi_host.specs.Disk.{Changes, Lists, Same};
+ghost use Rattle.sasi_host.specs.Moves.{Each};
+ghost use Rattle.sasi_gated.specs.Causes.{ReadingCauses};
+ghost use Rattle.sasi_model.specs.State.{empty_state};
+ghost use Rattle.sasi_folder.specs.Stands.{IsFresh};
+ghost use Rattle.sasi_run.specs.NewFolder.{IsForeign, SparesFresh, StandsEmpty, is_first};
+ghost use Rattle.sasi_run.specs.Storing.{IsReady, ServesStore, Somehow};
+
+use crate::deleting::{Keep, delete_others, log_file, manifest_file};
+use crate::store::Store;
+use sasi_commitlog::Log;
+use sasi_host::{Damage, FileName, FormatRule, Host, HostFault, ReadFault, found};
+use sasi_machine::Machine;
+use sasi_manifest::{Listing, Manifest};
+use sasi_types::Partitioner;
+use std::alloc::Global;
+
+/// Makes the store of a folder that has no seal, of which these are the names: its first segment of the log, its first
+/// manifest, and the seal. What an earlier making left is deleted before.
+pub fn make_new<H: Host>(
+    alloc: Global,
+    host: &mut H,
+    names: &[FileName],
+    partitioner: Partitioner,
+) -> Result<Store, ReadFault>
+    requires lists { Lists (H.view host.old) names.now }
+    requires sorted { IsStrictlySortedBy name_cmp names.now }
+    ensures machine { IfOk result (λ store. store.machine ≡ empty_state partitioner) }
+    ensures ready { IfOk result (λ store. IsReady (H.view host.new) store) }
+    ensures serves { IfOk result (λ store. IsTold (H.view host.old) → Each (H.view host.old) IsFresh → ServesStore (H.view host.new) store) }
+    ensures any_moment { Each (H.view host.old) IsFresh → Changes (StandsEmpty partitioner) (H.view host.old) (H.view host.new) }
+    ensures firsts { OnOk result (All (λ name. is_first name ≡ true) names.now) }
+    ensures damaged { IfErr result (OnDamage (IsForeign names.now)) }
+    ensures undamaged { IfErr result (OnDamage (λ damage. SparesFresh (H.view host.old))) }
+    ensures untouched { IfErr result (OnDamage (λ damage. Changes Same (H.view host.old) (H.view host.new))) }
+    ensures changes { Changes Somehow (H.view host.old) (H.view host.new) }
+    ensures causes { ReadingCauses (H.view host.old) (H.view host.new) result }
+{
+    check_new(names)?;
+    let store = begin_anew(alloc, host, names, partitioner)?;
+    Ok(store)
+}
+
+// Whether the names are those that the making of a store begins with; damage is the first that is another.
+fn check_new(names: &[FileName]) -> Result<(), Damage>
+    ensures firsts { OnOk result (All (λ name. is_first name ≡ true) names.now) }
+    ensures foreign { IfErr result (IsForeign names.now) }
+{
+    for name in names {
+        if !is_first(*name) {
+            return Err(found(*name, 0, FormatRule::NoSeal, &[]));
+        }
+    }
+    Ok(())
+}
+
+fn is_first(name: FileName) -> bool
+    ensures { result ≡ is_first name }
+{
+    name == manifest_file(1) || name == log_file(1)
+}
+
+// Deletes what is there, and makes the store.
+fn begin_anew<H: Host>(
+    alloc: Global,
+    host: &mut H,
+    names: &[FileName],
+    partitioner: Partitioner,
+) -> Result<Store, HostFault>
+    requires lists { Lists (H.view host.old) names.now }
+    requires sorted { IsStrictlySortedBy name_cmp names.now }
+    ensures machine { IfOk result (λ store. store.machine ≡ empty_state partitioner) }
+    ensures ready { IfOk result (λ store. IsReady (H.view host.new) store) }
+    ensures serves { IfOk result (λ store. IsTold (H.view host.old) → Each (H.view host.old) IsFresh → ServesStore (H.view host.new) store) }
+    ensures any_moment { Each (H.view host.old) IsFresh → Changes (StandsEmpty partitioner) (H.view host.old) (H.view host.new) }
+    ensures changes { Changes Somehow (H.view host.old) (H.view host.new) }
+    ensures causes { ListCauses (H.view host.old) (H.view host.new) result }
+{
+    delete_others(host, names, Keep::Nothing)?;
+    host.sync_folder()?;
+    make_first(alloc, host, partitioner)
+}
+
+// Makes the store in a folder that has no files.
+fn make_first<H: Host>(
+    alloc: Global,
+    host: &mut H,
+    partitioner: Partitioner,
+) -> Result<Store, HostFault>
+    requires { (name : AName) → IsAbsent (H.view host.old) name }
+    ensures machine { IfOk result (λ store. store.machine ≡ empty_state partitioner) }
+    ensures ready { IfOk result (λ store. IsReady (H.view host.new) store) }
+    ensures serves { IfOk result (λ store. IsTold (H.view host.old) → Each (H.view host.old) IsFresh → ServesStore (H.view host.new) store) }
+    ensures any_moment { Each (H.view host.old) IsFresh → Changes (StandsEmpty partitioner) (H.view host.old) (H.view host.new) }
+    ensures changes { Changes Somehow (H.view host.old) (H.view host.new) }
+    ensures causes { ListCauses (H.view host.old) (H.view host.new) result }
+{
+    let listing = Listing::new(alloc, partitioner);
+    let log = Log::create(alloc, host, 1)?;
+    let manifest = Manifest::create(alloc, host, 1, &listing)?;
+    Ok(Store {
+        machine: Machine::new(alloc, partitioner),
+        manifest,
+        log,
+    })
+}

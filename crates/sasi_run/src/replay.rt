@@ -1,0 +1,176 @@
+// The state in memory that a listing and the live segments of the log stand for.
+ghost use Rattle.std.specs.Prelude.{◌≡◌, [], map, IfErr, IfOk, IsTrue, OnErr, OnOk, ◌+◌, ◌≤◌};
+ghost use Rattle.sasi_host.specs.View.{IsThere, Reaches};
+ghost use Rattle.sasi_host.specs.Disk.{Changes, Same};
+ghost use Rattle.sasi_gated.specs.Causes.{ReadingCauses};
+ghost use Rattle.sasi_model.specs.State.{definitions};
+ghost use Rattle.sasi_model.specs.Changes.{empty_table};
+ghost use Rattle.sasi_schema.specs.Defined.{definition};
+ghost use Rattle.sasi_schema.specs.Numbers.{RisesFrom};
+ghost use Rattle.sasi_commitlog.specs.Format.{IsMutationOf, log_name};
+ghost use Rattle.sasi_manifest.specs.ListedTables.{listed};
+ghost use Rattle.sasi_manifest.specs.Listings.{CanStart, listed_definitions};
+ghost use Rattle.sasi_manifest.specs.Naming.{AreApart};
+ghost use Rattle.sasi_folder.specs.Replay.{after_mutation, listed_state, takes};
+ghost use Rattle.sasi_folder.specs.Stands.{types_listed};
+ghost use Rattle.sasi_run.specs.Replaying.{AreThere, HasReplayed, IsOfListing, IsReplayShown, IsSegmentShown, ReadsAll, ReadsSegment, Replays, ReplaysSegment, SparesReplay, SparesSegment};
+
+use sasi_commitlog::{Log, Mutation};
+use sasi_host::{Host, ReadFault};
+use sasi_machine::{Machine, Write};
+use sasi_manifest::{ListedTable, Listing};
+use sasi_types::{Place, TableTypes};
+use std::alloc::{AllocError, Global};
+
+/// What a listing and its live segments of the log stand for, with the last of them at its closed gate.
+#[derive(Drop)]
+pub struct Replayed {
+    pub machine: Machine,
+    pub log: Log,
+}
+
+/// Makes the listed tables, and merges all mutations of the live segments into them.
+pub fn replay<H: Host>(
+    alloc: Global,
+    host: &mut H,
+    listing: &Listing,
+) -> Result<Replayed, ReadFault>
+    requires live { CanStart listing.now.floor listing.now.last }
+    requires there { AreThere (H.view host.old) listing.now }
+    ensures replayed { IfOk result (λ r. Replays (H.view host.old) (H.view host.new) listing.now r.log.at r.machine) }
+    ensures reads { IfOk result (λ r. ReadsAll (H.view host.old) listing.now r.machine) }
+    ensures of_listing { IfOk result (λ r. IsOfListing r.machine listing.now) }
+    ensures room { IfOk result (λ r. Reaches (H.view host.new) (log_name listing.now.last) (r.log.at + 1)) }
+    ensures usable { IfOk result (λ r. IsTrue r.log.usable) }
+    ensures file { IfOk result (λ r. r.log.file ≡ log_name listing.now.last) }
+    ensures damaged { IfErr result (IsReplayShown (H.view host.old) listing.now) }
+    ensures undamaged { IfErr result (SparesReplay (H.view host.old) listing.now) }
+    ensures changes { Changes Same (H.view host.old) (H.view host.new) }
+    ensures causes { ReadingCauses (H.view host.old) (H.view host.new) result }
+{
+    let types = listing.table_types(alloc)?;
+    let mut machine = listed_machine(alloc, listing)?;
+    replay_older(alloc, host, &mut machine, listing, &types)?;
+    let log = replay_segment(alloc, host, &mut machine, listing, &types, listing.last)?;
+    Ok(Replayed { machine, log })
+}
+
+// Merges the mutations of the live segments before the last one.
+fn replay_older<H: Host>(
+    alloc: Global,
+    host: &mut H,
+    machine: &mut Machine,
+    listing: &Listing,
+    types: &TableTypes,
+) -> Result<(), ReadFault>
+    requires live { CanStart listing.now.floor listing.now.last }
+    requires there { AreThere (H.view host.old) listing.now }
+    requires types { types.now ≡ types_listed listing.now }
+    requires start { machine.old ≡ listed_state listing.now }
+    ensures replayed { OnOk result (HasReplayed (H.view host.old) (H.view host.new) listing.now listing.now.last machine.new) }
+    ensures damaged { IfErr result (IsReplayShown (H.view host.old) listing.now) }
+    ensures undamaged { IfErr result (SparesReplay (H.view host.old) listing.now) }
+    ensures changes { Changes Same (H.view host.old) (H.view host.new) }
+    ensures causes { ReadingCauses (H.view host.old) (H.view host.new) result }
+{
+    for number in listing.floor..listing.last {
+        replay_segment(alloc, host, machine, listing, types, number)?;
+    }
+    Ok(())
+}
+
+// The listed tables, with nothing in them.
+fn listed_machine(alloc: Global, listing: &Listing) -> Result<Machine, AllocError>
+    ensures { IfOk result (λ machine. machine ≡ listed_state listing.now) }
+{
+    let mut machine = Machine::new(alloc, listing.partitioner);
+    create_tables(alloc, &mut machine, listing.tables.as_slice())?;
+    Ok(machine)
+}
+
+// Makes all of these tables in a machine that has none.
+fn create_tables(
+    alloc: Global,
+    machine: &mut Machine,
+    tables: &[ListedTable],
+) -> Result<(), AllocError>
+    requires none { machine.old.tables ≡ [] }
+    requires numbers { RisesFrom 1 (map (λ t. t.table.number) tables.now) }
+    requires apart { AreApart [] (map (λ t. t.table.name) tables.now) }
+    ensures partitioner { OnOk result (machine.new.partitioner ≡ machine.old.partitioner) }
+    ensures tables { OnOk result (machine.new.tables ≡ map (λ t. empty_table (definition t.table)) tables.now) }
+{
+    for listed in tables {
+        machine.create(listed.table.copy(alloc)?)?;
+    }
+    Ok(())
+}
+
+// Whether the table of this number takes the mutations of the segment.
+fn takes(tables: &[ListedTable], segment: u32, number: u32) -> bool
+    ensures { result ≡ takes (map listed tables.now) segment number }
+{
+    if number == 0 {
+        return false;
+    }
+    match tables.get(number as usize - 1) {
+        Some(listed) => listed.since <= segment,
+        None => false,
+    }
+}
+
+// Merges a mutation of the segment with this number, if its table takes it.
+fn merge(
+    machine: &mut Machine,
+    listing: &Listing,
+    number: u32,
+    mutation: Mutation,
+) -> Result<(), AllocError>
+    requires known { IsMutationOf (types_listed listing.now) mutation }
+    requires tables { definitions machine.old.tables ≡ listed_definitions listing.now.tables }
+    ensures ok { OnOk result (machine.new ≡ after_mutation listing.now.tables number machine.old mutation) }
+    ensures err { OnErr result (machine.new ≡ machine.old) }
+{
+    if !takes(listing.tables.as_slice(), number, mutation.table) {
+        return Ok(());
+    }
+    let Mutation { table, key, change } = mutation;
+    let token = machine.partitioner().token(key.bytes());
+    let place = Place { token, key };
+    machine.write(Write {
+        table,
+        place,
+        change,
+    })
+}
+
+// Merges the mutations of the segment with this number into the listed tables. The log then stands at its closed gate.
+fn replay_segment<H: Host>(
+    alloc: Global,
+    host: &mut H,
+    machine: &mut Machine,
+    listing: &Listing,
+    types: &TableTypes,
+    number: u32,
+) -> Result<Log, ReadFault>
+    requires there { IsThere (H.view host.old) (log_name number) }
+    requires types { types.now ≡ types_listed listing.now }
+    requires tables { definitions machine.old.tables ≡ listed_definitions listing.now.tables }
+    ensures replayed { IfOk result (λ log. ReplaysSegment (H.view host.old) (H.view host.new) listing.now number log.at machine.old machine.new) }
+    ensures reads { OnOk result (ReadsSegment (H.view host.old) listing.now number machine.old machine.new) }
+    ensures tables { OnOk result (definitions machine.new.tables ≡ listed_definitions listing.now.tables) }
+    ensures partitioner { OnOk result (machine.new.partitioner ≡ machine.old.partitioner) }
+    ensures room { IfOk result (λ log. Reaches (H.view host.new) (log_name number) (log.at + 1)) }
+    ensures usable { IfOk result (λ log. IsTrue log.usable) }
+    ensures file { IfOk result (λ log. log.file ≡ log_name number) }
+    ensures damaged { IfErr result (IsSegmentShown (H.view host.old) listing.now number) }
+    ensures undamaged { IfErr result (SparesSegment (H.view host.old) listing.now number) }
+    ensures changes { Changes Same (H.view host.old) (H.view host.new) }
+    ensures causes { ReadingCauses (H.view host.old) (H.view host.new) result }
+{
+    let mut log = Log::open(alloc, host, number)?;
+    while let Some(mutation) = log.next(host, types)? {
+        merge(machine, listing, number, mutation)?;
+    }
+    Ok(log)
+}

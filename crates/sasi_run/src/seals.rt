@@ -1,0 +1,59 @@
+// The seals among the names of a folder.
+ghost use Rattle.std.specs.Prelude.{◌≡◌, ◌++◌, ◌∷◌, [], List};
+ghost use Rattle.sasi_host.specs.declared.name.FileName.{FileName as AName};
+ghost use Rattle.sasi_manifest.specs.Format.{seal_name};
+ghost use Rattle.sasi_run.specs.Opening.{IsHighestSeal, IsSealNumber};
+
+use sasi_host::{FileName, Kind};
+
+/// The number of the highest seal among the names, if one is there.
+pub fn highest_seal(names: &[FileName]) -> Option<u32>
+    ensures { IsHighestSeal names.now result }
+{
+    let mut highest = None;
+    for name in names {
+        highest = higher(highest, *name);
+    }
+    highest
+}
+
+// The higher of a seal and of this name's, if it is one.
+fn higher(highest: Option<u32>, name: FileName) -> Option<u32>
+    ensures { (before : List AName) → IsHighestSeal before highest → IsHighestSeal (before ++ name ∷ []) result }
+{
+    let Some(number) = seal_number(name) else {
+        return highest;
+    };
+    match highest {
+        None => Some(number),
+        Some(other) => {
+            if other < number {
+                Some(number)
+            } else {
+                Some(other)
+            }
+        }
+    }
+}
+
+fn seal_number(name: FileName) -> Option<u32>
+    ensures { IsSealNumber name result }
+{
+    if name == seal_file(name.number) {
+        Some(name.number)
+    } else {
+        None
+    }
+}
+
+/// The name of the seal of this number.
+pub fn seal_file(number: u32) -> FileName
+    ensures { result ≡ seal_name number }
+{
+    FileName {
+        kind: Kind::Seal,
+        number,
+        index: 0,
+        part: 0,
+    }
+}

@@ -1,0 +1,128 @@
+// A folder's store in hand: what it holds in memory, and the two files that record each change before it is made.
+ghost use Rattle.std.specs.Prelude.{◌≡◌, ◌∷◌, [], IfErr, IfOk, OnOk};
+ghost use Rattle.sasi_host.specs.View.{IsTold, ListCauses};
+ghost use Rattle.sasi_host.specs.Disk.{Changes};
+ghost use Rattle.sasi_model.specs.Pieces.{piece_of};
+ghost use Rattle.sasi_model.specs.Changes.{with_new_table};
+ghost use Rattle.sasi_model.specs.Step.{step};
+ghost use Rattle.sasi_schema.specs.Defined.{definition};
+ghost use Rattle.sasi_manifest.specs.Listings.{CanCreate};
+ghost use Rattle.sasi_machine.specs.Outcome.{outcome_of};
+ghost use Rattle.sasi_machine.specs.Plans.{IsFit, IsNext, written_state};
+ghost use Rattle.sasi_run.specs.Storing.{GoesTo, IsReady, ServesStore, Somehow};
+
+use sasi_commitlog::{Log, Mutation};
+use sasi_host::{Host, HostFault};
+use sasi_machine::{Machine, Outcome, Planned, Reply, Write};
+use sasi_manifest::{Edit, EditList, Manifest};
+use sasi_schema::Table;
+use sasi_types::{PieceEnd, Place};
+use std::alloc::Global;
+
+/// The state in memory, the manifest that counts, and the last segment of the log.
+#[derive(Drop)]
+pub struct Store {
+    pub machine: Machine,
+    pub manifest: Manifest,
+    pub log: Log,
+}
+
+/// Takes one piece: records what it asks for, and does it. After a fault the reply may be a part of one.
+pub fn step<H: Host>(
+    alloc: Global,
+    store: &mut Store,
+    host: &mut H,
+    piece: &[u8],
+    end: PieceEnd,
+    reply: &mut Reply,
+) -> Result<Outcome, HostFault>
+    requires { IsReady (H.view host.old) store.old }
+    ensures state { OnOk result (store.new.machine ≡ (step store.old.machine (piece_of end piece.now)).state) }
+    ensures reply { OnOk result (reply.new ≡ (step store.old.machine (piece_of end piece.now)).reply) }
+    ensures outcome { IfOk result (λ o. o ≡ outcome_of (step store.old.machine (piece_of end piece.now)).refused) }
+    ensures ready { OnOk result (IsReady (H.view host.new) store.new) }
+    ensures serves { OnOk result (IsTold (H.view host.old) → ServesStore (H.view host.old) store.old → ServesStore (H.view host.new) store.new) }
+    ensures any_moment { ServesStore (H.view host.old) store.old → GoesTo (H.view host.old) (H.view host.new) store.old.machine (step store.old.machine (piece_of end piece.now)).state }
+    ensures changes { Changes Somehow (H.view host.old) (H.view host.new) }
+    ensures causes { ListCauses (H.view host.old) (H.view host.new) result }
+{
+    match store.machine.plan(piece, end, reply)? {
+        Planned::Answered(outcome) => Ok(outcome),
+        Planned::Create(table) => {
+            create(alloc, store, host, table)?;
+            Ok(Outcome::Done)
+        }
+        Planned::Write(change) => {
+            write(store, host, change)?;
+            Ok(Outcome::Done)
+        }
+    }
+}
+
+// Records a change of a partition in the log, and makes it.
+fn write<H: Host>(store: &mut Store, host: &mut H, change: Write) -> Result<(), HostFault>
+    requires ready { IsReady (H.view host.old) store.old }
+    requires fit { IsFit store.old.machine change }
+    ensures state { OnOk result (store.new.machine ≡ written_state store.old.machine change) }
+    ensures ready { OnOk result (IsReady (H.view host.new) store.new) }
+    ensures serves { OnOk result (IsTold (H.view host.old) → ServesStore (H.view host.old) store.old → ServesStore (H.view host.new) store.new) }
+    ensures any_moment { ServesStore (H.view host.old) store.old → GoesTo (H.view host.old) (H.view host.new) store.old.machine (written_state store.old.machine change) }
+    ensures changes { Changes Somehow (H.view host.old) (H.view host.new) }
+    ensures causes { ListCauses (H.view host.old) (H.view host.new) result }
+{
+    let Write {
+        table,
+        place,
+        change,
+    } = change;
+    let Place { token, key } = place;
+    let mutation = Mutation { table, key, change };
+    store.log.append(host, &mutation)?;
+    let Mutation { table, key, change } = mutation;
+    let place = Place { token, key };
+    store.machine.write(Write {
+        table,
+        place,
+        change,
+    })?;
+    Ok(())
+}
+
+// Lists a table in the manifest, and makes it.
+fn create<H: Host>(
+    alloc: Global,
+    store: &mut Store,
+    host: &mut H,
+    table: Table,
+) -> Result<(), HostFault>
+    requires ready { IsReady (H.view host.old) store.old }
+    requires next { IsNext store.old.machine table }
+    requires can { CanCreate store.old.manifest.listing table.number table.name table.columns table.key store.old.manifest.listing.last }
+    ensures state { OnOk result (store.new.machine ≡ with_new_table store.old.machine (definition table)) }
+    ensures ready { OnOk result (IsReady (H.view host.new) store.new) }
+    ensures serves { OnOk result (IsTold (H.view host.old) → ServesStore (H.view host.old) store.old → ServesStore (H.view host.new) store.new) }
+    ensures any_moment { ServesStore (H.view host.old) store.old → GoesTo (H.view host.old) (H.view host.new) store.old.machine (with_new_table store.old.machine (definition table)) }
+    ensures changes { Changes Somehow (H.view host.old) (H.view host.new) }
+    ensures causes { ListCauses (H.view host.old) (H.view host.new) result }
+{
+    let edits = edits_of(alloc, &table, store.manifest.listing().last)?;
+    store.manifest.append(host, &edits)?;
+    store.machine.create(table)?;
+    Ok(())
+}
+
+// The edit that lists a table whose mutations stand in the segments of the log from this one on.
+fn edits_of(alloc: Global, table: &Table, since: u32) -> Result<EditList, HostFault>
+    ensures edits { IfOk result (λ edits. edits ≡ Edit.CreateTable table.now.number table.now.name table.now.columns table.now.key since ∷ []) }
+    ensures memory { IfErr result (λ f. f ≡ HostFault.OutOfMemory) }
+{
+    let mut edits = EditList::new(alloc);
+    edits.push(Edit::CreateTable {
+        number: table.number,
+        name: table.name.copy(alloc)?,
+        columns: table.columns.copy(alloc)?,
+        key: table.key,
+        since,
+    })?;
+    Ok(edits)
+}

@@ -1,0 +1,54 @@
+// What the program says of a status.
+use sasi_filehost::NameText;
+use sasi_host::{Damage, Seen};
+use sasi_run::Status;
+use std::fmt;
+
+/// The line on standard error, empty where there is none.
+#[derive(Clone, Copy, Debug)]
+pub struct Message(pub Status);
+
+impl fmt::Display for Message {
+    fn fmt<W: fmt::Write>(&self, f: &mut fmt::Formatter<W>) -> fmt::Result {
+        match self.0 {
+            Status::Done | Status::Refused(_) => Ok(()),
+            Status::Usage => write!(f, "usage: sasi [--partitioner lead8|murmur3] FOLDER SCRIPT"),
+            Status::ScriptFault => write!(f, "script failed"),
+            Status::FolderFault => write!(f, "folder failed"),
+            Status::OutputFault => write!(f, "output failed"),
+            Status::OutOfMemory => write!(f, "out of memory"),
+            Status::Damaged(damage) => write_damage(f, damage),
+            Status::ScriptTooLong => write!(f, "script too long"),
+        }
+    }
+}
+
+fn write_damage<W: fmt::Write>(f: &mut fmt::Formatter<W>, damage: Damage) -> fmt::Result {
+    let Damage {
+        file,
+        at,
+        rule,
+        seen,
+    } = damage;
+    let file = NameText(file);
+    let seen = SeenText(seen);
+    write!(f, "damaged {file} at {at} rule {rule:?} seen {seen}")
+}
+
+// The seen bytes in hexadecimal.
+#[derive(Clone, Copy, Debug)]
+struct SeenText(Seen);
+
+impl fmt::Display for SeenText {
+    fn fmt<W: fmt::Write>(&self, f: &mut fmt::Formatter<W>) -> fmt::Result {
+        for byte in seen_bytes(&self.0) {
+            write!(f, "{byte:02x}")?;
+        }
+        Ok(())
+    }
+}
+
+fn seen_bytes(seen: &Seen) -> &[u8] {
+    let count = (seen.len as usize).min(seen.bytes.len());
+    &seen.bytes[..count]
+}
