@@ -1,5 +1,5 @@
 -- The names of files as texts.
-use Rattle.std.specs.Prelude.{◌≡◌, ℕ, ◌<◌, List, ◌++◌, codes}
+use Rattle.std.specs.Prelude.{◌≡◌, ℕ, ◌<◌, ◌^◌, List, ◌++◌, codes}
 use Rattle.std.specs.Fmt.{decimal}
 use Rattle.sasi_host.specs.declared.name.Kind.{Kind}
 use Rattle.sasi_host.specs.declared.name.Kind.TheVariants.{Manifest, Seal, Log, Data, Index, Segment}
@@ -29,6 +29,10 @@ abbrev pub HasNumbers : Kind → FileName → Type 0
 HasNumbers Index name = (0 < name.number) × (0 < name.index) × (0 < name.part)
 HasNumbers Segment name = (0 < name.number) × (0 < name.index) × (0 < name.part)
 HasNumbers _ name = (0 < name.number) × (name.index ≡ 0) × (name.part ≡ 0)
+
+-- its numbers fit in 32 bits
+abbrev pub Fits : FileName → Type 0
+Fits name = (name.number < 2 ^ 32) × (name.index < 2 ^ 32) × (name.part < 2 ^ 32)
 
 -- the word and the numbers
 abbrev pub name_text : FileName → List ℕ

@@ -1,7 +1,7 @@
 // The names of files in a folder.
-ghost use Rattle.std.specs.Prelude.{◌≡◌, ◌<◌, Some, IfSome};
+ghost use Rattle.std.specs.Prelude.{◌≡◌, ℕ, ◌<◌, ◌^◌, Some, IfSome};
 ghost use Rattle.std.specs.Fmt.{decimal};
-ghost use Rattle.sasi_filehost.specs.NameText.{word_of, HasNumbers, name_text};
+ghost use Rattle.sasi_filehost.specs.NameText.{word_of, HasNumbers, Fits, name_text};
 
 use sasi_host::{FileName, Kind};
 use std::fmt;
@@ -46,7 +46,8 @@ fn word_of(kind: Kind) -> &'static str
 }
 
 fn kind_of(word: &str) -> Option<Kind>
-    ensures { IfSome result (λ kind. word.now ≡ word_of kind) }
+    ensures spelled { IfSome result (λ kind. word.now ≡ word_of kind) }
+    ensures complete { (kind : Kind) → word.now ≡ word_of kind → result ≡ Some kind }
 {
     match word {
         "manifest" => Some(Kind::Manifest),
@@ -61,7 +62,8 @@ fn kind_of(word: &str) -> Option<Kind>
 
 // A number from 1 to 2^32 - 1 without a sign or leading zeros.
 fn number_of(text: &str) -> Option<u32>
-    ensures { IfSome result (λ number. (0 < number) × (text.now ≡ decimal number)) }
+    ensures spelled { IfSome result (λ number. (0 < number) × (text.now ≡ decimal number)) }
+    ensures complete { (number : ℕ) → 0 < number → number < 2 ^ 32 → text.now ≡ decimal number → result ≡ Some number }
 {
     let first = *text.as_bytes().first()?;
     if first < b'1' || first > b'9' {
@@ -77,6 +79,7 @@ fn number_of(text: &str) -> Option<u32>
 pub fn parse_name(text: &str) -> Option<FileName>
     ensures spelled { IfSome result (λ name. text.now ≡ name_text name) }
     ensures numbers { IfSome result (λ name. HasNumbers name.kind name) }
+    ensures complete { (name : FileName) → HasNumbers name.kind name → Fits name → text.now ≡ name_text name → result ≡ Some name }
 {
     let (word, numbers) = text.split_once('-')?;
     let kind = kind_of(word)?;
