@@ -214,8 +214,15 @@ fn failed_call_ends_the_run(rt: HostRuntime) -> Result<(), Fail> {
                 check_state(&rt, alloc, &mut left, replies)?;
             }
         }
+        // What a later run on this host finds, a crash then leaves.
         host.fail_disk(Vec::new(alloc));
-        check_state(&rt, alloc, &mut host, replies)?;
+        let statements = check_state(&rt, alloc, &mut host, replies)?;
+        for names in NAME_PICKS {
+            for bytes in BYTE_PICKS {
+                let mut left = host.crash(Pick { names, bytes })?;
+                assert_eq!(rt; statements_in(alloc, &mut left)?, statements);
+            }
+        }
     }
     Ok(())
 }
