@@ -7,16 +7,12 @@ use Rattle.sasi_host.specs.Names.{Bytes}
 use Rattle.sasi_host.specs.View.{View, Holds}
 use Rattle.sasi_host.specs.Disk.{Relation, Same, Changes, Step, InPlace, Anyhow, Becomes, overlay}
 use Rattle.sasi_host.specs.Contents.{told_before}
-use Rattle.sasi_host.specs.Moves.{changes_as, stays}
+use Rattle.sasi_host.specs.Moves.{changes_as}
 use Rattle.sasi_types.specs.declared.tree.Pair.{Pair}
 use Rattle.sasi_types.specs.declared.tree.TreeRef.{TreeRef}
 use Rattle.sasi_tokentree.specs.Format.{tree_bytes, tree_ref}
 use Rattle.sasi_tokentree.specs.Writes.{Writes, IsPast}
 use Rattle.sasi_datawrite.specs.Format.{footer, ending}
-
--- nothing was done yet
-pub untouched : (v : View) (file : FileName) → Changes (Step file Anyhow) v v
-untouched v file = changes_as v v Same (Step file Anyhow) (stays v) (λ x y same. record { others = λ name other. ap (λ d. get d name) same; this = tt })
 
 -- bytes over no bytes are behind the others
 pub overlay_behind : (old more : Bytes) → overlay old (length old) more ≡ old ++ more

@@ -1,9 +1,7 @@
 -- A store in hand: what stands in the folder at each moment while it makes a change, and after it.
 use Rattle.std.specs.Prelude.{◌≡◌, ◌⊎◌, ℕ, suc, ◌+◌, List, [], ◌∷◌, ◌++◌, length, map}
 use Rattle.std.proofs.Common.{sym, ap, subst, ◌∙◌, inl, inr, ⊎_elim, arith}
-use Rattle.std.proofs.lemmas.List.{append-nil}
-use Rattle.sasi_host.specs.declared.name.FileName.{FileName}
-use Rattle.sasi_host.specs.Names.{Bytes, Folder}
+use Rattle.sasi_host.specs.Names.{Folder}
 use Rattle.sasi_host.specs.View.{View, IsSound, IsTold}
 use Rattle.sasi_host.specs.Disk.{Anyhow, Changes, LeftWith, Step}
 use Rattle.sasi_host.specs.Contents.{told_files}
@@ -11,9 +9,8 @@ use Rattle.sasi_host.specs.Durability.{kept_other}
 use Rattle.sasi_host.specs.Moves.{Each, at_each_moment}
 use Rattle.sasi_model.specs.State.{State, definitions, place_of}
 use Rattle.sasi_model.specs.Changes.{after_change, with_new_table}
-use Rattle.sasi_gated.specs.Format.{IsGated}
-use Rattle.sasi_gated.specs.Laws.{gated_at}
-use Rattle.sasi_gated.specs.Standing.{Handle, IsAtEnd}
+use Rattle.sasi_gated.specs.Laws.{gated_end}
+use Rattle.sasi_gated.specs.Standing.{Handle}
 use Rattle.sasi_commitlog.specs.declared.mutation.Mutation.{Mutation}
 use Rattle.sasi_commitlog.specs.Format.{IsMutationOf, log_name, payload_of}
 use Rattle.sasi_commitlog.specs.Standing.{IsAtLogEnd, IsLogBeforeOrAfter}
@@ -57,10 +54,6 @@ StandsForEither former later x y = StandsSealed y former ⊎ StandsSealed y late
 -- an image of a host that tells its files
 some_image : (v : View) → IsSound v → IsTold v → (x : Folder) × v.image x
 some_image v sound told = let files = told_files v told in (files.0, sound.reads files.0 files.1)
-
--- a gated file at whose end one stands has these records
-gated_end : (v : View) (file : FileName) (at : ℕ) (records : List Bytes) → (end : IsAtEnd v file at records) → IsGated file end.bytes records
-gated_end v file at records end = subst (λ (l : List Bytes). IsGated file end.bytes l) (append-nil records) (gated_at file end.bytes at records end.rest [] end.at_gate end.closed)
 
 -- ---- a change of a partition
 

@@ -1,20 +1,14 @@
 -- A new gated file.
 use Rattle.std.proofs.Common.{◌≡◌, ℕ, ◌+◌, ◌-◌, [], ◌∷◌, ◌++◌, length, Option, Some, None, IfSome, refl, sym, ◌∙◌, ap, subst, arith, length-append}
-use Rattle.std.specs.FinMap.{get}
 use Rattle.std.specs.Option.{option_to_list}
 use Rattle.sasi_host.specs.declared.name.FileName.{FileName}
 use Rattle.sasi_host.specs.Names.{Bytes}
 use Rattle.sasi_host.specs.View.{View}
-use Rattle.sasi_host.specs.Disk.{IsKept, Changes, Step, Same, Anyhow}
-use Rattle.sasi_host.specs.Moves.{changes_as, stays}
+use Rattle.sasi_host.specs.Disk.{IsKept}
 use Rattle.sasi_gated.specs.Format.{header, frame, new_file, IsPayload}
 use Rattle.sasi_gated.specs.Gates.{IsAtGate}
 use Rattle.sasi_gated.specs.Standing.{IsAtEnd}
 use Rattle.sasi_gated.specs.Laws.{at_first_gate, at_next_gate, header_length, frame_length}
-
--- nothing was done yet
-pub untouched : (v : View) (file : FileName) → Changes (Step file Anyhow) v v
-untouched v file = changes_as v v Same (Step file Anyhow) (stays v) (λ x y same. record { others = λ name other. ap (λ d. get d name) same; this = tt })
 
 -- the closed gate is the last byte
 pub new_file_gate : (file : FileName) (first : Option Bytes) → IfSome first IsPayload → IsAtGate file (new_file file first) (length (new_file file first) - 1) (option_to_list first) (0 ∷ [])

@@ -8,8 +8,10 @@ use Rattle.sasi_host.specs.declared.name.FileName.{FileName}
 use Rattle.sasi_host.specs.declared.name.Kind.{Kind}
 use Rattle.sasi_host.specs.declared.name.Kind.TheVariants.{Manifest, Seal, Log, Data, Index, Segment}
 use Rattle.sasi_host.specs.Names.{Bytes}
+use Rattle.sasi_host.specs.View.{View}
 use Rattle.sasi_gated.specs.Format.{magic, header, frame, IsPayload, Opens, Closes, OpenRecords, FromGate, IsGated}
 use Rattle.sasi_gated.specs.Gates.{IsAtGate}
+use Rattle.sasi_gated.specs.Standing.{IsAtEnd}
 
 -- ---- one record
 
@@ -147,6 +149,10 @@ pub left_at : (file : FileName) (bytes : Bytes) (at : ℕ) (done : List Bytes) (
 left_at file bytes at done rest records gate gated =
     let same : gated.rest ≡ gate.front ++ rest = header_apart file gated.rest (gate.front ++ rest) (sym gated.is ∙ gate.is ∙ append_assoc (header file) gate.front rest) in
     from_gate_behind gate.front done rest records gate.records_stand (subst (λ (l : Bytes). FromGate l records) same gated.records_stand)
+
+-- a gated file at whose end one stands has these records
+pub gated_end : (v : View) (file : FileName) (at : ℕ) (records : List Bytes) → (end : IsAtEnd v file at records) → IsGated file end.bytes records
+gated_end v file at records end = subst (λ (l : List Bytes). IsGated file end.bytes l) (append-nil records) (gated_at file end.bytes at records end.rest [] end.at_gate end.closed)
 
 -- behind the header stands the first gate
 pub at_first_gate : (file : FileName) (bytes rest : Bytes) → bytes ≡ header file ++ rest → IsAtGate file bytes 16 [] rest

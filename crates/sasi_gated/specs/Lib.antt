@@ -7,4 +7,5 @@ pub mod AtGate
 pub mod Standing
 pub mod Reads
 pub mod Laws
+pub mod StandingLaws
 pub mod Undamaged

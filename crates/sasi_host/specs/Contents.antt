@@ -39,25 +39,23 @@ went R (Some x) (Some b) a is on = let same : x ≡ a = cc in (b, refl, subst (�
 
 -- ---- a file that reads as before
 
--- what a file reads stays, where the folder is left as it is
-pub contents_same : (a b : View) (file : FileName) → Changes Same a b → contents b file ≡ contents a file
-contents_same a b file same = from a.files refl
-  where
-    from : (o : Option Folder) → a.files ≡ o → contents b file ≡ contents a file
-    from None is = ap (λ o. contents_in o file) (same.untold is) ∙ sym (ap (λ o. contents_in o file) is)
-    from (Some f) is =
-        let g = same.seen f is in
-        ap (λ o. contents_in o file) g.1 ∙ ap (λ h. get h file) g.2 ∙ sym (ap (λ o. contents_in o file) is)
-
--- what a file reads stays, where another file changes
-pub contents_other : (a b : View) (file name : FileName) (R : Option Bytes → Option Bytes → Type 0) → name ≢ file → Changes (Step file R) a b → contents b name ≡ contents a name
-contents_other a b file name R apart change = from a.files refl
+-- what a file reads stays, where each change of the folder leaves it
+pub contents_kept : (a b : View) (S : Relation) (name : FileName) → ((x y : Folder) → S x y → get y name ≡ get x name) → Changes S a b → contents b name ≡ contents a name
+contents_kept a b S name keeps change = from a.files refl
   where
     from : (o : Option Folder) → a.files ≡ o → contents b name ≡ contents a name
     from None is = ap (λ (o : Option Folder). contents_in o name) (change.untold is) ∙ sym (ap (λ (o : Option Folder). contents_in o name) is)
     from (Some f) is =
         let g = change.seen f is in
-        ap (λ (o : Option Folder). contents_in o name) g.1 ∙ g.2.others name apart ∙ sym (ap (λ (o : Option Folder). contents_in o name) is)
+        ap (λ (o : Option Folder). contents_in o name) g.1 ∙ keeps f g.0 g.2 ∙ sym (ap (λ (o : Option Folder). contents_in o name) is)
+
+-- where the folder is left as it is
+pub contents_same : (a b : View) (file : FileName) → Changes Same a b → contents b file ≡ contents a file
+contents_same a b file change = contents_kept a b Same file (λ x y same. ap (λ (f : Folder). get f file) same) change
+
+-- and where another file changes
+pub contents_other : (a b : View) (file name : FileName) (R : Option Bytes → Option Bytes → Type 0) → name ≢ file → Changes (Step file R) a b → contents b name ≡ contents a name
+contents_other a b file name R apart change = contents_kept a b (Step file R) name (λ x y step. step.others name apart) change
 
 -- a file that reads as before, where the folder is told as before, is there, absent, reaches and holds as before
 pub there_where : (a b : View) (S : Relation) (file : FileName) → Changes S a b → contents b file ≡ contents a file → IsThere a file → IsThere b file

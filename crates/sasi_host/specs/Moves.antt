@@ -1,6 +1,7 @@
 -- How changes of a folder follow one another.
 use Rattle.std.specs.Prelude.{◌≡◌, ◌⊎◌, Option, Bool, true, false, refl}
 use Rattle.std.proofs.Common.{inl, inr, ⊎_elim, sym, ◌∙◌, ap, subst, arith}
+use Rattle.std.specs.FinMap.{get}
 use Rattle.sasi_host.specs.declared.name.FileName.{FileName}
 use Rattle.sasi_host.specs.Names.{Bytes, Folder}
 use Rattle.sasi_host.specs.View.{View, LeavesNow, CrashLeaves, IsSound}
@@ -58,6 +59,10 @@ changes_as a b S U change wider = record {
   where
     stays_during : (v : View) → CrashLeaves v v (FromImage U a)
     stays_during v = record { later = omega arith; left = λ t x e le gone. inl gone }
+
+-- nothing is done, told of one file
+pub untouched : (v : View) (file : FileName) → Changes (Step file Anyhow) v v
+untouched v file = changes_as v v Same (Step file Anyhow) (stays v) (λ x y same. record { others = λ name other. ap (λ (f : Folder). get f name) same; this = tt })
 
 -- a call that leaves the folder as it is comes after a change
 pub then_same : (a b c : View) (S : Relation) → Changes S a b → Changes Same b c → Changes S a c

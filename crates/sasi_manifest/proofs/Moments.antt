@@ -1,6 +1,5 @@
 -- What each moment of a call leaves of a manifest and its seal.
 use Rattle.std.proofs.Common.{◌≡◌, ◌≢◌, ◌≤◌, ◌+◌, ◌^◌, ℕ, List, [], ◌∷◌, ◌++◌, length, Option, Some, None, refl, sym, ◌∙◌, ap, subst, arith, inl, inr, ⊎_elim, true, false, IsTrue, length-append}
-use Rattle.std.proofs.lemmas.List.{append-nil}
 use Rattle.std.specs.FinMap.{get}
 use Rattle.sasi_host.specs.declared.name.FileName.{FileName}
 use Rattle.sasi_host.specs.declared.name.Kind.TheVariants.{Manifest, Seal}
@@ -10,8 +9,8 @@ use Rattle.sasi_host.specs.Disk.{Changes, Step, Same, Anyhow, LeftWith, MaybeCre
 use Rattle.sasi_host.specs.Moves.{changes_as, changes_on, changes_among, stays, step_as, each_on}
 use Rattle.sasi_host.specs.Durability.{kept_other}
 use Rattle.sasi_host.specs.Contents.{reaches_where, contents_other}
-use Rattle.sasi_gated.specs.Format.{IsGated, IsBeforeOrAfter, header, frame, new_file}
-use Rattle.sasi_gated.specs.Laws.{gated_at, header_length, frame_length}
+use Rattle.sasi_gated.specs.Format.{IsBeforeOrAfter, header, frame, new_file}
+use Rattle.sasi_gated.specs.Laws.{gated_end, header_length, frame_length}
 use Rattle.sasi_gated.specs.Reads.{Gains}
 use Rattle.sasi_gated.specs.Standing.{Handle, IsAtEnd}
 use Rattle.sasi_manifest.specs.declared.edit.Edit.{Edit}
@@ -23,19 +22,6 @@ use Rattle.sasi_manifest.specs.Format.{IsRecord, Builds, IsNext, IsRewritten, ma
 use Rattle.sasi_manifest.specs.Standing.{IsInHand, IsReady, Stands, IsEither, IsUnsealed, Touches, Creates}
 use Rattle.sasi_manifest.specs.Laws.{leads_on}
 use Rattle.sasi_manifest.proofs.Records.{edits_few, sizes_stay}
-
--- ---- a gated file that each image has
-
-gated_end : (v : View) (file : FileName) (at : ℕ) (records : List Bytes) → (end : IsAtEnd v file at records) → IsGated file end.bytes records
-gated_end v file at records end = subst (λ (l : List Bytes). IsGated file end.bytes l) (append-nil records) (gated_at file end.bytes at records end.rest [] end.at_gate end.closed)
-
-pub unmoved_end : (v : View) (file : FileName) (at : ℕ) (records : List Bytes) (payload : Bytes) → IsSound v → IsAtEnd v file at records → Changes (Step file (LeftWith (IsBeforeOrAfter file records payload))) v v
-unmoved_end v file at records payload sound end =
-    changes_among v v (λ x. get x file ≡ Some end.bytes) Same (Step file (LeftWith (IsBeforeOrAfter file records payload))) sound end.kept (stays v)
-    (λ x y is same. record { others = λ name other. ap (λ (f : Folder). get f name) same; this = (end.bytes, ap (λ (f : Folder). get f file) same ∙ is, inl (gated_end v file at records end)) })
-
-pub untouched : (v : View) (file : FileName) → Changes (Step file Anyhow) v v
-untouched v file = changes_as v v Same (Step file Anyhow) (stays v) (λ x y same. record { others = λ name other. ap (λ (f : Folder). get f name) same; this = tt })
 
 -- ---- an append
 

@@ -1,6 +1,5 @@
 -- The making of a folder's first store.
-use Rattle.std.proofs.Common.{◌≡◌, ◌≢◌, ℕ, ◌+◌, ◌≤◌, ◌<◌, ◌^◌, IsTrue, Bool, List, [], ◌∷◌, length, Option, Some, None, Ok, Err, IfOk, IsSome, is_some, refl, sym, ◌∙◌, ap, subst, inl, inr, ⊎_elim, arith}
-use Rattle.std.proofs.lemmas.List.{append-nil}
+use Rattle.std.proofs.Common.{◌≡◌, ◌≢◌, ℕ, ◌+◌, ◌≤◌, ◌<◌, ◌^◌, IsTrue, Bool, [], ◌∷◌, length, Option, Some, None, Ok, Err, IfOk, IsSome, is_some, refl, sym, ◌∙◌, ap, subst, inl, inr, ⊎_elim, arith}
 use Rattle.std.specs.FinMap.{get}
 use Rattle.std.specs.declared.result.Result.{Result}
 use Rattle.sasi_types.specs.declared.partitioner.Partitioner.{Partitioner}
@@ -9,13 +8,12 @@ use Rattle.sasi_host.specs.declared.fault.HostFault.{HostFault}
 use Rattle.sasi_host.specs.declared.name.FileName.{FileName}
 use Rattle.sasi_host.specs.NameLaws.{name_cases}
 use Rattle.sasi_host.specs.Names.{Bytes, Folder}
-use Rattle.sasi_host.specs.View.{View, IsSound, IsTold, Reaches, contents, contents_in}
+use Rattle.sasi_host.specs.View.{View, IsSound, IsTold, Reaches}
 use Rattle.sasi_host.specs.Disk.{Anyhow, Changes, IsKept, Relation, Same, Step}
-use Rattle.sasi_host.specs.Contents.{reaches_where}
+use Rattle.sasi_host.specs.Contents.{contents_kept, reaches_where}
 use Rattle.sasi_host.specs.Moves.{Each, at_each_moment, changes_as, changes_on, each_on, stays, then_each_moment}
 use Rattle.sasi_gated.specs.Format.{IsGated}
-use Rattle.sasi_gated.specs.Laws.{gated_at}
-use Rattle.sasi_gated.specs.Standing.{IsAtEnd}
+use Rattle.sasi_gated.specs.Laws.{gated_end}
 use Rattle.sasi_commitlog.specs.Format.{log_name}
 use Rattle.sasi_commitlog.specs.Standing.{IsAtLogEnd}
 use Rattle.sasi_manifest.specs.declared.listing.Listing.{Listing}
@@ -23,7 +21,7 @@ use Rattle.sasi_manifest.specs.Consistent.{IsConsistent, record_consistent}
 use Rattle.sasi_manifest.specs.Edits.{encoded, start_length}
 use Rattle.sasi_manifest.specs.Format.{IsManifest, IsRewritten, manifest_name, seal_name}
 use Rattle.sasi_manifest.specs.Listings.{AllApply, edits_of}
-use Rattle.sasi_manifest.specs.Standing.{Creates, Held, IsUnsealed, Touches}
+use Rattle.sasi_manifest.specs.Standing.{Creates, IsUnsealed, Touches}
 use Rattle.sasi_manifest.specs.Standing as manifests
 use Rattle.sasi_folder.specs.FolderLaws.{kinds_apart}
 use Rattle.sasi_folder.specs.Replay.{state_made}
@@ -77,10 +75,6 @@ holds_made p y manifest log sealed none there lists has first = record {
   live = refl;
   segments = ((log, has, record { gated = first; of_tables = tt }), tt);
 }
-
--- a gated file at whose end one stands has these records
-gated_end : (v : View) (file : FileName) (at : ℕ) (records : List Bytes) → (end : IsAtEnd v file at records) → IsGated file end.bytes records
-gated_end v file at records end = subst (λ (l : List Bytes). IsGated file end.bytes l) (append-nil records) (gated_at file end.bytes at records end.rest [] end.at_gate end.closed)
 
 -- ---- moments
 
@@ -146,15 +140,6 @@ create_moments a b c p at sound_a sound_b fresh first end second =
 
 log_kept : (x y : Folder) → Touches 1 x y → get y (log_name 1) ≡ get x (log_name 1)
 log_kept x y touches = touches (log_name 1) (log_apart 1) (log_seal_apart 1)
-
-pub contents_kept : (a b : View) (S : Relation) (name : FileName) → ((x y : Folder) → S x y → get y name ≡ get x name) → Changes S a b → contents b name ≡ contents a name
-contents_kept a b S name keeps change = from a.files refl
-  where
-    from : (o : Option Folder) → a.files ≡ o → contents b name ≡ contents a name
-    from None is = ap (λ (o : Option Folder). contents_in o name) (change.untold is) ∙ sym (ap (λ (o : Option Folder). contents_in o name) is)
-    from (Some f) is =
-        let g = change.seen f is in
-        ap (λ (o : Option Folder). contents_in o name) g.1 ∙ keeps f g.0 g.2 ∙ sym (ap (λ (o : Option Folder). contents_in o name) is)
 
 pub log_room : (b c : View) (at : ℕ) → Changes (Touches 1) b c → Reaches b (log_name 1) at → Reaches c (log_name 1) at
 log_room b c at change reaches = reaches_where b c (Touches 1) (log_name 1) at change (contents_kept b c (Touches 1) (log_name 1) log_kept change) reaches

@@ -1,5 +1,5 @@
 -- A folder that holds a store, and what is read of it and deleted from it.
-use Rattle.std.proofs.Common.{◌≡◌, ◌⊎◌, ℕ, zero, suc, ◌+◌, ◌≤◌, ◌<◌, Bool, true, false, List, [], ◌∷◌, length, Contains, Option, Some, None, IsSome, is_some, refl, sym, ◌∙◌, ap, subst, inl, inr, ⊎_elim, arith}
+use Rattle.std.proofs.Common.{◌≡◌, ◌⊎◌, ℕ, zero, suc, ◌+◌, ◌≤◌, ◌<◌, Bool, true, false, List, [], ◌∷◌, length, Contains, Option, None, Some, IsSome, is_some, refl, sym, ◌∙◌, ap, subst, inl, inr, ⊎_elim, arith}
 use Rattle.std.specs.FinMap.{get}
 use Rattle.sasi_host.specs.declared.damage.Damage.{Damage}
 use Rattle.sasi_host.specs.declared.fault.ReadFault.{ReadFault}
@@ -8,7 +8,7 @@ use Rattle.sasi_host.specs.declared.name.FileName.{FileName}
 use Rattle.sasi_host.specs.Names.{Bytes, Folder}
 use Rattle.sasi_host.specs.View.{View, IsSound, IsThere, Reaches, contents, contents_in}
 use Rattle.sasi_host.specs.Disk.{Changes, Lists, Same}
-use Rattle.sasi_host.specs.Contents.{reaches_where, there_where, told_files}
+use Rattle.sasi_host.specs.Contents.{contents_kept, reaches_where, there_where, told_files}
 use Rattle.sasi_host.specs.Moves.{Each, at_each_moment, changes_as, changes_on}
 use Rattle.sasi_commitlog.specs.declared.mutation.Mutation.{Mutation}
 use Rattle.sasi_commitlog.specs.Format.{Tables, log_name}
@@ -119,20 +119,14 @@ some_deletes kept x y deletes name = either (kept name) (get x name) (get y name
 pub deletes_any : (a b : View) (kept : FileName → Bool) → Changes (Deletes kept) a b → Changes (Deletes none_kept) a b
 deletes_any a b kept change = changes_as a b (Deletes kept) (Deletes none_kept) change (some_deletes kept)
 
-contents_kept : (a b : View) (kept : FileName → Bool) (name : FileName) → kept name ≡ true → Changes (Deletes kept) a b → contents b name ≡ contents a name
-contents_kept a b kept name is change = from a.files refl
-  where
-    from : (o : Option Folder) → a.files ≡ o → contents b name ≡ contents a name
-    from None none = ap (λ (o : Option Folder). contents_in o name) (change.untold none) ∙ sym (ap (λ (o : Option Folder). contents_in o name) none)
-    from (Some f) files =
-        let g = change.seen f files in
-        let same : get g.0 name ≡ get f name = subst (λ (k : Bool). DeletedUnless k (get f name) (get g.0 name)) is (g.2 name) in
-        ap (λ (o : Option Folder). contents_in o name) g.1 ∙ same ∙ sym (ap (λ (o : Option Folder). contents_in o name) files)
+-- what a file reads stays, where it isn't among those that are deleted
+contents_left : (a b : View) (kept : FileName → Bool) (name : FileName) → kept name ≡ true → Changes (Deletes kept) a b → contents b name ≡ contents a name
+contents_left a b kept name is change = contents_kept a b (Deletes kept) name (λ x y deletes. subst (λ (k : Bool). DeletedUnless k (get x name) (get y name)) is (deletes name)) change
 
 module _ (a b : View) (number : ℕ) (listing : Listing) (change : Changes (Deletes (keeps (Store number listing.floor listing.last))) a b) where
   pub manifest_room : (at : ℕ) → Reaches a (manifest_name number) at → Reaches b (manifest_name number) at
   manifest_room at reaches =
-      reaches_where a b (Deletes (keeps (Store number listing.floor listing.last))) (manifest_name number) at change (contents_kept a b (keeps (Store number listing.floor listing.last)) (manifest_name number) (keeps_manifest number listing.floor listing.last) change) reaches
+      reaches_where a b (Deletes (keeps (Store number listing.floor listing.last))) (manifest_name number) at change (contents_left a b (keeps (Store number listing.floor listing.last)) (manifest_name number) (keeps_manifest number listing.floor listing.last) change) reaches
 
   pub manifest_stands : (at : ℕ) → Stands a number at listing → Stands b number at listing
   manifest_stands at stands = record {
@@ -150,7 +144,7 @@ module _ (a b : View) (number : ℕ) (listing : Listing) (change : Changes (Dele
   pub segments_live : AreThere a listing → AreThere b listing
   segments_live live segment above below =
       there_where a b (Deletes (keeps (Store number listing.floor listing.last))) (log_name segment) change
-      (contents_kept a b (keeps (Store number listing.floor listing.last)) (log_name segment) (keeps_segment number listing.floor listing.last segment above below) change) (live segment above below)
+      (contents_left a b (keeps (Store number listing.floor listing.last)) (log_name segment) (keeps_segment number listing.floor listing.last segment above below) change) (live segment above below)
 
 -- ---- moments
 

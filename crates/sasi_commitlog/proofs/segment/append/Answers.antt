@@ -2,11 +2,12 @@ use Rattle.std.proofs.Common.{◌≡◌, ◌++◌, map, length, ◌∙◌, ap, s
 use Rattle.std.specs.Int.{to_be_bytes, w32}
 use Rattle.sasi_host.specs.Names.{Bytes}
 use Rattle.sasi_host.specs.Disk.{Changes, LeftWith, Step}
+use Rattle.sasi_host.specs.Moves.{untouched}
 use Rattle.sasi_gated.specs.Format.{IsBeforeOrAfter}
+use Rattle.sasi_gated.specs.StandingLaws.{unmoved}
 use Rattle.sasi_body.specs.Format.{body}
 use Rattle.sasi_body.specs.Laws.Lengths.{body_short}
 use Rattle.sasi_commitlog.specs.Format.{payload_of}
-use Rattle.sasi_commitlog.proofs.Appends.{untouched, unmoved}
 use Rattle.sasi_commitlog.proofs.segment.append.Goals as goal
 
 pub returns-in_err-put_mutation-clause-any_moment : goal.returns-in_err-put_mutation-clause-any_moment

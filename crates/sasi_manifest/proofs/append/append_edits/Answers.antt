@@ -1,19 +1,20 @@
 use Rattle.std.proofs.Common.{subst}
 use Rattle.sasi_host.specs.Names.{Bytes}
 use Rattle.sasi_host.specs.Disk.{Changes, LeftWith, Step}
+use Rattle.sasi_host.specs.Moves.{untouched}
 use Rattle.sasi_gated.specs.Format.{IsBeforeOrAfter}
+use Rattle.sasi_gated.specs.StandingLaws.{unmoved}
 use Rattle.sasi_manifest.specs.Edits.{encoded}
-use Rattle.sasi_manifest.proofs.Moments.{unmoved_end, untouched}
 use Rattle.sasi_manifest.proofs.append.append_edits.Goals as goal
 
 pub returns-in_err-copy-clause-any_moment : goal.returns-in_err-copy-clause-any_moment
-returns-in_err-copy-clause-any_moment g c records end = unmoved_end (g.H.Host.view c.args.host.now) c.args.gated.now.file c.args.gated.now.at records (encoded c.args.edits.now) (g.met.H.Host.sound c.args.host.now) end
+returns-in_err-copy-clause-any_moment g c records end = unmoved (g.H.Host.view c.args.host.now) c.args.gated.now.file c.args.gated.now.at records (encoded c.args.edits.now) (g.met.H.Host.sound c.args.host.now) end
 
 pub returns-in_err-copy-clause-changes : goal.returns-in_err-copy-clause-changes
 returns-in_err-copy-clause-changes g c = untouched (g.H.Host.view c.args.host.now) c.args.gated.now.file
 
 pub returns-in_err-next-clause-any_moment : goal.returns-in_err-next-clause-any_moment
-returns-in_err-next-clause-any_moment g c records end = unmoved_end (g.H.Host.view c.args.host.now) c.args.gated.now.file c.args.gated.now.at records (encoded c.args.edits.now) (g.met.H.Host.sound c.args.host.now) end
+returns-in_err-next-clause-any_moment g c records end = unmoved (g.H.Host.view c.args.host.now) c.args.gated.now.file c.args.gated.now.at records (encoded c.args.edits.now) (g.met.H.Host.sound c.args.host.now) end
 
 pub returns-in_err-next-clause-changes : goal.returns-in_err-next-clause-changes
 returns-in_err-next-clause-changes g c = untouched (g.H.Host.view c.args.host.now) c.args.gated.now.file

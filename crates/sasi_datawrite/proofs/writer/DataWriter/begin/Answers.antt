@@ -4,7 +4,7 @@ use Rattle.sasi_host.specs.Contents.{reaches_held}
 use Rattle.sasi_datawrite.specs.Files.{data_name}
 use Rattle.sasi_datawrite.specs.Format.{header}
 use Rattle.sasi_datawrite.specs.Laws.{header_length}
-use Rattle.sasi_datawrite.proofs.Appends.{untouched}
+use Rattle.sasi_host.specs.Moves.{untouched}
 use Rattle.sasi_datawrite.proofs.Pushes.{writing_none}
 use Rattle.sasi_datawrite.proofs.writer.DataWriter.begin.Goals as goal
 

@@ -1,6 +1,7 @@
 use Rattle.std.proofs.Common.{◌∙◌, sym}
 use Rattle.std.specs.Option.{option_copied}
-use Rattle.sasi_gated.proofs.Creates.{untouched, new_file_end}
+use Rattle.sasi_host.specs.Moves.{untouched}
+use Rattle.sasi_gated.proofs.Creates.{new_file_end}
 use Rattle.sasi_gated.proofs.gated.Gated.create.Goals as goal
 
 pub returns-in_err-bytes-clause-changes : goal.returns-in_err-bytes-clause-changes
