@@ -1,10 +1,7 @@
 -- Bodies behind their lengths, as they are read.
-use Rattle.std.proofs.Common.{◌≡◌, ℕ, ◌+◌, ◌^◌, ◌<◌, ◌≤◌, List, ◌++◌, [], length, take, drop, refl, sym, ◌∙◌, ap, subst, arith, append_assoc, take-append-drop, length-append, Some}
-use Rattle.std.proofs.lemmas.List.{append-nil}
+use Rattle.std.proofs.Common.{◌≡◌, ℕ, ◌+◌, ◌^◌, ◌<◌, ◌≤◌, List, ◌++◌, length, take, drop, refl, sym, ◌∙◌, ap, subst, arith, length-append, Some}
 use Rattle.std.specs.Int.{to_be_bytes, w16, w32}
 use Rattle.sasi_host.specs.declared.name.FileName.{FileName}
-use Rattle.sasi_host.specs.declared.damage.FormatRule.{FormatRule}
-use Rattle.sasi_host.specs.declared.damage.FormatRule.TheVariants.{Short, Missing, NoSeal, Magic, Version, Number, Order, Place, Text}
 use Rattle.sasi_host.specs.declared.fault.ReadFault.{ReadFault}
 use Rattle.sasi_host.specs.declared.fault.ReadFault.TheVariants as fault
 use Rattle.sasi_host.specs.Names.{Bytes}
@@ -18,15 +15,16 @@ use Rattle.sasi_body.specs.Format.{body, key_bytes, part_bytes}
 use Rattle.sasi_body.specs.Seen.{IsFaultOf}
 use Rattle.sasi_body.specs.Typed.{IsBodyOf}
 use Rattle.sasi_body.specs.Laws.Lengths.{body_short, place_within}
-use Rattle.sasi_body.specs.Damages.{IsWrong, IsWrongNumber, IsWrongOrder, IsWrongText, Breaks}
-use Rattle.sasi_body.specs.Damages.IsWrongNumber.{wrong_key_length, wrong_deletion, wrong_count, wrong_column, wrong_time, wrong_tag, wrong_marker}
-use Rattle.sasi_body.specs.Damages.IsWrongText.{wrong_key, wrong_value}
 use Rattle.sasi_host.specs.Disk.{Changes, Same}
 use Rattle.sasi_host.specs.Contents.{contents_same}
-use Rattle.sasi_tokentree.specs.Reads.{HasAt, IsSeen, IsShown}
-use Rattle.sasi_dataread.specs.Reads.{pages_of, SparesRun}
+use Rattle.sasi_tokentree.specs.Damages.{HasAt, Shown, ShowsEnd, TellsSize}
+use Rattle.sasi_tokentree.specs.Places.{at_ends, same_at, first_at, second_at, both_at, window_at}
+use Rattle.sasi_tokentree.specs.Showing.{shown_as}
+use Rattle.sasi_dataread.specs.Reads.{pages_of}
+use Rattle.sasi_dataread.specs.Damages.{ShowsPartition}
+use Rattle.sasi_dataread.specs.Damages.ShowsPartition.{no_length, no_body}
 use Rattle.sasi_dataread.specs.Bodies.{sized, cost, IsLength, IsPlacedIn, SparesLength, SparesSized, SparesBody}
-use Rattle.sasi_dataread.proofs.Windows.{at_ends, same_at, first_at, second_at, both_at, number_at, window_at}
+use Rattle.sasi_dataread.proofs.Numbers.{number_at}
 
 -- ---- what is read
 
@@ -49,67 +47,43 @@ reads_cost bytes body place count r0 r1 r2 count_fits body_fits has stands first
 
 -- ---- what shows damage
 
-pub length_spares : (v : View) (file : FileName) (end place : ℕ) (f : ReadFault) → SparesRun v file (place + 4) f → SparesLength v file end place f
+pub length_spares : (v : View) (file : FileName) (end place : ℕ) (f : ReadFault) → Shown v file (ShowsEnd (place + 4) file) f → SparesLength v file end place f
 length_spares v file end place fault.Failed short = tt
 length_spares v file end place fault.OutOfMemory short = tt
-length_spares v file end place (fault.Damaged damage) short = λ bytes count is has wanted. let less = short bytes is in omega (arith, less, at_ends bytes place (to_be_bytes w32 count) has)
+length_spares v file end place (fault.Damaged damage) short = λ bytes count is has wanted. let less = (short bytes is).short in omega (arith, less, at_ends bytes place (to_be_bytes w32 count) has)
+
+pub far_spares : (v : View) (file : FileName) (end place : ℕ) (f : ReadFault) → 2 ^ 62 < place → ((bytes : Bytes) → contents v file ≡ Some bytes → length bytes ≤ 2 ^ 62) → SparesLength v file end place f
+far_spares v file end place fault.Failed far fits = tt
+far_spares v file end place fault.OutOfMemory far fits = tt
+far_spares v file end place (fault.Damaged damage) far fits = λ bytes count is has wanted. let le = fits bytes is in omega (arith, far, le, at_ends bytes place (to_be_bytes w32 count) has)
 
 pub sized_spares : (v : View) (file : FileName) (end place : ℕ) (f : ReadFault) → SparesLength v file end place f → SparesSized v file end place f
 sized_spares v file end place fault.Failed spares = tt
 sized_spares v file end place fault.OutOfMemory spares = tt
 sized_spares v file end place (fault.Damaged damage) spares = λ bytes body is has wanted. spares bytes (length body) is (first_at bytes place (to_be_bytes w32 (length body)) body has) wanted
 
-pub cut_spares : (a b : View) (file : FileName) (end place count : ℕ) (f : ReadFault) → count < 2 ^ 23 → ((bytes : Bytes) → contents a file ≡ Some bytes → HasAt bytes place (to_be_bytes w32 count)) → Changes Same a b → SparesRun b file (place + 4 + count) f
+pub cut_spares : (a b : View) (file : FileName) (end place count : ℕ) (f : ReadFault) → count < 2 ^ 23 → ((bytes : Bytes) → contents a file ≡ Some bytes → HasAt bytes place (to_be_bytes w32 count)) → Changes Same a b → Shown b file (ShowsEnd (place + 4 + count) file) f
     → SparesSized a file end place f
 cut_spares a b file end place count fault.Failed fits has same short = tt
 cut_spares a b file end place count fault.OutOfMemory fits has same short = tt
 cut_spares a b file end place count (fault.Damaged damage) fits has same short = λ bytes body is stands wanted.
-    let less = short bytes (contents_same a b file same ∙ is) in
+    let less = (short bytes (contents_same a b file same ∙ is)).short in
     let long : count ≡ length body = number_at bytes place count (length body) (omega (arith, fits)) (omega (arith, wanted.short)) (has bytes is) (first_at bytes place (to_be_bytes w32 (length body)) body stands) in
     omega (arith, less, long, at_ends bytes place (sized body) stands, length-append (to_be_bytes w32 (length body)) body)
 
--- ---- what stands where a body breaks its format
+-- ---- what is shown
 
-wrong_stands : (limit : ℕ) (put : ℕ → Bytes) (Right : ℕ → Type 0) (bytes front : Bytes) (at : ℕ) (seen : Bytes) → IsWrong limit put Right bytes front at seen → HasAt bytes at seen
-wrong_stands limit put Right bytes front at seen w = record { front = front; rest = w.rest; is = w.is ∙ sym (append_assoc front seen w.rest); place = sym w.place }
+-- a place that no file reaches
+pub far_shown : (types : List ColumnType) (v : View) (file : FileName) (end place : ℕ) (f : ReadFault) → 2 ^ 62 < place → ((bytes : Bytes) → contents v file ≡ Some bytes → length bytes ≤ 2 ^ 62) → Shown v file (TellsSize file) f → Shown v file (ShowsPartition types end place file) f
+far_shown types v file end place f far fits told =
+    shown_as (TellsSize file) (ShowsPartition types end place file) v file f (λ bytes damage is tells. let le = fits bytes is in no_length (record { tells = tells; short = omega (arith, far, le) })) told
 
-cut_stands : (bytes front value rest seen : Bytes) (at : ℕ) → bytes ≡ front ++ (value ++ rest) → at ≡ length front → seen ≡ take 8 value → HasAt bytes at seen
-cut_stands bytes front value rest seen at is place seen_is = record {
-  front = front;
-  rest = drop 8 value ++ rest;
-  is = is ∙ ap (λ (l : Bytes). front ++ (l ++ rest)) (sym (take-append-drop 8 value)) ∙ regroup front (take 8 value) (drop 8 value) rest ∙ ap (λ (l : Bytes). front ++ l ++ (drop 8 value ++ rest)) (sym seen_is);
-  place = sym place;
-}
-  where
-    regroup : (a b c d : Bytes) → a ++ ((b ++ c) ++ d) ≡ a ++ b ++ (c ++ d)
-    regroup a b c d = simp append_assoc
+pub length_shown : (types : List ColumnType) (v : View) (file : FileName) (end place : ℕ) (f : ReadFault) → Shown v file (ShowsEnd (place + 4) file) f → Shown v file (ShowsPartition types end place file) f
+length_shown types v file end place f shown = shown_as (ShowsEnd (place + 4) file) (ShowsPartition types end place file) v file f (λ bytes damage is ends. no_length ends) shown
 
-number_stands : (types : List ColumnType) (bytes : Bytes) (at : ℕ) (seen : Bytes) → IsWrongNumber types bytes at seen → HasAt bytes at seen
-number_stands types bytes at seen (wrong_key_length w) = wrong_stands _ _ _ bytes _ at seen w
-number_stands types bytes at seen (wrong_deletion front stands w) = wrong_stands _ _ _ bytes _ at seen w
-number_stands types bytes at seen (wrong_count front deleted stands w) = wrong_stands _ _ _ bytes _ at seen w
-number_stands types bytes at seen (wrong_column front deleted cells stands w) = wrong_stands _ _ _ bytes _ at seen w
-number_stands types bytes at seen (wrong_time front deleted column stands w) = wrong_stands _ _ _ bytes _ at seen w
-number_stands types bytes at seen (wrong_tag front column stands w) = wrong_stands _ _ _ bytes _ at seen w
-number_stands types bytes at seen (wrong_marker front stands w) = wrong_stands _ _ _ bytes _ at seen w
-
-order_stands : (types : List ColumnType) (bytes : Bytes) (at : ℕ) (seen : Bytes) → IsWrongOrder types bytes at seen → HasAt bytes at seen
-order_stands types bytes at seen w = cut_stands bytes w.front w.left [] seen at (w.is ∙ ap (λ (l : Bytes). w.front ++ l) (sym (append-nil w.left))) w.place w.seen_is
-
-text_stands : (types : List ColumnType) (bytes : Bytes) (at : ℕ) (seen : Bytes) → IsWrongText types bytes at seen → HasAt bytes at seen
-text_stands types bytes at seen (wrong_key front size stands w) = cut_stands bytes front w.value w.rest seen at w.is w.place w.seen_is
-text_stands types bytes at seen (wrong_value front column size stands some w) = cut_stands bytes front w.value w.rest seen at w.is w.place w.seen_is
-
-pub breaks_stand : (types : List ColumnType) (bytes : Bytes) (rule : FormatRule) (at : ℕ) (seen : Bytes) → Breaks types bytes rule at seen → HasAt bytes at seen
-breaks_stand types bytes Number at seen breaks = number_stands types bytes at seen breaks
-breaks_stand types bytes Order at seen breaks = order_stands types bytes at seen breaks
-breaks_stand types bytes Text at seen breaks = text_stands types bytes at seen breaks
-breaks_stand types bytes Short at seen breaks = absurd breaks
-breaks_stand types bytes Missing at seen breaks = absurd breaks
-breaks_stand types bytes NoSeal at seen breaks = absurd breaks
-breaks_stand types bytes Magic at seen breaks = absurd breaks
-breaks_stand types bytes Version at seen breaks = absurd breaks
-breaks_stand types bytes Place at seen breaks = absurd breaks
+pub body_shown : (types : List ColumnType) (v : View) (file : FileName) (end place count : ℕ) (f : ReadFault) → ((bytes : Bytes) → contents v file ≡ Some bytes → HasAt bytes place (to_be_bytes w32 count)) → IsLength end place count → Shown v file (ShowsEnd (place + 4 + count) file) f
+    → Shown v file (ShowsPartition types end place file) f
+body_shown types v file end place count f stands is_length shown = shown_as (ShowsEnd (place + 4 + count) file) (ShowsPartition types end place file) v file f (λ bytes damage is ends. no_body count (stands bytes is) is_length ends) shown
 
 -- ---- bodies of a table
 
@@ -142,7 +116,8 @@ fault_spares v file types end place read inner (fault.Damaged damage) short stan
     cc
 
 -- what a fault of the body shows the file shows
-pub fault_shown : (v : View) (file : FileName) (place : ℕ) (read : Bytes) (f : ReadFault) → ((bytes : Bytes) → contents v file ≡ Some bytes → HasAt bytes place (sized read)) → ((whole : Bytes) → HasAt whole place (sized read) → OnDamage (IsSeen file whole) f) → IsShown v file f
-fault_shown v file place read fault.Failed stands shows = tt
-fault_shown v file place read fault.OutOfMemory stands shows = tt
-fault_shown v file place read (fault.Damaged damage) stands shows = λ bytes is. shows bytes (stands bytes is)
+pub fault_shown : (v : View) (file : FileName) (types : List ColumnType) (end place : ℕ) (read : Bytes) (f : ReadFault) → ((bytes : Bytes) → contents v file ≡ Some bytes → HasAt bytes place (sized read))
+    → ((whole : Bytes) → HasAt whole place (sized read) → OnDamage (ShowsPartition types end place file whole) f) → Shown v file (ShowsPartition types end place file) f
+fault_shown v file types end place read fault.Failed stands shows = tt
+fault_shown v file types end place read fault.OutOfMemory stands shows = tt
+fault_shown v file types end place read (fault.Damaged damage) stands shows = λ bytes is. shows bytes (stands bytes is)

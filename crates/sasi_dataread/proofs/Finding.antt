@@ -24,7 +24,7 @@ use Rattle.sasi_model.specs.Cells.{Partition}
 use Rattle.sasi_body.specs.Format.{body}
 use Rattle.sasi_tokentree.specs.Format.{pair_at}
 use Rattle.sasi_tokentree.specs.Heights.{height}
-use Rattle.sasi_tokentree.specs.Reads.{CountsBelow, IsShown, ReadsAtMost}
+use Rattle.sasi_tokentree.specs.Reads.{CountsBelow, ReadsAtMost}
 use Rattle.sasi_tokentree.specs.Walks.{GivesFrom, TakesNext, Walk}
 use Rattle.sasi_datawrite.specs.Format.{Content, header, key_pairs, pairs_from, partition_bytes, partitions, place_of}
 use Rattle.sasi_datawrite.specs.Laws.{pairs_length}
@@ -34,7 +34,7 @@ use Rattle.sasi_dataread.specs.Bodies.{cost}
 use Rattle.sasi_dataread.specs.Walks.{HaveTokens, SparesOpened}
 use Rattle.sasi_dataread.specs.Finds.{partition_of, token_cost, LeadsTo, GivesWith}
 use Rattle.sasi_dataread.specs.Pairs.{nth, nth_stands, as_many_left, left_behind, none_left, less_token}
-use Rattle.sasi_dataread.proofs.Runs.{passes_none, passes_on, shown_before}
+use Rattle.sasi_dataread.proofs.Runs.{passes_none, passes_on}
 use Rattle.sasi_dataread.proofs.Walking.{IsShort, open_same, tree_there}
 
 -- ---- keys and tokens
@@ -274,9 +274,6 @@ all_passed partitioner content token key turns passed next reads most s le same 
 -- ---- damage
 
 -- what a file of another name shows, which is this file
-pub shown_in : (v w : View) (other file : FileName) (f : ReadFault) → other ≡ file → Changes Same v w → IsShown w other f → IsShown v file f
-shown_in v w other file f is change shown = shown_before v w file f change (subst (λ (n : FileName). IsShown w n f) is shown)
-
 pub here_spares : (v w : View) (opened : Opened) (place : ℕ) (f : ReadFault) → ((partitioner : Partitioner) (content : Content) → IsOpenOn v opened partitioner content → HaveTokens partitioner content → (one : Bytes × Partition) × StandsAt content place one.0 one.1)
     → Changes Same v w → SparesPlace w opened place f → SparesOpened v opened f
 here_spares v w opened place fault.Failed stands change spares = tt

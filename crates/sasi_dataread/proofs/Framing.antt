@@ -1,10 +1,12 @@
 -- Headers and footers, as they are read.
-use Rattle.std.proofs.Common.{◌≡◌, ℕ, ◌+◌, ◌-◌, ◌^◌, ◌<◌, ◌≤◌, List, ◌∷◌, ◌++◌, [], length, take, drop, refl, inr, sym, ◌∙◌, ap, subst, arith, Some}
+use Rattle.std.proofs.Common.{◌≡◌, ◌⊎◌, ℕ, ◌+◌, ◌-◌, ◌^◌, ◌<◌, ◌≤◌, List, ◌∷◌, ◌++◌, [], length, take, drop, refl, inl, inr, sym, ◌∙◌, ap, subst, arith, lit≤, ⊎_elim, Some}
 use Rattle.std.proofs.lemmas.List.{take_all, drop-drop}
 use Rattle.std.proofs.Math.Seq.{take-add}
 use Rattle.std.specs.Int.{to_be_bytes, w32, w64}
 use Rattle.sasi_host.specs.declared.name.FileName.{FileName}
 use Rattle.sasi_host.specs.declared.damage.Damage.{Damage}
+use Rattle.sasi_host.specs.declared.damage.FormatRule.{FormatRule}
+use Rattle.sasi_host.specs.declared.damage.FormatRule.TheVariants.{Magic, Version, Number, Place}
 use Rattle.sasi_host.specs.declared.fault.ReadFault.{ReadFault}
 use Rattle.sasi_host.specs.declared.fault.ReadFault.TheVariants as fault
 use Rattle.sasi_host.specs.Names.{Bytes}
@@ -15,31 +17,70 @@ use Rattle.sasi_host.specs.Contents.{contents_same}
 use Rattle.sasi_types.specs.declared.column.ColumnType.{ColumnType}
 use Rattle.sasi_types.specs.declared.partitioner.Partitioner.{Partitioner}
 use Rattle.sasi_types.specs.declared.tree.TreeRef.{TreeRef}
-use Rattle.sasi_tokentree.specs.Reads.{HasAt, IsSeen, IsSeenIn}
+use Rattle.sasi_tokentree.specs.Damages.{HasAt, Differs, IsOther, Shown, ShowsEnd}
+use Rattle.sasi_tokentree.specs.Places.{at_ends, at_window, differs_in, inner_at, same_at, window_at}
 use Rattle.sasi_datawrite.specs.Format.{Content, header, footer, front, greatest}
 use Rattle.sasi_datawrite.specs.Files.{IsDataFile}
 use Rattle.sasi_datawrite.specs.Laws.{header_length}
-use Rattle.sasi_dataread.specs.Reads.{SparesRun, SparesData}
+use Rattle.sasi_dataread.specs.Reads.{SparesData}
 use Rattle.sasi_dataread.specs.Laws.{AreInRange, in_range, tree_of, footer_of, footer_length, header_stands, footer_stands, least_size}
-use Rattle.sasi_dataread.specs.Frames.{end_mark, SparesHeader, SparesFooter}
-use Rattle.sasi_dataread.proofs.Windows.{part_stands, at_ends, at_window, same_at, inner_at, same_64}
+use Rattle.sasi_dataread.specs.Damages.{FrameBreaks, ShowsFrame, end_mark, magic}
+use Rattle.sasi_dataread.specs.Frames.{SparesHeader, SparesFooter}
+use Rattle.sasi_dataread.proofs.Numbers.{same_64}
 
--- ---- what is seen
+-- ---- what is shown
 
-pub seen_in : (file : FileName) (at : ℕ) (bytes : Bytes) (offset n : ℕ) (damage : Damage) → offset + n ≤ length bytes → damage.file ≡ file → damage.at ≡ at + offset → seen_bytes damage.seen ≡ take n (drop offset bytes) → IsSeenIn file at bytes damage
-seen_in file at bytes offset n damage le named place seen = record {
-  offset = offset;
-  named = named;
-  place = place;
-  stands = subst (λ (l : Bytes). HasAt bytes offset l) (sym seen) (part_stands bytes offset n le);
+-- a file that ends before a place that each data file reaches
+pub end_frames : (end : ℕ) (file : FileName) (bytes : Bytes) (damage : Damage) → end ≤ 97 → ShowsEnd end file bytes damage → ShowsFrame file bytes damage
+end_frames end file bytes damage le ends = record {
+  named = ends.tells.named;
+  breaks = subst (λ (r : FormatRule). FrameBreaks bytes r damage.at (seen_bytes damage.seen)) (sym ends.tells.rule) (omega (arith, ends.short, le), ends.tells.place, ends.tells.seen);
 }
 
--- what is seen in bytes that stand in the file is seen in the file
-pub window_seen : (file : FileName) (whole : Bytes) (at : ℕ) (window : Bytes) (damage : Damage) → HasAt whole at window → IsSeenIn file at window damage → IsSeen file whole damage
-window_seen file whole at window damage has seen = record {
-  named = seen.named;
-  stands = inr (subst (λ (n : ℕ). HasAt whole n (seen_bytes damage.seen)) (sym seen.place) (inner_at whole at window seen.offset (seen_bytes damage.seen) has seen.stands));
-}
+-- what breaks a rule is shown
+breaks_shown : (file : FileName) (whole : Bytes) (rule : FormatRule) (damage : Damage) → damage.file ≡ file → damage.rule ≡ rule → FrameBreaks whole rule damage.at (seen_bytes damage.seen) → ShowsFrame file whole damage
+breaks_shown file whole rule damage named rule_is breaks = record { named = named; breaks = subst (λ (r : FormatRule). FrameBreaks whole r damage.at (seen_bytes damage.seen)) (sym rule_is) breaks }
+
+-- other bytes than the wanted ones
+other_there : (file : FileName) (whole : Bytes) (at : ℕ) (bytes : Bytes) (offset : ℕ) (wanted : Bytes) (rule : FormatRule) (damage : Damage) → HasAt whole at bytes → IsOther file at bytes offset wanted rule damage → Differs whole damage.at (seen_bytes damage.seen) wanted
+other_there file whole at bytes offset wanted rule damage has other =
+    subst (λ (n : ℕ). Differs whole n (seen_bytes damage.seen) wanted) (sym other.place) (differs_in whole at bytes offset (seen_bytes damage.seen) wanted has other.differs)
+
+pub magic_shown : (file : FileName) (whole bytes : Bytes) (damage : Damage) → HasAt whole 0 bytes → IsOther file 0 bytes 0 magic Magic damage → ShowsFrame file whole damage
+magic_shown file whole bytes damage has other = breaks_shown file whole Magic damage other.named other.rule_is (inl (omega (arith, other.place), other_there file whole 0 bytes 0 magic Magic damage has other))
+
+pub version_shown : (file : FileName) (whole bytes : Bytes) (damage : Damage) → HasAt whole 0 bytes → IsOther file 0 bytes 8 (to_be_bytes w32 1) Version damage → ShowsFrame file whole damage
+version_shown file whole bytes damage has other = breaks_shown file whole Version damage other.named other.rule_is (omega (arith, other.place), other_there file whole 0 bytes 8 (to_be_bytes w32 1) Version damage has other)
+
+pub zeros_shown : (file : FileName) (whole bytes : Bytes) (damage : Damage) → HasAt whole 0 bytes → IsOther file 0 bytes 12 (to_be_bytes w32 0) Number damage → ShowsFrame file whole damage
+zeros_shown file whole bytes damage has other = breaks_shown file whole Number damage other.named other.rule_is (inl (omega (arith, other.place), other_there file whole 0 bytes 12 (to_be_bytes w32 0) Number damage has other))
+
+pub mark_shown : (file : FileName) (whole bytes : Bytes) (size : ℕ) (damage : Damage) → 40 ≤ size → size ≡ length whole → HasAt whole (size - 40) bytes → IsOther file (size - 40) bytes 32 end_mark Magic damage → ShowsFrame file whole damage
+mark_shown file whole bytes size damage le sized has other = breaks_shown file whole Magic damage other.named other.rule_is (inr (omega (arith, other.place, le, sized), other_there file whole (size - 40) bytes 32 end_mark Magic damage has other))
+
+-- the number of eight bytes at an offset of a footer
+field_there : (whole bytes seen : Bytes) (at offset place number : ℕ) → length bytes ≡ 40 → offset + 8 ≤ 40 → HasAt whole at bytes → place ≡ at + offset → seen ≡ take 8 (drop offset bytes) → HasAt whole place seen
+field_there whole bytes seen at offset place number long le has place_is seen_is =
+    subst (λ (n : ℕ). HasAt whole n seen) (sym place_is) (inner_at whole at bytes offset seen has (window_at bytes seen offset 8 seen_is (omega (arith, long, le))))
+
+pub end_field_shown : (file : FileName) (whole bytes : Bytes) (at end : ℕ) (damage : Damage) → length bytes ≡ 40 → length whole ≡ at + 40 → HasAt whole at bytes → damage.file ≡ file → damage.rule ≡ Place → damage.at ≡ at + 24
+    → seen_bytes damage.seen ≡ take 8 (drop 24 bytes) → to_be_bytes w64 end ≡ take 8 (drop 24 bytes) → end < 2 ^ 64 → (end < 33) ⊎ (at < end) → ShowsFrame file whole damage
+end_field_shown file whole bytes at end damage long sized has named rule place seen told fits wrong = breaks_shown file whole Place damage named rule (record {
+  place = omega (arith, place, sized);
+  stands = field_there whole bytes (seen_bytes damage.seen) at 24 damage.at end long (lit≤ tt) has place seen;
+  end = end;
+  told = seen ∙ sym told;
+  fits = fits;
+  wrong = ⊎_elim (λ few. inl few) (λ far. inr (omega (arith, far, sized))) wrong;
+})
+
+pub count_field_shown : (file : FileName) (whole bytes : Bytes) (at pairs : ℕ) (damage : Damage) → length bytes ≡ 40 → length whole ≡ at + 40 → HasAt whole at bytes → damage.file ≡ file → damage.rule ≡ Number → damage.at ≡ at + 8
+    → seen_bytes damage.seen ≡ take 8 (drop 8 bytes) → to_be_bytes w64 pairs ≡ take 8 (drop 8 bytes) → pairs ≡ 0 → ShowsFrame file whole damage
+count_field_shown file whole bytes at pairs damage long sized has named rule place seen told none = breaks_shown file whole Number damage named rule (inr (record {
+  place = omega (arith, place, sized);
+  stands = field_there whole bytes (seen_bytes damage.seen) at 8 damage.at pairs long (lit≤ tt) has place seen;
+  none = seen ∙ sym told ∙ ap (λ (n : ℕ). to_be_bytes w64 n) none;
+}))
 
 -- ---- a header
 
@@ -102,15 +143,15 @@ field_same bytes field at n m n_fits m_fits read is told = same_64 n m n_fits m_
 
 -- ---- what spares data files
 
-pub run_header : (v : View) (file : FileName) (f : ReadFault) → SparesRun v file 16 f → SparesHeader v file f
+pub run_header : (v : View) (file : FileName) (f : ReadFault) → Shown v file (ShowsEnd 16 file) f → SparesHeader v file f
 run_header v file fault.Failed short = tt
 run_header v file fault.OutOfMemory short = tt
-run_header v file (fault.Damaged damage) short = λ bytes is has. let less = short bytes is in omega (arith, less, at_ends bytes 0 header has, header_length)
+run_header v file (fault.Damaged damage) short = λ bytes is has. let less = (short bytes is).short in omega (arith, less, at_ends bytes 0 header has, header_length)
 
-pub run_footer : (v : View) (file : FileName) (at : ℕ) (f : ReadFault) → SparesRun v file (at + 40) f → SparesFooter v file at f
+pub run_footer : (v : View) (file : FileName) (at : ℕ) (f : ReadFault) → Shown v file (ShowsEnd (at + 40) file) f → SparesFooter v file at f
 run_footer v file at fault.Failed short = tt
 run_footer v file at fault.OutOfMemory short = tt
-run_footer v file at (fault.Damaged damage) short = λ bytes tree latest end is has. let less = short bytes is in omega (arith, less, at_ends bytes at (footer tree latest end) has, footer_length tree latest end)
+run_footer v file at (fault.Damaged damage) short = λ bytes tree latest end is has. let less = (short bytes is).short in omega (arith, less, at_ends bytes at (footer tree latest end) has, footer_length tree latest end)
 
 pub footer_read : (bytes window : Bytes) (at : ℕ) (tree : TreeRef) (latest end : ℕ) → window ≡ take 40 (drop at bytes) → HasAt bytes at (footer tree latest end) → window ≡ footer tree latest end
 footer_read bytes window at tree latest end is has = is ∙ ap (λ (n : ℕ). take n (drop at bytes)) (sym (footer_length tree latest end)) ∙ at_window bytes at (footer tree latest end) has

@@ -1,5 +1,5 @@
 pub mod Runs
-pub mod Windows
+pub mod Numbers
 pub mod Bodies
 pub mod Framing
 pub mod Opening

@@ -14,7 +14,8 @@ use Rattle.sasi_body.specs.Format.{body}
 use Rattle.sasi_body.specs.Typed.{IsBodyOf}
 use Rattle.sasi_body.specs.Laws.Same.{bodies_same}
 use Rattle.sasi_body.specs.Laws.Lengths.{body_short}
-use Rattle.sasi_tokentree.specs.Reads.{HasAt}
+use Rattle.sasi_tokentree.specs.Damages.{HasAt}
+use Rattle.sasi_tokentree.specs.Places.{same_at}
 use Rattle.sasi_datawrite.specs.Format.{Content, footer, front, greatest}
 use Rattle.sasi_datawrite.specs.Files.{IsDataFile}
 use Rattle.sasi_dataread.specs.Opened.{Opened, StandsAt}
@@ -22,7 +23,7 @@ use Rattle.sasi_dataread.specs.Reads.{Gives, IsOpenOn, SparesPlace}
 use Rattle.sasi_dataread.specs.Bodies.{sized, cost, SparesBody}
 use Rattle.sasi_dataread.specs.Laws.{AreInRange, in_range, tree_of, footer_of, footer_length, footer_stands, partition_stands, partition_typed, partition_within}
 use Rattle.sasi_dataread.specs.Frames.{IsFramed}
-use Rattle.sasi_dataread.proofs.Windows.{same_at, same_64}
+use Rattle.sasi_dataread.proofs.Numbers.{same_64}
 use Rattle.sasi_dataread.proofs.Bodies.{sized_same}
 use Rattle.sasi_dataread.proofs.Framing.{footer_root, footer_pairs, footer_latest, footer_end}
 

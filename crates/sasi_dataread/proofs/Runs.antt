@@ -1,5 +1,5 @@
 -- Runs of a file's bytes, made of what its pages gave.
-use Rattle.std.proofs.Common.{◌≡◌, ℕ, ◌+◌, ◌*◌, ◌/◌, ◌%◌, ◌<◌, ◌≤◌, List, ◌++◌, take, drop, refl, inl, sym, ◌∙◌, ap, arith, Some}
+use Rattle.std.proofs.Common.{◌≡◌, ℕ, ◌+◌, ◌*◌, ◌/◌, ◌%◌, ◌<◌, ◌≤◌, List, ◌++◌, take, drop, refl, sym, ◌∙◌, ap, arith}
 use Rattle.std.specs.Prelude.{min, max, ◌-◌}
 use Rattle.std.specs.declared.result.Result.{Result}
 use Rattle.std.specs.declared.result.Result.TheVariants.{Ok, Err}
@@ -9,13 +9,12 @@ use Rattle.sasi_host.specs.declared.name.FileName.{FileName}
 use Rattle.sasi_host.specs.declared.fault.ReadFault.{ReadFault}
 use Rattle.sasi_host.specs.declared.fault.ReadFault.TheVariants as fault
 use Rattle.sasi_host.specs.Names.{Bytes}
-use Rattle.sasi_host.specs.View.{View, IsThere, contents, Rose}
+use Rattle.sasi_host.specs.View.{View, IsThere, Rose}
 use Rattle.sasi_host.specs.Disk.{Changes, Same, Fills}
-use Rattle.sasi_host.specs.Damages.{OnDamage}
 use Rattle.sasi_host.specs.Contents.{contents_same, there_where}
 use Rattle.sasi_host.specs.Moves.{stays, then_same}
-use Rattle.sasi_tokentree.specs.Reads.{IsShown, TellsSize, ReadsAtMost}
-use Rattle.sasi_dataread.specs.Reads.{SparesRun, Passes}
+use Rattle.sasi_tokentree.specs.Reads.{ReadsAtMost}
+use Rattle.sasi_dataread.specs.Reads.{Passes}
 
 -- what a page gave of a run that lies on it
 pub page_gives : (bytes old new : Bytes) (at count n : ℕ) → Fills bytes (at / 4096 * 4096) old new count → at % 4096 + n ≤ count → take n (drop (at % 4096) new) ≡ take n (drop at bytes)
@@ -34,24 +33,6 @@ part_more bytes out part at here n m is place pushed =
     pushed ∙ ap (λ (l : Bytes). l ++ take m (drop here bytes)) is
     ∙ ap (λ (l : Bytes). take n (drop at bytes) ++ take m l) (ap (λ (k : ℕ). drop k bytes) place ∙ sym (drop-drop n at bytes))
     ∙ sym (take-add n m (drop at bytes))
-
--- ---- what a file shows
-
--- what a file shows after nothing was done it showed before
-pub shown_before : (a b : View) (file : FileName) (f : ReadFault) → Changes Same a b → IsShown b file f → IsShown a file f
-shown_before a b file fault.Failed same shown = tt
-shown_before a b file fault.OutOfMemory same shown = tt
-shown_before a b file (fault.Damaged damage) same shown = λ bytes is. shown bytes (contents_same a b file same ∙ is)
-
-pub size_shown : (a b : View) (file : FileName) (f : ReadFault) → Changes Same a b → OnDamage (λ damage. (bytes : List ℕ) → contents b file ≡ Some bytes → TellsSize bytes damage) f → OnDamage (λ damage. damage.file ≡ file) f → IsShown a file f
-size_shown a b file fault.Failed same tells named = tt
-size_shown a b file fault.OutOfMemory same tells named = tt
-size_shown a b file (fault.Damaged damage) same tells named = λ bytes is. record { named = named; stands = inl (tells bytes (contents_same a b file same ∙ is)) }
-
-pub run_spares : (a b : View) (file : FileName) (near far : ℕ) (f : ReadFault) → near ≤ far → Changes Same a b → SparesRun b file near f → SparesRun a file far f
-run_spares a b file near far fault.Failed le same short = tt
-run_spares a b file near far fault.OutOfMemory le same short = tt
-run_spares a b file near far (fault.Damaged damage) le same short = λ bytes is. let less = short bytes (contents_same a b file same ∙ is) in omega (arith, less, le)
 
 -- ---- one read after another
 

@@ -1,5 +1,5 @@
 -- Partitions that the key tree leads to.
-use Rattle.std.proofs.Common.{◌≡◌, ℕ, ◌^◌, ◌≤◌, ◌∷◌, length, drop, sym, ◌∙◌, ap, subst, Option, Some}
+use Rattle.std.proofs.Common.{◌≡◌, ℕ, ◌^◌, ◌≤◌, ◌∷◌, length, drop, sym, ◌∙◌, ap, subst, Option, None, Some}
 use Rattle.sasi_host.specs.declared.name.FileName.{FileName}
 use Rattle.sasi_host.specs.declared.fault.ReadFault.{ReadFault}
 use Rattle.sasi_host.specs.declared.fault.ReadFault.TheVariants as fault
@@ -13,10 +13,14 @@ use Rattle.sasi_types.specs.declared.tree.TreeRef.{TreeRef}
 use Rattle.sasi_types.specs.Token.{token_of}
 use Rattle.sasi_model.specs.Cells.{Partition}
 use Rattle.sasi_tokentree.specs.Format.{HasTree}
+use Rattle.sasi_tokentree.specs.Damages.{Shown, ShowsTree}
+use Rattle.sasi_tokentree.specs.Showing.{shown_as}
 use Rattle.sasi_tokentree.specs.Reads.{Spares}
-use Rattle.sasi_tokentree.specs.Walks.{GivesNext, TakesNext}
+use Rattle.sasi_tokentree.specs.Walks.{GivesEntry, GivesNext, TakesNext}
 use Rattle.sasi_datawrite.specs.Format.{Content, header, key_pairs}
 use Rattle.sasi_dataread.specs.Opened.{Opened}
+use Rattle.sasi_dataread.specs.Damages.{ShowsData, ShowsPartition}
+use Rattle.sasi_dataread.specs.Damages.ShowsData.{in_tree, in_partition}
 use Rattle.sasi_dataread.specs.Reads.{Gives, IsOpenOn, SparesPlace}
 use Rattle.sasi_dataread.specs.Walks.{HaveTokens, SparesOpened}
 use Rattle.sasi_dataread.specs.Pairs.{has_tree, nth, nth_stands, nth_token, left_behind}
@@ -62,3 +66,21 @@ place_spares v w opened before after pair fault.OutOfMemory takes change spares 
 place_spares v w opened before after pair (fault.Damaged damage) takes change spares = λ partitioner content is have.
     let n = nth partitioner (length header) content before pair (drop after (key_pairs partitioner content)) (takes partitioner content is have) in
     spares partitioner content n.one.0 n.one.1 (open_same v w opened partitioner content change is) (nth_stands partitioner content before pair n)
+
+-- ---- damage of the tree, and of a partition to which it leads
+
+pub tree_shown : (v : View) (opened : Opened) (file : FileName) (tree : TreeRef) (f : ReadFault) → file ≡ opened.file → tree ≡ opened.tree → Shown v file (ShowsTree file tree) f → Shown v opened.file (ShowsData opened) f
+tree_shown v opened file tree f file_is tree_is shown =
+    shown_as (ShowsTree opened.file opened.tree) (ShowsData opened) v opened.file f (λ bytes damage is shows. in_tree shows)
+    (subst (λ (n : FileName). Shown v n (ShowsTree n opened.tree) f) file_is (subst (λ (t : TreeRef). Shown v file (ShowsTree file t) f) tree_is shown))
+
+pub entry_of : (v : View) (opened : Opened) (file : FileName) (tree : TreeRef) (passed : ℕ) (found : Option Pair) → file ≡ opened.file → tree ≡ opened.tree → GivesEntry v file tree passed found → GivesEntry v opened.file opened.tree passed found
+entry_of v opened file tree passed found file_is tree_is gives = subst (λ (n : FileName). GivesEntry v n opened.tree passed found) file_is (subst (λ (t : TreeRef). GivesEntry v file t passed found) tree_is gives)
+
+pub entry_before : (v w : View) (file : FileName) (tree : TreeRef) (passed : ℕ) (found : Option Pair) → Changes Same v w → GivesEntry w file tree passed found → GivesEntry v file tree passed found
+entry_before v w file tree passed None change gives = tt
+entry_before v w file tree passed (Some pair) change gives = (gives.0, gives.1, λ bytes is. gives.2 bytes (contents_same v w file change ∙ is))
+
+pub partition_shown : (v : View) (opened : Opened) (passed : ℕ) (pair : Pair) (f : ReadFault) → GivesEntry v opened.file opened.tree passed (Some pair) → Shown v opened.file (ShowsPartition opened.types opened.end pair.place opened.file) f → Shown v opened.file (ShowsData opened) f
+partition_shown v opened passed pair f gives shown =
+    shown_as (ShowsPartition opened.types opened.end pair.place opened.file) (ShowsData opened) v opened.file f (λ bytes damage is shows. in_partition gives.0 pair (gives.2 bytes is) shows) shown

@@ -12,7 +12,7 @@ use Rattle.sasi_body.specs.declared.fault.BodyFault.{BodyFault}
 use Rattle.sasi_body.specs.declared.fault.BodyFault.TheVariants as fault
 use Rattle.sasi_body.specs.Format.{body}
 use Rattle.sasi_body.specs.Typed.{IsBodyOf}
-use Rattle.sasi_tokentree.specs.Reads.{HasAt}
+use Rattle.sasi_tokentree.specs.Damages.{HasAt}
 use Rattle.sasi_dataread.specs.Reads.{pages_of}
 
 -- a length, and so many bytes

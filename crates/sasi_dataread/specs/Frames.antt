@@ -1,22 +1,18 @@
 -- The header and the footer of a file, and what shows that they aren't those of a data file.
-use Rattle.std.specs.Prelude.{◌≡◌, ℕ, ◌-◌, [], ◌∷◌, length, Some}
+use Rattle.std.specs.Prelude.{◌≡◌, ℕ, ◌-◌, length, Some}
 use Rattle.sasi_types.specs.declared.tree.TreeRef.{TreeRef}
 use Rattle.sasi_host.specs.declared.name.FileName.{FileName}
 use Rattle.sasi_host.specs.declared.fault.ReadFault.{ReadFault}
 use Rattle.sasi_host.specs.Names.{Bytes}
 use Rattle.sasi_host.specs.Damages.{OnDamage}
 use Rattle.sasi_host.specs.View.{View, contents}
-use Rattle.sasi_tokentree.specs.Reads.{HasAt}
+use Rattle.sasi_tokentree.specs.Damages.{HasAt}
 use Rattle.sasi_datawrite.specs.Format.{header, footer}
 
 -- the file begins with the header and ends with this footer
 pub record IsFramed (bytes : Bytes) (tree : TreeRef) (latest end : ℕ) : Type 0 where
   pub begins : HasAt bytes 0 header
   pub ends : HasAt bytes (length bytes - 40) (footer tree latest end)
-
--- "SASIDEND"
-abbrev pub end_mark : Bytes
-end_mark = 83 ∷ 65 ∷ 83 ∷ 73 ∷ 68 ∷ 69 ∷ 78 ∷ 68 ∷ []
 
 -- where damage is told, the file doesn't begin with the header
 abbrev pub SparesHeader : View → FileName → ReadFault → Type 0

@@ -1,6 +1,7 @@
 pub mod Opened
 pub mod Reads
 pub mod Bodies
+pub mod Damages
 pub mod Laws
 pub mod Frames
 pub mod Walks

@@ -1,5 +1,5 @@
 -- What reads of a data file give, over what the host tells.
-use Rattle.std.specs.Prelude.{◌≡◌, ℕ, List, ◌+◌, ◌/◌, ◌%◌, ◌<◌, ◌≤◌, length, Some}
+use Rattle.std.specs.Prelude.{◌≡◌, ℕ, List, ◌+◌, ◌/◌, ◌%◌, ◌≤◌, Some}
 use Rattle.sasi_types.specs.declared.column.ColumnType.{ColumnType}
 use Rattle.sasi_types.specs.declared.partitioner.Partitioner.{Partitioner}
 use Rattle.sasi_model.specs.Cells.{Partition}
@@ -16,10 +16,6 @@ use Rattle.sasi_host.specs.Disk.{Changes, Same}
 -- on how many pages of 4,096 bytes so many bytes from a place on lie
 abbrev pub pages_of : ℕ → ℕ → ℕ
 pages_of at count = (at % 4096 + count + 4095) / 4096
-
--- where damage is told, the file doesn't reach to this place
-abbrev pub SparesRun : View → FileName → ℕ → ReadFault → Type 0
-SparesRun v file end = OnDamage (λ _. (bytes : Bytes) → contents v file ≡ Some bytes → length bytes < end)
 
 -- the folder stays, no count of faults falls, and at most so many reads were made
 pub record Passes (most : ℕ) (old new : View) : Type 0 where

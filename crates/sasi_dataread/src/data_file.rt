@@ -9,12 +9,14 @@ ghost use Rattle.sasi_host.specs.Disk.{Changes, Same};
 ghost use Rattle.sasi_body.specs.Format.{body};
 ghost use Rattle.sasi_body.specs.Typed.{IsBodyOf};
 ghost use Rattle.sasi_tokentree.specs.Heights.{height};
-ghost use Rattle.sasi_tokentree.specs.Reads.{IsShown, ReadsAtMost};
+ghost use Rattle.sasi_tokentree.specs.Damages.{Shown};
+ghost use Rattle.sasi_tokentree.specs.Reads.{ReadsAtMost};
 ghost use Rattle.sasi_datawrite.specs.Format.{Content, header};
 ghost use Rattle.sasi_datawrite.specs.Files.{IsDataFile};
 ghost use Rattle.sasi_dataread.specs.Opened.{IsOf, StandsAt};
 ghost use Rattle.sasi_dataread.specs.Reads.{Gives, GivesKey, IsOpenOn, SparesData, SparesPlace};
 ghost use Rattle.sasi_dataread.specs.Bodies.{cost};
+ghost use Rattle.sasi_dataread.specs.Damages.{ShowsData, ShowsFrame, ShowsPartition};
 ghost use Rattle.sasi_dataread.specs.Frames.{IsFramed};
 ghost use Rattle.sasi_dataread.specs.Walks.{HaveTokens, SparesOpened};
 ghost use Rattle.sasi_dataread.specs.Finds.{FindsKey, token_cost};
@@ -64,7 +66,7 @@ impl DataFile {
         ensures framed { IfOk result (λ opened. (bytes : Bytes) → contents (H.view host.old) file ≡ Some bytes → IsFramed bytes opened.tree opened.latest opened.end) }
         ensures file { IfOk result (λ opened. opened.file ≡ file) }
         ensures types { IfOk result (λ opened. opened.types ≡ types.now) }
-        ensures damaged { IfErr result (IsShown (H.view host.old) file) }
+        ensures damaged { IfErr result (Shown (H.view host.old) file (ShowsFrame file)) }
         ensures undamaged { IfErr result (SparesData (H.view host.old) file) }
         ensures agrees { P.agrees pages.new (H.view host.new).files }
         ensures covers { (name : FileName) → P.covers pages.new name → P.covers pages.old name ⊎ (name ≡ file) }
@@ -136,7 +138,7 @@ impl DataFile {
         requires agrees { P.agrees pages.old (H.view host.old).files }
         ensures ok { IfOk result (λ read. Gives (H.view host.old) self.now place read.0 read.1) }
         ensures in_table { IfOk result (λ read. IsBodyOf self.now.types read.0 read.1) }
-        ensures damaged { IfErr result (IsShown (H.view host.old) self.now.file) }
+        ensures damaged { IfErr result (Shown (H.view host.old) self.now.file (ShowsPartition self.now.types self.now.end place self.now.file)) }
         ensures undamaged { IfErr result (SparesPlace (H.view host.old) self.now place) }
         ensures agrees { P.agrees pages.new (H.view host.new).files }
         ensures covers { (name : FileName) → P.covers pages.new name → P.covers pages.old name ⊎ (name ≡ self.now.file) }
@@ -159,7 +161,7 @@ impl DataFile {
         requires there { IsThere (H.view host.old) self.now.file }
         requires agrees { P.agrees pages.old (H.view host.old).files }
         ensures ok { IfOk result (λ key. GivesKey (H.view host.old) self.now place key) }
-        ensures damaged { IfErr result (IsShown (H.view host.old) self.now.file) }
+        ensures damaged { IfErr result (Shown (H.view host.old) self.now.file (ShowsPartition self.now.types self.now.end place self.now.file)) }
         ensures undamaged { IfErr result (SparesPlace (H.view host.old) self.now place) }
         ensures agrees { P.agrees pages.new (H.view host.new).files }
         ensures covers { (name : FileName) → P.covers pages.new name → P.covers pages.old name ⊎ (name ≡ self.now.file) }
@@ -170,6 +172,7 @@ impl DataFile {
         let (key, _part) = self.at(alloc, host, pages, place)?;
         Ok(key)
     }
+
     /// The partition with this key, whose token this is; None exactly where the file has no such key. It goes down the key
     /// tree once, and reads the partitions with the token up to that of the key.
     pub fn find<H: Host, P: PageReader>(
@@ -183,7 +186,7 @@ impl DataFile {
         requires there { IsThere (H.view host.old) self.now.file }
         requires agrees { P.agrees pages.old (H.view host.old).files }
         ensures ok { IfOk result (λ found. FindsKey (H.view host.old) self.now token key.now found) }
-        ensures damaged { IfErr result (IsShown (H.view host.old) self.now.file) }
+        ensures damaged { IfErr result (Shown (H.view host.old) self.now.file (ShowsData self.now)) }
         ensures undamaged { IfErr result (SparesOpened (H.view host.old) self.now) }
         ensures agrees { P.agrees pages.new (H.view host.new).files }
         ensures covers { (name : FileName) → P.covers pages.new name → P.covers pages.old name ⊎ (name ≡ self.now.file) }

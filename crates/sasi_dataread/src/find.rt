@@ -8,11 +8,13 @@ ghost use Rattle.sasi_host.specs.View.{IsThere};
 ghost use Rattle.sasi_host.specs.Disk.{Changes, Same};
 ghost use Rattle.sasi_body.specs.Format.{body};
 ghost use Rattle.sasi_tokentree.specs.Heights.{height};
-ghost use Rattle.sasi_tokentree.specs.Reads.{IsShown, ReadsAtMost};
+ghost use Rattle.sasi_tokentree.specs.Damages.{Shown};
+ghost use Rattle.sasi_tokentree.specs.Reads.{ReadsAtMost};
 ghost use Rattle.sasi_datawrite.specs.Format.{Content, header};
 ghost use Rattle.sasi_dataread.specs.Opened.{StandsAt};
 ghost use Rattle.sasi_dataread.specs.Reads.{IsOpenOn, SparesPlace};
 ghost use Rattle.sasi_dataread.specs.Bodies.{cost};
+ghost use Rattle.sasi_dataread.specs.Damages.{ShowsData, ShowsPartition};
 ghost use Rattle.sasi_dataread.specs.Walks.{HaveTokens, SparesOpened};
 ghost use Rattle.sasi_dataread.specs.Finds.{FindsKey, GivesWith, LeadsTo, token_cost};
 
@@ -45,7 +47,7 @@ fn part_with<H: Host, P: PageReader>(
     requires there { IsThere (H.view host.old) opened.now.file }
     requires agrees { P.agrees pages.old (H.view host.old).files }
     ensures ok { IfOk result (λ found. GivesWith (H.view host.old) opened.now place key.now found) }
-    ensures damaged { IfErr result (IsShown (H.view host.old) opened.now.file) }
+    ensures damaged { IfErr result (Shown (H.view host.old) opened.now.file (ShowsPartition opened.now.types opened.now.end place opened.now.file)) }
     ensures undamaged { IfErr result (SparesPlace (H.view host.old) opened.now place) }
     ensures agrees { P.agrees pages.new (H.view host.new).files }
     ensures covers { (name : FileName) → P.covers pages.new name → P.covers pages.old name ⊎ (name ≡ opened.now.file) }
@@ -72,7 +74,7 @@ pub fn find_partition<H: Host, P: PageReader>(
     requires there { IsThere (H.view host.old) opened.now.file }
     requires agrees { P.agrees pages.old (H.view host.old).files }
     ensures ok { IfOk result (λ found. FindsKey (H.view host.old) opened.now token key.now found) }
-    ensures damaged { IfErr result (IsShown (H.view host.old) opened.now.file) }
+    ensures damaged { IfErr result (Shown (H.view host.old) opened.now.file (ShowsData opened.now)) }
     ensures undamaged { IfErr result (SparesOpened (H.view host.old) opened.now) }
     ensures agrees { P.agrees pages.new (H.view host.new).files }
     ensures covers { (name : FileName) → P.covers pages.new name → P.covers pages.old name ⊎ (name ≡ opened.now.file) }

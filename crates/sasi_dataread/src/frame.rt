@@ -6,11 +6,13 @@ ghost use Rattle.sasi_host.specs.declared.name.FileName.{FileName};
 ghost use Rattle.sasi_host.specs.Names.{Bytes};
 ghost use Rattle.sasi_host.specs.View.{IsThere, contents};
 ghost use Rattle.sasi_host.specs.Disk.{Changes, Same};
-ghost use Rattle.sasi_tokentree.specs.Reads.{HasAt, IsSeenIn, IsShown, ReadsAtMost};
+ghost use Rattle.sasi_tokentree.specs.Damages.{HasAt, IsOther, Shown};
+ghost use Rattle.sasi_tokentree.specs.Reads.{ReadsAtMost};
 ghost use Rattle.sasi_datawrite.specs.Format.{header, footer};
 ghost use Rattle.sasi_dataread.specs.Reads.{SparesData};
 ghost use Rattle.sasi_dataread.specs.Laws.{AreInRange};
-ghost use Rattle.sasi_dataread.specs.Frames.{IsFramed, SparesFooter, SparesHeader, end_mark};
+ghost use Rattle.sasi_dataread.specs.Damages.{ShowsFrame, end_mark};
+ghost use Rattle.sasi_dataread.specs.Frames.{IsFramed, SparesFooter, SparesHeader};
 
 use crate::run::read_run;
 use sasi_fields::FieldReader;
@@ -53,7 +55,7 @@ fn check_part(
     requires most { length wanted.now ≤ 8 }
     requires place { at + length bytes.now < 2 ^ 64 }
     ensures ok { OnOk result (take (length wanted.now) (drop offset bytes.now) ≡ wanted.now) }
-    ensures seen { IfErr result (IsSeenIn file at bytes.now) }
+    ensures seen { IfErr result (IsOther file at bytes.now offset wanted.now rule) }
     ensures differs { IfErr result (λ _. take (length wanted.now) (drop offset bytes.now) ≢ wanted.now) }
 {
     let seen = &bytes[offset..offset + wanted.len()];
@@ -67,7 +69,7 @@ fn check_part(
 fn check_header(file: FileName, bytes: &[u8]) -> Result<(), Damage>
     requires { length bytes.now ≡ 16 }
     ensures ok { OnOk result (bytes.now ≡ header) }
-    ensures seen { IfErr result (IsSeenIn file 0 bytes.now) }
+    ensures seen { (whole : Bytes) → HasAt whole 0 bytes.now → IfErr result (ShowsFrame file whole) }
     ensures differs { IfErr result (λ _. bytes.now ≢ header) }
 {
     check_part(file, 0, bytes, 0, b"SASIDAT1", FormatRule::Magic)?;
@@ -93,7 +95,7 @@ fn read_header<H: Host, P: PageReader>(
     requires there { IsThere (H.view host.old) file }
     requires agrees { P.agrees pages.old (H.view host.old).files }
     ensures ok { OnOk result ((bytes : Bytes) → contents (H.view host.old) file ≡ Some bytes → HasAt bytes 0 header) }
-    ensures damaged { IfErr result (IsShown (H.view host.old) file) }
+    ensures damaged { IfErr result (Shown (H.view host.old) file (ShowsFrame file)) }
     ensures undamaged { IfErr result (SparesHeader (H.view host.old) file) }
     ensures agrees { P.agrees pages.new (H.view host.new).files }
     ensures covers { (name : FileName) → P.covers pages.new name → P.covers pages.old name ⊎ (name ≡ file) }
@@ -119,7 +121,7 @@ fn read_end<H: Host, P: PageReader>(
     ensures ok { IfOk result (λ read. (bytes : Bytes) → contents (H.view host.old) file ≡ Some bytes → HasAt bytes (size - 40) read.items) }
     ensures length { IfOk result (λ read. length read.items ≡ 40) }
     ensures mark { IfOk result (λ read. take 8 (drop 32 read.items) ≡ end_mark) }
-    ensures damaged { IfErr result (IsShown (H.view host.old) file) }
+    ensures damaged { IfErr result (Shown (H.view host.old) file (λ bytes damage. size ≡ length bytes → ShowsFrame file bytes damage)) }
     ensures undamaged { IfErr result (SparesFooter (H.view host.old) file (size - 40)) }
     ensures agrees { P.agrees pages.new (H.view host.new).files }
     ensures covers { (name : FileName) → P.covers pages.new name → P.covers pages.old name ⊎ (name ≡ file) }
@@ -144,7 +146,7 @@ fn number_in(field: &[u8]) -> u64
 fn is_wrong_end(end: u64, at: u64) -> bool
     ensures behind { result ≡ false → 33 ≤ end }
     ensures within { result ≡ false → end ≤ at }
-    ensures wrong { IsTrue result → 33 ≤ end → at < end }
+    ensures wrong { IsTrue result → (end < 33) ⊎ (at < end) }
 {
     end < LEAST_END || end > at
 }
@@ -156,7 +158,7 @@ fn footer_in(file: FileName, at: u64, bytes: &[u8]) -> Result<Footer, Damage>
     requires place { at + 40 < 2 ^ 64 }
     ensures ok { IfOk result (λ read. bytes.now ≡ footer read.tree read.latest read.end) }
     ensures in_range { IfOk result (λ read. AreInRange (at + 40) read.tree read.latest read.end) }
-    ensures seen { IfErr result (IsSeenIn file at bytes.now) }
+    ensures seen { (whole : Bytes) → HasAt whole at bytes.now → length whole ≡ at + 40 → IfErr result (ShowsFrame file whole) }
     ensures spares { IfErr result (λ _. (tree : Tree) (latest end : ℕ) → bytes.now ≡ footer tree latest end → AreInRange (at + 40) tree latest end → ⊥) }
 {
     let end = number_in(&bytes[24..32]);
@@ -187,7 +189,7 @@ pub fn read_frame<H: Host, P: PageReader>(
     requires agrees { P.agrees pages.old (H.view host.old).files }
     ensures ok { IfOk result (λ read. (bytes : Bytes) → contents (H.view host.old) file ≡ Some bytes → IsFramed bytes read.tree read.latest read.end) }
     ensures in_range { IfOk result (λ read. (bytes : Bytes) → contents (H.view host.old) file ≡ Some bytes → AreInRange (length bytes) read.tree read.latest read.end) }
-    ensures damaged { IfErr result (IsShown (H.view host.old) file) }
+    ensures damaged { IfErr result (Shown (H.view host.old) file (ShowsFrame file)) }
     ensures undamaged { IfErr result (SparesData (H.view host.old) file) }
     ensures agrees { P.agrees pages.new (H.view host.new).files }
     ensures covers { (name : FileName) → P.covers pages.new name → P.covers pages.old name ⊎ (name ≡ file) }

@@ -13,8 +13,10 @@ ghost use Rattle.sasi_body.specs.declared.fault.BodyFault.TheVariants as body_fa
 ghost use Rattle.sasi_body.specs.Format.{body};
 ghost use Rattle.sasi_body.specs.Seen.{IsFaultOf};
 ghost use Rattle.sasi_body.specs.Typed.{IsBodyOf};
-ghost use Rattle.sasi_tokentree.specs.Reads.{HasAt, IsSeen, IsShown, ReadsAtMost};
+ghost use Rattle.sasi_tokentree.specs.Damages.{HasAt, Shown};
+ghost use Rattle.sasi_tokentree.specs.Reads.{ReadsAtMost};
 ghost use Rattle.sasi_dataread.specs.Reads.{pages_of};
+ghost use Rattle.sasi_dataread.specs.Damages.{ShowsPartition};
 ghost use Rattle.sasi_dataread.specs.Bodies.{sized, cost, IsLength, IsPlacedIn, SparesLength, SparesSized, SparesBody};
 
 use crate::damage::too_short;
@@ -28,6 +30,9 @@ use std::alloc::Global;
 
 // The bytes of a length.
 const LENGTH: u64 = 4;
+
+// No file is longer.
+const LARGEST_FILE: u64 = 1 << 62;
 
 // No body has so many bytes.
 const BODY_LIMIT: u64 = 1 << 23;
@@ -63,19 +68,19 @@ fn read_length<H: Host, P: PageReader>(
     requires agrees { P.agrees pages.old (H.view host.old).files }
     ensures ok { IfOk result (λ count. (bytes : Bytes) → contents (H.view host.old) file ≡ Some bytes → HasAt bytes place (to_be_bytes w32 count)) }
     ensures length { IfOk result (IsLength end place) }
-    ensures damaged { IfErr result (IsShown (H.view host.old) file) }
+    ensures damaged { (types : List ColumnType) → IfErr result (Shown (H.view host.old) file (ShowsPartition types end place file)) }
     ensures undamaged { IfErr result (SparesLength (H.view host.old) file end place) }
     ensures agrees { P.agrees pages.new (H.view host.new).files }
     ensures covers { (name : FileName) → P.covers pages.new name → P.covers pages.old name ⊎ (name ≡ file) }
     ensures changes { Changes Same (H.view host.old) (H.view host.new) }
     ensures causes { ReadsAtMost (pages_of place 4) (H.view host.old) (H.view host.new) result }
 {
-    if place > end || end - place < LENGTH {
+    if place > LARGEST_FILE {
         return Err(too_short(host, file));
     }
     let field = read_run(alloc, host, pages, file, place, LENGTH as usize)?;
     let count = u64::from(length_in(&field));
-    if is_wrong_length(count, end - place - LENGTH) {
+    if is_wrong_length(count, end.saturating_sub(place + LENGTH)) {
         let damage = found(file, place, FormatRule::Number, &field);
         return Err(ReadFault::Damaged(damage));
     }
@@ -95,7 +100,7 @@ fn read_sized<H: Host, P: PageReader>(
     requires agrees { P.agrees pages.old (H.view host.old).files }
     ensures ok { IfOk result (λ read. (bytes : Bytes) → contents (H.view host.old) file ≡ Some bytes → HasAt bytes place (sized read.items)) }
     ensures length { IfOk result (λ read. IsLength end place (length read.items)) }
-    ensures damaged { IfErr result (IsShown (H.view host.old) file) }
+    ensures damaged { (types : List ColumnType) → IfErr result (Shown (H.view host.old) file (ShowsPartition types end place file)) }
     ensures undamaged { IfErr result (SparesSized (H.view host.old) file end place) }
     ensures agrees { P.agrees pages.new (H.view host.new).files }
     ensures covers { (name : FileName) → P.covers pages.new name → P.covers pages.old name ⊎ (name ≡ file) }
@@ -113,7 +118,7 @@ fn fault_in_file(file: FileName, place: u64, bytes: &[u8], fault: BodyFault) -> 
     requires short { length bytes.now < 2 ^ 23 }
     requires place { place + 4 + length bytes.now < 2 ^ 64 }
     requires within { IsPlacedIn (length bytes.now) fault }
-    ensures shown { (types : List ColumnType) (whole : Bytes) → IsFaultOf types bytes.now fault → HasAt whole place (sized bytes.now) → OnDamage (IsSeen file whole) result }
+    ensures shown { (types : List ColumnType) (end : ℕ) (whole : Bytes) → IsFaultOf types bytes.now fault → HasAt whole place (sized bytes.now) → OnDamage (ShowsPartition types end place file whole) result }
     ensures memory { fault ≡ body_fault.OutOfMemory → result ≡ read_fault.OutOfMemory }
     ensures works { result ≡ read_fault.Failed → ⊥ }
 {
@@ -147,7 +152,7 @@ pub fn partition_at<H: Host, P: PageReader>(
     requires agrees { P.agrees pages.old (H.view host.old).files }
     ensures ok { IfOk result (λ read. (bytes : Bytes) → contents (H.view host.old) file ≡ Some bytes → HasAt bytes place (sized (body read.0 read.1))) }
     ensures in_table { IfOk result (λ read. IsBodyOf types.now read.0 read.1) }
-    ensures damaged { IfErr result (IsShown (H.view host.old) file) }
+    ensures damaged { IfErr result (Shown (H.view host.old) file (ShowsPartition types.now end place file)) }
     ensures undamaged { IfErr result (SparesBody (H.view host.old) file types.now end place) }
     ensures agrees { P.agrees pages.new (H.view host.new).files }
     ensures covers { (name : FileName) → P.covers pages.new name → P.covers pages.old name ⊎ (name ≡ file) }

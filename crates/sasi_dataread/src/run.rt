@@ -3,9 +3,9 @@ ghost use Rattle.std.specs.Prelude.{◌≡◌, ◌⊎◌, ◌+◌, ◌*◌, ◌/
 ghost use Rattle.sasi_host.specs.declared.name.FileName.{FileName};
 ghost use Rattle.sasi_host.specs.View.{IsThere, contents};
 ghost use Rattle.sasi_host.specs.Disk.{Changes, Same};
-ghost use Rattle.sasi_host.specs.Damages.{OnDamage};
-ghost use Rattle.sasi_tokentree.specs.Reads.{IsShown, ReadsAtMost};
-ghost use Rattle.sasi_dataread.specs.Reads.{pages_of, SparesRun};
+ghost use Rattle.sasi_tokentree.specs.Damages.{Shown, ShowsEnd};
+ghost use Rattle.sasi_tokentree.specs.Reads.{ReadsAtMost};
+ghost use Rattle.sasi_dataread.specs.Reads.{pages_of};
 
 use crate::damage::too_short;
 use sasi_host::{FileName, Host, PageReader, ReadFault};
@@ -30,8 +30,7 @@ fn append_part<H: Host, P: PageReader>(
     ensures ok { OnOk result ((bytes : List ℕ) → contents (H.view host.old) file ≡ Some bytes → out.new.items ≡ out.old.items ++ take count (drop at bytes)) }
     ensures count { OnOk result (length out.new.items ≡ length out.old.items + count) }
     ensures within { OnOk result ((bytes : List ℕ) → contents (H.view host.old) file ≡ Some bytes → at + count ≤ length bytes) }
-    ensures damaged { IfErr result (IsShown (H.view host.old) file) }
-    ensures short { IfErr result (SparesRun (H.view host.old) file (at + count)) }
+    ensures damaged { IfErr result (Shown (H.view host.old) file (ShowsEnd (at + count) file)) }
     ensures agrees { P.agrees pages.new (H.view host.new).files }
     ensures covers { (name : FileName) → P.covers pages.new name → P.covers pages.old name ⊎ (name ≡ file) }
     ensures changes { Changes Same (H.view host.old) (H.view host.new) }
@@ -82,8 +81,7 @@ pub fn read_run<H: Host, P: PageReader>(
     ensures ok { IfOk result (λ run. (bytes : List ℕ) → contents (H.view host.old) file ≡ Some bytes → run.items ≡ take count (drop at bytes)) }
     ensures count { IfOk result (λ run. length run.items ≡ count) }
     ensures within { OnOk result ((bytes : List ℕ) → contents (H.view host.old) file ≡ Some bytes → at + count ≤ length bytes) }
-    ensures damaged { IfErr result (IsShown (H.view host.old) file) }
-    ensures short { IfErr result (SparesRun (H.view host.old) file (at + count)) }
+    ensures damaged { IfErr result (Shown (H.view host.old) file (ShowsEnd (at + count) file)) }
     ensures agrees { P.agrees pages.new (H.view host.new).files }
     ensures covers { (name : FileName) → P.covers pages.new name → P.covers pages.old name ⊎ (name ≡ file) }
     ensures changes { Changes Same (H.view host.old) (H.view host.new) }

@@ -281,7 +281,7 @@ fn cut_file_is_told(rt: HostRuntime) -> Result<(), Fail> {
 
 // Where the last bit of a byte from the first of these places up to the second is turned: the places between which the
 // damage is seen, and its rule.
-const DAMAGES: [(usize, usize, usize, usize, FormatRule); 25] = [
+const DAMAGES: [(usize, usize, usize, usize, FormatRule); 28] = [
     (0, 8, 0, 8, FormatRule::Magic),
     (8, 12, 8, 12, FormatRule::Version),
     (12, 16, 12, 16, FormatRule::Number),
@@ -299,7 +299,10 @@ const DAMAGES: [(usize, usize, usize, usize, FormatRule); 25] = [
     (57, 60, 16, 20, FormatRule::Number),
     (61, 62, 61, 62, FormatRule::Number),
     (62, 63, 62, 63, FormatRule::Number),
-    (63, 64, 63, 65, FormatRule::Number),
+    (63, 65, 63, 65, FormatRule::Number),
+    (65, 69, 65, 69, FormatRule::Number),
+    (77, 84, 0, 0, FormatRule::Short),
+    (84, 85, 17, 21, FormatRule::Number),
     (85, 92, 0, 0, FormatRule::Short),
     (92, 93, 60, 61, FormatRule::Number),
     (93, 100, 0, 0, FormatRule::Short),
@@ -330,7 +333,7 @@ fn body_of(alloc: Global, bytes: &[u8]) -> Result<Vec<u8>, Fail> {
 #[test]
 fn changed_byte_is_told_or_read(rt: HostRuntime) -> Result<(), Fail> {
     let alloc = rt.alloc();
-    for place in (0..64).chain(85..125) {
+    for place in (0..69).chain(77..125) {
         let mut bytes = ONE;
         let byte = bytes.get_mut(place).ok_or("no byte")?;
         *byte ^= 1;

@@ -3,7 +3,9 @@ ghost use Rattle.std.specs.Prelude.{◌≡◌, ◌⊎◌, ◌+◌, ◌≤◌, If
 ghost use Rattle.sasi_host.specs.declared.name.FileName.{FileName};
 ghost use Rattle.sasi_host.specs.View.{IsThere};
 ghost use Rattle.sasi_host.specs.Disk.{Changes, Same};
-ghost use Rattle.sasi_tokentree.specs.Reads.{IsShown, ReadsAtMost};
+ghost use Rattle.sasi_tokentree.specs.Damages.{Shown};
+ghost use Rattle.sasi_tokentree.specs.Reads.{ReadsAtMost};
+ghost use Rattle.sasi_dataread.specs.Damages.{ShowsData};
 ghost use Rattle.sasi_dataread.specs.Walks.{GivesPartition, SparesOpened};
 
 use crate::DataFile;
@@ -52,7 +54,7 @@ impl DataWalk {
         requires there { IsThere (H.view host.old) self.old.opened.file }
         requires agrees { P.agrees pages.old (H.view host.old).files }
         ensures ok { IfOk result (λ found. GivesPartition (H.view host.old) self.old.opened self.old.passed self.new.passed found) }
-        ensures damaged { IfErr result (IsShown (H.view host.old) self.old.opened.file) }
+        ensures damaged { IfErr result (Shown (H.view host.old) self.old.opened.file (ShowsData self.old.opened)) }
         ensures undamaged { IfErr result (SparesOpened (H.view host.old) self.old.opened) }
         ensures agrees { P.agrees pages.new (H.view host.new).files }
         ensures covers { (name : FileName) → P.covers pages.new name → P.covers pages.old name ⊎ (name ≡ self.old.opened.file) }
@@ -77,7 +79,7 @@ fn next_of<H: Host, P: PageReader>(
     requires file { tree.old.file ≡ opened.now.file }
     requires tree { tree.old.tree ≡ opened.now.tree }
     ensures ok { IfOk result (λ found. GivesPartition (H.view host.old) opened.now tree.old.passed tree.new.passed found) }
-    ensures damaged { IfErr result (IsShown (H.view host.old) opened.now.file) }
+    ensures damaged { IfErr result (Shown (H.view host.old) opened.now.file (ShowsData opened.now)) }
     ensures undamaged { IfErr result (SparesOpened (H.view host.old) opened.now) }
     ensures agrees { P.agrees pages.new (H.view host.new).files }
     ensures covers { (name : FileName) → P.covers pages.new name → P.covers pages.old name ⊎ (name ≡ opened.now.file) }

@@ -1,5 +1,5 @@
 -- What the bytes of a node tell.
-use Rattle.std.proofs.Common.{◌≡◌, ℕ, zero, suc, add-zero, ◌+◌, ◌-◌, ◌*◌, ◌^◌, ◌<◌, ◌≤◌, List, [], ◌∷◌, ◌++◌, length, take, drop, refl, sym, ◌∙◌, ap, subst, arith, append_assoc, take-append-drop, ⊎_elim}
+use Rattle.std.proofs.Common.{◌≡◌, ℕ, zero, suc, add-zero, ◌+◌, ◌-◌, ◌*◌, ◌^◌, ◌<◌, ◌≤◌, ◌≢◌, List, [], ◌∷◌, ◌++◌, length, take, drop, refl, sym, ◌∙◌, ap, subst, arith, append_assoc, lit<, ⊎_elim}
 use Rattle.std.proofs.lemmas.List.{take_at, drop_at, take-take, drop-take, drop-drop, drop_more, drop_all, length-take-le}
 use Rattle.std.proofs.lemmas.Nat.{from_be_bytes-to_be_bytes_8}
 use Rattle.std.proofs.Math.Seq.{take-add}
@@ -8,30 +8,54 @@ use Rattle.std.specs.Int.{to_be_bytes, from_be_bytes, w16, w64}
 use Rattle.sasi_types.specs.declared.tree.Pair.{Pair}
 use Rattle.sasi_host.specs.declared.name.FileName.{FileName}
 use Rattle.sasi_host.specs.declared.damage.Damage.{Damage}
+use Rattle.sasi_host.specs.declared.damage.FormatRule.{FormatRule}
+use Rattle.sasi_host.specs.declared.damage.FormatRule.TheVariants.{Short, Number, Order}
 use Rattle.sasi_host.specs.Names.{Bytes}
 use Rattle.sasi_tokentree.specs.Format.{pair_at, entry, head, node, IsBefore, IsRising, AreFit}
 use Rattle.sasi_tokentree.specs.Sizes.{entry_length, head_length, node_length}
-use Rattle.sasi_tokentree.specs.Reads.{HasAt, IsSeenIn, FindsBelow}
+use Rattle.sasi_tokentree.specs.Damages.{HasAt, IsHeadPart, IsOther, NodeBreaks}
+use Rattle.sasi_tokentree.specs.Places.{window_at, at_window, first_at, both_at}
+use Rattle.sasi_tokentree.specs.Reads.{IsInNode, FindsBelow}
 use Rattle.sasi_host.specs.Damages.{seen_bytes}
 
--- ---- parts of bytes
+-- ---- what is seen
 
--- a part of bytes stands in them
-pub part_stands : (bytes : Bytes) (offset n : ℕ) → offset + n ≤ length bytes → HasAt bytes offset (take n (drop offset bytes))
-part_stands bytes offset n le = record {
-  front = take offset bytes;
-  rest = drop n (drop offset bytes);
-  is = sym (append_assoc (take offset bytes) (take n (drop offset bytes)) (drop n (drop offset bytes)) ∙ ap (λ (l : Bytes). take offset bytes ++ l) (take-append-drop n (drop offset bytes)) ∙ take-append-drop offset bytes);
-  place = length-take-le offset bytes (omega arith);
-}
-
-pub seen_in : (file : FileName) (at : ℕ) (bytes : Bytes) (offset n : ℕ) (damage : Damage) → offset + n ≤ length bytes → damage.file ≡ file → damage.at ≡ at + offset → seen_bytes damage.seen ≡ take n (drop offset bytes) → IsSeenIn file at bytes damage
-seen_in file at bytes offset n damage le named place seen = record {
+-- in the head of a node
+pub head_in : (file : FileName) (at : ℕ) (bytes : Bytes) (level count offset : ℕ) (wanted : Bytes) (damage : Damage) → IsHeadPart level count offset wanted → IsOther file at bytes offset wanted Number damage → IsInNode file at bytes level count damage
+head_in file at bytes level count offset wanted damage part other = record {
   offset = offset;
-  named = named;
-  place = place;
-  stands = subst (λ (l : Bytes). HasAt bytes offset l) (sym seen) (part_stands bytes offset n le);
+  named = other.named;
+  place = other.place;
+  long = λ short. let clash : Number ≡ Short = sym other.rule_is ∙ short in absurd (cc);
+  breaks = subst (λ (r : FormatRule). NodeBreaks bytes (record { level = level; at = 0; count = count }) r offset (seen_bytes damage.seen)) (sym other.rule_is)
+      (record { offset = offset; wanted = wanted; part = part; place = omega arith; differs = other.differs });
 }
+
+-- an entry that doesn't come after the one before it
+pub disorder_in : (file : FileName) (at : ℕ) (bytes : Bytes) (level count index n : ℕ) (last pair : Pair) (damage : Damage) → length bytes ≡ 8 + 16 * count → 0 < index → index < count → AreFit (last ∷ pair ∷ [])
+    → HasAt bytes (8 + 16 * (index - 1)) (entry last) → HasAt bytes (8 + 16 * index) (entry pair) → ¬ IsBefore last pair → damage.file ≡ file → damage.at ≡ at + (8 + 16 * index) → damage.rule ≡ Order
+    → n ≡ 8 → seen_bytes damage.seen ≡ take n (drop (8 + 16 * index) bytes) → IsInNode file at bytes level count damage
+unfolding entry
+disorder_in file at bytes level count index n last pair damage long some lt fit last_stands pair_stands disorder named place rule eight seen =
+    let next : 8 + 16 * index ≡ 8 + 16 * (index - 1) + length (entry last) = omega (arith, some, entry_length last) in
+    let told : take 8 (drop (8 + 16 * index) bytes) ≡ to_be_bytes w64 pair.token = at_window bytes (8 + 16 * index) (to_be_bytes w64 pair.token) (first_at bytes (8 + 16 * index) (to_be_bytes w64 pair.token) (to_be_bytes w64 pair.place) pair_stands) in
+    record {
+      offset = 8 + 16 * index;
+      named = named;
+      place = place;
+      long = λ short. let clash : Order ≡ Short = sym rule ∙ short in absurd (cc);
+      breaks = subst (λ (r : FormatRule). NodeBreaks bytes (record { level = level; at = 0; count = count }) r (8 + 16 * index) (seen_bytes damage.seen)) (sym rule) (record {
+        index = index - 1;
+        last = last;
+        pair = pair;
+        within = omega (arith, some, lt);
+        stands = subst (λ (k : ℕ). HasAt bytes k (entry last ++ entry pair)) (omega arith) (both_at bytes (8 + 16 * (index - 1)) (8 + 16 * index) (entry last) (entry pair) last_stands next pair_stands);
+        fit = fit;
+        disorder = disorder;
+        place = omega (arith, some);
+        told = seen ∙ ap (λ (k : ℕ). take k (drop (8 + 16 * index) bytes)) eight ∙ told;
+      });
+    }
 
 -- ---- the head
 
@@ -101,6 +125,22 @@ entry_reads bytes level entries index token place fit is le token_fits place_fit
     let tokens : token ≡ p.token = same_number token p.token token_fits (fit index).0 (token_is ∙ ap (λ (l : Bytes). take 8 l) here ∙ take_at (to_be_bytes w64 p.token) (to_be_bytes w64 p.place ++ rest) 8 refl) in
     let places : place ≡ p.place = same_number place p.place place_fits (fit index).1 (place_is ∙ ap (λ (l : Bytes). take 8 l) behind ∙ take_at (to_be_bytes w64 p.place) rest 8 refl) in
     ap (λ (n : ℕ). record { token = n; place = place }) tokens ∙ ap (λ (n : ℕ). record { token = p.token; place = n }) places
+
+-- two numbers that stand there are an entry
+pub entry_at : (bytes : Bytes) (at token place n m : ℕ) → n ≡ 8 → m ≡ 8 → at + 16 ≤ length bytes → to_be_bytes w64 token ≡ take n (drop at bytes) → to_be_bytes w64 place ≡ take m (drop (at + 8) bytes) → HasAt bytes at (entry (record { token = token; place = place }))
+unfolding entry
+entry_at bytes at token place n m n_is m_is le token_is place_is =
+    both_at bytes at (at + 8) (to_be_bytes w64 token) (to_be_bytes w64 place) (window_at bytes (to_be_bytes w64 token) at n token_is (omega (arith, n_is, le))) refl (window_at bytes (to_be_bytes w64 place) (at + 8) m place_is (omega (arith, m_is, le)))
+
+-- pairs whose numbers fit
+pub pair_fits : (a : Pair) → a.token < 2 ^ 64 → a.place < 2 ^ 64 → AreFit (a ∷ [])
+pair_fits a at ap zero = (at, ap)
+pair_fits a at ap (suc index) = (lit< tt, lit< tt)
+
+pub pairs_fit : (a b : Pair) → a.token < 2 ^ 64 → a.place < 2 ^ 64 → b.token < 2 ^ 64 → b.place < 2 ^ 64 → AreFit (a ∷ b ∷ [])
+pairs_fit a b at ap bt bp zero = (at, ap)
+pairs_fit a b at ap bt bp (suc zero) = (bt, bp)
+pairs_fit a b at ap bt bp (suc (suc index)) = (lit< tt, lit< tt)
 
 -- ---- order
 

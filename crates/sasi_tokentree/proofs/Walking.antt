@@ -1,5 +1,5 @@
 -- The pairs of a tree, found in its leaves.
-use Rattle.std.proofs.Common.{◌≡◌, ◌⊎◌, ℕ, zero, suc, ◌+◌, ◌-◌, ◌*◌, ◌/◌, ◌%◌, ◌^◌, ◌<◌, ◌≤◌, List, ◌∷◌, ◌++◌, length, take, drop, refl, sym, ◌∙◌, ap, subst, arith, append_assoc, length-append, take-append-drop, ⊎_elim, Some, None}
+use Rattle.std.proofs.Common.{◌≡◌, ◌⊎◌, ℕ, zero, suc, ◌+◌, ◌-◌, ◌*◌, ◌/◌, ◌%◌, ◌^◌, ◌<◌, ◌≤◌, List, ◌∷◌, ◌++◌, length, take, drop, refl, sym, ◌∙◌, ap, subst, min, arith, append_assoc, length-append, take-append-drop, ⊎_elim, Option, Some, None}
 use Rattle.std.proofs.lemmas.Bool.Decides.{leb_tells}
 use Rattle.std.proofs.lemmas.List.{take_at, drop_at, drop_more, drop_all, length-take-le}
 use Rattle.std.specs.List.{flat_map}
@@ -16,11 +16,14 @@ use Rattle.sasi_host.specs.Contents.{contents_same}
 use Rattle.sasi_tokentree.specs.Format.{pair_at, entry, node, nodes, size, part, above, level_bytes, levels, tree_bytes, HasTree}
 use Rattle.sasi_tokentree.specs.Sizes.{entry_length, node_length, part_length, level_length, one_level, more_levels, first_above_length}
 use Rattle.sasi_tokentree.specs.Heights.{lead, no_lead, more_lead, top_is}
-use Rattle.sasi_tokentree.specs.Reads.{HasAt, HasNode, StandsFrom, CountsBelow, Spares, SparesLevel, SparesPair}
-use Rattle.sasi_host.specs.Damages.{OnDamage}
-use Rattle.sasi_tokentree.specs.Walks.{TakesNext}
-use Rattle.sasi_tokentree.proofs.NodeParts.{from_entry, same_number}
-use Rattle.sasi_tokentree.proofs.NodeReads.{has_window}
+use Rattle.sasi_tokentree.specs.Damages.{HasAt, Node, IsNodeFrom, IsNodeOf, ShowsEnd, ShowsTree, Shown, ShownOf, TellsSize, start}
+use Rattle.sasi_tokentree.specs.Damages.IsNodeFrom.{of_level, of_above}
+use Rattle.sasi_tokentree.specs.Places.{at_window, inner_at}
+use Rattle.sasi_tokentree.specs.Showing.{end_shown}
+use Rattle.sasi_tokentree.specs.Reads.{HasNode, StandsFrom, CountsBelow, Spares, SparesLevel, SparesPair}
+use Rattle.sasi_tokentree.specs.Walks.{GivesEntry, TakesNext}
+use Rattle.sasi_tokentree.proofs.NodeParts.{from_entry, same_number, pair_fits}
+use Rattle.sasi_tokentree.proofs.NodeReads.{early_shown, shown_more}
 use Rattle.sasi_tokentree.proofs.Standing.{part_at, stands_node}
 
 -- ---- a pair in its leaf
@@ -61,17 +64,17 @@ unfolding entry
 pair_reads bytes window at index token place n m entries stands lt is n_is m_is token_fits place_fits token_is place_is =
     let p = pair_at entries index in
     let has = entry_stands bytes at index entries stands lt in
-    let whole : window ≡ to_be_bytes w64 p.token ++ to_be_bytes w64 p.place = is ∙ has_window bytes (at + 4088 * (index / 255) + (8 + 16 * (index % 255))) (entry p) has in
+    let whole : window ≡ to_be_bytes w64 p.token ++ to_be_bytes w64 p.place = is ∙ at_window bytes (at + 4088 * (index / 255) + (8 + 16 * (index % 255))) (entry p) has in
     let first : take n window ≡ to_be_bytes w64 p.token = ap (λ (k : ℕ). take k window) n_is ∙ ap (λ (l : Bytes). take 8 l) whole ∙ take_at (to_be_bytes w64 p.token) (to_be_bytes w64 p.place) 8 refl in
     let second : take m (drop 8 window) ≡ to_be_bytes w64 p.place = ap (λ (k : ℕ). take k (drop 8 window)) m_is ∙ ap (λ (l : Bytes). take 8 (drop 8 l)) whole ∙ ap (λ (l : Bytes). take 8 l) (drop_at (to_be_bytes w64 p.token) (to_be_bytes w64 p.place) 8 refl) in
     let tokens : token ≡ p.token = same_number token p.token token_fits (stands.fit index).0 (token_is ∙ first) in
     let places : place ≡ p.place = same_number place p.place place_fits (stands.fit index).1 (place_is ∙ second) in
     ap (λ (k : ℕ). record { token = k; place = place }) tokens ∙ ap (λ (k : ℕ). record { token = p.token; place = k }) places
 
-pub short_spares : (v : View) (file : FileName) (at index : ℕ) (f : ReadFault) → OnDamage (λ _. (bytes : Bytes) → contents v file ≡ Some bytes → length bytes < at + 4088 * (index / 255) + (8 + 16 * (index % 255)) + 16) f → SparesPair v file at index f
+pub short_spares : (v : View) (file : FileName) (at index : ℕ) (f : ReadFault) → Shown v file (ShowsEnd (at + 4088 * (index / 255) + (8 + 16 * (index % 255)) + 16) file) f → SparesPair v file at index f
 short_spares v file at index fault.Failed short = tt
 short_spares v file at index fault.OutOfMemory short = tt
-short_spares v file at index (fault.Damaged damage) short = λ bytes entries is stands lt. let less = short bytes is in omega (arith, less, ends_within bytes at index entries stands lt)
+short_spares v file at index (fault.Damaged damage) short = λ bytes entries is stands lt. let less = (short bytes is).short in omega (arith, less, ends_within bytes at index entries stands lt)
 
 -- ---- the tree whole
 
@@ -157,7 +160,61 @@ tree_spares_before a b file tree fault.Failed same spares = tt
 tree_spares_before a b file tree fault.OutOfMemory same spares = tt
 tree_spares_before a b file tree (fault.Damaged damage) same spares = λ bytes pairs is. spares bytes pairs (contents_same a b file same ∙ is)
 
+-- ---- the nodes of a tree
+
+-- one stands at the root
+pub top_node : (most level at count : ℕ) → 0 < count → count ≤ most → (node : Node) × IsNodeFrom node level at count × (node.at ≡ at + lead most count)
+top_node zero level at count some enough = absurd (omega arith)
+top_node (suc most) level at count some enough = ⊎_elim
+    (λ one. (
+      record { level = level; at = at + 4088 * 0; count = min (count - 255 * 0) 255 },
+      of_level level at count 0 (omega (arith, some)) refl,
+      omega (arith, no_lead most count one.1),
+    ))
+    (λ more. let up = top_node most (level + 1) (at + size count) (nodes count) (omega (arith, more.1)) (omega (arith, more.1, enough)) in (
+      up.0,
+      of_above level at count more.1 up.1,
+      omega (arith, up.2, more_lead most count more.1),
+    ))
+    (leb_tells count 255)
+
+-- a tree that is too long for every file has a node that ends behind each
+long_node : (tree : TreeRef) → 0 < tree.pairs → (2 ^ 62 < tree.root) ⊎ (2 ^ 58 < tree.pairs) → (node : Node) × IsNodeOf tree node × (2 ^ 62 < node.at + (8 + 16 * node.count))
+long_node tree some long = ⊎_elim
+    (λ far. let top = top_node tree.pairs 0 (start tree) tree.pairs some (omega arith) in (top.0, top.1, omega (arith, far, top.2)))
+    (λ many. (
+      record { level = 0; at = start tree + 4088 * ((tree.pairs - 1) / 255); count = min (tree.pairs - 255 * ((tree.pairs - 1) / 255)) 255 },
+      of_level 0 (start tree) tree.pairs ((tree.pairs - 1) / 255) (omega (arith, some)) refl,
+      omega (arith, many),
+    ))
+    long
+
+pub long_shown : (v : View) (file : FileName) (tree : TreeRef) (f : ReadFault) → ((bytes : Bytes) → contents v file ≡ Some bytes → length bytes ≤ 2 ^ 62) → 0 < tree.pairs → (2 ^ 62 < tree.root) ⊎ (2 ^ 58 < tree.pairs) → Shown v file (TellsSize file) f → ShownOf (IsNodeOf tree) v file f
+long_shown v file tree f short some long told =
+    let long_one = long_node tree some long in
+    let end = long_one.0.at + (8 + 16 * long_one.0.count) in
+    early_shown (IsNodeOf tree) v file end long_one.0 f long_one.1 (omega arith) (end_shown v file end f (λ bytes is. let le = short bytes is in omega (arith, le, long_one.2)) told)
+
+-- the leaf of a pair ends behind its entry
+pub pair_shown : (v : View) (file : FileName) (tree : TreeRef) (begin index : ℕ) (f : ReadFault) → index < tree.pairs → begin ≡ start tree → Shown v file (ShowsEnd (begin + 4088 * (index / 255) + (8 + 16 * (index % 255)) + 16) file) f → ShownOf (IsNodeOf tree) v file f
+pair_shown v file tree begin index f lt is shown =
+    early_shown (IsNodeOf tree) v file (begin + 4088 * (index / 255) + (8 + 16 * (index % 255)) + 16) (record { level = 0; at = start tree + 4088 * (index / 255); count = min (tree.pairs - 255 * (index / 255)) 255 }) f
+    (of_level 0 (start tree) tree.pairs (index / 255) (omega (arith, lt)) refl) (omega (arith, lt, is)) shown
+
+pub leaves_shown : (v : View) (file : FileName) (tree : TreeRef) (begin : ℕ) (f : ReadFault) → begin ≡ start tree → ShownOf (λ n. IsNodeFrom n 0 begin tree.pairs) v file f → ShownOf (IsNodeOf tree) v file f
+leaves_shown v file tree begin f is shown = subst (λ (n : ℕ). ShownOf (λ k. IsNodeFrom k 0 n tree.pairs) v file f) is shown
+
 -- ---- the pairs left
+
+-- an entry that was read
+pub gives_entry : (v : View) (file : FileName) (tree : TreeRef) (begin index : ℕ) (pair : Pair) → begin ≡ start tree → index < tree.pairs
+    → pair.token < 2 ^ 64 → pair.place < 2 ^ 64 → ((bytes : Bytes) → contents v file ≡ Some bytes → HasAt bytes (begin + 4088 * (index / 255) + (8 + 16 * (index % 255))) (entry pair)) → GivesEntry v file tree (index + 1) (Some pair)
+gives_entry v file tree begin index pair is lt token_fits place_fits stands =
+    (index, refl, λ bytes reads. record { within = lt; stands = subst (λ (n : ℕ). HasAt bytes (n + 4088 * (index / 255) + (8 + 16 * (index % 255))) (entry pair)) is (stands bytes reads); fit = pair_fits pair token_fits place_fits })
+
+pub gave_entry : (a b : View) (file : FileName) (tree : TreeRef) (passed : ℕ) (found : Option Pair) → Changes Same a b → GivesEntry b file tree passed found → GivesEntry a file tree passed found
+gave_entry a b file tree passed None same gives = tt
+gave_entry a b file tree passed (Some pair) same gives = (gives.0, gives.1, λ bytes is. gives.2 bytes (contents_same a b file same ∙ is))
 
 pub takes_pair : (pairs : List Pair) (index : ℕ) (pair : Pair) → index < length pairs → pair ≡ pair_at pairs index → TakesNext pairs index (index + 1) (Some pair)
 takes_pair pairs index pair lt is = drop_more pairs index (record { token = 0; place = 0 }) lt ∙ ap (λ (p : Pair). p ∷ drop (index + 1) pairs) (sym is)

@@ -4,14 +4,8 @@ use Rattle.std.proofs.lemmas.List.{take_at, take_all, take-take, drop-take, drop
 use Rattle.std.proofs.lemmas.Slice.{take-put_mid}
 use Rattle.std.proofs.Math.Seq.{take-add}
 use borrow.Rule.Slice.PartMut.{put_mid, same_len_mid}
-use Rattle.sasi_host.specs.declared.name.FileName.{FileName}
-use Rattle.sasi_host.specs.declared.fault.ReadFault.{ReadFault}
-use Rattle.sasi_host.specs.declared.fault.ReadFault.TheVariants as fault
 use Rattle.sasi_host.specs.Names.{Bytes}
-use Rattle.sasi_host.specs.View.{View}
-use Rattle.sasi_host.specs.Disk.{Changes, Same, Fills}
-use Rattle.sasi_host.specs.Contents.{contents_same}
-use Rattle.sasi_tokentree.specs.Reads.{IsShown}
+use Rattle.sasi_host.specs.Disk.{Fills}
 
 -- what a page gave of a run that lies on it
 pub page_gives : (bytes old new : Bytes) (at count n : ℕ) → Fills bytes (at / 4096 * 4096) old new count → at % 4096 + n ≤ count → take n (drop (at % 4096) new) ≡ take n (drop at bytes)
@@ -39,9 +33,3 @@ two_parts bytes out first second at room n m le one n_is long two m_is rest =
     put_size : (room : ℕ) (whole second out : Bytes) → room ≤ length whole → length whole ≡ length out → length second ≡ length out - room → length (put_mid room (length whole - room) whole second) ≤ length out
     put_size room whole second out le same rest =
         omega (arith, same, same_len_mid room (length whole - room) whole second (omega (arith, rest, same, length-take (length whole - room) (drop room whole), length-drop room whole)))
-
--- what a file shows after nothing was done it showed before
-pub shown_before : (a b : View) (file : FileName) (f : ReadFault) → Changes Same a b → IsShown b file f → IsShown a file f
-shown_before a b file fault.Failed same shown = tt
-shown_before a b file fault.OutOfMemory same shown = tt
-shown_before a b file (fault.Damaged damage) same shown = λ bytes is. shown bytes (contents_same a b file same ∙ is)

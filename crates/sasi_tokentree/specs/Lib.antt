@@ -1,6 +1,9 @@
 pub mod Format
 pub mod Sizes
 pub mod Heights
+pub mod Damages
+pub mod Places
+pub mod Showing
 pub mod Writes
 pub mod Reads
 pub mod Walks

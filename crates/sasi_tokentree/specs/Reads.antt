@@ -1,12 +1,10 @@
 -- What reads of a tree give, over what the host tells.
-use Rattle.std.specs.Prelude.{◌≡◌, ◌⊎◌, ℕ, ◌+◌, ◌-◌, ◌^◌, ◌<◌, ◌≤◌, List, ◌++◌, length, take, drop, IfErr, Some}
+use Rattle.std.specs.Prelude.{◌≡◌, ◌≢◌, ◌⊎◌, ℕ, ◌+◌, ◌-◌, ◌^◌, ◌<◌, ◌≤◌, List, ◌++◌, length, take, drop, IfErr, Some}
 use Rattle.std.specs.declared.result.Result.{Result}
-use Rattle.std.specs.Int.{to_be_bytes, w64}
 use Rattle.sasi_types.specs.declared.tree.Pair.{Pair}
 use Rattle.sasi_types.specs.declared.tree.TreeRef.{TreeRef}
 use Rattle.sasi_host.specs.declared.name.FileName.{FileName}
 use Rattle.sasi_host.specs.declared.damage.Damage.{Damage}
-use Rattle.sasi_host.specs.declared.damage.Seen.{Seen}
 use Rattle.sasi_host.specs.declared.damage.FormatRule.TheVariants.{Short}
 use Rattle.sasi_host.specs.declared.fault.ReadFault.{ReadFault}
 use Rattle.sasi_host.specs.declared.fault.ReadFault.TheVariants as fault
@@ -14,6 +12,7 @@ use Rattle.sasi_host.specs.Names.{Bytes}
 use Rattle.sasi_host.specs.Damages.{OnDamage, seen_bytes}
 use Rattle.sasi_host.specs.View.{View, contents, Rose}
 use Rattle.sasi_tokentree.specs.Format.{pair_at, node, levels, IsRising, AreFit, HasTree}
+use Rattle.sasi_tokentree.specs.Damages.{HasAt, NodeBreaks}
 
 -- ---- causes
 
@@ -26,34 +25,15 @@ pub record ReadsAtMost {T : Type 0} (most : ℕ) (old new : View) (result : Resu
 
 -- ---- damage
 
--- these bytes stand at this place
-pub record HasAt (bytes : Bytes) (at : ℕ) (part : Bytes) : Type 0 where
-  pub front : Bytes
-  pub rest : Bytes
-  pub is : bytes ≡ front ++ part ++ rest
-  pub place : length front ≡ at
-
--- these are the bytes of the file from this place on, as many as they are
-pub record IsWindow (bytes : Bytes) (at : ℕ) (window : Bytes) : Type 0 where
-  pub is : window ≡ take (length window) (drop at bytes)
-  pub within : at ≤ length bytes
-
--- the damage is that this file is too short, and tells its size
-pub record TellsSize (bytes : Bytes) (damage : Damage) : Type 0 where
-  pub rule : damage.rule ≡ Short
-  pub place : damage.at ≡ length bytes
-  pub seen : seen_bytes damage.seen ≡ to_be_bytes w64 (length bytes)
-
--- the damage is that of this file, which has the seen bytes at the place, or is as short as they say
-pub record IsSeen (file : FileName) (bytes : Bytes) (damage : Damage) : Type 0 where
+-- the damage is that these bytes, which stand at a place of the file, aren't a node of this level and number of entries
+pub record IsInNode (file : FileName) (at : ℕ) (window : Bytes) (level count : ℕ) (damage : Damage) : Type 0 where
+  pub offset : ℕ
   pub named : damage.file ≡ file
-  pub stands : TellsSize bytes damage ⊎ HasAt bytes damage.at (seen_bytes damage.seen)
+  pub place : damage.at ≡ at + offset
+  pub long : damage.rule ≢ Short
+  pub breaks : NodeBreaks window (record { level = level; at = 0; count = count }) damage.rule offset (seen_bytes damage.seen)
 
--- damage is what the file shows as it reads
-abbrev pub IsShown : View → FileName → ReadFault → Type 0
-IsShown v file = OnDamage (λ damage. (bytes : Bytes) → contents v file ≡ Some bytes → IsSeen file bytes damage)
-
--- and no file with the tree is damaged
+-- no file with the tree is damaged
 abbrev pub Spares : View → FileName → TreeRef → ReadFault → Type 0
 Spares v file tree = OnDamage (λ _. (bytes : Bytes) (pairs : List Pair) → contents v file ≡ Some bytes → HasTree bytes tree pairs → ⊥)
 
@@ -92,13 +72,6 @@ pub record FindsBelow (entries : List Pair) (token count place : ℕ) : Type 0 w
 -- where damage is told, no node of so many entries stands there
 abbrev pub SparesNode : View → FileName → ℕ → ℕ → ℕ → ReadFault → Type 0
 SparesNode v file level at count = OnDamage (λ _. (bytes : Bytes) (entries : List Pair) → contents v file ≡ Some bytes → HasNode bytes level at entries → length entries ≡ count → ⊥)
-
--- damage in these bytes, which stand at a place of the file
-pub record IsSeenIn (file : FileName) (at : ℕ) (window : Bytes) (damage : Damage) : Type 0 where
-  pub offset : ℕ
-  pub named : damage.file ≡ file
-  pub place : damage.at ≡ at + offset
-  pub stands : HasAt window offset (seen_bytes damage.seen)
 
 -- where damage is told, no level of so many entries stands there with those above it
 abbrev pub SparesLevel : View → FileName → ℕ → ℕ → ℕ → ReadFault → Type 0

@@ -1,11 +1,12 @@
 -- A walk over the pairs of a tree.
-use Rattle.std.specs.Prelude.{◌≡◌, ℕ, List, [], ◌∷◌, drop, Option, None, Some}
+use Rattle.std.specs.Prelude.{◌≡◌, ℕ, ◌+◌, ◌*◌, ◌/◌, ◌%◌, ◌<◌, List, [], ◌∷◌, drop, Option, None, Some}
 use Rattle.sasi_types.specs.declared.tree.Pair.{Pair}
 use Rattle.sasi_types.specs.declared.tree.TreeRef.{TreeRef}
 use Rattle.sasi_host.specs.declared.name.FileName.{FileName}
 use Rattle.sasi_host.specs.Names.{Bytes}
 use Rattle.sasi_host.specs.View.{View, contents}
-use Rattle.sasi_tokentree.specs.Format.{HasTree}
+use Rattle.sasi_tokentree.specs.Format.{entry, AreFit, HasTree}
+use Rattle.sasi_tokentree.specs.Damages.{HasAt, start}
 use Rattle.sasi_tokentree.specs.Reads.{CountsBelow}
 
 -- what one knows of a tree in hand: where it is, and how many of its pairs were passed
@@ -18,6 +19,21 @@ pub record Walk : Type 0 where
 abbrev pub TakesNext : List Pair → ℕ → ℕ → Option Pair → Type 0
 TakesNext pairs from passed None = (drop from pairs ≡ []) × (passed ≡ from)
 TakesNext pairs from passed (Some pair) = drop from pairs ≡ pair ∷ drop passed pairs
+
+-- where the pair with this index stands: by its leaf, and by what is before it there
+abbrev pub pair_place : TreeRef → ℕ → ℕ
+pair_place tree index = start tree + 4088 * (index / 255) + (8 + 16 * (index % 255))
+
+-- the file has this pair as the entry with this index, whether or not the tree is right
+pub record HasEntry (bytes : Bytes) (tree : TreeRef) (index : ℕ) (pair : Pair) : Type 0 where
+  pub within : index < tree.pairs
+  pub stands : HasAt bytes (pair_place tree index) (entry pair)
+  pub fit : AreFit (pair ∷ [])
+
+-- what was found, if anything, is the last of the entries that were passed
+abbrev pub GivesEntry : View → FileName → TreeRef → ℕ → Option Pair → Type 0
+GivesEntry v file tree passed None = Unit {0}
+GivesEntry v file tree passed (Some pair) = (index : ℕ) × (passed ≡ index + 1) × ((bytes : Bytes) → contents v file ≡ Some bytes → HasEntry bytes tree index pair)
 
 -- where the file has the tree, this is the next of its pairs
 abbrev pub GivesNext : View → FileName → TreeRef → ℕ → ℕ → Option Pair → Type 0

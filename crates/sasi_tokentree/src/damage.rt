@@ -1,18 +1,16 @@
 // What a damaged file shows.
-ghost use Rattle.std.specs.Prelude.{◌≡◌, ◌≤◌, List, ℕ, Some};
-ghost use Rattle.sasi_host.specs.View.{IsThere, KeepsMoments, Rose, contents};
+ghost use Rattle.std.specs.Prelude.{◌≡◌, ◌≤◌};
+ghost use Rattle.sasi_host.specs.View.{IsThere, KeepsMoments, Rose};
 ghost use Rattle.sasi_host.specs.Disk.{Changes, Same};
-ghost use Rattle.sasi_host.specs.Damages.{OnDamage};
 ghost use Rattle.sasi_host.specs.declared.fault.ReadFault.TheVariants as fault;
-ghost use Rattle.sasi_tokentree.specs.Reads.{TellsSize};
+ghost use Rattle.sasi_tokentree.specs.Damages.{Shown, TellsSize};
 
 use sasi_host::{FileName, FormatRule, Host, ReadFault, found};
 
 // The file ends too early: its size is asked for, which is no read.
 pub fn too_short<H: Host>(host: &mut H, file: FileName) -> ReadFault
     requires { IsThere (H.view host.old) file }
-    ensures damaged { OnDamage (λ damage. (bytes : List ℕ) → contents (H.view host.old) file ≡ Some bytes → TellsSize bytes damage) result }
-    ensures file { OnDamage (λ damage. damage.file ≡ file) result }
+    ensures damaged { Shown (H.view host.old) file (TellsSize file) result }
     ensures changes { Changes Same (H.view host.old) (H.view host.new) }
     ensures moments { KeepsMoments (H.view host.old) (H.view host.new) }
     ensures disk { (H.view host.old).disk_faults ≤ (H.view host.new).disk_faults }

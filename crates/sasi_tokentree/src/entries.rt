@@ -1,9 +1,11 @@
 // The bytes of a node, read.
-ghost use Rattle.std.specs.Prelude.{◌≡◌, ◌≢◌, ◌+◌, ◌*◌, ◌^◌, ◌<◌, ◌≤◌, ℕ, List, length, take, drop, IfErr, IfOk, OnOk, IsTrue, ◌↔◌, false};
+ghost use Rattle.std.specs.Prelude.{◌≡◌, ◌≢◌, ◌+◌, ◌*◌, ◌^◌, ◌<◌, ◌≤◌, ℕ, List, length, take, drop, IfErr, IfOk, OnOk, IsTrue, false};
 ghost use Rattle.std.specs.Int.{to_be_bytes, w64};
 ghost use Rattle.sasi_types.specs.declared.tree.Pair.{Pair};
-ghost use Rattle.sasi_tokentree.specs.Format.{pair_at, head, node, AreFit, IsBefore, IsRising};
-ghost use Rattle.sasi_tokentree.specs.Reads.{FindsBelow, IsSeenIn};
+ghost use Rattle.sasi_host.specs.declared.damage.FormatRule.TheVariants.{Number};
+ghost use Rattle.sasi_tokentree.specs.Format.{pair_at, entry, head, node, AreFit, IsBefore, IsRising};
+ghost use Rattle.sasi_tokentree.specs.Damages.{HasAt, IsOther};
+ghost use Rattle.sasi_tokentree.specs.Reads.{FindsBelow, IsInNode};
 
 use crate::order::is_before;
 use sasi_fields::FieldReader;
@@ -36,7 +38,7 @@ fn check_part(
     requires place { at < 2 ^ 63 + 2 ^ 60 }
     requires offset { offset < 2 ^ 62 }
     ensures ok { OnOk result (take (length wanted.now) (drop offset bytes.now) ≡ wanted.now) }
-    ensures seen { IfErr result (IsSeenIn file at bytes.now) }
+    ensures seen { IfErr result (IsOther file at bytes.now offset wanted.now Number) }
     ensures differs { IfErr result (λ _. take (length wanted.now) (drop offset bytes.now) ≢ wanted.now) }
 {
     let seen = &bytes[offset..offset + wanted.len()];
@@ -57,7 +59,7 @@ pub fn check_head(
     requires whole { 8 ≤ length bytes.now }
     requires place { at < 2 ^ 63 + 2 ^ 60 }
     ensures ok { OnOk result (take 8 bytes.now ≡ head level count) }
-    ensures seen { IfErr result (IsSeenIn file at bytes.now) }
+    ensures seen { IfErr result (IsInNode file at bytes.now level count) }
     ensures differs { IfErr result (λ _. take 8 bytes.now ≢ head level count) }
 {
     check_part(file, at, bytes, 0, &[level])?;
@@ -78,7 +80,8 @@ pub fn number_in(field: &[u8]) -> u64
 // An entry of the node.
 pub fn entry_in(bytes: &[u8], index: usize) -> Pair
     requires { 24 + 16 * index ≤ length bytes.now }
-    ensures { (level : ℕ) (entries : List Pair) → AreFit entries → bytes.now ≡ node level entries → result ≡ pair_at entries index }
+    ensures stands { HasAt bytes.now (8 + 16 * index) (entry result) }
+    ensures is { (level : ℕ) (entries : List Pair) → AreFit entries → bytes.now ≡ node level entries → result ≡ pair_at entries index }
 {
     let at = HEAD + ENTRY * index;
     Pair {
@@ -109,7 +112,7 @@ pub fn find_below(
     requires place { at < 2 ^ 63 + 2 ^ 60 }
     ensures ok { IfOk result (λ below. (level : ℕ) (entries : List Pair) → AreFit entries → IsRising entries → bytes.now ≡ node level entries → FindsBelow entries token below.count below.place) }
     ensures within { IfOk result (λ below. below.count ≤ count) }
-    ensures seen { IfErr result (IsSeenIn file at bytes.now) }
+    ensures seen { (level : ℕ) → IfErr result (IsInNode file at bytes.now level count) }
     ensures spares { IfErr result (λ _. (level : ℕ) (entries : List Pair) → AreFit entries → IsRising entries → bytes.now ≡ node level entries → ⊥) }
 {
     let mut last = Pair { token: 0, place: 0 };

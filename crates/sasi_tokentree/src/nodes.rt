@@ -5,7 +5,8 @@ ghost use Rattle.sasi_host.specs.declared.name.FileName.{FileName};
 ghost use Rattle.sasi_host.specs.View.{IsThere, contents};
 ghost use Rattle.sasi_host.specs.Disk.{Changes, Same};
 ghost use Rattle.sasi_tokentree.specs.Format.{node};
-ghost use Rattle.sasi_tokentree.specs.Reads.{FindsBelow, HasNode, IsShown, IsWindow, ReadsAtMost, SparesNode};
+ghost use Rattle.sasi_tokentree.specs.Damages.{HasAt, ShownOf};
+ghost use Rattle.sasi_tokentree.specs.Reads.{FindsBelow, HasNode, ReadsAtMost, SparesNode};
 
 use crate::entries::{Below, ENTRY, HEAD, check_head, find_below};
 use crate::window::read_bytes;
@@ -28,8 +29,8 @@ fn read_node<H: Host, P: PageReader>(
     requires most { count ≤ 255 }
     requires whole { length out.old ≡ 8 + 16 * count }
     ensures ok { OnOk result ((bytes : List ℕ) (entries : List Pair) → contents (H.view host.old) file ≡ Some bytes → HasNode bytes level at entries → length entries ≡ count → out.new ≡ node level entries) }
-    ensures is { OnOk result ((bytes : List ℕ) → contents (H.view host.old) file ≡ Some bytes → IsWindow bytes at out.new) }
-    ensures damaged { IfErr result (IsShown (H.view host.old) file) }
+    ensures is { OnOk result ((bytes : List ℕ) → contents (H.view host.old) file ≡ Some bytes → HasAt bytes at out.new) }
+    ensures damaged { IfErr result (ShownOf (λ n. n ≡ record { level = level; at = at; count = count }) (H.view host.old) file) }
     ensures undamaged { IfErr result (SparesNode (H.view host.old) file level at count) }
     ensures agrees { P.agrees pages.new (H.view host.new).files }
     ensures covers { (name : FileName) → P.covers pages.new name → P.covers pages.old name ⊎ (name ≡ file) }
@@ -58,7 +59,7 @@ pub fn node_below<H: Host, P: PageReader>(
     ensures ok { IfOk result (λ below. (bytes : List ℕ) (entries : List Pair) → contents (H.view host.old) file ≡ Some bytes → HasNode bytes level at entries → length entries ≡ count
         → FindsBelow entries token below.count below.place) }
     ensures within { IfOk result (λ below. below.count ≤ count) }
-    ensures damaged { IfErr result (IsShown (H.view host.old) file) }
+    ensures damaged { IfErr result (ShownOf (λ n. n ≡ record { level = level; at = at; count = count }) (H.view host.old) file) }
     ensures undamaged { IfErr result (SparesNode (H.view host.old) file level at count) }
     ensures agrees { P.agrees pages.new (H.view host.new).files }
     ensures covers { (name : FileName) → P.covers pages.new name → P.covers pages.old name ⊎ (name ≡ file) }

@@ -6,7 +6,8 @@ ghost use Rattle.sasi_host.specs.View.{IsThere, contents};
 ghost use Rattle.sasi_host.specs.Disk.{Changes, Same};
 ghost use Rattle.sasi_tokentree.specs.Format.{part};
 ghost use Rattle.sasi_tokentree.specs.Heights.{greatest, height, lead};
-ghost use Rattle.sasi_tokentree.specs.Reads.{FindsBelow, IsShown, ReadsAtMost, SparesLevel, StandsFrom};
+ghost use Rattle.sasi_tokentree.specs.Damages.{IsNodeFrom, ShownOf};
+ghost use Rattle.sasi_tokentree.specs.Reads.{FindsBelow, ReadsAtMost, SparesLevel, StandsFrom};
 
 use crate::entries::Below;
 use crate::nodes::node_below;
@@ -44,7 +45,7 @@ pub fn count_below<H: Host, P: PageReader>(
     ensures ok { IfOk result (λ below. (bytes : List ℕ) (entries : List Pair) → contents (H.view host.old) file ≡ Some bytes → StandsFrom bytes level at entries → length entries ≡ count
         → FindsBelow entries token below.count below.place) }
     ensures within { IfOk result (λ below. below.count ≤ count) }
-    ensures damaged { IfErr result (IsShown (H.view host.old) file) }
+    ensures damaged { IfErr result (ShownOf (λ n. IsNodeFrom n level at count) (H.view host.old) file) }
     ensures undamaged { IfErr result (SparesLevel (H.view host.old) file level at count) }
     ensures agrees { P.agrees pages.new (H.view host.new).files }
     ensures covers { (name : FileName) → P.covers pages.new name → P.covers pages.old name ⊎ (name ≡ file) }
@@ -86,7 +87,7 @@ fn count_in_node<H: Host, P: PageReader>(
     ensures ok { IfOk result (λ below. (bytes : List ℕ) (entries : List Pair) → contents (H.view host.old) file ≡ Some bytes → StandsFrom bytes level at entries → length entries ≡ count
         → FindsBelow (part entries node) token below.count below.place) }
     ensures within { IfOk result (λ below. 255 * node + below.count ≤ count) }
-    ensures damaged { IfErr result (IsShown (H.view host.old) file) }
+    ensures damaged { IfErr result (ShownOf (λ n. IsNodeFrom n level at count) (H.view host.old) file) }
     ensures undamaged { IfErr result (SparesLevel (H.view host.old) file level at count) }
     ensures agrees { P.agrees pages.new (H.view host.new).files }
     ensures covers { (name : FileName) → P.covers pages.new name → P.covers pages.old name ⊎ (name ≡ file) }

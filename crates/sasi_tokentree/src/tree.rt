@@ -4,8 +4,9 @@ ghost use Rattle.sasi_host.specs.declared.name.FileName.{FileName};
 ghost use Rattle.sasi_host.specs.View.{IsThere};
 ghost use Rattle.sasi_host.specs.Disk.{Changes, Same};
 ghost use Rattle.sasi_tokentree.specs.Heights.{height};
-ghost use Rattle.sasi_tokentree.specs.Reads.{IsShown, ReadsAtMost, Spares};
-ghost use Rattle.sasi_tokentree.specs.Walks.{GivesFrom, GivesNext};
+ghost use Rattle.sasi_tokentree.specs.Damages.{Shown, ShowsTree};
+ghost use Rattle.sasi_tokentree.specs.Reads.{ReadsAtMost, Spares};
+ghost use Rattle.sasi_tokentree.specs.Walks.{GivesEntry, GivesFrom, GivesNext};
 
 use crate::walk::{first_from, pair_from};
 use sasi_host::{FileName, Host, PageReader, ReadFault};
@@ -50,7 +51,9 @@ impl Tree {
         requires there { IsThere (H.view host.old) self.old.file }
         requires agrees { P.agrees pages.old (H.view host.old).files }
         ensures ok { IfOk result (λ found. GivesFrom (H.view host.old) self.old.file self.old.tree token self.new.passed found) }
-        ensures damaged { IfErr result (IsShown (H.view host.old) self.old.file) }
+        // In any file it is an entry of a leaf.
+        ensures stands { IfOk result (λ found. GivesEntry (H.view host.old) self.old.file self.old.tree self.new.passed found) }
+        ensures damaged { IfErr result (Shown (H.view host.old) self.old.file (ShowsTree self.old.file self.old.tree)) }
         ensures undamaged { IfErr result (Spares (H.view host.old) self.old.file self.old.tree) }
         ensures agrees { P.agrees pages.new (H.view host.new).files }
         ensures covers { (name : FileName) → P.covers pages.new name → P.covers pages.old name ⊎ (name ≡ self.old.file) }
@@ -74,7 +77,9 @@ impl Tree {
         requires there { IsThere (H.view host.old) self.old.file }
         requires agrees { P.agrees pages.old (H.view host.old).files }
         ensures ok { IfOk result (λ found. GivesNext (H.view host.old) self.old.file self.old.tree self.old.passed self.new.passed found) }
-        ensures damaged { IfErr result (IsShown (H.view host.old) self.old.file) }
+        // In any file it is an entry of a leaf.
+        ensures stands { IfOk result (λ found. GivesEntry (H.view host.old) self.old.file self.old.tree self.new.passed found) }
+        ensures damaged { IfErr result (Shown (H.view host.old) self.old.file (ShowsTree self.old.file self.old.tree)) }
         ensures undamaged { IfErr result (Spares (H.view host.old) self.old.file self.old.tree) }
         ensures agrees { P.agrees pages.new (H.view host.new).files }
         ensures covers { (name : FileName) → P.covers pages.new name → P.covers pages.old name ⊎ (name ≡ self.old.file) }

@@ -1,13 +1,14 @@
 // One pair of a tree after another.
-ghost use Rattle.std.specs.Prelude.{◌≡◌, ◌⊎◌, ◌+◌, ◌-◌, ◌*◌, ◌^◌, ◌<◌, ◌≤◌, List, ℕ, length, IfErr, IfOk, IsTrue, Some, false};
+ghost use Rattle.std.specs.Prelude.{◌≡◌, ◌⊎◌, ◌+◌, ◌-◌, ◌*◌, ◌/◌, ◌%◌, ◌^◌, ◌<◌, ◌≤◌, List, ℕ, length, IfErr, IfOk, IsTrue, Some, false};
 ghost use Rattle.sasi_types.specs.declared.tree.Pair.{Pair};
 ghost use Rattle.sasi_host.specs.declared.name.FileName.{FileName};
 ghost use Rattle.sasi_host.specs.View.{IsThere, contents};
 ghost use Rattle.sasi_host.specs.Disk.{Changes, Same};
-ghost use Rattle.sasi_tokentree.specs.Format.{pair_at};
+ghost use Rattle.sasi_tokentree.specs.Format.{pair_at, entry};
+ghost use Rattle.sasi_tokentree.specs.Damages.{HasAt, IsNodeOf, Shown, ShowsEnd, ShownOf};
 ghost use Rattle.sasi_tokentree.specs.Heights.{height, lead};
-ghost use Rattle.sasi_tokentree.specs.Reads.{IsShown, ReadsAtMost, Spares, SparesPair, StandsFrom};
-ghost use Rattle.sasi_tokentree.specs.Walks.{GivesFrom, GivesNext};
+ghost use Rattle.sasi_tokentree.specs.Reads.{ReadsAtMost, Spares, SparesPair, StandsFrom};
+ghost use Rattle.sasi_tokentree.specs.Walks.{GivesEntry, GivesFrom, GivesNext};
 
 use crate::damage::too_short;
 use crate::entries::{ENTRY, HEAD, number_in};
@@ -60,7 +61,8 @@ fn read_pair<H: Host, P: PageReader>(
     requires agrees { P.agrees pages.old (H.view host.old).files }
     requires place { at + 17 * index < 2 ^ 63 + 2 ^ 59 }
     ensures ok { IfOk result (λ pair. (bytes : List ℕ) (entries : List Pair) → contents (H.view host.old) file ≡ Some bytes → StandsFrom bytes 0 at entries → index < length entries → pair ≡ pair_at entries index) }
-    ensures damaged { IfErr result (IsShown (H.view host.old) file) }
+    ensures stands { IfOk result (λ pair. (bytes : List ℕ) → contents (H.view host.old) file ≡ Some bytes → HasAt bytes (at + 4088 * (index / 255) + (8 + 16 * (index % 255))) (entry pair)) }
+    ensures damaged { IfErr result (Shown (H.view host.old) file (ShowsEnd (at + 4088 * (index / 255) + (8 + 16 * (index % 255)) + 16) file)) }
     ensures undamaged { IfErr result (SparesPair (H.view host.old) file at index) }
     ensures agrees { P.agrees pages.new (H.view host.new).files }
     ensures covers { (name : FileName) → P.covers pages.new name → P.covers pages.old name ⊎ (name ≡ file) }
@@ -88,7 +90,8 @@ pub fn pair_from<H: Host, P: PageReader>(
     requires there { IsThere (H.view host.old) file }
     requires agrees { P.agrees pages.old (H.view host.old).files }
     ensures ok { IfOk result (λ found. GivesNext (H.view host.old) file tree passed found.passed found.pair) }
-    ensures damaged { IfErr result (IsShown (H.view host.old) file) }
+    ensures stands { IfOk result (λ found. GivesEntry (H.view host.old) file tree found.passed found.pair) }
+    ensures damaged { IfErr result (ShownOf (IsNodeOf tree) (H.view host.old) file) }
     ensures undamaged { IfErr result (Spares (H.view host.old) file tree) }
     ensures agrees { P.agrees pages.new (H.view host.new).files }
     ensures covers { (name : FileName) → P.covers pages.new name → P.covers pages.old name ⊎ (name ≡ file) }
@@ -119,7 +122,8 @@ pub fn first_from<H: Host, P: PageReader>(
     requires there { IsThere (H.view host.old) file }
     requires agrees { P.agrees pages.old (H.view host.old).files }
     ensures ok { IfOk result (λ found. GivesFrom (H.view host.old) file tree token found.passed found.pair) }
-    ensures damaged { IfErr result (IsShown (H.view host.old) file) }
+    ensures stands { IfOk result (λ found. GivesEntry (H.view host.old) file tree found.passed found.pair) }
+    ensures damaged { IfErr result (ShownOf (IsNodeOf tree) (H.view host.old) file) }
     ensures undamaged { IfErr result (Spares (H.view host.old) file tree) }
     ensures agrees { P.agrees pages.new (H.view host.new).files }
     ensures covers { (name : FileName) → P.covers pages.new name → P.covers pages.old name ⊎ (name ≡ file) }

@@ -3,8 +3,8 @@ ghost use Rattle.std.specs.Prelude.{◌≡◌, ◌⊎◌, ◌+◌, ◌%◌, ◌^
 ghost use Rattle.sasi_host.specs.declared.name.FileName.{FileName};
 ghost use Rattle.sasi_host.specs.View.{IsThere, KeepsMoments, contents};
 ghost use Rattle.sasi_host.specs.Disk.{Changes, Same};
-ghost use Rattle.sasi_tokentree.specs.Reads.{IsShown, ReadsAtMost};
-ghost use Rattle.sasi_host.specs.Damages.{OnDamage};
+ghost use Rattle.sasi_tokentree.specs.Damages.{Shown, ShowsEnd};
+ghost use Rattle.sasi_tokentree.specs.Reads.{ReadsAtMost};
 
 use crate::damage::too_short;
 use sasi_host::{FileName, Host, PageReader, ReadFault};
@@ -24,8 +24,7 @@ fn read_within<H: Host, P: PageReader>(
     requires page { at % 4096 + length out.old ≤ 4096 }
     ensures ok { OnOk result ((bytes : List ℕ) → contents (H.view host.old) file ≡ Some bytes → out.new ≡ take (length out.old) (drop at bytes)) }
     ensures within { OnOk result ((bytes : List ℕ) → contents (H.view host.old) file ≡ Some bytes → 0 < length out.old → at + length out.old ≤ length bytes) }
-    ensures damaged { IfErr result (IsShown (H.view host.old) file) }
-    ensures short { IfErr result (OnDamage (λ _. (bytes : List ℕ) → contents (H.view host.old) file ≡ Some bytes → length bytes < at + length out.old)) }
+    ensures damaged { IfErr result (Shown (H.view host.old) file (ShowsEnd (at + length out.old) file)) }
     ensures agrees { P.agrees pages.new (H.view host.new).files }
     ensures covers { (name : FileName) → P.covers pages.new name → P.covers pages.old name ⊎ (name ≡ file) }
     ensures changes { Changes Same (H.view host.old) (H.view host.new) }
@@ -57,8 +56,7 @@ pub fn read_bytes<H: Host, P: PageReader>(
     requires most { length out.old ≤ 4096 }
     ensures ok { OnOk result ((bytes : List ℕ) → contents (H.view host.old) file ≡ Some bytes → out.new ≡ take (length out.old) (drop at bytes)) }
     ensures within { OnOk result ((bytes : List ℕ) → contents (H.view host.old) file ≡ Some bytes → at + length out.old ≤ length bytes) }
-    ensures damaged { IfErr result (IsShown (H.view host.old) file) }
-    ensures short { IfErr result (OnDamage (λ _. (bytes : List ℕ) → contents (H.view host.old) file ≡ Some bytes → length bytes < at + length out.old)) }
+    ensures damaged { IfErr result (Shown (H.view host.old) file (ShowsEnd (at + length out.old) file)) }
     ensures agrees { P.agrees pages.new (H.view host.new).files }
     ensures covers { (name : FileName) → P.covers pages.new name → P.covers pages.old name ⊎ (name ≡ file) }
     ensures changes { Changes Same (H.view host.old) (H.view host.new) }

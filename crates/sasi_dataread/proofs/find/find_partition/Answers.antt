@@ -1,15 +1,22 @@
-use Rattle.std.proofs.Common.{◌+◌, ◌*◌, inl, inr, sym, ◌∙◌, ap, arith, refl, ⊎_elim, Ok, Err}
+use Rattle.std.proofs.Common.{◌+◌, ◌*◌, inl, inr, sym, ◌∙◌, ap, subst, arith, refl, ⊎_elim, Option, Some, Ok, Err}
 use Rattle.std.proofs.lemmas.Result.{err_from_is_err_and}
+use Rattle.sasi_types.specs.declared.tree.Pair.{Pair}
 use Rattle.sasi_types.specs.declared.tree.TreeRef.{TreeRef}
 use Rattle.sasi_host.specs.Disk.{Same}
 use Rattle.sasi_host.specs.Moves.{then_same}
 use Rattle.sasi_tokentree.specs.Heights.{height}
-use Rattle.sasi_tokentree.specs.Walks.{Walk}
+use Rattle.sasi_tokentree.specs.Showing.{shown_before}
+use Rattle.sasi_tokentree.specs.Walks.{GivesEntry, Walk}
 use Rattle.sasi_dataread.specs.Laws.{pairs_are}
-use Rattle.sasi_dataread.proofs.Runs.{causes_fault, causes_ok, passes_on, shown_before, there_same}
-use Rattle.sasi_dataread.proofs.Walking.{next_takes, open_same, tree_spares}
-use Rattle.sasi_dataread.proofs.Finding.{all_passed, first_causes, first_passes, found_here, here_costs, here_spares, none_here, searches_on, spares_before, shown_in, stands_here, starts}
+use Rattle.sasi_dataread.proofs.Runs.{causes_fault, causes_ok, passes_on, there_same}
+use Rattle.sasi_dataread.proofs.Walking.{entry_before, entry_of, next_takes, open_same, partition_shown, tree_shown, tree_spares}
+use Rattle.sasi_dataread.proofs.Finding.{all_passed, first_causes, first_passes, found_here, here_costs, here_spares, none_here, searches_on, spares_before, stands_here, starts}
 use Rattle.sasi_dataread.proofs.find.find_partition.Goals as goal
+
+pub returns-in_err-next-clause-damaged : goal.returns-in_err-next-clause-damaged
+returns-in_err-next-clause-damaged g c =
+    let p = err_from_is_err_and c.from_residual.result c.from_residual.ensures.1 in
+    rw (p.1, p.2) (tree_shown (g.H.Host.view c.args.host.now) c.args.opened.now c.tree-tree.result.file c.tree-tree.result.tree c.in_err-next.field-0.0 (ap (λ (w : Walk). w.file) c.tree-tree.ensures) (ap (λ (w : Walk). w.tree) c.tree-tree.ensures) c.in_err-next.ensures.damaged)
 
 pub returns-in_err-next-clause-undamaged : goal.returns-in_err-next-clause-undamaged
 returns-in_err-next-clause-undamaged g c =
@@ -29,6 +36,7 @@ loop-turn-init g c =
       passes = λ most le. first_passes v w (2 * height most c.args.opened.now.tree.pairs + 2) (2 * height most c.args.opened.now.tree.pairs + 2 + 0) c.first.result c.first.ensures.changes (first_causes v w c.args.opened.now c.tree-tree.result c.first.result c.tree-tree.ensures c.first.ensures.causes most le) (omega arith);
       file = c.first.ensures.file ∙ file_is;
       tree = c.first.ensures.tree ∙ ap (λ (t : Walk). t.tree) c.tree-tree.ensures;
+      entry = entry_of v c.args.opened.now c.tree-tree.result.file c.tree-tree.result.tree c.first.new.self.passed c.in_ok-next.next file_is (ap (λ (t : Walk). t.tree) c.tree-tree.ensures) c.in_ok-next.ensures.stands;
       searches = starts v w c.args.opened.now c.tree-tree.result c.args.token c.args.key.now c.first.new.self.passed c.in_ok-next.next c.first.result c.tree-tree.ensures (λ bytes is. (g.met.H.Host.sound c.args.host.now).fits c.args.opened.now.file bytes is) c.in_ok-next.ensures.ok c.first.ensures.causes;
     }
 
@@ -42,7 +50,11 @@ returns-in_default-clause-reads g c most partitioner content le is have = let s 
 pub returns-in_err-found-clause-damaged : goal.returns-in_err-found-clause-damaged
 returns-in_err-found-clause-damaged g c =
     let p = err_from_is_err_and c.from_residual-in_err-found.result c.from_residual-in_err-found.ensures.1 in
-    rw (p.1, p.2) (shown_before _ _ c.args.opened.now.file c.in_err-found.field-0.0 c.loop-turn.invariant.changes c.in_err-found.ensures.damaged)
+    let v = g.H.Host.view c.args.host.now in
+    let pair : Pair = record { token = c.args.token; place = c.in-Some.place } in
+    rw (p.1, p.2) (partition_shown v c.args.opened.now c.loop-turn.tree.passed pair c.in_err-found.field-0.0
+    (subst (λ (o : Option Pair). GivesEntry v c.args.opened.now.file c.args.opened.now.tree c.loop-turn.tree.passed o) c.in-Some.ensures c.loop-turn.invariant.entry)
+    (shown_before _ v _ c.args.opened.now.file c.in_err-found.field-0.0 c.loop-turn.invariant.changes c.in_err-found.ensures.damaged))
 
 pub returns-in_err-found-clause-undamaged : goal.returns-in_err-found-clause-undamaged
 returns-in_err-found-clause-undamaged g c =
@@ -87,7 +99,9 @@ returns-then-is_some-clause-reads g c most partitioner content le is have =
 pub returns-in_err-next-2-clause-damaged : goal.returns-in_err-next-2-clause-damaged
 returns-in_err-next-2-clause-damaged g c =
     let p = err_from_is_err_and c.from_residual-in_err-next-2.result c.from_residual-in_err-next-2.ensures.1 in
-    rw (p.1, p.2) (shown_in _ _ c.loop-turn.tree.file c.args.opened.now.file c.in_err-next-2.field-0.0 c.loop-turn.invariant.file (then_same _ _ _ Same c.loop-turn.invariant.changes c.part_with.ensures.changes) c.in_err-next-2.ensures.damaged)
+    let v = g.H.Host.view c.args.host.now in
+    rw (p.1, p.2) (tree_shown v c.args.opened.now c.loop-turn.tree.file c.loop-turn.tree.tree c.in_err-next-2.field-0.0 c.loop-turn.invariant.file c.loop-turn.invariant.tree
+    (shown_before _ v _ c.loop-turn.tree.file c.in_err-next-2.field-0.0 (then_same _ _ _ Same c.loop-turn.invariant.changes c.part_with.ensures.changes) c.in_err-next-2.ensures.damaged))
 
 pub returns-in_err-next-2-clause-undamaged : goal.returns-in_err-next-2-clause-undamaged
 returns-in_err-next-2-clause-undamaged g c =
@@ -133,6 +147,7 @@ loop-turn-preserved g c =
           passes_on _ _ _ (spent + 2051) 2 _ c.next.result (passes_on _ _ _ spent 2051 (spent + 2051) c.part_with.result (here.passes most le) c.part_with.ensures.causes c.part_with.ensures.changes (omega arith)) c.next.ensures.causes c.next.ensures.changes (omega arith);
       file = c.next.ensures.file ∙ here.file;
       tree = c.next.ensures.tree ∙ here.tree;
+      entry = entry_of v c.args.opened.now c.loop-turn.tree.file c.loop-turn.tree.tree c.next.new.self.passed c.in_ok-next-2.next here.file here.tree (entry_before v w c.loop-turn.tree.file c.loop-turn.tree.tree c.next.new.self.passed c.in_ok-next-2.next change c.in_ok-next-2.ensures.stands);
       searches = λ most partitioner content le is have.
           searches_on v _ c.args.opened.now partitioner content c.args.token c.args.key.now c.loop-turn._turn c.loop-turn.tree.passed c.in-Some.place _ _ c.next.new.self.passed (g.H.Host.view c.next.new.host).reads c.loop-turn.next c.in_ok-next-2.next c.in_ok-found.found is here.changes (here.searches most partitioner content le is have) c.in-Some.ensures c.in_ok-found.ensures.ok (sym c.if-is_some.ensures)
           (λ k p there at. let cost = c.part_with.ensures.reads partitioner content k p there at in omega (arith, cost, c.next.ensures.causes.reads))

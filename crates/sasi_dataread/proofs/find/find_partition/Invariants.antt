@@ -4,6 +4,7 @@ use Rattle.sasi_host.specs.declared.name.FileName.{FileName}
 use Rattle.sasi_host.specs.View.{IsThere}
 use Rattle.sasi_host.specs.Disk.{Changes, Same}
 use Rattle.sasi_tokentree.specs.Heights.{height}
+use Rattle.sasi_tokentree.specs.Walks.{GivesEntry}
 use Rattle.sasi_datawrite.specs.Format.{Content, header}
 use Rattle.sasi_dataread.specs.Reads.{IsOpenOn, Passes}
 use Rattle.sasi_dataread.specs.Walks.{HaveTokens}
@@ -23,6 +24,7 @@ invariant-loop-turn g l =
       passes : (most : ℕ) → pairs ≤ most → Passes (2 * height most pairs + 2 + 2053 * l._turn) (view l.fn.host) (view l.host);
       file : l.tree.file ≡ l.opened.file;
       tree : l.tree.tree ≡ l.opened.tree;
+      entry : GivesEntry (view l.fn.host) l.opened.file l.opened.tree l.tree.passed l.next;
       searches : (most : ℕ) (partitioner : Partitioner) (content : Content) → pairs ≤ most → IsOpenOn (view l.fn.host) l.opened partitioner content → HaveTokens partitioner content
           → Searches partitioner content l.token l.key l._turn l.tree.passed l.next (view l.host).reads ((view l.fn.host).reads + (2 * height most pairs + 2 + token_cost partitioner l.token (length header) content));
     }

@@ -1,7 +1,7 @@
-use Rattle.std.proofs.Common.{arith}
-use Rattle.sasi_dataread.proofs.Framing.{seen_in}
+use Rattle.std.proofs.Common.{arith, rules}
+use Rattle.sasi_tokentree.specs.Places.{other_at}
 use Rattle.sasi_dataread.proofs.frame.check_part.Goals as goal
 
 pub returns-then-ne-clause-seen : goal.returns-then-ne-clause-seen
 returns-then-ne-clause-seen c =
-    seen_in c.args.file c.args.at c.args.bytes.now c.args.offset _ c.found.result (omega (arith, c.requires.whole)) c.found.ensures.file c.found.ensures.at c.found.ensures.seen
+    other_at c.args.file c.args.at c.args.bytes.now c.args.offset _ c.args.wanted.now c.args.rule c.found.result (omega arith) (omega (arith, c.requires.whole)) c.found.ensures.file c.found.ensures.at c.found.ensures.rule c.found.ensures.seen (search rules)

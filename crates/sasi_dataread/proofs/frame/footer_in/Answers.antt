@@ -1,20 +1,21 @@
-use Rattle.std.proofs.Common.{◌≡◌, arith}
-use Rattle.sasi_dataread.proofs.Framing.{seen_in, footer_is, footer_end, footer_pairs, field_same}
+use Rattle.std.proofs.Common.{◌≡◌, arith, ⊎_elim}
+use Rattle.sasi_dataread.proofs.Framing.{end_field_shown, count_field_shown, footer_is, footer_end, footer_pairs, field_same}
 use Rattle.sasi_dataread.proofs.frame.footer_in.Goals as goal
 
 pub returns-then-is_wrong_end-clause-seen : goal.returns-then-is_wrong_end-clause-seen
-returns-then-is_wrong_end-clause-seen c =
-    seen_in c.args.file c.args.at c.args.bytes.now 24 8 c.found.result (omega (arith, c.requires.whole)) c.found.ensures.file c.found.ensures.at c.found.ensures.seen
+returns-then-is_wrong_end-clause-seen c whole has sized =
+    end_field_shown c.args.file whole c.args.bytes.now c.args.at c.number_in-end.result c.found.result c.requires.whole sized has c.found.ensures.file c.found.ensures.rule c.found.ensures.at c.found.ensures.seen c.number_in-end.ensures (omega arith)
+    (c.is_wrong_end.ensures.wrong c.if-is_wrong_end.true)
 
 pub returns-then-is_wrong_end-clause-spares : goal.returns-then-is_wrong_end-clause-spares
 returns-then-is_wrong_end-clause-spares c tree latest end is ranges =
     let same : c.number_in-end.result ≡ end = field_same c.args.bytes.now _ 24 c.number_in-end.result end (omega arith) ranges.end_fits c.number_in-end.ensures is (footer_end tree latest end) in
-    let over = c.is_wrong_end.ensures.wrong c.if-is_wrong_end.true (omega (arith, same, ranges.behind)) in
-    omega (arith, over, same, ranges.within)
+    ⊎_elim (λ few. omega (arith, few, same, ranges.behind)) (λ far. omega (arith, far, same, ranges.within)) (c.is_wrong_end.ensures.wrong c.if-is_wrong_end.true)
 
 pub returns-then-pairs-eq0-clause-seen : goal.returns-then-pairs-eq0-clause-seen
-returns-then-pairs-eq0-clause-seen c =
-    seen_in c.args.file c.args.at c.args.bytes.now 8 8 c.found-then-pairs-eq0.result (omega (arith, c.requires.whole)) c.found-then-pairs-eq0.ensures.file c.found-then-pairs-eq0.ensures.at c.found-then-pairs-eq0.ensures.seen
+returns-then-pairs-eq0-clause-seen c whole has sized =
+    count_field_shown c.args.file whole c.args.bytes.now c.args.at c.number_in-pairs.result c.found-then-pairs-eq0.result c.requires.whole sized has c.found-then-pairs-eq0.ensures.file c.found-then-pairs-eq0.ensures.rule c.found-then-pairs-eq0.ensures.at
+    c.found-then-pairs-eq0.ensures.seen c.number_in-pairs.ensures (omega arith)
 
 pub returns-then-pairs-eq0-clause-spares : goal.returns-then-pairs-eq0-clause-spares
 returns-then-pairs-eq0-clause-spares c tree latest end is ranges =

@@ -1,12 +1,14 @@
-use Rattle.std.proofs.Common.{◌-◌, ℕ, List, length, sym, ◌∙◌, ap, subst, arith}
+use Rattle.std.proofs.Common.{◌≡◌, ◌-◌, ◌≤◌, ℕ, List, length, sym, ◌∙◌, ap, subst, arith, lit≤}
+use Rattle.std.specs.Int.{to_be_bytes, w64}
 use Rattle.std.proofs.lemmas.Result.{err_from_is_err_and}
 use Rattle.sasi_host.specs.Disk.{Same}
 use Rattle.sasi_host.specs.Contents.{contents_same}
 use Rattle.sasi_host.specs.Moves.{then_same}
-use Rattle.sasi_tokentree.specs.Reads.{HasAt}
+use Rattle.sasi_tokentree.specs.Damages.{HasAt}
+use Rattle.sasi_tokentree.specs.Showing.{shown_as, shown_before}
+use Rattle.sasi_dataread.specs.Damages.{ShowsFrame}
 use Rattle.sasi_dataread.specs.Laws.{least_size}
-use Rattle.sasi_dataread.proofs.Runs.{shown_before}
-use Rattle.sasi_dataread.proofs.Framing.{window_seen, header_spares, footer_spares, range_spares}
+use Rattle.sasi_dataread.proofs.Framing.{end_frames, header_spares, footer_spares, range_spares}
 use Rattle.sasi_dataread.proofs.frame.read_frame.Goals as goal
 
 pub returns-then-size-lt-LEAST_SIZE-clause-undamaged : goal.returns-then-size-lt-LEAST_SIZE-clause-undamaged
@@ -14,10 +16,20 @@ returns-then-size-lt-LEAST_SIZE-clause-undamaged g c bytes partitioner types con
     let size = c.in_ok-size.ensures.ok bytes is in
     omega (arith, size, least_size partitioner types bytes content of)
 
+pub returns-then-size-lt-LEAST_SIZE-clause-damaged : goal.returns-then-size-lt-LEAST_SIZE-clause-damaged
+returns-then-size-lt-LEAST_SIZE-clause-damaged g c bytes is =
+    let size = c.in_ok-size.ensures.ok bytes is in
+    end_frames 97 c.args.file bytes c.found-damage.result (lit≤ tt) (record {
+      tells = record { named = c.found-damage.ensures.file; rule = c.found-damage.ensures.rule; place = c.found-damage.ensures.at ∙ size; seen = c.found-damage.ensures.seen ∙ c.to_be_bytes.ensures ∙ ap (λ (n : ℕ). to_be_bytes w64 n) size };
+      short = omega (arith, size);
+    })
+
 pub returns-in_err-bytes-clause-damaged : goal.returns-in_err-bytes-clause-damaged
 returns-in_err-bytes-clause-damaged g c =
     let p = err_from_is_err_and c.from_residual-in_err-bytes.result c.from_residual-in_err-bytes.ensures.1 in
-    rw (p.1, p.2) (shown_before _ _ c.args.file c.in_err-bytes.field-0.0 c.size.ensures.changes c.in_err-bytes.ensures.damaged)
+    let view = g.H.Host.view in
+    rw (p.1, p.2) (shown_as (λ bytes damage. c.in_ok-size.size ≡ length bytes → ShowsFrame c.args.file bytes damage) (ShowsFrame c.args.file) (view c.args.host.now) c.args.file c.in_err-bytes.field-0.0 (λ bytes damage is shows. shows (c.in_ok-size.ensures.ok bytes is))
+    (shown_before _ (view c.args.host.now) _ c.args.file c.in_err-bytes.field-0.0 c.size.ensures.changes c.in_err-bytes.ensures.damaged))
 
 pub returns-in_err-bytes-clause-undamaged : goal.returns-in_err-bytes-clause-undamaged
 returns-in_err-bytes-clause-undamaged g c =
@@ -30,7 +42,7 @@ returns-in_err-bytes-clause-changes g c = then_same _ _ _ Same c.size.ensures.ch
 pub returns-in_err-read_header-clause-damaged : goal.returns-in_err-read_header-clause-damaged
 returns-in_err-read_header-clause-damaged g c =
     let p = err_from_is_err_and c.from_residual-in_err-read_header.result c.from_residual-in_err-read_header.ensures.1 in
-    rw (p.1, p.2) (shown_before _ _ c.args.file c.in_err-read_header.field-0.0 (then_same _ _ _ Same c.size.ensures.changes c.read_end.ensures.changes) c.in_err-read_header.ensures.damaged)
+    rw (p.1, p.2) (shown_before _ (g.H.Host.view c.args.host.now) _ c.args.file c.in_err-read_header.field-0.0 (then_same _ _ _ Same c.size.ensures.changes c.read_end.ensures.changes) c.in_err-read_header.ensures.damaged)
 
 pub returns-in_err-read_header-clause-undamaged : goal.returns-in_err-read_header-clause-undamaged
 returns-in_err-read_header-clause-undamaged g c =
@@ -43,8 +55,9 @@ returns-in_err-read_header-clause-changes g c = then_same _ _ _ Same (then_same 
 pub returns-in_err-footer-clause-damaged : goal.returns-in_err-footer-clause-damaged
 returns-in_err-footer-clause-damaged g c =
     let p = err_from_is_err_and c.from_residual-in_err-footer.result c.from_residual-in_err-footer.ensures.1 in
-    rw (p.1, p.2) (λ bytes is. window_seen c.args.file bytes (c.in_ok-size.size - 40) c.deref.result.now c.in_err-footer.field-0.0
-    (subst (λ (l : List ℕ). HasAt bytes (c.in_ok-size.size - 40) l) (sym c.deref.ensures.value) (c.in_ok-bytes.ensures.ok bytes (contents_same _ _ c.args.file c.size.ensures.changes ∙ is))) c.in_err-footer.ensures.seen)
+    let long : 97 ≤ c.in_ok-size.size = omega arith in
+    rw (p.1, p.2) (λ bytes is. let sized = c.in_ok-size.ensures.ok bytes is in
+    c.in_err-footer.ensures.seen bytes (subst (λ (l : List ℕ). HasAt bytes (c.in_ok-size.size - 40) l) (sym c.deref.ensures.value) (c.in_ok-bytes.ensures.ok bytes (contents_same _ _ c.args.file c.size.ensures.changes ∙ is))) (omega (arith, sized, long)))
 
 pub returns-in_err-footer-clause-undamaged : goal.returns-in_err-footer-clause-undamaged
 returns-in_err-footer-clause-undamaged g c =

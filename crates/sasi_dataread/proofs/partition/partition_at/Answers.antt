@@ -2,10 +2,15 @@ use Rattle.std.proofs.Common.{◌≡◌, sym, ◌∙◌, subst}
 use Rattle.std.proofs.lemmas.Result.{err_from_is_err_and}
 use Rattle.sasi_host.specs.Names.{Bytes}
 use Rattle.sasi_body.specs.Seen.{IsFaultOf}
-use Rattle.sasi_tokentree.specs.Reads.{HasAt}
+use Rattle.sasi_tokentree.specs.Damages.{HasAt}
 use Rattle.sasi_dataread.specs.Bodies.{sized}
 use Rattle.sasi_dataread.proofs.Bodies.{body_spares, fault_spares, fault_shown}
 use Rattle.sasi_dataread.proofs.partition.partition_at.Goals as goal
+
+pub returns-in_err-bytes-clause-damaged : goal.returns-in_err-bytes-clause-damaged
+returns-in_err-bytes-clause-damaged g c =
+    let p = err_from_is_err_and c.from_residual.result c.from_residual.ensures.1 in
+    rw (p.1, p.2) (c.in_err-bytes.ensures.damaged c.args.types.now)
 
 pub returns-in_err-bytes-clause-undamaged : goal.returns-in_err-bytes-clause-undamaged
 returns-in_err-bytes-clause-undamaged g c =
@@ -15,8 +20,8 @@ returns-in_err-bytes-clause-undamaged g c =
 pub returns-clause-damaged : goal.returns-clause-damaged
 returns-clause-damaged g c =
     let same : c.deref-in-Err.result.now ≡ c.in_ok-bytes.bytes.items = c.deref-in-Err.ensures.value in
-    fault_shown (g.H.Host.view c.args.host.now) c.args.file c.args.place c.deref-in-Err.result.now c.fault_in_file.result (λ bytes is. subst (λ (l : Bytes). HasAt bytes c.args.place (sized l)) (sym same) (c.in_ok-bytes.ensures.ok bytes is))
-    (λ whole has. c.fault_in_file.ensures.shown c.args.types.now whole (subst (λ (l : Bytes). IsFaultOf c.args.types.now l c.in-Err.fault) (c.deref.ensures.value ∙ sym same) c.in-Err.ensures.shown) has)
+    fault_shown (g.H.Host.view c.args.host.now) c.args.file c.args.types.now c.args.end c.args.place c.deref-in-Err.result.now c.fault_in_file.result (λ bytes is. subst (λ (l : Bytes). HasAt bytes c.args.place (sized l)) (sym same) (c.in_ok-bytes.ensures.ok bytes is))
+    (λ whole has. c.fault_in_file.ensures.shown c.args.types.now c.args.end whole (subst (λ (l : Bytes). IsFaultOf c.args.types.now l c.in-Err.fault) (c.deref.ensures.value ∙ sym same) c.in-Err.ensures.shown) has)
 
 pub returns-clause-undamaged : goal.returns-clause-undamaged
 returns-clause-undamaged g c =

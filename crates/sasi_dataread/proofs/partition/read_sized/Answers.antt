@@ -3,9 +3,14 @@ use Rattle.std.proofs.lemmas.Result.{err_from_is_err_and}
 use Rattle.sasi_host.specs.Disk.{Same}
 use Rattle.sasi_host.specs.Contents.{contents_same}
 use Rattle.sasi_host.specs.Moves.{then_same}
-use Rattle.sasi_dataread.proofs.Runs.{shown_before}
-use Rattle.sasi_dataread.proofs.Bodies.{sized_spares, cut_spares, sized_read, reads_cost}
+use Rattle.sasi_tokentree.specs.Showing.{shown_before}
+use Rattle.sasi_dataread.proofs.Bodies.{body_shown, sized_spares, cut_spares, sized_read, reads_cost}
 use Rattle.sasi_dataread.proofs.partition.read_sized.Goals as goal
+
+pub returns-in_err-count-clause-damaged : goal.returns-in_err-count-clause-damaged
+returns-in_err-count-clause-damaged g c types =
+    let p = err_from_is_err_and c.from_residual.result c.from_residual.ensures.1 in
+    rw (p.1, p.2) (c.in_err-count.ensures.damaged types)
 
 pub returns-in_err-count-clause-undamaged : goal.returns-in_err-count-clause-undamaged
 returns-in_err-count-clause-undamaged g c =
@@ -13,14 +18,16 @@ returns-in_err-count-clause-undamaged g c =
     rw (p.1, p.2) (sized_spares (g.H.Host.view c.args.host.now) c.args.file c.args.end c.args.place c.in_err-count.field-0.0 c.in_err-count.ensures.undamaged)
 
 pub returns-in_err-body-clause-damaged : goal.returns-in_err-body-clause-damaged
-returns-in_err-body-clause-damaged g c =
+returns-in_err-body-clause-damaged g c types =
     let p = err_from_is_err_and c.from_residual-in_err-body.result c.from_residual-in_err-body.ensures.1 in
-    rw (p.1, p.2) (shown_before _ _ c.args.file c.in_err-body.field-0.0 c.read_length.ensures.changes c.in_err-body.ensures.damaged)
+    let view = g.H.Host.view in
+    rw (p.1, p.2) (body_shown types (view c.args.host.now) c.args.file c.args.end c.args.place c.in_ok-count.count c.in_err-body.field-0.0 c.in_ok-count.ensures.ok c.in_ok-count.ensures.length
+    (shown_before _ (view c.args.host.now) _ c.args.file c.in_err-body.field-0.0 c.read_length.ensures.changes c.in_err-body.ensures.damaged))
 
 pub returns-in_err-body-clause-undamaged : goal.returns-in_err-body-clause-undamaged
 returns-in_err-body-clause-undamaged g c =
     let p = err_from_is_err_and c.from_residual-in_err-body.result c.from_residual-in_err-body.ensures.1 in
-    rw (p.1, p.2) (cut_spares _ _ c.args.file c.args.end c.args.place c.in_ok-count.count c.in_err-body.field-0.0 c.in_ok-count.ensures.length.short c.in_ok-count.ensures.ok c.read_length.ensures.changes c.in_err-body.ensures.short)
+    rw (p.1, p.2) (cut_spares _ _ c.args.file c.args.end c.args.place c.in_ok-count.count c.in_err-body.field-0.0 c.in_ok-count.ensures.length.short c.in_ok-count.ensures.ok c.read_length.ensures.changes c.in_err-body.ensures.damaged)
 
 pub returns-in_err-body-clause-changes : goal.returns-in_err-body-clause-changes
 returns-in_err-body-clause-changes g c = then_same _ _ _ Same c.read_length.ensures.changes c.read_run.ensures.changes

@@ -1,11 +1,15 @@
-use Rattle.std.proofs.Common.{◌≡◌, ◌+◌, ◌-◌, ◌%◌, ◌++◌, ℕ, List, take, drop, ap, ◌∙◌, arith}
+use Rattle.std.proofs.Common.{◌≡◌, ◌+◌, ◌-◌, ◌*◌, ◌/◌, ◌%◌, ◌++◌, ℕ, List, take, drop, ap, ◌∙◌, arith, length-drop}
 use Rattle.sasi_host.specs.Disk.{Same}
 use Rattle.sasi_host.specs.Moves.{then_same}
-use Rattle.sasi_dataread.proofs.Runs.{page_gives, size_shown}
+use Rattle.sasi_tokentree.specs.Damages.{TellsSize}
+use Rattle.sasi_tokentree.specs.Showing.{shown_before, end_shown}
+use Rattle.sasi_dataread.proofs.Runs.{page_gives}
 use Rattle.sasi_dataread.proofs.run.append_part.Goals as goal
 
 pub returns-then-filled-end-clause-damaged : goal.returns-then-filled-end-clause-damaged
-returns-then-filled-end-clause-damaged g c = size_shown _ _ c.args.file c.too_short.result c.page.ensures.changes c.too_short.ensures.damaged c.too_short.ensures.file
+returns-then-filled-end-clause-damaged g c =
+    end_shown (g.H.Host.view c.args.host.now) c.args.file (c.args.at + c.args.count) c.too_short.result (λ bytes is. let fills = c.in_ok-filled.ensures.ok bytes is in omega (arith, fills.taken, length-drop (c.args.at / 4096 * 4096) bytes))
+    (shown_before (TellsSize c.args.file) _ _ c.args.file c.too_short.result c.page.ensures.changes c.too_short.ensures.damaged)
 
 pub returns-then-filled-end-clause-changes : goal.returns-then-filled-end-clause-changes
 returns-then-filled-end-clause-changes g c = then_same _ _ _ Same c.page.ensures.changes c.too_short.ensures.changes

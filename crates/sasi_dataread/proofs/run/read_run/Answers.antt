@@ -3,7 +3,8 @@ use Rattle.std.proofs.lemmas.Result.{err_from_is_err_and}
 use Rattle.sasi_host.specs.Disk.{Same}
 use Rattle.sasi_host.specs.Contents.{contents_same}
 use Rattle.sasi_host.specs.Moves.{then_same}
-use Rattle.sasi_dataread.proofs.Runs.{part_some, part_next, part_more, passes_none, passes_on, shown_before, run_spares, there_same}
+use Rattle.sasi_tokentree.specs.Showing.{shown_before, end_later}
+use Rattle.sasi_dataread.proofs.Runs.{part_some, part_next, part_more, passes_none, passes_on, there_same}
 use Rattle.sasi_dataread.proofs.run.read_run.Goals as goal
 
 pub loop-index-init : goal.loop-index-init
@@ -23,12 +24,7 @@ append_part-requires-clause-some g c = let less = part_some c.args.at c.args.cou
 pub returns-in_err-append_part-clause-damaged : goal.returns-in_err-append_part-clause-damaged
 returns-in_err-append_part-clause-damaged g c =
     let p = err_from_is_err_and c.from_residual.result c.from_residual.ensures.1 in
-    rw (p.1, p.2) (shown_before _ _ c.args.file c.in_err-append_part.field-0.0 c.loop-index.invariant.passes.changes c.in_err-append_part.ensures.damaged)
-
-pub returns-in_err-append_part-clause-short : goal.returns-in_err-append_part-clause-short
-returns-in_err-append_part-clause-short g c =
-    let p = err_from_is_err_and c.from_residual.result c.from_residual.ensures.1 in
-    rw (p.1, p.2) (run_spares _ _ c.args.file _ (c.args.at + c.args.count) c.in_err-append_part.field-0.0 (omega arith) c.loop-index.invariant.passes.changes c.in_err-append_part.ensures.short)
+    rw (p.1, p.2) (end_later (g.H.Host.view c.args.host.now) c.args.file _ (c.args.at + c.args.count) c.in_err-append_part.field-0.0 (omega arith) (shown_before _ (g.H.Host.view c.args.host.now) _ c.args.file c.in_err-append_part.field-0.0 c.loop-index.invariant.passes.changes c.in_err-append_part.ensures.damaged))
 
 pub returns-in_err-append_part-clause-changes : goal.returns-in_err-append_part-clause-changes
 returns-in_err-append_part-clause-changes g c = then_same _ _ _ Same c.loop-index.invariant.passes.changes c.append_part.ensures.changes

@@ -3,11 +3,16 @@ use Rattle.std.proofs.lemmas.Result.{err_from_is_err_and}
 use Rattle.sasi_types.specs.declared.tree.Pair.{Pair}
 use Rattle.sasi_host.specs.Disk.{Same}
 use Rattle.sasi_host.specs.Moves.{then_same}
-use Rattle.sasi_tokentree.specs.Walks.{GivesNext}
+use Rattle.sasi_tokentree.specs.Showing.{shown_before}
+use Rattle.sasi_tokentree.specs.Walks.{GivesEntry, GivesNext}
 use Rattle.sasi_dataread.specs.Pairs.{none_left}
-use Rattle.sasi_dataread.proofs.Runs.{shown_before}
-use Rattle.sasi_dataread.proofs.Walking.{next_takes, tree_spares, took_partition, place_spares}
+use Rattle.sasi_dataread.proofs.Walking.{entry_of, partition_shown, tree_shown, next_takes, tree_spares, took_partition, place_spares}
 use Rattle.sasi_dataread.proofs.walk.next_of.Goals as goal
+
+pub returns-in_err-next-clause-damaged : goal.returns-in_err-next-clause-damaged
+returns-in_err-next-clause-damaged g c =
+    let p = err_from_is_err_and c.from_residual.result c.from_residual.ensures.1 in
+    rw (p.1, p.2) (tree_shown (g.H.Host.view c.args.host.now) c.args.opened.now c.args.tree.now.file c.args.tree.now.tree c.in_err-next.field-0.0 c.requires.file c.requires.tree c.in_err-next.ensures.damaged)
 
 pub returns-in_err-next-clause-undamaged : goal.returns-in_err-next-clause-undamaged
 returns-in_err-next-clause-undamaged g c =
@@ -24,7 +29,11 @@ returns-in-None-clause-ok g c partitioner content is have =
 pub returns-in_err-key-clause-damaged : goal.returns-in_err-key-clause-damaged
 returns-in_err-key-clause-damaged g c =
     let p = err_from_is_err_and c.from_residual-in_err-key.result c.from_residual-in_err-key.ensures.1 in
-    rw (p.1, p.2) (shown_before _ _ c.args.opened.now.file c.in_err-key.field-0.0 c.next.ensures.changes c.in_err-key.ensures.damaged)
+    let view = g.H.Host.view in
+    let gives = subst (λ (o : Option Pair). GivesEntry (view c.args.host.now) c.args.tree.now.file c.args.tree.now.tree c.next.new.self.passed o) c.in-Some.is c.in_ok-next.ensures.stands in
+    rw (p.1, p.2) (partition_shown (view c.args.host.now) c.args.opened.now c.next.new.self.passed c.in-Some.pair c.in_err-key.field-0.0
+    (entry_of (view c.args.host.now) c.args.opened.now c.args.tree.now.file c.args.tree.now.tree c.next.new.self.passed (Some c.in-Some.pair) c.requires.file c.requires.tree gives)
+    (shown_before _ (view c.args.host.now) _ c.args.opened.now.file c.in_err-key.field-0.0 c.next.ensures.changes c.in_err-key.ensures.damaged))
 
 pub returns-in_err-key-clause-undamaged : goal.returns-in_err-key-clause-undamaged
 returns-in_err-key-clause-undamaged g c =

@@ -1,11 +1,11 @@
 use Rattle.std.proofs.lemmas.Result.{err_from_is_err_and}
-use Rattle.sasi_tokentree.proofs.NodeReads.{window_seen}
+use Rattle.sasi_tokentree.proofs.NodeReads.{node_shown}
 use Rattle.sasi_tokentree.proofs.nodes.node_below.Goals as goal
 
 pub returns-in_err-below-clause-damaged : goal.returns-in_err-below-clause-damaged
 returns-in_err-below-clause-damaged g c =
     let p = err_from_is_err_and c.from_residual-in_err-below.result c.from_residual-in_err-below.ensures.1 in
-    rw (p.1, p.2) (λ bytes is. window_seen c.args.file bytes c.args.at c.read_node.new.out c.in_err-below.field-0.0 (c.in_ok-read_node.ensures.is bytes is) c.in_err-below.ensures.seen)
+    rw (p.1, p.2) (λ bytes is. node_shown c.args.file bytes c.args.at c.read_node.new.out c.args.level c.args.count c.in_err-below.field-0.0 (c.in_ok-read_node.ensures.is bytes is) (c.in_err-below.ensures.seen c.args.level))
 
 pub returns-in_err-below-clause-undamaged : goal.returns-in_err-below-clause-undamaged
 returns-in_err-below-clause-undamaged g c =

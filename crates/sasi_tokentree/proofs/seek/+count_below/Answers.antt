@@ -5,7 +5,10 @@ use Rattle.sasi_host.specs.Contents.{contents_same}
 use Rattle.sasi_host.specs.Moves.{then_same}
 use Rattle.sasi_tokentree.specs.Format.{above}
 use Rattle.sasi_tokentree.specs.Reads.{FindsBelow}
-use Rattle.sasi_tokentree.proofs.Windows.{shown_before}
+use Rattle.sasi_tokentree.specs.Damages.{IsNodeFrom}
+use Rattle.sasi_tokentree.specs.Damages.IsNodeFrom.{of_above}
+use Rattle.sasi_tokentree.specs.Showing.{shown_before}
+use Rattle.sasi_tokentree.proofs.NodeReads.{shown_more, node_of_one}
 use Rattle.sasi_tokentree.proofs.Standing.{stands_one, none_below, below_in}
 use Rattle.sasi_tokentree.proofs.Seeks.{spares_one, spares_up, spares_before, up, up_length, one_level_reads, above_reads, more_level_reads, ok_reads, reads_within}
 use Rattle.sasi_tokentree.proofs.seek.+count_below.Goals as goal
@@ -14,6 +17,19 @@ pub returns-in_err-below-clause-undamaged : goal.returns-in_err-below-clause-und
 returns-in_err-below-clause-undamaged g t c =
     let p = err_from_is_err_and c.from_residual.result c.from_residual.ensures.1 in
     rw (p.1, p.2) (spares_one (g.H.Host.view c.args.host.now) c.args.file c.args.level c.args.at c.args.count c.in_err-below.field-0.0 (omega arith) c.in_err-below.ensures.undamaged)
+
+pub returns-in_err-below-clause-damaged : goal.returns-in_err-below-clause-damaged
+returns-in_err-below-clause-damaged g t c =
+    let p = err_from_is_err_and c.from_residual.result c.from_residual.ensures.1 in
+    rw (p.1, p.2) (shown_more _ (λ n. IsNodeFrom n c.args.level c.args.at c.args.count) (g.H.Host.view c.args.host.now) c.args.file c.in_err-below.field-0.0
+    (node_of_one c.args.level c.args.at c.args.count c.requires.some (omega arith)) c.in_err-below.ensures.damaged)
+
+pub returns-in_err-above-clause-damaged : goal.returns-in_err-above-clause-damaged
+returns-in_err-above-clause-damaged g t c =
+    let p = err_from_is_err_and c.from_residual-in_err-above.result c.from_residual-in_err-above.ensures.1 in
+    let shown = rw (c.level_size.ensures, c.node_count.ensures) at c.in_err-above.ensures.damaged in
+    rw (p.1, p.2) (shown_more _ (λ n. IsNodeFrom n c.args.level c.args.at c.args.count) (g.H.Host.view c.args.host.now) c.args.file c.in_err-above.field-0.0
+    (λ n. of_above c.args.level c.args.at c.args.count (omega arith)) shown)
 
 pub returns-in_err-below-clause-causes : goal.returns-in_err-below-clause-causes
 returns-in_err-below-clause-causes g t c most le =
@@ -50,7 +66,7 @@ returns-then-above-eq0-clause-causes g t c most le =
 pub returns-in_err-below-2-clause-damaged : goal.returns-in_err-below-2-clause-damaged
 returns-in_err-below-2-clause-damaged g t c =
     let p = err_from_is_err_and c.from_residual-in_err-below-2.result c.from_residual-in_err-below-2.ensures.1 in
-    rw (p.1, p.2) (shown_before _ _ c.args.file c.in_err-below-2.field-0.0 c.count_below.ensures.changes c.in_err-below-2.ensures.damaged)
+    rw (p.1, p.2) (shown_before _ _ _ c.args.file c.in_err-below-2.field-0.0 c.count_below.ensures.changes c.in_err-below-2.ensures.damaged)
 
 pub returns-in_err-below-2-clause-undamaged : goal.returns-in_err-below-2-clause-undamaged
 returns-in_err-below-2-clause-undamaged g t c =

@@ -3,8 +3,8 @@ use Rattle.std.proofs.lemmas.Result.{err_from_is_err_and}
 use Rattle.sasi_host.specs.Disk.{Same}
 use Rattle.sasi_host.specs.Contents.{contents_same}
 use Rattle.sasi_host.specs.Moves.{stays, then_same}
-use Rattle.sasi_tokentree.proofs.Windows.{shown_before}
-use Rattle.sasi_tokentree.proofs.Walking.{long_spares, level_spares, tree_spares_before, tree_stands_at, count_is, no_pairs, takes_none}
+use Rattle.sasi_tokentree.specs.Showing.{shown_before}
+use Rattle.sasi_tokentree.proofs.Walking.{long_spares, long_shown, leaves_shown, gave_entry, level_spares, tree_spares_before, tree_stands_at, count_is, no_pairs, takes_none}
 use Rattle.sasi_tokentree.proofs.walk.first_from.Goals as goal
 
 pub returns-then-tree-eq0-clause-changes : goal.returns-then-tree-eq0-clause-changes
@@ -17,6 +17,18 @@ pub returns-then-is_too_long-clause-undamaged : goal.returns-then-is_too_long-cl
 returns-then-is_too_long-clause-undamaged g c =
     long_spares (g.H.Host.view c.args.host.now) c.args.file c.args.tree c.too_short.result (λ bytes is. (g.met.H.Host.sound c.args.host.now).fits c.args.file bytes is) (omega arith) (c.is_too_long.ensures.long c.if-is_too_long.true)
 
+pub returns-then-is_too_long-clause-damaged : goal.returns-then-is_too_long-clause-damaged
+returns-then-is_too_long-clause-damaged g c =
+    long_shown (g.H.Host.view c.args.host.now) c.args.file c.args.tree c.too_short.result (λ bytes is. (g.met.H.Host.sound c.args.host.now).fits c.args.file bytes is) (omega arith) (c.is_too_long.ensures.long c.if-is_too_long.true) c.too_short.ensures.damaged
+
+pub returns-in_err-below-clause-damaged : goal.returns-in_err-below-clause-damaged
+returns-in_err-below-clause-damaged g c =
+    let p = err_from_is_err_and c.from_residual.result c.from_residual.ensures.1 in
+    rw (p.1, p.2) (leaves_shown (g.H.Host.view c.args.host.now) c.args.file c.args.tree c.start_of-start.result c.in_err-below.field-0.0 c.start_of-start.ensures.is c.in_err-below.ensures.damaged)
+
+pub returns-clause-stands : goal.returns-clause-stands
+returns-clause-stands g c = gave_entry _ _ c.args.file c.args.tree _ _ c.count_below.ensures.changes c.in_ok-found.ensures.stands
+
 pub returns-in_err-below-clause-undamaged : goal.returns-in_err-below-clause-undamaged
 returns-in_err-below-clause-undamaged g c =
     let p = err_from_is_err_and c.from_residual.result c.from_residual.ensures.1 in
@@ -25,7 +37,7 @@ returns-in_err-below-clause-undamaged g c =
 pub returns-in_err-found-clause-damaged : goal.returns-in_err-found-clause-damaged
 returns-in_err-found-clause-damaged g c =
     let p = err_from_is_err_and c.from_residual-in_err-found.result c.from_residual-in_err-found.ensures.1 in
-    rw (p.1, p.2) (shown_before _ _ c.args.file c.in_err-found.field-0.0 c.count_below.ensures.changes c.in_err-found.ensures.damaged)
+    rw (p.1, p.2) (shown_before _ _ _ c.args.file c.in_err-found.field-0.0 c.count_below.ensures.changes c.in_err-found.ensures.damaged)
 
 pub returns-in_err-found-clause-undamaged : goal.returns-in_err-found-clause-undamaged
 returns-in_err-found-clause-undamaged g c =

@@ -1,7 +1,7 @@
 use Rattle.std.proofs.Common.{◌<◌, length, arith}
 use Rattle.std.proofs.lemmas.Result.{err_from_is_err_and}
 use Rattle.sasi_host.specs.Moves.{stays}
-use Rattle.sasi_tokentree.proofs.Walking.{long_spares, pair_spares, tree_stands_at, count_is, takes_pair, takes_none}
+use Rattle.sasi_tokentree.proofs.Walking.{long_spares, long_shown, pair_spares, pair_shown, gives_entry, tree_stands_at, count_is, takes_pair, takes_none}
 use Rattle.sasi_tokentree.proofs.walk.pair_from.Goals as goal
 
 pub returns-then-passed-tree-clause-changes : goal.returns-then-passed-tree-clause-changes
@@ -18,6 +18,18 @@ pub returns-in_err-pair-clause-undamaged : goal.returns-in_err-pair-clause-undam
 returns-in_err-pair-clause-undamaged g c =
     let p = err_from_is_err_and c.from_residual.result c.from_residual.ensures.1 in
     rw (p.1, p.2) (pair_spares (g.H.Host.view c.args.host.now) c.args.file c.args.tree c.args.passed c.start_of.result c.in_err-pair.field-0.0 (λ bytes is. (g.met.H.Host.sound c.args.host.now).fits c.args.file bytes is) (omega arith) c.start_of.ensures.is c.in_err-pair.ensures.undamaged)
+
+pub returns-then-is_too_long-clause-damaged : goal.returns-then-is_too_long-clause-damaged
+returns-then-is_too_long-clause-damaged g c =
+    long_shown (g.H.Host.view c.args.host.now) c.args.file c.args.tree c.too_short.result (λ bytes is. (g.met.H.Host.sound c.args.host.now).fits c.args.file bytes is) (omega arith) (c.is_too_long.ensures.long c.if-is_too_long.true) c.too_short.ensures.damaged
+
+pub returns-in_err-pair-clause-damaged : goal.returns-in_err-pair-clause-damaged
+returns-in_err-pair-clause-damaged g c =
+    let p = err_from_is_err_and c.from_residual.result c.from_residual.ensures.1 in
+    rw (p.1, p.2) (pair_shown (g.H.Host.view c.args.host.now) c.args.file c.args.tree c.start_of.result c.args.passed c.in_err-pair.field-0.0 (omega arith) c.start_of.ensures.is c.in_err-pair.ensures.damaged)
+
+pub returns-clause-stands : goal.returns-clause-stands
+returns-clause-stands g c = gives_entry (g.H.Host.view c.args.host.now) c.args.file c.args.tree c.start_of.result c.args.passed c.in_ok-pair.pair c.start_of.ensures.is (omega arith) (omega arith) (omega arith) c.in_ok-pair.ensures.stands
 
 pub returns-clause-ok : goal.returns-clause-ok
 returns-clause-ok g c bytes pairs is has =

@@ -3,10 +3,12 @@ use Rattle.sasi_types.specs.declared.partitioner.Partitioner.{Partitioner}
 use Rattle.sasi_model.specs.Cells.{Partition}
 use Rattle.sasi_host.specs.Names.{Bytes}
 use Rattle.sasi_body.specs.Format.{body}
+use Rattle.sasi_tokentree.specs.Damages.{Shown}
 use Rattle.sasi_datawrite.specs.Format.{Content}
 use Rattle.sasi_dataread.specs.Opened.{Opened, StandsAt}
 use Rattle.sasi_dataread.specs.Reads.{Gives, IsOpenOn, SparesPlace}
 use Rattle.sasi_dataread.specs.Bodies.{cost}
+use Rattle.sasi_dataread.specs.Damages.{ShowsPartition}
 use Rattle.sasi_dataread.proofs.Opening.{at_ok, at_undamaged, reads_at}
 use Rattle.sasi_dataread.proofs.data_file.DataFile.at.Goals as goal
 
@@ -16,6 +18,10 @@ returns-clause-ok g c =
     let file = c.self.inside in
     subst (λ (o : Opened). IfOk c.partition_at.result (λ read. Gives view o c.args.place read.0 read.1)) c.self.view_is
     (at_ok view (record { file = file.file; types = file.types; tree = file.tree; latest = file.latest; end = file.end }) c.args.place c.partition_at.result c.partition_at.ensures.in_table c.partition_at.ensures.ok)
+
+pub returns-clause-damaged : goal.returns-clause-damaged
+returns-clause-damaged g c =
+    subst (λ (o : Opened). IfErr c.partition_at.result (Shown (g.H.Host.view c.args.host.now) o.file (ShowsPartition o.types o.end c.args.place o.file))) c.self.view_is c.partition_at.ensures.damaged
 
 pub returns-clause-undamaged : goal.returns-clause-undamaged
 returns-clause-undamaged g c =

@@ -1,14 +1,14 @@
 -- Bytes that stand at places of a file.
-use Rattle.std.proofs.Common.{◌≡◌, ℕ, ◌+◌, ◌^◌, ◌<◌, ◌≤◌, ◌++◌, length, take, drop, refl, inr, sym, ◌∙◌, ap, subst, arith, append_assoc, length-append, take-append-drop}
-use Rattle.std.proofs.lemmas.List.{take_at, drop_at, length-take-le}
-use Rattle.std.proofs.lemmas.Nat.{from_be_bytes-to_be_bytes_4, from_be_bytes-to_be_bytes_8}
-use Rattle.std.specs.Int.{to_be_bytes, from_be_bytes, w32, w64}
+use Rattle.std.specs.Prelude.{◌≡◌, ℕ, ◌+◌, ◌≢◌, ◌≤◌, ◌++◌, length, take, drop, refl}
+use Rattle.std.proofs.Common.{sym, ◌∙◌, ap, subst, arith, append_assoc, length-append, length-drop, take-append-drop}
+use Rattle.std.proofs.lemmas.List.{take_at, drop_at, drop-drop, length-take-le}
+use Rattle.std.proofs.Math.Seq.{take-add}
 use Rattle.sasi_host.specs.declared.name.FileName.{FileName}
 use Rattle.sasi_host.specs.declared.damage.Damage.{Damage}
+use Rattle.sasi_host.specs.declared.damage.FormatRule.{FormatRule}
 use Rattle.sasi_host.specs.Names.{Bytes}
 use Rattle.sasi_host.specs.Damages.{seen_bytes}
-use Rattle.sasi_body.specs.Laws.Same.{parts_same}
-use Rattle.sasi_tokentree.specs.Reads.{HasAt, IsSeen}
+use Rattle.sasi_tokentree.specs.Damages.{HasAt, Differs, IsOther}
 
 -- a part of bytes stands in them
 pub part_stands : (bytes : Bytes) (at n : ℕ) → at + n ≤ length bytes → HasAt bytes at (take n (drop at bytes))
@@ -52,19 +52,11 @@ second_at bytes at p q has = record { front = has.front ++ p; rest = has.rest; i
 -- both, one behind the other
 pub both_at : (bytes : Bytes) (at next : ℕ) (p q : Bytes) → HasAt bytes at p → next ≡ at + length p → HasAt bytes next q → HasAt bytes at (p ++ q)
 both_at bytes at next p q hp is hq =
-    let there : HasAt bytes (at + length p) q = subst (λ (n : ℕ). HasAt bytes n q) is hq in
-    let hq_front : hq.front ≡ hp.front ++ p =
-    (parts_same hq.front (hp.front ++ p) (q ++ hq.rest) hp.rest (omega (arith, hq.place, hp.place, is, length-append hp.front p)) (sym (hq.is ∙ append_assoc hq.front q hq.rest) ∙ hp.is)).0
-    in
-    record {
-      front = hp.front;
-      rest = hq.rest;
-      is = hq.is ∙ ap (λ (l : Bytes). l ++ q ++ hq.rest) hq_front ∙ regroup hp.front p q hq.rest;
-      place = hp.place;
-    }
-  where
-    regroup : (a b c d : Bytes) → ((a ++ b) ++ c) ++ d ≡ a ++ (b ++ c) ++ d
-    regroup a b c d = simp append_assoc
+    window_at bytes (p ++ q) at (length p + length q)
+    (ap (λ (l : Bytes). l ++ q) (sym (at_window bytes at p hp))
+    ∙ ap (λ (l : Bytes). take (length p) (drop at bytes) ++ l) (sym (at_window bytes next q hq) ∙ ap (λ (n : ℕ). take (length q) (drop n bytes)) (omega (arith, is)) ∙ ap (λ (l : Bytes). take (length q) l) (sym (drop-drop (length p) at bytes)))
+    ∙ sym (take-add (length p) (length q) (drop at bytes)))
+    (omega (arith, at_ends bytes next q hq, is))
 
 -- what stands in a part of the bytes stands in them
 pub inner_at : (whole : Bytes) (place : ℕ) (bytes : Bytes) (at : ℕ) (part : Bytes) → HasAt whole place bytes → HasAt bytes at part → HasAt whole (place + at) part
@@ -78,21 +70,20 @@ inner_at whole place bytes at part outer inner = record {
     regroup : (a b c d e : Bytes) → (a ++ ((b ++ c) ++ d)) ++ e ≡ ((a ++ b) ++ c) ++ (d ++ e)
     regroup a b c d e = simp append_assoc
 
--- damage that tells what stands at its place
-pub seen_at : (file : FileName) (bytes : Bytes) (at : ℕ) (part : Bytes) (damage : Damage) → damage.file ≡ file → damage.at ≡ at → seen_bytes damage.seen ≡ part → HasAt bytes at part → IsSeen file bytes damage
-seen_at file bytes at part damage named place seen has = record {
+-- and what differs in a part of the bytes differs in them
+pub differs_in : (whole : Bytes) (place : ℕ) (bytes : Bytes) (at : ℕ) (seen wanted : Bytes) → HasAt whole place bytes → Differs bytes at seen wanted → Differs whole (place + at) seen wanted
+differs_in whole place bytes at seen wanted outer inner = record { stands = inner_at whole place bytes at seen outer inner.stands; long = inner.long; differs = inner.differs }
+
+-- at an offset of the bytes others stand than the wanted ones
+pub other_at : (file : FileName) (at : ℕ) (bytes : Bytes) (offset n : ℕ) (wanted : Bytes) (rule : FormatRule) (damage : Damage) → n ≡ length wanted → offset + n ≤ length bytes → damage.file ≡ file → damage.at ≡ at + offset → damage.rule ≡ rule
+    → seen_bytes damage.seen ≡ take n (drop offset bytes) → take (length wanted) (drop offset bytes) ≢ wanted → IsOther file at bytes offset wanted rule damage
+other_at file at bytes offset n wanted rule damage long le named place rule_is seen other = record {
   named = named;
-  stands = inr (subst (λ (n : ℕ). HasAt bytes n (seen_bytes damage.seen)) (sym place) (subst (λ (l : Bytes). HasAt bytes at l) (sym seen) has));
+  rule_is = rule_is;
+  place = place;
+  differs = record {
+    stands = window_at bytes (seen_bytes damage.seen) offset n seen le;
+    long = ap length seen ∙ length-take-le n (drop offset bytes) (omega (arith, length-drop offset bytes, le)) ∙ long;
+    differs = λ same. other (ap (λ (k : ℕ). take k (drop offset bytes)) (sym long) ∙ sym seen ∙ same);
+  };
 }
-
--- ---- numbers
-
-pub same_32 : (n m : ℕ) → n < 2 ^ 32 → m < 2 ^ 32 → to_be_bytes w32 n ≡ to_be_bytes w32 m → n ≡ m
-same_32 n m n_fits m_fits same = sym (from_be_bytes-to_be_bytes_4 n n_fits) ∙ ap (from_be_bytes w32) same ∙ from_be_bytes-to_be_bytes_4 m m_fits
-
-pub same_64 : (n m : ℕ) → n < 2 ^ 64 → m < 2 ^ 64 → to_be_bytes w64 n ≡ to_be_bytes w64 m → n ≡ m
-same_64 n m n_fits m_fits same = sym (from_be_bytes-to_be_bytes_8 n n_fits) ∙ ap (from_be_bytes w64) same ∙ from_be_bytes-to_be_bytes_8 m m_fits
-
--- a number of four bytes stands at one place
-pub number_at : (bytes : Bytes) (at n m : ℕ) → n < 2 ^ 32 → m < 2 ^ 32 → HasAt bytes at (to_be_bytes w32 n) → HasAt bytes at (to_be_bytes w32 m) → n ≡ m
-number_at bytes at n m n_fits m_fits hn hm = same_32 n m n_fits m_fits (same_at bytes at (to_be_bytes w32 n) (to_be_bytes w32 m) hn hm refl)

@@ -1,0 +1,104 @@
+-- Where a file breaks the format of a data file, and what it has there.
+use Rattle.std.specs.Prelude.{◌≡◌, ◌⊎◌, ℕ, ◌+◌, ◌^◌, ◌<◌, List, [], ◌∷◌, length}
+use Rattle.std.specs.Int.{to_be_bytes, w32, w64}
+use Rattle.sasi_types.specs.declared.column.ColumnType.{ColumnType}
+use Rattle.sasi_types.specs.declared.tree.Pair.{Pair}
+use Rattle.sasi_host.specs.declared.name.FileName.{FileName}
+use Rattle.sasi_host.specs.declared.damage.Damage.{Damage}
+use Rattle.sasi_host.specs.declared.damage.FormatRule.{FormatRule}
+use Rattle.sasi_host.specs.declared.damage.FormatRule.TheVariants.{Short, Magic, Version, Number, Place}
+use Rattle.sasi_host.specs.Names.{Bytes}
+use Rattle.sasi_host.specs.Damages.{seen_bytes}
+use Rattle.sasi_body.specs.Damages.{Breaks, HasOtherLength}
+use Rattle.sasi_tokentree.specs.Damages.{HasAt, Differs, ShowsEnd, ShowsTree}
+use Rattle.sasi_tokentree.specs.Walks.{HasEntry}
+use Rattle.sasi_dataread.specs.Opened.{Opened}
+use Rattle.sasi_dataread.specs.Bodies.{sized, IsLength}
+
+-- ---- the header and the footer
+
+-- "SASIDAT1", and "SASIDEND"
+abbrev pub magic : Bytes
+magic = 83 ∷ 65 ∷ 83 ∷ 73 ∷ 68 ∷ 65 ∷ 84 ∷ 49 ∷ []
+
+abbrev pub end_mark : Bytes
+end_mark = 83 ∷ 65 ∷ 83 ∷ 73 ∷ 68 ∷ 69 ∷ 78 ∷ 68 ∷ []
+
+-- the place where the partitions end is within the header, or behind the footer's beginning
+pub record IsWrongEnd (bytes : Bytes) (at : ℕ) (seen : Bytes) : Type 0 where
+  pub place : at + 16 ≡ length bytes
+  pub stands : HasAt bytes at seen
+  pub end : ℕ
+  pub told : seen ≡ to_be_bytes w64 end
+  pub fits : end < 2 ^ 64
+  pub wrong : (end < 33) ⊎ (length bytes < end + 40)
+
+-- the number of partitions is 0
+pub record IsNoNumber (bytes : Bytes) (at : ℕ) (seen : Bytes) : Type 0 where
+  pub place : at + 32 ≡ length bytes
+  pub stands : HasAt bytes at seen
+  pub none : seen ≡ to_be_bytes w64 0
+
+-- the header or the footer breaks the rule at the place, and the seen bytes stand there
+abbrev pub FrameBreaks : Bytes → FormatRule → ℕ → Bytes → Type 0
+FrameBreaks bytes Short at seen = (length bytes < 97) × (at ≡ length bytes) × (seen ≡ to_be_bytes w64 (length bytes))
+FrameBreaks bytes Magic at seen = ((at ≡ 0) × Differs bytes at seen magic) ⊎ ((at + 8 ≡ length bytes) × Differs bytes at seen end_mark)
+FrameBreaks bytes Version at seen = (at ≡ 8) × Differs bytes at seen (to_be_bytes w32 1)
+FrameBreaks bytes Number at seen = ((at ≡ 12) × Differs bytes at seen (to_be_bytes w32 0)) ⊎ IsNoNumber bytes at seen
+FrameBreaks bytes Place at seen = IsWrongEnd bytes at seen
+FrameBreaks bytes _ at seen = ⊥
+
+-- the damage is that of this file, whose header or footer breaks the rule
+pub record ShowsFrame (file : FileName) (bytes : Bytes) (damage : Damage) : Type 0 where
+  pub named : damage.file ≡ file
+  pub breaks : FrameBreaks bytes damage.rule damage.at (seen_bytes damage.seen)
+
+-- ---- a partition at a place, which has to end in front of the end
+
+-- at the place stands a length that no body has there
+pub record IsWrongLength (end place : ℕ) (file : FileName) (bytes : Bytes) (damage : Damage) : Type 0 where
+  pub named : damage.file ≡ file
+  pub rule : damage.rule ≡ Number
+  pub at : damage.at ≡ place
+  pub stands : HasAt bytes place (seen_bytes damage.seen)
+  pub count : ℕ
+  pub told : seen_bytes damage.seen ≡ to_be_bytes w32 count
+  pub fits : count < 2 ^ 32
+  pub wrong : ¬ IsLength end place count
+
+-- a body of another length stands behind it
+pub record IsOfOtherLength (types : List ColumnType) (place : ℕ) (file : FileName) (bytes : Bytes) (damage : Damage) : Type 0 where
+  pub named : damage.file ≡ file
+  pub rule : damage.rule ≡ Number
+  pub at : damage.at ≡ place
+  pub body : Bytes
+  pub stands : HasAt bytes place (sized body)
+  pub fits : length body < 2 ^ 32
+  pub told : seen_bytes damage.seen ≡ to_be_bytes w32 (length body)
+  pub other : HasOtherLength types body
+
+-- the body that stands behind it breaks a rule of bodies
+pub record HasBrokenBody (types : List ColumnType) (place : ℕ) (file : FileName) (bytes : Bytes) (damage : Damage) : Type 0 where
+  pub named : damage.file ≡ file
+  pub body : Bytes
+  pub stands : HasAt bytes place (sized body)
+  pub fits : length body < 2 ^ 32
+  pub offset : ℕ
+  pub at : damage.at ≡ place + 4 + offset
+  pub breaks : Breaks types body damage.rule offset (seen_bytes damage.seen)
+
+-- the damage is that of this file, in which no partition of a table with these types stands at the place
+pub data ShowsPartition (types : List ColumnType) (end place : ℕ) (file : FileName) (bytes : Bytes) (damage : Damage) : Type 0 where
+  -- it ends within the length, or within the bytes that are announced
+  no_length : ShowsEnd (place + 4) file bytes damage → ShowsPartition types end place file bytes damage
+  no_body : (count : ℕ) → HasAt bytes place (to_be_bytes w32 count) → IsLength end place count → ShowsEnd (place + 4 + count) file bytes damage → ShowsPartition types end place file bytes damage
+  wrong_length : IsWrongLength end place file bytes damage → ShowsPartition types end place file bytes damage
+  other_length : IsOfOtherLength types place file bytes damage → ShowsPartition types end place file bytes damage
+  broken_body : HasBrokenBody types place file bytes damage → ShowsPartition types end place file bytes damage
+
+-- ---- a file that was opened
+
+-- the damage is that of the key tree, or of the partition to which one of its pairs leads
+pub data ShowsData (opened : Opened) (bytes : Bytes) (damage : Damage) : Type 0 where
+  in_tree : ShowsTree opened.file opened.tree bytes damage → ShowsData opened bytes damage
+  in_partition : (index : ℕ) (pair : Pair) → HasEntry bytes opened.tree index pair → ShowsPartition opened.types opened.end pair.place opened.file bytes damage → ShowsData opened bytes damage

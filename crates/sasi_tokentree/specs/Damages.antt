@@ -1,0 +1,127 @@
+-- Where a file breaks the format of a tree, and what it has there.
+use Rattle.std.specs.Prelude.{◌≡◌, ◌≢◌, ℕ, ◌+◌, ◌-◌, ◌*◌, ◌<◌, List, [], ◌∷◌, ◌++◌, length, min, Some}
+use Rattle.std.specs.Int.{to_be_bytes, w16, w32, w64}
+use Rattle.sasi_types.specs.declared.tree.Pair.{Pair}
+use Rattle.sasi_types.specs.declared.tree.TreeRef.{TreeRef}
+use Rattle.sasi_host.specs.declared.name.FileName.{FileName}
+use Rattle.sasi_host.specs.declared.damage.Damage.{Damage}
+use Rattle.sasi_host.specs.declared.damage.FormatRule.{FormatRule}
+use Rattle.sasi_host.specs.declared.damage.FormatRule.TheVariants.{Short, Number, Order}
+use Rattle.sasi_host.specs.declared.fault.ReadFault.{ReadFault}
+use Rattle.sasi_host.specs.Names.{Bytes}
+use Rattle.sasi_host.specs.Damages.{OnDamage, seen_bytes}
+use Rattle.sasi_host.specs.View.{View, contents}
+use Rattle.sasi_tokentree.specs.Format.{entry, nodes, size, AreFit, IsBefore}
+use Rattle.sasi_tokentree.specs.Heights.{lead}
+
+-- ---- bytes at a place
+
+-- these bytes stand at this place
+pub record HasAt (bytes : Bytes) (at : ℕ) (part : Bytes) : Type 0 where
+  pub front : Bytes
+  pub rest : Bytes
+  pub is : bytes ≡ front ++ part ++ rest
+  pub place : length front ≡ at
+
+-- at this place stand as many bytes as are wanted, and others
+pub record Differs (bytes : Bytes) (at : ℕ) (seen wanted : Bytes) : Type 0 where
+  pub stands : HasAt bytes at seen
+  pub long : length seen ≡ length wanted
+  pub differs : seen ≢ wanted
+
+-- the damage is that at an offset of these bytes, which stand at a place of the file, others stand than the rule wants
+pub record IsOther (file : FileName) (at : ℕ) (window : Bytes) (offset : ℕ) (wanted : Bytes) (rule : FormatRule) (damage : Damage) : Type 0 where
+  pub named : damage.file ≡ file
+  pub rule_is : damage.rule ≡ rule
+  pub place : damage.at ≡ at + offset
+  pub differs : Differs window offset (seen_bytes damage.seen) wanted
+
+-- the damage is that this file is too short, and tells its size
+pub record TellsSize (file : FileName) (bytes : Bytes) (damage : Damage) : Type 0 where
+  pub named : damage.file ≡ file
+  pub rule : damage.rule ≡ Short
+  pub place : damage.at ≡ length bytes
+  pub seen : seen_bytes damage.seen ≡ to_be_bytes w64 (length bytes)
+
+-- the damage is that this file ends before this place
+pub record ShowsEnd (end : ℕ) (file : FileName) (bytes : Bytes) (damage : Damage) : Type 0 where
+  pub tells : TellsSize file bytes damage
+  pub short : length bytes < end
+
+-- ---- where the nodes of a tree stand
+
+-- a node: its level, where it begins, and how many entries it has
+pub record Node : Type 0 where
+  pub level : ℕ
+  pub at : ℕ
+  pub count : ℕ
+
+-- it is one of a level of so many entries that begins at this place, or of the levels above it
+pub data IsNodeFrom (node : Node) : ℕ → ℕ → ℕ → Type 0 where
+  of_level : (level at count index : ℕ) → 255 * index < count → node ≡ record { level = level; at = at + 4088 * index; count = min (count - 255 * index) 255 } → IsNodeFrom node level at count
+  of_above : (level at count : ℕ) → 255 < count → IsNodeFrom node (level + 1) (at + size count) (nodes count) → IsNodeFrom node level at count
+
+-- where the first leaf of a tree begins
+abbrev pub start : TreeRef → ℕ
+start tree = tree.root - lead tree.pairs tree.pairs
+
+-- it is one of the tree that is referred to so
+abbrev pub IsNodeOf : TreeRef → Node → Type 0
+IsNodeOf tree node = IsNodeFrom node 0 (start tree) tree.pairs
+
+-- ---- what breaks a node
+
+-- at this offset of a node these bytes are wanted
+pub data IsHeadPart (level count offset : ℕ) (wanted : Bytes) : Type 0 where
+  the_level : offset ≡ 0 → wanted ≡ level ∷ [] → IsHeadPart level count offset wanted
+  a_zero : offset ≡ 1 → wanted ≡ 0 ∷ [] → IsHeadPart level count offset wanted
+  the_count : offset ≡ 2 → wanted ≡ to_be_bytes w16 count → IsHeadPart level count offset wanted
+  four_zeros : offset ≡ 4 → wanted ≡ to_be_bytes w32 0 → IsHeadPart level count offset wanted
+
+-- a part of its head is another one
+pub record HasWrongHead (bytes : Bytes) (node : Node) (at : ℕ) (seen : Bytes) : Type 0 where
+  pub offset : ℕ
+  pub wanted : Bytes
+  pub part : IsHeadPart node.level node.count offset wanted
+  pub place : at ≡ node.at + offset
+  pub differs : Differs bytes at seen wanted
+
+-- an entry doesn't come after the one before it
+pub record HasDisorder (bytes : Bytes) (node : Node) (at : ℕ) (seen : Bytes) : Type 0 where
+  pub index : ℕ
+  pub last : Pair
+  pub pair : Pair
+  pub within : index + 1 < node.count
+  pub stands : HasAt bytes (node.at + (8 + 16 * index)) (entry last ++ entry pair)
+  pub fit : AreFit (last ∷ pair ∷ [])
+  pub disorder : ¬ IsBefore last pair
+  pub place : at ≡ node.at + (8 + 16 * (index + 1))
+  pub told : seen ≡ to_be_bytes w64 pair.token
+
+-- the node breaks the rule at the place, and the seen bytes stand there
+abbrev pub NodeBreaks : Bytes → Node → FormatRule → ℕ → Bytes → Type 0
+NodeBreaks bytes node Short at seen = (length bytes < node.at + (8 + 16 * node.count)) × (at ≡ length bytes) × (seen ≡ to_be_bytes w64 (length bytes))
+NodeBreaks bytes node Number at seen = HasWrongHead bytes node at seen
+NodeBreaks bytes node Order at seen = HasDisorder bytes node at seen
+NodeBreaks bytes node _ at seen = ⊥
+
+-- ---- what is told of a file
+
+-- the damage is that of this file, in which one of these nodes breaks the rule
+pub record ShowsOf (These : Node → Type 0) (file : FileName) (bytes : Bytes) (damage : Damage) : Type 0 where
+  pub named : damage.file ≡ file
+  pub node : Node
+  pub is_of : These node
+  pub breaks : NodeBreaks bytes node damage.rule damage.at (seen_bytes damage.seen)
+
+-- the file breaks the format of the tree that is referred to so
+abbrev pub ShowsTree : FileName → TreeRef → Bytes → Damage → Type 0
+ShowsTree file tree = ShowsOf (IsNodeOf tree) file
+
+-- damage is what the file shows as it reads
+abbrev pub Shown : View → FileName → (Bytes → Damage → Type 0) → ReadFault → Type 0
+Shown v file Shows = OnDamage (λ damage. (bytes : Bytes) → contents v file ≡ Some bytes → Shows bytes damage)
+
+-- it is that one of these nodes breaks a rule
+abbrev pub ShownOf : (Node → Type 0) → View → FileName → ReadFault → Type 0
+ShownOf These v file = Shown v file (ShowsOf These file)
