@@ -1,11 +1,12 @@
 -- Bodies behind their lengths, as they are read.
-use Rattle.std.proofs.Common.{◌≡◌, ℕ, ◌+◌, ◌^◌, ◌<◌, ◌≤◌, List, ◌++◌, length, take, drop, refl, sym, ◌∙◌, ap, subst, arith, length-append, Some}
+use Rattle.std.proofs.Common.{◌≡◌, ℕ, ◌+◌, ◌-◌, ◌/◌, ◌^◌, ◌<◌, ◌≤◌, List, length, take, drop, refl, sym, ◌∙◌, ap, subst, arith, lit<, length-append, Option, Some}
 use Rattle.std.specs.Int.{to_be_bytes, w16, w32}
 use Rattle.sasi_host.specs.declared.name.FileName.{FileName}
 use Rattle.sasi_host.specs.declared.fault.ReadFault.{ReadFault}
 use Rattle.sasi_host.specs.declared.fault.ReadFault.TheVariants as fault
 use Rattle.sasi_host.specs.Names.{Bytes}
-use Rattle.sasi_host.specs.View.{View, contents}
+use Rattle.std.specs.declared.result.Result.{Result}
+use Rattle.sasi_host.specs.View.{View, ReadsAtMost, contents}
 use Rattle.sasi_types.specs.declared.column.ColumnType.{ColumnType}
 use Rattle.sasi_model.specs.Cells.{Partition}
 use Rattle.sasi_host.specs.Damages.{seen_bytes, OnDamage}
@@ -17,14 +18,16 @@ use Rattle.sasi_body.specs.Typed.{IsBodyOf}
 use Rattle.sasi_body.specs.Laws.Lengths.{body_short, place_within}
 use Rattle.sasi_host.specs.Disk.{Changes, Same}
 use Rattle.sasi_host.specs.Contents.{contents_same}
-use Rattle.sasi_tokentree.specs.Damages.{HasAt, Shown, ShowsEnd, TellsSize}
-use Rattle.sasi_tokentree.specs.Places.{at_ends, same_at, first_at, second_at, both_at, window_at}
-use Rattle.sasi_tokentree.specs.Showing.{shown_as}
-use Rattle.sasi_dataread.specs.Reads.{pages_of}
+use Rattle.sasi_host.specs.Damages.{HasAt, Shown, ShowsEnd, TellsSize}
+use Rattle.sasi_host.specs.Held.{fresh_pages}
+use Rattle.sasi_host.specs.Places.{at_ends, same_at, first_at, second_at, both_at, window_at}
+use Rattle.sasi_host.specs.Showing.{shown_as}
 use Rattle.sasi_dataread.specs.Damages.{ShowsPartition}
 use Rattle.sasi_dataread.specs.Damages.ShowsPartition.{no_length, no_body}
-use Rattle.sasi_dataread.specs.Bodies.{sized, cost, IsLength, IsPlacedIn, SparesLength, SparesSized, SparesBody}
+use Rattle.sasi_dataread.specs.Bodies.{sized, fresh_cost, IsLength, IsPlacedIn, SparesLength, SparesSized, SparesBody}
 use Rattle.sasi_dataread.proofs.Numbers.{number_at}
+use Rattle.sasi_dataread.proofs.Pages.{few_pages, fresh_on}
+use Rattle.sasi_dataread.proofs.Runs.{causes_on}
 
 -- ---- what is read
 
@@ -38,12 +41,23 @@ pub sized_read : (bytes body : Bytes) (place count : ℕ) → HasAt bytes place 
 sized_read bytes body place count has is long within =
     both_at bytes place (place + 4) (to_be_bytes w32 (length body)) body (subst (λ (n : ℕ). HasAt bytes place (to_be_bytes w32 n)) (sym long) has) refl (window_at bytes body (place + 4) count is within)
 
-pub reads_cost : (bytes body : Bytes) (place count r0 r1 r2 : ℕ) → count < 2 ^ 32 → length body < 2 ^ 32 → HasAt bytes place (to_be_bytes w32 count) → HasAt bytes place (sized body) → r1 ≤ r0 + pages_of place 4 → r2 ≤ r1 + pages_of (place + 4) count
-    → r2 ≤ r0 + cost place (length body)
-reads_cost bytes body place count r0 r1 r2 count_fits body_fits has stands first second =
+pub reads_cost : (bytes body : Bytes) (held after : Option ℕ) (place count r0 r1 r2 : ℕ) → count < 2 ^ 32 → length body < 2 ^ 32 → HasAt bytes place (to_be_bytes w32 count) → HasAt bytes place (sized body) → after ≡ Some ((place + 3) / 4096)
+    → r1 ≤ r0 + fresh_pages held place 4 → r2 ≤ r1 + fresh_pages after (place + 4) count → r2 ≤ r0 + fresh_cost held place (length body)
+reads_cost bytes body held after place count r0 r1 r2 count_fits body_fits has stands after_is first second =
     let same : count ≡ length body = number_at bytes place count (length body) count_fits body_fits has (first_at bytes place (to_be_bytes w32 (length body)) body stands) in
-    let more : pages_of (place + 4) count ≡ pages_of (place + 4) (length body) = ap (λ (n : ℕ). pages_of (place + 4) n) same in
-    omega (arith, first, second, more)
+    let more : fresh_pages after (place + 4) count ≡ fresh_pages (Some ((place + 4 - 1) / 4096)) (place + 4) (length body) =
+    ap (λ (o : Option ℕ). fresh_pages o (place + 4) count) (after_is ∙ ap (λ (n : ℕ). Some (n / 4096)) (omega arith)) ∙ ap (λ (n : ℕ). fresh_pages (Some ((place + 4 - 1) / 4096)) (place + 4) n) same
+    in
+    omega (arith, first, second, more, fresh_on held place 4 (length body) (lit< tt))
+
+-- a length and its body, one read after the other
+pub both_causes : {S T : Type 0} (a b c : View) (held after : Option ℕ) (place count : ℕ) (first : Result S ReadFault) (second : Result T ReadFault) → count < 2 ^ 23 → after ≡ Some ((place + 3) / 4096)
+    → ReadsAtMost (fresh_pages held place 4) a b first → ReadsAtMost (fresh_pages after (place + 4) count) b c second → ReadsAtMost 2050 a c second
+both_causes a b c held after place count first second short after_is one two =
+    let more : fresh_pages after (place + 4) count ≡ fresh_pages (Some ((place + 4 - 1) / 4096)) (place + 4) count =
+    ap (λ (o : Option ℕ). fresh_pages o (place + 4) count) (after_is ∙ ap (λ (n : ℕ). Some (n / 4096)) (omega arith))
+    in
+    causes_on a b c (fresh_pages held place 4) (fresh_pages after (place + 4) count) 2050 first second (omega (arith, more, fresh_on held place 4 count (lit< tt), few_pages held place (4 + count) (omega (arith, short)))) one two
 
 -- ---- what shows damage
 

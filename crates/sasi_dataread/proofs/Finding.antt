@@ -12,8 +12,9 @@ use Rattle.sasi_host.specs.declared.name.FileName.{FileName}
 use Rattle.sasi_host.specs.declared.fault.ReadFault.{ReadFault}
 use Rattle.sasi_host.specs.declared.fault.ReadFault.TheVariants as fault
 use Rattle.sasi_host.specs.Names.{Bytes}
-use Rattle.sasi_host.specs.View.{View, contents}
+use Rattle.sasi_host.specs.View.{View, ReadsAtMost, contents}
 use Rattle.sasi_host.specs.Disk.{Changes, Same}
+use Rattle.sasi_host.specs.Held.{fresh_pages}
 use Rattle.sasi_types.specs.declared.partitioner.Partitioner.{Partitioner}
 use Rattle.sasi_types.specs.declared.tree.Pair.{Pair}
 use Rattle.sasi_types.specs.declared.tree.TreeRef.{TreeRef}
@@ -24,8 +25,9 @@ use Rattle.sasi_model.specs.Cells.{Partition}
 use Rattle.sasi_body.specs.Format.{body}
 use Rattle.sasi_tokentree.specs.Format.{pair_at}
 use Rattle.sasi_tokentree.specs.Heights.{height}
-use Rattle.sasi_tokentree.specs.Reads.{CountsBelow, ReadsAtMost}
-use Rattle.sasi_tokentree.specs.Walks.{GivesFrom, TakesNext, Walk}
+use Rattle.sasi_tokentree.specs.Reads.{CountsBelow}
+use Rattle.sasi_tokentree.specs.Walks.{GivesEntry, GivesFrom, IsNear, TakesNext, Walk, pair_place}
+use Rattle.sasi_tokentree.specs.Nearness.{near_next}
 use Rattle.sasi_datawrite.specs.Format.{Content, header, key_pairs, pairs_from, partition_bytes, partitions, place_of}
 use Rattle.sasi_datawrite.specs.Laws.{pairs_length}
 use Rattle.sasi_dataread.specs.Opened.{Opened, StandsAt}
@@ -34,7 +36,7 @@ use Rattle.sasi_dataread.specs.Bodies.{cost}
 use Rattle.sasi_dataread.specs.Walks.{HaveTokens, SparesOpened}
 use Rattle.sasi_dataread.specs.Finds.{partition_of, token_cost, LeadsTo, GivesWith}
 use Rattle.sasi_dataread.specs.Pairs.{nth, nth_stands, as_many_left, left_behind, none_left, less_token}
-use Rattle.sasi_dataread.proofs.Runs.{passes_none, passes_on}
+use Rattle.sasi_dataread.proofs.Runs.{causes_within, passes_none, passes_on}
 use Rattle.sasi_dataread.proofs.Walking.{IsShort, open_same, tree_there}
 
 -- ---- keys and tokens
@@ -114,22 +116,22 @@ left_same partitioner token at (one ∷ others) (suc n) (suc m) is = left_same p
 
 -- one with the token
 left_one : (partitioner : Partitioner) (token at : ℕ) (content : Content) (index : ℕ) (one : Bytes × Partition) (rest : Content) → drop index content ≡ one ∷ rest → token_of partitioner one.0 ≡ token
-    → left_cost partitioner token at content index ≡ cost (at + length (partitions (take index content))) (length (body one.0 one.1)) + 2 + left_cost partitioner token at content (suc index)
+    → left_cost partitioner token at content index ≡ cost (at + length (partitions (take index content))) (length (body one.0 one.1)) + 1 + left_cost partitioner token at content (suc index)
 left_one partitioner token at [] zero one rest is same = absurd (cc)
 left_one partitioner token at [] (suc index) one rest is same = absurd (cc)
 left_one partitioner token at (first ∷ others) zero one rest is same =
     let this : first ≡ one = cc in
     let eq : nat_eq (token_of partitioner first.0) token ≡ true = eq-eqb (token_of partitioner first.0) token (ap (λ (o : Bytes × Partition). token_of partitioner o.0) this ∙ same) in
     let place : at + length (partitions (take 0 (first ∷ others))) ≡ at = omega arith in
-    ap (λ (b : Bool). (if b then cost at (length (body first.0 first.1)) + 2 else 0) + behind) eq
-    ∙ ap (λ (o : Bytes × Partition). cost at (length (body o.0 o.1)) + 2 + behind) this
-    ∙ ap (λ (n : ℕ). cost n (length (body one.0 one.1)) + 2 + behind) (sym place)
+    ap (λ (b : Bool). (if b then cost at (length (body first.0 first.1)) + 1 else 0) + behind) eq
+    ∙ ap (λ (o : Bytes × Partition). cost at (length (body o.0 o.1)) + 1 + behind) this
+    ∙ ap (λ (n : ℕ). cost n (length (body one.0 one.1)) + 1 + behind) (sym place)
   where
     behind : ℕ
     behind = token_cost partitioner token (at + length (partition_bytes first.0 first.1)) others
 left_one partitioner token at (first ∷ others) (suc index) one rest is same =
     left_one partitioner token (at + length (partition_bytes first.0 first.1)) others index one rest is same
-    ∙ ap (λ (n : ℕ). cost n (length (body one.0 one.1)) + 2 + left_cost partitioner token (at + length (partition_bytes first.0 first.1)) others (suc index)) (omega (arith, length-append (partition_bytes first.0 first.1) (partitions (take index others))))
+    ∙ ap (λ (n : ℕ). cost n (length (body one.0 one.1)) + 1 + left_cost partitioner token (at + length (partition_bytes first.0 first.1)) others (suc index)) (omega (arith, length-append (partition_bytes first.0 first.1) (partitions (take index others))))
 
 -- ---- a search
 
@@ -154,17 +156,21 @@ begins partitioner content token key passed next reads most count counts takes c
   costs = omega (arith, costs, left_less partitioner token (length header) content count);
 }
 
-pub first_causes : {T : Type 0} (v w : View) (opened : Opened) (tree : Walk) (result : Result T ReadFault) → tree ≡ record { file = opened.file; tree = opened.tree; passed = 0 } → ((most : ℕ) → tree.tree.pairs ≤ most → ReadsAtMost (2 * height most tree.tree.pairs + 2) v w result)
+-- the tree before its first pair
+abbrev pub begun : Opened → Walk
+begun opened = record { held = record { file = opened.file; page = None; bytes = [] }; tree = opened.tree; passed = 0 }
+
+pub first_causes : {T : Type 0} (v w : View) (opened : Opened) (tree : Walk) (result : Result T ReadFault) → tree ≡ begun opened → ((most : ℕ) → tree.tree.pairs ≤ most → ReadsAtMost (2 * height most tree.tree.pairs + 2) v w result)
     → (most : ℕ) → opened.tree.pairs ≤ most → ReadsAtMost (2 * height most opened.tree.pairs + 2) v w result
 first_causes v w opened tree result tree_is causes = subst (λ (t : TreeRef). (most : ℕ) → t.pairs ≤ most → ReadsAtMost (2 * height most t.pairs + 2) v w result) (ap (λ (t : Walk). t.tree) tree_is) causes
 
 -- where it stands after the first pair at or after the token
-pub starts : {T : Type 0} (v w : View) (opened : Opened) (tree : Walk) (token : ℕ) (key : Bytes) (passed : ℕ) (next : Option Pair) (result : Result T ReadFault) → tree ≡ record { file = opened.file; tree = opened.tree; passed = 0 } → IsShort v opened.file → GivesFrom v tree.file tree.tree token passed next
+pub starts : {T : Type 0} (v w : View) (opened : Opened) (tree : Walk) (token : ℕ) (key : Bytes) (passed : ℕ) (next : Option Pair) (result : Result T ReadFault) → tree ≡ begun opened → IsShort v opened.file → GivesFrom v tree.held.file tree.tree token passed next
     → ((most : ℕ) → tree.tree.pairs ≤ most → ReadsAtMost (2 * height most tree.tree.pairs + 2) v w result)
     → (most : ℕ) (partitioner : Partitioner) (content : Content) → opened.tree.pairs ≤ most → IsOpenOn v opened partitioner content → HaveTokens partitioner content
     → Searches partitioner content token key 0 passed next w.reads (v.reads + (2 * height most opened.tree.pairs + 2 + token_cost partitioner token (length header) content))
 starts v w opened tree token key passed next result tree_is short gives causes most partitioner content le is have =
-    let file_is : tree.file ≡ opened.file = ap (λ (t : Walk). t.file) tree_is in
+    let file_is : tree.held.file ≡ opened.file = ap (λ (t : Walk). t.held.file) tree_is in
     let ref_is : tree.tree ≡ opened.tree = ap (λ (t : Walk). t.tree) tree_is in
     let from = gives is.bytes (key_pairs partitioner content) (ap (λ (f : FileName). contents v f) file_is ∙ is.reads) (tree_there v opened tree.tree ref_is short partitioner content is have) in
     let first = (first_causes v w opened tree result tree_is causes most le).reads in
@@ -179,7 +185,7 @@ pub record IsHere (partitioner : Partitioner) (content : Content) (token place i
   pub one : Bytes × Partition
   pub stands : StandsAt content place one.0 one.1
   pub left : drop index content ≡ one ∷ drop passed content
-  pub cost_is : left_cost partitioner token (length header) content index ≡ cost place (length (body one.0 one.1)) + 2 + left_cost partitioner token (length header) content passed
+  pub cost_is : left_cost partitioner token (length header) content index ≡ cost place (length (body one.0 one.1)) + 1 + left_cost partitioner token (length header) content passed
   pub on : suc index ≤ passed
 
 pub is_here : (partitioner : Partitioner) (content : Content) (token place index passed : ℕ) → TakesNext (key_pairs partitioner content) index passed (Some (record { token = token; place = place })) → IsHere partitioner content token place index passed
@@ -195,8 +201,8 @@ is_here partitioner content token place index passed takes =
       left = n.left ∙ ap (λ (l : Content). n.one ∷ l) (left_behind partitioner content index passed pair takes);
       cost_is =
           left_one partitioner token (length header) content index n.one (drop (suc index) content) n.left (sym token_is)
-          ∙ ap (λ (k : ℕ). cost k (length (body n.one.0 n.one.1)) + 2 + left_cost partitioner token (length header) content (suc index)) (sym place_is)
-          ∙ ap (λ (k : ℕ). cost place (length (body n.one.0 n.one.1)) + 2 + k) (left_same partitioner token (length header) content (suc index) passed left.1);
+          ∙ ap (λ (k : ℕ). cost k (length (body n.one.0 n.one.1)) + 1 + left_cost partitioner token (length header) content (suc index)) (sym place_is)
+          ∙ ap (λ (k : ℕ). cost place (length (body n.one.0 n.one.1)) + 1 + k) (left_same partitioner token (length header) content (suc index) passed left.1);
       on = omega (arith, left.0, left.1);
     }
 
@@ -216,7 +222,7 @@ stands_here partitioner content token key turns passed place reads most next s l
 -- what reading it costs
 pub here_costs : (v w : View) (opened : Opened) (partitioner : Partitioner) (content : Content) (token : ℕ) (key : Bytes) (turns passed place reads most now : ℕ) (next : Option Pair) → IsOpenOn v opened partitioner content → Changes Same v w
     → Searches partitioner content token key turns passed next reads most → LeadsTo token next (Some place)
-    → ((key : Bytes) (part : Partition) → IsOpenOn w opened partitioner content → StandsAt content place key part → now ≤ reads + cost place (length (body key part))) → now + 2 ≤ most
+    → ((key : Bytes) (part : Partition) → IsOpenOn w opened partitioner content → StandsAt content place key part → now ≤ reads + cost place (length (body key part))) → now + 1 ≤ most
 here_costs v w opened partitioner content token key turns passed place reads most now next is change s leads bound =
     let here = is_here partitioner content token place s.index passed (takes_it partitioner content token place s.index passed next leads s.takes) in
     omega (arith, s.costs, here.cost_is, bound here.one.0 here.one.1 (open_same v w opened partitioner content change is) here.stands)
@@ -232,7 +238,7 @@ found_here v w opened partitioner content token key turns passed place reads mos
 -- it hasn't
 pub searches_on : (v w : View) (opened : Opened) (partitioner : Partitioner) (content : Content) (token : ℕ) (key : Bytes) (turns passed place reads most after now : ℕ) (last next : Option Pair) (found : Option Partition) → IsOpenOn v opened partitioner content → Changes Same v w
     → Searches partitioner content token key turns passed last reads most → LeadsTo token last (Some place) → GivesWith w opened place key found → is_some found ≡ false
-    → ((key : Bytes) (part : Partition) → IsOpenOn w opened partitioner content → StandsAt content place key part → now ≤ reads + (cost place (length (body key part)) + 2)) → TakesNext (key_pairs partitioner content) passed after next
+    → ((key : Bytes) (part : Partition) → IsOpenOn w opened partitioner content → StandsAt content place key part → now ≤ reads + (cost place (length (body key part)) + 1)) → TakesNext (key_pairs partitioner content) passed after next
     → Searches partitioner content token key (turns + 1) after next now most
 searches_on v w opened partitioner content token key turns passed place reads most after now last next found is change s leads gives none bound takes =
     let here = is_here partitioner content token place s.index passed (takes_it partitioner content token place s.index passed last leads s.takes) in
@@ -245,6 +251,14 @@ searches_on v w opened partitioner content token key turns passed place reads mo
       same = λ same. s.same same ∙ ap (λ (l : Content). partition_of l key) here.left ∙ on_others key here.one (drop passed content) (is_none found none ∙ gives partitioner content here.one.0 here.one.1 now_open here.stands);
       costs = omega (arith, s.costs, here.cost_is, bound here.one.0 here.one.1 now_open here.stands);
     }
+
+-- the pair behind one that was found takes at most one page more
+pub one_more : {T : Type 0} (view a b : View) (file : FileName) (ref : TreeRef) (tree : Walk) (token place : ℕ) (next : Option Pair) (result : Result T ReadFault) → LeadsTo token next (Some place) → GivesEntry view file ref tree.passed next → IsNear tree next
+    → ReadsAtMost (fresh_pages tree.held.page (pair_place tree.tree tree.passed) 16) a b result → ReadsAtMost 1 a b result
+one_more view a b file ref tree token place next result leads gives near causes =
+    let pair : Pair = record { token = token; place = place } in
+    let entry = subst (λ (o : Option Pair). GivesEntry view file ref tree.passed o) leads gives in
+    causes_within a b (fresh_pages tree.held.page (pair_place tree.tree tree.passed) 16) 1 result (near_next tree pair (omega (arith, entry.1)) (subst (λ (o : Option Pair). IsNear tree o) leads near)) causes
 
 -- ---- none is left
 
@@ -273,7 +287,6 @@ all_passed partitioner content token key turns passed next reads most s le same 
 
 -- ---- damage
 
--- what a file of another name shows, which is this file
 pub here_spares : (v w : View) (opened : Opened) (place : ℕ) (f : ReadFault) → ((partitioner : Partitioner) (content : Content) → IsOpenOn v opened partitioner content → HaveTokens partitioner content → (one : Bytes × Partition) × StandsAt content place one.0 one.1)
     → Changes Same v w → SparesPlace w opened place f → SparesOpened v opened f
 here_spares v w opened place fault.Failed stands change spares = tt

@@ -17,8 +17,8 @@ use Rattle.sasi_host.specs.Contents.{contents_same}
 use Rattle.sasi_types.specs.declared.column.ColumnType.{ColumnType}
 use Rattle.sasi_types.specs.declared.partitioner.Partitioner.{Partitioner}
 use Rattle.sasi_types.specs.declared.tree.TreeRef.{TreeRef}
-use Rattle.sasi_tokentree.specs.Damages.{HasAt, Differs, IsOther, Shown, ShowsEnd}
-use Rattle.sasi_tokentree.specs.Places.{at_ends, at_window, differs_in, inner_at, same_at, window_at}
+use Rattle.sasi_host.specs.Damages.{HasAt, Differs, IsOther, Shown, ShowsEnd}
+use Rattle.sasi_host.specs.Places.{at_ends, at_window, differs_in, inner_at, same_at, window_at}
 use Rattle.sasi_datawrite.specs.Format.{Content, header, footer, front, greatest}
 use Rattle.sasi_datawrite.specs.Files.{IsDataFile}
 use Rattle.sasi_datawrite.specs.Laws.{header_length}

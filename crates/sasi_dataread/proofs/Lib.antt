@@ -1,5 +1,6 @@
 pub mod Runs
 pub mod Numbers
+pub mod Pages
 pub mod Bodies
 pub mod Framing
 pub mod Opening

@@ -1,5 +1,5 @@
 -- A data file that was opened: what its footer and its partitions say of its content.
-use Rattle.std.proofs.Common.{◌≡◌, ℕ, ◌+◌, ◌-◌, ◌^◌, ◌<◌, ◌≤◌, List, ◌++◌, [], length, take, drop, sym, ◌∙◌, ap, arith, Some, IfOk, IfErr}
+use Rattle.std.proofs.Common.{◌≡◌, ℕ, ◌+◌, ◌-◌, ◌^◌, ◌<◌, ◌≤◌, List, ◌++◌, [], length, take, drop, sym, ◌∙◌, ap, subst, arith, Option, Some, IfOk, IfErr}
 use Rattle.std.specs.declared.result.Result.{Result}
 use Rattle.std.specs.declared.result.Result.TheVariants.{Ok, Err}
 use Rattle.sasi_host.specs.declared.fault.ReadFault.{ReadFault}
@@ -14,13 +14,15 @@ use Rattle.sasi_body.specs.Format.{body}
 use Rattle.sasi_body.specs.Typed.{IsBodyOf}
 use Rattle.sasi_body.specs.Laws.Same.{bodies_same}
 use Rattle.sasi_body.specs.Laws.Lengths.{body_short}
-use Rattle.sasi_tokentree.specs.Damages.{HasAt}
-use Rattle.sasi_tokentree.specs.Places.{same_at}
+use Rattle.sasi_host.specs.declared.name.FileName.{FileName}
+use Rattle.sasi_host.specs.Damages.{HasAt, Shown}
+use Rattle.sasi_dataread.specs.Damages.{ShowsPartition}
+use Rattle.sasi_host.specs.Places.{same_at}
 use Rattle.sasi_datawrite.specs.Format.{Content, footer, front, greatest}
 use Rattle.sasi_datawrite.specs.Files.{IsDataFile}
 use Rattle.sasi_dataread.specs.Opened.{Opened, StandsAt}
 use Rattle.sasi_dataread.specs.Reads.{Gives, IsOpenOn, SparesPlace}
-use Rattle.sasi_dataread.specs.Bodies.{sized, cost, SparesBody}
+use Rattle.sasi_dataread.specs.Bodies.{sized, fresh_cost, SparesBody}
 use Rattle.sasi_dataread.specs.Laws.{AreInRange, in_range, tree_of, footer_of, footer_length, footer_stands, partition_stands, partition_typed, partition_within}
 use Rattle.sasi_dataread.specs.Frames.{IsFramed}
 use Rattle.sasi_dataread.proofs.Numbers.{same_64}
@@ -66,18 +68,26 @@ spares_at v opened place (fault.Damaged damage) spares = λ partitioner content 
     spares is.bytes key part is.reads (partition_stands partitioner opened.types is.bytes content place key part is.data_file at) (partition_typed partitioner opened.types is.bytes content place key part is.data_file at)
     (omega (arith, partition_within content place key part at, is.of.end))
 
-pub reads_at : (v : View) (opened : Opened) (place reads : ℕ) → ((bytes part : Bytes) → contents v opened.file ≡ Some bytes → HasAt bytes place (sized part) → length part < 2 ^ 32 → reads ≤ v.reads + cost place (length part))
-    → (partitioner : Partitioner) (content : Content) (key : Bytes) (part : Partition) → IsOpenOn v opened partitioner content → StandsAt content place key part → reads ≤ v.reads + cost place (length (body key part))
-reads_at v opened place reads bound partitioner content key part is at =
+reads_at : (v : View) (opened : Opened) (page : Option ℕ) (place reads : ℕ) → ((bytes part : Bytes) → contents v opened.file ≡ Some bytes → HasAt bytes place (sized part) → length part < 2 ^ 32 → reads ≤ v.reads + fresh_cost page place (length part))
+    → (partitioner : Partitioner) (content : Content) (key : Bytes) (part : Partition) → IsOpenOn v opened partitioner content → StandsAt content place key part → reads ≤ v.reads + fresh_cost page place (length (body key part))
+reads_at v opened page place reads bound partitioner content key part is at =
     bound is.bytes (body key part) is.reads (partition_stands partitioner opened.types is.bytes content place key part is.data_file at)
     (omega (arith, body_short key part (partition_typed partitioner opened.types is.bytes content place key part is.data_file at).has))
 
--- the same of a call's whole result
-pub at_ok : (v : View) (opened : Opened) (place : ℕ) (result : Result (Bytes × Partition) ReadFault) → IfOk result (λ read. IsBodyOf opened.types read.0 read.1) → IfOk result (λ read. (bytes : Bytes) → contents v opened.file ≡ Some bytes → HasAt bytes place (sized (body read.0 read.1)))
-    → IfOk result (λ read. Gives v opened place read.0 read.1)
-at_ok v opened place (Ok read) of stands = gives_at v opened place read.0 read.1 of stands
-at_ok v opened place (Err f) of stands = tt
+-- ---- the same of a call's whole result, which speaks of a file by another name
 
-pub at_undamaged : (v : View) (opened : Opened) (place : ℕ) (result : Result (Bytes × Partition) ReadFault) → IfErr result (SparesBody v opened.file opened.types opened.end place) → IfErr result (SparesPlace v opened place)
-at_undamaged v opened place (Ok read) spares = tt
-at_undamaged v opened place (Err f) spares = spares_at v opened place f spares
+pub at_ok : (v : View) (opened : Opened) (other : FileName) (place : ℕ) (result : Result (Bytes × Partition) ReadFault) → other ≡ opened.file → IfOk result (λ read. IsBodyOf opened.types read.0 read.1)
+    → IfOk result (λ read. (bytes : Bytes) → contents v other ≡ Some bytes → HasAt bytes place (sized (body read.0 read.1))) → IfOk result (λ read. Gives v opened place read.0 read.1)
+at_ok v opened other place (Ok read) same of stands = gives_at v opened place read.0 read.1 of (λ bytes is. stands bytes (ap (λ (n : FileName). contents v n) same ∙ is))
+at_ok v opened other place (Err f) same of stands = tt
+
+pub at_undamaged : (v : View) (opened : Opened) (other : FileName) (place : ℕ) (result : Result (Bytes × Partition) ReadFault) → other ≡ opened.file → IfErr result (SparesBody v other opened.types opened.end place) → IfErr result (SparesPlace v opened place)
+at_undamaged v opened other place (Ok read) same spares = tt
+at_undamaged v opened other place (Err f) same spares = spares_at v opened place f (subst (λ (n : FileName). SparesBody v n opened.types opened.end place f) same spares)
+
+pub at_damaged : (v : View) (opened : Opened) (other : FileName) (place : ℕ) (result : Result (Bytes × Partition) ReadFault) → other ≡ opened.file → IfErr result (Shown v other (ShowsPartition opened.types opened.end place other)) → IfErr result (Shown v opened.file (ShowsPartition opened.types opened.end place opened.file))
+at_damaged v opened other place result same shown = subst (λ (n : FileName). IfErr result (Shown v n (ShowsPartition opened.types opened.end place n))) same shown
+
+pub at_reads : (v : View) (opened : Opened) (other : FileName) (page : Option ℕ) (place reads : ℕ) → other ≡ opened.file → ((bytes part : Bytes) → contents v other ≡ Some bytes → HasAt bytes place (sized part) → length part < 2 ^ 32 → reads ≤ v.reads + fresh_cost page place (length part))
+    → (partitioner : Partitioner) (content : Content) (key : Bytes) (part : Partition) → IsOpenOn v opened partitioner content → StandsAt content place key part → reads ≤ v.reads + fresh_cost page place (length (body key part))
+at_reads v opened other page place reads same bound = reads_at v opened page place reads (λ bytes part is. bound bytes part (ap (λ (n : FileName). contents v n) same ∙ is))

@@ -1,38 +1,15 @@
--- Runs of a file's bytes, made of what its pages gave.
-use Rattle.std.proofs.Common.{◌≡◌, ℕ, ◌+◌, ◌*◌, ◌/◌, ◌%◌, ◌<◌, ◌≤◌, List, ◌++◌, take, drop, refl, sym, ◌∙◌, ap, arith}
-use Rattle.std.specs.Prelude.{min, max, ◌-◌}
+-- One read after another.
+use Rattle.std.proofs.Common.{◌≡◌, ℕ, ◌+◌, ◌≤◌, refl, sym, ◌∙◌, arith, IfErr}
 use Rattle.std.specs.declared.result.Result.{Result}
 use Rattle.std.specs.declared.result.Result.TheVariants.{Ok, Err}
-use Rattle.std.proofs.lemmas.List.{take-take, drop-take, drop-drop}
-use Rattle.std.proofs.Math.Seq.{take-add}
 use Rattle.sasi_host.specs.declared.name.FileName.{FileName}
 use Rattle.sasi_host.specs.declared.fault.ReadFault.{ReadFault}
 use Rattle.sasi_host.specs.declared.fault.ReadFault.TheVariants as fault
-use Rattle.sasi_host.specs.Names.{Bytes}
-use Rattle.sasi_host.specs.View.{View, IsThere, Rose}
-use Rattle.sasi_host.specs.Disk.{Changes, Same, Fills}
+use Rattle.sasi_host.specs.View.{View, IsThere, ReadsAtMost, Rose}
+use Rattle.sasi_host.specs.Disk.{Changes, Same}
 use Rattle.sasi_host.specs.Contents.{contents_same, there_where}
 use Rattle.sasi_host.specs.Moves.{stays, then_same}
-use Rattle.sasi_tokentree.specs.Reads.{ReadsAtMost}
 use Rattle.sasi_dataread.specs.Reads.{Passes}
-
--- what a page gave of a run that lies on it
-pub page_gives : (bytes old new : Bytes) (at count n : ℕ) → Fills bytes (at / 4096 * 4096) old new count → at % 4096 + n ≤ count → take n (drop (at % 4096) new) ≡ take n (drop at bytes)
-page_gives bytes old new at count n fills le =
-    let begin = at % 4096 in
-    let start = at / 4096 * 4096 in
-    sym (drop-take begin n new)
-    ∙ ap (λ (l : Bytes). drop begin l) (sym (take-take (begin + n) count new le) ∙ ap (λ (l : Bytes). take (begin + n) l) fills.front ∙ take-take (begin + n) count (drop start bytes) le)
-    ∙ drop-take begin n (drop start bytes)
-    ∙ ap (λ (l : Bytes). take n l) (drop-drop begin start bytes)
-    ∙ ap (λ (k : ℕ). take n (drop k bytes)) (omega arith)
-
--- one part more
-pub part_more : (bytes out part : Bytes) (at here n m : ℕ) → out ≡ take n (drop at bytes) → here ≡ at + n → part ≡ out ++ take m (drop here bytes) → part ≡ take (n + m) (drop at bytes)
-part_more bytes out part at here n m is place pushed =
-    pushed ∙ ap (λ (l : Bytes). l ++ take m (drop here bytes)) is
-    ∙ ap (λ (l : Bytes). take n (drop at bytes) ++ take m l) (ap (λ (k : ℕ). drop k bytes) place ∙ sym (drop-drop n at bytes))
-    ∙ sym (take-add n m (drop at bytes))
 
 -- ---- one read after another
 
@@ -71,15 +48,27 @@ pub causes_ok : {T : Type 0} (a b : View) (n k : ℕ) (x : T) (result : Result T
 causes_ok a b n k x (Ok y) is passes le = record { disk = passes.disk; out = passes.out; reads = omega (arith, passes.reads, le); failed = tt }
 causes_ok a b n k x (Err e) is passes le = absurd (cc)
 
--- ---- how far a run has come
+-- ---- calls one after another
 
--- on each page something is left
-pub part_some : (at count filled index : ℕ) → 0 < count → at + filled ≡ max at (min (at + count) ((at / 4096 + index) * 4096)) → index < (at % 4096 + count + 4095) / 4096 → filled < count
-part_some at count filled index some is lt = omega (arith, is, lt)
+failed_later : {T : Type 0} (a b c : View) (result : Result T ReadFault) → a.disk_faults ≤ b.disk_faults → IfErr result (λ f. f ≡ fault.Failed → Rose b.disk_faults c.disk_faults) → IfErr result (λ f. f ≡ fault.Failed → Rose a.disk_faults c.disk_faults)
+failed_later a b c (Ok x) le failed = tt
+failed_later a b c (Err f) le failed = λ is. let rose = failed is in omega (arith, rose, le)
 
-pub part_next : (at count filled index part : ℕ) → at + filled ≡ max at (min (at + count) ((at / 4096 + index) * 4096)) → index < (at % 4096 + count + 4095) / 4096 → part ≡ min (4096 - (at + filled) % 4096) (count - filled)
-    → at + (filled + part) ≡ max at (min (at + count) ((at / 4096 + (index + 1)) * 4096))
-part_next at count filled index part is lt next = omega (arith, is, lt, next)
+pub causes_on : {S T : Type 0} (a b c : View) (n m k : ℕ) (first : Result S ReadFault) (second : Result T ReadFault) → n + m ≤ k → ReadsAtMost n a b first → ReadsAtMost m b c second → ReadsAtMost k a c second
+causes_on a b c n m k first second le one two = record {
+  disk = omega (arith, one.disk, two.disk);
+  out = two.out ∙ one.out;
+  reads = omega (arith, le, one.reads, two.reads);
+  failed = failed_later a b c second one.disk two.failed;
+}
 
-pub part_all : (at count filled index : ℕ) → at + filled ≡ max at (min (at + count) ((at / 4096 + index) * 4096)) → (at % 4096 + count + 4095) / 4096 ≤ index → filled ≡ count
-part_all at count filled index is le = omega (arith, is, le)
+pub causes_within : {T : Type 0} (a b : View) (n m : ℕ) (result : Result T ReadFault) → n ≤ m → ReadsAtMost n a b result → ReadsAtMost m a b result
+causes_within a b n m result le one = record { disk = one.disk; out = one.out; reads = omega (arith, le, one.reads); failed = one.failed }
+
+-- a fault that is handed on
+pub causes_handed : {S T : Type 0} (a b : View) (n m : ℕ) (f : ReadFault) → n ≤ m → ReadsAtMost {T = S} n a b (Err f) → ReadsAtMost {T = T} m a b (Err f)
+causes_handed a b n m f le one = record { disk = one.disk; out = one.out; reads = omega (arith, le, one.reads); failed = one.failed }
+
+-- what didn't fail
+pub causes_done : {S T : Type 0} (a b : View) (n : ℕ) (first : Result S ReadFault) (x : T) → ReadsAtMost n a b first → ReadsAtMost n a b (Ok x)
+causes_done a b n first x one = record { disk = one.disk; out = one.out; reads = one.reads; failed = tt }

@@ -1,11 +1,12 @@
 -- Partitions that the key tree leads to.
-use Rattle.std.proofs.Common.{◌≡◌, ℕ, ◌^◌, ◌≤◌, ◌∷◌, length, drop, sym, ◌∙◌, ap, subst, Option, None, Some}
+use Rattle.std.proofs.Common.{◌≡◌, ℕ, suc, ◌+◌, ◌-◌, ◌/◌, ◌^◌, ◌≤◌, List, [], ◌∷◌, length, length-append, length-drop, take, drop, arith, sym, ◌∙◌, ap, subst, Option, None, Some}
 use Rattle.sasi_host.specs.declared.name.FileName.{FileName}
 use Rattle.sasi_host.specs.declared.fault.ReadFault.{ReadFault}
 use Rattle.sasi_host.specs.declared.fault.ReadFault.TheVariants as fault
 use Rattle.sasi_host.specs.Names.{Bytes}
 use Rattle.sasi_host.specs.View.{View, contents}
 use Rattle.sasi_host.specs.Disk.{Changes, Same}
+use Rattle.sasi_host.specs.Held.{Held, fresh_pages}
 use Rattle.sasi_host.specs.Contents.{contents_same}
 use Rattle.sasi_types.specs.declared.partitioner.Partitioner.{Partitioner}
 use Rattle.sasi_types.specs.declared.tree.Pair.{Pair}
@@ -13,12 +14,17 @@ use Rattle.sasi_types.specs.declared.tree.TreeRef.{TreeRef}
 use Rattle.sasi_types.specs.Token.{token_of}
 use Rattle.sasi_model.specs.Cells.{Partition}
 use Rattle.sasi_tokentree.specs.Format.{HasTree}
-use Rattle.sasi_tokentree.specs.Damages.{Shown, ShowsTree}
-use Rattle.sasi_tokentree.specs.Showing.{shown_as}
+use Rattle.sasi_host.specs.Damages.{Shown}
+use Rattle.sasi_tokentree.specs.Damages.{ShowsTree}
+use Rattle.sasi_host.specs.Showing.{shown_as}
 use Rattle.sasi_tokentree.specs.Reads.{Spares}
-use Rattle.sasi_tokentree.specs.Walks.{GivesEntry, GivesNext, TakesNext}
-use Rattle.sasi_datawrite.specs.Format.{Content, header, key_pairs}
-use Rattle.sasi_dataread.specs.Opened.{Opened}
+use Rattle.sasi_tokentree.specs.Walks.{GivesEntry, GivesNext, IsNear, TakesNext, Walk, pair_place}
+use Rattle.sasi_body.specs.Format.{body}
+use Rattle.sasi_datawrite.specs.Format.{Content, front, header, key_pairs, partitions}
+use Rattle.sasi_dataread.specs.Opened.{Opened, IsOf, StandsAt}
+use Rattle.sasi_dataread.specs.Bodies.{fresh_cost}
+use Rattle.sasi_dataread.specs.Paces.{Goes, IsAlong, walk_of}
+use Rattle.sasi_dataread.proofs.Pages.{goes_on}
 use Rattle.sasi_dataread.specs.Damages.{ShowsData, ShowsPartition}
 use Rattle.sasi_dataread.specs.Damages.ShowsData.{in_tree, in_partition}
 use Rattle.sasi_dataread.specs.Reads.{Gives, IsOpenOn, SparesPlace}
@@ -84,3 +90,31 @@ entry_before v w file tree passed (Some pair) change gives = (gives.0, gives.1, 
 pub partition_shown : (v : View) (opened : Opened) (passed : ℕ) (pair : Pair) (f : ReadFault) → GivesEntry v opened.file opened.tree passed (Some pair) → Shown v opened.file (ShowsPartition opened.types opened.end pair.place opened.file) f → Shown v opened.file (ShowsData opened) f
 partition_shown v opened passed pair f gives shown =
     shown_as (ShowsPartition opened.types opened.end pair.place opened.file) (ShowsData opened) v opened.file f (λ bytes damage is shows. in_partition gives.0 pair (gives.2 bytes is) shows) shown
+
+-- ---- the pages of a walk
+
+-- where no pair is left all were passed
+pub all_pairs : (opened : Opened) (partitioner : Partitioner) (content : Content) (tree : TreeRef) (passed : ℕ) → IsOf opened partitioner content → tree ≡ opened.tree → drop passed (key_pairs partitioner content) ≡ [] → tree.pairs ≤ passed
+all_pairs opened partitioner content tree passed of same none =
+    omega (arith, ap (λ (t : TreeRef). t.pairs) (same ∙ of.tree), ap (λ (l : List Pair). length l) none, length-drop passed (key_pairs partitioner content))
+
+-- the walk went over one partition more
+pub walk_goes : (v w : View) (opened : Opened) (tree after : Walk) (held now : Held) (pair : Pair) (key : Bytes) (part : Partition) (partitioner : Partitioner) (content : Content) (r0 r1 r2 : ℕ) → IsOpenOn v opened partitioner content → Changes Same v w
+    → TakesNext (key_pairs partitioner content) tree.passed after.passed (Some pair) → Gives w opened pair.place key part → tree.tree ≡ opened.tree → after.tree ≡ tree.tree → IsAlong content (walk_of opened tree held)
+    → r1 ≤ r0 + fresh_pages tree.held.page (pair_place tree.tree tree.passed) 16
+    → ((partitioner : Partitioner) (content : Content) (key : Bytes) (part : Partition) → IsOpenOn w opened partitioner content → StandsAt content pair.place key part → r2 ≤ r1 + fresh_cost held.page pair.place (length (body key part)))
+    → after.passed ≡ tree.passed + 1 → IsNear after (Some pair) → now.page ≡ Some ((pair.place + 3 + length (body key part)) / 4096) → Goes content r0 r2 (walk_of opened tree held) (walk_of opened after now)
+walk_goes v w opened tree after held now pair key part partitioner content r0 r1 r2 is change took gives tree_is after_is along first second passed near page =
+    let n = nth partitioner (length header) content tree.passed pair (drop after.passed (key_pairs partitioner content)) took in
+    let stands = nth_stands partitioner content tree.passed pair n in
+    let w_open = open_same v w opened partitioner content change is in
+    let same = gives partitioner content n.one.0 n.one.1 w_open stands in
+    let one : n.one ≡ (key, part) = ap (λ (k : Bytes). (k, n.one.1)) (sym same.0) ∙ ap (λ (p : Partition). (key, p)) (sym same.1) in
+    let read : r2 ≤ r1 + fresh_cost held.page pair.place (length (body key part)) =
+    subst (λ (o : Bytes × Partition). r2 ≤ r1 + fresh_cost held.page pair.place (length (body o.0 o.1))) one (second partitioner content n.one.0 n.one.1 w_open stands)
+    in
+    let place : pair.place ≡ length (front (take tree.passed content)) = ap (λ (p : Pair). p.place) n.pair_is ∙ sym (length-append header (partitions (take tree.passed content))) in
+    let near_is : after.held.page ≡ Some ((pair_place tree.tree tree.passed + 15) / 4096) =
+    near ∙ ap (λ (t : TreeRef). Some ((pair_place t (after.passed - 1) + 15) / 4096)) after_is ∙ ap (λ (k : ℕ). Some ((pair_place tree.tree k + 15) / 4096)) (omega (arith, passed))
+    in
+    goes_on content (drop (suc tree.passed) content) opened tree after held now pair.place key part r0 r1 r2 tree_is passed (n.left ∙ ap (λ (o : Bytes × Partition). o ∷ drop (suc tree.passed) content) one) place along first read near_is page

@@ -1,19 +1,18 @@
 -- Bodies in a data file, each behind its length.
-use Rattle.std.specs.Prelude.{◌≡◌, ℕ, ◌+◌, ◌^◌, ◌<◌, ◌≤◌, List, ◌++◌, length, Some}
+use Rattle.std.specs.Prelude.{◌≡◌, ℕ, ◌+◌, ◌^◌, ◌<◌, ◌≤◌, List, ◌++◌, length, Option, Some}
 use Rattle.std.specs.Int.{to_be_bytes, w32}
 use Rattle.sasi_types.specs.declared.column.ColumnType.{ColumnType}
 use Rattle.sasi_model.specs.Cells.{Partition}
 use Rattle.sasi_host.specs.declared.name.FileName.{FileName}
 use Rattle.sasi_host.specs.declared.fault.ReadFault.{ReadFault}
 use Rattle.sasi_host.specs.Names.{Bytes}
-use Rattle.sasi_host.specs.Damages.{OnDamage}
+use Rattle.sasi_host.specs.Damages.{HasAt, OnDamage}
+use Rattle.sasi_host.specs.Held.{pages_of, fresh_pages}
 use Rattle.sasi_host.specs.View.{View, contents}
 use Rattle.sasi_body.specs.declared.fault.BodyFault.{BodyFault}
 use Rattle.sasi_body.specs.declared.fault.BodyFault.TheVariants as fault
 use Rattle.sasi_body.specs.Format.{body}
 use Rattle.sasi_body.specs.Typed.{IsBodyOf}
-use Rattle.sasi_tokentree.specs.Damages.{HasAt}
-use Rattle.sasi_dataread.specs.Reads.{pages_of}
 
 -- a length, and so many bytes
 abbrev pub sized : Bytes → Bytes
@@ -25,9 +24,13 @@ pub record IsLength (end place count : ℕ) : Type 0 where
   pub short : count < 2 ^ 23
   pub within : place + 4 + count ≤ end
 
--- on how many pages its length and its bytes lie, where a page of both counts twice
+-- on how many pages a body of so many bytes lies, with its length in front of it
 abbrev pub cost : ℕ → ℕ → ℕ
-cost place count = pages_of place 4 + pages_of (place + 4) count
+cost place count = pages_of place (4 + count)
+
+-- of these pages, how many aren't in hand
+abbrev pub fresh_cost : Option ℕ → ℕ → ℕ → ℕ
+fresh_cost page place count = fresh_pages page place (4 + count)
 
 -- where damage is told, no such length stands at the place
 abbrev pub SparesLength : View → FileName → ℕ → ℕ → ReadFault → Type 0

@@ -8,9 +8,9 @@ use Rattle.sasi_host.specs.declared.damage.Damage.{Damage}
 use Rattle.sasi_host.specs.declared.damage.FormatRule.{FormatRule}
 use Rattle.sasi_host.specs.declared.damage.FormatRule.TheVariants.{Short, Magic, Version, Number, Place}
 use Rattle.sasi_host.specs.Names.{Bytes}
-use Rattle.sasi_host.specs.Damages.{seen_bytes}
+use Rattle.sasi_host.specs.Damages.{HasAt, Differs, ShowsEnd, seen_bytes}
 use Rattle.sasi_body.specs.Damages.{Breaks, HasOtherLength}
-use Rattle.sasi_tokentree.specs.Damages.{HasAt, Differs, ShowsEnd, ShowsTree}
+use Rattle.sasi_tokentree.specs.Damages.{ShowsTree}
 use Rattle.sasi_tokentree.specs.Walks.{HasEntry}
 use Rattle.sasi_dataread.specs.Opened.{Opened}
 use Rattle.sasi_dataread.specs.Bodies.{sized, IsLength}

@@ -24,11 +24,11 @@ abbrev pub FindsKey : View → Opened → ℕ → Bytes → Option Partition →
 FindsKey v opened token key found =
     (partitioner : Partitioner) (content : Content) → IsOpenOn v opened partitioner content → HaveTokens partitioner content → token ≡ token_of partitioner key → found ≡ partition_of content key
 
--- the pages of the partitions with a token, and two for the pair behind each, where the first partition begins here
+-- the pages of the partitions with a token, and one for the pair behind each, where the first partition begins here
 abbrev pub token_cost : Partitioner → ℕ → ℕ → Content → ℕ
 token_cost partitioner token at [] = 0
 token_cost partitioner token at (one ∷ others) =
-    (if nat_eq (token_of partitioner one.0) token then cost at (length (body one.0 one.1)) + 2 else 0) + token_cost partitioner token (at + length (partition_bytes one.0 one.1)) others
+    (if nat_eq (token_of partitioner one.0) token then cost at (length (body one.0 one.1)) + 1 else 0) + token_cost partitioner token (at + length (partition_bytes one.0 one.1)) others
 
 -- ---- on the way
 

@@ -4,9 +4,8 @@ use Rattle.sasi_types.specs.declared.tree.TreeRef.{TreeRef}
 use Rattle.sasi_host.specs.declared.name.FileName.{FileName}
 use Rattle.sasi_host.specs.declared.fault.ReadFault.{ReadFault}
 use Rattle.sasi_host.specs.Names.{Bytes}
-use Rattle.sasi_host.specs.Damages.{OnDamage}
+use Rattle.sasi_host.specs.Damages.{HasAt, OnDamage}
 use Rattle.sasi_host.specs.View.{View, contents}
-use Rattle.sasi_tokentree.specs.Damages.{HasAt}
 use Rattle.sasi_datawrite.specs.Format.{header, footer}
 
 -- the file begins with the header and ends with this footer

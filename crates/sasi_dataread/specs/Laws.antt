@@ -17,7 +17,7 @@ use Rattle.sasi_cells.specs.Entries.{Entry}
 use Rattle.sasi_tokentree.specs.Format.{tree_bytes, tree_ref, levels, level_bytes, size, top, above}
 use Rattle.sasi_tokentree.specs.Sizes.{level_length, one_level, more_levels}
 use Rattle.sasi_tokentree.specs.Heights.{top_is, lead_short}
-use Rattle.sasi_tokentree.specs.Damages.{HasAt}
+use Rattle.sasi_host.specs.Damages.{HasAt}
 use Rattle.sasi_datawrite.specs.Format.{Content, IsContent, header, footer, front, ending, greatest, key_pairs, partition_bytes, partitions, data_bytes}
 use Rattle.sasi_datawrite.specs.Files.{IsDataFile}
 use Rattle.sasi_datawrite.specs.Laws.{header_length, partition_length, pairs_length}

@@ -5,5 +5,6 @@ pub mod Damages
 pub mod Laws
 pub mod Frames
 pub mod Walks
+pub mod Paces
 pub mod Pairs
 pub mod Finds

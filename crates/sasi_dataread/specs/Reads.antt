@@ -1,5 +1,5 @@
 -- What reads of a data file give, over what the host tells.
-use Rattle.std.specs.Prelude.{◌≡◌, ℕ, List, ◌+◌, ◌/◌, ◌%◌, ◌≤◌, Some}
+use Rattle.std.specs.Prelude.{◌≡◌, ℕ, List, ◌+◌, ◌≤◌, Some}
 use Rattle.sasi_types.specs.declared.column.ColumnType.{ColumnType}
 use Rattle.sasi_types.specs.declared.partitioner.Partitioner.{Partitioner}
 use Rattle.sasi_model.specs.Cells.{Partition}
@@ -12,10 +12,6 @@ use Rattle.sasi_datawrite.specs.Format.{Content}
 use Rattle.sasi_datawrite.specs.Files.{IsDataFile}
 use Rattle.sasi_dataread.specs.Opened.{Opened, IsOf, StandsAt}
 use Rattle.sasi_host.specs.Disk.{Changes, Same}
-
--- on how many pages of 4,096 bytes so many bytes from a place on lie
-abbrev pub pages_of : ℕ → ℕ → ℕ
-pages_of at count = (at % 4096 + count + 4095) / 4096
 
 -- the folder stays, no count of faults falls, and at most so many reads were made
 pub record Passes (most : ℕ) (old new : View) : Type 0 where

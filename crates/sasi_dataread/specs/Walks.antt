@@ -6,16 +6,20 @@ use Rattle.sasi_types.specs.Token.{token_of}
 use Rattle.sasi_model.specs.Cells.{Partition}
 use Rattle.sasi_host.specs.declared.fault.ReadFault.{ReadFault}
 use Rattle.sasi_host.specs.Names.{Bytes}
+use Rattle.sasi_host.specs.Held.{Held}
 use Rattle.sasi_host.specs.Damages.{OnDamage}
 use Rattle.sasi_host.specs.View.{View}
 use Rattle.sasi_datawrite.specs.Format.{Content}
 use Rattle.sasi_dataread.specs.Opened.{Opened}
 use Rattle.sasi_dataread.specs.Reads.{IsOpenOn}
 
--- what one knows of a walk in hand: the file, and how many of its partitions were passed
+-- what one knows of a walk in hand: the file, how many of its partitions were passed, and the pages that were read last, of the key
+-- tree and of the partitions
 pub record Walking : Type 0 where
   pub opened : Opened
   pub passed : ℕ
+  pub pairs_held : Held
+  pub held : Held
 
 -- the token of each key fits its field, as that of each key of bytes does
 abbrev pub HaveTokens : Partitioner → Content → Type 0

@@ -1,21 +1,21 @@
 // A data file that is read.
-ghost use Rattle.std.specs.Prelude.{◌≡◌, ◌⊎◌, ◌+◌, ◌*◌, ◌≤◌, ℕ, IfErr, IfOk, Some, length};
+ghost use Rattle.std.specs.Prelude.{◌≡◌, ◌⊎◌, ◌+◌, ◌*◌, ◌/◌, ◌≤◌, ℕ, [], IfErr, IfOk, None, Some, length};
 ghost use Rattle.sasi_types.specs.declared.partitioner.Partitioner.{Partitioner};
 ghost use Rattle.sasi_model.specs.Cells.{Partition as Part};
 ghost use Rattle.sasi_host.specs.declared.name.FileName.{FileName};
 ghost use Rattle.sasi_host.specs.Names.{Bytes};
-ghost use Rattle.sasi_host.specs.View.{IsThere, contents};
+ghost use Rattle.sasi_host.specs.View.{IsThere, ReadsAtMost, contents};
 ghost use Rattle.sasi_host.specs.Disk.{Changes, Same};
 ghost use Rattle.sasi_body.specs.Format.{body};
 ghost use Rattle.sasi_body.specs.Typed.{IsBodyOf};
 ghost use Rattle.sasi_tokentree.specs.Heights.{height};
-ghost use Rattle.sasi_tokentree.specs.Damages.{Shown};
-ghost use Rattle.sasi_tokentree.specs.Reads.{ReadsAtMost};
+ghost use Rattle.sasi_host.specs.Damages.{Shown};
+ghost use Rattle.sasi_host.specs.Held.{IsHeld};
 ghost use Rattle.sasi_datawrite.specs.Format.{Content, header};
 ghost use Rattle.sasi_datawrite.specs.Files.{IsDataFile};
 ghost use Rattle.sasi_dataread.specs.Opened.{IsOf, StandsAt};
 ghost use Rattle.sasi_dataread.specs.Reads.{Gives, GivesKey, IsOpenOn, SparesData, SparesPlace};
-ghost use Rattle.sasi_dataread.specs.Bodies.{cost};
+ghost use Rattle.sasi_dataread.specs.Bodies.{cost, fresh_cost};
 ghost use Rattle.sasi_dataread.specs.Damages.{ShowsData, ShowsFrame, ShowsPartition};
 ghost use Rattle.sasi_dataread.specs.Frames.{IsFramed};
 ghost use Rattle.sasi_dataread.specs.Walks.{HaveTokens, SparesOpened};
@@ -27,7 +27,7 @@ use crate::frame::read_frame;
 use crate::partition::partition_at;
 use crate::types::copy_types;
 use sasi_cells::Partition;
-use sasi_host::{FileName, Host, PageReader, ReadFault};
+use sasi_host::{FileName, HeldPage, Host, PageReader, ReadFault};
 use sasi_tokentree::Tree;
 use sasi_types::{Key, Token, TreeRef, TypeList};
 use std::alloc::{AllocError, Global};
@@ -73,7 +73,7 @@ impl DataFile {
         ensures changes { Changes Same (H.view host.old) (H.view host.new) }
         ensures causes { ReadsAtMost 3 (H.view host.old) (H.view host.new) result }
     {
-        let footer = read_frame(alloc, host, pages, file)?;
+        let footer = read_frame(host, pages, file)?;
         let types = copy_types(alloc, types)?;
         Ok(DataFile {
             file,
@@ -86,7 +86,7 @@ impl DataFile {
 
     /// A walk over the partitions, from the first one on. It makes no read.
     pub fn walk(&self, alloc: Global) -> Result<DataWalk, AllocError>
-        ensures { IfOk result (λ walk. walk ≡ record { opened = self.now; passed = 0 }) }
+        ensures { IfOk result (λ walk. walk ≡ record { opened = self.now; passed = 0; pairs_held = record { file = self.now.file; page = None; bytes = [] }; held = record { file = self.now.file; page = None; bytes = [] } }) }
     {
         let copy = self.copy(alloc)?;
         Ok(DataWalk::new(copy))
@@ -121,9 +121,45 @@ impl DataFile {
 
     /// The key tree, which leads from tokens to the places of partitions, before its first pair.
     pub fn tree(&self) -> Tree
-        ensures { result ≡ record { file = self.now.file; tree = self.now.tree; passed = 0 } }
+        ensures { result ≡ record { held = record { file = self.now.file; page = None; bytes = [] }; tree = self.now.tree; passed = 0 } }
     {
         Tree::new(self.file, self.tree)
+    }
+
+    // None of its pages is in hand yet.
+    pub(crate) fn hold(&self) -> HeldPage
+        ensures { result ≡ record { file = self.now.file; page = None; bytes = [] } }
+    {
+        HeldPage::new(self.file)
+    }
+
+    // The partition that begins at this place, read from the page in hand on.
+    pub(crate) fn at_held<H: Host, P: PageReader>(
+        &self,
+        alloc: Global,
+        host: &mut H,
+        pages: &mut P,
+        held: &mut HeldPage,
+        place: u64,
+    ) -> Result<(Key, Partition), ReadFault>
+        requires there { IsThere (H.view host.old) self.now.file }
+        requires agrees { P.agrees pages.old (H.view host.old).files }
+        requires held { IsHeld held.old (H.view host.old).files }
+        requires named { held.old.file ≡ self.now.file }
+        ensures ok { IfOk result (λ read. Gives (H.view host.old) self.now place read.0 read.1) }
+        ensures in_table { IfOk result (λ read. IsBodyOf self.now.types read.0 read.1) }
+        ensures damaged { IfErr result (Shown (H.view host.old) self.now.file (ShowsPartition self.now.types self.now.end place self.now.file)) }
+        ensures undamaged { IfErr result (SparesPlace (H.view host.old) self.now place) }
+        ensures named { held.new.file ≡ self.now.file }
+        ensures held { IsHeld held.new (H.view host.new).files }
+        ensures page { IfOk result (λ read. held.new.page ≡ Some ((place + 3 + length (body read.0 read.1)) / 4096)) }
+        ensures agrees { P.agrees pages.new (H.view host.new).files }
+        ensures covers { (name : FileName) → P.covers pages.new name → P.covers pages.old name ⊎ (name ≡ self.now.file) }
+        ensures changes { Changes Same (H.view host.old) (H.view host.new) }
+        ensures causes { ReadsAtMost 2050 (H.view host.old) (H.view host.new) result }
+        ensures reads { (partitioner : Partitioner) (content : Content) (key : Bytes) (part : Part) → IsOpenOn (H.view host.old) self.now partitioner content → StandsAt content place key part → (H.view host.new).reads ≤ (H.view host.old).reads + fresh_cost held.old.page place (length (body key part)) }
+    {
+        partition_at(alloc, host, pages, held, &self.types, self.end, place)
     }
 
     /// The partition that begins at this place, which is that of a pair of the key tree.
@@ -143,11 +179,12 @@ impl DataFile {
         ensures agrees { P.agrees pages.new (H.view host.new).files }
         ensures covers { (name : FileName) → P.covers pages.new name → P.covers pages.old name ⊎ (name ≡ self.now.file) }
         ensures changes { Changes Same (H.view host.old) (H.view host.new) }
-        ensures causes { ReadsAtMost 2051 (H.view host.old) (H.view host.new) result }
+        ensures causes { ReadsAtMost 2050 (H.view host.old) (H.view host.new) result }
         // It reads the pages on which the partition lies, where the file is a data file.
         ensures reads { (partitioner : Partitioner) (content : Content) (key : Bytes) (part : Part) → IsOpenOn (H.view host.old) self.now partitioner content → StandsAt content place key part → (H.view host.new).reads ≤ (H.view host.old).reads + cost place (length (body key part)) }
     {
-        partition_at(alloc, host, pages, self.file, &self.types, self.end, place)
+        let mut held = self.hold();
+        self.at_held(alloc, host, pages, &mut held, place)
     }
 
     /// The key of the partition that begins at this place, which is that of a pair of the key tree.
@@ -166,7 +203,7 @@ impl DataFile {
         ensures agrees { P.agrees pages.new (H.view host.new).files }
         ensures covers { (name : FileName) → P.covers pages.new name → P.covers pages.old name ⊎ (name ≡ self.now.file) }
         ensures changes { Changes Same (H.view host.old) (H.view host.new) }
-        ensures causes { ReadsAtMost 2051 (H.view host.old) (H.view host.new) result }
+        ensures causes { ReadsAtMost 2050 (H.view host.old) (H.view host.new) result }
         ensures reads { (partitioner : Partitioner) (content : Content) (key : Bytes) (part : Part) → IsOpenOn (H.view host.old) self.now partitioner content → StandsAt content place key part → (H.view host.new).reads ≤ (H.view host.old).reads + cost place (length (body key part)) }
     {
         let (key, _part) = self.at(alloc, host, pages, place)?;
@@ -191,8 +228,9 @@ impl DataFile {
         ensures agrees { P.agrees pages.new (H.view host.new).files }
         ensures covers { (name : FileName) → P.covers pages.new name → P.covers pages.old name ⊎ (name ≡ self.now.file) }
         ensures changes { Changes Same (H.view host.old) (H.view host.new) }
-        ensures causes { (most : ℕ) → self.now.tree.pairs ≤ most → ReadsAtMost (2 * height most self.now.tree.pairs + 2 + 2053 * self.now.tree.pairs) (H.view host.old) (H.view host.new) result }
-        // Two pages a level and two more, and the pages of the partitions with the token, where the file is a data file.
+        ensures causes { (most : ℕ) → self.now.tree.pairs ≤ most → ReadsAtMost (2 * height most self.now.tree.pairs + 2 + 2051 * self.now.tree.pairs) (H.view host.old) (H.view host.new) result }
+        // Two pages a level and two more, and the pages of the partitions with the token and one for each, where the file is a
+        // data file.
         ensures reads { (most : ℕ) (partitioner : Partitioner) (content : Content) → self.now.tree.pairs ≤ most → IsOpenOn (H.view host.old) self.now partitioner content → HaveTokens partitioner content
             → (H.view host.new).reads ≤ (H.view host.old).reads + (2 * height most self.now.tree.pairs + 2 + token_cost partitioner token (length header) content) }
     {

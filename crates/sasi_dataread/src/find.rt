@@ -4,23 +4,23 @@ ghost use Rattle.sasi_types.specs.declared.partitioner.Partitioner.{Partitioner}
 ghost use Rattle.sasi_model.specs.Cells.{Partition as Part};
 ghost use Rattle.sasi_host.specs.declared.name.FileName.{FileName};
 ghost use Rattle.sasi_host.specs.Names.{Bytes};
-ghost use Rattle.sasi_host.specs.View.{IsThere};
+ghost use Rattle.sasi_host.specs.View.{IsThere, ReadsAtMost};
 ghost use Rattle.sasi_host.specs.Disk.{Changes, Same};
 ghost use Rattle.sasi_body.specs.Format.{body};
 ghost use Rattle.sasi_tokentree.specs.Heights.{height};
-ghost use Rattle.sasi_tokentree.specs.Damages.{Shown};
-ghost use Rattle.sasi_tokentree.specs.Reads.{ReadsAtMost};
+ghost use Rattle.sasi_host.specs.Damages.{Shown};
+ghost use Rattle.sasi_host.specs.Held.{IsHeld};
 ghost use Rattle.sasi_datawrite.specs.Format.{Content, header};
 ghost use Rattle.sasi_dataread.specs.Opened.{StandsAt};
 ghost use Rattle.sasi_dataread.specs.Reads.{IsOpenOn, SparesPlace};
-ghost use Rattle.sasi_dataread.specs.Bodies.{cost};
+ghost use Rattle.sasi_dataread.specs.Bodies.{fresh_cost};
 ghost use Rattle.sasi_dataread.specs.Damages.{ShowsData, ShowsPartition};
 ghost use Rattle.sasi_dataread.specs.Walks.{HaveTokens, SparesOpened};
 ghost use Rattle.sasi_dataread.specs.Finds.{FindsKey, GivesWith, LeadsTo, token_cost};
 
 use crate::DataFile;
 use sasi_cells::Partition;
-use sasi_host::{Host, PageReader, ReadFault};
+use sasi_host::{HeldPage, Host, PageReader, ReadFault};
 use sasi_types::{Key, Pair, Token};
 use std::alloc::Global;
 
@@ -41,21 +41,26 @@ fn part_with<H: Host, P: PageReader>(
     host: &mut H,
     pages: &mut P,
     opened: &DataFile,
+    held: &mut HeldPage,
     place: u64,
     key: &Key,
 ) -> Result<Option<Partition>, ReadFault>
     requires there { IsThere (H.view host.old) opened.now.file }
     requires agrees { P.agrees pages.old (H.view host.old).files }
+    requires held { IsHeld held.old (H.view host.old).files }
+    requires named { held.old.file ≡ opened.now.file }
     ensures ok { IfOk result (λ found. GivesWith (H.view host.old) opened.now place key.now found) }
     ensures damaged { IfErr result (Shown (H.view host.old) opened.now.file (ShowsPartition opened.now.types opened.now.end place opened.now.file)) }
     ensures undamaged { IfErr result (SparesPlace (H.view host.old) opened.now place) }
+    ensures named { held.new.file ≡ opened.now.file }
+    ensures held { IsHeld held.new (H.view host.new).files }
     ensures agrees { P.agrees pages.new (H.view host.new).files }
     ensures covers { (name : FileName) → P.covers pages.new name → P.covers pages.old name ⊎ (name ≡ opened.now.file) }
     ensures changes { Changes Same (H.view host.old) (H.view host.new) }
-    ensures causes { ReadsAtMost 2051 (H.view host.old) (H.view host.new) result }
-    ensures reads { (partitioner : Partitioner) (content : Content) (key : Bytes) (part : Part) → IsOpenOn (H.view host.old) opened.now partitioner content → StandsAt content place key part → (H.view host.new).reads ≤ (H.view host.old).reads + cost place (length (body key part)) }
+    ensures causes { ReadsAtMost 2050 (H.view host.old) (H.view host.new) result }
+    ensures reads { (partitioner : Partitioner) (content : Content) (key : Bytes) (part : Part) → IsOpenOn (H.view host.old) opened.now partitioner content → StandsAt content place key part → (H.view host.new).reads ≤ (H.view host.old).reads + fresh_cost held.old.page place (length (body key part)) }
 {
-    let (other, part) = opened.at(alloc, host, pages, place)?;
+    let (other, part) = opened.at_held(alloc, host, pages, held, place)?;
     if *key != other {
         return Ok(None);
     }
@@ -79,17 +84,18 @@ pub fn find_partition<H: Host, P: PageReader>(
     ensures agrees { P.agrees pages.new (H.view host.new).files }
     ensures covers { (name : FileName) → P.covers pages.new name → P.covers pages.old name ⊎ (name ≡ opened.now.file) }
     ensures changes { Changes Same (H.view host.old) (H.view host.new) }
-    ensures causes { (most : ℕ) → opened.now.tree.pairs ≤ most → ReadsAtMost (2 * height most opened.now.tree.pairs + 2 + 2053 * opened.now.tree.pairs) (H.view host.old) (H.view host.new) result }
+    ensures causes { (most : ℕ) → opened.now.tree.pairs ≤ most → ReadsAtMost (2 * height most opened.now.tree.pairs + 2 + 2051 * opened.now.tree.pairs) (H.view host.old) (H.view host.new) result }
     ensures reads { (most : ℕ) (partitioner : Partitioner) (content : Content) → opened.now.tree.pairs ≤ most → IsOpenOn (H.view host.old) opened.now partitioner content → HaveTokens partitioner content
         → (H.view host.new).reads ≤ (H.view host.old).reads + (2 * height most opened.now.tree.pairs + 2 + token_cost partitioner token (length header) content) }
 {
     let mut tree = opened.tree();
+    let mut held = opened.hold();
     let mut next = tree.first(host, pages, token)?;
     for _turn in 0..opened.partitions() {
         let Some(place) = place_for(next, token) else {
             return Ok(None);
         };
-        let found = part_with(alloc, host, pages, opened, place, key)?;
+        let found = part_with(alloc, host, pages, opened, &mut held, place, key)?;
         if found.is_some() {
             return Ok(found);
         }

@@ -4,27 +4,27 @@ ghost use Rattle.std.specs.Int.{to_be_bytes, w64};
 ghost use Rattle.sasi_types.specs.declared.tree.TreeRef.{TreeRef as Tree};
 ghost use Rattle.sasi_host.specs.declared.name.FileName.{FileName};
 ghost use Rattle.sasi_host.specs.Names.{Bytes};
-ghost use Rattle.sasi_host.specs.View.{IsThere, contents};
+ghost use Rattle.sasi_host.specs.View.{IsThere, ReadsAtMost, contents};
 ghost use Rattle.sasi_host.specs.Disk.{Changes, Same};
-ghost use Rattle.sasi_tokentree.specs.Damages.{HasAt, IsOther, Shown};
-ghost use Rattle.sasi_tokentree.specs.Reads.{ReadsAtMost};
+ghost use Rattle.sasi_host.specs.Damages.{HasAt, Shown};
+ghost use Rattle.sasi_host.specs.Held.{IsHeld};
 ghost use Rattle.sasi_datawrite.specs.Format.{header, footer};
 ghost use Rattle.sasi_dataread.specs.Reads.{SparesData};
 ghost use Rattle.sasi_dataread.specs.Laws.{AreInRange};
 ghost use Rattle.sasi_dataread.specs.Damages.{ShowsFrame, end_mark};
 ghost use Rattle.sasi_dataread.specs.Frames.{IsFramed, SparesFooter, SparesHeader};
 
-use crate::run::read_run;
 use sasi_fields::FieldReader;
-use sasi_host::{Damage, FileName, FormatRule, Host, PageReader, ReadFault, found};
+use sasi_host::{
+    Damage, FileName, FormatRule, HeldPage, Host, PageReader, ReadFault, check_part, found,
+};
 use sasi_types::TreeRef;
-use std::alloc::Global;
 
 // The bytes of a header.
 const HEADER: usize = 16;
 
 // The bytes of a footer.
-const FOOTER: u64 = 40;
+const FOOTER: usize = 40;
 
 // No data file is shorter.
 const LEAST_SIZE: u64 = 97;
@@ -40,29 +40,6 @@ pub struct Footer {
     pub tree: TreeRef,
     pub latest: u64,
     pub end: u64,
-}
-
-// At this offset of the bytes, which stand at a place of the file, the wanted ones have to stand.
-fn check_part(
-    file: FileName,
-    at: u64,
-    bytes: &[u8],
-    offset: usize,
-    wanted: &[u8],
-    rule: FormatRule,
-) -> Result<(), Damage>
-    requires whole { offset + length wanted.now ≤ length bytes.now }
-    requires most { length wanted.now ≤ 8 }
-    requires place { at + length bytes.now < 2 ^ 64 }
-    ensures ok { OnOk result (take (length wanted.now) (drop offset bytes.now) ≡ wanted.now) }
-    ensures seen { IfErr result (IsOther file at bytes.now offset wanted.now rule) }
-    ensures differs { IfErr result (λ _. take (length wanted.now) (drop offset bytes.now) ≢ wanted.now) }
-{
-    let seen = &bytes[offset..offset + wanted.len()];
-    if seen != wanted {
-        return Err(found(file, at + offset as u64, rule, seen));
-    }
-    Ok(())
 }
 
 // The bytes have to be a header.
@@ -87,49 +64,57 @@ fn check_header(file: FileName, bytes: &[u8]) -> Result<(), Damage>
 
 // The file has to begin with a header.
 fn read_header<H: Host, P: PageReader>(
-    alloc: Global,
     host: &mut H,
     pages: &mut P,
-    file: FileName,
+    held: &mut HeldPage,
 ) -> Result<(), ReadFault>
-    requires there { IsThere (H.view host.old) file }
+    requires there { IsThere (H.view host.old) held.old.file }
     requires agrees { P.agrees pages.old (H.view host.old).files }
-    ensures ok { OnOk result ((bytes : Bytes) → contents (H.view host.old) file ≡ Some bytes → HasAt bytes 0 header) }
-    ensures damaged { IfErr result (Shown (H.view host.old) file (ShowsFrame file)) }
-    ensures undamaged { IfErr result (SparesHeader (H.view host.old) file) }
+    requires held { IsHeld held.old (H.view host.old).files }
+    ensures ok { OnOk result ((bytes : Bytes) → contents (H.view host.old) held.old.file ≡ Some bytes → HasAt bytes 0 header) }
+    ensures damaged { IfErr result (Shown (H.view host.old) held.old.file (ShowsFrame held.old.file)) }
+    ensures undamaged { IfErr result (SparesHeader (H.view host.old) held.old.file) }
+    ensures file { held.new.file ≡ held.old.file }
+    ensures held { IsHeld held.new (H.view host.new).files }
     ensures agrees { P.agrees pages.new (H.view host.new).files }
-    ensures covers { (name : FileName) → P.covers pages.new name → P.covers pages.old name ⊎ (name ≡ file) }
+    ensures covers { (name : FileName) → P.covers pages.new name → P.covers pages.old name ⊎ (name ≡ held.old.file) }
     ensures changes { Changes Same (H.view host.old) (H.view host.new) }
     ensures causes { ReadsAtMost 1 (H.view host.old) (H.view host.new) result }
 {
-    let bytes = read_run(alloc, host, pages, file, 0, HEADER)?;
+    let file = held.file();
+    let mut bytes = [0; HEADER];
+    held.read_into(host, pages, 0, &mut bytes)?;
     check_header(file, &bytes)?;
     Ok(())
 }
 
 // The last bytes of a file of this size, which have to end with the mark of a footer.
 fn read_end<H: Host, P: PageReader>(
-    alloc: Global,
     host: &mut H,
     pages: &mut P,
-    file: FileName,
+    held: &mut HeldPage,
     size: u64,
-) -> Result<Vec<u8>, ReadFault>
-    requires there { IsThere (H.view host.old) file }
+) -> Result<[u8; FOOTER], ReadFault>
+    requires there { IsThere (H.view host.old) held.old.file }
     requires agrees { P.agrees pages.old (H.view host.old).files }
+    requires held { IsHeld held.old (H.view host.old).files }
     requires size { 40 ≤ size }
-    ensures ok { IfOk result (λ read. (bytes : Bytes) → contents (H.view host.old) file ≡ Some bytes → HasAt bytes (size - 40) read.items) }
-    ensures length { IfOk result (λ read. length read.items ≡ 40) }
-    ensures mark { IfOk result (λ read. take 8 (drop 32 read.items) ≡ end_mark) }
-    ensures damaged { IfErr result (Shown (H.view host.old) file (λ bytes damage. size ≡ length bytes → ShowsFrame file bytes damage)) }
-    ensures undamaged { IfErr result (SparesFooter (H.view host.old) file (size - 40)) }
+    ensures ok { IfOk result (λ read. (bytes : Bytes) → contents (H.view host.old) held.old.file ≡ Some bytes → HasAt bytes (size - 40) read) }
+    ensures length { IfOk result (λ read. length read ≡ 40) }
+    ensures mark { IfOk result (λ read. take 8 (drop 32 read) ≡ end_mark) }
+    ensures damaged { IfErr result (Shown (H.view host.old) held.old.file (λ bytes damage. size ≡ length bytes → ShowsFrame held.old.file bytes damage)) }
+    ensures undamaged { IfErr result (SparesFooter (H.view host.old) held.old.file (size - 40)) }
+    ensures file { held.new.file ≡ held.old.file }
+    ensures held { IsHeld held.new (H.view host.new).files }
     ensures agrees { P.agrees pages.new (H.view host.new).files }
-    ensures covers { (name : FileName) → P.covers pages.new name → P.covers pages.old name ⊎ (name ≡ file) }
+    ensures covers { (name : FileName) → P.covers pages.new name → P.covers pages.old name ⊎ (name ≡ held.old.file) }
     ensures changes { Changes Same (H.view host.old) (H.view host.new) }
     ensures causes { ReadsAtMost 2 (H.view host.old) (H.view host.new) result }
 {
-    let at = size - FOOTER;
-    let bytes = read_run(alloc, host, pages, file, at, FOOTER as usize)?;
+    let file = held.file();
+    let at = size - FOOTER as u64;
+    let mut bytes = [0; FOOTER];
+    held.read_into(host, pages, at, &mut bytes)?;
     check_part(file, at, &bytes, 32, b"SASIDEND", FormatRule::Magic)?;
     Ok(bytes)
 }
@@ -180,7 +165,6 @@ fn footer_in(file: FileName, at: u64, bytes: &[u8]) -> Result<Footer, Damage>
 
 // The footer of a file that has a header and one.
 pub fn read_frame<H: Host, P: PageReader>(
-    alloc: Global,
     host: &mut H,
     pages: &mut P,
     file: FileName,
@@ -201,8 +185,9 @@ pub fn read_frame<H: Host, P: PageReader>(
         let damage = found(file, size, FormatRule::Short, &size.to_be_bytes());
         return Err(ReadFault::Damaged(damage));
     }
-    let bytes = read_end(alloc, host, pages, file, size)?;
-    read_header(alloc, host, pages, file)?;
-    let footer = footer_in(file, size - FOOTER, &bytes)?;
+    let mut held = HeldPage::new(file);
+    let bytes = read_end(host, pages, &mut held, size)?;
+    read_header(host, pages, &mut held)?;
+    let footer = footer_in(file, size - FOOTER as u64, &bytes)?;
     Ok(footer)
 }

@@ -2,7 +2,6 @@
 // of them in their order. It reads pages of a host's file, and tells damage only where the file shows it.
 #![tactic(auto)]
 
-mod damage;
 mod data_file;
 mod find;
 mod frame;

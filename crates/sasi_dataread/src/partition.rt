@@ -1,30 +1,29 @@
 // Partitions read.
-ghost use Rattle.std.specs.Prelude.{◌≡◌, ◌⊎◌, ◌↔◌, ◌+◌, ◌^◌, ◌<◌, ◌≤◌, List, ℕ, length, IfErr, IfOk, IsTrue, Some, false};
+ghost use Rattle.std.specs.Prelude.{◌≡◌, ◌⊎◌, ◌+◌, ◌/◌, ◌^◌, ◌<◌, ◌≤◌, List, ℕ, length, IfErr, IfOk, OnOk, IsTrue, Some, false};
 ghost use Rattle.std.specs.Int.{to_be_bytes, w32};
 ghost use Rattle.sasi_types.specs.declared.column.ColumnType.{ColumnType};
 ghost use Rattle.sasi_model.specs.Cells.{Partition as Part};
 ghost use Rattle.sasi_host.specs.declared.name.FileName.{FileName};
 ghost use Rattle.sasi_host.specs.declared.fault.ReadFault.TheVariants as read_fault;
 ghost use Rattle.sasi_host.specs.Names.{Bytes};
-ghost use Rattle.sasi_host.specs.View.{IsThere, contents};
+ghost use Rattle.sasi_host.specs.View.{IsThere, ReadsAtMost, contents};
 ghost use Rattle.sasi_host.specs.Disk.{Changes, Same};
-ghost use Rattle.sasi_host.specs.Damages.{OnDamage};
+ghost use Rattle.sasi_host.specs.Damages.{HasAt, OnDamage, Shown};
+ghost use Rattle.sasi_host.specs.Held.{IsHeld, fresh_pages};
 ghost use Rattle.sasi_body.specs.declared.fault.BodyFault.TheVariants as body_fault;
 ghost use Rattle.sasi_body.specs.Format.{body};
 ghost use Rattle.sasi_body.specs.Seen.{IsFaultOf};
 ghost use Rattle.sasi_body.specs.Typed.{IsBodyOf};
-ghost use Rattle.sasi_tokentree.specs.Damages.{HasAt, Shown};
-ghost use Rattle.sasi_tokentree.specs.Reads.{ReadsAtMost};
-ghost use Rattle.sasi_dataread.specs.Reads.{pages_of};
 ghost use Rattle.sasi_dataread.specs.Damages.{ShowsPartition};
-ghost use Rattle.sasi_dataread.specs.Bodies.{sized, cost, IsLength, IsPlacedIn, SparesLength, SparesSized, SparesBody};
+ghost use Rattle.sasi_dataread.specs.Bodies.{sized, fresh_cost, IsLength, IsPlacedIn, SparesLength, SparesSized, SparesBody};
 
-use crate::damage::too_short;
 use crate::run::read_run;
 use sasi_body::{BodyFault, read_body};
 use sasi_cells::Partition;
 use sasi_fields::FieldReader;
-use sasi_host::{Damage, FileName, FormatRule, Host, PageReader, ReadFault, found};
+use sasi_host::{
+    Damage, FileName, FormatRule, HeldPage, Host, PageReader, ReadFault, found, too_short,
+};
 use sasi_types::{Key, TypeList};
 use std::alloc::Global;
 
@@ -57,28 +56,33 @@ fn is_wrong_length(count: u64, room: u64) -> bool
 
 // The length of the body at this place, which has to end in front of the end.
 fn read_length<H: Host, P: PageReader>(
-    alloc: Global,
     host: &mut H,
     pages: &mut P,
-    file: FileName,
+    held: &mut HeldPage,
     end: u64,
     place: u64,
 ) -> Result<u64, ReadFault>
-    requires there { IsThere (H.view host.old) file }
+    requires there { IsThere (H.view host.old) held.old.file }
     requires agrees { P.agrees pages.old (H.view host.old).files }
-    ensures ok { IfOk result (λ count. (bytes : Bytes) → contents (H.view host.old) file ≡ Some bytes → HasAt bytes place (to_be_bytes w32 count)) }
+    requires held { IsHeld held.old (H.view host.old).files }
+    ensures ok { IfOk result (λ count. (bytes : Bytes) → contents (H.view host.old) held.old.file ≡ Some bytes → HasAt bytes place (to_be_bytes w32 count)) }
     ensures length { IfOk result (IsLength end place) }
-    ensures damaged { (types : List ColumnType) → IfErr result (Shown (H.view host.old) file (ShowsPartition types end place file)) }
-    ensures undamaged { IfErr result (SparesLength (H.view host.old) file end place) }
+    ensures damaged { (types : List ColumnType) → IfErr result (Shown (H.view host.old) held.old.file (ShowsPartition types end place held.old.file)) }
+    ensures undamaged { IfErr result (SparesLength (H.view host.old) held.old.file end place) }
+    ensures file { held.new.file ≡ held.old.file }
+    ensures held { IsHeld held.new (H.view host.new).files }
     ensures agrees { P.agrees pages.new (H.view host.new).files }
-    ensures covers { (name : FileName) → P.covers pages.new name → P.covers pages.old name ⊎ (name ≡ file) }
+    ensures covers { (name : FileName) → P.covers pages.new name → P.covers pages.old name ⊎ (name ≡ held.old.file) }
     ensures changes { Changes Same (H.view host.old) (H.view host.new) }
-    ensures causes { ReadsAtMost (pages_of place 4) (H.view host.old) (H.view host.new) result }
+    ensures page { OnOk result (held.new.page ≡ Some ((place + 3) / 4096)) }
+    ensures causes { ReadsAtMost (fresh_pages held.old.page place 4) (H.view host.old) (H.view host.new) result }
 {
+    let file = held.file();
     if place > LARGEST_FILE {
         return Err(too_short(host, file));
     }
-    let field = read_run(alloc, host, pages, file, place, LENGTH as usize)?;
+    let mut field = [0; LENGTH as usize];
+    held.read_into(host, pages, place, &mut field)?;
     let count = u64::from(length_in(&field));
     if is_wrong_length(count, end.saturating_sub(place + LENGTH)) {
         let damage = found(file, place, FormatRule::Number, &field);
@@ -92,24 +96,28 @@ fn read_sized<H: Host, P: PageReader>(
     alloc: Global,
     host: &mut H,
     pages: &mut P,
-    file: FileName,
+    held: &mut HeldPage,
     end: u64,
     place: u64,
 ) -> Result<Vec<u8>, ReadFault>
-    requires there { IsThere (H.view host.old) file }
+    requires there { IsThere (H.view host.old) held.old.file }
     requires agrees { P.agrees pages.old (H.view host.old).files }
-    ensures ok { IfOk result (λ read. (bytes : Bytes) → contents (H.view host.old) file ≡ Some bytes → HasAt bytes place (sized read.items)) }
+    requires held { IsHeld held.old (H.view host.old).files }
+    ensures ok { IfOk result (λ read. (bytes : Bytes) → contents (H.view host.old) held.old.file ≡ Some bytes → HasAt bytes place (sized read.items)) }
     ensures length { IfOk result (λ read. IsLength end place (length read.items)) }
-    ensures damaged { (types : List ColumnType) → IfErr result (Shown (H.view host.old) file (ShowsPartition types end place file)) }
-    ensures undamaged { IfErr result (SparesSized (H.view host.old) file end place) }
+    ensures damaged { (types : List ColumnType) → IfErr result (Shown (H.view host.old) held.old.file (ShowsPartition types end place held.old.file)) }
+    ensures undamaged { IfErr result (SparesSized (H.view host.old) held.old.file end place) }
+    ensures file { held.new.file ≡ held.old.file }
+    ensures held { IsHeld held.new (H.view host.new).files }
     ensures agrees { P.agrees pages.new (H.view host.new).files }
-    ensures covers { (name : FileName) → P.covers pages.new name → P.covers pages.old name ⊎ (name ≡ file) }
+    ensures covers { (name : FileName) → P.covers pages.new name → P.covers pages.old name ⊎ (name ≡ held.old.file) }
     ensures changes { Changes Same (H.view host.old) (H.view host.new) }
-    ensures causes { ReadsAtMost 2051 (H.view host.old) (H.view host.new) result }
-    ensures reads { (bytes body : Bytes) → contents (H.view host.old) file ≡ Some bytes → HasAt bytes place (sized body) → length body < 2 ^ 32 → (H.view host.new).reads ≤ (H.view host.old).reads + cost place (length body) }
+    ensures page { IfOk result (λ read. held.new.page ≡ Some ((place + 3 + length read.items) / 4096)) }
+    ensures causes { ReadsAtMost 2050 (H.view host.old) (H.view host.new) result }
+    ensures reads { (bytes body : Bytes) → contents (H.view host.old) held.old.file ≡ Some bytes → HasAt bytes place (sized body) → length body < 2 ^ 32 → (H.view host.new).reads ≤ (H.view host.old).reads + fresh_cost held.old.page place (length body) }
 {
-    let count = read_length(alloc, host, pages, file, end, place)?;
-    let body = read_run(alloc, host, pages, file, place + LENGTH, count as usize)?;
+    let count = read_length(host, pages, held, end, place)?;
+    let body = read_run(alloc, host, pages, held, place + LENGTH, count as usize)?;
     Ok(body)
 }
 
@@ -143,24 +151,29 @@ pub fn partition_at<H: Host, P: PageReader>(
     alloc: Global,
     host: &mut H,
     pages: &mut P,
-    file: FileName,
+    held: &mut HeldPage,
     types: &TypeList,
     end: u64,
     place: u64,
 ) -> Result<(Key, Partition), ReadFault>
-    requires there { IsThere (H.view host.old) file }
+    requires there { IsThere (H.view host.old) held.old.file }
     requires agrees { P.agrees pages.old (H.view host.old).files }
-    ensures ok { IfOk result (λ read. (bytes : Bytes) → contents (H.view host.old) file ≡ Some bytes → HasAt bytes place (sized (body read.0 read.1))) }
+    requires held { IsHeld held.old (H.view host.old).files }
+    ensures ok { IfOk result (λ read. (bytes : Bytes) → contents (H.view host.old) held.old.file ≡ Some bytes → HasAt bytes place (sized (body read.0 read.1))) }
     ensures in_table { IfOk result (λ read. IsBodyOf types.now read.0 read.1) }
-    ensures damaged { IfErr result (Shown (H.view host.old) file (ShowsPartition types.now end place file)) }
-    ensures undamaged { IfErr result (SparesBody (H.view host.old) file types.now end place) }
+    ensures damaged { IfErr result (Shown (H.view host.old) held.old.file (ShowsPartition types.now end place held.old.file)) }
+    ensures undamaged { IfErr result (SparesBody (H.view host.old) held.old.file types.now end place) }
+    ensures file { held.new.file ≡ held.old.file }
+    ensures held { IsHeld held.new (H.view host.new).files }
     ensures agrees { P.agrees pages.new (H.view host.new).files }
-    ensures covers { (name : FileName) → P.covers pages.new name → P.covers pages.old name ⊎ (name ≡ file) }
+    ensures covers { (name : FileName) → P.covers pages.new name → P.covers pages.old name ⊎ (name ≡ held.old.file) }
     ensures changes { Changes Same (H.view host.old) (H.view host.new) }
-    ensures causes { ReadsAtMost 2051 (H.view host.old) (H.view host.new) result }
-    ensures reads { (bytes part : Bytes) → contents (H.view host.old) file ≡ Some bytes → HasAt bytes place (sized part) → length part < 2 ^ 32 → (H.view host.new).reads ≤ (H.view host.old).reads + cost place (length part) }
+    ensures page { IfOk result (λ read. held.new.page ≡ Some ((place + 3 + length (body read.0 read.1)) / 4096)) }
+    ensures causes { ReadsAtMost 2050 (H.view host.old) (H.view host.new) result }
+    ensures reads { (bytes part : Bytes) → contents (H.view host.old) held.old.file ≡ Some bytes → HasAt bytes place (sized part) → length part < 2 ^ 32 → (H.view host.new).reads ≤ (H.view host.old).reads + fresh_cost held.old.page place (length part) }
 {
-    let bytes = read_sized(alloc, host, pages, file, end, place)?;
+    let file = held.file();
+    let bytes = read_sized(alloc, host, pages, held, end, place)?;
     match read_body(alloc, &bytes, types) {
         Ok(read) => Ok(read),
         Err(fault) => Err(fault_in_file(file, place, &bytes, fault)),

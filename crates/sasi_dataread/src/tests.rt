@@ -231,7 +231,10 @@ fn partitions_of_shared_tokens_are_walked_and_found(rt: HostRuntime) -> Result<(
     write_many(alloc, &mut host)?;
     let data = open_whole(alloc, &mut host)?;
     assert_eq!(rt; (data.partitions(), data.greatest()), (300, 300));
+    // The header and the footer lie on two pages, the partitions on two, and the leaves of the key tree on three.
+    assert_eq!(rt; host.reads(), 2);
     assert!(rt; walks(alloc, &mut host, &data)?);
+    assert_eq!(rt; host.reads(), 7);
     for k in 0..COUNT {
         assert!(rt; finds_alone(alloc, &mut host, &data, k)?, "at {k}");
     }

@@ -1,26 +1,32 @@
 // One partition of a data file after another.
-ghost use Rattle.std.specs.Prelude.{◌≡◌, ◌⊎◌, ◌+◌, ◌≤◌, IfErr, IfOk};
+ghost use Rattle.std.specs.Prelude.{◌≡◌, ◌⊎◌, [], IfErr, IfOk, None};
 ghost use Rattle.sasi_host.specs.declared.name.FileName.{FileName};
-ghost use Rattle.sasi_host.specs.View.{IsThere};
+ghost use Rattle.sasi_host.specs.View.{IsThere, ReadsAtMost};
 ghost use Rattle.sasi_host.specs.Disk.{Changes, Same};
-ghost use Rattle.sasi_tokentree.specs.Damages.{Shown};
-ghost use Rattle.sasi_tokentree.specs.Reads.{ReadsAtMost};
+ghost use Rattle.sasi_host.specs.Damages.{Shown};
+ghost use Rattle.sasi_host.specs.Held.{IsHeld};
+ghost use Rattle.sasi_types.specs.declared.partitioner.Partitioner.{Partitioner};
+ghost use Rattle.sasi_datawrite.specs.Format.{Content};
+ghost use Rattle.sasi_dataread.specs.Reads.{IsOpenOn};
+ghost use Rattle.sasi_dataread.specs.Paces.{Goes, IsAlong, walk_of};
 ghost use Rattle.sasi_dataread.specs.Damages.{ShowsData};
-ghost use Rattle.sasi_dataread.specs.Walks.{GivesPartition, SparesOpened};
+ghost use Rattle.sasi_dataread.specs.Walks.{GivesPartition, HaveTokens, SparesOpened};
 
 use crate::DataFile;
 use sasi_cells::Partition;
-use sasi_host::{FileName, Host, PageReader, ReadFault};
+use sasi_host::{FileName, HeldPage, Host, PageReader, ReadFault};
 use sasi_tokentree::Tree;
 use sasi_types::{Key, Token};
 use std::alloc::Global;
 use std::marker::Model;
 
-/// A walk over the partitions of a data file, from the first one on. Seen as the file and how many of them it has passed.
+/// A walk over the partitions of a data file, from the first one on. Seen as the file, how many of them it has passed, and the
+/// pages that it has in hand.
 #[derive(Drop)]
 pub struct DataWalk {
     opened: DataFile,
     tree: Tree,
+    held: HeldPage,
 }
 
 impl Model for DataWalk {
@@ -29,18 +35,19 @@ impl Model for DataWalk {
 
     ghost Value = { Walking };
 
-    ghost view = { λ a. record { opened = a.opened; passed = a.tree.passed } };
+    ghost view = { λ a. record { opened = a.opened; passed = a.tree.passed; pairs_held = a.tree.held; held = a.held } };
 
-    ghost invariant = { λ a. (a.tree.file ≡ a.opened.file) × (a.tree.tree ≡ a.opened.tree) };
+    ghost invariant = { λ a. (a.tree.held.file ≡ a.opened.file) × (a.tree.tree ≡ a.opened.tree) × (a.held.file ≡ a.opened.file) };
 }
 
 impl DataWalk {
     // A walk over this file, before its first partition.
     pub(crate) fn new(opened: DataFile) -> DataWalk
-        ensures { result ≡ record { opened = opened; passed = 0 } }
+        ensures { result ≡ record { opened = opened; passed = 0; pairs_held = record { file = opened.file; page = None; bytes = [] }; held = record { file = opened.file; page = None; bytes = [] } } }
     {
         let tree = opened.tree();
-        DataWalk { opened, tree }
+        let held = opened.hold();
+        DataWalk { opened, tree, held }
     }
 
     /// The next partition, with the token of its key; None exactly at the end. After a fault it stands before that partition
@@ -53,16 +60,29 @@ impl DataWalk {
     ) -> Result<Option<(Token, Key, Partition)>, ReadFault>
         requires there { IsThere (H.view host.old) self.old.opened.file }
         requires agrees { P.agrees pages.old (H.view host.old).files }
+        requires pairs_held { IsHeld self.old.pairs_held (H.view host.old).files }
+        requires held { IsHeld self.old.held (H.view host.old).files }
         ensures ok { IfOk result (λ found. GivesPartition (H.view host.old) self.old.opened self.old.passed self.new.passed found) }
         ensures damaged { IfErr result (Shown (H.view host.old) self.old.opened.file (ShowsData self.old.opened)) }
         ensures undamaged { IfErr result (SparesOpened (H.view host.old) self.old.opened) }
         ensures agrees { P.agrees pages.new (H.view host.new).files }
         ensures covers { (name : FileName) → P.covers pages.new name → P.covers pages.old name ⊎ (name ≡ self.old.opened.file) }
         ensures changes { Changes Same (H.view host.old) (H.view host.new) }
-        ensures causes { ReadsAtMost 2053 (H.view host.old) (H.view host.new) result }
+        ensures pairs_held { IsHeld self.new.pairs_held (H.view host.new).files }
+        ensures held { IsHeld self.new.held (H.view host.new).files }
+        ensures causes { ReadsAtMost 2052 (H.view host.old) (H.view host.new) result }
+        // Each page is read once: all reads of a walk are no more than the pages that it has come to.
+        ensures reads { IfOk result (λ _. (partitioner : Partitioner) (content : Content) → IsOpenOn (H.view host.old) self.old.opened partitioner content → HaveTokens partitioner content → IsAlong content self.old → Goes content (H.view host.old).reads (H.view host.new).reads self.old self.new) }
         ensures opened { self.new.opened ≡ self.old.opened }
     {
-        next_of(alloc, host, pages, &self.opened, &mut self.tree)
+        next_of(
+            alloc,
+            host,
+            pages,
+            &self.opened,
+            &mut self.tree,
+            &mut self.held,
+        )
     }
 }
 
@@ -73,25 +93,34 @@ fn next_of<H: Host, P: PageReader>(
     pages: &mut P,
     opened: &DataFile,
     tree: &mut Tree,
+    held: &mut HeldPage,
 ) -> Result<Option<(Token, Key, Partition)>, ReadFault>
     requires there { IsThere (H.view host.old) opened.now.file }
     requires agrees { P.agrees pages.old (H.view host.old).files }
-    requires file { tree.old.file ≡ opened.now.file }
+    requires file { tree.old.held.file ≡ opened.now.file }
     requires tree { tree.old.tree ≡ opened.now.tree }
+    requires named { held.old.file ≡ opened.now.file }
+    requires pairs_held { IsHeld tree.old.held (H.view host.old).files }
+    requires held { IsHeld held.old (H.view host.old).files }
     ensures ok { IfOk result (λ found. GivesPartition (H.view host.old) opened.now tree.old.passed tree.new.passed found) }
     ensures damaged { IfErr result (Shown (H.view host.old) opened.now.file (ShowsData opened.now)) }
     ensures undamaged { IfErr result (SparesOpened (H.view host.old) opened.now) }
     ensures agrees { P.agrees pages.new (H.view host.new).files }
     ensures covers { (name : FileName) → P.covers pages.new name → P.covers pages.old name ⊎ (name ≡ opened.now.file) }
     ensures changes { Changes Same (H.view host.old) (H.view host.new) }
-    ensures causes { ReadsAtMost 2053 (H.view host.old) (H.view host.new) result }
-    ensures file { tree.new.file ≡ tree.old.file }
+    ensures pairs_held { IsHeld tree.new.held (H.view host.new).files }
+    ensures held { IsHeld held.new (H.view host.new).files }
+    ensures causes { ReadsAtMost 2052 (H.view host.old) (H.view host.new) result }
+    ensures reads { IfOk result (λ _. (partitioner : Partitioner) (content : Content) → IsOpenOn (H.view host.old) opened.now partitioner content → HaveTokens partitioner content → IsAlong content (walk_of opened.now tree.old held.old)
+        → Goes content (H.view host.old).reads (H.view host.new).reads (walk_of opened.now tree.old held.old) (walk_of opened.now tree.new held.new)) }
+    ensures file { tree.new.held.file ≡ tree.old.held.file }
+    ensures named { held.new.file ≡ held.old.file }
     ensures tree { tree.new.tree ≡ tree.old.tree }
 {
     let pair = match tree.next(host, pages)? {
         None => return Ok(None),
         Some(pair) => pair,
     };
-    let (key, part) = opened.at(alloc, host, pages, pair.place)?;
+    let (key, part) = opened.at_held(alloc, host, pages, held, pair.place)?;
     Ok(Some((pair.token, key, part)))
 }

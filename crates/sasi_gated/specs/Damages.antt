@@ -3,22 +3,12 @@ use Rattle.std.specs.Prelude.{◌≡◌, ◌≢◌, ◌⊎◌, ℕ, ◌+◌, ◌
 use Rattle.std.specs.Int.{to_be_bytes, from_be_bytes, w32, w64}
 use Rattle.sasi_host.specs.declared.name.FileName.{FileName}
 use Rattle.sasi_host.specs.declared.damage.Damage.{Damage}
-use Rattle.sasi_host.specs.declared.damage.Seen.{Seen}
 use Rattle.sasi_host.specs.declared.damage.FormatRule.{FormatRule}
 use Rattle.sasi_host.specs.declared.damage.FormatRule.TheVariants.{Short, Magic, Version, Number}
 use Rattle.sasi_host.specs.Names.{Bytes}
-use Rattle.sasi_host.specs.Damages.{seen_bytes}
+pub use Rattle.sasi_host.specs.Damages.{Differs, TellsSize, seen_bytes}
 use Rattle.sasi_gated.specs.Format.{magic, IsLength}
 use Rattle.sasi_gated.specs.Gates.{IsAtGate}
-
--- at this place stand other bytes than the format wants
-pub record Differs (bytes : Bytes) (at : ℕ) (seen wanted : Bytes) : Type 0 where
-  pub front : Bytes
-  pub rest : Bytes
-  pub is : bytes ≡ front ++ seen ++ rest
-  pub place : at ≡ length front
-  pub size : length seen ≡ length wanted
-  pub differs : seen ≢ wanted
 
 -- from a gate on the bytes end too early: before the gate, or before the end of the record that an open gate and a length announce
 abbrev pub EndsEarly : Bytes → Type 0
@@ -55,10 +45,3 @@ Breaks file bytes _ at seen = ⊥
 pub record Shows (file : FileName) (bytes : Bytes) (damage : Damage) : Type 0 where
   pub named : damage.file ≡ file
   pub breaks : Breaks file bytes damage.rule damage.at (seen_bytes damage.seen)
-
--- the damage is that this file is too short, and tells its size
-pub record TellsSize (file : FileName) (bytes : Bytes) (damage : Damage) : Type 0 where
-  pub named : damage.file ≡ file
-  pub rule : damage.rule ≡ Short
-  pub place : damage.at ≡ length bytes
-  pub seen : seen_bytes damage.seen ≡ to_be_bytes w64 (length bytes)

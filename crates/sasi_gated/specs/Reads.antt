@@ -1,9 +1,7 @@
 -- What reads of a gated file give, over what the host tells.
 use Rattle.std.specs.Prelude.{Bool, ◌≡◌, ℕ, List, [], ◌∷◌, ◌++◌, Some}
 use Rattle.sasi_host.specs.declared.name.FileName.{FileName}
-use Rattle.sasi_host.specs.declared.damage.Damage.{Damage}
 use Rattle.sasi_host.specs.declared.fault.ReadFault.{ReadFault}
-use Rattle.sasi_host.specs.declared.fault.ReadFault.TheVariants as fault
 use Rattle.sasi_host.specs.Names.{Bytes}
 use Rattle.sasi_host.specs.Damages.{OnDamage}
 use Rattle.sasi_host.specs.View.{View, IsTold, contents}

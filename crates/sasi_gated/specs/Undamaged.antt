@@ -21,7 +21,7 @@ parts_same front seen rest a wanted b same fronts sizes =
     sym (drop_at front seen (length front) refl) ∙ ap (λ (l : Bytes). drop (length front) l) first ∙ drop_at a wanted (length front) (sym fronts)
 
 as_wanted : (bytes a wanted b seen : Bytes) (at : ℕ) → bytes ≡ a ++ wanted ++ b → at ≡ length a → Differs bytes at seen wanted → ⊥
-as_wanted bytes a wanted b seen at is place d = d.differs (parts_same d.front seen d.rest a wanted b (sym d.is ∙ is) (sym d.place ∙ place) d.size)
+as_wanted bytes a wanted b seen at is place d = d.differs (parts_same d.stands.front seen d.stands.rest a wanted b (sym d.stands.is ∙ is) (d.stands.place ∙ place) d.long)
 
 header_parts : (file : FileName) (rest : Bytes) → header file ++ rest ≡ magic file.kind ++ to_be_bytes w32 1 ++ to_be_bytes w32 file.number ++ rest
 unfolding header

@@ -2,3 +2,4 @@ pub mod Folders
 pub mod CallChanges
 pub mod PickedImages
 pub mod HostChanges
+pub mod Pages

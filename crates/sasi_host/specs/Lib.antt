@@ -14,3 +14,6 @@ pub mod Sound
 pub mod Silent
 pub mod Picks
 pub mod Damages
+pub mod Places
+pub mod Showing
+pub mod Held

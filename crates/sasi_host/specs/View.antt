@@ -7,6 +7,8 @@ use Rattle.std.specs.Io.KnownBytes.{Appends}
 use Rattle.sasi_host.specs.declared.name.FileName.{FileName}
 use Rattle.sasi_host.specs.declared.fault.HostFault.{HostFault}
 use Rattle.sasi_host.specs.declared.fault.HostFault.TheVariants as fault
+use Rattle.sasi_host.specs.declared.fault.ReadFault.{ReadFault}
+use Rattle.sasi_host.specs.declared.fault.ReadFault.TheVariants as read
 use Rattle.sasi_host.specs.Names.{Bytes, Folder}
 
 -- what a source tells
@@ -136,6 +138,13 @@ pub record PageCauses {T : Type 0} (old new : View) (result : Result T HostFault
   pub out : new.out_faults ≡ old.out_faults
   pub reads : (new.reads ≡ old.reads) ⊎ (new.reads ≡ counted old.reads)
   pub failed : IfErr result (λ f. f ≡ fault.Failed → Rose old.disk_faults new.disk_faults)
+
+-- the same of a read of a format, which takes at most so many reads of the host
+pub record ReadsAtMost {T : Type 0} (most : ℕ) (old new : View) (result : Result T ReadFault) : Type 0 where
+  pub disk : old.disk_faults ≤ new.disk_faults
+  pub out : new.out_faults ≡ old.out_faults
+  pub reads : new.reads ≤ old.reads + most
+  pub failed : IfErr result (λ f. f ≡ read.Failed → Rose old.disk_faults new.disk_faults)
 
 -- the same of the replies
 pub record OutCauses {T E : Type 0} (old new : View) (result : Result T E) : Type 0 where

@@ -1,6 +1,6 @@
 // What a file shows where it breaks a rule of its format.
-ghost use Rattle.std.specs.Prelude.{◌≡◌, ◌≤◌, length};
-ghost use Rattle.sasi_host.specs.Damages.{seen_bytes};
+ghost use Rattle.std.specs.Prelude.{◌≡◌, ◌≢◌, ◌+◌, ◌^◌, ◌<◌, ◌≤◌, length, take, drop, IfErr, OnOk};
+ghost use Rattle.sasi_host.specs.Damages.{IsOther, seen_bytes};
 
 use crate::FileName;
 
@@ -63,4 +63,27 @@ pub fn found(file: FileName, at: u64, rule: FormatRule, bytes: &[u8]) -> Damage
             len: bytes.len() as u8,
         },
     }
+}
+
+/// At this offset of the bytes, which stand at a place of the file, the wanted ones have to stand.
+pub fn check_part(
+    file: FileName,
+    at: u64,
+    bytes: &[u8],
+    offset: usize,
+    wanted: &[u8],
+    rule: FormatRule,
+) -> Result<(), Damage>
+    requires whole { offset + length wanted.now ≤ length bytes.now }
+    requires most { length wanted.now ≤ 8 }
+    requires place { at + offset < 2 ^ 64 }
+    ensures ok { OnOk result (take (length wanted.now) (drop offset bytes.now) ≡ wanted.now) }
+    ensures seen { IfErr result (IsOther file at bytes.now offset wanted.now rule) }
+    ensures differs { IfErr result (λ _. take (length wanted.now) (drop offset bytes.now) ≢ wanted.now) }
+{
+    let seen = &bytes[offset..offset + wanted.len()];
+    if seen != wanted {
+        return Err(found(file, at + offset as u64, rule, seen));
+    }
+    Ok(())
 }

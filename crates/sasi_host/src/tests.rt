@@ -1,5 +1,8 @@
-// The source and the host in memory, each call once.
-use crate::{Failed, FileName, Host, Kind, MemHost, MemSource, Source};
+// The source and the host in memory, each call once, and the page in hand.
+use crate::{
+    Direct, Failed, FileName, FormatRule, HeldPage, Host, Kind, MemHost, MemSource, ReadFault,
+    Source, found,
+};
 use std::alloc::AllocError;
 
 #[test]
@@ -103,5 +106,34 @@ fn files_are_read_from_any_place(rt: HostRuntime) -> Result<(), AllocError> {
         assert_eq!(rt; &buf[..], bytes);
     }
     assert_eq!(rt; host.reads(), 4);
+    Ok(())
+}
+
+#[test]
+fn page_in_hand_is_not_read_again(rt: HostRuntime) -> Result<(), AllocError> {
+    let alloc = rt.alloc();
+    let file = name(Kind::Data, 1, 0, 0);
+    let mut bytes = [0; 10_000];
+    for (at, byte) in bytes.iter_mut().enumerate() {
+        *byte = (at % 251) as u8;
+    }
+    let mut host = MemHost::new(alloc);
+    host.put(file, &bytes)?;
+    let mut held = HeldPage::new(file);
+    let mut out = [0; 5000];
+    assert_eq!(rt; held.read_into(&mut host, &mut Direct, 0, &mut out), Ok(()));
+    assert_eq!(rt; &out[..], &bytes[..5000]);
+    assert_eq!(rt; host.reads(), 2);
+    assert_eq!(rt;
+        held.read_into(&mut host, &mut Direct, 5000, &mut out),
+        Ok(())
+    );
+    assert_eq!(rt; &out[..], &bytes[5000..]);
+    assert_eq!(rt; host.reads(), 3);
+    let size: u64 = 10_000;
+    let short = found(file, size, FormatRule::Short, &size.to_be_bytes());
+    let past_end = held.read_into(&mut host, &mut Direct, 9000, &mut out);
+    assert_eq!(rt; past_end, Err(ReadFault::Damaged(short)));
+    assert_eq!(rt; host.reads(), 3);
     Ok(())
 }

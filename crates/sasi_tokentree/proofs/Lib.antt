@@ -1,7 +1,8 @@
 pub mod Leveling
-pub mod Windows
+pub mod Holding
 pub mod NodeParts
 pub mod NodeReads
 pub mod Standing
 pub mod Seeks
 pub mod Walking
+pub mod Fitting

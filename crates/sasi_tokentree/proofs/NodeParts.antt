@@ -1,6 +1,6 @@
 -- What the bytes of a node tell.
-use Rattle.std.proofs.Common.{◌≡◌, ℕ, zero, suc, add-zero, ◌+◌, ◌-◌, ◌*◌, ◌^◌, ◌<◌, ◌≤◌, ◌≢◌, List, [], ◌∷◌, ◌++◌, length, take, drop, refl, sym, ◌∙◌, ap, subst, arith, append_assoc, lit<, ⊎_elim}
-use Rattle.std.proofs.lemmas.List.{take_at, drop_at, take-take, drop-take, drop-drop, drop_more, drop_all, length-take-le}
+use Rattle.std.proofs.Common.{◌≡◌, ℕ, zero, suc, add-zero, ◌+◌, ◌-◌, ◌*◌, ◌^◌, ◌<◌, ◌≤◌, List, [], ◌∷◌, ◌++◌, length, take, drop, refl, sym, ◌∙◌, ap, subst, arith, append_assoc, lit<, ⊎_elim}
+use Rattle.std.proofs.lemmas.List.{take_at, drop_at, take-take, drop-take, drop-drop, drop_more, drop_all}
 use Rattle.std.proofs.lemmas.Nat.{from_be_bytes-to_be_bytes_8}
 use Rattle.std.proofs.Math.Seq.{take-add}
 use Rattle.std.specs.List.{flat_map}
@@ -11,12 +11,12 @@ use Rattle.sasi_host.specs.declared.damage.Damage.{Damage}
 use Rattle.sasi_host.specs.declared.damage.FormatRule.{FormatRule}
 use Rattle.sasi_host.specs.declared.damage.FormatRule.TheVariants.{Short, Number, Order}
 use Rattle.sasi_host.specs.Names.{Bytes}
+use Rattle.sasi_host.specs.Places.{window_at, at_window, first_at, both_at}
 use Rattle.sasi_tokentree.specs.Format.{pair_at, entry, head, node, IsBefore, IsRising, AreFit}
 use Rattle.sasi_tokentree.specs.Sizes.{entry_length, head_length, node_length}
-use Rattle.sasi_tokentree.specs.Damages.{HasAt, IsHeadPart, IsOther, NodeBreaks}
-use Rattle.sasi_tokentree.specs.Places.{window_at, at_window, first_at, both_at}
+use Rattle.sasi_tokentree.specs.Damages.{IsHeadPart, NodeBreaks}
 use Rattle.sasi_tokentree.specs.Reads.{IsInNode, FindsBelow}
-use Rattle.sasi_host.specs.Damages.{seen_bytes}
+use Rattle.sasi_host.specs.Damages.{seen_bytes, HasAt, IsOther}
 
 -- ---- what is seen
 

@@ -1,5 +1,5 @@
 -- A node that stands in a file is what a read there gives, and a fault there shows that none does.
-use Rattle.std.proofs.Common.{◌≡◌, ℕ, ◌+◌, ◌*◌, ◌<◌, ◌≤◌, List, ◌++◌, length, take, drop, refl, sym, ◌∙◌, ap, subst, min, ◌-◌, ◌≢◌, arith, length-append, Some}
+use Rattle.std.proofs.Common.{◌≡◌, ℕ, ◌+◌, ◌*◌, ◌<◌, ◌≤◌, List, ◌++◌, length, take, drop, refl, sym, ◌∙◌, ap, subst, min, ◌-◌, ◌≢◌, arith, length-append}
 use Rattle.std.proofs.lemmas.List.{take_at}
 use Rattle.sasi_types.specs.declared.tree.Pair.{Pair}
 use Rattle.sasi_host.specs.declared.name.FileName.{FileName}
@@ -9,15 +9,15 @@ use Rattle.sasi_host.specs.declared.damage.FormatRule.TheVariants.{Short, Missin
 use Rattle.sasi_host.specs.declared.fault.ReadFault.{ReadFault}
 use Rattle.sasi_host.specs.declared.fault.ReadFault.TheVariants as fault
 use Rattle.sasi_host.specs.Names.{Bytes}
-use Rattle.sasi_host.specs.View.{View, contents}
-use Rattle.sasi_tokentree.specs.Format.{entry, head, node, IsBefore}
-use Rattle.sasi_tokentree.specs.Damages.{HasAt, Node, IsNodeFrom, NodeBreaks, ShowsEnd, ShowsOf, Shown, ShownOf}
+use Rattle.sasi_host.specs.View.{View}
+use Rattle.sasi_host.specs.Places.{at_window, differs_in, inner_at}
+use Rattle.sasi_host.specs.Showing.{shown_as}
+use Rattle.sasi_tokentree.specs.Format.{entry, head, node}
+use Rattle.sasi_tokentree.specs.Damages.{Node, IsNodeFrom, NodeBreaks, ShowsOf, ShownOf}
 use Rattle.sasi_tokentree.specs.Damages.IsNodeFrom.{of_level}
-use Rattle.sasi_tokentree.specs.Places.{at_window, inner_at, differs_in}
-use Rattle.sasi_tokentree.specs.Showing.{shown_as}
 use Rattle.sasi_tokentree.specs.Sizes.{head_length, node_length}
 use Rattle.sasi_tokentree.specs.Reads.{HasNode, IsInNode, SparesNode}
-use Rattle.sasi_host.specs.Damages.{seen_bytes}
+use Rattle.sasi_host.specs.Damages.{seen_bytes, HasAt, ShowsEnd, Shown}
 
 -- a read there gives the node
 pub node_is : (bytes out : Bytes) (level at n : ℕ) (entries : List Pair) → HasNode bytes level at entries → n ≡ 8 + 16 * length entries → out ≡ take n (drop at bytes) → out ≡ node level entries

@@ -4,16 +4,17 @@ use Rattle.std.proofs.lemmas.Bool.Decides.{leb_tells}
 use Rattle.std.specs.declared.result.Result.{Result}
 use Rattle.sasi_types.specs.declared.tree.Pair.{Pair}
 use Rattle.sasi_host.specs.declared.name.FileName.{FileName}
+use Rattle.sasi_host.specs.declared.damage.Damage.{Damage}
 use Rattle.sasi_host.specs.declared.fault.ReadFault.{ReadFault}
 use Rattle.sasi_host.specs.declared.fault.ReadFault.TheVariants as fault
 use Rattle.sasi_host.specs.Names.{Bytes}
-use Rattle.sasi_host.specs.View.{View, Rose}
+use Rattle.sasi_host.specs.View.{View, Rose, ReadsAtMost}
 use Rattle.sasi_host.specs.Disk.{Changes, Same}
-use Rattle.sasi_host.specs.Contents.{contents_same}
 use Rattle.sasi_tokentree.specs.Format.{nodes, size, part, above}
 use Rattle.sasi_tokentree.specs.Sizes.{part_length, first_above_length}
 use Rattle.sasi_tokentree.specs.Heights.{height, lead, no_lead, more_lead, one_high, more_high}
-use Rattle.sasi_tokentree.specs.Reads.{ReadsAtMost, SparesNode, SparesLevel, StandsFrom}
+use Rattle.sasi_tokentree.specs.Reads.{SparesNode, SparesLevel, StandsFrom}
+use Rattle.sasi_tokentree.proofs.Holding.{reads_still}
 use Rattle.sasi_tokentree.proofs.Standing.{stands_node, stands_above, stands_one}
 
 pub part_size : (entries : List Pair) (node count here : ℕ) → length entries ≡ count → here ≡ min (count - 255 * node) 255 → length (part entries node) ≡ here
@@ -42,10 +43,10 @@ spares_up v file level at count fault.OutOfMemory many spares = tt
 spares_up v file level at count (fault.Damaged damage) many spares = λ bytes entries reads stands long.
     spares bytes (above at entries) reads (up bytes level at count entries many long stands) (up_length at count entries long)
 
-pub spares_before : (a b : View) (file : FileName) (level at count : ℕ) (f : ReadFault) → Changes Same a b → SparesLevel b file level at count f → SparesLevel a file level at count f
-spares_before a b file level at count fault.Failed same spares = tt
-spares_before a b file level at count fault.OutOfMemory same spares = tt
-spares_before a b file level at count (fault.Damaged damage) same spares = λ bytes entries reads. spares bytes entries (contents_same a b file same ∙ reads)
+pub spares_before : (a b : View) (was now : FileName) (level at count : ℕ) (f : ReadFault) → Changes Same a b → now ≡ was → SparesLevel b now level at count f → SparesLevel a was level at count f
+spares_before a b was now level at count fault.Failed change same spares = tt
+spares_before a b was now level at count fault.OutOfMemory change same spares = tt
+spares_before a b was now level at count (fault.Damaged damage) change same spares = λ bytes entries reads. spares bytes entries (reads_still a b was now bytes change same reads)
 
 -- ---- reads
 
@@ -71,7 +72,25 @@ reads_within a b n most result le one = record {
   failed = one.failed;
 }
 
--- an answer after them isn't a failure
+-- a fault that is handed on is the same one
+pub fault_reads : {S T : Type 0} (a b : View) (n : ℕ) (f : ReadFault) → ReadsAtMost {T = S} n a b (Err f) → ReadsAtMost {T = T} n a b (Err f)
+fault_reads a b n f one = record {
+  disk = one.disk;
+  out = one.out;
+  reads = one.reads;
+  failed = one.failed;
+}
+
+-- damage that is told after them isn't a failure of the host
+pub damage_reads : {S T : Type 0} (a b : View) (n most : ℕ) (first : Result S ReadFault) (damage : Damage) → n ≤ most → ReadsAtMost n a b first → ReadsAtMost {T = T} most a b (Err (fault.Damaged damage))
+damage_reads a b n most first damage le one = record {
+  disk = one.disk;
+  out = one.out;
+  reads = omega (arith, le, one.reads);
+  failed = λ is. absurd (cc);
+}
+
+-- an answer after them isn't one either
 pub ok_reads : {S T : Type 0} (a b : View) (n : ℕ) (first : Result S ReadFault) (x : T) → ReadsAtMost n a b first → ReadsAtMost n a b (Ok x)
 ok_reads a b n first x one = record {
   disk = one.disk;

@@ -12,18 +12,19 @@ use Rattle.sasi_host.specs.declared.fault.ReadFault.TheVariants as fault
 use Rattle.sasi_host.specs.Names.{Bytes}
 use Rattle.sasi_host.specs.View.{View, contents}
 use Rattle.sasi_host.specs.Disk.{Changes, Same}
-use Rattle.sasi_host.specs.Contents.{contents_same}
+use Rattle.sasi_host.specs.Damages.{HasAt, ShowsEnd, Shown, TellsSize}
+use Rattle.sasi_host.specs.Places.{at_window}
+use Rattle.sasi_host.specs.Showing.{end_shown}
 use Rattle.sasi_tokentree.specs.Format.{pair_at, entry, node, nodes, size, part, above, level_bytes, levels, tree_bytes, HasTree}
 use Rattle.sasi_tokentree.specs.Sizes.{entry_length, node_length, part_length, level_length, one_level, more_levels, first_above_length}
 use Rattle.sasi_tokentree.specs.Heights.{lead, no_lead, more_lead, top_is}
-use Rattle.sasi_tokentree.specs.Damages.{HasAt, Node, IsNodeFrom, IsNodeOf, ShowsEnd, ShowsTree, Shown, ShownOf, TellsSize, start}
+use Rattle.sasi_tokentree.specs.Damages.{Node, IsNodeFrom, IsNodeOf, ShownOf, start}
 use Rattle.sasi_tokentree.specs.Damages.IsNodeFrom.{of_level, of_above}
-use Rattle.sasi_tokentree.specs.Places.{at_window, inner_at}
-use Rattle.sasi_tokentree.specs.Showing.{end_shown}
 use Rattle.sasi_tokentree.specs.Reads.{HasNode, StandsFrom, CountsBelow, Spares, SparesLevel, SparesPair}
-use Rattle.sasi_tokentree.specs.Walks.{GivesEntry, TakesNext}
+use Rattle.sasi_tokentree.specs.Walks.{GivesEntry, TakesNext, pair_place}
+use Rattle.sasi_tokentree.proofs.Holding.{reads_still}
 use Rattle.sasi_tokentree.proofs.NodeParts.{from_entry, same_number, pair_fits}
-use Rattle.sasi_tokentree.proofs.NodeReads.{early_shown, shown_more}
+use Rattle.sasi_tokentree.proofs.NodeReads.{early_shown}
 use Rattle.sasi_tokentree.proofs.Standing.{part_at, stands_node}
 
 -- ---- a pair in its leaf
@@ -155,10 +156,10 @@ level_spares v file tree start fault.OutOfMemory short some is spares = tt
 level_spares v file tree start (fault.Damaged damage) short some is spares = λ bytes pairs reads has.
     spares bytes pairs reads (subst (λ (n : ℕ). StandsFrom bytes 0 n pairs) (sym is) (tree_stands bytes tree pairs has some (short bytes reads))) (count_is bytes tree pairs has)
 
-pub tree_spares_before : (a b : View) (file : FileName) (tree : TreeRef) (f : ReadFault) → Changes Same a b → Spares b file tree f → Spares a file tree f
-tree_spares_before a b file tree fault.Failed same spares = tt
-tree_spares_before a b file tree fault.OutOfMemory same spares = tt
-tree_spares_before a b file tree (fault.Damaged damage) same spares = λ bytes pairs is. spares bytes pairs (contents_same a b file same ∙ is)
+pub tree_spares_before : (a b : View) (was now : FileName) (tree : TreeRef) (f : ReadFault) → Changes Same a b → now ≡ was → Spares b now tree f → Spares a was tree f
+tree_spares_before a b was now tree fault.Failed change same spares = tt
+tree_spares_before a b was now tree fault.OutOfMemory change same spares = tt
+tree_spares_before a b was now tree (fault.Damaged damage) change same spares = λ bytes pairs is. spares bytes pairs (reads_still a b was now bytes change same is)
 
 -- ---- the nodes of a tree
 
@@ -212,9 +213,17 @@ pub gives_entry : (v : View) (file : FileName) (tree : TreeRef) (begin index : �
 gives_entry v file tree begin index pair is lt token_fits place_fits stands =
     (index, refl, λ bytes reads. record { within = lt; stands = subst (λ (n : ℕ). HasAt bytes (n + 4088 * (index / 255) + (8 + 16 * (index % 255))) (entry pair)) is (stands bytes reads); fit = pair_fits pair token_fits place_fits })
 
-pub gave_entry : (a b : View) (file : FileName) (tree : TreeRef) (passed : ℕ) (found : Option Pair) → Changes Same a b → GivesEntry b file tree passed found → GivesEntry a file tree passed found
-gave_entry a b file tree passed None same gives = tt
-gave_entry a b file tree passed (Some pair) same gives = (gives.0, gives.1, λ bytes is. gives.2 bytes (contents_same a b file same ∙ is))
+pub gave_entry : (a b : View) (was now : FileName) (tree : TreeRef) (passed : ℕ) (found : Option Pair) → Changes Same a b → now ≡ was → GivesEntry b now tree passed found → GivesEntry a was tree passed found
+gave_entry a b was now tree passed None change same gives = tt
+gave_entry a b was now tree passed (Some pair) change same gives = (gives.0, gives.1, λ bytes is. gives.2 bytes (reads_still a b was now bytes change same is))
+
+-- the page on which it ends is in hand
+pub near_entry : (page : Option ℕ) (tree : TreeRef) (begin index : ℕ) → begin ≡ start tree → page ≡ Some ((begin + 4088 * (index / 255) + (8 + 16 * (index % 255)) + 15) / 4096) → page ≡ Some ((pair_place tree (index + 1 - 1) + 15) / 4096)
+near_entry page tree begin index is near =
+    let same : index ≡ index + 1 - 1 = omega arith in
+    near
+    ∙ ap (λ (n : ℕ). Some ((n + 4088 * (index / 255) + (8 + 16 * (index % 255)) + 15) / 4096)) is
+    ∙ ap (λ (k : ℕ). Some ((pair_place tree k + 15) / 4096)) same
 
 pub takes_pair : (pairs : List Pair) (index : ℕ) (pair : Pair) → index < length pairs → pair ≡ pair_at pairs index → TakesNext pairs index (index + 1) (Some pair)
 takes_pair pairs index pair lt is = drop_more pairs index (record { token = 0; place = 0 }) lt ∙ ap (λ (p : Pair). p ∷ drop (index + 1) pairs) (sym is)

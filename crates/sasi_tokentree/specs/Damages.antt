@@ -1,5 +1,5 @@
 -- Where a file breaks the format of a tree, and what it has there.
-use Rattle.std.specs.Prelude.{◌≡◌, ◌≢◌, ℕ, ◌+◌, ◌-◌, ◌*◌, ◌<◌, List, [], ◌∷◌, ◌++◌, length, min, Some}
+use Rattle.std.specs.Prelude.{◌≡◌, ℕ, ◌+◌, ◌-◌, ◌*◌, ◌<◌, [], ◌∷◌, ◌++◌, length, min}
 use Rattle.std.specs.Int.{to_be_bytes, w16, w32, w64}
 use Rattle.sasi_types.specs.declared.tree.Pair.{Pair}
 use Rattle.sasi_types.specs.declared.tree.TreeRef.{TreeRef}
@@ -9,44 +9,10 @@ use Rattle.sasi_host.specs.declared.damage.FormatRule.{FormatRule}
 use Rattle.sasi_host.specs.declared.damage.FormatRule.TheVariants.{Short, Number, Order}
 use Rattle.sasi_host.specs.declared.fault.ReadFault.{ReadFault}
 use Rattle.sasi_host.specs.Names.{Bytes}
-use Rattle.sasi_host.specs.Damages.{OnDamage, seen_bytes}
-use Rattle.sasi_host.specs.View.{View, contents}
+use Rattle.sasi_host.specs.Damages.{Differs, HasAt, Shown, seen_bytes}
+use Rattle.sasi_host.specs.View.{View}
 use Rattle.sasi_tokentree.specs.Format.{entry, nodes, size, AreFit, IsBefore}
 use Rattle.sasi_tokentree.specs.Heights.{lead}
-
--- ---- bytes at a place
-
--- these bytes stand at this place
-pub record HasAt (bytes : Bytes) (at : ℕ) (part : Bytes) : Type 0 where
-  pub front : Bytes
-  pub rest : Bytes
-  pub is : bytes ≡ front ++ part ++ rest
-  pub place : length front ≡ at
-
--- at this place stand as many bytes as are wanted, and others
-pub record Differs (bytes : Bytes) (at : ℕ) (seen wanted : Bytes) : Type 0 where
-  pub stands : HasAt bytes at seen
-  pub long : length seen ≡ length wanted
-  pub differs : seen ≢ wanted
-
--- the damage is that at an offset of these bytes, which stand at a place of the file, others stand than the rule wants
-pub record IsOther (file : FileName) (at : ℕ) (window : Bytes) (offset : ℕ) (wanted : Bytes) (rule : FormatRule) (damage : Damage) : Type 0 where
-  pub named : damage.file ≡ file
-  pub rule_is : damage.rule ≡ rule
-  pub place : damage.at ≡ at + offset
-  pub differs : Differs window offset (seen_bytes damage.seen) wanted
-
--- the damage is that this file is too short, and tells its size
-pub record TellsSize (file : FileName) (bytes : Bytes) (damage : Damage) : Type 0 where
-  pub named : damage.file ≡ file
-  pub rule : damage.rule ≡ Short
-  pub place : damage.at ≡ length bytes
-  pub seen : seen_bytes damage.seen ≡ to_be_bytes w64 (length bytes)
-
--- the damage is that this file ends before this place
-pub record ShowsEnd (end : ℕ) (file : FileName) (bytes : Bytes) (damage : Damage) : Type 0 where
-  pub tells : TellsSize file bytes damage
-  pub short : length bytes < end
 
 -- ---- where the nodes of a tree stand
 
@@ -118,10 +84,6 @@ pub record ShowsOf (These : Node → Type 0) (file : FileName) (bytes : Bytes) (
 abbrev pub ShowsTree : FileName → TreeRef → Bytes → Damage → Type 0
 ShowsTree file tree = ShowsOf (IsNodeOf tree) file
 
--- damage is what the file shows as it reads
-abbrev pub Shown : View → FileName → (Bytes → Damage → Type 0) → ReadFault → Type 0
-Shown v file Shows = OnDamage (λ damage. (bytes : Bytes) → contents v file ≡ Some bytes → Shows bytes damage)
-
--- it is that one of these nodes breaks a rule
+-- damage is that one of these nodes breaks a rule
 abbrev pub ShownOf : (Node → Type 0) → View → FileName → ReadFault → Type 0
 ShownOf These v file = Shown v file (ShowsOf These file)

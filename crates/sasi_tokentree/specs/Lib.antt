@@ -2,9 +2,8 @@ pub mod Format
 pub mod Sizes
 pub mod Heights
 pub mod Damages
-pub mod Places
-pub mod Showing
 pub mod Writes
 pub mod Reads
 pub mod Walks
+pub mod Nearness
 pub mod Laws

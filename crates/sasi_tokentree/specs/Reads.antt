@@ -1,27 +1,16 @@
 -- What reads of a tree give, over what the host tells.
-use Rattle.std.specs.Prelude.{◌≡◌, ◌≢◌, ◌⊎◌, ℕ, ◌+◌, ◌-◌, ◌^◌, ◌<◌, ◌≤◌, List, ◌++◌, length, take, drop, IfErr, Some}
-use Rattle.std.specs.declared.result.Result.{Result}
+use Rattle.std.specs.Prelude.{◌≡◌, ◌≢◌, ℕ, ◌+◌, ◌-◌, ◌^◌, ◌<◌, ◌≤◌, List, ◌++◌, length, Some}
 use Rattle.sasi_types.specs.declared.tree.Pair.{Pair}
 use Rattle.sasi_types.specs.declared.tree.TreeRef.{TreeRef}
 use Rattle.sasi_host.specs.declared.name.FileName.{FileName}
 use Rattle.sasi_host.specs.declared.damage.Damage.{Damage}
 use Rattle.sasi_host.specs.declared.damage.FormatRule.TheVariants.{Short}
 use Rattle.sasi_host.specs.declared.fault.ReadFault.{ReadFault}
-use Rattle.sasi_host.specs.declared.fault.ReadFault.TheVariants as fault
 use Rattle.sasi_host.specs.Names.{Bytes}
-use Rattle.sasi_host.specs.Damages.{OnDamage, seen_bytes}
-use Rattle.sasi_host.specs.View.{View, contents, Rose}
+use Rattle.sasi_host.specs.Damages.{HasAt, OnDamage, seen_bytes}
+use Rattle.sasi_host.specs.View.{View, contents}
 use Rattle.sasi_tokentree.specs.Format.{pair_at, node, levels, IsRising, AreFit, HasTree}
-use Rattle.sasi_tokentree.specs.Damages.{HasAt, NodeBreaks}
-
--- ---- causes
-
--- the counts of faults don't fall, a failure of the host has raised that of the disk, and at most so many reads were made
-pub record ReadsAtMost {T : Type 0} (most : ℕ) (old new : View) (result : Result T ReadFault) : Type 0 where
-  pub disk : old.disk_faults ≤ new.disk_faults
-  pub out : new.out_faults ≡ old.out_faults
-  pub reads : new.reads ≤ old.reads + most
-  pub failed : IfErr result (λ f. f ≡ fault.Failed → Rose old.disk_faults new.disk_faults)
+use Rattle.sasi_tokentree.specs.Damages.{NodeBreaks}
 
 -- ---- damage
 

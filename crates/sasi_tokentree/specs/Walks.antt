@@ -1,17 +1,19 @@
 -- A walk over the pairs of a tree.
-use Rattle.std.specs.Prelude.{◌≡◌, ℕ, ◌+◌, ◌*◌, ◌/◌, ◌%◌, ◌<◌, List, [], ◌∷◌, drop, Option, None, Some}
+use Rattle.std.specs.Prelude.{◌≡◌, ℕ, ◌+◌, ◌-◌, ◌*◌, ◌/◌, ◌%◌, ◌<◌, List, [], ◌∷◌, drop, Option, None, Some}
 use Rattle.sasi_types.specs.declared.tree.Pair.{Pair}
 use Rattle.sasi_types.specs.declared.tree.TreeRef.{TreeRef}
 use Rattle.sasi_host.specs.declared.name.FileName.{FileName}
 use Rattle.sasi_host.specs.Names.{Bytes}
 use Rattle.sasi_host.specs.View.{View, contents}
+use Rattle.sasi_host.specs.Held.{Held}
+use Rattle.sasi_host.specs.Damages.{HasAt}
 use Rattle.sasi_tokentree.specs.Format.{entry, AreFit, HasTree}
-use Rattle.sasi_tokentree.specs.Damages.{HasAt, start}
+use Rattle.sasi_tokentree.specs.Damages.{start}
 use Rattle.sasi_tokentree.specs.Reads.{CountsBelow}
 
--- what one knows of a tree in hand: where it is, and how many of its pairs were passed
+-- what one knows of a tree in hand: the file with its page in hand, where the tree is, and how many of its pairs were passed
 pub record Walk : Type 0 where
-  pub file : FileName
+  pub held : Held
   pub tree : TreeRef
   pub passed : ℕ
 
@@ -23,6 +25,11 @@ TakesNext pairs from passed (Some pair) = drop from pairs ≡ pair ∷ drop pass
 -- where the pair with this index stands: by its leaf, and by what is before it there
 abbrev pub pair_place : TreeRef → ℕ → ℕ
 pair_place tree index = start tree + 4088 * (index / 255) + (8 + 16 * (index % 255))
+
+-- behind a pair that was found, the page on which its entry ends is in hand
+abbrev pub IsNear : Walk → Option Pair → Type 0
+IsNear w None = Unit {0}
+IsNear w (Some pair) = w.held.page ≡ Some ((pair_place w.tree (w.passed - 1) + 15) / 4096)
 
 -- the file has this pair as the entry with this index, whether or not the tree is right
 pub record HasEntry (bytes : Bytes) (tree : TreeRef) (index : ℕ) (pair : Pair) : Type 0 where

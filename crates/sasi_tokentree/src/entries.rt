@@ -2,14 +2,13 @@
 ghost use Rattle.std.specs.Prelude.{◌≡◌, ◌≢◌, ◌+◌, ◌*◌, ◌^◌, ◌<◌, ◌≤◌, ℕ, List, length, take, drop, IfErr, IfOk, OnOk, IsTrue, false};
 ghost use Rattle.std.specs.Int.{to_be_bytes, w64};
 ghost use Rattle.sasi_types.specs.declared.tree.Pair.{Pair};
-ghost use Rattle.sasi_host.specs.declared.damage.FormatRule.TheVariants.{Number};
+ghost use Rattle.sasi_host.specs.Damages.{HasAt};
 ghost use Rattle.sasi_tokentree.specs.Format.{pair_at, entry, head, node, AreFit, IsBefore, IsRising};
-ghost use Rattle.sasi_tokentree.specs.Damages.{HasAt, IsOther};
 ghost use Rattle.sasi_tokentree.specs.Reads.{FindsBelow, IsInNode};
 
 use crate::order::is_before;
 use sasi_fields::FieldReader;
-use sasi_host::{Damage, FileName, FormatRule, found};
+use sasi_host::{Damage, FileName, FormatRule, check_part, found};
 use sasi_types::{Pair, Token};
 
 // The bytes of a node's head.
@@ -23,29 +22,6 @@ pub const ENTRY: usize = 16;
 pub struct Below {
     pub count: usize,
     pub place: u64,
-}
-
-// At this offset of the node these bytes have to stand.
-fn check_part(
-    file: FileName,
-    at: u64,
-    bytes: &[u8],
-    offset: usize,
-    wanted: &[u8],
-) -> Result<(), Damage>
-    requires whole { offset + length wanted.now ≤ length bytes.now }
-    requires most { length wanted.now ≤ 8 }
-    requires place { at < 2 ^ 63 + 2 ^ 60 }
-    requires offset { offset < 2 ^ 62 }
-    ensures ok { OnOk result (take (length wanted.now) (drop offset bytes.now) ≡ wanted.now) }
-    ensures seen { IfErr result (IsOther file at bytes.now offset wanted.now Number) }
-    ensures differs { IfErr result (λ _. take (length wanted.now) (drop offset bytes.now) ≢ wanted.now) }
-{
-    let seen = &bytes[offset..offset + wanted.len()];
-    if seen != wanted {
-        return Err(found(file, at + offset as u64, FormatRule::Number, seen));
-    }
-    Ok(())
 }
 
 // The head of the node has to have this level and number of entries.
@@ -62,10 +38,10 @@ pub fn check_head(
     ensures seen { IfErr result (IsInNode file at bytes.now level count) }
     ensures differs { IfErr result (λ _. take 8 bytes.now ≢ head level count) }
 {
-    check_part(file, at, bytes, 0, &[level])?;
-    check_part(file, at, bytes, 1, &[0])?;
-    check_part(file, at, bytes, 2, &count.to_be_bytes())?;
-    check_part(file, at, bytes, 4, &[0; 4])?;
+    check_part(file, at, bytes, 0, &[level], FormatRule::Number)?;
+    check_part(file, at, bytes, 1, &[0], FormatRule::Number)?;
+    check_part(file, at, bytes, 2, &count.to_be_bytes(), FormatRule::Number)?;
+    check_part(file, at, bytes, 4, &[0; 4], FormatRule::Number)?;
     Ok(())
 }
 

@@ -1,8 +1,7 @@
 // Token trees in files: pairs of a token and a place, rising, in leaves below nodes that hold the least tokens. A tree is
-// written from left to right, and read by pages, from any token on; it stands on a host.
+// written from left to right, and read from any token on with the last page in hand; it stands on a host.
 #![tactic(auto)]
 
-mod damage;
 mod entries;
 mod node;
 mod nodes;
@@ -13,7 +12,6 @@ mod shape;
 mod tests;
 mod tree;
 mod walk;
-mod window;
 mod writing;
 
 pub use order::is_rising;

@@ -2,43 +2,47 @@
 ghost use Rattle.std.specs.Prelude.{◌≡◌, ◌⊎◌, ◌+◌, ◌*◌, ◌^◌, ◌<◌, ◌≤◌, List, ℕ, length, IfErr, IfOk, OnOk, Some};
 ghost use Rattle.sasi_types.specs.declared.tree.Pair.{Pair};
 ghost use Rattle.sasi_host.specs.declared.name.FileName.{FileName};
-ghost use Rattle.sasi_host.specs.View.{IsThere, contents};
+ghost use Rattle.sasi_host.specs.View.{IsThere, contents, ReadsAtMost};
 ghost use Rattle.sasi_host.specs.Disk.{Changes, Same};
+ghost use Rattle.sasi_host.specs.Held.{IsHeld};
+ghost use Rattle.sasi_host.specs.Damages.{HasAt};
 ghost use Rattle.sasi_tokentree.specs.Format.{node};
-ghost use Rattle.sasi_tokentree.specs.Damages.{HasAt, ShownOf};
-ghost use Rattle.sasi_tokentree.specs.Reads.{FindsBelow, HasNode, ReadsAtMost, SparesNode};
+ghost use Rattle.sasi_tokentree.specs.Damages.{ShownOf};
+ghost use Rattle.sasi_tokentree.specs.Reads.{FindsBelow, HasNode, SparesNode};
 
 use crate::entries::{Below, ENTRY, HEAD, check_head, find_below};
-use crate::window::read_bytes;
-use sasi_host::{FileName, Host, PageReader, ReadFault};
+use sasi_host::{HeldPage, Host, PageReader, ReadFault};
 use sasi_types::Token;
 
 // Fills the buffer with a node, whose head has to have this level and number of entries.
 fn read_node<H: Host, P: PageReader>(
     host: &mut H,
     pages: &mut P,
-    file: FileName,
+    held: &mut HeldPage,
     at: u64,
     level: u8,
     count: usize,
     out: &mut [u8],
 ) -> Result<(), ReadFault>
-    requires there { IsThere (H.view host.old) file }
+    requires there { IsThere (H.view host.old) held.old.file }
     requires agrees { P.agrees pages.old (H.view host.old).files }
+    requires held { IsHeld held.old (H.view host.old).files }
     requires place { at < 2 ^ 63 + 2 ^ 60 }
     requires most { count ≤ 255 }
     requires whole { length out.old ≡ 8 + 16 * count }
-    ensures ok { OnOk result ((bytes : List ℕ) (entries : List Pair) → contents (H.view host.old) file ≡ Some bytes → HasNode bytes level at entries → length entries ≡ count → out.new ≡ node level entries) }
-    ensures is { OnOk result ((bytes : List ℕ) → contents (H.view host.old) file ≡ Some bytes → HasAt bytes at out.new) }
-    ensures damaged { IfErr result (ShownOf (λ n. n ≡ record { level = level; at = at; count = count }) (H.view host.old) file) }
-    ensures undamaged { IfErr result (SparesNode (H.view host.old) file level at count) }
+    ensures ok { OnOk result ((bytes : List ℕ) (entries : List Pair) → contents (H.view host.old) held.old.file ≡ Some bytes → HasNode bytes level at entries → length entries ≡ count → out.new ≡ node level entries) }
+    ensures is { OnOk result ((bytes : List ℕ) → contents (H.view host.old) held.old.file ≡ Some bytes → HasAt bytes at out.new) }
+    ensures damaged { IfErr result (ShownOf (λ n. n ≡ record { level = level; at = at; count = count }) (H.view host.old) held.old.file) }
+    ensures undamaged { IfErr result (SparesNode (H.view host.old) held.old.file level at count) }
+    ensures held { IsHeld held.new (H.view host.new).files }
+    ensures file { held.new.file ≡ held.old.file }
     ensures agrees { P.agrees pages.new (H.view host.new).files }
-    ensures covers { (name : FileName) → P.covers pages.new name → P.covers pages.old name ⊎ (name ≡ file) }
+    ensures covers { (name : FileName) → P.covers pages.new name → P.covers pages.old name ⊎ (name ≡ held.old.file) }
     ensures changes { Changes Same (H.view host.old) (H.view host.new) }
     ensures causes { ReadsAtMost 2 (H.view host.old) (H.view host.new) result }
 {
-    read_bytes(host, pages, file, at, out)?;
-    check_head(file, at, level, count as u16, out)?;
+    held.read_into(host, pages, at, out)?;
+    check_head(held.file(), at, level, count as u16, out)?;
     Ok(())
 }
 
@@ -46,29 +50,32 @@ fn read_node<H: Host, P: PageReader>(
 pub fn node_below<H: Host, P: PageReader>(
     host: &mut H,
     pages: &mut P,
-    file: FileName,
+    held: &mut HeldPage,
     at: u64,
     level: u8,
     count: usize,
     token: Token,
 ) -> Result<Below, ReadFault>
-    requires there { IsThere (H.view host.old) file }
+    requires there { IsThere (H.view host.old) held.old.file }
     requires agrees { P.agrees pages.old (H.view host.old).files }
+    requires held { IsHeld held.old (H.view host.old).files }
     requires place { at < 2 ^ 63 + 2 ^ 60 }
     requires most { count ≤ 255 }
-    ensures ok { IfOk result (λ below. (bytes : List ℕ) (entries : List Pair) → contents (H.view host.old) file ≡ Some bytes → HasNode bytes level at entries → length entries ≡ count
+    ensures ok { IfOk result (λ below. (bytes : List ℕ) (entries : List Pair) → contents (H.view host.old) held.old.file ≡ Some bytes → HasNode bytes level at entries → length entries ≡ count
         → FindsBelow entries token below.count below.place) }
     ensures within { IfOk result (λ below. below.count ≤ count) }
-    ensures damaged { IfErr result (ShownOf (λ n. n ≡ record { level = level; at = at; count = count }) (H.view host.old) file) }
-    ensures undamaged { IfErr result (SparesNode (H.view host.old) file level at count) }
+    ensures damaged { IfErr result (ShownOf (λ n. n ≡ record { level = level; at = at; count = count }) (H.view host.old) held.old.file) }
+    ensures undamaged { IfErr result (SparesNode (H.view host.old) held.old.file level at count) }
+    ensures held { IsHeld held.new (H.view host.new).files }
+    ensures file { held.new.file ≡ held.old.file }
     ensures agrees { P.agrees pages.new (H.view host.new).files }
-    ensures covers { (name : FileName) → P.covers pages.new name → P.covers pages.old name ⊎ (name ≡ file) }
+    ensures covers { (name : FileName) → P.covers pages.new name → P.covers pages.old name ⊎ (name ≡ held.old.file) }
     ensures changes { Changes Same (H.view host.old) (H.view host.new) }
     ensures causes { ReadsAtMost 2 (H.view host.old) (H.view host.new) result }
 {
     let mut buffer = [0; 4088];
     let bytes = &mut buffer[..HEAD + ENTRY * count];
-    read_node(host, pages, file, at, level, count, bytes)?;
-    let below = find_below(file, at, count, bytes, token)?;
+    read_node(host, pages, held, at, level, count, bytes)?;
+    let below = find_below(held.file(), at, count, bytes, token)?;
     Ok(below)
 }

@@ -2,17 +2,18 @@
 ghost use Rattle.std.specs.Prelude.{◌≡◌, ◌⊎◌, ◌+◌, ◌*◌, ◌^◌, ◌<◌, ◌≤◌, List, ℕ, length, IfErr, IfOk, OnOk, Some};
 ghost use Rattle.sasi_types.specs.declared.tree.Pair.{Pair};
 ghost use Rattle.sasi_host.specs.declared.name.FileName.{FileName};
-ghost use Rattle.sasi_host.specs.View.{IsThere, contents};
+ghost use Rattle.sasi_host.specs.View.{IsThere, contents, ReadsAtMost};
 ghost use Rattle.sasi_host.specs.Disk.{Changes, Same};
+ghost use Rattle.sasi_host.specs.Held.{IsHeld};
 ghost use Rattle.sasi_tokentree.specs.Format.{part};
 ghost use Rattle.sasi_tokentree.specs.Heights.{greatest, height, lead};
 ghost use Rattle.sasi_tokentree.specs.Damages.{IsNodeFrom, ShownOf};
-ghost use Rattle.sasi_tokentree.specs.Reads.{FindsBelow, ReadsAtMost, SparesLevel, StandsFrom};
+ghost use Rattle.sasi_tokentree.specs.Reads.{FindsBelow, SparesLevel, StandsFrom};
 
 use crate::entries::Below;
 use crate::nodes::node_below;
 use crate::shape::{FULL, FULL_BYTES, level_size, node_count};
-use sasi_host::{FileName, Host, PageReader, ReadFault};
+use sasi_host::{HeldPage, Host, PageReader, ReadFault};
 use sasi_types::Token;
 
 // How many bytes the levels before the last one take.
@@ -31,38 +32,41 @@ pub fn lead_size(count: usize) -> u64
 pub fn count_below<H: Host, P: PageReader>(
     host: &mut H,
     pages: &mut P,
-    file: FileName,
+    held: &mut HeldPage,
     at: u64,
     level: u8,
     count: usize,
     token: Token,
 ) -> Result<Below, ReadFault>
-    requires there { IsThere (H.view host.old) file }
+    requires there { IsThere (H.view host.old) held.old.file }
     requires agrees { P.agrees pages.old (H.view host.old).files }
+    requires held { IsHeld held.old (H.view host.old).files }
     requires some { 0 < count }
     requires most { count ≤ greatest level }
     requires place { at + 17 * count < 2 ^ 63 + 2 ^ 60 }
-    ensures ok { IfOk result (λ below. (bytes : List ℕ) (entries : List Pair) → contents (H.view host.old) file ≡ Some bytes → StandsFrom bytes level at entries → length entries ≡ count
+    ensures ok { IfOk result (λ below. (bytes : List ℕ) (entries : List Pair) → contents (H.view host.old) held.old.file ≡ Some bytes → StandsFrom bytes level at entries → length entries ≡ count
         → FindsBelow entries token below.count below.place) }
     ensures within { IfOk result (λ below. below.count ≤ count) }
-    ensures damaged { IfErr result (ShownOf (λ n. IsNodeFrom n level at count) (H.view host.old) file) }
-    ensures undamaged { IfErr result (SparesLevel (H.view host.old) file level at count) }
+    ensures damaged { IfErr result (ShownOf (λ n. IsNodeFrom n level at count) (H.view host.old) held.old.file) }
+    ensures undamaged { IfErr result (SparesLevel (H.view host.old) held.old.file level at count) }
+    ensures held { IsHeld held.new (H.view host.new).files }
+    ensures file { held.new.file ≡ held.old.file }
     ensures agrees { P.agrees pages.new (H.view host.new).files }
-    ensures covers { (name : FileName) → P.covers pages.new name → P.covers pages.old name ⊎ (name ≡ file) }
+    ensures covers { (name : FileName) → P.covers pages.new name → P.covers pages.old name ⊎ (name ≡ held.old.file) }
     ensures changes { Changes Same (H.view host.old) (H.view host.new) }
     ensures causes { (most : ℕ) → count ≤ most → ReadsAtMost (2 * height most count) (H.view host.old) (H.view host.new) result }
 {
     if count <= FULL {
-        let below = node_below(host, pages, file, at, level, count, token)?;
+        let below = node_below(host, pages, held, at, level, count, token)?;
         return Ok(below);
     }
     let next = at + level_size(count);
-    let above = count_below(host, pages, file, next, level + 1, node_count(count), token)?;
+    let above = count_below(host, pages, held, next, level + 1, node_count(count), token)?;
     if above.count == 0 {
         return Ok(Below { count: 0, place: 0 });
     }
     let node = above.count - 1;
-    let below = count_in_node(host, pages, file, at, level, count, node, token)?;
+    let below = count_in_node(host, pages, held, at, level, count, node, token)?;
     Ok(Below {
         count: FULL * node + below.count,
         place: below.place,
@@ -73,29 +77,32 @@ pub fn count_below<H: Host, P: PageReader>(
 fn count_in_node<H: Host, P: PageReader>(
     host: &mut H,
     pages: &mut P,
-    file: FileName,
+    held: &mut HeldPage,
     at: u64,
     level: u8,
     count: usize,
     node: usize,
     token: Token,
 ) -> Result<Below, ReadFault>
-    requires there { IsThere (H.view host.old) file }
+    requires there { IsThere (H.view host.old) held.old.file }
     requires agrees { P.agrees pages.old (H.view host.old).files }
+    requires held { IsHeld held.old (H.view host.old).files }
     requires node { 255 * node < count }
     requires place { at + 17 * count < 2 ^ 63 + 2 ^ 60 }
-    ensures ok { IfOk result (λ below. (bytes : List ℕ) (entries : List Pair) → contents (H.view host.old) file ≡ Some bytes → StandsFrom bytes level at entries → length entries ≡ count
+    ensures ok { IfOk result (λ below. (bytes : List ℕ) (entries : List Pair) → contents (H.view host.old) held.old.file ≡ Some bytes → StandsFrom bytes level at entries → length entries ≡ count
         → FindsBelow (part entries node) token below.count below.place) }
     ensures within { IfOk result (λ below. 255 * node + below.count ≤ count) }
-    ensures damaged { IfErr result (ShownOf (λ n. IsNodeFrom n level at count) (H.view host.old) file) }
-    ensures undamaged { IfErr result (SparesLevel (H.view host.old) file level at count) }
+    ensures damaged { IfErr result (ShownOf (λ n. IsNodeFrom n level at count) (H.view host.old) held.old.file) }
+    ensures undamaged { IfErr result (SparesLevel (H.view host.old) held.old.file level at count) }
+    ensures held { IsHeld held.new (H.view host.new).files }
+    ensures file { held.new.file ≡ held.old.file }
     ensures agrees { P.agrees pages.new (H.view host.new).files }
-    ensures covers { (name : FileName) → P.covers pages.new name → P.covers pages.old name ⊎ (name ≡ file) }
+    ensures covers { (name : FileName) → P.covers pages.new name → P.covers pages.old name ⊎ (name ≡ held.old.file) }
     ensures changes { Changes Same (H.view host.old) (H.view host.new) }
     ensures causes { ReadsAtMost 2 (H.view host.old) (H.view host.new) result }
 {
     let here = (count - FULL * node).min(FULL);
     let place = at + FULL_BYTES * node as u64;
-    let below = node_below(host, pages, file, place, level, here, token)?;
+    let below = node_below(host, pages, held, place, level, here, token)?;
     Ok(below)
 }

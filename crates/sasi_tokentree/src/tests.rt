@@ -110,13 +110,13 @@ fn two_leaves_lie_below_a_root(rt: HostRuntime) -> Result<(), Fail> {
 #[test]
 fn trees_are_written_and_walked(rt: HostRuntime) -> Result<(), Fail> {
     let alloc = rt.alloc();
-    let expected: [(usize, u64, u64, usize, u64, u64); 7] = [
-        (0, 0, 2, 0, 0, 0),
-        (0, 1, 2, 24, 0, 770_052_108_647_399_373),
-        (0, 255, 2, 4088, 0, 14_695_913_446_304_080_811),
-        (0, 256, 2, 4152, 4112, 9_674_888_900_881_014_726),
-        (100, 511, 2, 8256, 8300, 10_783_442_596_516_953_135),
-        (0, 300, 0, 4856, 4816, 16_446_355_277_525_647_614),
+    let expected: [(usize, u64, u64, usize, u64, u64, u64); 7] = [
+        (0, 0, 2, 0, 0, 0, 0),
+        (0, 1, 2, 24, 0, 770_052_108_647_399_373, 1),
+        (0, 255, 2, 4088, 0, 14_695_913_446_304_080_811, 1),
+        (0, 256, 2, 4152, 4112, 9_674_888_900_881_014_726, 2),
+        (100, 511, 2, 8256, 8300, 10_783_442_596_516_953_135, 3),
+        (0, 300, 0, 4856, 4816, 16_446_355_277_525_647_614, 2),
         (
             0,
             65_026,
@@ -124,9 +124,10 @@ fn trees_are_written_and_walked(rt: HostRuntime) -> Result<(), Fail> {
             1_046_616,
             1_046_576,
             6_108_995_159_362_092_637,
+            255,
         ),
     ];
-    for (at, count, step, len, root, sum) in expected {
+    for (at, count, step, len, root, sum, leaf_pages) in expected {
         let mut host = MemHost::new(alloc);
         let pairs = pairs_of(alloc, count, step)?;
         let tree = write_tree(alloc, &mut host, at, &pairs)?;
@@ -137,6 +138,7 @@ fn trees_are_written_and_walked(rt: HostRuntime) -> Result<(), Fail> {
         }
         assert_eq!(rt; (bytes[at..].len(), checksum(&bytes[at..])), (len, sum));
         assert!(rt; walks(&mut host, tree, step)?);
+        assert_eq!(rt; host.reads(), leaf_pages);
     }
     Ok(())
 }

@@ -1,21 +1,21 @@
 // One pair of a tree after another.
-ghost use Rattle.std.specs.Prelude.{◌≡◌, ◌⊎◌, ◌+◌, ◌-◌, ◌*◌, ◌/◌, ◌%◌, ◌^◌, ◌<◌, ◌≤◌, List, ℕ, length, IfErr, IfOk, IsTrue, Some, false};
+ghost use Rattle.std.specs.Prelude.{◌≡◌, ◌⊎◌, ◌+◌, ◌-◌, ◌*◌, ◌/◌, ◌%◌, ◌^◌, ◌<◌, ◌≤◌, List, ℕ, length, IfErr, IfOk, IsSome, IsTrue, None, Some, false};
 ghost use Rattle.sasi_types.specs.declared.tree.Pair.{Pair};
 ghost use Rattle.sasi_host.specs.declared.name.FileName.{FileName};
-ghost use Rattle.sasi_host.specs.View.{IsThere, contents};
+ghost use Rattle.sasi_host.specs.View.{IsThere, contents, ReadsAtMost};
 ghost use Rattle.sasi_host.specs.Disk.{Changes, Same};
+ghost use Rattle.sasi_host.specs.Held.{IsHeld, fresh_pages};
+ghost use Rattle.sasi_host.specs.Damages.{HasAt, Shown, ShowsEnd};
 ghost use Rattle.sasi_tokentree.specs.Format.{pair_at, entry};
-ghost use Rattle.sasi_tokentree.specs.Damages.{HasAt, IsNodeOf, Shown, ShowsEnd, ShownOf};
+ghost use Rattle.sasi_tokentree.specs.Damages.{IsNodeOf, ShownOf};
 ghost use Rattle.sasi_tokentree.specs.Heights.{height, lead};
-ghost use Rattle.sasi_tokentree.specs.Reads.{ReadsAtMost, Spares, SparesPair, StandsFrom};
-ghost use Rattle.sasi_tokentree.specs.Walks.{GivesEntry, GivesFrom, GivesNext};
+ghost use Rattle.sasi_tokentree.specs.Reads.{Spares, SparesPair, StandsFrom};
+ghost use Rattle.sasi_tokentree.specs.Walks.{GivesEntry, GivesFrom, GivesNext, IsNear, pair_place};
 
-use crate::damage::too_short;
 use crate::entries::{ENTRY, HEAD, number_in};
 use crate::seek::{count_below, lead_size};
 use crate::shape::{FULL, FULL_BYTES};
-use crate::window::read_bytes;
-use sasi_host::{FileName, Host, PageReader, ReadFault};
+use sasi_host::{HeldPage, Host, PageReader, ReadFault, too_short};
 use sasi_types::{Pair, Token, TreeRef};
 
 // No file is longer.
@@ -53,26 +53,30 @@ fn start_of(tree: TreeRef) -> u64
 fn read_pair<H: Host, P: PageReader>(
     host: &mut H,
     pages: &mut P,
-    file: FileName,
+    held: &mut HeldPage,
     at: u64,
     index: u64,
 ) -> Result<Pair, ReadFault>
-    requires there { IsThere (H.view host.old) file }
+    requires there { IsThere (H.view host.old) held.old.file }
     requires agrees { P.agrees pages.old (H.view host.old).files }
+    requires held { IsHeld held.old (H.view host.old).files }
     requires place { at + 17 * index < 2 ^ 63 + 2 ^ 59 }
-    ensures ok { IfOk result (λ pair. (bytes : List ℕ) (entries : List Pair) → contents (H.view host.old) file ≡ Some bytes → StandsFrom bytes 0 at entries → index < length entries → pair ≡ pair_at entries index) }
-    ensures stands { IfOk result (λ pair. (bytes : List ℕ) → contents (H.view host.old) file ≡ Some bytes → HasAt bytes (at + 4088 * (index / 255) + (8 + 16 * (index % 255))) (entry pair)) }
-    ensures damaged { IfErr result (Shown (H.view host.old) file (ShowsEnd (at + 4088 * (index / 255) + (8 + 16 * (index % 255)) + 16) file)) }
-    ensures undamaged { IfErr result (SparesPair (H.view host.old) file at index) }
+    ensures ok { IfOk result (λ pair. (bytes : List ℕ) (entries : List Pair) → contents (H.view host.old) held.old.file ≡ Some bytes → StandsFrom bytes 0 at entries → index < length entries → pair ≡ pair_at entries index) }
+    ensures stands { IfOk result (λ pair. (bytes : List ℕ) → contents (H.view host.old) held.old.file ≡ Some bytes → HasAt bytes (at + 4088 * (index / 255) + (8 + 16 * (index % 255))) (entry pair)) }
+    ensures damaged { IfErr result (Shown (H.view host.old) held.old.file (ShowsEnd (at + 4088 * (index / 255) + (8 + 16 * (index % 255)) + 16) held.old.file)) }
+    ensures undamaged { IfErr result (SparesPair (H.view host.old) held.old.file at index) }
+    ensures held { IsHeld held.new (H.view host.new).files }
+    ensures file { held.new.file ≡ held.old.file }
+    ensures page { IfOk result (λ _. held.new.page ≡ Some ((at + 4088 * (index / 255) + (8 + 16 * (index % 255)) + 15) / 4096)) }
     ensures agrees { P.agrees pages.new (H.view host.new).files }
-    ensures covers { (name : FileName) → P.covers pages.new name → P.covers pages.old name ⊎ (name ≡ file) }
+    ensures covers { (name : FileName) → P.covers pages.new name → P.covers pages.old name ⊎ (name ≡ held.old.file) }
     ensures changes { Changes Same (H.view host.old) (H.view host.new) }
-    ensures causes { ReadsAtMost 2 (H.view host.old) (H.view host.new) result }
+    ensures causes { ReadsAtMost (fresh_pages held.old.page (at + 4088 * (index / 255) + (8 + 16 * (index % 255))) 16) (H.view host.old) (H.view host.new) result }
 {
     let node = at + FULL_BYTES * (index / FULL as u64);
     let offset = HEAD as u64 + ENTRY as u64 * (index % FULL as u64);
     let mut bytes = [0; ENTRY];
-    read_bytes(host, pages, file, node + offset, &mut bytes)?;
+    held.read_into(host, pages, node + offset, &mut bytes)?;
     Ok(Pair {
         token: number_in(&bytes[..8]),
         place: number_in(&bytes[8..16]),
@@ -83,28 +87,35 @@ fn read_pair<H: Host, P: PageReader>(
 pub fn pair_from<H: Host, P: PageReader>(
     host: &mut H,
     pages: &mut P,
-    file: FileName,
+    held: &mut HeldPage,
     tree: TreeRef,
     passed: u64,
 ) -> Result<Found, ReadFault>
-    requires there { IsThere (H.view host.old) file }
+    requires there { IsThere (H.view host.old) held.old.file }
     requires agrees { P.agrees pages.old (H.view host.old).files }
-    ensures ok { IfOk result (λ found. GivesNext (H.view host.old) file tree passed found.passed found.pair) }
-    ensures stands { IfOk result (λ found. GivesEntry (H.view host.old) file tree found.passed found.pair) }
-    ensures damaged { IfErr result (ShownOf (IsNodeOf tree) (H.view host.old) file) }
-    ensures undamaged { IfErr result (Spares (H.view host.old) file tree) }
+    requires held { IsHeld held.old (H.view host.old).files }
+    ensures ok { IfOk result (λ found. GivesNext (H.view host.old) held.old.file tree passed found.passed found.pair) }
+    ensures stands { IfOk result (λ found. GivesEntry (H.view host.old) held.old.file tree found.passed found.pair) }
+    ensures damaged { IfErr result (ShownOf (IsNodeOf tree) (H.view host.old) held.old.file) }
+    ensures undamaged { IfErr result (Spares (H.view host.old) held.old.file tree) }
+    ensures held { IsHeld held.new (H.view host.new).files }
+    ensures file { held.new.file ≡ held.old.file }
+    ensures near { IfOk result (λ found. IsNear (record { held = held.new; tree = tree; passed = found.passed }) found.pair) }
+    ensures none { IfOk result (λ found. found.pair ≡ None → (held.new ≡ held.old) × (found.passed ≡ passed)) }
     ensures agrees { P.agrees pages.new (H.view host.new).files }
-    ensures covers { (name : FileName) → P.covers pages.new name → P.covers pages.old name ⊎ (name ≡ file) }
+    ensures covers { (name : FileName) → P.covers pages.new name → P.covers pages.old name ⊎ (name ≡ held.old.file) }
     ensures changes { Changes Same (H.view host.old) (H.view host.new) }
-    ensures causes { ReadsAtMost 2 (H.view host.old) (H.view host.new) result }
+    ensures causes { ReadsAtMost (fresh_pages held.old.page (pair_place tree passed) 16) (H.view host.old) (H.view host.new) result }
+    ensures some { IfOk result (λ found. IsSome found.pair → found.passed ≡ passed + 1) }
+    ensures ended { tree.pairs ≤ passed → (H.view host.new).reads ≡ (H.view host.old).reads }
 {
     if passed >= tree.pairs {
         return Ok(Found { pair: None, passed });
     }
     if is_too_long(tree) {
-        return Err(too_short(host, file));
+        return Err(too_short(host, held.file()));
     }
-    let pair = read_pair(host, pages, file, start_of(tree), passed)?;
+    let pair = read_pair(host, pages, held, start_of(tree), passed)?;
     Ok(Found {
         pair: Some(pair),
         passed: passed + 1,
@@ -115,18 +126,22 @@ pub fn pair_from<H: Host, P: PageReader>(
 pub fn first_from<H: Host, P: PageReader>(
     host: &mut H,
     pages: &mut P,
-    file: FileName,
+    held: &mut HeldPage,
     tree: TreeRef,
     token: Token,
 ) -> Result<Found, ReadFault>
-    requires there { IsThere (H.view host.old) file }
+    requires there { IsThere (H.view host.old) held.old.file }
     requires agrees { P.agrees pages.old (H.view host.old).files }
-    ensures ok { IfOk result (λ found. GivesFrom (H.view host.old) file tree token found.passed found.pair) }
-    ensures stands { IfOk result (λ found. GivesEntry (H.view host.old) file tree found.passed found.pair) }
-    ensures damaged { IfErr result (ShownOf (IsNodeOf tree) (H.view host.old) file) }
-    ensures undamaged { IfErr result (Spares (H.view host.old) file tree) }
+    requires held { IsHeld held.old (H.view host.old).files }
+    ensures ok { IfOk result (λ found. GivesFrom (H.view host.old) held.old.file tree token found.passed found.pair) }
+    ensures stands { IfOk result (λ found. GivesEntry (H.view host.old) held.old.file tree found.passed found.pair) }
+    ensures damaged { IfErr result (ShownOf (IsNodeOf tree) (H.view host.old) held.old.file) }
+    ensures undamaged { IfErr result (Spares (H.view host.old) held.old.file tree) }
+    ensures held { IsHeld held.new (H.view host.new).files }
+    ensures file { held.new.file ≡ held.old.file }
+    ensures near { IfOk result (λ found. IsNear (record { held = held.new; tree = tree; passed = found.passed }) found.pair) }
     ensures agrees { P.agrees pages.new (H.view host.new).files }
-    ensures covers { (name : FileName) → P.covers pages.new name → P.covers pages.old name ⊎ (name ≡ file) }
+    ensures covers { (name : FileName) → P.covers pages.new name → P.covers pages.old name ⊎ (name ≡ held.old.file) }
     ensures changes { Changes Same (H.view host.old) (H.view host.new) }
     ensures causes { (most : ℕ) → tree.pairs ≤ most → ReadsAtMost (2 * height most tree.pairs + 2) (H.view host.old) (H.view host.new) result }
 {
@@ -137,10 +152,10 @@ pub fn first_from<H: Host, P: PageReader>(
         });
     }
     if is_too_long(tree) {
-        return Err(too_short(host, file));
+        return Err(too_short(host, held.file()));
     }
     let start = start_of(tree);
-    let below = count_below(host, pages, file, start, 0, tree.pairs as usize, token)?;
-    let found = pair_from(host, pages, file, tree, below.count as u64)?;
+    let below = count_below(host, pages, held, start, 0, tree.pairs as usize, token)?;
+    let found = pair_from(host, pages, held, tree, below.count as u64)?;
     Ok(found)
 }

@@ -1,7 +1,7 @@
 // Trees written to a file.
 ghost use Rattle.std.specs.Prelude.{◌≡◌, ℕ, ◌+◌, ◌^◌, ◌≤◌, ◌<◌, [], ◌∷◌, ◌++◌, length, IfOk, OnOk};
 ghost use Rattle.sasi_host.specs.View.{ListCauses, Reaches};
-ghost use Rattle.sasi_tokentree.specs.Format.{node, size, level_bytes, above, levels, top, tree_bytes, tree_ref, IsRising};
+ghost use Rattle.sasi_tokentree.specs.Format.{node, size, level_bytes, above, levels, top, tree_bytes, tree_ref, AreFit, IsRising};
 ghost use Rattle.sasi_tokentree.specs.Heights.{greatest};
 ghost use Rattle.sasi_tokentree.specs.Writes.{ChangesPast, Writes};
 
@@ -24,6 +24,7 @@ pub fn write<H: Host>(
     requires room { Reaches (H.view host.old) file at }
     ensures ok { OnOk result (Writes (H.view host.old) (H.view host.new) file at (tree_bytes at pairs.now)) }
     ensures tree { IfOk result (λ tree. tree ≡ tree_ref at pairs.now) }
+    ensures fit { OnOk result (AreFit pairs.now) }
     ensures changes { ChangesPast file at (H.view host.old) (H.view host.new) }
     ensures causes { ListCauses (H.view host.old) (H.view host.new) result }
 {
@@ -52,6 +53,7 @@ fn write_levels<H: Host>(
     requires most { length entries.now ≤ greatest level }
     ensures ok { OnOk result ((most : ℕ) → length entries.now ≤ most → Writes (H.view host.old) (H.view host.new) file at (levels most level at entries.now)) }
     ensures top { IfOk result (λ root. (most : ℕ) → length entries.now ≤ most → root ≡ top most at (length entries.now)) }
+    ensures fit { OnOk result (AreFit entries.now) }
     ensures changes { ChangesPast file at (H.view host.old) (H.view host.new) }
     ensures causes { ListCauses (H.view host.old) (H.view host.new) result }
 {
@@ -77,6 +79,7 @@ fn write_level<H: Host>(
     requires some { 0 < length entries.now }
     ensures ok { OnOk result (Writes (H.view host.old) (H.view host.new) file at (level_bytes level entries.now)) }
     ensures above { IfOk result (λ entries_above. entries_above.items ≡ above at entries.now) }
+    ensures fit { OnOk result (AreFit entries.now) }
     ensures fits { OnOk result (at + size (length entries.now) ≤ 2 ^ 62) }
     ensures changes { ChangesPast file at (H.view host.old) (H.view host.new) }
     ensures causes { ListCauses (H.view host.old) (H.view host.new) result }
@@ -112,6 +115,7 @@ fn write_node<H: Host>(
     requires most { length entries.now ≤ 255 }
     ensures ok { OnOk result (Writes (H.view host.old) (H.view host.new) file at (node level entries.now)) }
     ensures fits { OnOk result (at + length (node level entries.now) ≤ 2 ^ 62) }
+    ensures fit { OnOk result (AreFit entries.now) }
     ensures changes { ChangesPast file at (H.view host.old) (H.view host.new) }
     ensures causes { ListCauses (H.view host.old) (H.view host.new) result }
 {

@@ -1,33 +1,34 @@
-use Rattle.std.proofs.Common.{◌+◌, ◌*◌, inl, inr, sym, ◌∙◌, ap, subst, arith, refl, ⊎_elim, Option, Some, Ok, Err}
+use Rattle.std.proofs.Common.{◌+◌, ◌*◌, inl, inr, sym, ◌∙◌, ap, subst, arith, refl, ⊎_elim, Option, Ok, Err}
 use Rattle.std.proofs.lemmas.Result.{err_from_is_err_and}
 use Rattle.sasi_types.specs.declared.tree.Pair.{Pair}
 use Rattle.sasi_types.specs.declared.tree.TreeRef.{TreeRef}
 use Rattle.sasi_host.specs.Disk.{Same}
 use Rattle.sasi_host.specs.Moves.{then_same}
+use Rattle.sasi_host.specs.Held.{Held, IsHeld, held_after}
 use Rattle.sasi_tokentree.specs.Heights.{height}
-use Rattle.sasi_tokentree.specs.Showing.{shown_before}
+use Rattle.sasi_host.specs.Showing.{shown_before}
 use Rattle.sasi_tokentree.specs.Walks.{GivesEntry, Walk}
 use Rattle.sasi_dataread.specs.Laws.{pairs_are}
 use Rattle.sasi_dataread.proofs.Runs.{causes_fault, causes_ok, passes_on, there_same}
 use Rattle.sasi_dataread.proofs.Walking.{entry_before, entry_of, next_takes, open_same, partition_shown, tree_shown, tree_spares}
-use Rattle.sasi_dataread.proofs.Finding.{all_passed, first_causes, first_passes, found_here, here_costs, here_spares, none_here, searches_on, spares_before, stands_here, starts}
+use Rattle.sasi_dataread.proofs.Finding.{all_passed, first_causes, first_passes, found_here, here_costs, here_spares, none_here, one_more, searches_on, spares_before, stands_here, starts}
 use Rattle.sasi_dataread.proofs.find.find_partition.Goals as goal
 
 pub returns-in_err-next-clause-damaged : goal.returns-in_err-next-clause-damaged
 returns-in_err-next-clause-damaged g c =
     let p = err_from_is_err_and c.from_residual.result c.from_residual.ensures.1 in
-    rw (p.1, p.2) (tree_shown (g.H.Host.view c.args.host.now) c.args.opened.now c.tree-tree.result.file c.tree-tree.result.tree c.in_err-next.field-0.0 (ap (λ (w : Walk). w.file) c.tree-tree.ensures) (ap (λ (w : Walk). w.tree) c.tree-tree.ensures) c.in_err-next.ensures.damaged)
+    rw (p.1, p.2) (tree_shown (g.H.Host.view c.args.host.now) c.args.opened.now c.tree-tree.result.held.file c.tree-tree.result.tree c.in_err-next.field-0.0 (ap (λ (w : Walk). w.held.file) c.tree-tree.ensures) (ap (λ (w : Walk). w.tree) c.tree-tree.ensures) c.in_err-next.ensures.damaged)
 
 pub returns-in_err-next-clause-undamaged : goal.returns-in_err-next-clause-undamaged
 returns-in_err-next-clause-undamaged g c =
     let p = err_from_is_err_and c.from_residual.result c.from_residual.ensures.1 in
-    rw (p.1, p.2) (tree_spares (g.H.Host.view c.args.host.now) c.args.opened.now c.tree-tree.result.file c.tree-tree.result.tree c.in_err-next.field-0.0 (ap (λ (w : Walk). w.file) c.tree-tree.ensures) (ap (λ (w : Walk). w.tree) c.tree-tree.ensures) (λ bytes is. (g.met.H.Host.sound c.args.host.now).fits c.args.opened.now.file bytes is) c.in_err-next.ensures.undamaged)
+    rw (p.1, p.2) (tree_spares (g.H.Host.view c.args.host.now) c.args.opened.now c.tree-tree.result.held.file c.tree-tree.result.tree c.in_err-next.field-0.0 (ap (λ (w : Walk). w.held.file) c.tree-tree.ensures) (ap (λ (w : Walk). w.tree) c.tree-tree.ensures) (λ bytes is. (g.met.H.Host.sound c.args.host.now).fits c.args.opened.now.file bytes is) c.in_err-next.ensures.undamaged)
 
 pub loop-turn-init : goal.loop-turn-init
 loop-turn-init g c =
     let v = g.H.Host.view c.args.host.now in
     let w = g.H.Host.view c.first.new.host in
-    let file_is = ap (λ (t : Walk). t.file) c.tree-tree.ensures in
+    let file_is = ap (λ (t : Walk). t.held.file) c.tree-tree.ensures in
     record {
       there = there_same v w c.args.opened.now.file c.first.ensures.changes c.requires.there;
       agrees = c.first.ensures.agrees;
@@ -35,8 +36,12 @@ loop-turn-init g c =
       changes = c.first.ensures.changes;
       passes = λ most le. first_passes v w (2 * height most c.args.opened.now.tree.pairs + 2) (2 * height most c.args.opened.now.tree.pairs + 2 + 0) c.first.result c.first.ensures.changes (first_causes v w c.args.opened.now c.tree-tree.result c.first.result c.tree-tree.ensures c.first.ensures.causes most le) (omega arith);
       file = c.first.ensures.file ∙ file_is;
+      named = ap (λ (h : Held). h.file) c.hold-held.ensures;
+      pairs_held = c.first.ensures.held;
+      held = subst (λ (h : Held). IsHeld h (g.H.Host.view c.first.new.host).files) (sym c.hold-held.ensures) (λ page bytes is. absurd (cc));
+      near = c.in_ok-next.ensures.near;
       tree = c.first.ensures.tree ∙ ap (λ (t : Walk). t.tree) c.tree-tree.ensures;
-      entry = entry_of v c.args.opened.now c.tree-tree.result.file c.tree-tree.result.tree c.first.new.self.passed c.in_ok-next.next file_is (ap (λ (t : Walk). t.tree) c.tree-tree.ensures) c.in_ok-next.ensures.stands;
+      entry = entry_of v c.args.opened.now c.tree-tree.result.held.file c.tree-tree.result.tree c.first.new.self.passed c.in_ok-next.next file_is (ap (λ (t : Walk). t.tree) c.tree-tree.ensures) c.in_ok-next.ensures.stands;
       searches = starts v w c.args.opened.now c.tree-tree.result c.args.token c.args.key.now c.first.new.self.passed c.in_ok-next.next c.first.result c.tree-tree.ensures (λ bytes is. (g.met.H.Host.sound c.args.host.now).fits c.args.opened.now.file bytes is) c.in_ok-next.ensures.ok c.first.ensures.causes;
     }
 
@@ -72,7 +77,7 @@ returns-in_err-found-clause-changes g c = then_same _ _ _ Same c.loop-turn.invar
 pub returns-in_err-found-clause-reads : goal.returns-in_err-found-clause-reads
 returns-in_err-found-clause-reads g c most partitioner content le is have =
     let here = here_costs (g.H.Host.view c.args.host.now) _ c.args.opened.now partitioner content c.args.token c.args.key.now c.loop-turn._turn c.loop-turn.tree.passed c.in-Some.place _ _ (g.H.Host.view c.part_with.new.host).reads c.loop-turn.next is c.loop-turn.invariant.changes (c.loop-turn.invariant.searches most partitioner content le is have) c.in-Some.ensures
-    (λ k p. c.part_with.ensures.reads partitioner content k p)
+    (λ k p there at. let less = c.part_with.ensures.reads partitioner content k p there at in omega (arith, less))
     in
     omega (arith, here)
 
@@ -86,13 +91,13 @@ returns-then-is_some-clause-changes g c = then_same _ _ _ Same c.loop-turn.invar
 
 pub returns-then-is_some-clause-causes : goal.returns-then-is_some-clause-causes
 returns-then-is_some-clause-causes g c most le =
-    let spent = 2 * height most c.args.opened.now.tree.pairs + 2 + 2053 * c.loop-turn._turn in
-    causes_ok _ _ (spent + 2051) _ c.in_ok-found.found (Ok c.in_ok-found.found) refl (passes_on _ _ _ spent 2051 (spent + 2051) c.part_with.result (c.loop-turn.invariant.passes most le) c.part_with.ensures.causes c.part_with.ensures.changes (omega arith)) (omega arith)
+    let spent = 2 * height most c.args.opened.now.tree.pairs + 2 + 2051 * c.loop-turn._turn in
+    causes_ok _ _ (spent + 2050) _ c.in_ok-found.found (Ok c.in_ok-found.found) refl (passes_on _ _ _ spent 2050 (spent + 2050) c.part_with.result (c.loop-turn.invariant.passes most le) c.part_with.ensures.causes c.part_with.ensures.changes (omega arith)) (omega arith)
 
 pub returns-then-is_some-clause-reads : goal.returns-then-is_some-clause-reads
 returns-then-is_some-clause-reads g c most partitioner content le is have =
     let here = here_costs (g.H.Host.view c.args.host.now) _ c.args.opened.now partitioner content c.args.token c.args.key.now c.loop-turn._turn c.loop-turn.tree.passed c.in-Some.place _ _ (g.H.Host.view c.part_with.new.host).reads c.loop-turn.next is c.loop-turn.invariant.changes (c.loop-turn.invariant.searches most partitioner content le is have) c.in-Some.ensures
-    (λ k p. c.part_with.ensures.reads partitioner content k p)
+    (λ k p there at. let less = c.part_with.ensures.reads partitioner content k p there at in omega (arith, less))
     in
     omega (arith, here)
 
@@ -100,15 +105,15 @@ pub returns-in_err-next-2-clause-damaged : goal.returns-in_err-next-2-clause-dam
 returns-in_err-next-2-clause-damaged g c =
     let p = err_from_is_err_and c.from_residual-in_err-next-2.result c.from_residual-in_err-next-2.ensures.1 in
     let v = g.H.Host.view c.args.host.now in
-    rw (p.1, p.2) (tree_shown v c.args.opened.now c.loop-turn.tree.file c.loop-turn.tree.tree c.in_err-next-2.field-0.0 c.loop-turn.invariant.file c.loop-turn.invariant.tree
-    (shown_before _ v _ c.loop-turn.tree.file c.in_err-next-2.field-0.0 (then_same _ _ _ Same c.loop-turn.invariant.changes c.part_with.ensures.changes) c.in_err-next-2.ensures.damaged))
+    rw (p.1, p.2) (tree_shown v c.args.opened.now c.loop-turn.tree.held.file c.loop-turn.tree.tree c.in_err-next-2.field-0.0 c.loop-turn.invariant.file c.loop-turn.invariant.tree
+    (shown_before _ v _ c.loop-turn.tree.held.file c.in_err-next-2.field-0.0 (then_same _ _ _ Same c.loop-turn.invariant.changes c.part_with.ensures.changes) c.in_err-next-2.ensures.damaged))
 
 pub returns-in_err-next-2-clause-undamaged : goal.returns-in_err-next-2-clause-undamaged
 returns-in_err-next-2-clause-undamaged g c =
     let p = err_from_is_err_and c.from_residual-in_err-next-2.result c.from_residual-in_err-next-2.ensures.1 in
     rw (p.1, p.2) (
     spares_before (g.H.Host.view c.args.host.now) (g.H.Host.view c.part_with.new.host) c.args.opened.now c.in_err-next-2.field-0.0 (then_same _ _ _ Same c.loop-turn.invariant.changes c.part_with.ensures.changes)
-    (tree_spares (g.H.Host.view c.part_with.new.host) c.args.opened.now c.loop-turn.tree.file c.loop-turn.tree.tree c.in_err-next-2.field-0.0 c.loop-turn.invariant.file c.loop-turn.invariant.tree (λ bytes is. (g.met.H.Host.sound c.part_with.new.host).fits c.args.opened.now.file bytes is) c.in_err-next-2.ensures.undamaged)
+    (tree_spares (g.H.Host.view c.part_with.new.host) c.args.opened.now c.loop-turn.tree.held.file c.loop-turn.tree.tree c.in_err-next-2.field-0.0 c.loop-turn.invariant.file c.loop-turn.invariant.tree (λ bytes is. (g.met.H.Host.sound c.part_with.new.host).fits c.args.opened.now.file bytes is) c.in_err-next-2.ensures.undamaged)
     )
 
 pub returns-in_err-next-2-clause-changes : goal.returns-in_err-next-2-clause-changes
@@ -117,18 +122,18 @@ returns-in_err-next-2-clause-changes g c = then_same _ _ _ Same (then_same _ _ _
 pub returns-in_err-next-2-clause-causes : goal.returns-in_err-next-2-clause-causes
 returns-in_err-next-2-clause-causes g c most le =
     let p = err_from_is_err_and c.from_residual-in_err-next-2.result c.from_residual-in_err-next-2.ensures.1 in
-    let spent = 2 * height most c.args.opened.now.tree.pairs + 2 + 2053 * c.loop-turn._turn in
+    let spent = 2 * height most c.args.opened.now.tree.pairs + 2 + 2051 * c.loop-turn._turn in
     rw (p.1, p.2) (
-    causes_fault _ _ _ (spent + 2051) 2 _ c.next.result (Err c.in_err-next-2.field-0.0) c.in_err-next-2.field-0.0 c.in_err-next-2.was refl
-    (passes_on _ _ _ spent 2051 (spent + 2051) c.part_with.result (c.loop-turn.invariant.passes most le) c.part_with.ensures.causes c.part_with.ensures.changes (omega arith)) c.next.ensures.causes (omega arith)
+    causes_fault _ _ _ (spent + 2050) 1 _ c.next.result (Err c.in_err-next-2.field-0.0) c.in_err-next-2.field-0.0 c.in_err-next-2.was refl
+    (passes_on _ _ _ spent 2050 (spent + 2050) c.part_with.result (c.loop-turn.invariant.passes most le) c.part_with.ensures.causes c.part_with.ensures.changes (omega arith)) (one_more (g.H.Host.view c.args.host.now) _ _ c.args.opened.now.file c.args.opened.now.tree c.loop-turn.tree c.args.token c.in-Some.place c.loop-turn.next c.next.result c.in-Some.ensures c.loop-turn.invariant.entry c.loop-turn.invariant.near c.next.ensures.causes) (omega arith)
     )
 
 pub returns-in_err-next-2-clause-reads : goal.returns-in_err-next-2-clause-reads
 returns-in_err-next-2-clause-reads g c most partitioner content le is have =
     let here = here_costs (g.H.Host.view c.args.host.now) _ c.args.opened.now partitioner content c.args.token c.args.key.now c.loop-turn._turn c.loop-turn.tree.passed c.in-Some.place _ _ (g.H.Host.view c.part_with.new.host).reads c.loop-turn.next is c.loop-turn.invariant.changes (c.loop-turn.invariant.searches most partitioner content le is have) c.in-Some.ensures
-    (λ k p. c.part_with.ensures.reads partitioner content k p)
+    (λ k p there at. let less = c.part_with.ensures.reads partitioner content k p there at in omega (arith, less))
     in
-    omega (arith, here, c.next.ensures.causes.reads)
+    omega (arith, here, (one_more (g.H.Host.view c.args.host.now) _ _ c.args.opened.now.file c.args.opened.now.tree c.loop-turn.tree c.args.token c.in-Some.place c.loop-turn.next c.next.result c.in-Some.ensures c.loop-turn.invariant.entry c.loop-turn.invariant.near c.next.ensures.causes).reads)
 
 pub loop-turn-preserved : goal.loop-turn-preserved
 loop-turn-preserved g c =
@@ -137,21 +142,26 @@ loop-turn-preserved g c =
     let here = c.loop-turn.invariant in
     let file = c.args.opened.now.file in
     let change = then_same _ _ _ Same here.changes c.part_with.ensures.changes in
+    let cheap = one_more v w (g.H.Host.view c.next.new.host) file c.args.opened.now.tree c.loop-turn.tree c.args.token c.in-Some.place c.loop-turn.next c.next.result c.in-Some.ensures here.entry here.near c.next.ensures.causes in
     record {
       there = there_same _ _ file c.next.ensures.changes (there_same _ _ file c.part_with.ensures.changes here.there);
       agrees = c.next.ensures.agrees;
       covers = λ name covered. ⊎_elim (λ old. ⊎_elim (λ older. here.covers name older) (λ is. inr is) (c.part_with.ensures.covers name old)) (λ is. inr (is ∙ here.file)) (c.next.ensures.covers name covered);
       changes = then_same _ _ _ Same change c.next.ensures.changes;
       passes = λ most le.
-          let spent = 2 * height most c.args.opened.now.tree.pairs + 2 + 2053 * c.loop-turn._turn in
-          passes_on _ _ _ (spent + 2051) 2 _ c.next.result (passes_on _ _ _ spent 2051 (spent + 2051) c.part_with.result (here.passes most le) c.part_with.ensures.causes c.part_with.ensures.changes (omega arith)) c.next.ensures.causes c.next.ensures.changes (omega arith);
+          let spent = 2 * height most c.args.opened.now.tree.pairs + 2 + 2051 * c.loop-turn._turn in
+          passes_on _ _ _ (spent + 2050) 1 _ c.next.result (passes_on _ _ _ spent 2050 (spent + 2050) c.part_with.result (here.passes most le) c.part_with.ensures.causes c.part_with.ensures.changes (omega arith)) cheap c.next.ensures.changes (omega arith);
       file = c.next.ensures.file ∙ here.file;
+      named = c.part_with.ensures.named;
+      pairs_held = c.next.ensures.held;
+      held = held_after c.part_with.new.held w (g.H.Host.view c.next.new.host) c.next.ensures.changes c.part_with.ensures.held;
+      near = c.in_ok-next-2.ensures.near;
       tree = c.next.ensures.tree ∙ here.tree;
-      entry = entry_of v c.args.opened.now c.loop-turn.tree.file c.loop-turn.tree.tree c.next.new.self.passed c.in_ok-next-2.next here.file here.tree (entry_before v w c.loop-turn.tree.file c.loop-turn.tree.tree c.next.new.self.passed c.in_ok-next-2.next change c.in_ok-next-2.ensures.stands);
+      entry = entry_of v c.args.opened.now c.loop-turn.tree.held.file c.loop-turn.tree.tree c.next.new.self.passed c.in_ok-next-2.next here.file here.tree (entry_before v w c.loop-turn.tree.held.file c.loop-turn.tree.tree c.next.new.self.passed c.in_ok-next-2.next change c.in_ok-next-2.ensures.stands);
       searches = λ most partitioner content le is have.
           searches_on v _ c.args.opened.now partitioner content c.args.token c.args.key.now c.loop-turn._turn c.loop-turn.tree.passed c.in-Some.place _ _ c.next.new.self.passed (g.H.Host.view c.next.new.host).reads c.loop-turn.next c.in_ok-next-2.next c.in_ok-found.found is here.changes (here.searches most partitioner content le is have) c.in-Some.ensures c.in_ok-found.ensures.ok (sym c.if-is_some.ensures)
-          (λ k p there at. let cost = c.part_with.ensures.reads partitioner content k p there at in omega (arith, cost, c.next.ensures.causes.reads))
-          (next_takes w c.args.opened.now c.loop-turn.tree.file c.loop-turn.tree.tree c.loop-turn.tree.passed c.next.new.self.passed c.in_ok-next-2.next here.file here.tree (λ bytes reads. (g.met.H.Host.sound c.part_with.new.host).fits file bytes reads) c.in_ok-next-2.ensures.ok partitioner content (open_same v w c.args.opened.now partitioner content change is) have);
+          (λ k p there at. let cost = c.part_with.ensures.reads partitioner content k p there at in omega (arith, cost, cheap.reads))
+          (next_takes w c.args.opened.now c.loop-turn.tree.held.file c.loop-turn.tree.tree c.loop-turn.tree.passed c.next.new.self.passed c.in_ok-next-2.next here.file here.tree (λ bytes reads. (g.met.H.Host.sound c.part_with.new.host).fits file bytes reads) c.in_ok-next-2.ensures.ok partitioner content (open_same v w c.args.opened.now partitioner content change is) have);
     }
 
 pub returns-clause-ok : goal.returns-clause-ok

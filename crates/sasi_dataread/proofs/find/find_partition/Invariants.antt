@@ -3,8 +3,9 @@ use Rattle.sasi_types.specs.declared.partitioner.Partitioner.{Partitioner}
 use Rattle.sasi_host.specs.declared.name.FileName.{FileName}
 use Rattle.sasi_host.specs.View.{IsThere}
 use Rattle.sasi_host.specs.Disk.{Changes, Same}
+use Rattle.sasi_host.specs.Held.{IsHeld}
 use Rattle.sasi_tokentree.specs.Heights.{height}
-use Rattle.sasi_tokentree.specs.Walks.{GivesEntry}
+use Rattle.sasi_tokentree.specs.Walks.{GivesEntry, IsNear}
 use Rattle.sasi_datawrite.specs.Format.{Content, header}
 use Rattle.sasi_dataread.specs.Reads.{IsOpenOn, Passes}
 use Rattle.sasi_dataread.specs.Walks.{HaveTokens}
@@ -21,8 +22,12 @@ invariant-loop-turn g l =
       agrees : g.P.PageReader.agrees l.pages (view l.host).files;
       covers : (name : FileName) → g.P.PageReader.covers l.pages name → g.P.PageReader.covers l.fn.pages name ⊎ (name ≡ l.opened.file);
       changes : Changes Same (view l.fn.host) (view l.host);
-      passes : (most : ℕ) → pairs ≤ most → Passes (2 * height most pairs + 2 + 2053 * l._turn) (view l.fn.host) (view l.host);
-      file : l.tree.file ≡ l.opened.file;
+      passes : (most : ℕ) → pairs ≤ most → Passes (2 * height most pairs + 2 + 2051 * l._turn) (view l.fn.host) (view l.host);
+      file : l.tree.held.file ≡ l.opened.file;
+      named : l.held.file ≡ l.opened.file;
+      pairs_held : IsHeld l.tree.held (view l.host).files;
+      held : IsHeld l.held (view l.host).files;
+      near : IsNear l.tree l.next;
       tree : l.tree.tree ≡ l.opened.tree;
       entry : GivesEntry (view l.fn.host) l.opened.file l.opened.tree l.tree.passed l.next;
       searches : (most : ℕ) (partitioner : Partitioner) (content : Content) → pairs ≤ most → IsOpenOn (view l.fn.host) l.opened partitioner content → HaveTokens partitioner content

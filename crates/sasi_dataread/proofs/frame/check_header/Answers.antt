@@ -1,7 +1,7 @@
 use Rattle.std.proofs.Common.{◌≡◌, ℕ, List, length, take, drop, sym, ◌∙◌, ap, subst}
 use Rattle.std.proofs.lemmas.Result.{err_from_is_err_and}
 use Rattle.sasi_host.specs.declared.damage.FormatRule.TheVariants.{Version}
-use Rattle.sasi_tokentree.specs.Damages.{IsOther}
+use Rattle.sasi_host.specs.Damages.{IsOther}
 use Rattle.sasi_dataread.proofs.Framing.{magic_shown, version_shown, zeros_shown, header_magic, header_version, header_zeros, header_is}
 use Rattle.sasi_dataread.proofs.frame.check_header.Goals as goal
 

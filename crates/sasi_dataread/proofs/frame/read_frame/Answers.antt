@@ -1,12 +1,16 @@
-use Rattle.std.proofs.Common.{◌≡◌, ◌-◌, ◌≤◌, ℕ, List, length, sym, ◌∙◌, ap, subst, arith, lit≤}
+use Rattle.std.proofs.Common.{◌≡◌, ◌-◌, ◌≤◌, ℕ, length, ◌∙◌, ap, subst, arith, lit≤}
 use Rattle.std.specs.Int.{to_be_bytes, w64}
 use Rattle.std.proofs.lemmas.Result.{err_from_is_err_and}
 use Rattle.sasi_host.specs.Disk.{Same}
 use Rattle.sasi_host.specs.Contents.{contents_same}
 use Rattle.sasi_host.specs.Moves.{then_same}
-use Rattle.sasi_tokentree.specs.Damages.{HasAt}
-use Rattle.sasi_tokentree.specs.Showing.{shown_as, shown_before}
+use Rattle.sasi_host.specs.declared.name.FileName.{FileName}
+use Rattle.sasi_host.specs.View.{contents}
+use Rattle.sasi_host.specs.Damages.{Shown}
+use Rattle.sasi_host.specs.Held.{Held}
+use Rattle.sasi_host.specs.Showing.{shown_as, shown_before}
 use Rattle.sasi_dataread.specs.Damages.{ShowsFrame}
+use Rattle.sasi_dataread.specs.Frames.{SparesHeader, SparesFooter}
 use Rattle.sasi_dataread.specs.Laws.{least_size}
 use Rattle.sasi_dataread.proofs.Framing.{end_frames, header_spares, footer_spares, range_spares}
 use Rattle.sasi_dataread.proofs.frame.read_frame.Goals as goal
@@ -29,12 +33,13 @@ returns-in_err-bytes-clause-damaged g c =
     let p = err_from_is_err_and c.from_residual-in_err-bytes.result c.from_residual-in_err-bytes.ensures.1 in
     let view = g.H.Host.view in
     rw (p.1, p.2) (shown_as (λ bytes damage. c.in_ok-size.size ≡ length bytes → ShowsFrame c.args.file bytes damage) (ShowsFrame c.args.file) (view c.args.host.now) c.args.file c.in_err-bytes.field-0.0 (λ bytes damage is shows. shows (c.in_ok-size.ensures.ok bytes is))
-    (shown_before _ (view c.args.host.now) _ c.args.file c.in_err-bytes.field-0.0 c.size.ensures.changes c.in_err-bytes.ensures.damaged))
+    (shown_before _ (view c.args.host.now) _ c.args.file c.in_err-bytes.field-0.0 c.size.ensures.changes
+    (subst (λ (n : FileName). Shown (view c.size.new.self) n (λ bytes damage. c.in_ok-size.size ≡ length bytes → ShowsFrame n bytes damage) c.in_err-bytes.field-0.0) (ap (λ (h : Held). h.file) c.new-held.ensures) c.in_err-bytes.ensures.damaged)))
 
 pub returns-in_err-bytes-clause-undamaged : goal.returns-in_err-bytes-clause-undamaged
 returns-in_err-bytes-clause-undamaged g c =
     let p = err_from_is_err_and c.from_residual-in_err-bytes.result c.from_residual-in_err-bytes.ensures.1 in
-    rw (p.1, p.2) (footer_spares _ _ c.args.file c.in_ok-size.size c.in_err-bytes.field-0.0 c.size.ensures.changes c.in_ok-size.ensures.ok c.in_err-bytes.ensures.undamaged)
+    rw (p.1, p.2) (footer_spares _ _ c.args.file c.in_ok-size.size c.in_err-bytes.field-0.0 c.size.ensures.changes c.in_ok-size.ensures.ok (subst (λ (n : FileName). SparesFooter (g.H.Host.view c.size.new.self) n (c.in_ok-size.size - 40) c.in_err-bytes.field-0.0) (ap (λ (h : Held). h.file) c.new-held.ensures) c.in_err-bytes.ensures.undamaged))
 
 pub returns-in_err-bytes-clause-changes : goal.returns-in_err-bytes-clause-changes
 returns-in_err-bytes-clause-changes g c = then_same _ _ _ Same c.size.ensures.changes c.read_end.ensures.changes
@@ -42,12 +47,14 @@ returns-in_err-bytes-clause-changes g c = then_same _ _ _ Same c.size.ensures.ch
 pub returns-in_err-read_header-clause-damaged : goal.returns-in_err-read_header-clause-damaged
 returns-in_err-read_header-clause-damaged g c =
     let p = err_from_is_err_and c.from_residual-in_err-read_header.result c.from_residual-in_err-read_header.ensures.1 in
-    rw (p.1, p.2) (shown_before _ (g.H.Host.view c.args.host.now) _ c.args.file c.in_err-read_header.field-0.0 (then_same _ _ _ Same c.size.ensures.changes c.read_end.ensures.changes) c.in_err-read_header.ensures.damaged)
+    rw (p.1, p.2) (shown_before _ (g.H.Host.view c.args.host.now) _ c.args.file c.in_err-read_header.field-0.0 (then_same _ _ _ Same c.size.ensures.changes c.read_end.ensures.changes)
+    (subst (λ (n : FileName). Shown (g.H.Host.view c.read_end.new.host) n (ShowsFrame n) c.in_err-read_header.field-0.0) (c.read_end.ensures.file ∙ ap (λ (h : Held). h.file) c.new-held.ensures) c.in_err-read_header.ensures.damaged))
 
 pub returns-in_err-read_header-clause-undamaged : goal.returns-in_err-read_header-clause-undamaged
 returns-in_err-read_header-clause-undamaged g c =
     let p = err_from_is_err_and c.from_residual-in_err-read_header.result c.from_residual-in_err-read_header.ensures.1 in
-    rw (p.1, p.2) (header_spares _ _ c.args.file c.in_err-read_header.field-0.0 (then_same _ _ _ Same c.size.ensures.changes c.read_end.ensures.changes) c.in_err-read_header.ensures.undamaged)
+    rw (p.1, p.2) (header_spares _ _ c.args.file c.in_err-read_header.field-0.0 (then_same _ _ _ Same c.size.ensures.changes c.read_end.ensures.changes)
+    (subst (λ (n : FileName). SparesHeader (g.H.Host.view c.read_end.new.host) n c.in_err-read_header.field-0.0) (c.read_end.ensures.file ∙ ap (λ (h : Held). h.file) c.new-held.ensures) c.in_err-read_header.ensures.undamaged))
 
 pub returns-in_err-read_header-clause-changes : goal.returns-in_err-read_header-clause-changes
 returns-in_err-read_header-clause-changes g c = then_same _ _ _ Same (then_same _ _ _ Same c.size.ensures.changes c.read_end.ensures.changes) c.read_header.ensures.changes
@@ -57,14 +64,14 @@ returns-in_err-footer-clause-damaged g c =
     let p = err_from_is_err_and c.from_residual-in_err-footer.result c.from_residual-in_err-footer.ensures.1 in
     let long : 97 ≤ c.in_ok-size.size = omega arith in
     rw (p.1, p.2) (λ bytes is. let sized = c.in_ok-size.ensures.ok bytes is in
-    c.in_err-footer.ensures.seen bytes (subst (λ (l : List ℕ). HasAt bytes (c.in_ok-size.size - 40) l) (sym c.deref.ensures.value) (c.in_ok-bytes.ensures.ok bytes (contents_same _ _ c.args.file c.size.ensures.changes ∙ is))) (omega (arith, sized, long)))
+    c.in_err-footer.ensures.seen bytes (c.in_ok-bytes.ensures.ok bytes (ap (λ (h : Held). contents (g.H.Host.view c.size.new.self) h.file) c.new-held.ensures ∙ contents_same _ _ c.args.file c.size.ensures.changes ∙ is)) (omega (arith, sized, long)))
 
 pub returns-in_err-footer-clause-undamaged : goal.returns-in_err-footer-clause-undamaged
 returns-in_err-footer-clause-undamaged g c =
     let p = err_from_is_err_and c.from_residual-in_err-footer.result c.from_residual-in_err-footer.ensures.1 in
     rw (p.1, p.2) (λ bytes partitioner types content is of.
-    range_spares bytes c.deref.result.now c.in_ok-size.size (c.in_ok-size.ensures.ok bytes is) ((g.met.H.Host.sound c.args.host.now).fits c.args.file bytes is) (ap (λ (l : List ℕ). length l) c.deref.ensures.value ∙ c.in_ok-bytes.ensures.length)
-    (subst (λ (l : List ℕ). HasAt bytes (c.in_ok-size.size - 40) l) (sym c.deref.ensures.value) (c.in_ok-bytes.ensures.ok bytes (contents_same _ _ c.args.file c.size.ensures.changes ∙ is))) c.in_err-footer.ensures.spares partitioner types content of)
+    range_spares bytes c.in_ok-bytes.bytes c.in_ok-size.size (c.in_ok-size.ensures.ok bytes is) ((g.met.H.Host.sound c.args.host.now).fits c.args.file bytes is) c.in_ok-bytes.ensures.length
+    (c.in_ok-bytes.ensures.ok bytes (ap (λ (h : Held). contents (g.H.Host.view c.size.new.self) h.file) c.new-held.ensures ∙ contents_same _ _ c.args.file c.size.ensures.changes ∙ is)) c.in_err-footer.ensures.spares partitioner types content of)
 
 pub returns-in_err-footer-clause-changes : goal.returns-in_err-footer-clause-changes
 returns-in_err-footer-clause-changes g c = then_same _ _ _ Same (then_same _ _ _ Same c.size.ensures.changes c.read_end.ensures.changes) c.read_header.ensures.changes

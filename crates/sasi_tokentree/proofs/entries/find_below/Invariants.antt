@@ -1,7 +1,7 @@
 use Rattle.std.proofs.Common.{◌≡◌, ℕ, ◌+◌, ◌-◌, ◌*◌, ◌^◌, ◌<◌, List}
 use Rattle.sasi_types.specs.declared.tree.Pair.{Pair}
+use Rattle.sasi_host.specs.Damages.{HasAt}
 use Rattle.sasi_tokentree.specs.Format.{pair_at, entry, node, AreFit}
-use Rattle.sasi_tokentree.specs.Damages.{HasAt}
 use Rattle.sasi_tokentree.proofs.entries.find_below.Given as goal
 
 abbrev pub invariant-loop-index : goal.invariant-loop-index

@@ -1,13 +1,12 @@
-use Rattle.std.proofs.Common.{◌≡◌, ℕ, ◌+◌, ◌-◌, ◌<◌, Ok, Err, ◌∙◌, subst, arith}
+use Rattle.std.proofs.Common.{◌≡◌, ℕ, ◌+◌, ◌-◌, ◌<◌, Ok, Err, ◌∙◌, subst, arith, inr, ⊎_elim}
 use Rattle.std.proofs.lemmas.Result.{err_from_is_err_and}
 use Rattle.sasi_host.specs.Disk.{Same}
-use Rattle.sasi_host.specs.Contents.{contents_same}
 use Rattle.sasi_host.specs.Moves.{then_same}
 use Rattle.sasi_tokentree.specs.Format.{above}
 use Rattle.sasi_tokentree.specs.Reads.{FindsBelow}
 use Rattle.sasi_tokentree.specs.Damages.{IsNodeFrom}
 use Rattle.sasi_tokentree.specs.Damages.IsNodeFrom.{of_above}
-use Rattle.sasi_tokentree.specs.Showing.{shown_before}
+use Rattle.sasi_tokentree.proofs.Holding.{reads_still, shown_still}
 use Rattle.sasi_tokentree.proofs.NodeReads.{shown_more, node_of_one}
 use Rattle.sasi_tokentree.proofs.Standing.{stands_one, none_below, below_in}
 use Rattle.sasi_tokentree.proofs.Seeks.{spares_one, spares_up, spares_before, up, up_length, one_level_reads, above_reads, more_level_reads, ok_reads, reads_within}
@@ -16,19 +15,19 @@ use Rattle.sasi_tokentree.proofs.seek.+count_below.Goals as goal
 pub returns-in_err-below-clause-undamaged : goal.returns-in_err-below-clause-undamaged
 returns-in_err-below-clause-undamaged g t c =
     let p = err_from_is_err_and c.from_residual.result c.from_residual.ensures.1 in
-    rw (p.1, p.2) (spares_one (g.H.Host.view c.args.host.now) c.args.file c.args.level c.args.at c.args.count c.in_err-below.field-0.0 (omega arith) c.in_err-below.ensures.undamaged)
+    rw (p.1, p.2) (spares_one (g.H.Host.view c.args.host.now) c.args.held.now.file c.args.level c.args.at c.args.count c.in_err-below.field-0.0 (omega arith) c.in_err-below.ensures.undamaged)
 
 pub returns-in_err-below-clause-damaged : goal.returns-in_err-below-clause-damaged
 returns-in_err-below-clause-damaged g t c =
     let p = err_from_is_err_and c.from_residual.result c.from_residual.ensures.1 in
-    rw (p.1, p.2) (shown_more _ (λ n. IsNodeFrom n c.args.level c.args.at c.args.count) (g.H.Host.view c.args.host.now) c.args.file c.in_err-below.field-0.0
+    rw (p.1, p.2) (shown_more _ (λ n. IsNodeFrom n c.args.level c.args.at c.args.count) (g.H.Host.view c.args.host.now) c.args.held.now.file c.in_err-below.field-0.0
     (node_of_one c.args.level c.args.at c.args.count c.requires.some (omega arith)) c.in_err-below.ensures.damaged)
 
 pub returns-in_err-above-clause-damaged : goal.returns-in_err-above-clause-damaged
 returns-in_err-above-clause-damaged g t c =
     let p = err_from_is_err_and c.from_residual-in_err-above.result c.from_residual-in_err-above.ensures.1 in
     let shown = rw (c.level_size.ensures, c.node_count.ensures) at c.in_err-above.ensures.damaged in
-    rw (p.1, p.2) (shown_more _ (λ n. IsNodeFrom n c.args.level c.args.at c.args.count) (g.H.Host.view c.args.host.now) c.args.file c.in_err-above.field-0.0
+    rw (p.1, p.2) (shown_more _ (λ n. IsNodeFrom n c.args.level c.args.at c.args.count) (g.H.Host.view c.args.host.now) c.args.held.now.file c.in_err-above.field-0.0
     (λ n. of_above c.args.level c.args.at c.args.count (omega arith)) shown)
 
 pub returns-in_err-below-clause-causes : goal.returns-in_err-below-clause-causes
@@ -45,7 +44,7 @@ returns-then-count-le-FULL-clause-causes g t c most le = reads_within _ _ 2 _ (O
 pub returns-in_err-above-clause-undamaged : goal.returns-in_err-above-clause-undamaged
 returns-in_err-above-clause-undamaged g t c =
     let p = err_from_is_err_and c.from_residual-in_err-above.result c.from_residual-in_err-above.ensures.1 in
-    rw (p.1, p.2) (spares_up (g.H.Host.view c.args.host.now) c.args.file c.args.level c.args.at c.args.count c.in_err-above.field-0.0 (omega arith) (rw (c.level_size.ensures, c.node_count.ensures) at c.in_err-above.ensures.undamaged))
+    rw (p.1, p.2) (spares_up (g.H.Host.view c.args.host.now) c.args.held.now.file c.args.level c.args.at c.args.count c.in_err-above.field-0.0 (omega arith) (rw (c.level_size.ensures, c.node_count.ensures) at c.in_err-above.ensures.undamaged))
 
 pub returns-in_err-above-clause-causes : goal.returns-in_err-above-clause-causes
 returns-in_err-above-clause-causes g t c most le =
@@ -66,12 +65,12 @@ returns-then-above-eq0-clause-causes g t c most le =
 pub returns-in_err-below-2-clause-damaged : goal.returns-in_err-below-2-clause-damaged
 returns-in_err-below-2-clause-damaged g t c =
     let p = err_from_is_err_and c.from_residual-in_err-below-2.result c.from_residual-in_err-below-2.ensures.1 in
-    rw (p.1, p.2) (shown_before _ _ _ c.args.file c.in_err-below-2.field-0.0 c.count_below.ensures.changes c.in_err-below-2.ensures.damaged)
+    rw (p.1, p.2) (shown_still (λ n. IsNodeFrom n c.args.level c.args.at c.args.count) _ _ c.args.held.now.file _ c.in_err-below-2.field-0.0 c.count_below.ensures.changes c.count_below.ensures.file c.in_err-below-2.ensures.damaged)
 
 pub returns-in_err-below-2-clause-undamaged : goal.returns-in_err-below-2-clause-undamaged
 returns-in_err-below-2-clause-undamaged g t c =
     let p = err_from_is_err_and c.from_residual-in_err-below-2.result c.from_residual-in_err-below-2.ensures.1 in
-    rw (p.1, p.2) (spares_before _ _ c.args.file c.args.level c.args.at c.args.count c.in_err-below-2.field-0.0 c.count_below.ensures.changes c.in_err-below-2.ensures.undamaged)
+    rw (p.1, p.2) (spares_before _ _ c.args.held.now.file _ c.args.level c.args.at c.args.count c.in_err-below-2.field-0.0 c.count_below.ensures.changes c.count_below.ensures.file c.in_err-below-2.ensures.undamaged)
 
 pub returns-in_err-below-2-clause-changes : goal.returns-in_err-below-2-clause-changes
 returns-in_err-below-2-clause-changes g t c = then_same _ _ _ Same c.count_below.ensures.changes c.count_in_node.ensures.changes
@@ -84,7 +83,7 @@ returns-in_err-below-2-clause-causes g t c most le =
 pub returns-clause-ok : goal.returns-clause-ok
 returns-clause-ok g t c bytes entries is stands long =
     let many : 255 < c.args.count = omega arith in
-    let now = contents_same _ _ c.args.file c.count_below.ensures.changes ∙ is in
+    let now = reads_still _ _ c.args.held.now.file _ bytes c.count_below.ensures.changes c.count_below.ensures.file is in
     let gives = rw (c.level_size.ensures, c.node_count.ensures) at c.in_ok-above.ensures.ok in
     let found = gives bytes (above c.args.at entries) is (up bytes c.args.level c.args.at c.args.count entries many long stands) (up_length c.args.at c.args.count entries long) in
     let next : c.in_ok-above.above.count ≡ c.in_ok-above.above.count - 1 + 1 = omega arith in
@@ -97,3 +96,9 @@ returns-clause-changes g t c = then_same _ _ _ Same c.count_below.ensures.change
 pub returns-clause-causes : goal.returns-clause-causes
 returns-clause-causes g t c most le =
     ok_reads _ _ _ (Ok c.in_ok-below-2.below) _ (more_level_reads _ _ _ most c.args.count (Ok c.in_ok-above.above) (Ok c.in_ok-below-2.below) (omega arith) le (rw c.node_count.ensures at c.in_ok-above.ensures.causes) c.in_ok-below-2.ensures.causes)
+
+pub returns-in_err-below-2-clause-covers : goal.returns-in_err-below-2-clause-covers
+returns-in_err-below-2-clause-covers g t c name is = ⊎_elim (c.count_below.ensures.covers name) (λ same. inr (same ∙ c.count_below.ensures.file)) (c.count_in_node.ensures.covers name is)
+
+pub returns-clause-covers : goal.returns-clause-covers
+returns-clause-covers g t c name is = ⊎_elim (c.count_below.ensures.covers name) (λ same. inr (same ∙ c.count_below.ensures.file)) (c.count_in_node.ensures.covers name is)

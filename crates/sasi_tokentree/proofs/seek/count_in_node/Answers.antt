@@ -10,12 +10,12 @@ use Rattle.sasi_tokentree.proofs.seek.count_in_node.Goals as goal
 pub returns-in_err-below-clause-undamaged : goal.returns-in_err-below-clause-undamaged
 returns-in_err-below-clause-undamaged g c =
     let p = err_from_is_err_and c.from_residual.result c.from_residual.ensures.1 in
-    rw (p.1, p.2) (spares_part (g.H.Host.view c.args.host.now) c.args.file c.args.level c.args.at c.args.count c.args.node c.min-here.result c.in_err-below.field-0.0 c.requires.node (omega arith) c.in_err-below.ensures.undamaged)
+    rw (p.1, p.2) (spares_part (g.H.Host.view c.args.host.now) c.args.held.now.file c.args.level c.args.at c.args.count c.args.node c.min-here.result c.in_err-below.field-0.0 c.requires.node (omega arith) c.in_err-below.ensures.undamaged)
 
 pub returns-in_err-below-clause-damaged : goal.returns-in_err-below-clause-damaged
 returns-in_err-below-clause-damaged g c =
     let p = err_from_is_err_and c.from_residual.result c.from_residual.ensures.1 in
-    rw (p.1, p.2) (shown_more _ (λ n. IsNodeFrom n c.args.level c.args.at c.args.count) (g.H.Host.view c.args.host.now) c.args.file c.in_err-below.field-0.0
+    rw (p.1, p.2) (shown_more _ (λ n. IsNodeFrom n c.args.level c.args.at c.args.count) (g.H.Host.view c.args.host.now) c.args.held.now.file c.in_err-below.field-0.0
     (node_of_level c.args.level c.args.at c.args.count c.args.node c.min-here.result c.requires.node (omega arith)) c.in_err-below.ensures.damaged)
 
 pub returns-clause-ok : goal.returns-clause-ok

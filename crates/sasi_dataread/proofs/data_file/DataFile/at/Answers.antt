@@ -1,40 +1,21 @@
-use Rattle.std.proofs.Common.{◌+◌, ◌≤◌, IfOk, IfErr, length, subst}
+use Rattle.std.proofs.Common.{ℕ, ◌+◌, ◌≤◌, Option, ap, subst, arith, length}
 use Rattle.sasi_types.specs.declared.partitioner.Partitioner.{Partitioner}
 use Rattle.sasi_model.specs.Cells.{Partition}
 use Rattle.sasi_host.specs.Names.{Bytes}
+use Rattle.sasi_host.specs.Held.{Held}
 use Rattle.sasi_body.specs.Format.{body}
-use Rattle.sasi_tokentree.specs.Damages.{Shown}
 use Rattle.sasi_datawrite.specs.Format.{Content}
-use Rattle.sasi_dataread.specs.Opened.{Opened, StandsAt}
-use Rattle.sasi_dataread.specs.Reads.{Gives, IsOpenOn, SparesPlace}
-use Rattle.sasi_dataread.specs.Bodies.{cost}
-use Rattle.sasi_dataread.specs.Damages.{ShowsPartition}
-use Rattle.sasi_dataread.proofs.Opening.{at_ok, at_undamaged, reads_at}
+use Rattle.sasi_dataread.specs.Opened.{StandsAt}
+use Rattle.sasi_dataread.specs.Reads.{IsOpenOn}
+use Rattle.sasi_dataread.specs.Bodies.{fresh_cost}
 use Rattle.sasi_dataread.proofs.data_file.DataFile.at.Goals as goal
-
-pub returns-clause-ok : goal.returns-clause-ok
-returns-clause-ok g c =
-    let view = g.H.Host.view c.args.host.now in
-    let file = c.self.inside in
-    subst (λ (o : Opened). IfOk c.partition_at.result (λ read. Gives view o c.args.place read.0 read.1)) c.self.view_is
-    (at_ok view (record { file = file.file; types = file.types; tree = file.tree; latest = file.latest; end = file.end }) c.args.place c.partition_at.result c.partition_at.ensures.in_table c.partition_at.ensures.ok)
-
-pub returns-clause-damaged : goal.returns-clause-damaged
-returns-clause-damaged g c =
-    subst (λ (o : Opened). IfErr c.partition_at.result (Shown (g.H.Host.view c.args.host.now) o.file (ShowsPartition o.types o.end c.args.place o.file))) c.self.view_is c.partition_at.ensures.damaged
-
-pub returns-clause-undamaged : goal.returns-clause-undamaged
-returns-clause-undamaged g c =
-    let view = g.H.Host.view c.args.host.now in
-    let file = c.self.inside in
-    subst (λ (o : Opened). IfErr c.partition_at.result (SparesPlace view o c.args.place)) c.self.view_is
-    (at_undamaged view (record { file = file.file; types = file.types; tree = file.tree; latest = file.latest; end = file.end }) c.args.place c.partition_at.result c.partition_at.ensures.undamaged)
 
 pub returns-clause-reads : goal.returns-clause-reads
 returns-clause-reads g c =
     let view = g.H.Host.view in
-    let file = c.self.inside in
+    let bound =
     subst
-    (λ (o : Opened). (partitioner : Partitioner) (content : Content) (key : Bytes) (part : Partition) → IsOpenOn (view c.args.host.now) o partitioner content → StandsAt content c.args.place key part
-    → (view c.partition_at.new.host).reads ≤ (view c.args.host.now).reads + cost c.args.place (length (body key part))) c.self.view_is
-    (reads_at (view c.args.host.now) (record { file = file.file; types = file.types; tree = file.tree; latest = file.latest; end = file.end }) c.args.place (view c.partition_at.new.host).reads c.partition_at.ensures.reads)
+    (λ (page : Option ℕ). (partitioner : Partitioner) (content : Content) (key : Bytes) (part : Partition) → IsOpenOn (view c.args.host.now) c.args.self.now partitioner content → StandsAt content c.args.place key part
+    → (view c.at_held.new.host).reads ≤ (view c.args.host.now).reads + fresh_cost page c.args.place (length (body key part))) (ap (λ (h : Held). h.page) c.hold-held.ensures) c.at_held.ensures.reads
+    in
+    λ partitioner content key part is at. omega (arith, bound partitioner content key part is at)

@@ -1,13 +1,13 @@
-// What a damaged file shows.
+// A file that ends too early.
 ghost use Rattle.std.specs.Prelude.{◌≡◌, ◌≤◌};
+ghost use Rattle.sasi_host.specs.declared.fault.ReadFault.TheVariants as fault;
 ghost use Rattle.sasi_host.specs.View.{IsThere, KeepsMoments, Rose};
 ghost use Rattle.sasi_host.specs.Disk.{Changes, Same};
-ghost use Rattle.sasi_host.specs.declared.fault.ReadFault.TheVariants as fault;
-ghost use Rattle.sasi_tokentree.specs.Damages.{Shown, TellsSize};
+ghost use Rattle.sasi_host.specs.Damages.{Shown, TellsSize};
 
-use sasi_host::{FileName, FormatRule, Host, ReadFault, found};
+use crate::{FileName, FormatRule, Host, ReadFault, found};
 
-// The file ends too early: its size is asked for, which is no read.
+/// The fault of a file that ends too early. It asks for the file's size, which is no read.
 pub fn too_short<H: Host>(host: &mut H, file: FileName) -> ReadFault
     requires { IsThere (H.view host.old) file }
     ensures damaged { Shown (H.view host.old) file (TellsSize file) result }

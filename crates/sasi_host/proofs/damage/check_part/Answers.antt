@@ -1,6 +1,6 @@
 use Rattle.std.proofs.Common.{arith, rules}
-use Rattle.sasi_tokentree.specs.Places.{other_at}
-use Rattle.sasi_dataread.proofs.frame.check_part.Goals as goal
+use Rattle.sasi_host.specs.Places.{other_at}
+use Rattle.sasi_host.proofs.damage.check_part.Goals as goal
 
 pub returns-then-ne-clause-seen : goal.returns-then-ne-clause-seen
 returns-then-ne-clause-seen c =

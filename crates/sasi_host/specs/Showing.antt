@@ -9,7 +9,7 @@ use Rattle.sasi_host.specs.Names.{Bytes}
 use Rattle.sasi_host.specs.View.{View, contents}
 use Rattle.sasi_host.specs.Disk.{Changes, Same}
 use Rattle.sasi_host.specs.Contents.{contents_same}
-use Rattle.sasi_tokentree.specs.Damages.{Shown, ShowsEnd, TellsSize}
+use Rattle.sasi_host.specs.Damages.{Shown, ShowsEnd, TellsSize}
 
 -- what a file shows after nothing was done it showed before
 pub shown_before : (Shows : Bytes → Damage → Type 0) (a b : View) (file : FileName) (f : ReadFault) → Changes Same a b → Shown b file Shows f → Shown a file Shows f

@@ -1,5 +1,5 @@
 -- Bytes that stand at places of a file.
-use Rattle.std.specs.Prelude.{◌≡◌, ℕ, ◌+◌, ◌≢◌, ◌≤◌, ◌++◌, length, take, drop, refl}
+use Rattle.std.specs.Prelude.{◌≡◌, ◌≢◌, ℕ, ◌+◌, ◌≤◌, ◌++◌, length, take, drop, refl}
 use Rattle.std.proofs.Common.{sym, ◌∙◌, ap, subst, arith, append_assoc, length-append, length-drop, take-append-drop}
 use Rattle.std.proofs.lemmas.List.{take_at, drop_at, drop-drop, length-take-le}
 use Rattle.std.proofs.Math.Seq.{take-add}
@@ -7,8 +7,7 @@ use Rattle.sasi_host.specs.declared.name.FileName.{FileName}
 use Rattle.sasi_host.specs.declared.damage.Damage.{Damage}
 use Rattle.sasi_host.specs.declared.damage.FormatRule.{FormatRule}
 use Rattle.sasi_host.specs.Names.{Bytes}
-use Rattle.sasi_host.specs.Damages.{seen_bytes}
-use Rattle.sasi_tokentree.specs.Damages.{HasAt, Differs, IsOther}
+use Rattle.sasi_host.specs.Damages.{HasAt, Differs, IsOther, seen_bytes}
 
 -- a part of bytes stands in them
 pub part_stands : (bytes : Bytes) (at n : ℕ) → at + n ≤ length bytes → HasAt bytes at (take n (drop at bytes))
@@ -70,7 +69,6 @@ inner_at whole place bytes at part outer inner = record {
     regroup : (a b c d e : Bytes) → (a ++ ((b ++ c) ++ d)) ++ e ≡ ((a ++ b) ++ c) ++ (d ++ e)
     regroup a b c d e = simp append_assoc
 
--- and what differs in a part of the bytes differs in them
 pub differs_in : (whole : Bytes) (place : ℕ) (bytes : Bytes) (at : ℕ) (seen wanted : Bytes) → HasAt whole place bytes → Differs bytes at seen wanted → Differs whole (place + at) seen wanted
 differs_in whole place bytes at seen wanted outer inner = record { stands = inner_at whole place bytes at seen outer inner.stands; long = inner.long; differs = inner.differs }
 

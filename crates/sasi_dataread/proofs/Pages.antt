@@ -1,0 +1,105 @@
+-- What reading on costs, with a page in hand.
+use Rattle.std.proofs.Common.{◌≡◌, ◌≢◌, ◌⊎◌, ℕ, zero, suc, add-one, [], ◌∷◌, ◌++◌, length, take, drop, sym, ◌∙◌, subst, lit<, length-append, ◌+◌, ◌-◌, ◌*◌, ◌/◌, ◌^◌, ◌<◌, ◌≤◌, Bool, Option, None, Some, refl, inl, inr, ap, arith, ⊎_elim}
+use Rattle.std.specs.Prelude.{if◌then◌else◌}
+use Rattle.std.proofs.lemmas.Bool.Decides.{eqb_tells}
+use Rattle.sasi_host.specs.Held.{Held, in_hand, fresh_pages}
+use Rattle.sasi_types.specs.declared.tree.TreeRef.{TreeRef}
+use Rattle.sasi_model.specs.Cells.{Partition}
+use Rattle.sasi_host.specs.Names.{Bytes}
+use Rattle.sasi_body.specs.Format.{body}
+use Rattle.sasi_tokentree.specs.Walks.{Walk, pair_place}
+use Rattle.sasi_datawrite.specs.Format.{Content, front, header, partition_bytes, partitions}
+use Rattle.sasi_datawrite.specs.Laws.{partition_length}
+use Rattle.sasi_dataread.specs.Opened.{Opened}
+use Rattle.sasi_dataread.specs.Bodies.{fresh_cost}
+use Rattle.sasi_dataread.specs.Paces.{reached, walk_of, IsAlong, Goes}
+
+-- a page is that of a place, or another
+hand : (page at : ℕ) → ((page ≡ at / 4096) × (in_hand (Some page) at ≡ 1)) ⊎ ((page ≢ at / 4096) × (in_hand (Some page) at ≡ 0))
+hand page at = ⊎_elim (λ yes. inl (yes.1, ap (λ (b : Bool). if b then 1 else 0) yes.0)) (λ no. inr (no.1, ap (λ (b : Bool). if b then 1 else 0) no.0)) (eqb_tells page (at / 4096))
+
+at_most_one : (held : Option ℕ) (at : ℕ) → in_hand held at ≤ 1
+at_most_one None at = omega arith
+at_most_one (Some page) at = ⊎_elim (λ yes. omega (arith, yes.1)) (λ no. omega (arith, no.1)) (hand page at)
+
+-- some bytes, and then those behind them, cost no more than all at once
+pub fresh_on : (held : Option ℕ) (at n m : ℕ) → 0 < n → fresh_pages held at n + fresh_pages (Some ((at + n - 1) / 4096)) (at + n) m ≤ fresh_pages held at (n + m)
+fresh_on held at n m some = ⊎_elim
+    (λ yes. omega (arith, yes.0, yes.1, at_most_one held at))
+    (λ no. omega (arith, no.0, no.1, at_most_one held at))
+    (hand ((at + n - 1) / 4096) (at + n))
+
+-- and who goes on reads no more than the pages that it comes to
+pub fresh_reaches : (held : Option ℕ) (at n : ℕ) → 0 < n → ((page : ℕ) → held ≡ Some page → 4096 * page < at) → fresh_pages held at n + reached held ≤ (at + n - 1) / 4096 + 1
+fresh_reaches None at n some behind = omega arith
+fresh_reaches (Some page) at n some behind =
+    let before = behind page refl in
+    ⊎_elim (λ yes. omega (arith, before, yes.0, yes.1)) (λ no. omega (arith, before, no.0, no.1)) (hand page at)
+
+pub few_pages : (held : Option ℕ) (at n : ℕ) → n ≤ 2 ^ 23 + 4 → fresh_pages held at n ≤ 2050
+few_pages held at n le = omega (arith, le)
+
+-- ---- a walk
+
+-- the next pair ends behind the one before it
+pub pair_behind : (tree : TreeRef) (index : ℕ) → pair_place tree index + 16 ≤ pair_place tree (index + 1)
+pair_behind tree index = omega arith
+
+-- behind one more partition the next one begins
+pub front_more : (content rest : Content) (passed : ℕ) (key : Bytes) (part : Partition) → drop passed content ≡ (key, part) ∷ rest → length (front (take (passed + 1) content)) ≡ length (front (take passed content)) + (4 + length (body key part))
+front_more content rest passed key part left = rw add-one (from content passed left)
+  where
+    from : (content : Content) (passed : ℕ) → drop passed content ≡ (key, part) ∷ rest → length (front (take (suc passed) content)) ≡ length (front (take passed content)) + (4 + length (body key part))
+    from [] zero left = absurd (cc)
+    from [] (suc passed) left = absurd (cc)
+    from (one ∷ others) zero left =
+        let this : one ≡ (key, part) = cc in
+        omega (arith, length-append header (partition_bytes one.0 one.1 ++ []), length-append (partition_bytes one.0 one.1) [], length-append header [], ap (λ (o : Bytes × Partition). length (partition_bytes o.0 o.1)) this, partition_length key part)
+    from (one ∷ others) (suc passed) left =
+        let on = from others passed left in
+        omega (
+          arith,
+          on,
+          length-append header (partitions (take (suc passed) others)),
+          length-append header (partitions (take passed others)),
+          length-append header (partition_bytes one.0 one.1 ++ partitions (take (suc passed) others)),
+          length-append header (partition_bytes one.0 one.1 ++ partitions (take passed others)),
+          length-append (partition_bytes one.0 one.1) (partitions (take (suc passed) others)),
+          length-append (partition_bytes one.0 one.1) (partitions (take passed others)),
+        )
+
+-- a partition further
+pub goes_on : (content rest : Content) (opened : Opened) (tree after : Walk) (held now : Held) (place : ℕ) (key : Bytes) (part : Partition) (r0 r1 r2 : ℕ) → tree.tree ≡ opened.tree → after.passed ≡ tree.passed + 1 → drop tree.passed content ≡ (key, part) ∷ rest
+    → place ≡ length (front (take tree.passed content)) → IsAlong content (walk_of opened tree held)
+    → r1 ≤ r0 + fresh_pages tree.held.page (pair_place tree.tree tree.passed) 16 → r2 ≤ r1 + fresh_cost held.page place (length (body key part))
+    → after.held.page ≡ Some ((pair_place tree.tree tree.passed + 15) / 4096) → now.page ≡ Some ((place + 3 + length (body key part)) / 4096)
+    → Goes content r0 r2 (walk_of opened tree held) (walk_of opened after now)
+goes_on content rest opened tree after held now place key part r0 r1 r2 tree_is passed left place_is along first second pairs_page page =
+    let pp = pair_place opened.tree tree.passed in
+    let size = length (body key part) in
+    let same : pair_place tree.tree tree.passed ≡ pp = ap (λ (t : TreeRef). pair_place t tree.passed) tree_is in
+    let one = fresh_reaches tree.held.page pp 16 (lit< tt) along.pairs in
+    let two = fresh_reaches held.page place (4 + size) (omega arith) (λ p is. omega (arith, place_is, along.partitions p is)) in
+    let fresh_same : fresh_pages tree.held.page (pair_place tree.tree tree.passed) 16 ≡ fresh_pages tree.held.page pp 16 = ap (λ (n : ℕ). fresh_pages tree.held.page n 16) same in
+    let reached_one : reached after.held.page ≡ suc ((pp + 15) / 4096) = ap reached pairs_page ∙ ap (λ (n : ℕ). suc ((n + 15) / 4096)) same in
+    let reached_two : reached now.page ≡ suc ((place + 3 + size) / 4096) = ap reached page in
+    record {
+      along = record {
+        pairs = λ p is.
+            let this : p ≡ (pair_place tree.tree tree.passed + 15) / 4096 = some_same p ((pair_place tree.tree tree.passed + 15) / 4096) (sym is ∙ pairs_page) in
+            let next : pair_place opened.tree after.passed ≡ pair_place opened.tree (tree.passed + 1) = ap (λ (n : ℕ). pair_place opened.tree n) passed in
+            omega (arith, this, same, next, pair_behind opened.tree tree.passed);
+        partitions = λ p is.
+            let this : p ≡ (place + 3 + size) / 4096 = some_same p ((place + 3 + size) / 4096) (sym is ∙ page) in
+            let next : length (front (take after.passed content)) ≡ length (front (take (tree.passed + 1) content)) = ap (λ (n : ℕ). length (front (take n content))) passed in
+            omega (arith, this, next, place_is, front_more content rest tree.passed key part left);
+      };
+      pages = omega (arith, first, second, one, two, fresh_same, reached_one, reached_two);
+    }
+  where
+    some_same : (a b : ℕ) → Some a ≡ Some b → a ≡ b
+    some_same a b is = cc
+
+-- nothing further
+pub goes_nowhere : (content : Content) (opened : Opened) (tree after : Walk) (held : Held) (r0 r1 : ℕ) → after ≡ tree → r1 ≤ r0 → IsAlong content (walk_of opened tree held) → Goes content r0 r1 (walk_of opened tree held) (walk_of opened after held)
+goes_nowhere content opened tree after held r0 r1 same few along = subst (λ (w : Walk). Goes content r0 r1 (walk_of opened tree held) (walk_of opened w held)) (sym same) (record { along = along; pages = omega (arith, few) })

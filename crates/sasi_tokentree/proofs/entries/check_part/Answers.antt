@@ -1,8 +1,0 @@
-use Rattle.std.proofs.Common.{arith, rules}
-use Rattle.sasi_host.specs.declared.damage.FormatRule.TheVariants.{Number}
-use Rattle.sasi_tokentree.specs.Places.{other_at}
-use Rattle.sasi_tokentree.proofs.entries.check_part.Goals as goal
-
-pub returns-then-ne-clause-seen : goal.returns-then-ne-clause-seen
-returns-then-ne-clause-seen c =
-    other_at c.args.file c.args.at c.args.bytes.now c.args.offset _ c.args.wanted.now Number c.found.result (omega arith) (omega (arith, c.requires.whole)) c.found.ensures.file c.found.ensures.at c.found.ensures.rule c.found.ensures.seen (search rules)
