@@ -2,7 +2,7 @@
 """Writes data files of many partitions, walks them and finds each of their keys, and prints time and pages read.
 
 The program is crates/sasi_databench, which `rt run` in its folder builds. The times of a walk and of the look-ups are those
-behind the writing. Doubling the partitions may multiply each time by 2.6.
+behind the writing. Doubling the partitions may multiply each time of at least 20 ms by 2.6.
 """
 import os
 import subprocess
@@ -12,6 +12,7 @@ import time
 
 COUNTS = [12500, 25000, 50000, 100000]
 MOST_GROWTH = 2.6
+LEAST_SECONDS = 0.02
 TRIES = 3
 
 
@@ -40,7 +41,7 @@ def main():
         walk, walked = run(program, count, 'walk')
         find, found = run(program, count, 'find')
         now = (write, walk - write, find - write)
-        slow = slow or (before is not None and any(b > MOST_GROWTH * a for a, b in zip(before, now)))
+        slow = slow or (before is not None and any(b > MOST_GROWTH * max(a, LEAST_SECONDS) for a, b in zip(before, now)))
         print('%7d  %7.3f  %6.3f  %6d  %6.3f  %6d' % (count, now[0], now[1], walked, now[2], found))
         before = now
     if slow:

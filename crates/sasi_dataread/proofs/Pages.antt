@@ -69,12 +69,12 @@ front_more content rest passed key part left = rw add-one (from content passed l
         )
 
 -- a partition further
-pub goes_on : (content rest : Content) (opened : Opened) (tree after : Walk) (held now : Held) (place : ℕ) (key : Bytes) (part : Partition) (r0 r1 r2 : ℕ) → tree.tree ≡ opened.tree → after.passed ≡ tree.passed + 1 → drop tree.passed content ≡ (key, part) ∷ rest
-    → place ≡ length (front (take tree.passed content)) → IsAlong content (walk_of opened tree held)
+pub goes_on : (bytes : Bytes) (content rest : Content) (opened : Opened) (tree after : Walk) (held now : Held) (place : ℕ) (key : Bytes) (part : Partition) (r0 r1 r2 : ℕ) → tree.tree ≡ opened.tree → after.passed ≡ tree.passed + 1 → drop tree.passed content ≡ (key, part) ∷ rest
+    → place ≡ length (front (take tree.passed content)) → pair_place tree.tree tree.passed + 16 ≤ length bytes → place + (4 + length (body key part)) ≤ length bytes → IsAlong bytes content (walk_of opened tree held)
     → r1 ≤ r0 + fresh_pages tree.held.page (pair_place tree.tree tree.passed) 16 → r2 ≤ r1 + fresh_cost held.page place (length (body key part))
     → after.held.page ≡ Some ((pair_place tree.tree tree.passed + 15) / 4096) → now.page ≡ Some ((place + 3 + length (body key part)) / 4096)
-    → Goes content r0 r2 (walk_of opened tree held) (walk_of opened after now)
-goes_on content rest opened tree after held now place key part r0 r1 r2 tree_is passed left place_is along first second pairs_page page =
+    → Goes bytes content r0 r2 (walk_of opened tree held) (walk_of opened after now)
+goes_on bytes content rest opened tree after held now place key part r0 r1 r2 tree_is passed left place_is pair_within part_within along first second pairs_page page =
     let pp = pair_place opened.tree tree.passed in
     let size = length (body key part) in
     let same : pair_place tree.tree tree.passed ≡ pp = ap (λ (t : TreeRef). pair_place t tree.passed) tree_is in
@@ -93,6 +93,8 @@ goes_on content rest opened tree after held now place key part r0 r1 r2 tree_is 
             let this : p ≡ (place + 3 + size) / 4096 = some_same p ((place + 3 + size) / 4096) (sym is ∙ page) in
             let next : length (front (take after.passed content)) ≡ length (front (take (tree.passed + 1) content)) = ap (λ (n : ℕ). length (front (take n content))) passed in
             omega (arith, this, next, place_is, front_more content rest tree.passed key part left);
+        pairs_within = omega (arith, reached_one, same, pair_within);
+        within = omega (arith, reached_two, part_within);
       };
       pages = omega (arith, first, second, one, two, fresh_same, reached_one, reached_two);
     }
@@ -101,5 +103,5 @@ goes_on content rest opened tree after held now place key part r0 r1 r2 tree_is 
     some_same a b is = cc
 
 -- nothing further
-pub goes_nowhere : (content : Content) (opened : Opened) (tree after : Walk) (held : Held) (r0 r1 : ℕ) → after ≡ tree → r1 ≤ r0 → IsAlong content (walk_of opened tree held) → Goes content r0 r1 (walk_of opened tree held) (walk_of opened after held)
-goes_nowhere content opened tree after held r0 r1 same few along = subst (λ (w : Walk). Goes content r0 r1 (walk_of opened tree held) (walk_of opened w held)) (sym same) (record { along = along; pages = omega (arith, few) })
+pub goes_nowhere : (bytes : Bytes) (content : Content) (opened : Opened) (tree after : Walk) (held : Held) (r0 r1 : ℕ) → after ≡ tree → r1 ≤ r0 → IsAlong bytes content (walk_of opened tree held) → Goes bytes content r0 r1 (walk_of opened tree held) (walk_of opened after held)
+goes_nowhere bytes content opened tree after held r0 r1 same few along = subst (λ (w : Walk). Goes bytes content r0 r1 (walk_of opened tree held) (walk_of opened w held)) (sym same) (record { along = along; pages = omega (arith, few) })

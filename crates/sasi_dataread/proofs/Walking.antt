@@ -13,7 +13,10 @@ use Rattle.sasi_types.specs.declared.tree.Pair.{Pair}
 use Rattle.sasi_types.specs.declared.tree.TreeRef.{TreeRef}
 use Rattle.sasi_types.specs.Token.{token_of}
 use Rattle.sasi_model.specs.Cells.{Partition}
-use Rattle.sasi_tokentree.specs.Format.{HasTree}
+use Rattle.sasi_tokentree.specs.Format.{entry, HasTree}
+use Rattle.sasi_tokentree.specs.Sizes.{entry_length}
+use Rattle.sasi_host.specs.Places.{at_ends}
+use Rattle.std.specs.Int.{to_be_bytes, w32}
 use Rattle.sasi_host.specs.Damages.{Shown}
 use Rattle.sasi_tokentree.specs.Damages.{ShowsTree}
 use Rattle.sasi_host.specs.Showing.{shown_as}
@@ -22,7 +25,8 @@ use Rattle.sasi_tokentree.specs.Walks.{GivesEntry, GivesNext, IsNear, TakesNext,
 use Rattle.sasi_body.specs.Format.{body}
 use Rattle.sasi_datawrite.specs.Format.{Content, front, header, key_pairs, partitions}
 use Rattle.sasi_dataread.specs.Opened.{Opened, IsOf, StandsAt}
-use Rattle.sasi_dataread.specs.Bodies.{fresh_cost}
+use Rattle.sasi_dataread.specs.Bodies.{sized, fresh_cost}
+use Rattle.sasi_dataread.specs.Laws.{partition_stands}
 use Rattle.sasi_dataread.specs.Paces.{Goes, IsAlong, walk_of}
 use Rattle.sasi_dataread.proofs.Pages.{goes_on}
 use Rattle.sasi_dataread.specs.Damages.{ShowsData, ShowsPartition}
@@ -99,12 +103,12 @@ all_pairs opened partitioner content tree passed of same none =
     omega (arith, ap (λ (t : TreeRef). t.pairs) (same ∙ of.tree), ap (λ (l : List Pair). length l) none, length-drop passed (key_pairs partitioner content))
 
 -- the walk went over one partition more
-pub walk_goes : (v w : View) (opened : Opened) (tree after : Walk) (held now : Held) (pair : Pair) (key : Bytes) (part : Partition) (partitioner : Partitioner) (content : Content) (r0 r1 r2 : ℕ) → IsOpenOn v opened partitioner content → Changes Same v w
-    → TakesNext (key_pairs partitioner content) tree.passed after.passed (Some pair) → Gives w opened pair.place key part → tree.tree ≡ opened.tree → after.tree ≡ tree.tree → IsAlong content (walk_of opened tree held)
+pub walk_goes : (v w : View) (opened : Opened) (tree after : Walk) (held now : Held) (pair : Pair) (key : Bytes) (part : Partition) (partitioner : Partitioner) (content : Content) (r0 r1 r2 : ℕ) (is : IsOpenOn v opened partitioner content) → Changes Same v w
+    → TakesNext (key_pairs partitioner content) tree.passed after.passed (Some pair) → Gives w opened pair.place key part → tree.tree ≡ opened.tree → after.tree ≡ tree.tree → GivesEntry v opened.file opened.tree after.passed (Some pair) → IsAlong is.bytes content (walk_of opened tree held)
     → r1 ≤ r0 + fresh_pages tree.held.page (pair_place tree.tree tree.passed) 16
     → ((partitioner : Partitioner) (content : Content) (key : Bytes) (part : Partition) → IsOpenOn w opened partitioner content → StandsAt content pair.place key part → r2 ≤ r1 + fresh_cost held.page pair.place (length (body key part)))
-    → after.passed ≡ tree.passed + 1 → IsNear after (Some pair) → now.page ≡ Some ((pair.place + 3 + length (body key part)) / 4096) → Goes content r0 r2 (walk_of opened tree held) (walk_of opened after now)
-walk_goes v w opened tree after held now pair key part partitioner content r0 r1 r2 is change took gives tree_is after_is along first second passed near page =
+    → after.passed ≡ tree.passed + 1 → IsNear after (Some pair) → now.page ≡ Some ((pair.place + 3 + length (body key part)) / 4096) → Goes is.bytes content r0 r2 (walk_of opened tree held) (walk_of opened after now)
+walk_goes v w opened tree after held now pair key part partitioner content r0 r1 r2 is change took gives tree_is after_is given along first second passed near page =
     let n = nth partitioner (length header) content tree.passed pair (drop after.passed (key_pairs partitioner content)) took in
     let stands = nth_stands partitioner content tree.passed pair n in
     let w_open = open_same v w opened partitioner content change is in
@@ -117,4 +121,11 @@ walk_goes v w opened tree after held now pair key part partitioner content r0 r1
     let near_is : after.held.page ≡ Some ((pair_place tree.tree tree.passed + 15) / 4096) =
     near ∙ ap (λ (t : TreeRef). Some ((pair_place t (after.passed - 1) + 15) / 4096)) after_is ∙ ap (λ (k : ℕ). Some ((pair_place tree.tree k + 15) / 4096)) (omega (arith, passed))
     in
-    goes_on content (drop (suc tree.passed) content) opened tree after held now pair.place key part r0 r1 r2 tree_is passed (n.left ∙ ap (λ (o : Bytes × Partition). o ∷ drop (suc tree.passed) content) one) place along first read near_is page
+    let has = given.2 is.bytes is.reads in
+    let same_place : pair_place opened.tree given.0 ≡ pair_place tree.tree tree.passed = ap (λ (t : TreeRef). pair_place t given.0) (sym tree_is) ∙ ap (λ (k : ℕ). pair_place tree.tree k) (omega (arith, given.1, passed)) in
+    let pair_within : pair_place tree.tree tree.passed + 16 ≤ length is.bytes = omega (arith, same_place, at_ends is.bytes (pair_place opened.tree given.0) (entry pair) has.stands, entry_length pair) in
+    let read_there = partition_stands partitioner opened.types is.bytes content pair.place n.one.0 n.one.1 is.data_file stands in
+    let part_within : pair.place + (4 + length (body key part)) ≤ length is.bytes =
+    omega (arith, at_ends is.bytes pair.place (sized (body n.one.0 n.one.1)) read_there, length-append (to_be_bytes w32 (length (body n.one.0 n.one.1))) (body n.one.0 n.one.1), ap (λ (o : Bytes × Partition). length (body o.0 o.1)) one)
+    in
+    goes_on is.bytes content (drop (suc tree.passed) content) opened tree after held now pair.place key part r0 r1 r2 tree_is passed (n.left ∙ ap (λ (o : Bytes × Partition). o ∷ drop (suc tree.passed) content) one) place pair_within part_within along first read near_is page

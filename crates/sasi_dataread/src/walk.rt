@@ -72,7 +72,7 @@ impl DataWalk {
         ensures held { IsHeld self.new.held (H.view host.new).files }
         ensures causes { ReadsAtMost 2052 (H.view host.old) (H.view host.new) result }
         // Each page is read once: all reads of a walk are no more than the pages that it has come to.
-        ensures reads { IfOk result (λ _. (partitioner : Partitioner) (content : Content) → IsOpenOn (H.view host.old) self.old.opened partitioner content → HaveTokens partitioner content → IsAlong content self.old → Goes content (H.view host.old).reads (H.view host.new).reads self.old self.new) }
+        ensures reads { IfOk result (λ _. (partitioner : Partitioner) (content : Content) (is : IsOpenOn (H.view host.old) self.old.opened partitioner content) → HaveTokens partitioner content → IsAlong is.bytes content self.old → Goes is.bytes content (H.view host.old).reads (H.view host.new).reads self.old self.new) }
         ensures opened { self.new.opened ≡ self.old.opened }
     {
         next_of(
@@ -111,8 +111,8 @@ fn next_of<H: Host, P: PageReader>(
     ensures pairs_held { IsHeld tree.new.held (H.view host.new).files }
     ensures held { IsHeld held.new (H.view host.new).files }
     ensures causes { ReadsAtMost 2052 (H.view host.old) (H.view host.new) result }
-    ensures reads { IfOk result (λ _. (partitioner : Partitioner) (content : Content) → IsOpenOn (H.view host.old) opened.now partitioner content → HaveTokens partitioner content → IsAlong content (walk_of opened.now tree.old held.old)
-        → Goes content (H.view host.old).reads (H.view host.new).reads (walk_of opened.now tree.old held.old) (walk_of opened.now tree.new held.new)) }
+    ensures reads { IfOk result (λ _. (partitioner : Partitioner) (content : Content) (is : IsOpenOn (H.view host.old) opened.now partitioner content) → HaveTokens partitioner content → IsAlong is.bytes content (walk_of opened.now tree.old held.old)
+        → Goes is.bytes content (H.view host.old).reads (H.view host.new).reads (walk_of opened.now tree.old held.old) (walk_of opened.now tree.new held.new)) }
     ensures file { tree.new.held.file ≡ tree.old.held.file }
     ensures named { held.new.file ≡ held.old.file }
     ensures tree { tree.new.tree ≡ tree.old.tree }

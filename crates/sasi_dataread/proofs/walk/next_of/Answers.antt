@@ -76,7 +76,7 @@ returns-in-None-clause-reads g c partitioner content is have along =
     let took = next_takes view c.args.opened.now c.args.tree.now.held.file c.args.tree.now.tree c.args.tree.now.passed c.next.new.self.passed None c.requires.file c.requires.tree (λ bytes reads. (g.met.H.Host.sound c.args.host.now).fits c.args.opened.now.file bytes reads) gives partitioner content is have in
     let same = subst (λ (o : Option Pair). o ≡ None → c.next.new.self ≡ c.args.tree.now) c.in-None.is c.in_ok-next.ensures.none refl in
     let ended = c.next.ensures.ended (all_pairs c.args.opened.now partitioner content c.args.tree.now.tree c.args.tree.now.passed is.of c.requires.tree took.0) in
-    goes_nowhere content c.args.opened.now c.args.tree.now c.next.new.self c.args.held.now _ _ same (omega (arith, ended)) along
+    goes_nowhere is.bytes content c.args.opened.now c.args.tree.now c.next.new.self c.args.held.now _ _ same (omega (arith, ended)) along
 
 pub returns-in_err-key-clause-pairs_held : goal.returns-in_err-key-clause-pairs_held
 returns-in_err-key-clause-pairs_held g c = held_after c.next.new.self.held _ _ c.at_held.ensures.changes c.next.ensures.held
@@ -102,7 +102,8 @@ returns-clause-reads g c partitioner content is have along =
     let gives = subst (λ (o : Option Pair). GivesNext v tree.held.file tree.tree tree.passed c.next.new.self.passed o) c.in-Some.is c.in_ok-next.ensures.ok in
     let took = next_takes v opened tree.held.file tree.tree tree.passed c.next.new.self.passed (Some pair) c.requires.file c.requires.tree (λ bytes reads. (g.met.H.Host.sound c.args.host.now).fits opened.file bytes reads) gives partitioner content is have in
     let near = subst (λ (o : Option Pair). IsNear c.next.new.self o) c.in-Some.is c.in_ok-next.ensures.near in
-    walk_goes v (g.H.Host.view c.next.new.host) opened tree c.next.new.self c.args.held.now c.at_held.new.held pair c.in_ok-key.key c.in_ok-key.part partitioner content _ _ _ is c.next.ensures.changes took c.in_ok-key.ensures.ok c.requires.tree c.next.ensures.tree along
+    walk_goes v (g.H.Host.view c.next.new.host) opened tree c.next.new.self c.args.held.now c.at_held.new.held pair c.in_ok-key.key c.in_ok-key.part partitioner content _ _ _ is c.next.ensures.changes took c.in_ok-key.ensures.ok c.requires.tree c.next.ensures.tree
+    (entry_of v opened tree.held.file tree.tree c.next.new.self.passed (Some pair) c.requires.file c.requires.tree (subst (λ (o : Option Pair). GivesEntry v tree.held.file tree.tree c.next.new.self.passed o) c.in-Some.is c.in_ok-next.ensures.stands)) along
     c.next.ensures.causes.reads c.at_held.ensures.reads (subst (λ (o : Option Pair). IsSome o → c.next.new.self.passed ≡ tree.passed + 1) c.in-Some.is c.in_ok-next.ensures.some refl) near c.in_ok-key.ensures.page
 
 pub returns-clause-ok : goal.returns-clause-ok
