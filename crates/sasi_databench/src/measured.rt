@@ -51,7 +51,7 @@ fn push(
     Ok(token)
 }
 
-/// Writes a file of so many partitions, and one more.
+/// Writes a file of so many partitions, and of one where none are asked for.
 pub fn write_all(alloc: Global, host: &mut FileHost, count: u64) -> Result<DataRef, PairFault> {
     let types = types(alloc)?;
     let mut writer = DataWriter::begin(alloc, host, NUMBER, Partitioner::Lead8)?;
