@@ -2,18 +2,12 @@
 use Rattle.std.specs.Prelude.{◌≡◌, ℕ, ◌^◌, ◌<◌, List, [], ◌∷◌, ◌++◌, map, Option, None, Some, if◌then◌else◌, nat_eq}
 use Rattle.std.specs.Int.{to_be_bytes, w32}
 use Rattle.std.specs.List.{AllByRecursion}
-use Rattle.sasi_host.specs.declared.name.FileName.{FileName}
-use Rattle.sasi_host.specs.declared.name.Kind.TheVariants.{Log}
-use Rattle.sasi_host.specs.Names.{Bytes}
+use Rattle.sasi_host.specs.Names.{Bytes, log_name}
 use Rattle.sasi_types.specs.declared.column.ColumnType.{ColumnType}
 use Rattle.sasi_gated.specs.Format.{IsGated}
 use Rattle.sasi_body.specs.Format.{body}
 use Rattle.sasi_body.specs.Typed.{IsBodyOf}
 use Rattle.sasi_commitlog.specs.declared.mutation.Mutation.{Mutation}
-
--- the file of the segment with this number
-abbrev pub log_name : ℕ → FileName
-log_name number = record { kind = Log; number = number; index = 0; part = 0 }
 
 -- the number of the table, and the body of what was written of the key
 abbrev pub payload_of : Mutation → Bytes

@@ -4,7 +4,7 @@ use Rattle.std.proofs.Common.{sym, ◌∙◌, ap, subst}
 use Rattle.std.proofs.lemmas.Nat.{from_be_bytes-to_be_bytes_4}
 use Rattle.std.specs.Int.{to_be_bytes, from_be_bytes, w32}
 use Rattle.std.specs.List.{AllByRecursion}
-use Rattle.sasi_host.specs.Names.{Bytes}
+use Rattle.sasi_host.specs.Names.{Bytes, log_name}
 use Rattle.sasi_types.specs.declared.column.ColumnType.{ColumnType}
 use Rattle.sasi_model.specs.Cells.{Partition}
 use Rattle.sasi_gated.specs.Laws.{records_same}
@@ -12,7 +12,7 @@ use Rattle.sasi_body.specs.Format.{body}
 use Rattle.sasi_body.specs.Typed.{IsBodyOf}
 use Rattle.sasi_body.specs.Laws.Same.{parts_same, bodies_same}
 use Rattle.sasi_commitlog.specs.declared.mutation.Mutation.{Mutation}
-use Rattle.sasi_commitlog.specs.Format.{log_name, payload_of, types_in, Tables, IsMutationOf, IsLog}
+use Rattle.sasi_commitlog.specs.Format.{payload_of, types_in, Tables, IsMutationOf, IsLog}
 
 pub same_32 : (n m : ℕ) (a b : Bytes) → n < 2 ^ 32 → m < 2 ^ 32 → to_be_bytes w32 n ++ a ≡ to_be_bytes w32 m ++ b → (n ≡ m) × (a ≡ b)
 same_32 n m a b n_fits m_fits same =

@@ -2,19 +2,19 @@
 ghost use Rattle.std.specs.Prelude.{◌≡◌, ◌+◌, ◌<◌, ◌≤◌, ◌^◌, [], ℕ, List, IfErr, IfOk, IsSome, IsTrue, OnOk, None, is_ok};
 ghost use Rattle.sasi_host.specs.View.{IsAbsent, IsThere, ListCauses, Reaches};
 ghost use Rattle.sasi_host.specs.Disk.{Anyhow, Changes, IsKept, LeftWith, Same, Step};
-ghost use Rattle.sasi_host.specs.Names.{Bytes};
+ghost use Rattle.sasi_host.specs.Names.{Bytes, log_name};
 ghost use Rattle.sasi_gated.specs.Causes.{ReadingCauses};
 ghost use Rattle.sasi_gated.specs.Reads.{Begins, IsShown, SparesGated};
 ghost use Rattle.sasi_body.specs.Format.{HasBody};
 ghost use Rattle.sasi_commitlog.specs.declared.mutation.Mutation.{Mutation};
-ghost use Rattle.sasi_commitlog.specs.Format.{log_name, IsLog, Tables};
+ghost use Rattle.sasi_commitlog.specs.Format.{IsLog, Tables};
 ghost use Rattle.sasi_commitlog.specs.Standing.{IsAtLogEnd, IsLogBeforeOrAfter, IsReadingLog};
 ghost use Rattle.sasi_commitlog.specs.Reads.{GainsMutation, IsLogShownAt, IsReadOf, ReadsLogGate, ReadsMutations, SparesLog};
 
 use crate::Mutation;
 use crate::segment::{append, read_next};
 use sasi_gated::Gated;
-use sasi_host::{FileName, Host, HostFault, Kind, ReadFault};
+use sasi_host::{FileName, Host, HostFault, ReadFault};
 use sasi_types::TableTypes;
 use std::alloc::Global;
 use std::marker::Model;
@@ -38,18 +38,6 @@ impl Model for Log {
     ghost view = { λ a. record { file = a.gated.file; at = a.gated.at; usable = a.usable && a.gated.usable } };
 }
 
-// The file of the segment with this number.
-fn log_file(number: u32) -> FileName
-    ensures { result ≡ log_name number }
-{
-    FileName {
-        kind: Kind::Log,
-        number,
-        index: 0,
-        part: 0,
-    }
-}
-
 impl Log {
     /// Whether no call on it gave a fault.
     pub fn is_usable(&self) -> bool
@@ -69,7 +57,7 @@ impl Log {
         ensures file { IfOk result (λ log. log.file ≡ log_name number) }
         ensures causes { ListCauses (H.view host.old) (H.view host.new) result }
     {
-        let gated = Gated::create(alloc, host, log_file(number), None)?;
+        let gated = Gated::create(alloc, host, FileName::log(number), None)?;
         Ok(Log {
             gated,
             payload: Vec::new(alloc),
@@ -90,7 +78,7 @@ impl Log {
         ensures file { IfOk result (λ log. log.file ≡ log_name number) }
         ensures causes { ReadingCauses (H.view host.old) (H.view host.new) result }
     {
-        let gated = Gated::open(host, log_file(number))?;
+        let gated = Gated::open(host, FileName::log(number))?;
         Ok(Log {
             gated,
             payload: Vec::new(alloc),

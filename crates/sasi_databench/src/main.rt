@@ -8,10 +8,11 @@ mod counted;
 mod measured;
 
 use counted::Counted;
-use measured::{FILE, find_all, walk_all, write_all};
+use measured::{NUMBER, find_all, walk_all, write_all};
 use sasi_dataread::DataFile;
 use sasi_datawrite::PairFault;
 use sasi_filehost::FileHost;
+use sasi_host::FileName;
 use std::env;
 use std::env::Env;
 use std::process::ExitCode;
@@ -21,7 +22,13 @@ fn run(rt: HostRuntime, folder: &str, count: u64, what: &str) -> Result<(u64, u6
     let mut host = FileHost::at(rt, folder)?;
     write_all(alloc, &mut host, count)?;
     let mut pages = Counted { pages: 0 };
-    let opened = DataFile::open(alloc, &mut host, &mut pages, FILE, &content::types(alloc)?)?;
+    let opened = DataFile::open(
+        alloc,
+        &mut host,
+        &mut pages,
+        FileName::data(NUMBER),
+        &content::types(alloc)?,
+    )?;
     let given = match what {
         "walk" => walk_all(alloc, &mut host, &mut pages, &opened)?,
         "find" => find_all(alloc, &mut host, &mut pages, &opened)?,

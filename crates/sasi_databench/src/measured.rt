@@ -9,19 +9,12 @@ use sasi_body::read_body;
 use sasi_dataread::DataFile;
 use sasi_datawrite::{DataRef, DataWriter, NoWatch, PairFault};
 use sasi_filehost::FileHost;
-use sasi_host::{FileName, Kind, ReadFault};
+use sasi_host::ReadFault;
 use sasi_types::{Key, Partitioner, Token, TypeList};
 use std::alloc::Global;
 
-const NUMBER: u32 = 1;
-
-/// The data file that is measured.
-pub const FILE: FileName = FileName {
-    kind: Kind::Data,
-    number: NUMBER,
-    index: 0,
-    part: 0,
-};
+/// The number of the data file that is measured.
+pub const NUMBER: u32 = 1;
 
 // Pushes the partition with this number, and gives its token.
 fn push(

@@ -9,10 +9,6 @@ use Rattle.sasi_host.specs.Names.{Bytes}
 use Rattle.sasi_body.specs.Typed.{IsBodyOf}
 use Rattle.sasi_datawrite.specs.Format.{Content, IsContent, data_bytes}
 
--- the name of the data file with this number
-abbrev pub data_name : ℕ → FileName
-data_name number = record { kind = Data; number = number; index = 0; part = 0 }
-
 -- the bytes are the data file of this content, in a table whose columns have these types
 pub record IsDataFile (partitioner : Partitioner) (types : List ColumnType) (bytes : Bytes) (content : Content) : Type 0 where
   pub content_is : IsContent partitioner content

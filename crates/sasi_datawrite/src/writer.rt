@@ -4,9 +4,9 @@ ghost use Rattle.sasi_types.specs.declared.class.Class.{Class};
 ghost use Rattle.sasi_types.specs.Token.{token_of};
 ghost use Rattle.sasi_host.specs.View.{DiskCauses, Holds, IsAbsent, ListCauses, Reaches};
 ghost use Rattle.sasi_host.specs.Disk.{Anyhow, Changes, IsSynced, Step};
+ghost use Rattle.sasi_host.specs.Names.{data_name};
 ghost use Rattle.sasi_body.specs.Format.{HasBody};
 ghost use Rattle.sasi_datawrite.specs.Format.{Content, data_bytes};
-ghost use Rattle.sasi_datawrite.specs.Files.{data_name};
 ghost use Rattle.sasi_datawrite.specs.Calls.{Call, partition_calls};
 ghost use Rattle.sasi_datawrite.specs.Causes.{PushCauses};
 ghost use Rattle.sasi_datawrite.specs.Writing.{IsWriting, last_pair};
@@ -16,7 +16,7 @@ use crate::header::{HEADER_LENGTH, put_header};
 use crate::push::push_partition;
 use crate::{DataRef, FlushObserver, PairFault};
 use sasi_cells::Partition;
-use sasi_host::{Failed, FileName, Host, HostFault, Kind};
+use sasi_host::{Failed, FileName, Host, HostFault};
 use sasi_types::{Key, Pair, PairList, Partitioner};
 use std::alloc::Global;
 use std::marker::Model;
@@ -60,7 +60,7 @@ impl DataWriter {
         ensures changes { Changes (Step (data_name number) Anyhow) (H.view host.old) (H.view host.new) }
         ensures causes { ListCauses (H.view host.old) (H.view host.new) result }
     {
-        let file = data_file(number);
+        let file = FileName::data(number);
         let mut buffer = Vec::new(alloc);
         put_header(&mut buffer)?;
         create_with(host, file, &buffer)?;
@@ -132,18 +132,6 @@ impl DataWriter {
             partitions: self.pairs.as_slice().len() as u64,
             greatest: self.latest,
         })
-    }
-}
-
-// The name of the data file with this number.
-fn data_file(number: u32) -> FileName
-    ensures { result ≡ data_name number }
-{
-    FileName {
-        kind: Kind::Data,
-        number,
-        index: 0,
-        part: 0,
     }
 }
 

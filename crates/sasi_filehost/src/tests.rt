@@ -6,15 +6,6 @@ use std::test::Fail;
 
 const FOLDER: &str = "sasi_filehost_test";
 
-const fn plain(kind: Kind, number: u32) -> FileName {
-    FileName {
-        kind,
-        number,
-        index: 0,
-        part: 0,
-    }
-}
-
 const fn part(kind: Kind, number: u32, index: u32, part: u32) -> FileName {
     FileName {
         kind,
@@ -27,10 +18,10 @@ const fn part(kind: Kind, number: u32, index: u32, part: u32) -> FileName {
 #[test]
 fn names_are_read_as_they_are_printed(rt: HostRuntime) -> Result<(), Fail> {
     let names = [
-        (plain(Kind::Manifest, 1), "manifest-1"),
-        (plain(Kind::Seal, 10), "seal-10"),
-        (plain(Kind::Log, 4_294_967_295), "log-4294967295"),
-        (plain(Kind::Data, 907), "data-907"),
+        (FileName::manifest(1), "manifest-1"),
+        (FileName::seal(10), "seal-10"),
+        (FileName::log(4_294_967_295), "log-4294967295"),
+        (FileName::data(907), "data-907"),
         (part(Kind::Index, 3, 2, 1), "index-3-2-1"),
         (
             part(Kind::Segment, 4_294_967_295, 4_294_967_295, 4_294_967_295),
@@ -75,7 +66,7 @@ fn other_names_are_foreign(rt: HostRuntime) {
 fn files_are_real(rt: HostRuntime) -> Result<(), Fail> {
     let _ = fs::remove_dir_all(&rt, FOLDER);
     let mut host = FileHost::at(rt, FOLDER)?;
-    let log = plain(Kind::Log, 1);
+    let log = FileName::log(1);
     host.create(log).expect(&rt, "a new file");
     host.write(log, 0, b"abcd").expect(&rt, "a write");
     host.write(log, 3, b"de")
@@ -102,7 +93,7 @@ fn files_are_real(rt: HostRuntime) -> Result<(), Fail> {
 fn calls_fail_where_nothing_can_be_opened(rt: HostRuntime) -> Result<(), Fail> {
     let mut host = FileHost::at(rt, "sasi_filehost_none/folder")?;
     assert!(rt; matches!(host.list(rt.alloc()), Err(HostFault::Failed)));
-    assert!(rt; host.create(plain(Kind::Log, 1)).is_err());
+    assert!(rt; host.create(FileName::log(1)).is_err());
     assert!(rt; host.sync_folder().is_err());
     let mut script = FileSource::at(rt, "sasi_filehost_none")?;
     let mut bytes = [0; 8];

@@ -5,12 +5,11 @@ use Rattle.sasi_host.specs.declared.damage.Damage.{Damage}
 use Rattle.sasi_host.specs.declared.damage.FormatRule.TheVariants.{Missing, NoSeal}
 use Rattle.sasi_host.specs.declared.name.FileName.{FileName}
 use Rattle.sasi_host.specs.Damages.{seen_bytes}
-use Rattle.sasi_host.specs.Names.{Bytes, Folder}
+use Rattle.sasi_host.specs.Names.{Bytes, Folder, log_name, manifest_name, seal_name}
 use Rattle.sasi_commitlog.specs.Damages.{ShowsLog}
-use Rattle.sasi_commitlog.specs.Format.{log_name}
 use Rattle.sasi_manifest.specs.declared.listing.Listing.{Listing}
 use Rattle.sasi_manifest.specs.Damages.{ShowsDamage}
-use Rattle.sasi_manifest.specs.Format.{IsManifest, manifest_name, seal_name}
+use Rattle.sasi_manifest.specs.Format.{IsManifest}
 use Rattle.sasi_folder.specs.Stands.{IsSealed, types_listed}
 
 -- no seal was made, and this file is one that the making of a store doesn't begin with

@@ -4,13 +4,13 @@ use Rattle.std.proofs.Common.{sym, ap, subst, ◌∙◌, inl, inr, ⊎_elim, ari
 use Rattle.std.specs.FinMap.{get}
 use Rattle.sasi_types.specs.declared.partitioner.Partitioner.{Partitioner}
 use Rattle.sasi_host.specs.declared.name.FileName.{FileName}
-use Rattle.sasi_host.specs.Names.{Bytes, Folder, rank}
+use Rattle.sasi_host.specs.Names.{Bytes, Folder, rank, log_name, manifest_name, seal_name}
 use Rattle.sasi_model.specs.State.{State}
 use Rattle.sasi_commitlog.specs.declared.mutation.Mutation.{Mutation}
-use Rattle.sasi_commitlog.specs.Format.{IsLog, Tables, log_name}
+use Rattle.sasi_commitlog.specs.Format.{IsLog, Tables}
 use Rattle.sasi_commitlog.specs.Laws.{logs_same}
 use Rattle.sasi_manifest.specs.declared.listing.Listing.{Listing}
-use Rattle.sasi_manifest.specs.Format.{IsManifest, manifest_name, seal_name}
+use Rattle.sasi_manifest.specs.Format.{IsManifest}
 use Rattle.sasi_manifest.specs.Laws.{manifest_same}
 use Rattle.sasi_folder.specs.Replay.{state_made}
 use Rattle.sasi_folder.specs.Stands.{HasSegments, Holds, IsFresh, IsSealed, StandsSealed, Stands, types_listed}

@@ -7,18 +7,18 @@ use Rattle.std.specs.FinMap.{get}
 use Rattle.std.specs.List.{AllByRecursion}
 use Rattle.sasi_types.specs.declared.column.ColumnType.{ColumnType}
 use Rattle.sasi_host.specs.declared.name.FileName.{FileName}
-use Rattle.sasi_host.specs.Names.{Bytes, Folder}
+use Rattle.sasi_host.specs.Names.{Bytes, Folder, log_name, manifest_name, seal_name}
 use Rattle.sasi_host.specs.Disk.{Step, LeftWith}
 use Rattle.sasi_model.specs.State.{Table, place_of}
 use Rattle.sasi_model.specs.Changes.{after_change, empty_table, with_new_table}
 use Rattle.sasi_model.specs.Stored.{types_of}
 use Rattle.sasi_gated.specs.Format.{IsGated}
 use Rattle.sasi_commitlog.specs.declared.mutation.Mutation.{Mutation}
-use Rattle.sasi_commitlog.specs.Format.{IsMutationOf, Tables, log_name, payload_of, types_in}
+use Rattle.sasi_commitlog.specs.Format.{IsMutationOf, Tables, payload_of, types_in}
 use Rattle.sasi_commitlog.specs.Standing.{IsLogBeforeOrAfter}
 use Rattle.sasi_manifest.specs.declared.listing.Listing.{Listing}
 use Rattle.sasi_manifest.specs.Consistent.{IsConsistent}
-use Rattle.sasi_manifest.specs.Format.{IsManifest, manifest_name, seal_name}
+use Rattle.sasi_manifest.specs.Format.{IsManifest}
 use Rattle.sasi_manifest.specs.Listed.{Listed}
 use Rattle.sasi_manifest.specs.Types.{numbered_types}
 use Rattle.sasi_manifest.specs.Standing.{IsEither}

@@ -1,7 +1,7 @@
 -- A store in hand: what stands in the folder at each moment while it makes a change, and after it.
 use Rattle.std.specs.Prelude.{◌≡◌, ◌⊎◌, ℕ, suc, ◌+◌, List, [], ◌∷◌, ◌++◌, length, map}
 use Rattle.std.proofs.Common.{sym, ap, subst, ◌∙◌, inl, inr, ⊎_elim, arith}
-use Rattle.sasi_host.specs.Names.{Folder}
+use Rattle.sasi_host.specs.Names.{Folder, log_name, manifest_name}
 use Rattle.sasi_host.specs.View.{View, IsSound, IsTold}
 use Rattle.sasi_host.specs.Disk.{Anyhow, Changes, LeftWith, Step}
 use Rattle.sasi_host.specs.Contents.{told_files}
@@ -12,11 +12,10 @@ use Rattle.sasi_model.specs.Changes.{after_change, with_new_table}
 use Rattle.sasi_gated.specs.Laws.{gated_end}
 use Rattle.sasi_gated.specs.Standing.{Handle}
 use Rattle.sasi_commitlog.specs.declared.mutation.Mutation.{Mutation}
-use Rattle.sasi_commitlog.specs.Format.{IsMutationOf, log_name, payload_of}
+use Rattle.sasi_commitlog.specs.Format.{IsMutationOf, payload_of}
 use Rattle.sasi_commitlog.specs.Standing.{IsAtLogEnd, IsLogBeforeOrAfter}
 use Rattle.sasi_manifest.specs.declared.listing.Listing.{Listing}
 use Rattle.sasi_manifest.specs.Consistent.{IsConsistent}
-use Rattle.sasi_manifest.specs.Format.{manifest_name}
 use Rattle.sasi_manifest.specs.Listed.{Listed}
 use Rattle.sasi_manifest.specs.Listings.{listed_definitions}
 use Rattle.sasi_manifest.specs.Standing.{Held, IsEither}

@@ -4,12 +4,12 @@ use Rattle.std.specs.Prelude.{◌≡◌, ◌≢◌, ◌⊎◌, ℕ, suc, ◌+◌
 use Rattle.std.specs.FinMap.{get}
 use Rattle.sasi_types.specs.declared.partitioner.Partitioner.{Partitioner}
 use Rattle.sasi_host.specs.declared.name.FileName.{FileName}
-use Rattle.sasi_host.specs.Names.{Bytes, Folder}
+use Rattle.sasi_host.specs.Names.{Bytes, Folder, log_name, manifest_name, seal_name}
 use Rattle.sasi_model.specs.State.{State, empty_state}
 use Rattle.sasi_commitlog.specs.declared.mutation.Mutation.{Mutation}
-use Rattle.sasi_commitlog.specs.Format.{IsLog, Tables, log_name}
+use Rattle.sasi_commitlog.specs.Format.{IsLog, Tables}
 use Rattle.sasi_manifest.specs.declared.listing.Listing.{Listing}
-use Rattle.sasi_manifest.specs.Format.{IsManifest, manifest_name, seal_name}
+use Rattle.sasi_manifest.specs.Format.{IsManifest}
 use Rattle.sasi_manifest.specs.Types.{numbered_types}
 use Rattle.sasi_folder.specs.Replay.{state_made}
 

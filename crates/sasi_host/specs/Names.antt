@@ -16,6 +16,24 @@ rank Data = 3
 rank Index = 4
 rank Segment = 5
 
+-- the file of this kind and number, which is no part of an index
+abbrev pub plain_name : Kind → ℕ → FileName
+plain_name kind number = record { kind = kind; number = number; index = 0; part = 0 }
+
+abbrev pub manifest_name : ℕ → FileName
+manifest_name = plain_name Manifest
+
+-- the empty file that tells that the manifest of this number is whole
+abbrev pub seal_name : ℕ → FileName
+seal_name = plain_name Seal
+
+-- the segment of the commit log with this number
+abbrev pub log_name : ℕ → FileName
+log_name = plain_name Log
+
+abbrev pub data_name : ℕ → FileName
+data_name = plain_name Data
+
 -- by kind, then by number, index and part
 abbrev pub name_cmp : FileName → FileName → Ordering
 name_cmp = then_cmp (on (λ n. rank n.kind) nat_cmp) (then_cmp (on (λ n. n.number) nat_cmp) (then_cmp (on (λ n. n.index) nat_cmp) (on (λ n. n.part) nat_cmp)))

@@ -4,7 +4,7 @@ ghost use Rattle.std.proofs.Common.{rules};
 ghost use Rattle.std.specs.Cmp.{partial_order_from_own_ties, partial_order_from_total};
 ghost use Rattle.std.specs.Cmp.Rules.{comparing};
 ghost use Rattle.std.specs.Ordering.{as_partial_cmp};
-ghost use Rattle.sasi_host.specs.Names.{rank, name_cmp, name_eq};
+ghost use Rattle.sasi_host.specs.Names.{data_name, log_name, manifest_name, name_cmp, name_eq, plain_name, rank, seal_name};
 ghost use Rattle.sasi_host.specs.NameLaws.{names_total};
 
 use std::cmp::Ordering;
@@ -43,6 +43,48 @@ pub struct FileName {
     pub number: u32,
     pub index: u32,
     pub part: u32,
+}
+
+impl FileName {
+    /// The manifest of this number.
+    pub fn manifest(number: u32) -> FileName
+        ensures { result ≡ manifest_name number }
+    {
+        plain(Kind::Manifest, number)
+    }
+
+    /// The seal of this number: an empty file that tells that the manifest is whole.
+    pub fn seal(number: u32) -> FileName
+        ensures { result ≡ seal_name number }
+    {
+        plain(Kind::Seal, number)
+    }
+
+    /// The segment of the commit log with this number.
+    pub fn log(number: u32) -> FileName
+        ensures { result ≡ log_name number }
+    {
+        plain(Kind::Log, number)
+    }
+
+    /// The data file with this number.
+    pub fn data(number: u32) -> FileName
+        ensures { result ≡ data_name number }
+    {
+        plain(Kind::Data, number)
+    }
+}
+
+// The file of this kind and number, which is no part of an index.
+fn plain(kind: Kind, number: u32) -> FileName
+    ensures { result ≡ plain_name kind number }
+{
+    FileName {
+        kind,
+        number,
+        index: 0,
+        part: 0,
+    }
 }
 
 impl PartialEq for FileName {

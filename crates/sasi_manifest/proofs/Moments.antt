@@ -3,7 +3,7 @@ use Rattle.std.proofs.Common.{◌≡◌, ◌≢◌, ◌≤◌, ◌+◌, ◌^◌,
 use Rattle.std.specs.FinMap.{get}
 use Rattle.sasi_host.specs.declared.name.FileName.{FileName}
 use Rattle.sasi_host.specs.declared.name.Kind.TheVariants.{Manifest, Seal}
-use Rattle.sasi_host.specs.Names.{Bytes, Folder}
+use Rattle.sasi_host.specs.Names.{Bytes, Folder, manifest_name, seal_name}
 use Rattle.sasi_host.specs.View.{View, IsSound, Reaches}
 use Rattle.sasi_host.specs.Disk.{Changes, Step, Same, Anyhow, LeftWith, MaybeCreated}
 use Rattle.sasi_host.specs.Moves.{changes_as, changes_on, changes_among, stays, step_as, each_on}
@@ -18,7 +18,7 @@ use Rattle.sasi_manifest.specs.declared.listing.Listing.{Listing}
 use Rattle.sasi_manifest.specs.Consistent.{IsConsistent, record_consistent}
 use Rattle.sasi_manifest.specs.Edits.{encoded}
 use Rattle.sasi_manifest.specs.Listings.{AllApply, after_all, counted, edits_of, records_of, length_of}
-use Rattle.sasi_manifest.specs.Format.{IsRecord, Builds, IsNext, IsRewritten, manifest_name, seal_name}
+use Rattle.sasi_manifest.specs.Format.{IsRecord, Builds, IsNext, IsRewritten}
 use Rattle.sasi_manifest.specs.Standing.{IsInHand, IsReady, Stands, IsEither, IsUnsealed, Touches, Creates}
 use Rattle.sasi_manifest.specs.Laws.{leads_on}
 use Rattle.sasi_manifest.proofs.Records.{edits_few, sizes_stay}

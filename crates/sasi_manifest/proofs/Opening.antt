@@ -8,7 +8,7 @@ use Rattle.sasi_host.specs.declared.damage.FormatRule.{FormatRule}
 use Rattle.sasi_host.specs.declared.damage.FormatRule.TheVariants.{Number}
 use Rattle.sasi_host.specs.declared.fault.ReadFault.{ReadFault}
 use Rattle.sasi_host.specs.declared.fault.ReadFault.TheVariants as fault
-use Rattle.sasi_host.specs.Names.{Bytes}
+use Rattle.sasi_host.specs.Names.{Bytes, manifest_name}
 use Rattle.sasi_host.specs.View.{View, IsSound, IsThere, contents}
 use Rattle.sasi_host.specs.Disk.{Changes, Same}
 use Rattle.sasi_host.specs.Moves.{then_same}
@@ -28,7 +28,7 @@ use Rattle.sasi_manifest.specs.declared.misread.Misread.{Misread}
 use Rattle.sasi_manifest.specs.declared.misread.Misread.TheVariants as misread
 use Rattle.sasi_manifest.specs.Listings.{after_all, counted, length_of}
 use Rattle.sasi_manifest.specs.Consistent.{record_consistent}
-use Rattle.sasi_manifest.specs.Format.{IsRecord, LeadsTo, manifest_name}
+use Rattle.sasi_manifest.specs.Format.{IsRecord, LeadsTo}
 use Rattle.sasi_manifest.specs.Forms.{Form, number, text, too_great, ends, size_of, field_of, Finding, NoEnd, Broken, Lacks, record_form, Width, One, Two, Four}
 use Rattle.sasi_manifest.specs.Misreads.{Misreads}
 use Rattle.sasi_manifest.specs.Damages.{IsShownBy, SparesManifests}

@@ -5,7 +5,7 @@ use Rattle.sasi_host.specs.declared.damage.Damage.{Damage}
 use Rattle.sasi_host.specs.declared.damage.FormatRule.{FormatRule}
 use Rattle.sasi_host.specs.declared.damage.FormatRule.TheVariants.{Number}
 use Rattle.sasi_host.specs.declared.fault.ReadFault.{ReadFault}
-use Rattle.sasi_host.specs.Names.{Bytes}
+use Rattle.sasi_host.specs.Names.{Bytes, manifest_name}
 use Rattle.sasi_host.specs.View.{View, contents}
 use Rattle.sasi_gated.specs.Format.{Closes, Opens}
 use Rattle.sasi_gated.specs.Gates.{IsAtGate}
@@ -13,7 +13,7 @@ use Rattle.sasi_gated.specs.Damages.{Shows}
 use Rattle.sasi_host.specs.Damages.{seen_bytes}
 use Rattle.sasi_host.specs.Damages.{OnDamage}
 use Rattle.sasi_manifest.specs.declared.listing.Listing.{Listing}
-use Rattle.sasi_manifest.specs.Format.{IsManifest, LeadsTo, manifest_name}
+use Rattle.sasi_manifest.specs.Format.{IsManifest, LeadsTo}
 use Rattle.sasi_manifest.specs.Forms.{Finding, NoEnd, Broken, Lacks, record_form}
 
 -- the first gate is closed

@@ -1,20 +1,11 @@
 -- The bytes of a manifest.
 use Rattle.std.specs.Prelude.{◌≡◌, ◌<◌, ◌≤◌, ℕ, ◌^◌, List, [], ◌∷◌, length, Option, Some, None}
-use Rattle.sasi_host.specs.declared.name.FileName.{FileName}
-use Rattle.sasi_host.specs.declared.name.Kind.TheVariants.{Manifest, Seal}
-use Rattle.sasi_host.specs.Names.{Bytes}
+use Rattle.sasi_host.specs.Names.{Bytes, manifest_name}
 use Rattle.sasi_gated.specs.Format.{IsGated}
 use Rattle.sasi_manifest.specs.declared.edit.Edit.{Edit}
 use Rattle.sasi_manifest.specs.declared.listing.Listing.{Listing}
 use Rattle.sasi_manifest.specs.Edits.{encoded}
 use Rattle.sasi_manifest.specs.Listings.{AllApply, after_all, counted, edits_of}
-
-abbrev pub manifest_name : ℕ → FileName
-manifest_name number = record { kind = Manifest; number = number; index = 0; part = 0 }
-
--- the empty file that tells that the manifest of this number is whole
-abbrev pub seal_name : ℕ → FileName
-seal_name number = record { kind = Seal; number = number; index = 0; part = 0 }
 
 -- the record has these edits, at least one, and they apply
 pub record IsRecord (from : Option Listing) (payload : Bytes) (edits : List Edit) : Type 0 where

@@ -4,7 +4,7 @@ use Rattle.std.proofs.Common.{sym, ◌∙◌, ap, subst, arith, length-append, �
 use Rattle.std.proofs.lemmas.List.{take_at, drop_at, append-nil}
 use Rattle.std.proofs.lemmas.Nat.{from_be_bytes-to_be_bytes_2, from_be_bytes-to_be_bytes_4}
 use Rattle.std.specs.Int.{to_be_bytes, from_be_bytes, w16, w32}
-use Rattle.sasi_host.specs.Names.{Bytes}
+use Rattle.sasi_host.specs.Names.{Bytes, manifest_name}
 use Rattle.sasi_host.specs.declared.damage.Damage.{Damage}
 use Rattle.sasi_fields.specs.Reading.{Reading}
 use Rattle.sasi_gated.specs.Format.{Opens, Closes, FromGate}
@@ -14,7 +14,7 @@ use Rattle.sasi_manifest.specs.declared.edit.Edit.{Edit}
 use Rattle.sasi_manifest.specs.declared.listing.Listing.{Listing}
 use Rattle.sasi_manifest.specs.Edits.{edits_bytes, encoded_is}
 use Rattle.sasi_manifest.specs.Listings.{after_all, counted}
-use Rattle.sasi_manifest.specs.Format.{IsRecord, LeadsTo, Builds, IsManifest, manifest_name}
+use Rattle.sasi_manifest.specs.Format.{IsRecord, LeadsTo, Builds, IsManifest}
 use Rattle.sasi_manifest.specs.Forms.{Form, number, text, too_great, ends, Width, One, Two, Four, size_of, field_of, limit_of, HasNumber, HasText, IsBetween, IsOpenName, Finding, Has, Lacks, edits_form, record_form}
 use Rattle.sasi_manifest.specs.Carried.{has_carries, over_edits}
 use Rattle.sasi_manifest.specs.Damages.{ShowsDamage}

@@ -1,7 +1,7 @@
 -- What the reading of a manifest gives.
 use Rattle.std.specs.Prelude.{◌≡◌, ℕ, ◌+◌, ◌≤◌, ◌^◌, IsTrue, List, Option, Some, None}
 use Rattle.sasi_host.specs.declared.damage.Damage.{Damage}
-use Rattle.sasi_host.specs.Names.{Bytes}
+use Rattle.sasi_host.specs.Names.{Bytes, manifest_name}
 use Rattle.sasi_host.specs.View.{View, IsThere, IsTold, contents}
 use Rattle.sasi_host.specs.Disk.{Changes, Same, IsKept}
 use Rattle.sasi_host.specs.Damages.{seen_bytes}
@@ -13,7 +13,7 @@ use Rattle.sasi_manifest.specs.declared.misread.Misread.{Misread}
 use Rattle.sasi_manifest.specs.declared.misread.Misread.TheVariants as misread
 use Rattle.sasi_manifest.specs.Consistent.{ConsistentIf}
 use Rattle.sasi_manifest.specs.Listings.{length_of, records_of}
-use Rattle.sasi_manifest.specs.Format.{Builds, IsManifest, LeadsTo, manifest_name}
+use Rattle.sasi_manifest.specs.Format.{Builds, IsManifest, LeadsTo}
 use Rattle.sasi_manifest.specs.Forms.{Finding, Lacks, record_form}
 use Rattle.sasi_manifest.specs.Damages.{IsTold as IsToldOf}
 use Rattle.sasi_manifest.specs.Standing.{Stands}

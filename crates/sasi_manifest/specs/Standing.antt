@@ -2,13 +2,13 @@
 use Rattle.std.specs.Prelude.{Bool, IsTrue, ◌≡◌, ◌≢◌, ◌⊎◌, ℕ, ◌+◌, ◌≤◌, ◌^◌, List, [], Some, None}
 use Rattle.std.specs.FinMap.{get}
 use Rattle.sasi_host.specs.declared.name.FileName.{FileName}
-use Rattle.sasi_host.specs.Names.{Bytes, Folder}
+use Rattle.sasi_host.specs.Names.{Bytes, Folder, manifest_name, seal_name}
 use Rattle.sasi_host.specs.View.{View}
 use Rattle.sasi_host.specs.Moves.{Each}
 use Rattle.sasi_gated.specs.Standing.{Handle, IsAtEnd}
 use Rattle.sasi_manifest.specs.declared.listing.Listing.{Listing}
 use Rattle.sasi_manifest.specs.Consistent.{IsConsistent}
-use Rattle.sasi_manifest.specs.Format.{Builds, IsManifest, manifest_name, seal_name}
+use Rattle.sasi_manifest.specs.Format.{Builds, IsManifest}
 
 -- what one knows of a manifest in hand
 pub record Held : Type 0 where

@@ -2,19 +2,19 @@
 ghost use Rattle.std.specs.Prelude.{◌≡◌, ◌+◌, ◌≤◌, ◌^◌, [], length, None, true, IfOk, OnOk};
 ghost use Rattle.sasi_host.specs.View.{Holds, IsAbsent, ListCauses, Reaches};
 ghost use Rattle.sasi_host.specs.Disk.{Changes, IsKept};
+ghost use Rattle.sasi_host.specs.Names.{manifest_name, seal_name};
 ghost use Rattle.sasi_manifest.specs.declared.listing.Listing.{Listing as AListing};
 ghost use Rattle.sasi_manifest.specs.Edits.{encoded};
-ghost use Rattle.sasi_manifest.specs.Format.{IsRewritten, manifest_name, seal_name};
+ghost use Rattle.sasi_manifest.specs.Format.{IsRewritten};
 ghost use Rattle.sasi_manifest.specs.Listings.{AllApply, edits_of};
 ghost use Rattle.sasi_manifest.specs.Standing.{Creates, IsInHand, IsUnsealed, Stands, Touches};
 
 use crate::Listing;
-use crate::name::manifest_name;
 use crate::prepare::prepare;
 use crate::rewrite::edits_of;
 use crate::seal::make_seal;
 use sasi_gated::Gated;
-use sasi_host::{Host, HostFault};
+use sasi_host::{FileName, Host, HostFault};
 use std::alloc::Global;
 
 // A manifest's file in hand, and what it lists.
@@ -45,7 +45,7 @@ pub fn create_sealed<H: Host>(
 {
     let edits = edits_of(alloc, listing)?;
     let first = prepare(alloc, None, &edits)?;
-    let gated = Gated::create(alloc, host, manifest_name(number), Some(&first.record))?;
+    let gated = Gated::create(alloc, host, FileName::manifest(number), Some(&first.record))?;
     make_seal(host, number)?;
     Ok(Opened {
         gated,

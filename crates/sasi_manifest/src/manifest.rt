@@ -2,12 +2,13 @@
 ghost use Rattle.std.specs.Prelude.{◌≡◌, ◌+◌, ◌≤◌, ◌^◌, [], length, None, Some, IsTrue, IfErr, IfOk, OnErr, OnOk, is_ok};
 ghost use Rattle.sasi_host.specs.View.{Holds, IsAbsent, IsThere, IsTold, ListCauses, Reaches, contents};
 ghost use Rattle.sasi_host.specs.Disk.{Anyhow, Changes, IsKept, LeftWith, Same, Step};
+ghost use Rattle.sasi_host.specs.Names.{manifest_name, seal_name};
 ghost use Rattle.sasi_gated.specs.Causes.{ReadingCauses};
 ghost use Rattle.sasi_manifest.specs.declared.listing.Listing.{Listing as AListing};
 ghost use Rattle.sasi_manifest.specs.Consistent.{IsConsistent};
 ghost use Rattle.sasi_manifest.specs.Damages.{IsShownBy, SparesManifests};
 ghost use Rattle.sasi_manifest.specs.Edits.{encoded};
-ghost use Rattle.sasi_manifest.specs.Format.{IsManifest, IsNext, IsRewritten, manifest_name, seal_name};
+ghost use Rattle.sasi_manifest.specs.Format.{IsManifest, IsNext, IsRewritten};
 ghost use Rattle.sasi_manifest.specs.Listings.{AllApply, edits_of};
 ghost use Rattle.sasi_manifest.specs.Reading.{ReadsListing, StandsWhereKept};
 ghost use Rattle.sasi_manifest.specs.Standing.{Creates, IsEither, IsUnsealed, Stands, Touches};

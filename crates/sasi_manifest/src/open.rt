@@ -7,10 +7,11 @@ ghost use Rattle.sasi_gated.specs.Causes.{ReadingCauses};
 ghost use Rattle.sasi_host.specs.declared.damage.FormatRule.TheVariants.{Number};
 ghost use Rattle.sasi_host.specs.Damages.{seen_bytes};
 ghost use Rattle.sasi_host.specs.Damages.{OnDamage};
+ghost use Rattle.sasi_host.specs.Names.{manifest_name};
 ghost use Rattle.sasi_manifest.specs.declared.listing.Listing.{Listing as AListing};
 ghost use Rattle.sasi_manifest.specs.declared.edit.Edit.{Edit as AnEdit};
 ghost use Rattle.sasi_manifest.specs.Damages.{IsShownBy};
-ghost use Rattle.sasi_manifest.specs.Format.{IsRecord, manifest_name};
+ghost use Rattle.sasi_manifest.specs.Format.{IsRecord};
 ghost use Rattle.sasi_manifest.specs.Forms.{record_form};
 ghost use Rattle.sasi_manifest.specs.Listings.{after_all, counted, length_of, records_of};
 ghost use Rattle.sasi_manifest.specs.Misreads.{Misreads};
@@ -20,10 +21,9 @@ ghost use Rattle.sasi_manifest.specs.Standing.{IsInHand};
 use crate::Listing;
 use crate::create::Opened;
 use crate::misread::{Misread, seen_of};
-use crate::name::manifest_name;
 use crate::read_record::read_record;
 use sasi_gated::Gated;
-use sasi_host::{Damage, FormatRule, Host, ReadFault};
+use sasi_host::{Damage, FileName, FormatRule, Host, ReadFault};
 use std::alloc::Global;
 
 // Reads all records of a manifest.
@@ -36,7 +36,7 @@ pub fn open_manifest<H: Host>(alloc: Global, host: &mut H, number: u32) -> Resul
     ensures changes { Changes Same (H.view host.old) (H.view host.new) }
     ensures causes { ReadingCauses (H.view host.old) (H.view host.new) result }
 {
-    let mut gated = Gated::open(host, manifest_name(number))?;
+    let mut gated = Gated::open(host, FileName::manifest(number))?;
     let mut payload = Vec::new(alloc);
     let mut listed = None;
     while gated.next(host, &mut payload)? {
@@ -89,7 +89,7 @@ fn told(number: u32, before: u64, payload: &[u8], misread: Misread) -> ReadFault
     ensures damaged { (from : Option AListing) → Misreads (record_form from) (record { done = []; left = payload.now }) misread → OnDamage (IsTelling number before from payload.now) result }
     ensures not_failed { result ≢ read_fault.Failed }
 {
-    let file = manifest_name(number);
+    let file = FileName::manifest(number);
     match misread {
         Misread::OutOfMemory => ReadFault::OutOfMemory,
         Misread::NoEnd => ReadFault::Damaged(Damage {
@@ -115,7 +115,7 @@ fn empty(number: u32) -> Damage
     ensures seen { seen_bytes result.seen ≡ 0 ∷ [] }
 {
     Damage {
-        file: manifest_name(number),
+        file: FileName::manifest(number),
         at: 16,
         rule: FormatRule::Number,
         seen: seen_of(&[0]),

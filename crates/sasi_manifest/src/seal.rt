@@ -2,11 +2,10 @@
 ghost use Rattle.std.specs.Prelude.{◌≡◌, [], OnOk};
 ghost use Rattle.sasi_host.specs.View.{DiskCauses, Holds, IsAbsent};
 ghost use Rattle.sasi_host.specs.Disk.{Changes, IsKept, MaybeCreated, Step};
-ghost use Rattle.sasi_manifest.specs.Format.{seal_name};
+ghost use Rattle.sasi_host.specs.Names.{seal_name};
 ghost use Rattle.sasi_manifest.specs.Standing.{IsUnsealed};
 
-use crate::name::seal_name;
-use sasi_host::{Failed, Host};
+use sasi_host::{Failed, FileName, Host};
 
 // Makes the seal, and syncs the folder.
 pub fn make_seal<H: Host>(host: &mut H, number: u32) -> Result<(), Failed>
@@ -16,6 +15,6 @@ pub fn make_seal<H: Host>(host: &mut H, number: u32) -> Result<(), Failed>
     ensures changes { Changes (Step (seal_name number) MaybeCreated) (H.view host.old) (H.view host.new) }
     ensures causes { DiskCauses (H.view host.old) (H.view host.new) result }
 {
-    host.create(seal_name(number))?;
+    host.create(FileName::seal(number))?;
     host.sync_folder()
 }

@@ -4,8 +4,8 @@ ghost use Rattle.std.specs.Prelude.{◌≡◌, ◌∷◌, [], IfOk};
 ghost use Rattle.sasi_types.specs.declared.column.ColumnType.TheVariants.{Text};
 ghost use Rattle.sasi_manifest.specs.declared.edit.Edit.TheVariants.{CreateTable};
 
-use crate::{Edit, EditList, Listing, Manifest, manifest_name, seal_name};
-use sasi_host::{BytePick, Damage, FormatRule, MemHost, NamePick, Pick, ReadFault};
+use crate::{Edit, EditList, Listing, Manifest};
+use sasi_host::{BytePick, Damage, FileName, FormatRule, MemHost, NamePick, Pick, ReadFault};
 use sasi_types::{ColumnType, Columns, Name, Partitioner};
 use std::alloc::{AllocError, Global};
 use std::test::Fail;
@@ -39,10 +39,10 @@ fn first_table(alloc: Global) -> Result<EditList, AllocError>
 fn write(alloc: Global, host: &mut MemHost) -> Result<Option<bool>, Fail> {
     let edits = first_table(alloc)?;
     let listing = Listing::new(alloc, Partitioner::Lead8);
-    if host.bytes(manifest_name(1)).is_some() {
+    if host.bytes(FileName::manifest(1)).is_some() {
         Err("a manifest is there")?;
     }
-    if host.bytes(seal_name(1)).is_some() {
+    if host.bytes(FileName::seal(1)).is_some() {
         Err("a seal is there")?;
     }
     let Ok(mut manifest) = Manifest::create(alloc, host, 1, &listing) else {
@@ -52,7 +52,7 @@ fn write(alloc: Global, host: &mut MemHost) -> Result<Option<bool>, Fail> {
 }
 
 fn read(alloc: Global, host: &mut MemHost) -> Result<Result<Listing, Damage>, Fail> {
-    host.bytes(manifest_name(1)).ok_or("no manifest")?;
+    host.bytes(FileName::manifest(1)).ok_or("no manifest")?;
     match Manifest::open(alloc, host, 1) {
         Err(ReadFault::Damaged(damage)) => Ok(Err(damage)),
         manifest => Ok(Ok(manifest?.listing().copy(alloc)?)),
@@ -65,10 +65,10 @@ fn manifest_has_these_bytes(rt: HostRuntime) -> Result<(), Fail> {
     let mut host = MemHost::new(alloc);
     assert_eq!(rt; write(alloc, &mut host)?, Some(true));
     assert_eq!(rt;
-        host.bytes(manifest_name(1)).ok_or("no manifest")?,
+        host.bytes(FileName::manifest(1)).ok_or("no manifest")?,
         BYTES.as_slice()
     );
-    assert_eq!(rt; host.bytes(seal_name(1)).ok_or("no seal")?.len(), 0);
+    assert_eq!(rt; host.bytes(FileName::seal(1)).ok_or("no seal")?.len(), 0);
     assert_eq!(rt; first_table(alloc)?.length(), 25);
     let listing = read(alloc, &mut host)?.ok().ok_or("damage")?;
     assert_eq!(rt; listing.records, 2);
@@ -123,9 +123,9 @@ fn damage_is_told_where_it_is(rt: HostRuntime) -> Result<(), Fail> {
         let mut bytes = BYTES;
         *bytes.get_mut(place).ok_or("no place")? = byte;
         let mut host = MemHost::new(alloc);
-        host.put(manifest_name(1), &bytes)?;
+        host.put(FileName::manifest(1), &bytes)?;
         let damage = read(alloc, &mut host)?.err().ok_or("no damage")?;
-        assert_eq!(rt; damage.file, manifest_name(1));
+        assert_eq!(rt; damage.file, FileName::manifest(1));
         assert_eq!(rt; damage.at, at);
         assert_eq!(rt; damage.rule, rule);
         assert_eq!(rt; damage.seen.bytes, seen);
@@ -146,7 +146,7 @@ const BYTE_PICKS: [BytePick; 4] = [
 // Whether a crash may leave this: where the seal is, a manifest with the table or without it, and with it once it was
 // appended.
 fn is_allowed(alloc: Global, left: &mut MemHost, made: Option<bool>) -> Result<bool, Fail> {
-    if left.bytes(seal_name(1)).is_none() {
+    if left.bytes(FileName::seal(1)).is_none() {
         return Ok(made.is_none());
     }
     Ok(match read(alloc, left)? {

@@ -5,9 +5,8 @@ use Rattle.sasi_host.specs.declared.name.FileName.{FileName}
 use Rattle.sasi_host.specs.View.{View, IsAbsent}
 use Rattle.sasi_host.specs.Disk.{Anyhow, Changes, Same, Step}
 use Rattle.sasi_host.specs.Contents.{absent_where, contents_kept, contents_other, contents_same}
-use Rattle.sasi_commitlog.specs.Format.{log_name}
+use Rattle.sasi_host.specs.Names.{log_name, manifest_name, seal_name}
 use Rattle.sasi_manifest.specs.declared.listing.Listing.{Listing}
-use Rattle.sasi_manifest.specs.Format.{manifest_name, seal_name}
 use Rattle.sasi_manifest.specs.Standing.{Touches}
 use Rattle.sasi_run.specs.declared.deleting.Keep.TheVariants.{Store as KeepStore}
 use Rattle.sasi_run.specs.Deletion.{keeps}

@@ -6,13 +6,11 @@ use Rattle.sasi_host.specs.declared.fault.ReadFault.{ReadFault}
 use Rattle.sasi_host.specs.declared.fault.ReadFault.TheVariants.{Damaged, Failed, OutOfMemory}
 use Rattle.sasi_host.specs.declared.name.FileName.{FileName}
 use Rattle.sasi_host.specs.Damages.{OnDamage}
-use Rattle.sasi_host.specs.Names.{Bytes, Folder}
+use Rattle.sasi_host.specs.Names.{Bytes, Folder, log_name, manifest_name, seal_name}
 use Rattle.sasi_host.specs.View.{View, IsThere}
 use Rattle.sasi_host.specs.Disk.{Changes, Lists}
-use Rattle.sasi_commitlog.specs.Format.{log_name}
 use Rattle.sasi_manifest.specs.declared.listing.Listing.{Listing}
 use Rattle.sasi_manifest.specs.Damages.{IsShownBy}
-use Rattle.sasi_manifest.specs.Format.{manifest_name, seal_name}
 use Rattle.sasi_manifest.specs.Reading.{ReadsListing}
 use Rattle.sasi_folder.specs.Damages.{FolderShows, ShowsListed, ShowsMissing, broken_log, broken_manifest, no_manifest}
 use Rattle.sasi_folder.specs.Stands.{IsSealed}

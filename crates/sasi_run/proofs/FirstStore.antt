@@ -7,19 +7,18 @@ use Rattle.sasi_model.specs.State.{State, empty_state}
 use Rattle.sasi_host.specs.declared.fault.HostFault.{HostFault}
 use Rattle.sasi_host.specs.declared.name.FileName.{FileName}
 use Rattle.sasi_host.specs.NameLaws.{name_cases}
-use Rattle.sasi_host.specs.Names.{Bytes, Folder}
+use Rattle.sasi_host.specs.Names.{Bytes, Folder, log_name, manifest_name, seal_name}
 use Rattle.sasi_host.specs.View.{View, IsSound, IsTold, Reaches}
 use Rattle.sasi_host.specs.Disk.{Anyhow, Changes, IsKept, Relation, Same, Step}
 use Rattle.sasi_host.specs.Contents.{contents_kept, reaches_where}
 use Rattle.sasi_host.specs.Moves.{Each, at_each_moment, changes_as, changes_on, each_on, stays, then_each_moment}
 use Rattle.sasi_gated.specs.Format.{IsGated}
 use Rattle.sasi_gated.specs.Laws.{gated_end}
-use Rattle.sasi_commitlog.specs.Format.{log_name}
 use Rattle.sasi_commitlog.specs.Standing.{IsAtLogEnd}
 use Rattle.sasi_manifest.specs.declared.listing.Listing.{Listing}
 use Rattle.sasi_manifest.specs.Consistent.{IsConsistent, record_consistent}
 use Rattle.sasi_manifest.specs.Edits.{encoded, start_length}
-use Rattle.sasi_manifest.specs.Format.{IsManifest, IsRewritten, manifest_name, seal_name}
+use Rattle.sasi_manifest.specs.Format.{IsManifest, IsRewritten}
 use Rattle.sasi_manifest.specs.Listings.{AllApply, edits_of}
 use Rattle.sasi_manifest.specs.Standing.{Creates, IsUnsealed, Touches}
 use Rattle.sasi_manifest.specs.Standing as manifests

@@ -7,11 +7,9 @@ use Rattle.sasi_host.specs.declared.damage.Damage.{Damage}
 use Rattle.sasi_host.specs.declared.damage.FormatRule.TheVariants.{NoSeal}
 use Rattle.sasi_host.specs.declared.name.FileName.{FileName}
 use Rattle.sasi_host.specs.Damages.{seen_bytes}
-use Rattle.sasi_host.specs.Names.{Bytes, Folder}
+use Rattle.sasi_host.specs.Names.{Bytes, Folder, log_name, manifest_name}
 use Rattle.sasi_host.specs.View.{View, contents_in}
 use Rattle.sasi_host.specs.Disk.{Lists}
-use Rattle.sasi_commitlog.specs.Format.{log_name}
-use Rattle.sasi_manifest.specs.Format.{manifest_name}
 use Rattle.sasi_run.specs.NewFolder.{IsForeign, SparesFresh, is_first}
 
 around : (names : List FileName) (i : ℕ) (d : FileName) → i < length names → names ≡ take i names ++ get_or names i d ∷ drop (i + 1) names

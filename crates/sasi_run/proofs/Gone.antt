@@ -9,16 +9,14 @@ use Rattle.std.specs.Ordering.{is_eq}
 use Rattle.std.specs.declared.cmp.Ordering.TheVariants.{Less}
 use Rattle.std.specs.FinMap.{get}
 use Rattle.sasi_host.specs.declared.name.FileName.{FileName}
-use Rattle.sasi_host.specs.Names.{Bytes, Folder, name_cmp}
+use Rattle.sasi_host.specs.Names.{Bytes, Folder, name_cmp, log_name, manifest_name, seal_name}
 use Rattle.sasi_host.specs.NameLaws.{name_cases, test_here}
 use Rattle.sasi_host.specs.View.{View, IsAbsent, IsSound, IsThere, contents, contents_in}
 use Rattle.sasi_host.specs.Disk.{Changes, IsKept, Lists, MaybeDeleted, Relation, Same, Step}
 use Rattle.sasi_host.specs.Contents.{contents_other, there_where}
 use Rattle.sasi_host.specs.Moves.{Each, at_each_moment, changes_as, changes_on, each_on, stays}
 use Rattle.sasi_commitlog.specs.declared.mutation.Mutation.{Mutation}
-use Rattle.sasi_commitlog.specs.Format.{log_name}
 use Rattle.sasi_manifest.specs.declared.listing.Listing.{Listing}
-use Rattle.sasi_manifest.specs.Format.{manifest_name, seal_name}
 use Rattle.sasi_folder.specs.Stands.{Holds, IsFresh}
 use Rattle.sasi_run.specs.declared.deleting.Keep.TheVariants.{Store}
 use Rattle.sasi_run.specs.Deletion.{DeletedUnless, Deletes, keeps}

@@ -2,7 +2,7 @@
 use Rattle.std.proofs.Common.{◌≡◌, ◌≢◌, ℕ, ◌<◌, ◌≤◌, List, [], ◌∷◌, ◌++◌, Option, Some, None, Contains, sym, ap, subst, ◌∙◌, ⊎_elim, arith}
 use Rattle.std.proofs.lemmas.List.Elements.{Contains-append_left, Contains-push, Contains-push_cases}
 use Rattle.sasi_host.specs.declared.name.FileName.{FileName}
-use Rattle.sasi_manifest.specs.Format.{seal_name}
+use Rattle.sasi_host.specs.Names.{seal_name}
 use Rattle.sasi_run.specs.Opening.{IsHighestSeal}
 
 -- the numbers of seals are apart

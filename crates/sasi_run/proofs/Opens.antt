@@ -8,7 +8,7 @@ use Rattle.sasi_host.specs.declared.name.FileName.{FileName}
 use Rattle.sasi_host.specs.declared.fault.ReadFault.{ReadFault}
 use Rattle.sasi_host.specs.declared.fault.ReadFault.TheVariants as read_fault
 use Rattle.sasi_host.specs.Damages.{OnDamage}
-use Rattle.sasi_host.specs.Names.{Bytes, Folder}
+use Rattle.sasi_host.specs.Names.{Bytes, Folder, log_name, manifest_name, seal_name}
 use Rattle.sasi_host.specs.View.{IsSound, IsTold, Reaches, View, contents_in}
 use Rattle.sasi_host.specs.Disk.{Changes, IsKept, Lists, Same}
 use Rattle.sasi_host.specs.Contents.{contents_same, reaches_where, told_after}
@@ -16,10 +16,9 @@ use Rattle.sasi_host.specs.Durability.{kept_same}
 use Rattle.sasi_host.specs.Moves.{Each, changes_as, changes_on}
 use Rattle.sasi_gated.specs.Standing.{Handle}
 use Rattle.sasi_commitlog.specs.declared.mutation.Mutation.{Mutation}
-use Rattle.sasi_commitlog.specs.Format.{Tables, log_name}
+use Rattle.sasi_commitlog.specs.Format.{Tables}
 use Rattle.sasi_manifest.specs.declared.listing.Listing.{Listing}
 use Rattle.sasi_manifest.specs.Consistent.{IsConsistent}
-use Rattle.sasi_manifest.specs.Format.{manifest_name, seal_name}
 use Rattle.sasi_manifest.specs.Listings.{listed_definitions}
 use Rattle.sasi_manifest.specs.Reading.{StandsWhereKept}
 use Rattle.sasi_manifest.specs.Standing as manifests

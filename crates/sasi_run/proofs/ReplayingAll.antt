@@ -8,10 +8,9 @@ use Rattle.sasi_host.specs.Contents.{contents_same, there_where, told_after}
 use Rattle.sasi_host.specs.Disk.{Changes, Same}
 use Rattle.sasi_host.specs.Durability.{kept_same}
 use Rattle.sasi_host.specs.Moves.{stays, then_same}
-use Rattle.sasi_host.specs.Names.{Folder}
+use Rattle.sasi_host.specs.Names.{Folder, log_name}
 use Rattle.sasi_host.specs.View.{View, IsThere, IsTold}
 use Rattle.sasi_commitlog.specs.declared.mutation.Mutation.{Mutation}
-use Rattle.sasi_commitlog.specs.Format.{log_name}
 use Rattle.sasi_commitlog.specs.Standing.{IsAtLogEnd}
 use Rattle.sasi_manifest.specs.declared.listing.Listing.{Listing}
 use Rattle.sasi_manifest.specs.Listed.{Listed}

@@ -7,7 +7,7 @@ use Rattle.sasi_model.specs.Changes.{after_change}
 use Rattle.sasi_host.specs.declared.name.FileName.{FileName}
 use Rattle.sasi_host.specs.declared.fault.ReadFault.{ReadFault}
 use Rattle.sasi_host.specs.declared.fault.ReadFault.TheVariants as fault
-use Rattle.sasi_host.specs.Names.{Bytes}
+use Rattle.sasi_host.specs.Names.{Bytes, log_name}
 use Rattle.sasi_host.specs.Contents.{contents_same, there_where, told_after}
 use Rattle.sasi_host.specs.Disk.{Changes, IsKept, Same}
 use Rattle.sasi_host.specs.Durability.{kept_contents}
@@ -20,7 +20,7 @@ use Rattle.sasi_gated.specs.Reads.{Begins, IsShown, SparesGated}
 use Rattle.sasi_gated.specs.Standing.{Handle}
 use Rattle.sasi_commitlog.specs.declared.mutation.Mutation.{Mutation}
 use Rattle.sasi_commitlog.specs.Damages.{ShowsLog}
-use Rattle.sasi_commitlog.specs.Format.{IsLog, IsMutationOf, Tables, log_name, payload_of}
+use Rattle.sasi_commitlog.specs.Format.{IsLog, IsMutationOf, Tables, payload_of}
 use Rattle.sasi_commitlog.specs.Reads.{IsLogShownAt, ReadsLogGate, ReadsMutation, ReadsMutations, ReadsNext, SparesLog}
 use Rattle.sasi_commitlog.specs.Standing.{IsAtLogEnd, IsReadingLog}
 use Rattle.sasi_manifest.specs.declared.listing.Listing.{Listing}

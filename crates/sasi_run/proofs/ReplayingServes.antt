@@ -2,12 +2,12 @@
 use Rattle.std.proofs.Common.{◌≡◌, ℕ, suc, ◌+◌, List, [], ◌∷◌, length, ap, subst, ◌∙◌}
 use Rattle.std.specs.FinMap.{get}
 use Rattle.sasi_host.specs.Moves.{Each}
-use Rattle.sasi_host.specs.Names.{Folder}
+use Rattle.sasi_host.specs.Names.{Folder, log_name}
 use Rattle.sasi_host.specs.View.{View, IsTold}
 use Rattle.sasi_model.specs.State.{State}
 use Rattle.sasi_gated.specs.Standing.{Handle}
 use Rattle.sasi_commitlog.specs.declared.mutation.Mutation.{Mutation}
-use Rattle.sasi_commitlog.specs.Format.{Tables, log_name}
+use Rattle.sasi_commitlog.specs.Format.{Tables}
 use Rattle.sasi_manifest.specs.Standing.{Held}
 use Rattle.sasi_manifest.specs.Standing as manifests
 use Rattle.sasi_folder.specs.Replay.{state_made}

@@ -5,16 +5,15 @@ use Rattle.sasi_host.specs.declared.damage.Damage.{Damage}
 use Rattle.sasi_host.specs.declared.fault.ReadFault.{ReadFault}
 use Rattle.sasi_host.specs.declared.fault.ReadFault.TheVariants.{Damaged, Failed, OutOfMemory}
 use Rattle.sasi_host.specs.declared.name.FileName.{FileName}
-use Rattle.sasi_host.specs.Names.{Bytes, Folder}
+use Rattle.sasi_host.specs.Names.{Bytes, Folder, log_name, manifest_name}
 use Rattle.sasi_host.specs.View.{View, IsSound, IsThere, Reaches, contents, contents_in}
 use Rattle.sasi_host.specs.Disk.{Changes, Lists, Same}
 use Rattle.sasi_host.specs.Contents.{contents_kept, reaches_where, there_where, told_files}
 use Rattle.sasi_host.specs.Moves.{Each, at_each_moment, changes_as, changes_on}
 use Rattle.sasi_commitlog.specs.declared.mutation.Mutation.{Mutation}
-use Rattle.sasi_commitlog.specs.Format.{Tables, log_name}
+use Rattle.sasi_commitlog.specs.Format.{Tables}
 use Rattle.sasi_manifest.specs.declared.listing.Listing.{Listing}
 use Rattle.sasi_manifest.specs.Damages.{SparesManifests}
-use Rattle.sasi_manifest.specs.Format.{manifest_name}
 use Rattle.sasi_manifest.specs.Laws.{manifest_same}
 use Rattle.sasi_manifest.specs.Reading.{ReadsListing}
 use Rattle.sasi_manifest.specs.Standing.{Stands}

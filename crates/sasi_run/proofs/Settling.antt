@@ -3,15 +3,13 @@ use Rattle.std.proofs.Common.{◌≡◌, ℕ, ◌+◌, ◌<◌, List, length, ta
 use Rattle.std.proofs.lemmas.List.Elements.{All-more, All-weaker, All-contains, All-contains_itself}
 use Rattle.std.specs.FinMap.{get}
 use Rattle.sasi_host.specs.declared.name.FileName.{FileName}
-use Rattle.sasi_host.specs.Names.{Bytes, Folder}
+use Rattle.sasi_host.specs.Names.{Bytes, Folder, log_name, manifest_name, seal_name}
 use Rattle.sasi_host.specs.View.{View, IsSound, IsThere, contents, contents_in}
 use Rattle.sasi_host.specs.Disk.{Changes, IsFolderSynced, IsKept, IsSynced, Lists, Same}
 use Rattle.sasi_host.specs.Contents.{contents_same, there_where, told_before}
 use Rattle.sasi_host.specs.Moves.{Each}
 use Rattle.sasi_commitlog.specs.declared.mutation.Mutation.{Mutation}
-use Rattle.sasi_commitlog.specs.Format.{log_name}
 use Rattle.sasi_manifest.specs.declared.listing.Listing.{Listing}
-use Rattle.sasi_manifest.specs.Format.{manifest_name, seal_name}
 use Rattle.sasi_folder.specs.FolderLaws.{segments_kept}
 use Rattle.sasi_folder.specs.Stands.{Holds, IsFresh, types_listed}
 use Rattle.sasi_run.specs.Opening.{IsRecordSynced, IsSettled, KeepsStore, has_records}

@@ -8,13 +8,11 @@ use Rattle.sasi_types.specs.declared.partitioner.Partitioner.{Partitioner}
 use Rattle.sasi_model.specs.State.{State, empty_state}
 use Rattle.sasi_host.specs.declared.fault.ReadFault.{ReadFault}
 use Rattle.sasi_host.specs.declared.name.FileName.{FileName}
-use Rattle.sasi_host.specs.Names.{Folder, name_eq, rank}
+use Rattle.sasi_host.specs.Names.{Folder, name_eq, rank, log_name, manifest_name}
 use Rattle.sasi_host.specs.NameLaws.{named, named_back, places}
 use Rattle.sasi_host.specs.View.{View, IsThere}
 use Rattle.sasi_host.specs.Disk.{Changes, Lists}
-use Rattle.sasi_commitlog.specs.Format.{log_name}
 use Rattle.sasi_manifest.specs.declared.listing.Listing.{Listing}
-use Rattle.sasi_manifest.specs.Format.{manifest_name}
 use Rattle.sasi_manifest.specs.Reading.{ReadsListing}
 use Rattle.sasi_folder.specs.FolderLaws.{segments_kept}
 use Rattle.sasi_folder.specs.Replay.{state_made}

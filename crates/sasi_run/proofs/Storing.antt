@@ -13,18 +13,19 @@ use Rattle.sasi_host.specs.View.{View, IsSound, IsTold, Reaches}
 use Rattle.sasi_host.specs.Disk.{Anyhow, Changes, LeftWith, Same, Step}
 use Rattle.sasi_host.specs.Contents.{contents_other, reaches_where}
 use Rattle.sasi_host.specs.Moves.{at_each_moment, changes_as, stays}
+use Rattle.sasi_host.specs.Names.{log_name, manifest_name}
 use Rattle.sasi_gated.specs.Standing.{Handle}
 use Rattle.sasi_schema.specs.declared.table.Table.{Table}
 use Rattle.sasi_schema.specs.Defined.{definition}
 use Rattle.sasi_commitlog.specs.declared.mutation.Mutation.{Mutation}
-use Rattle.sasi_commitlog.specs.Format.{IsMutationOf, log_name}
+use Rattle.sasi_commitlog.specs.Format.{IsMutationOf}
 use Rattle.sasi_commitlog.specs.Standing.{IsAtLogEnd, IsLogBeforeOrAfter}
 use Rattle.sasi_manifest.specs.declared.edit.Edit.{Edit}
 use Rattle.sasi_manifest.specs.declared.edit.Edit.TheVariants as edits
 use Rattle.sasi_manifest.specs.declared.listing.Listing.{Listing}
 use Rattle.sasi_manifest.specs.Consistent.{record_consistent}
 use Rattle.sasi_manifest.specs.Edits.{encoded}
-use Rattle.sasi_manifest.specs.Format.{IsNext, manifest_name}
+use Rattle.sasi_manifest.specs.Format.{IsNext}
 use Rattle.sasi_manifest.specs.Listed.{Listed}
 use Rattle.sasi_manifest.specs.Listings.{CanCreate, created}
 use Rattle.sasi_manifest.specs.Standing.{Held, IsEither, Stands}

@@ -2,10 +2,8 @@
 use Rattle.std.specs.Prelude.{◌≡◌, ℕ, Bool, true, false, ◌&&◌, ◌||◌, nat_le, Option}
 use Rattle.std.specs.FinMap.{get}
 use Rattle.sasi_host.specs.declared.name.FileName.{FileName}
-use Rattle.sasi_host.specs.Names.{Bytes, Folder, name_eq}
+use Rattle.sasi_host.specs.Names.{Bytes, Folder, name_eq, log_name, manifest_name, seal_name}
 use Rattle.sasi_host.specs.Disk.{MaybeDeleted}
-use Rattle.sasi_commitlog.specs.Format.{log_name}
-use Rattle.sasi_manifest.specs.Format.{manifest_name, seal_name}
 use Rattle.sasi_run.specs.declared.deleting.Keep.{Keep}
 use Rattle.sasi_run.specs.declared.deleting.Keep.TheVariants.{Nothing, Store}
 

@@ -6,11 +6,9 @@ use Rattle.sasi_host.specs.declared.damage.Damage.{Damage}
 use Rattle.sasi_host.specs.declared.damage.FormatRule.TheVariants.{NoSeal}
 use Rattle.sasi_host.specs.declared.name.FileName.{FileName}
 use Rattle.sasi_host.specs.Damages.{seen_bytes}
-use Rattle.sasi_host.specs.Names.{Folder, name_eq}
+use Rattle.sasi_host.specs.Names.{Folder, name_eq, log_name, manifest_name}
 use Rattle.sasi_host.specs.View.{View}
 use Rattle.sasi_model.specs.State.{empty_state}
-use Rattle.sasi_commitlog.specs.Format.{log_name}
-use Rattle.sasi_manifest.specs.Format.{manifest_name}
 use Rattle.sasi_folder.specs.Stands.{IsFresh, Stands}
 
 -- what the making of a store begins with: the first manifest and the first segment of the log

@@ -4,11 +4,9 @@ use Rattle.std.specs.FinMap.{get}
 use Rattle.sasi_host.specs.declared.name.FileName.{FileName}
 use Rattle.sasi_host.specs.declared.name.Kind.{Kind}
 use Rattle.sasi_host.specs.declared.name.Kind.TheVariants.{Manifest, Log}
-use Rattle.sasi_host.specs.Names.{Folder}
+use Rattle.sasi_host.specs.Names.{Folder, log_name, manifest_name, seal_name}
 use Rattle.sasi_host.specs.View.{View}
 use Rattle.sasi_host.specs.Disk.{IsFolderSynced, IsSynced}
-use Rattle.sasi_commitlog.specs.Format.{log_name}
-use Rattle.sasi_manifest.specs.Format.{manifest_name, seal_name}
 
 -- ---- what a crash leaves of the folder as it reads
 

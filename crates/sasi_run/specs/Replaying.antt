@@ -2,13 +2,13 @@
 use Rattle.std.specs.Prelude.{◌≡◌, ℕ, suc, ◌+◌, ◌≤◌, List, [], ◌∷◌, ◌++◌, length, Some, ⊤}
 use Rattle.sasi_host.specs.declared.fault.ReadFault.{ReadFault}
 use Rattle.sasi_host.specs.Damages.{OnDamage}
-use Rattle.sasi_host.specs.Names.{Bytes, Folder}
+use Rattle.sasi_host.specs.Names.{Bytes, Folder, log_name}
 use Rattle.sasi_host.specs.View.{View, IsThere, IsTold, contents}
 use Rattle.sasi_host.specs.Disk.{Changes, IsKept, Same}
 use Rattle.sasi_model.specs.State.{State, definitions}
 use Rattle.sasi_commitlog.specs.declared.mutation.Mutation.{Mutation}
 use Rattle.sasi_commitlog.specs.Damages.{ShowsLog}
-use Rattle.sasi_commitlog.specs.Format.{IsLog, Tables, log_name}
+use Rattle.sasi_commitlog.specs.Format.{IsLog, Tables}
 use Rattle.sasi_commitlog.specs.Standing.{IsAtLogEnd}
 use Rattle.sasi_manifest.specs.declared.listing.Listing.{Listing}
 use Rattle.sasi_manifest.specs.Listings.{listed_definitions}

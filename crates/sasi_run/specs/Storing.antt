@@ -2,12 +2,11 @@
 use Rattle.std.specs.Prelude.{◌≡◌, ◌⊎◌, IsTrue, ◌+◌, ℕ, false}
 use Rattle.sasi_types.specs.declared.partitioner.Partitioner.{Partitioner}
 use Rattle.sasi_model.specs.State.{State}
-use Rattle.sasi_host.specs.Names.{Folder}
+use Rattle.sasi_host.specs.Names.{Folder, manifest_name}
 use Rattle.sasi_host.specs.declared.name.FileName.{FileName}
 use Rattle.sasi_host.specs.View.{IsAbsent, View, Reaches}
 use Rattle.sasi_host.specs.Disk.{Changes}
 use Rattle.sasi_manifest.specs.Consistent.{IsConsistent}
-use Rattle.sasi_manifest.specs.Format.{manifest_name}
 use Rattle.sasi_manifest.specs.declared.listing.Listing.{Listing}
 use Rattle.sasi_folder.specs.Stands.{Stands}
 use Rattle.sasi_folder.specs.Serving.{BelongTogether, Serves, StandsForEither}

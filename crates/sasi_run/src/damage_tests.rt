@@ -2,7 +2,6 @@
 use crate::Status;
 use crate::runs::{
     LOG, LOG_BYTES, MANIFEST, MANIFEST_BYTES, SCRIPT, SEAL, SELECT, bytes_of, check, folder, part,
-    plain,
 };
 use sasi_host::{FileName, FormatRule, Host, Kind, MemHost, found};
 use std::alloc::{AllocError, Global};
@@ -152,9 +151,9 @@ fn folder_without_a_seal_is_new_or_damaged(rt: HostRuntime) -> Result<(), Fail> 
     let alloc = rt.alloc();
     // Another file than the first manifest and the first segment is damage.
     for foreign in [
-        plain(Kind::Manifest, 2),
-        plain(Kind::Log, 2),
-        plain(Kind::Data, 1),
+        FileName::manifest(2),
+        FileName::log(2),
+        FileName::data(1),
         part(Kind::Index, 1, 1, 1),
         part(Kind::Segment, 1, 1, 1),
     ] {

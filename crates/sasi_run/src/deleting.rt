@@ -2,15 +2,12 @@
 ghost use Rattle.std.specs.Prelude.{◌≡◌, OnOk, false};
 ghost use Rattle.std.specs.List.Sorted.{IsStrictlySortedBy};
 ghost use Rattle.sasi_host.specs.declared.name.FileName.{FileName as AName};
-ghost use Rattle.sasi_host.specs.Names.{name_cmp};
+ghost use Rattle.sasi_host.specs.Names.{name_cmp, log_name, manifest_name};
 ghost use Rattle.sasi_host.specs.View.{DiskCauses, IsAbsent, IsThere};
 ghost use Rattle.sasi_host.specs.Disk.{Changes, Lists, Step};
-ghost use Rattle.sasi_commitlog.specs.Format.{log_name};
-ghost use Rattle.sasi_manifest.specs.Format.{manifest_name};
 ghost use Rattle.sasi_run.specs.Deletion.{DeletedUnless, Deletes, has_segment, keeps};
 
-use crate::seals::seal_file;
-use sasi_host::{Failed, FileName, Host, Kind};
+use sasi_host::{Failed, FileName, Host};
 
 /// Which files stay where the others of a folder are deleted.
 #[derive(Clone, Copy)]
@@ -57,8 +54,8 @@ fn is_kept(keep: Keep, name: FileName) -> bool
             floor,
             last,
         } => {
-            name == manifest_file(number)
-                || name == seal_file(number)
+            name == FileName::manifest(number)
+                || name == FileName::seal(number)
                 || is_segment(name, floor, last)
         }
     }
@@ -68,29 +65,5 @@ fn is_kept(keep: Keep, name: FileName) -> bool
 fn is_segment(name: FileName, floor: u32, last: u32) -> bool
     ensures { result ≡ has_segment floor last name }
 {
-    name == log_file(name.number) && floor <= name.number && name.number <= last
-}
-
-/// The name of the manifest of this number.
-pub fn manifest_file(number: u32) -> FileName
-    ensures { result ≡ manifest_name number }
-{
-    FileName {
-        kind: Kind::Manifest,
-        number,
-        index: 0,
-        part: 0,
-    }
-}
-
-/// The name of the segment of the log with this number.
-pub fn log_file(number: u32) -> FileName
-    ensures { result ≡ log_name number }
-{
-    FileName {
-        kind: Kind::Log,
-        number,
-        index: 0,
-        part: 0,
-    }
+    name == FileName::log(name.number) && floor <= name.number && name.number <= last
 }

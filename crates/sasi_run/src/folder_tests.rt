@@ -2,9 +2,9 @@
 use crate::Status;
 use crate::runs::{
     LOG, LOG_BYTES, MANIFEST, MANIFEST_BYTES, SCRIPT, SEAL, SELECT, bytes_of, check, folder, part,
-    plain, run_script,
+    run_script,
 };
-use sasi_host::{BytePick, FormatRule, Host, Kind, MemHost, NamePick, Pick, found};
+use sasi_host::{BytePick, FileName, FormatRule, Host, Kind, MemHost, NamePick, Pick, found};
 use std::alloc::Global;
 use std::process::Abort;
 use std::test::Fail;
@@ -246,8 +246,8 @@ fn put_manifest(
 ) -> Result<(), Fail> {
     let patches = [(15, number), (30, floor), (34, last), (64, since)];
     let bytes = patched(alloc, &MANIFEST_BYTES, &patches)?;
-    host.put(plain(Kind::Manifest, number.into()), &bytes)?;
-    host.put(plain(Kind::Seal, number.into()), &[])?;
+    host.put(FileName::manifest(number.into()), &bytes)?;
+    host.put(FileName::seal(number.into()), &[])?;
     Ok(())
 }
 
@@ -255,7 +255,7 @@ fn put_manifest(
 fn put_segments(alloc: Global, host: &mut MemHost) -> Result<(), Fail> {
     for (segment, digit) in [(1, b'1'), (2, b'2'), (3, b'3')] {
         let bytes = patched(alloc, &LOG_BYTES, &[(15, segment), (28, digit)])?;
-        host.put(plain(Kind::Log, segment.into()), &bytes)?;
+        host.put(FileName::log(segment.into()), &bytes)?;
     }
     Ok(())
 }
@@ -281,7 +281,7 @@ fn live_segments_are_replayed_and_others_deleted(rt: HostRuntime) -> Result<(), 
         check(&rt, alloc, SELECT, &mut host, Status::Done, output)?;
         for segment in 1..4 {
             let is_live = listed.0 <= segment && segment <= listed.1;
-            let file = plain(Kind::Log, segment.into());
+            let file = FileName::log(segment.into());
             assert_eq!(rt; host.bytes(file).is_some(), is_live);
         }
     }
@@ -295,17 +295,17 @@ fn listed_files_are_missed_by_name(rt: HostRuntime) -> Result<(), Fail> {
         let mut host = MemHost::new(alloc);
         put_manifest(alloc, &mut host, 1, (1, 3, 3))?;
         for segment in 1..missing {
-            host.put(plain(Kind::Log, segment), &LOG_BYTES)?;
+            host.put(FileName::log(segment), &LOG_BYTES)?;
         }
-        let damage = found(plain(Kind::Log, missing), 0, FormatRule::Missing, &[]);
+        let damage = found(FileName::log(missing), 0, FormatRule::Missing, &[]);
         check(&rt, alloc, SELECT, &mut host, Status::Damaged(damage), "")?;
     }
-    let seal = plain(Kind::Seal, 2);
+    let seal = FileName::seal(2);
     let mut host = folder(
         alloc,
         &[(MANIFEST, &MANIFEST_BYTES), (seal, b""), (SEAL, b"")],
     )?;
-    let damage = found(plain(Kind::Manifest, 2), 0, FormatRule::Missing, &[]);
+    let damage = found(FileName::manifest(2), 0, FormatRule::Missing, &[]);
     check(&rt, alloc, SELECT, &mut host, Status::Damaged(damage), "")
 }
 
@@ -315,8 +315,8 @@ fn highest_seal_counts_and_leftovers_are_deleted(rt: HostRuntime) -> Result<(), 
     let mut host = folder(
         alloc,
         &[
-            (plain(Kind::Manifest, 11), b"torn"),
-            (plain(Kind::Data, 1), b""),
+            (FileName::manifest(11), b"torn"),
+            (FileName::data(1), b""),
             (part(Kind::Index, 1, 1, 1), b"left"),
             (part(Kind::Segment, 1, 1, 1), b"left"),
         ],
@@ -331,7 +331,7 @@ fn highest_seal_counts_and_leftovers_are_deleted(rt: HostRuntime) -> Result<(), 
     }
     assert_eq!(rt; statements_in(alloc, &mut host)?, 2);
     let names = host.list(alloc)?;
-    let kept = [plain(Kind::Manifest, 10), plain(Kind::Seal, 10), LOG];
+    let kept = [FileName::manifest(10), FileName::seal(10), LOG];
     assert_eq!(rt; names.as_slice(), kept.as_slice());
     Ok(())
 }
@@ -358,7 +358,7 @@ fn statements_are_appended_to_what_is_there(rt: HostRuntime) -> Result<(), Fail>
     check(&rt, alloc, script, &mut host, Status::Done, "ok\nok\n")?;
     let manifest = bytes_of(&host, MANIFEST)?;
     assert_eq!(rt; manifest.get(65..).ok_or("cut")?, NEW_TABLE.as_slice());
-    let last = bytes_of(&host, plain(Kind::Log, 3))?;
+    let last = bytes_of(&host, FileName::log(3))?;
     assert_eq!(rt; last.get(66..).ok_or("cut")?, NEW_ROW.as_slice());
     assert_eq!(rt; bytes_of(&host, LOG)?, LOG_BYTES.as_slice());
     Ok(())

@@ -13,7 +13,7 @@ ghost use Rattle.sasi_folder.specs.Stands.{IsFresh};
 ghost use Rattle.sasi_run.specs.NewFolder.{IsForeign, SparesFresh, StandsEmpty, is_first};
 ghost use Rattle.sasi_run.specs.Storing.{IsReady, ServesStore, Somehow};
 
-use crate::deleting::{Keep, delete_others, log_file, manifest_file};
+use crate::deleting::{Keep, delete_others};
 use crate::store::Store;
 use sasi_commitlog::Log;
 use sasi_host::{Damage, FileName, FormatRule, Host, HostFault, ReadFault, found};
@@ -64,7 +64,7 @@ fn check_new(names: &[FileName]) -> Result<(), Damage>
 fn is_first(name: FileName) -> bool
     ensures { result ≡ is_first name }
 {
-    name == manifest_file(1) || name == log_file(1)
+    name == FileName::manifest(1) || name == FileName::log(1)
 }
 
 // Deletes what is there, and makes the store.

@@ -2,12 +2,13 @@
 ghost use Rattle.std.specs.Prelude.{◌≡◌, [], map, IfErr, IfOk, IsTrue, OnErr, OnOk, ◌+◌, ◌≤◌};
 ghost use Rattle.sasi_host.specs.View.{IsThere, Reaches};
 ghost use Rattle.sasi_host.specs.Disk.{Changes, Same};
+ghost use Rattle.sasi_host.specs.Names.{log_name};
 ghost use Rattle.sasi_gated.specs.Causes.{ReadingCauses};
 ghost use Rattle.sasi_model.specs.State.{definitions};
 ghost use Rattle.sasi_model.specs.Changes.{empty_table};
 ghost use Rattle.sasi_schema.specs.Defined.{definition};
 ghost use Rattle.sasi_schema.specs.Numbers.{RisesFrom};
-ghost use Rattle.sasi_commitlog.specs.Format.{IsMutationOf, log_name};
+ghost use Rattle.sasi_commitlog.specs.Format.{IsMutationOf};
 ghost use Rattle.sasi_manifest.specs.ListedTables.{listed};
 ghost use Rattle.sasi_manifest.specs.Listings.{CanStart, listed_definitions};
 ghost use Rattle.sasi_manifest.specs.Naming.{AreApart};

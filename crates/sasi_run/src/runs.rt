@@ -38,15 +38,6 @@ pub fn run_script(
     run_words(alloc, &["folder", "script"], &mut source, host)
 }
 
-pub fn plain(kind: Kind, number: u32) -> FileName {
-    FileName {
-        kind,
-        number,
-        index: 0,
-        part: 0,
-    }
-}
-
 pub fn part(kind: Kind, number: u32, index: u32, part: u32) -> FileName {
     FileName {
         kind,

@@ -2,16 +2,14 @@
 ghost use Rattle.std.specs.Prelude.{◌≡◌, ◌+◌, ◌≤◌, Contains, IfErr, IfOk, IsTrue, List, OnOk, Some, false, true, ℕ};
 ghost use Rattle.std.specs.List.Sorted.{IsStrictlySortedBy};
 ghost use Rattle.sasi_host.specs.Damages.{OnDamage};
-ghost use Rattle.sasi_host.specs.Names.{Folder, name_cmp};
+ghost use Rattle.sasi_host.specs.Names.{Folder, name_cmp, log_name, manifest_name};
 ghost use Rattle.sasi_host.specs.View.{IsThere, Reaches};
 ghost use Rattle.sasi_host.specs.Disk.{Changes, Lists, Same};
 ghost use Rattle.sasi_host.specs.Moves.{Each};
 ghost use Rattle.sasi_gated.specs.Causes.{ReadingCauses};
 ghost use Rattle.sasi_commitlog.specs.declared.mutation.Mutation.{Mutation};
-ghost use Rattle.sasi_commitlog.specs.Format.{log_name};
 ghost use Rattle.sasi_manifest.specs.declared.listing.Listing.{Listing as AListing};
 ghost use Rattle.sasi_manifest.specs.Consistent.{IsConsistent};
-ghost use Rattle.sasi_manifest.specs.Format.{manifest_name};
 ghost use Rattle.sasi_manifest.specs.Reading.{ReadsListing, StandsWhereKept};
 ghost use Rattle.sasi_folder.specs.Damages.{ShowsListed};
 ghost use Rattle.sasi_folder.specs.Stands.{Holds};
@@ -20,7 +18,7 @@ ghost use Rattle.sasi_run.specs.Replaying.{AreThere};
 ghost use Rattle.sasi_run.specs.SealedFolder.{SparesStore, TellsMissing, TellsSegment, none_kept};
 ghost use Rattle.sasi_run.specs.Storing.{HasNoOther};
 
-use crate::deleting::{Keep, delete_others, log_file, manifest_file};
+use crate::deleting::{Keep, delete_others};
 use sasi_host::{Damage, FileName, FormatRule, Host, ReadFault, found};
 use sasi_manifest::Manifest;
 use std::alloc::Global;
@@ -88,7 +86,7 @@ fn read_listed<H: Host>(
     ensures changes { Changes Same (H.view host.old) (H.view host.new) }
     ensures causes { ReadingCauses (H.view host.old) (H.view host.new) result }
 {
-    check_there(names, manifest_file(number))?;
+    check_there(names, FileName::manifest(number))?;
     let manifest = Manifest::open(alloc, host, number)?;
     let listing = manifest.listing();
     check_segments(names, listing.floor, listing.last)?;
@@ -102,9 +100,9 @@ fn check_segments(names: &[FileName], floor: u32, last: u32) -> Result<(), Damag
     ensures missing { IfErr result (TellsSegment names.now floor last) }
 {
     for segment in floor..last {
-        check_there(names, log_file(segment))?;
+        check_there(names, FileName::log(segment))?;
     }
-    check_there(names, log_file(last))?;
+    check_there(names, FileName::log(last))?;
     Ok(())
 }
 

@@ -1,10 +1,10 @@
 // The seals among the names of a folder.
 ghost use Rattle.std.specs.Prelude.{◌≡◌, ◌++◌, ◌∷◌, [], List};
 ghost use Rattle.sasi_host.specs.declared.name.FileName.{FileName as AName};
-ghost use Rattle.sasi_manifest.specs.Format.{seal_name};
+ghost use Rattle.sasi_host.specs.Names.{seal_name};
 ghost use Rattle.sasi_run.specs.Opening.{IsHighestSeal, IsSealNumber};
 
-use sasi_host::{FileName, Kind};
+use sasi_host::FileName;
 
 /// The number of the highest seal among the names, if one is there.
 pub fn highest_seal(names: &[FileName]) -> Option<u32>
@@ -39,21 +39,9 @@ fn higher(highest: Option<u32>, name: FileName) -> Option<u32>
 fn seal_number(name: FileName) -> Option<u32>
     ensures { IsSealNumber name result }
 {
-    if name == seal_file(name.number) {
+    if name == FileName::seal(name.number) {
         Some(name.number)
     } else {
         None
-    }
-}
-
-/// The name of the seal of this number.
-pub fn seal_file(number: u32) -> FileName
-    ensures { result ≡ seal_name number }
-{
-    FileName {
-        kind: Kind::Seal,
-        number,
-        index: 0,
-        part: 0,
     }
 }

@@ -7,12 +7,7 @@ use std::test::Fail;
 #[test]
 fn damage_is_told_in_one_line(rt: HostRuntime) -> Result<(), Fail> {
     let alloc = rt.alloc();
-    let manifest = FileName {
-        kind: Kind::Manifest,
-        number: 1,
-        index: 0,
-        part: 0,
-    };
+    let manifest = FileName::manifest(1);
     let index = FileName {
         kind: Kind::Index,
         number: 1,

@@ -24,18 +24,18 @@ returns-in_err-first-clause-changes g c = unmade_touches (g.H.Host.view c.args.h
 pub returns-in_err-gated-clause-any_moment : goal.returns-in_err-gated-clause-any_moment
 returns-in_err-gated-clause-any_moment g c made is unsealed =
     made_file _ (g.H.Host.view c.create.new.host) c.args.number made (g.met.H.Host.sound c.args.host.now) unsealed
-    (subst (λ (f : FileName). Changes (Step f Anyhow) (g.H.Host.view c.args.host.now) (g.H.Host.view c.create.new.host)) c.manifest_name.ensures c.create.ensures.changes)
+    (subst (λ (f : FileName). Changes (Step f Anyhow) (g.H.Host.view c.args.host.now) (g.H.Host.view c.create.new.host)) c.manifest.ensures c.create.ensures.changes)
 
 pub returns-in_err-gated-clause-changes : goal.returns-in_err-gated-clause-changes
 returns-in_err-gated-clause-changes g c =
     made_file_touches _ (g.H.Host.view c.create.new.host) c.args.number
-    (subst (λ (f : FileName). Changes (Step f Anyhow) (g.H.Host.view c.args.host.now) (g.H.Host.view c.create.new.host)) c.manifest_name.ensures c.create.ensures.changes)
+    (subst (λ (f : FileName). Changes (Step f Anyhow) (g.H.Host.view c.args.host.now) (g.H.Host.view c.create.new.host)) c.manifest.ensures c.create.ensures.changes)
 
 pub returns-in_err-make_seal-clause-any_moment : goal.returns-in_err-make_seal-clause-any_moment
 returns-in_err-make_seal-clause-any_moment g c made is unsealed =
-    let first = subst (λ (f : FileName). Changes (Step f Anyhow) (g.H.Host.view c.args.host.now) (g.H.Host.view c.create.new.host)) c.manifest_name.ensures c.create.ensures.changes in
+    let first = subst (λ (f : FileName). Changes (Step f Anyhow) (g.H.Host.view c.args.host.now) (g.H.Host.view c.create.new.host)) c.manifest.ensures c.create.ensures.changes in
     let payload = c.in_ok-first.first.record in
-    let end = subst (λ (f : FileName). IsAtEnd (g.H.Host.view c.create.new.host) f c.in_ok-gated.gated.at (payload ∷ [])) c.manifest_name.ensures c.in_ok-gated.ensures.ok in
+    let end = subst (λ (f : FileName). IsAtEnd (g.H.Host.view c.create.new.host) f c.in_ok-gated.gated.at (payload ∷ [])) c.manifest.ensures c.in_ok-gated.ensures.ok in
     let items = c.deref.ensures.value ∙ c.in_ok-edits.ensures in
     let is_payload = c.in_ok-first.ensures.record ∙ ap encoded items in
     made_both (g.H.Host.view c.args.host.now) (g.H.Host.view c.create.new.host) (g.H.Host.view c.make_seal.new.host) c.args.number c.in_ok-gated.gated.at made (payload ∷ []) (g.met.H.Host.sound c.args.host.now) (g.met.H.Host.sound c.create.new.host) unsealed first end (new_builds c.args.listing.now made payload c.requires.apply c.requires.short is_payload is) c.make_seal.ensures.changes
@@ -43,13 +43,13 @@ returns-in_err-make_seal-clause-any_moment g c made is unsealed =
 pub returns-in_err-make_seal-clause-changes : goal.returns-in_err-make_seal-clause-changes
 returns-in_err-make_seal-clause-changes g c =
     made_both_touches (g.H.Host.view c.args.host.now) (g.H.Host.view c.create.new.host) (g.H.Host.view c.make_seal.new.host) c.args.number
-    (subst (λ (f : FileName). Changes (Step f Anyhow) (g.H.Host.view c.args.host.now) (g.H.Host.view c.create.new.host)) c.manifest_name.ensures c.create.ensures.changes) c.make_seal.ensures.changes
+    (subst (λ (f : FileName). Changes (Step f Anyhow) (g.H.Host.view c.args.host.now) (g.H.Host.view c.create.new.host)) c.manifest.ensures c.create.ensures.changes) c.make_seal.ensures.changes
 
 pub returns-clause-any_moment : goal.returns-clause-any_moment
 returns-clause-any_moment g c made is unsealed =
-    let first = subst (λ (f : FileName). Changes (Step f Anyhow) (g.H.Host.view c.args.host.now) (g.H.Host.view c.create.new.host)) c.manifest_name.ensures c.create.ensures.changes in
+    let first = subst (λ (f : FileName). Changes (Step f Anyhow) (g.H.Host.view c.args.host.now) (g.H.Host.view c.create.new.host)) c.manifest.ensures c.create.ensures.changes in
     let payload = c.in_ok-first.first.record in
-    let end = subst (λ (f : FileName). IsAtEnd (g.H.Host.view c.create.new.host) f c.in_ok-gated.gated.at (payload ∷ [])) c.manifest_name.ensures c.in_ok-gated.ensures.ok in
+    let end = subst (λ (f : FileName). IsAtEnd (g.H.Host.view c.create.new.host) f c.in_ok-gated.gated.at (payload ∷ [])) c.manifest.ensures c.in_ok-gated.ensures.ok in
     let items = c.deref.ensures.value ∙ c.in_ok-edits.ensures in
     let is_payload = c.in_ok-first.ensures.record ∙ ap encoded items in
     made_both (g.H.Host.view c.args.host.now) (g.H.Host.view c.create.new.host) (g.H.Host.view c.make_seal.new.host) c.args.number c.in_ok-gated.gated.at made (payload ∷ []) (g.met.H.Host.sound c.args.host.now) (g.met.H.Host.sound c.create.new.host) unsealed first end (new_builds c.args.listing.now made payload c.requires.apply c.requires.short is_payload is) c.make_seal.ensures.changes
@@ -57,12 +57,12 @@ returns-clause-any_moment g c made is unsealed =
 pub returns-clause-changes : goal.returns-clause-changes
 returns-clause-changes g c =
     made_both_touches (g.H.Host.view c.args.host.now) (g.H.Host.view c.create.new.host) (g.H.Host.view c.make_seal.new.host) c.args.number
-    (subst (λ (f : FileName). Changes (Step f Anyhow) (g.H.Host.view c.args.host.now) (g.H.Host.view c.create.new.host)) c.manifest_name.ensures c.create.ensures.changes) c.make_seal.ensures.changes
+    (subst (λ (f : FileName). Changes (Step f Anyhow) (g.H.Host.view c.args.host.now) (g.H.Host.view c.create.new.host)) c.manifest.ensures c.create.ensures.changes) c.make_seal.ensures.changes
 
 pub returns-clause-ok : goal.returns-clause-ok
 returns-clause-ok g c =
     let payload = c.in_ok-first.first.record in
-    let end = subst (λ (f : FileName). IsAtEnd (g.H.Host.view c.create.new.host) f c.in_ok-gated.gated.at (payload ∷ [])) c.manifest_name.ensures c.in_ok-gated.ensures.ok in
+    let end = subst (λ (f : FileName). IsAtEnd (g.H.Host.view c.create.new.host) f c.in_ok-gated.gated.at (payload ∷ [])) c.manifest.ensures c.in_ok-gated.ensures.ok in
     let items = c.deref.ensures.value ∙ c.in_ok-edits.ensures in
     let is_payload = c.in_ok-first.ensures.record ∙ ap encoded items in
     let rewritten = subst (λ (l : List Edit). Some c.in_ok-first.first.listing ≡ counted (encoded l) (after_all None l)) items c.in_ok-first.ensures.listing in
@@ -71,11 +71,11 @@ returns-clause-ok g c =
 pub returns-clause-room : goal.returns-clause-room
 returns-clause-room g c =
     room_made (g.H.Host.view c.create.new.host) (g.H.Host.view c.make_seal.new.host) c.args.number (c.in_ok-gated.gated.at + 1) c.make_seal.ensures.changes
-    (subst (λ (f : FileName). Reaches (g.H.Host.view c.create.new.host) f (c.in_ok-gated.gated.at + 1)) (c.in_ok-gated.ensures.file ∙ c.manifest_name.ensures) c.in_ok-gated.ensures.room)
+    (subst (λ (f : FileName). Reaches (g.H.Host.view c.create.new.host) f (c.in_ok-gated.gated.at + 1)) (c.in_ok-gated.ensures.file ∙ c.manifest.ensures) c.in_ok-gated.ensures.room)
 
 pub returns-clause-in_hand : goal.returns-clause-in_hand
 returns-clause-in_hand g c =
     let items = c.deref.ensures.value ∙ c.in_ok-edits.ensures in
     let rewritten = subst (λ (l : List Edit). Some c.in_ok-first.first.listing ≡ counted (encoded l) (after_all None l)) items c.in_ok-first.ensures.listing in
     let gated = c.in_ok-gated.ensures in
-    new_in_hand c.args.number c.in_ok-gated.gated c.args.listing.now c.in_ok-first.first.listing c.manifest_name.result c.in_ok-first.first.record c.requires.apply (c.in_ok-first.ensures.record ∙ ap encoded items) rewritten c.manifest_name.ensures gated.file gated.place gated.fits gated.usable
+    new_in_hand c.args.number c.in_ok-gated.gated c.args.listing.now c.in_ok-first.first.listing c.manifest.result c.in_ok-first.first.record c.requires.apply (c.in_ok-first.ensures.record ∙ ap encoded items) rewritten c.manifest.ensures gated.file gated.place gated.fits gated.usable

@@ -4,4 +4,4 @@ use Rattle.sasi_host.specs.Moves.{then_same}
 use Rattle.sasi_manifest.proofs.seal.make_seal.Goals as goal
 
 pub returns-clause-changes : goal.returns-clause-changes
-returns-clause-changes g c = rw (sym c.seal_name.ensures) (then_same _ _ _ (Step c.seal_name.result MaybeCreated) c.create.ensures.changes c.sync_folder.ensures.changes)
+returns-clause-changes g c = rw (sym c.seal.ensures) (then_same _ _ _ (Step c.seal.result MaybeCreated) c.create.ensures.changes c.sync_folder.ensures.changes)

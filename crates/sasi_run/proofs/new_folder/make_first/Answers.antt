@@ -1,10 +1,10 @@
 use Rattle.std.proofs.Common.{◌+◌, ◌≤◌, ◌^◌, length, sym, subst, arith}
 use Rattle.sasi_host.specs.Disk.{Anyhow, Step}
 use Rattle.sasi_host.specs.Contents.{absent_where, contents_other}
-use Rattle.sasi_commitlog.specs.Format.{log_name}
+use Rattle.sasi_host.specs.Names.{log_name, manifest_name, seal_name}
 use Rattle.sasi_manifest.specs.declared.listing.Listing.{Listing}
 use Rattle.sasi_manifest.specs.Edits.{encoded}
-use Rattle.sasi_manifest.specs.Format.{IsRewritten, manifest_name, seal_name}
+use Rattle.sasi_manifest.specs.Format.{IsRewritten}
 use Rattle.sasi_manifest.specs.Listings.{edits_of}
 use Rattle.sasi_folder.specs.FolderLaws.{kinds_apart}
 use Rattle.sasi_run.specs.declared.store.Store.{Store}

@@ -1,5 +1,5 @@
 use Rattle.std.proofs.Common.{ℕ, ◌≤◌, ◌<◌, Contains}
-use Rattle.sasi_commitlog.specs.Format.{log_name}
+use Rattle.sasi_host.specs.Names.{log_name}
 use Rattle.sasi_run.proofs.sealed_folder.check_segments.Given as goal
 
 -- those so far are there

@@ -3,7 +3,8 @@ use Rattle.sasi_manifest.specs.declared.edit.Edit.{Edit}
 use Rattle.sasi_manifest.specs.Edits.{encoded}
 use Rattle.sasi_folder.specs.Recording.{create_short}
 use Rattle.sasi_manifest.specs.declared.listing.Listing.{Listing}
-use Rattle.sasi_manifest.specs.Format.{IsNext, manifest_name}
+use Rattle.sasi_host.specs.Names.{manifest_name}
+use Rattle.sasi_manifest.specs.Format.{IsNext}
 use Rattle.sasi_run.proofs.Storing.{somehow, stays_somehow, goes_nowhere, create_goes, created_ready, created_serves, edit_of}
 use Rattle.sasi_run.proofs.store.create.Goals as goal
 

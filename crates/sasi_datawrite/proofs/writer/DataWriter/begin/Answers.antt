@@ -1,7 +1,6 @@
 use Rattle.std.proofs.Common.{◌≡◌, ◌++◌, length, true, refl, ◌∙◌, ap, arith}
-use Rattle.sasi_host.specs.Names.{Bytes}
+use Rattle.sasi_host.specs.Names.{Bytes, data_name}
 use Rattle.sasi_host.specs.Contents.{reaches_held}
-use Rattle.sasi_datawrite.specs.Files.{data_name}
 use Rattle.sasi_datawrite.specs.Format.{header}
 use Rattle.sasi_datawrite.specs.Laws.{header_length}
 use Rattle.sasi_host.specs.Moves.{untouched}
@@ -14,9 +13,9 @@ returns-in_err-put_header-clause-changes g c = untouched (g.H.Host.view c.args.h
 pub returns-clause-ok : goal.returns-clause-ok
 returns-clause-ok g c =
     let is : c.deref.result.now ≡ header = c.deref.ensures.value ∙ c.in_ok-put_header.ensures ∙ ap (λ (l : Bytes). l ++ header) c.new-buffer.ensures.items in
-    writing_none (g.H.Host.view c.create_with.new.host) (record { file = c.data_file-file.result; partitioner = c.args.partitioner; pairs = c.new.result; place = 16; latest = 0; usable = true }) c.deref.result.now c.new.ensures refl refl is c.in_ok-create_with.ensures.ok
+    writing_none (g.H.Host.view c.create_with.new.host) (record { file = c.data-file.result; partitioner = c.args.partitioner; pairs = c.new.result; place = 16; latest = 0; usable = true }) c.deref.result.now c.new.ensures refl refl is c.in_ok-create_with.ensures.ok
 
 pub returns-clause-room : goal.returns-clause-room
 returns-clause-room g c =
     let is : c.deref.result.now ≡ header = c.deref.ensures.value ∙ c.in_ok-put_header.ensures ∙ ap (λ (l : Bytes). l ++ header) c.new-buffer.ensures.items in
-    reaches_held (g.H.Host.view c.create_with.new.host) c.data_file-file.result 16 c.deref.result.now (omega (arith, ap (λ (l : Bytes). length l) is, header_length)) c.in_ok-create_with.ensures.ok
+    reaches_held (g.H.Host.view c.create_with.new.host) c.data-file.result 16 c.deref.result.now (omega (arith, ap (λ (l : Bytes). length l) is, header_length)) c.in_ok-create_with.ensures.ok

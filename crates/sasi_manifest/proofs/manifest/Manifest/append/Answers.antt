@@ -1,5 +1,5 @@
 use Rattle.std.proofs.Common.{IsTrue, List, Some, subst, sym}
-use Rattle.sasi_host.specs.Names.{Bytes}
+use Rattle.sasi_host.specs.Names.{Bytes, manifest_name}
 use Rattle.sasi_host.specs.Disk.{Changes, LeftWith, Step}
 use Rattle.sasi_gated.specs.Format.{IsBeforeOrAfter}
 use Rattle.sasi_gated.specs.Reads.{Gains}
@@ -8,7 +8,7 @@ use Rattle.sasi_manifest.specs.declared.edit.Edit.{Edit}
 use Rattle.sasi_manifest.specs.declared.listing.Listing.{Listing as AListing}
 use Rattle.sasi_manifest.specs.Consistent.{IsConsistent}
 use Rattle.sasi_manifest.specs.Edits.{encoded}
-use Rattle.sasi_manifest.specs.Format.{IsNext, manifest_name}
+use Rattle.sasi_manifest.specs.Format.{IsNext}
 use Rattle.sasi_manifest.specs.Listings.{AllApply}
 use Rattle.sasi_manifest.specs.Standing.{Held, IsEither, Stands}
 use Rattle.sasi_manifest.proofs.Moments.{appended, either_listed, next_in_hand, fault_in_hand}
