@@ -33,16 +33,10 @@ pub fn found(rule: FormatRule, at: usize, bytes: &[u8]) -> Broken
     ensures at { result.at ≡ at }
     ensures seen { seen_bytes result.seen ≡ take 8 bytes.now }
 {
-    let mut seen = [0; 8];
-    let len = bytes.len().min(8);
-    seen[..len].copy_from_slice(&bytes[..len]);
     Broken {
         rule,
         at,
-        seen: Seen {
-            bytes: seen,
-            len: len as u8,
-        },
+        seen: Seen::of(bytes),
     }
 }
 

@@ -34,6 +34,21 @@ pub struct Seen {
     pub len: u8,
 }
 
+impl Seen {
+    /// The first eight of these bytes, or all of them where they are fewer.
+    pub fn of(bytes: &[u8]) -> Seen
+        ensures { seen_bytes result ≡ take 8 bytes.now }
+    {
+        let mut seen = [0; 8];
+        let len = bytes.len().min(8);
+        seen[..len].copy_from_slice(&bytes[..len]);
+        Seen {
+            bytes: seen,
+            len: len as u8,
+        }
+    }
+}
+
 /// A rule that a file breaks, where it does so, and what it has there.
 #[derive(Clone, Copy, Debug, PartialEq, Eq)]
 pub struct Damage {
@@ -52,16 +67,11 @@ pub fn found(file: FileName, at: u64, rule: FormatRule, bytes: &[u8]) -> Damage
     ensures rule { result.rule ≡ rule }
     ensures seen { seen_bytes result.seen ≡ bytes.now }
 {
-    let mut seen = [0; 8];
-    seen[..bytes.len()].copy_from_slice(bytes);
     Damage {
         file,
         at,
         rule,
-        seen: Seen {
-            bytes: seen,
-            len: bytes.len() as u8,
-        },
+        seen: Seen::of(bytes),
     }
 }
 

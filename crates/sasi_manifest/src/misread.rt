@@ -1,7 +1,6 @@
 // Why the content of a record isn't read.
 ghost use Rattle.std.specs.Prelude.{◌≡◌, ◌≤◌, ◌^◌, length};
 ghost use Rattle.sasi_manifest.specs.declared.misread.Misread.TheVariants as misread;
-ghost use Rattle.sasi_host.specs.Damages.{seen_bytes};
 ghost use Rattle.sasi_manifest.specs.IsBroken.{IsBroken};
 
 use sasi_host::{FormatRule, Seen};
@@ -37,19 +36,6 @@ pub fn broken(rule: FormatRule, at: usize, bytes: &[u8]) -> Misread
     Misread::Broken {
         rule,
         at,
-        seen: seen_of(bytes),
-    }
-}
-
-// The bytes, as a damage shows them.
-pub fn seen_of(bytes: &[u8]) -> Seen
-    requires { length bytes.now ≤ 8 }
-    ensures { seen_bytes result ≡ bytes.now }
-{
-    let mut seen = [0; 8];
-    seen[..bytes.len()].copy_from_slice(bytes);
-    Seen {
-        bytes: seen,
-        len: bytes.len() as u8,
+        seen: Seen::of(bytes),
     }
 }

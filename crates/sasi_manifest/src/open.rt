@@ -20,10 +20,10 @@ ghost use Rattle.sasi_manifest.specs.Standing.{IsInHand};
 
 use crate::Listing;
 use crate::create::Opened;
-use crate::misread::{Misread, seen_of};
+use crate::misread::Misread;
 use crate::read_record::read_record;
 use sasi_gated::Gated;
-use sasi_host::{Damage, FileName, FormatRule, Host, ReadFault};
+use sasi_host::{Damage, FileName, FormatRule, Host, ReadFault, Seen};
 use std::alloc::Global;
 
 // Reads all records of a manifest.
@@ -96,7 +96,7 @@ fn told(number: u32, before: u64, payload: &[u8], misread: Misread) -> ReadFault
             file,
             at: before + 1,
             rule: FormatRule::Number,
-            seen: seen_of(&(payload.len() as u32).to_be_bytes()),
+            seen: Seen::of(&(payload.len() as u32).to_be_bytes()),
         }),
         Misread::Broken { rule, at, seen } => ReadFault::Damaged(Damage {
             file,
@@ -118,6 +118,6 @@ fn empty(number: u32) -> Damage
         file: FileName::manifest(number),
         at: 16,
         rule: FormatRule::Number,
-        seen: seen_of(&[0]),
+        seen: Seen::of(&[0]),
     }
 }
