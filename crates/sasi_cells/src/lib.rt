@@ -4,6 +4,7 @@
 
 mod entry;
 mod join;
+mod mutation;
 mod order;
 mod partition;
 mod picked;
@@ -13,6 +14,7 @@ mod search;
 mod tests;
 
 pub use entry::Entry;
+pub use mutation::Mutation;
 pub use order::newer;
 pub use partition::Partition;
 pub use picked::{Picked, PickedColumn, PickedList};

@@ -11,7 +11,7 @@ use Rattle.sasi_host.specs.Damages.{seen_bytes}
 use Rattle.sasi_gated.specs.Gates.{IsAtGate, ReadsAt}
 use Rattle.sasi_host.specs.Damages.{OnDamage}
 use Rattle.sasi_gated.specs.Standing.{IsReading, ReadsOn}
-use Rattle.sasi_commitlog.specs.declared.mutation.Mutation.{Mutation}
+use Rattle.sasi_cells.specs.declared.mutation.Mutation.{Mutation}
 use Rattle.sasi_commitlog.specs.Format.{payload_of, Tables, IsMutationOf}
 use Rattle.sasi_commitlog.specs.Standing.{IsReadingLog}
 use Rattle.sasi_commitlog.specs.Damages.{RecordBreaks, ShowsLog}

@@ -12,7 +12,7 @@ use Rattle.sasi_body.specs.Typed.{IsBodyOf}
 use Rattle.sasi_body.specs.Seen.{IsFaultOf}
 use Rattle.sasi_body.specs.Laws.Undamaged.{no_break, no_other_length}
 use Rattle.sasi_body.specs.Laws.Lengths.{place_within}
-use Rattle.sasi_commitlog.specs.declared.mutation.Mutation.{Mutation}
+use Rattle.sasi_cells.specs.declared.mutation.Mutation.{Mutation}
 use Rattle.sasi_commitlog.specs.Format.{payload_of, types_in, Tables, IsMutationOf}
 use Rattle.sasi_commitlog.specs.Damages.{IsOfTable, PayloadBreaks, PayloadHasOtherLength, IsPayloadFault}
 use Rattle.sasi_commitlog.specs.Damages.PayloadBreaks.{no_table, broken_body}

@@ -11,7 +11,7 @@ use Rattle.sasi_gated.specs.Laws.{records_same}
 use Rattle.sasi_body.specs.Format.{body}
 use Rattle.sasi_body.specs.Typed.{IsBodyOf}
 use Rattle.sasi_body.specs.Laws.Same.{parts_same, bodies_same}
-use Rattle.sasi_commitlog.specs.declared.mutation.Mutation.{Mutation}
+use Rattle.sasi_cells.specs.declared.mutation.Mutation.{Mutation}
 use Rattle.sasi_commitlog.specs.Format.{payload_of, types_in, Tables, IsMutationOf, IsLog}
 
 pub same_32 : (n m : ℕ) (a b : Bytes) → n < 2 ^ 32 → m < 2 ^ 32 → to_be_bytes w32 n ++ a ≡ to_be_bytes w32 m ++ b → (n ≡ m) × (a ≡ b)

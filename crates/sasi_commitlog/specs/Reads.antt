@@ -6,7 +6,7 @@ use Rattle.sasi_host.specs.Names.{Bytes}
 use Rattle.sasi_host.specs.View.{View, IsTold, contents}
 use Rattle.sasi_gated.specs.Gates.{IsAtGate, ReadsAt}
 use Rattle.sasi_host.specs.Damages.{OnDamage}
-use Rattle.sasi_commitlog.specs.declared.mutation.Mutation.{Mutation}
+use Rattle.sasi_cells.specs.declared.mutation.Mutation.{Mutation}
 use Rattle.sasi_commitlog.specs.Format.{payload_of, Tables, IsMutationOf}
 use Rattle.sasi_commitlog.specs.Standing.{IsAtLogEnd, IsReadingLog}
 use Rattle.sasi_commitlog.specs.Damages.{ShowsLog}

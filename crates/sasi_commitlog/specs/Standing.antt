@@ -6,7 +6,7 @@ use Rattle.sasi_host.specs.Names.{Bytes}
 use Rattle.sasi_host.specs.View.{View}
 use Rattle.sasi_gated.specs.Format.{IsBeforeOrAfter}
 use Rattle.sasi_gated.specs.Standing.{IsAtEnd, IsReading}
-use Rattle.sasi_commitlog.specs.declared.mutation.Mutation.{Mutation}
+use Rattle.sasi_cells.specs.declared.mutation.Mutation.{Mutation}
 use Rattle.sasi_commitlog.specs.Format.{payload_of, Tables, IsMutationOf}
 
 -- each image has the segment with these mutations, and the closed gate stands at this place

@@ -4,7 +4,6 @@
 
 mod fault;
 mod log;
-mod mutation;
 mod payload;
 mod segment;
 mod tables;
@@ -12,4 +11,4 @@ mod tables;
 mod tests;
 
 pub use log::Log;
-pub use mutation::Mutation;
+pub use sasi_cells::Mutation;

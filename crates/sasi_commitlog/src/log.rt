@@ -6,7 +6,7 @@ ghost use Rattle.sasi_host.specs.Names.{Bytes, log_name};
 ghost use Rattle.sasi_gated.specs.Causes.{ReadingCauses};
 ghost use Rattle.sasi_gated.specs.Reads.{Begins, IsShown, SparesGated};
 ghost use Rattle.sasi_body.specs.Format.{HasBody};
-ghost use Rattle.sasi_commitlog.specs.declared.mutation.Mutation.{Mutation};
+ghost use Rattle.sasi_cells.specs.declared.mutation.Mutation.{Mutation};
 ghost use Rattle.sasi_commitlog.specs.Format.{IsLog, Tables};
 ghost use Rattle.sasi_commitlog.specs.Standing.{IsAtLogEnd, IsLogBeforeOrAfter, IsReadingLog};
 ghost use Rattle.sasi_commitlog.specs.Reads.{GainsMutation, IsLogShownAt, IsReadOf, ReadsLogGate, ReadsMutations, SparesLog};

@@ -4,7 +4,7 @@ ghost use Rattle.sasi_host.specs.View.{IsThere, ListCauses, Reaches};
 ghost use Rattle.sasi_host.specs.Disk.{Anyhow, Changes, LeftWith, Same, Step};
 ghost use Rattle.sasi_gated.specs.Causes.{ReadingCauses};
 ghost use Rattle.sasi_body.specs.Format.{HasBody};
-ghost use Rattle.sasi_commitlog.specs.declared.mutation.Mutation.{Mutation};
+ghost use Rattle.sasi_cells.specs.declared.mutation.Mutation.{Mutation};
 ghost use Rattle.sasi_commitlog.specs.Standing.{IsAtLogEnd, IsLogBeforeOrAfter};
 ghost use Rattle.sasi_commitlog.specs.Reads.{GainsMutation, IsLogShownAt, IsReadOf, ReadsLogGate, ReadsMutations, SparesLog};
 

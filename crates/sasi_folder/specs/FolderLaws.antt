@@ -6,7 +6,7 @@ use Rattle.sasi_types.specs.declared.partitioner.Partitioner.{Partitioner}
 use Rattle.sasi_host.specs.declared.name.FileName.{FileName}
 use Rattle.sasi_host.specs.Names.{Bytes, Folder, rank, log_name, manifest_name, seal_name}
 use Rattle.sasi_model.specs.State.{State}
-use Rattle.sasi_commitlog.specs.declared.mutation.Mutation.{Mutation}
+use Rattle.sasi_cells.specs.declared.mutation.Mutation.{Mutation}
 use Rattle.sasi_commitlog.specs.Format.{IsLog, Tables}
 use Rattle.sasi_commitlog.specs.Laws.{logs_same}
 use Rattle.sasi_manifest.specs.declared.listing.Listing.{Listing}

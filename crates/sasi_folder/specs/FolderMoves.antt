@@ -13,7 +13,7 @@ use Rattle.sasi_model.specs.State.{Table, place_of}
 use Rattle.sasi_model.specs.Changes.{after_change, empty_table, with_new_table}
 use Rattle.sasi_model.specs.Stored.{types_of}
 use Rattle.sasi_gated.specs.Format.{IsGated}
-use Rattle.sasi_commitlog.specs.declared.mutation.Mutation.{Mutation}
+use Rattle.sasi_cells.specs.declared.mutation.Mutation.{Mutation}
 use Rattle.sasi_commitlog.specs.Format.{IsMutationOf, Tables, payload_of, types_in}
 use Rattle.sasi_commitlog.specs.Standing.{IsLogBeforeOrAfter}
 use Rattle.sasi_manifest.specs.declared.listing.Listing.{Listing}

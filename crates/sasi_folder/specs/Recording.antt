@@ -11,7 +11,7 @@ use Rattle.sasi_model.specs.Changes.{after_change, changed_behind, changed_table
 use Rattle.sasi_model.specs.Refusals.{names_in}
 use Rattle.sasi_model.specs.Stored.{IsBodyOf, types_of}
 use Rattle.sasi_gated.specs.Standing.{Handle}
-use Rattle.sasi_commitlog.specs.declared.mutation.Mutation.{Mutation}
+use Rattle.sasi_cells.specs.declared.mutation.Mutation.{Mutation}
 use Rattle.sasi_commitlog.specs.Format.{IsMutationOf, types_in}
 use Rattle.sasi_manifest.specs.declared.edit.Edit.TheVariants.{CreateTable}
 use Rattle.sasi_manifest.specs.declared.listing.Listing.{Listing}

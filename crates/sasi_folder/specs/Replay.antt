@@ -1,9 +1,10 @@
 -- The state that a listing and the segments of the log make: the listed tables, with the mutations of the segments merged
 -- into them one after another. A table takes the mutations of the segments from its own first one on.
 use Rattle.std.specs.Prelude.{ℕ, zero, suc, Bool, false, nat_le, if◌then◌else◌, List, [], ◌∷◌, map, slice_get, Option, None, Some}
-use Rattle.sasi_model.specs.State.{State, place_of}
-use Rattle.sasi_model.specs.Changes.{after_change, empty_table}
-use Rattle.sasi_commitlog.specs.declared.mutation.Mutation.{Mutation}
+use Rattle.sasi_model.specs.State.{State}
+use Rattle.sasi_model.specs.Changes.{empty_table}
+use Rattle.sasi_cells.specs.declared.mutation.Mutation.{Mutation}
+use Rattle.sasi_cells.specs.Mutations.{written_state}
 use Rattle.sasi_manifest.specs.declared.listing.Listing.{Listing}
 use Rattle.sasi_manifest.specs.Listed.{Listed}
 
@@ -27,7 +28,7 @@ takes tables segment (suc before) = reaches segment (slice_get tables before)
 
 -- the state after a mutation of a segment
 abbrev pub after_mutation : List Listed → ℕ → State → Mutation → State
-after_mutation tables segment s m = if takes tables segment m.table then after_change s m.table (place_of s.partitioner m.key) m.change else s
+after_mutation tables segment s m = if takes tables segment m.table then written_state s m else s
 
 -- after all of a segment
 abbrev pub after_segment : List Listed → ℕ → State → List Mutation → State

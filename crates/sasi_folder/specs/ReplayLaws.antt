@@ -6,7 +6,7 @@ use Rattle.sasi_types.specs.declared.place.Place.{Place}
 use Rattle.sasi_model.specs.Cells.{Partition}
 use Rattle.sasi_model.specs.State.{Definition, State, Table, place_of}
 use Rattle.sasi_model.specs.Changes.{after_change, changed_behind, changed_tables, empty_table, with_new_table}
-use Rattle.sasi_commitlog.specs.declared.mutation.Mutation.{Mutation}
+use Rattle.sasi_cells.specs.declared.mutation.Mutation.{Mutation}
 use Rattle.sasi_manifest.specs.Listed.{Listed}
 use Rattle.sasi_folder.specs.Replay.{after_mutation, after_segment, after_segments, reaches, takes}
 

@@ -7,11 +7,12 @@ use Rattle.sasi_host.specs.Disk.{Anyhow, Changes, LeftWith, Step}
 use Rattle.sasi_host.specs.Contents.{told_files}
 use Rattle.sasi_host.specs.Durability.{kept_other}
 use Rattle.sasi_host.specs.Moves.{Each, at_each_moment}
-use Rattle.sasi_model.specs.State.{State, definitions, place_of}
-use Rattle.sasi_model.specs.Changes.{after_change, with_new_table}
+use Rattle.sasi_model.specs.State.{State, definitions}
+use Rattle.sasi_model.specs.Changes.{with_new_table}
 use Rattle.sasi_gated.specs.Laws.{gated_end}
 use Rattle.sasi_gated.specs.Standing.{Handle}
-use Rattle.sasi_commitlog.specs.declared.mutation.Mutation.{Mutation}
+use Rattle.sasi_cells.specs.declared.mutation.Mutation.{Mutation}
+use Rattle.sasi_cells.specs.Mutations.{written_state}
 use Rattle.sasi_commitlog.specs.Format.{IsMutationOf, payload_of}
 use Rattle.sasi_commitlog.specs.Standing.{IsAtLogEnd, IsLogBeforeOrAfter}
 use Rattle.sasi_manifest.specs.declared.listing.Listing.{Listing}
@@ -56,27 +57,24 @@ some_image v sound told = let files = told_files v told in (files.0, sound.reads
 
 -- ---- a change of a partition
 
-abbrev pub changed : State → Mutation → State
-changed s m = after_change s m.table (place_of s.partitioner m.key) m.change
-
 module _ (a b : View) (sound : IsSound a) (s : State) (manifest : Held) (log : Handle) (serves : Serves a s manifest log) (m : Mutation) (known : IsConsistent manifest.listing) (fits : IsMutationOf (types_listed manifest.listing) m) where
   abbrev pub listing : Listing
   listing = manifest.listing
 
-  change_makes : listing.floor + length (serves.older ++ serves.current ∷ []) ≡ suc listing.last → changed s m ≡ state_made listing (serves.older ++ (serves.current ++ m ∷ []) ∷ [])
-  change_makes live = ap (λ now. changed now m) serves.makes ∙ sym (mutation_made listing serves.older serves.current m known fits live)
+  change_makes : listing.floor + length (serves.older ++ serves.current ∷ []) ≡ suc listing.last → written_state s m ≡ state_made listing (serves.older ++ (serves.current ++ m ∷ []) ∷ [])
+  change_makes live = ap (λ now. written_state now m) serves.makes ∙ sym (mutation_made listing serves.older serves.current m known fits live)
 
   -- **At each moment of an append to the log the folder stands for the state before it, or for that after it.**
-  pub write_moments : Changes (Step (log_name listing.last) (LeftWith (IsLogBeforeOrAfter (log_name listing.last) serves.current m))) a b → Changes (StandsForEither s (changed s m)) a b
+  pub write_moments : Changes (Step (log_name listing.last) (LeftWith (IsLogBeforeOrAfter (log_name listing.last) serves.current m))) a b → Changes (StandsForEither s (written_state s m)) a b
   write_moments change =
-      at_each_moment a b _ (λ x. Holds x manifest.number listing (serves.older ++ serves.current ∷ [])) (λ y. StandsSealed y s ⊎ StandsSealed y (changed s m)) sound change serves.held (λ x y holds step.
+      at_each_moment a b _ (λ x. Holds x manifest.number listing (serves.older ++ serves.current ∷ [])) (λ y. StandsSealed y s ⊎ StandsSealed y (written_state s m)) sound change serves.held (λ x y holds step.
       ⊎_elim
       (λ before. inl (record { number = manifest.number; listing = listing; logs = serves.older ++ serves.current ∷ []; holds = before; makes = serves.makes }))
       (λ later. inr (record { number = manifest.number; listing = listing; logs = serves.older ++ (serves.current ++ m ∷ []) ∷ []; holds = later; makes = change_makes holds.live }))
       (log_appended x y manifest.number listing serves.older serves.current m holds fits step))
 
   -- and the store then serves the state after it
-  pub write_serves : (at : ℕ) → IsTold a → IsAtLogEnd b (log_name listing.last) at (serves.current ++ m ∷ []) → Changes (Step (log_name listing.last) Anyhow) a b → (new : Handle) → new.at ≡ at → Serves b (changed s m) manifest new
+  pub write_serves : (at : ℕ) → IsTold a → IsAtLogEnd b (log_name listing.last) at (serves.current ++ m ∷ []) → Changes (Step (log_name listing.last) Anyhow) a b → (new : Handle) → new.at ≡ at → Serves b (written_state s m) manifest new
   write_serves at told end change new place =
       let before = some_image a sound told in
       let records = gated_end b (log_name listing.last) at (map payload_of (serves.current ++ m ∷ [])) end in

@@ -10,7 +10,6 @@ use Rattle.sasi_model.specs.Stored.{Entry, IsBodyOf, IsCell, IsValueOf, cells_of
 use Rattle.sasi_model.specs.Written.{IsWritten}
 use Rattle.sasi_types.specs.declared.column.ColumnType.{ColumnType}
 use Rattle.sasi_types.specs.declared.column.ColumnType.TheVariants as types
-use Rattle.sasi_types.specs.declared.place.Place.{Place}
 use Rattle.std.specs.List.{AllByRecursion}
 use Rattle.sasi_machine.proofs.Storing.{change_fits, write_rules}
 use Rattle.sasi_model.specs.Changes.{changed_tables, with_new_table}
@@ -19,16 +18,17 @@ use Rattle.sasi_model.specs.Pieces.{Piece}
 use Rattle.sasi_model.specs.Refusals.{Rule, Says, TIME_LIMIT, TableExists, create_rules, first_of, read, refusal, rules}
 use Rattle.sasi_model.specs.State as model
 use Rattle.sasi_model.specs.State.{Column, Definition, State, definition_of, definitions, greatest, greatest_among, key_type, place_of}
-use Rattle.sasi_model.specs.Step.{Stepped, new_definition, step, step_as, stored_of, tables_after, value_given}
+use Rattle.sasi_model.specs.Step.{Stepped, new_definition, step, step_as, tables_after}
 use Rattle.sasi_schema.specs.Defined.{definition}
 use Rattle.sasi_schema.specs.declared.table.Table.{Table}
 use Rattle.sasi_machine.specs.declared.outcome.Outcome.{Outcome}
 use Rattle.sasi_machine.specs.declared.planned.Planned.{Planned}
 use Rattle.sasi_machine.specs.declared.planned.Planned.TheVariants.{Answered, Create, Write as Writes}
-use Rattle.sasi_machine.specs.declared.write.Write.{Write}
+use Rattle.sasi_cells.specs.declared.mutation.Mutation.{Mutation}
 use Rattle.sasi_machine.specs.Contents.{Contents}
 use Rattle.sasi_machine.specs.Outcome.{outcome_of}
-use Rattle.sasi_machine.specs.Plans.{Asks, IsFit, IsNext, Makes, Plans, StepsTo, WritesTo, written_state}
+use Rattle.sasi_cells.specs.Mutations.{written_state}
+use Rattle.sasi_machine.specs.Plans.{Asks, IsFit, IsNext, Makes, Plans, StepsTo, WritesTo}
 use Rattle.sasi_machine.specs.Tables.{AreContents, IsKept, IsRoomFor, IsWrittenAt, state_of, table_with, tables_of, written}
 use Rattle.sasi_machine.specs.Taken.{Takes}
 use Rattle.sasi_machine.specs.Writes.{IsWrite, IsWriting, key_in, table_named}
@@ -48,10 +48,10 @@ unfolding refusal
 no_rule p ds cs g statement kept none = sym (ap first_of (rules_kept p ds cs g statement kept)) ∙ none
 
 -- a write is known by what is kept
-kept_write : (p : Partitioner) (ds : List Definition) (cs : List Contents) (g : ℕ) (statement : Statement) (w : Write) → IsKept ds cs g → IsWrite ds p g statement w → IsWrite (definitions (tables_of ds cs)) p (greatest (state_of p ds cs)) statement w
+kept_write : (p : Partitioner) (ds : List Definition) (cs : List Contents) (g : ℕ) (statement : Statement) (w : Mutation) → IsKept ds cs g → IsWrite ds g statement w → IsWrite (definitions (tables_of ds cs)) (greatest (state_of p ds cs)) statement w
 kept_write p ds cs g statement w kept write =
-    subst (λ (tables : List Definition). IsWrite tables p (greatest (state_of p ds cs)) statement w) (sym (definitions_of ds cs kept.held))
-    (subst (λ (time : ℕ). IsWrite ds p time statement w) (sym (greatest_kept p ds cs g kept)) write)
+    subst (λ (tables : List Definition). IsWrite tables (greatest (state_of p ds cs)) statement w) (sym (definitions_of ds cs kept.held))
+    (subst (λ (time : ℕ). IsWrite ds time statement w) (sym (greatest_kept p ds cs g kept)) write)
 
 -- ---- CREATE TABLE
 
@@ -66,23 +66,23 @@ create_asks p ds cs g table columns keys t reply_old reply_new kept none is numb
 -- ---- writes
 
 -- the tables after a write are those of the changed contents
-written_tables : (ds : List Definition) (cs : List Contents) (w : Write) (c : Contents) → AreContents ds cs → 0 < w.table → slice_get cs (w.table - 1) ≡ Some c → changed_tables w.table w.place w.change (tables_of ds cs) ≡ tables_of ds (set cs (w.table - 1) (written w c))
-written_tables ds cs w c held some got = by w.table (omega arith) some
+written_tables : (p : Partitioner) (ds : List Definition) (cs : List Contents) (w : Mutation) (c : Contents) → AreContents ds cs → 0 < w.table → slice_get cs (w.table - 1) ≡ Some c → changed_tables w.table (place_of p w.key) w.change (tables_of ds cs) ≡ tables_of ds (set cs (w.table - 1) (written p w c))
+written_tables p ds cs w c held some got = by w.table (omega arith) some
   where
-    by : (number : ℕ) → number ≡ suc (w.table - 1) → 0 < number → changed_tables number w.place w.change (tables_of ds cs) ≡ tables_of ds (set cs (w.table - 1) (written w c))
+    by : (number : ℕ) → number ≡ suc (w.table - 1) → 0 < number → changed_tables number (place_of p w.key) w.change (tables_of ds cs) ≡ tables_of ds (set cs (w.table - 1) (written p w c))
     by zero is some = absurd (omega arith)
     by (suc at) is some =
         let same : at ≡ w.table - 1 = omega arith in
-        rw same (changed_at ds cs (w.table - 1) w.place w.change c held got (written w c) refl)
+        rw same (changed_at ds cs (w.table - 1) (place_of p w.key) w.change c held got (written p w c) refl)
 
-pub write_asks : (p : Partitioner) (ds : List Definition) (cs : List Contents) (g : ℕ) (statement : Statement) (w : Write) (reply_old reply_new : List ℕ) → IsKept ds cs g → IsWriting statement → IsWrite ds p g statement w → first_of (rules ds g statement) ≡ None
+pub write_asks : (p : Partitioner) (ds : List Definition) (cs : List Contents) (g : ℕ) (statement : Statement) (w : Mutation) (reply_old reply_new : List ℕ) → IsKept ds cs g → IsWriting statement → IsWrite ds g statement w → first_of (rules ds g statement) ≡ None
     → reply_new ≡ reply_old ++ ok_line → Asks (state_of p ds cs) statement reply_old reply_new (Writes w)
 write_asks p ds cs g statement w reply_old reply_new kept writing write none reply_is =
     let s = state_of p ds cs in
     let h = is_held ds cs (table_named statement) w.table write.definition kept.held write.number write.found in
-    let new = set cs (w.table - 1) (written w h.contents) in
-    let at : IsWrittenAt cs w new = (λ c got. let same : h.contents ≡ c = (let e : Some h.contents ≡ Some c = sym h.got ∙ got in cc) in ap (λ (c : Contents). set cs (w.table - 1) (written w c)) same) in
-    let tables : changed_tables w.table w.place w.change s.tables ≡ tables_after s statement = written_tables ds cs w h.contents kept.held h.some h.got ∙ write_tables p ds cs new g statement w kept writing write at in (
+    let new = set cs (w.table - 1) (written p w h.contents) in
+    let at : IsWrittenAt p cs w new = (λ c got. let same : h.contents ≡ c = (let e : Some h.contents ≡ Some c = sym h.got ∙ got in cc) in ap (λ (c : Contents). set cs (w.table - 1) (written p w c)) same) in
+    let tables : changed_tables w.table (place_of p w.key) w.change s.tables ≡ tables_after s statement = written_tables p ds cs w h.contents kept.held h.some h.got ∙ write_tables p ds cs new g statement w kept writing write at in (
       takes p ds cs g statement (written_state s w) reply_old reply_new (outcome_of None) kept none
           (ap (λ (tables : List model.Table). record { partitioner = p; tables = tables }) tables)
           (reply_is ∙ ap (λ line. reply_old ++ line) (sym (answers_ok s statement writing)))
@@ -114,20 +114,17 @@ body_limit : (types : List ColumnType) (key : List ℕ) (change : Partition) →
 body_limit types key change body = omega (arith, body.has.deleted, cells_limit change.deleted (cells_of change) body.has.cells)
 
 -- a write that was planned is fit
-pub write_is_fit : (p : Partitioner) (ds : List Definition) (cs : List Contents) (g : ℕ) (statement : Statement) (w : Write) → IsKept ds cs g → IsWriting statement → IsWritten statement → first_of (rules ds g statement) ≡ None → IsWrite ds p g statement w → IsFit (state_of p ds cs) w
+pub write_is_fit : (p : Partitioner) (ds : List Definition) (cs : List Contents) (g : ℕ) (statement : Statement) (w : Mutation) → IsKept ds cs g → IsWriting statement → IsWritten statement → first_of (rules ds g statement) ≡ None → IsWrite ds g statement w → IsFit (state_of p ds cs) w
 write_is_fit p ds cs g statement w kept writing written none write =
     let d = write.definition in
     let h = is_held ds cs (table_named statement) w.table d kept.held write.number write.found in
     let change = write.written.change in
-    let bytes = stored_of (value_given (key_type d) (key_in d statement)) in
-    let key : w.place.key ≡ bytes = ap (λ (q : Place). q.key) change.place in
     let fits = change_fits d g statement write.written.time writing written write.key_is_there write.few write.written.time_is.above write.written.time_is.limit (found_rules ds g statement d writing write.found none) in
     record {
       some = h.some;
       table = table_with d h.contents;
       there = h.there.numbered;
-      place = change.place ∙ ap (place_of p) (sym key);
-      body = rw (key, change.change_is) fits;
+      body = rw (change.key_is, change.change_is) fits;
     }
   where
     found_rules : (ds : List Definition) (g : ℕ) (statement : Statement) (d : Definition) → IsWriting statement → definition_of (table_named statement) ds ≡ Some d → first_of (rules ds g statement) ≡ None → first_of (write_rules g statement d) ≡ None
@@ -138,7 +135,7 @@ write_is_fit p ds cs g statement w kept writing written none write =
     found_rules ds g (Query select) d writing found none = absurd writing
 
 -- there is room for a write that is fit
-pub fit_room : (p : Partitioner) (ds : List Definition) (cs : List Contents) (g : ℕ) (w : Write) → IsKept ds cs g → IsFit (state_of p ds cs) w → IsRoomFor cs w
+pub fit_room : (p : Partitioner) (ds : List Definition) (cs : List Contents) (g : ℕ) (w : Mutation) → IsKept ds cs g → IsFit (state_of p ds cs) w → IsRoomFor cs w
 fit_room p ds cs g w kept fit =
     let held = contents_at ds cs (w.table - 1) fit.table kept.held fit.there in
     record {
@@ -146,27 +143,27 @@ fit_room p ds cs g w kept fit =
       inside = omega (arith, fit.some, contents_below cs (w.table - 1) held.0 held.1);
       stored = λ c got.
           let same : held.0 ≡ c = (let e : Some held.0 ≡ Some c = sym held.1 ∙ got in cc) in
-          subst (λ kind. IsStored kind w.place.key) (sym held.2 ∙ ap (λ (c : Contents). c.kind) same) (body_stored fit.table.definition w.place.key w.change fit.body);
+          subst (λ kind. IsStored kind w.key) (sym held.2 ∙ ap (λ (c : Contents). c.kind) same) (body_stored fit.table.definition w.key w.change fit.body);
     }
 
-pub fit_kept : (p : Partitioner) (ds : List Definition) (cs new : List Contents) (g : ℕ) (w : Write) → IsKept ds cs g → IsFit (state_of p ds cs) w → IsWrittenAt cs w new → IsKept ds new (max g (greatest_of w.change))
+pub fit_kept : (p : Partitioner) (ds : List Definition) (cs new : List Contents) (g : ℕ) (w : Mutation) → IsKept ds cs g → IsFit (state_of p ds cs) w → IsWrittenAt p cs w new → IsKept ds new (max g (greatest_of w.change))
 fit_kept p ds cs new g w kept fit is =
     let at = w.table - 1 in
     let held = contents_at ds cs at fit.table kept.held fit.there in
-    let new_is : new ≡ set cs at (written w held.0) = is held.0 held.1 in
-    let times = greatest_set ds cs at held.0 (written w held.0) (greatest_of w.change) kept.held held.1 (greatest_put held.0.partitions w.place w.change) in
+    let new_is : new ≡ set cs at (written p w held.0) = is held.0 held.1 in
+    let times = greatest_set ds cs at held.0 (written p w held.0) (greatest_of w.change) kept.held held.1 (greatest_put held.0.partitions (place_of p w.key) w.change) in
     record {
-      held = rw new_is (held_set ds cs at held.0 (written w held.0) kept.held held.1 refl);
+      held = rw new_is (held_set ds cs at held.0 (written p w held.0) kept.held held.1 refl);
       greatest_is = ap (λ (t : ℕ). max t (greatest_of w.change)) kept.greatest_is ∙ sym (ap (λ (cs : List Contents). greatest_among (tables_of ds cs)) new_is ∙ times);
-      limit = omega (arith, kept.limit, body_limit (types_of fit.table.definition) w.place.key w.change fit.body);
+      limit = omega (arith, kept.limit, body_limit (types_of fit.table.definition) w.key w.change fit.body);
     }
 
-pub fit_state : (p : Partitioner) (ds : List Definition) (cs new : List Contents) (g : ℕ) (w : Write) → IsKept ds cs g → IsFit (state_of p ds cs) w → IsWrittenAt cs w new → state_of p ds new ≡ written_state (state_of p ds cs) w
+pub fit_state : (p : Partitioner) (ds : List Definition) (cs new : List Contents) (g : ℕ) (w : Mutation) → IsKept ds cs g → IsFit (state_of p ds cs) w → IsWrittenAt p cs w new → state_of p ds new ≡ written_state (state_of p ds cs) w
 fit_state p ds cs new g w kept fit is =
     let at = w.table - 1 in
     let held = contents_at ds cs at fit.table kept.held fit.there in
     ap (λ (tables : List model.Table). record { partitioner = p; tables = tables })
-    (ap (tables_of ds) (is held.0 held.1) ∙ sym (written_tables ds cs w held.0 kept.held fit.some held.1))
+    (ap (tables_of ds) (is held.0 held.1) ∙ sym (written_tables p ds cs w held.0 kept.held fit.some held.1))
 
 -- a table that was planned is the next
 create_free : (ds : List Definition) (table : List ℕ) (columns : List Column) (keys : List (List ℕ)) → first_of (create_rules ds table columns keys) ≡ None → definition_of table ds ≡ None
@@ -198,11 +195,11 @@ steps s piece statement state reply_old reply outcome says empty takes =
     }
 
 -- a write that the state asks for is fit for it
-writes_fit : (p : Partitioner) (ds : List Definition) (cs : List Contents) (g : ℕ) (statement : Statement) (w : Write) → IsKept ds cs g → IsWritten statement → WritesTo (state_of p ds cs) statement w → IsFit (state_of p ds cs) w
+writes_fit : (p : Partitioner) (ds : List Definition) (cs : List Contents) (g : ℕ) (statement : Statement) (w : Mutation) → IsKept ds cs g → IsWritten statement → WritesTo (state_of p ds cs) statement w → IsFit (state_of p ds cs) w
 writes_fit p ds cs g statement w kept written writes =
     write_is_fit p ds cs g statement w kept writes.writing written (no_rule p ds cs g statement kept writes.taken)
-    (subst (λ (tables : List Definition). IsWrite tables p g statement w) (definitions_of ds cs kept.held)
-    (subst (λ (time : ℕ). IsWrite (definitions (tables_of ds cs)) p time statement w) (greatest_kept p ds cs g kept) writes.write))
+    (subst (λ (tables : List Definition). IsWrite tables g statement w) (definitions_of ds cs kept.held)
+    (subst (λ (time : ℕ). IsWrite (definitions (tables_of ds cs)) time statement w) (greatest_kept p ds cs g kept) writes.write))
 
 asks_plans : (p : Partitioner) (ds : List Definition) (cs : List Contents) (g : ℕ) (piece : Piece) (statement : Statement) (reply_old reply : List ℕ) (planned : Planned) → IsKept ds cs g → read piece ≡ Says statement → IsWritten statement → reply_old ≡ [] → Asks (state_of p ds cs) statement reply_old reply planned
     → Plans (state_of p ds cs) piece reply planned

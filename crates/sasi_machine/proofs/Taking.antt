@@ -10,14 +10,14 @@ use Rattle.sasi_types.specs.declared.statement.Statement.{Statement}
 use Rattle.sasi_types.specs.declared.statement.Statement.TheVariants.{CreateTable, Insert, Update, Delete, Query}
 use Rattle.sasi_cells.specs.Rows.{IsStored}
 use Rattle.sasi_model.specs.Cells.{greatest_of}
-use Rattle.sasi_model.specs.State.{Column, Definition, State, Table, apply, definition_of, definitions, greatest, greatest_among, greatest_in, key_type, table_of, with_table}
+use Rattle.sasi_model.specs.State.{Column, Definition, State, Table, apply, definition_of, definitions, greatest, greatest_among, greatest_in, key_type, place_of, table_of, with_table}
 use Rattle.sasi_model.specs.Refusals.{NoTable, Refusal, create_rules, first_of, refusal, rules, select_rules}
 use Rattle.sasi_model.specs.Lines.{ok_line, refusal_line, rows_lines}
-use Rattle.sasi_model.specs.Step.{answer_of, columns_asked, execute, new_definition, place_given, rows_among, rows_answered, tables_after, time_of}
+use Rattle.sasi_model.specs.Step.{answer_of, columns_asked, execute, new_definition, place_given, rows_among, rows_answered, stored_of, tables_after, time_of, value_given}
 use Rattle.sasi_schema.specs.Answers.{IsTold}
 use Rattle.sasi_schema.specs.Numbers.{number_of_table}
 use Rattle.sasi_machine.specs.declared.outcome.Outcome.{Outcome}
-use Rattle.sasi_machine.specs.declared.write.Write.{Write}
+use Rattle.sasi_cells.specs.declared.mutation.Mutation.{Mutation}
 use Rattle.sasi_machine.specs.Contents.{Contents}
 use Rattle.sasi_machine.specs.Outcome.{outcome_of}
 use Rattle.sasi_machine.specs.Tables.{AreContents, IsKept, IsRoomFor, IsWrittenAt, state_of, table_with, tables_of, written}
@@ -81,7 +81,7 @@ pub read_held : (ds : List Definition) (cs : List Contents) (name : List ℕ) (n
 read_held ds cs name number d h c is = is ∙ get_or_from_slice_get cs (number - 1) h.contents c h.got
 
 -- there is room for what is written
-pub write_fits : (p : Partitioner) (ds : List Definition) (cs : List Contents) (g : ℕ) (statement : Statement) (w : Write) → IsKept ds cs g → IsWrite ds p g statement w → IsRoomFor cs w
+pub write_fits : (p : Partitioner) (ds : List Definition) (cs : List Contents) (g : ℕ) (statement : Statement) (w : Mutation) → IsKept ds cs g → IsWrite ds g statement w → IsRoomFor cs w
 write_fits p ds cs g statement w kept write =
     let h = is_held ds cs (table_named statement) w.table write.definition kept.held write.number write.found in
     record {
@@ -89,27 +89,27 @@ write_fits p ds cs g statement w kept write =
       inside = h.inside;
       stored = λ c got.
           let same : h.contents ≡ c = (let e : Some h.contents ≡ Some c = sym h.got ∙ got in cc) in
-          subst (λ (kind : ColumnType). IsStored kind w.place.key) (sym h.there.kind ∙ ap (λ (c : Contents). c.kind) same) write.written.change.stored;
+          subst (λ (kind : ColumnType). IsStored kind w.key) (sym h.there.kind ∙ ap (λ (c : Contents). c.kind) same) write.written.change.stored;
     }
 
 -- the greatest time is known of what is left
-pub write_kept : (p : Partitioner) (ds : List Definition) (cs new : List Contents) (g : ℕ) (statement : Statement) (w : Write) → IsKept ds cs g → IsWrite ds p g statement w → IsWrittenAt cs w new → IsKept ds new (max g (greatest_of w.change))
+pub write_kept : (p : Partitioner) (ds : List Definition) (cs new : List Contents) (g : ℕ) (statement : Statement) (w : Mutation) → IsKept ds cs g → IsWrite ds g statement w → IsWrittenAt p cs w new → IsKept ds new (max g (greatest_of w.change))
 write_kept p ds cs new g statement w kept write is =
     let h = is_held ds cs (table_named statement) w.table write.definition kept.held write.number write.found in
     let at = w.table - 1 in
-    let new_is : new ≡ set cs at (written w h.contents) = is h.contents h.got in
+    let new_is : new ≡ set cs at (written p w h.contents) = is h.contents h.got in
     let later : greatest_of w.change ≤ write.written.time = rw write.written.change.change_is (change_within write.definition write.written.time statement) in
-    let times = greatest_set ds cs at h.contents (written w h.contents) (greatest_of w.change) kept.held h.got (greatest_put h.contents.partitions w.place w.change) in
+    let times = greatest_set ds cs at h.contents (written p w h.contents) (greatest_of w.change) kept.held h.got (greatest_put h.contents.partitions (place_of p w.key) w.change) in
     record {
-      held = rw new_is (h.there.kept (written w h.contents) refl);
+      held = rw new_is (h.there.kept (written p w h.contents) refl);
       greatest_is = ap (λ (t : ℕ). max t (greatest_of w.change)) kept.greatest_is ∙ sym (ap (λ (cs : List Contents). greatest_among (tables_of ds cs)) new_is ∙ times);
       limit = omega (arith, kept.limit, write.written.time_is.limit);
     }
 
 -- the table after the write
-written_table : (p : Partitioner) (d : Definition) (statement : Statement) (t : ℕ) (w : Write) (c : Contents) → w.place ≡ place_given p d (key_in d statement) → w.change ≡ change_in d t statement
-    → apply (place_given p d (key_in d statement)) (change_in d t statement) (table_with d c) ≡ table_with d (written w c)
-written_table p d statement t w c place change = rw (← place, ← change) refl
+written_table : (p : Partitioner) (d : Definition) (statement : Statement) (t : ℕ) (w : Mutation) (c : Contents) → w.key ≡ stored_of (value_given (key_type d) (key_in d statement)) → w.change ≡ change_in d t statement
+    → apply (place_given p d (key_in d statement)) (change_in d t statement) (table_with d c) ≡ table_with d (written p w c)
+written_table p d statement t w c key change = rw (← key, ← change) refl
 
 -- what a write does to the tables
 change_of : State → Statement → Table → Table
@@ -134,7 +134,7 @@ pub greatest_kept : (p : Partitioner) (ds : List Definition) (cs : List Contents
 unfolding greatest
 greatest_kept p ds cs g kept = sym kept.greatest_is
 
-pub write_tables : (p : Partitioner) (ds : List Definition) (cs new : List Contents) (g : ℕ) (statement : Statement) (w : Write) → IsKept ds cs g → IsWriting statement → IsWrite ds p g statement w → IsWrittenAt cs w new
+pub write_tables : (p : Partitioner) (ds : List Definition) (cs new : List Contents) (g : ℕ) (statement : Statement) (w : Mutation) → IsKept ds cs g → IsWriting statement → IsWrite ds g statement w → IsWrittenAt p cs w new
     → tables_of ds new ≡ tables_after (state_of p ds cs) statement
 unfolding change_of
 write_tables p ds cs new g statement w kept writing write is =
@@ -144,11 +144,11 @@ write_tables p ds cs new g statement w kept writing write is =
     let time : write.written.time ≡ time_of (greatest s) (time_in statement) = write.written.time_is.is ∙ ap (λ (g : ℕ). time_of g (time_in statement)) (sym (greatest_kept p ds cs g kept)) in
     let change : w.change ≡ change_in d (time_of (greatest s) (time_in statement)) statement = write.written.change.change_is ∙ ap (λ (t : ℕ). change_in d t statement) time in
     ap (tables_of ds) (is h.contents h.got)
-    ∙ sym (writes_table s statement writing ∙ h.there.changed (change_of s statement) (written w h.contents) (written_table p d statement (time_of (greatest s) (time_in statement)) w h.contents write.written.change.place change))
+    ∙ sym (writes_table s statement writing ∙ h.there.changed (change_of s statement) (written p w h.contents) (written_table p d statement (time_of (greatest s) (time_in statement)) w h.contents write.written.change.key_is change))
 
 -- a write that is taken
-pub write_taken : (p : Partitioner) (ds : List Definition) (cs new : List Contents) (g : ℕ) (statement : Statement) (w : Write) (reply_old reply_new : List ℕ) → IsKept ds cs g → IsWriting statement → IsWrite ds p g statement w → first_of (rules ds g statement) ≡ None
-    → IsWrittenAt cs w new → reply_new ≡ reply_old ++ ok_line → Takes (state_of p ds cs) statement (state_of p ds new) reply_old reply_new (outcome_of None)
+pub write_taken : (p : Partitioner) (ds : List Definition) (cs new : List Contents) (g : ℕ) (statement : Statement) (w : Mutation) (reply_old reply_new : List ℕ) → IsKept ds cs g → IsWriting statement → IsWrite ds g statement w → first_of (rules ds g statement) ≡ None
+    → IsWrittenAt p cs w new → reply_new ≡ reply_old ++ ok_line → Takes (state_of p ds cs) statement (state_of p ds new) reply_old reply_new (outcome_of None)
 write_taken p ds cs new g statement w reply_old reply_new kept writing write none is reply_is =
     takes p ds cs g statement (state_of p ds new) reply_old reply_new (outcome_of None) kept none
     (ap (λ (tables : List Table). record { partitioner = p; tables = tables }) (write_tables p ds cs new g statement w kept writing write is))

@@ -2,12 +2,14 @@
 use Rattle.std.specs.Prelude.{◌≡◌, ℕ, ◌+◌, ◌-◌, ◌<◌, List, length, slice_get, None, Some}
 use Rattle.sasi_types.specs.declared.statement.Statement.{Statement}
 use Rattle.sasi_types.specs.declared.statement.Statement.TheVariants.{CreateTable}
+use Rattle.sasi_cells.specs.declared.mutation.Mutation.{Mutation}
+use Rattle.sasi_cells.specs.Mutations.{written_state}
 use Rattle.sasi_schema.specs.Defined.{definition}
 use Rattle.sasi_schema.specs.declared.table.Table.{Table}
 use Rattle.sasi_model.specs.Pieces.{Piece}
 use Rattle.sasi_model.specs.State as model
-use Rattle.sasi_model.specs.State.{State, definition_of, definitions, greatest, place_of}
-use Rattle.sasi_model.specs.Changes.{after_change, with_new_table}
+use Rattle.sasi_model.specs.State.{State, definition_of, definitions, greatest}
+use Rattle.sasi_model.specs.Changes.{with_new_table}
 use Rattle.sasi_model.specs.Refusals.{Says, read, refusal}
 use Rattle.sasi_model.specs.Step.{new_definition, step}
 use Rattle.sasi_model.specs.Stored.{IsBodyOf, types_of}
@@ -18,26 +20,20 @@ use Rattle.sasi_machine.specs.Writes.{IsWrite, IsWriting}
 use Rattle.sasi_machine.specs.declared.outcome.Outcome.{Outcome}
 use Rattle.sasi_machine.specs.declared.planned.Planned.{Planned}
 use Rattle.sasi_machine.specs.declared.planned.Planned.TheVariants.{Answered, Create, Write as Writes}
-use Rattle.sasi_machine.specs.declared.write.Write.{Write}
 
 -- ---- what can be done to a state
-
--- the state after the write
-abbrev pub written_state : State → Write → State
-written_state s w = after_change s w.table w.place w.change
 
 -- the table has the next number, and its name is free
 pub record IsNext (s : State) (t : Table) : Type 0 where
   pub number : t.number ≡ length s.tables + 1
   pub free : definition_of t.name (definitions s.tables) ≡ None
 
--- the table of the write is there, its place is that of its key, and key and change can be stored in the table
-pub record IsFit (s : State) (w : Write) : Type 0 where
+-- the table of the mutation is there, and key and change can be stored in it
+pub record IsFit (s : State) (w : Mutation) : Type 0 where
   pub some : 0 < w.table
   pub table : model.Table
   pub there : slice_get s.tables (w.table - 1) ≡ Some table
-  pub place : w.place ≡ place_of s.partitioner w.place.key
-  pub body : IsBodyOf (types_of table.definition) w.place.key w.change
+  pub body : IsBodyOf (types_of table.definition) w.key w.change
 
 -- ---- what a statement asks for
 
@@ -47,10 +43,10 @@ Makes s (CreateTable table columns keys) t = (refusal s (CreateTable table colum
 Makes s statement t = ⊥
 
 -- a statement that isn't refused writes this
-pub record WritesTo (s : State) (statement : Statement) (w : Write) : Type 0 where
+pub record WritesTo (s : State) (statement : Statement) (w : Mutation) : Type 0 where
   pub writing : IsWriting statement
   pub taken : refusal s statement ≡ None
-  pub write : IsWrite (definitions s.tables) s.partitioner (greatest s) statement w
+  pub write : IsWrite (definitions s.tables) (greatest s) statement w
 
 -- what it asks for, with the reply that was added
 abbrev pub Asks : State → Statement → List ℕ → List ℕ → Planned → Type 0

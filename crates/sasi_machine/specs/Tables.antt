@@ -4,10 +4,10 @@ use Rattle.std.specs.FinMap as map_
 use Rattle.sasi_types.specs.declared.partitioner.Partitioner.{Partitioner}
 use Rattle.sasi_cells.specs.Rows.{IsStored}
 use Rattle.sasi_model.specs.Cells.{empty_partition, merge}
-use Rattle.sasi_model.specs.State.{Definition, State, Table, greatest_among, key_type}
+use Rattle.sasi_model.specs.State.{Definition, State, Table, greatest_among, key_type, place_of}
 use Rattle.sasi_model.specs.Refusals.{TIME_LIMIT}
 use Rattle.sasi_machine.specs.Contents.{Contents}
-use Rattle.sasi_machine.specs.declared.write.Write.{Write}
+use Rattle.sasi_cells.specs.declared.mutation.Mutation.{Mutation}
 
 abbrev pub table_with : Definition → Contents → Table
 table_with d c = record { definition = d; partitions = c.partitions }
@@ -34,15 +34,15 @@ pub record IsKept (tables : List Definition) (contents : List Contents) (greates
   pub limit : greatest ≤ TIME_LIMIT
 
 -- the contents after a write
-abbrev pub written : Write → Contents → Contents
-written write c = record c { partitions = map_.insert c.partitions write.place (merge (unwrap_or (map_.get c.partitions write.place) empty_partition) write.change) }
+abbrev pub written : Partitioner → Mutation → Contents → Contents
+written partitioner m c = record c { partitions = map_.insert c.partitions (place_of partitioner m.key) (merge (unwrap_or (map_.get c.partitions (place_of partitioner m.key)) empty_partition) m.change) }
 
--- the table of the write is there, and its keys are of the write's type
-pub record IsRoomFor (contents : List Contents) (write : Write) : Type 0 where
-  pub some : 0 < write.table
-  pub inside : write.table ≤ length contents
-  pub stored : (c : Contents) → slice_get contents (write.table - 1) ≡ Some c → IsStored c.kind write.place.key
+-- the table of the mutation is there, and its keys are of the mutation's type
+pub record IsRoomFor (contents : List Contents) (m : Mutation) : Type 0 where
+  pub some : 0 < m.table
+  pub inside : m.table ≤ length contents
+  pub stored : (c : Contents) → slice_get contents (m.table - 1) ≡ Some c → IsStored c.kind m.key
 
 -- the contents of its table are those after the write
-abbrev pub IsWrittenAt : List Contents → Write → List Contents → Type 0
-IsWrittenAt old write new = (c : Contents) → slice_get old (write.table - 1) ≡ Some c → new ≡ slice_set old (write.table - 1) (written write c)
+abbrev pub IsWrittenAt : Partitioner → List Contents → Mutation → List Contents → Type 0
+IsWrittenAt partitioner old m new = (c : Contents) → slice_get old (m.table - 1) ≡ Some c → new ≡ slice_set old (m.table - 1) (written partitioner m c)

@@ -4,17 +4,16 @@ use Rattle.std.specs.List.{zip}
 use Rattle.sasi_types.specs.declared.literal.Literal.{Literal}
 use Rattle.sasi_types.specs.declared.literal.Literal.TheVariants.{Null}
 use Rattle.sasi_types.specs.declared.literal.Number.{Number}
-use Rattle.sasi_types.specs.declared.partitioner.Partitioner.{Partitioner}
 use Rattle.sasi_types.specs.declared.statement.Statement.{Statement}
 use Rattle.sasi_types.specs.declared.statement.Statement.TheVariants.{CreateTable, Insert, Update, Delete, Query}
 use Rattle.sasi_cells.specs.Rows.{IsStored}
 use Rattle.sasi_model.specs.Cells.{Partition, empty_partition}
 use Rattle.sasi_model.specs.State.{Definition, definition_of, key_type}
-use Rattle.sasi_model.specs.Step.{delete_change, insert_change, key_literal, place_given, update_change}
+use Rattle.sasi_model.specs.Step.{delete_change, insert_change, key_literal, stored_of, update_change, value_given}
 use Rattle.sasi_model.specs.Refusals.{COLUMN_LIMIT}
 use Rattle.sasi_schema.specs.Numbers.{IsKeyAt, number_of_table}
 use Rattle.sasi_machine.specs.Checks.{IsTimeOf}
-use Rattle.sasi_machine.specs.declared.write.Write.{Write}
+use Rattle.sasi_cells.specs.declared.mutation.Mutation.{Mutation}
 
 -- an INSERT, an UPDATE or a DELETE
 abbrev pub IsWriting : Statement → Type 0
@@ -53,29 +52,29 @@ change_in d t (Update table time sets key value) = update_change d t sets
 change_in d t (Delete table columns time key value) = delete_change d t columns
 change_in d t statement = empty_partition
 
--- a write of a table of this definition: the change of the key's partition
-pub record IsChange (partitioner : Partitioner) (d : Definition) (key : Literal) (change : Partition) (write : Write) : Type 0 where
-  pub place : write.place ≡ place_given partitioner d key
-  pub stored : IsStored (key_type d) write.place.key
-  pub change_is : write.change ≡ change
+-- a mutation of a table of this definition: the change of the key's partition
+pub record IsChange (d : Definition) (key : Literal) (change : Partition) (mutation : Mutation) : Type 0 where
+  pub key_is : mutation.key ≡ stored_of (value_given (key_type d) key)
+  pub stored : IsStored (key_type d) mutation.key
+  pub change_is : mutation.change ≡ change
 
 -- what an INSERT of these literals writes to the table of this definition
-pub record IsInsertTo (partitioner : Partitioner) (greatest : ℕ) (d : Definition) (given : List (List ℕ × Literal)) (time_given : Option Number) (write : Write) : Type 0 where
+pub record IsInsertTo (greatest : ℕ) (d : Definition) (given : List (List ℕ × Literal)) (time_given : Option Number) (mutation : Mutation) : Type 0 where
   pub time : ℕ
   pub time_is : IsTimeOf greatest time_given time
-  pub change : IsChange partitioner d (key_literal d given) (insert_change d time given) write
+  pub change : IsChange d (key_literal d given) (insert_change d time given) mutation
 
 -- what the statement writes to the table of this definition
-pub record IsWriteTo (partitioner : Partitioner) (greatest : ℕ) (d : Definition) (statement : Statement) (write : Write) : Type 0 where
+pub record IsWriteTo (greatest : ℕ) (d : Definition) (statement : Statement) (mutation : Mutation) : Type 0 where
   pub time : ℕ
   pub time_is : IsTimeOf greatest (time_in statement) time
-  pub change : IsChange partitioner d (key_in d statement) (change_in d time statement) write
+  pub change : IsChange d (key_in d statement) (change_in d time statement) mutation
 
 -- what the statement writes, to the table that it names
-pub record IsWrite (tables : List Definition) (partitioner : Partitioner) (greatest : ℕ) (statement : Statement) (w : Write) : Type 0 where
+pub record IsWrite (tables : List Definition) (greatest : ℕ) (statement : Statement) (w : Mutation) : Type 0 where
   pub definition : Definition
   pub found : definition_of (table_named statement) tables ≡ Some definition
   pub key_is_there : IsKeyAt definition.key definition.columns
   pub few : length definition.columns ≤ COLUMN_LIMIT
   pub number : number_of_table (table_named statement) tables ≡ Some w.table
-  pub written : IsWriteTo partitioner greatest definition statement w
+  pub written : IsWriteTo greatest definition statement w

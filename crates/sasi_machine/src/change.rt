@@ -9,29 +9,27 @@ ghost use Rattle.sasi_machine.specs.KeyLiteral.{IsKeyLiteral};
 ghost use Rattle.sasi_machine.specs.Writes.{IsChange};
 
 use crate::collect::{collect, nulls};
-use crate::place::place_given;
-use crate::write::Write;
-use sasi_cells::Partition;
+use crate::key::key_given;
+use sasi_cells::{Mutation, Partition};
 use sasi_schema::Table;
-use sasi_types::{Cell, Literal, Names, Partitioner, Sets, Text, Value};
+use sasi_types::{Cell, Literal, Names, Sets, Text, Value};
 use std::alloc::{AllocError, Global};
 
 /// The change of the partition of a key.
 fn write_of(
     alloc: Global,
-    partitioner: Partitioner,
     table: &Table,
     key: Literal,
     change: Partition,
-) -> Result<Write, AllocError>
+) -> Result<Mutation, AllocError>
     requires { IsKeyLiteral (key_type (definition table.now)) key }
-    ensures change { IfOk result (IsChange partitioner (definition table.now) key change) }
-    ensures table { IfOk result (λ write. write.table ≡ table.now.number) }
+    ensures change { IfOk result (IsChange (definition table.now) key change) }
+    ensures table { IfOk result (λ mutation. mutation.table ≡ table.now.number) }
 {
-    let place = place_given(alloc, partitioner, table.key_type(), key)?;
-    Ok(Write {
+    let key = key_given(alloc, table.key_type(), key)?;
+    Ok(Mutation {
         table: table.number,
-        place,
+        key,
         change,
     })
 }
@@ -39,20 +37,19 @@ fn write_of(
 /// The write of an INSERT: a marker, and a cell for each regular column that is given a literal.
 pub fn write_of_insert(
     alloc: Global,
-    partitioner: Partitioner,
     table: &Table,
     time: u64,
     given: Sets,
-) -> Result<Write, AllocError>
+) -> Result<Mutation, AllocError>
     requires above { 0 < time }
     requires ranges { first_of (each (number_range (definition table.now)) given) ≡ None }
     requires key { IsKeyLiteral (key_type (definition table.now)) (key_literal (definition table.now) given) }
-    ensures change { IfOk result (IsChange partitioner (definition table.now) (key_literal (definition table.now) given) (insert_change (definition table.now) time given)) }
-    ensures table { IfOk result (λ write. write.table ≡ table.now.number) }
+    ensures change { IfOk result (IsChange (definition table.now) (key_literal (definition table.now) given) (insert_change (definition table.now) time given)) }
+    ensures table { IfOk result (λ mutation. mutation.table ≡ table.now.number) }
 {
     let collected = collect(alloc, table, time, given)?;
     let change = marked(alloc, collected.change, time)?;
-    write_of(alloc, partitioner, table, collected.key, change)
+    write_of(alloc, table, collected.key, change)
 }
 
 // The change with a live marker.
@@ -69,38 +66,36 @@ fn marked(alloc: Global, change: Partition, time: u64) -> Result<Partition, Allo
 /// The write of an UPDATE: the cells alone.
 pub fn write_of_update(
     alloc: Global,
-    partitioner: Partitioner,
     table: &Table,
     time: u64,
     sets: Sets,
     key: Literal,
-) -> Result<Write, AllocError>
+) -> Result<Mutation, AllocError>
     requires above { 0 < time }
     requires ranges { first_of (each (number_range (definition table.now)) sets) ≡ None }
     requires key { IsKeyLiteral (key_type (definition table.now)) key }
-    ensures change { IfOk result (IsChange partitioner (definition table.now) key (update_change (definition table.now) time sets)) }
-    ensures table { IfOk result (λ write. write.table ≡ table.now.number) }
+    ensures change { IfOk result (IsChange (definition table.now) key (update_change (definition table.now) time sets)) }
+    ensures table { IfOk result (λ mutation. mutation.table ≡ table.now.number) }
 {
     let collected = collect(alloc, table, time, sets)?;
-    write_of(alloc, partitioner, table, key, collected.change)
+    write_of(alloc, table, key, collected.change)
 }
 
 /// The write of a DELETE: tombstones, or a deletion of the whole row.
 pub fn write_of_delete(
     alloc: Global,
-    partitioner: Partitioner,
     table: &Table,
     time: u64,
     columns: Names,
     key: Literal,
-) -> Result<Write, AllocError>
+) -> Result<Mutation, AllocError>
     requires above { 0 < time }
     requires key { IsKeyLiteral (key_type (definition table.now)) key }
-    ensures change { IfOk result (IsChange partitioner (definition table.now) key (delete_change (definition table.now) time columns)) }
-    ensures table { IfOk result (λ write. write.table ≡ table.now.number) }
+    ensures change { IfOk result (IsChange (definition table.now) key (delete_change (definition table.now) time columns)) }
+    ensures table { IfOk result (λ mutation. mutation.table ≡ table.now.number) }
 {
     let change = deletion(alloc, table, time, columns)?;
-    write_of(alloc, partitioner, table, key, change)
+    write_of(alloc, table, key, change)
 }
 
 // Tombstones of the columns, or a deletion where there are none.

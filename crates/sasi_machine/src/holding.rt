@@ -4,8 +4,10 @@ ghost use Rattle.std.specs.Vec.{vec_len, vec_capacity};
 ghost use Rattle.sasi_model.specs.Cells.{greatest_of};
 ghost use Rattle.sasi_machine.specs.Tables.{IsWrittenAt, IsRoomFor};
 
+use crate::key::place_of;
 use crate::rows::Rows;
-use crate::write::Write;
+use sasi_cells::Mutation;
+use sasi_types::Partitioner;
 use std::alloc::AllocError;
 
 /// Makes room for one more.
@@ -25,14 +27,18 @@ pub fn add_within(contents: &mut Vec<Rows>, rows: Rows)
 }
 
 /// Merges a change into what its table holds, and gives the greatest time of the change.
-pub fn merge_into(contents: &mut Vec<Rows>, write: Write) -> Result<u64, AllocError>
-    requires { IsRoomFor contents.old.items write }
-    ensures ok { OnOk result (IsWrittenAt contents.old.items write contents.new.items) }
-    ensures time { IfOk result (λ time. time ≡ greatest_of write.change) }
+pub fn merge_into(
+    contents: &mut Vec<Rows>,
+    partitioner: Partitioner,
+    mutation: Mutation,
+) -> Result<u64, AllocError>
+    requires { IsRoomFor contents.old.items mutation }
+    ensures ok { OnOk result (IsWrittenAt partitioner contents.old.items mutation contents.new.items) }
+    ensures time { IfOk result (λ time. time ≡ greatest_of mutation.change) }
     ensures err { OnErr result (contents.new.items ≡ contents.old.items) }
 {
-    let time = write.change.greatest();
-    let rows = &mut contents[write.table as usize - 1];
-    rows.merge(write.place, write.change)?;
+    let time = mutation.change.greatest();
+    let rows = &mut contents[mutation.table as usize - 1];
+    rows.merge(place_of(partitioner, mutation.key), mutation.change)?;
     Ok(time)
 }

@@ -7,6 +7,7 @@ mod check;
 mod collect;
 mod fault;
 mod holding;
+mod key;
 mod literal_rule;
 mod literals;
 mod machine;
@@ -14,7 +15,6 @@ mod merging;
 mod name_rule;
 mod outcome;
 mod picking;
-mod place;
 mod plan;
 mod planned;
 mod planning;
@@ -28,7 +28,6 @@ mod target;
 #[cfg(test)]
 mod tests;
 mod time;
-mod write;
 mod writer;
 
 pub use machine::Machine;
@@ -36,4 +35,3 @@ pub use outcome::Outcome;
 pub use planned::Planned;
 pub use print::Reply;
 pub use refusal::Refusal;
-pub use write::Write;

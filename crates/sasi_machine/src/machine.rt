@@ -6,12 +6,14 @@ ghost use Rattle.sasi_model.specs.Changes.{with_new_table};
 ghost use Rattle.sasi_model.specs.Step.{step};
 ghost use Rattle.sasi_schema.specs.Defined.{definition};
 ghost use Rattle.sasi_machine.specs.Outcome.{outcome_of};
-ghost use Rattle.sasi_machine.specs.Plans.{IsFit, IsNext, written_state};
+ghost use Rattle.sasi_cells.specs.Mutations.{written_state};
+ghost use Rattle.sasi_machine.specs.Plans.{IsFit, IsNext};
 
 use crate::holding::{add_within, merge_into, reserve_one};
 use crate::planned::Planned;
 use crate::rows::Rows;
-use crate::{Outcome, Reply, Write};
+use crate::{Outcome, Reply};
+use sasi_cells::Mutation;
 use sasi_schema::{Schema, Table};
 use sasi_types::{Partitioner, PieceEnd};
 use std::alloc::{AllocError, Global};
@@ -81,8 +83,8 @@ impl Machine {
                 self.create(table)?;
                 Ok(Outcome::Done)
             }
-            Planned::Write(write) => {
-                self.write(write)?;
+            Planned::Write(mutation) => {
+                self.write(mutation)?;
                 Ok(Outcome::Done)
             }
         }
@@ -102,12 +104,12 @@ impl Machine {
     }
 
     /// Merges a change that was planned, or written before.
-    pub fn write(&mut self, write: Write) -> Result<(), AllocError>
-        requires { IsFit self.old write }
-        ensures ok { OnOk result (self.new ≡ written_state self.old write) }
+    pub fn write(&mut self, mutation: Mutation) -> Result<(), AllocError>
+        requires { IsFit self.old mutation }
+        ensures ok { OnOk result (self.new ≡ written_state self.old mutation) }
         ensures err { OnErr result (self.new ≡ self.old) }
     {
-        let time = merge_into(&mut self.contents, write)?;
+        let time = merge_into(&mut self.contents, self.partitioner, mutation)?;
         self.greatest = self.greatest.max(time);
         Ok(())
     }

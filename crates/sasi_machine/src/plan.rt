@@ -9,17 +9,17 @@ ghost use Rattle.sasi_machine.specs.Writes.{IsWrite, IsWriting};
 use crate::Refusal;
 use crate::fault::Fault;
 use crate::target::Target;
-use crate::write::Write;
 use crate::writer::Writer;
+use sasi_cells::Mutation;
 use sasi_schema::Schema;
 use sasi_types::{Literals, Name, Names, Number, Sets, Statement};
 
 /// What an INSERT, an UPDATE or a DELETE writes.
-pub fn plan(writer: &Writer, schema: &Schema, statement: Statement) -> Result<Write, Fault>
+pub fn plan(writer: &Writer, schema: &Schema, statement: Statement) -> Result<Mutation, Fault>
     requires limit { writer.now.greatest ≤ time_limit }
     requires writing { IsWriting statement }
     ensures answers { Answers told (rules schema.now writer.now.greatest statement) result }
-    ensures write { IfOk result (IsWrite schema.now writer.now.partitioner writer.now.greatest statement) }
+    ensures write { IfOk result (IsWrite schema.now writer.now.greatest statement) }
 {
     match statement {
         Statement::Insert {
@@ -68,10 +68,10 @@ fn insert(
     columns: Names,
     values: Literals,
     time: Option<Number>,
-) -> Result<Write, Fault>
+) -> Result<Mutation, Fault>
     requires { writer.now.greatest ≤ time_limit }
     ensures answers { Answers told (rules schema.now writer.now.greatest (Insert table columns values time)) result }
-    ensures write { IfOk result (IsWrite schema.now writer.now.partitioner writer.now.greatest (Insert table columns values time)) }
+    ensures write { IfOk result (IsWrite schema.now writer.now.greatest (Insert table columns values time)) }
 {
     match schema.table(&table) {
         None => Err(Fault::Refused(Refusal::NoTable(table))),
@@ -86,10 +86,10 @@ fn update(
     sets: Sets,
     target: Target,
     time: Option<Number>,
-) -> Result<Write, Fault>
+) -> Result<Mutation, Fault>
     requires { writer.now.greatest ≤ time_limit }
     ensures answers { Answers told (rules schema.now writer.now.greatest (Update table time sets target.column target.value)) result }
-    ensures write { IfOk result (IsWrite schema.now writer.now.partitioner writer.now.greatest (Update table time sets target.column target.value)) }
+    ensures write { IfOk result (IsWrite schema.now writer.now.greatest (Update table time sets target.column target.value)) }
 {
     match schema.table(&table) {
         None => Err(Fault::Refused(Refusal::NoTable(table))),
@@ -104,10 +104,10 @@ fn delete(
     columns: Names,
     target: Target,
     time: Option<Number>,
-) -> Result<Write, Fault>
+) -> Result<Mutation, Fault>
     requires { writer.now.greatest ≤ time_limit }
     ensures answers { Answers told (rules schema.now writer.now.greatest (Delete table columns time target.column target.value)) result }
-    ensures write { IfOk result (IsWrite schema.now writer.now.partitioner writer.now.greatest (Delete table columns time target.column target.value)) }
+    ensures write { IfOk result (IsWrite schema.now writer.now.greatest (Delete table columns time target.column target.value)) }
 {
     match schema.table(&table) {
         None => Err(Fault::Refused(Refusal::NoTable(table))),

@@ -1,5 +1,6 @@
 // What pieces ask for.
-use crate::{Outcome, Write};
+use crate::Outcome;
+use sasi_cells::Mutation;
 use sasi_schema::Table;
 
 /// What a piece asks for, beside the reply that it gets.
@@ -10,5 +11,5 @@ pub enum Planned {
     /// A table that is to be made.
     Create(Table),
     /// A change that is to be merged.
-    Write(Write),
+    Write(Mutation),
 }

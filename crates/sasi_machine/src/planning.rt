@@ -85,13 +85,12 @@ impl Machine {
     {
         let writer = Writer {
             alloc: self.alloc,
-            partitioner: self.partitioner,
             greatest: self.greatest,
         };
         match plan(&writer, &self.schema, statement) {
-            Ok(write) => {
+            Ok(mutation) => {
                 reply.ok()?;
-                Ok(Planned::Write(write))
+                Ok(Planned::Write(mutation))
             }
             Err(fault) => {
                 let outcome = refuse_fault(reply, fault)?;

@@ -15,16 +15,15 @@ use crate::check::{check_delete, check_given, check_once, check_update};
 use crate::fault::Fault;
 use crate::name_rule::NameRule;
 use crate::target::Target;
-use crate::write::Write;
+use sasi_cells::Mutation;
 use sasi_schema::Table;
-use sasi_types::{Literals, Names, Number, Partitioner, Sets};
+use sasi_types::{Literals, Names, Number, Sets};
 use std::alloc::Global;
 
 /// What the writes of a state go by.
 #[derive(Clone, Copy)]
 pub struct Writer {
     pub alloc: Global,
-    pub partitioner: Partitioner,
     /// The greatest time that the state holds.
     pub greatest: u64,
 }
@@ -37,11 +36,11 @@ impl Writer {
         columns: Names,
         values: Literals,
         time: Option<Number>,
-    ) -> Result<Write, Fault>
+    ) -> Result<Mutation, Fault>
         requires { self.now.greatest ≤ time_limit }
         ensures answers { Answers told (insert_rules self.now.greatest table.now.name columns (zip columns values) time (Some (definition table.now))) result }
-        ensures write { IfOk result (IsWriteTo self.now.partitioner self.now.greatest (definition table.now) (Insert table.now.name columns values time)) }
-        ensures table { IfOk result (λ write. write.table ≡ table.now.number) }
+        ensures write { IfOk result (IsWriteTo self.now.greatest (definition table.now) (Insert table.now.name columns values time)) }
+        ensures table { IfOk result (λ mutation. mutation.table ≡ table.now.number) }
     {
         NameRule::NoColumn.check_names(self.alloc, table, columns.as_slice())?;
         check_once(self.alloc, columns.as_slice())?;
@@ -50,14 +49,19 @@ impl Writer {
     }
 
     // The write of an INSERT that gives columns these literals.
-    fn insert_given(&self, table: &Table, given: Sets, time: Option<Number>) -> Result<Write, Fault>
+    fn insert_given(
+        &self,
+        table: &Table,
+        given: Sets,
+        time: Option<Number>,
+    ) -> Result<Mutation, Fault>
         requires { self.now.greatest ≤ time_limit }
         ensures answers { Answers told (given_rules (definition table.now) self.now.greatest given time) result }
-        ensures write { IfOk result (IsInsertTo self.now.partitioner self.now.greatest (definition table.now) given time) }
-        ensures table { IfOk result (λ write. write.table ≡ table.now.number) }
+        ensures write { IfOk result (IsInsertTo self.now.greatest (definition table.now) given time) }
+        ensures table { IfOk result (λ mutation. mutation.table ≡ table.now.number) }
     {
         let time = check_given(self.alloc, table, self.greatest, given.as_slice(), time)?;
-        Ok(write_of_insert(self.alloc, self.partitioner, table, time, given)?)
+        Ok(write_of_insert(self.alloc, table, time, given)?)
     }
 
     /// The write of an UPDATE.
@@ -67,11 +71,11 @@ impl Writer {
         sets: Sets,
         target: Target,
         time: Option<Number>,
-    ) -> Result<Write, Fault>
+    ) -> Result<Mutation, Fault>
         requires { self.now.greatest ≤ time_limit }
         ensures answers { Answers told (update_rules self.now.greatest table.now.name sets target.column target.value time (Some (definition table.now))) result }
-        ensures write { IfOk result (IsWriteTo self.now.partitioner self.now.greatest (definition table.now) (Update table.now.name time sets target.column target.value)) }
-        ensures table { IfOk result (λ write. write.table ≡ table.now.number) }
+        ensures write { IfOk result (IsWriteTo self.now.greatest (definition table.now) (Update table.now.name time sets target.column target.value)) }
+        ensures table { IfOk result (λ mutation. mutation.table ≡ table.now.number) }
     {
         let time = check_update(
             self.alloc,
@@ -82,7 +86,7 @@ impl Writer {
             time,
         )?;
         let key = target.value;
-        Ok(write_of_update(self.alloc, self.partitioner, table, time, sets, key)?)
+        Ok(write_of_update(self.alloc, table, time, sets, key)?)
     }
 
     /// The write of a DELETE.
@@ -92,11 +96,11 @@ impl Writer {
         columns: Names,
         target: Target,
         time: Option<Number>,
-    ) -> Result<Write, Fault>
+    ) -> Result<Mutation, Fault>
         requires { self.now.greatest ≤ time_limit }
         ensures answers { Answers told (delete_rules self.now.greatest table.now.name columns target.column target.value time (Some (definition table.now))) result }
-        ensures write { IfOk result (IsWriteTo self.now.partitioner self.now.greatest (definition table.now) (Delete table.now.name columns time target.column target.value)) }
-        ensures table { IfOk result (λ write. write.table ≡ table.now.number) }
+        ensures write { IfOk result (IsWriteTo self.now.greatest (definition table.now) (Delete table.now.name columns time target.column target.value)) }
+        ensures table { IfOk result (λ mutation. mutation.table ≡ table.now.number) }
     {
         let time = check_delete(
             self.alloc,
@@ -107,6 +111,6 @@ impl Writer {
             time,
         )?;
         let key = target.value;
-        Ok(write_of_delete(self.alloc, self.partitioner, table, time, columns, key)?)
+        Ok(write_of_delete(self.alloc, table, time, columns, key)?)
     }
 }

@@ -15,7 +15,7 @@ use Rattle.sasi_host.specs.View.{View, IsAbsent, IsSound, IsThere, contents, con
 use Rattle.sasi_host.specs.Disk.{Changes, IsKept, Lists, MaybeDeleted, Relation, Same, Step}
 use Rattle.sasi_host.specs.Contents.{contents_other, there_where}
 use Rattle.sasi_host.specs.Moves.{Each, at_each_moment, changes_as, changes_on, each_on, stays}
-use Rattle.sasi_commitlog.specs.declared.mutation.Mutation.{Mutation}
+use Rattle.sasi_cells.specs.declared.mutation.Mutation.{Mutation}
 use Rattle.sasi_manifest.specs.declared.listing.Listing.{Listing}
 use Rattle.sasi_folder.specs.Stands.{Holds, IsFresh}
 use Rattle.sasi_run.specs.declared.deleting.Keep.TheVariants.{Store}

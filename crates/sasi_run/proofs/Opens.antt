@@ -15,7 +15,7 @@ use Rattle.sasi_host.specs.Contents.{contents_same, reaches_where, told_after}
 use Rattle.sasi_host.specs.Durability.{kept_same}
 use Rattle.sasi_host.specs.Moves.{Each, changes_as, changes_on}
 use Rattle.sasi_gated.specs.Standing.{Handle}
-use Rattle.sasi_commitlog.specs.declared.mutation.Mutation.{Mutation}
+use Rattle.sasi_cells.specs.declared.mutation.Mutation.{Mutation}
 use Rattle.sasi_commitlog.specs.Format.{Tables}
 use Rattle.sasi_manifest.specs.declared.listing.Listing.{Listing}
 use Rattle.sasi_manifest.specs.Consistent.{IsConsistent}

@@ -10,7 +10,7 @@ use Rattle.sasi_host.specs.Durability.{kept_same}
 use Rattle.sasi_host.specs.Moves.{stays, then_same}
 use Rattle.sasi_host.specs.Names.{Folder, log_name}
 use Rattle.sasi_host.specs.View.{View, IsThere, IsTold}
-use Rattle.sasi_commitlog.specs.declared.mutation.Mutation.{Mutation}
+use Rattle.sasi_cells.specs.declared.mutation.Mutation.{Mutation}
 use Rattle.sasi_commitlog.specs.Standing.{IsAtLogEnd}
 use Rattle.sasi_manifest.specs.declared.listing.Listing.{Listing}
 use Rattle.sasi_manifest.specs.Listed.{Listed}

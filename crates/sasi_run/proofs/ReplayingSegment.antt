@@ -18,7 +18,7 @@ use Rattle.sasi_gated.specs.Gates.{IsAtGate}
 use Rattle.sasi_gated.specs.Laws.{gated_at}
 use Rattle.sasi_gated.specs.Reads.{Begins, IsShown, SparesGated}
 use Rattle.sasi_gated.specs.Standing.{Handle}
-use Rattle.sasi_commitlog.specs.declared.mutation.Mutation.{Mutation}
+use Rattle.sasi_cells.specs.declared.mutation.Mutation.{Mutation}
 use Rattle.sasi_commitlog.specs.Damages.{ShowsLog}
 use Rattle.sasi_commitlog.specs.Format.{IsLog, IsMutationOf, Tables, payload_of}
 use Rattle.sasi_commitlog.specs.Reads.{IsLogShownAt, ReadsLogGate, ReadsMutation, ReadsMutations, ReadsNext, SparesLog}

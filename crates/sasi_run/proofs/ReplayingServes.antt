@@ -6,7 +6,7 @@ use Rattle.sasi_host.specs.Names.{Folder, log_name}
 use Rattle.sasi_host.specs.View.{View, IsTold}
 use Rattle.sasi_model.specs.State.{State}
 use Rattle.sasi_gated.specs.Standing.{Handle}
-use Rattle.sasi_commitlog.specs.declared.mutation.Mutation.{Mutation}
+use Rattle.sasi_cells.specs.declared.mutation.Mutation.{Mutation}
 use Rattle.sasi_commitlog.specs.Format.{Tables}
 use Rattle.sasi_manifest.specs.Standing.{Held}
 use Rattle.sasi_manifest.specs.Standing as manifests

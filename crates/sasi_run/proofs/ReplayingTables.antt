@@ -8,13 +8,13 @@ use Rattle.std.specs.Option.{option_map}
 use Rattle.sasi_types.specs.declared.column.ColumnType.{ColumnType}
 use Rattle.sasi_types.specs.declared.partitioner.Partitioner.{Partitioner}
 use Rattle.sasi_model.specs.Statements.{same}
-use Rattle.sasi_model.specs.State.{Definition, State, Table, definition_of, definitions, place_of}
+use Rattle.sasi_model.specs.State.{Definition, State, Table, definition_of, definitions}
 use Rattle.sasi_model.specs.Changes.{empty_table, with_new_table}
 use Rattle.sasi_model.specs.Stored.{types_of}
 use Rattle.sasi_schema.specs.declared.table.Table as schema
 use Rattle.sasi_schema.specs.Defined.{definition}
 use Rattle.sasi_schema.specs.Numbers.{RisesFrom}
-use Rattle.sasi_commitlog.specs.declared.mutation.Mutation.{Mutation}
+use Rattle.sasi_cells.specs.declared.mutation.Mutation.{Mutation}
 use Rattle.sasi_commitlog.specs.Format.{IsMutationOf, types_in}
 use Rattle.sasi_manifest.specs.declared.listed.ListedTable.{ListedTable}
 use Rattle.sasi_manifest.specs.declared.listing.Listing.{Listing}
@@ -23,7 +23,6 @@ use Rattle.sasi_manifest.specs.ListedTables.{listed}
 use Rattle.sasi_manifest.specs.Listings.{listed_definitions}
 use Rattle.sasi_manifest.specs.Naming.{AreApart, IsFree}
 use Rattle.sasi_manifest.specs.Types.{numbered_types}
-use Rattle.sasi_machine.specs.declared.write.Write.{Write}
 use Rattle.sasi_machine.specs.Plans.{IsFit, IsNext}
 use Rattle.sasi_folder.specs.Creating.{same_sym}
 use Rattle.sasi_folder.specs.Replay.{reaches, takes}
@@ -138,16 +137,15 @@ table_found (t ∷ tables) (x ∷ all) zero l same there =
 table_found (t ∷ tables) (x ∷ all) (suc place) l same there = let rest : definitions tables ≡ listed_definitions all = cc in table_found tables all place l rest there
 
 -- and the mutation can be merged there
-pub mutation_fit : (listing : Listing) (s : State) (m : Mutation) (w : Write) → IsMutationOf (types_listed listing) m → definitions s.tables ≡ listed_definitions listing.tables → w.table ≡ m.table → w.change ≡ m.change → w.place.key ≡ m.key → w.place ≡ place_of s.partitioner m.key → IsFit s w
-mutation_fit listing s m w of same table_is change_is key_is place_is =
+pub mutation_fit : (listing : Listing) (s : State) (m : Mutation) → IsMutationOf (types_listed listing) m → definitions s.tables ≡ listed_definitions listing.tables → IsFit s m
+mutation_fit listing s m of same =
     let found = types_found 1 m.table listing.tables of.types of.listed in
     let t = table_found s.tables listing.tables found.0 found.1 same found.3 in
-    let number : w.table - 1 ≡ found.0 = omega (arith, table_is, found.2) in
+    let number : m.table - 1 ≡ found.0 = omega (arith, found.2) in
     let types : types_of t.0.definition ≡ of.types = ap (λ (d : Definition). types_of d) t.2 ∙ found.4 in
     record {
-      some = omega (arith, table_is, found.2);
+      some = omega (arith, found.2);
       table = t.0;
       there = ap (slice_get s.tables) number ∙ t.1;
-      place = place_is ∙ ap (place_of s.partitioner) (sym key_is);
-      body = rw (types, key_is, change_is) of.body_is;
+      body = rw types of.body_is;
     }

@@ -10,7 +10,7 @@ use Rattle.sasi_host.specs.View.{View, IsSound, IsThere, Reaches, contents, cont
 use Rattle.sasi_host.specs.Disk.{Changes, Lists, Same}
 use Rattle.sasi_host.specs.Contents.{contents_kept, reaches_where, there_where, told_files}
 use Rattle.sasi_host.specs.Moves.{Each, at_each_moment, changes_as, changes_on}
-use Rattle.sasi_commitlog.specs.declared.mutation.Mutation.{Mutation}
+use Rattle.sasi_cells.specs.declared.mutation.Mutation.{Mutation}
 use Rattle.sasi_commitlog.specs.Format.{Tables}
 use Rattle.sasi_manifest.specs.declared.listing.Listing.{Listing}
 use Rattle.sasi_manifest.specs.Damages.{SparesManifests}

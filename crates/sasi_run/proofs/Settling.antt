@@ -8,7 +8,7 @@ use Rattle.sasi_host.specs.View.{View, IsSound, IsThere, contents, contents_in}
 use Rattle.sasi_host.specs.Disk.{Changes, IsFolderSynced, IsKept, IsSynced, Lists, Same}
 use Rattle.sasi_host.specs.Contents.{contents_same, there_where, told_before}
 use Rattle.sasi_host.specs.Moves.{Each}
-use Rattle.sasi_commitlog.specs.declared.mutation.Mutation.{Mutation}
+use Rattle.sasi_cells.specs.declared.mutation.Mutation.{Mutation}
 use Rattle.sasi_manifest.specs.declared.listing.Listing.{Listing}
 use Rattle.sasi_folder.specs.FolderLaws.{segments_kept}
 use Rattle.sasi_folder.specs.Stands.{Holds, IsFresh, types_listed}

@@ -3,10 +3,10 @@ use Rattle.std.proofs.Common.{◌≡◌, ◌≢◌, ◌⊎◌, ℕ, suc, ◌+◌
 use Rattle.std.proofs.lemmas.List.{length-map}
 use Rattle.sasi_types.specs.declared.statement.Statement.{Statement}
 use Rattle.sasi_types.specs.declared.statement.Statement.TheVariants.{CreateTable, Insert, Update, Delete, Query}
-use Rattle.sasi_model.specs.State.{Definition, State}
+use Rattle.sasi_model.specs.State.{Definition, State, place_of}
 use Rattle.sasi_model.specs.State.{Table as ATable}
 use Rattle.sasi_model.specs.Step.{new_definition}
-use Rattle.sasi_model.specs.Changes.{after_change, with_new_table}
+use Rattle.sasi_model.specs.Changes.{with_new_table}
 use Rattle.sasi_model.specs.Written.{IsWritten}
 use Rattle.sasi_host.specs.declared.name.FileName.{FileName}
 use Rattle.sasi_host.specs.View.{View, IsSound, IsTold, Reaches}
@@ -17,7 +17,7 @@ use Rattle.sasi_host.specs.Names.{log_name, manifest_name}
 use Rattle.sasi_gated.specs.Standing.{Handle}
 use Rattle.sasi_schema.specs.declared.table.Table.{Table}
 use Rattle.sasi_schema.specs.Defined.{definition}
-use Rattle.sasi_commitlog.specs.declared.mutation.Mutation.{Mutation}
+use Rattle.sasi_cells.specs.declared.mutation.Mutation.{Mutation}
 use Rattle.sasi_commitlog.specs.Format.{IsMutationOf}
 use Rattle.sasi_commitlog.specs.Standing.{IsAtLogEnd, IsLogBeforeOrAfter}
 use Rattle.sasi_manifest.specs.declared.edit.Edit.{Edit}
@@ -33,10 +33,10 @@ use Rattle.sasi_folder.specs.Creating.{can_create}
 use Rattle.sasi_folder.specs.FolderLaws.{kinds_apart}
 use Rattle.sasi_folder.specs.FolderMoves.{AddsTable}
 use Rattle.sasi_folder.specs.Recording.{adds_table, mutation_fits, together_created, together_written}
-use Rattle.sasi_folder.specs.Serving.{Serves, changed, create_moments, create_serves, each_stands, write_moments, write_serves}
+use Rattle.sasi_folder.specs.Serving.{Serves, create_moments, create_serves, each_stands, write_moments, write_serves}
 use Rattle.sasi_folder.specs.Stands.{StandsSealed, types_listed}
-use Rattle.sasi_machine.specs.declared.write.Write.{Write}
-use Rattle.sasi_machine.specs.Plans.{IsFit, Makes, written_state}
+use Rattle.sasi_cells.specs.Mutations.{written_state}
+use Rattle.sasi_machine.specs.Plans.{IsFit, Makes}
 use Rattle.sasi_run.specs.declared.store.Store.{Store}
 use Rattle.sasi_run.specs.Storing.{GoesTo, IsReady, ServesStore, Somehow}
 use Rattle.sasi_run.proofs.Alone.{alone_created, alone_written}
@@ -55,26 +55,19 @@ stays_somehow v = changes_as v v Same Somehow (stays v) (λ x y same. tt)
 
 -- ---- a change of a partition
 
-abbrev pub mutation_of : Write → Mutation
-mutation_of w = record { table = w.table; key = w.place.key; change = w.change }
+module _ (a b : View) (sound : IsSound a) (store : Store) (w : Mutation) (ready : IsReady a store) (fit : IsFit store.machine w) where
+  pub fits : w.table < 2 ^ 32 → IsMutationOf (types_listed store.manifest.listing) w
+  fits small = mutation_fits store.manifest.listing store.machine w fit.table ready.together.tables fit.some small fit.there fit.body
 
-module _ (a b : View) (sound : IsSound a) (store : Store) (w : Write) (ready : IsReady a store) (fit : IsFit store.machine w) where
-  pub fits : w.table < 2 ^ 32 → IsMutationOf (types_listed store.manifest.listing) (mutation_of w)
-  fits small = mutation_fits store.manifest.listing store.machine (mutation_of w) fit.table ready.together.tables fit.some small fit.there fit.body
-
-  made : changed store.machine (mutation_of w) ≡ written_state store.machine w
-  made = ap (λ place. after_change store.machine w.table place w.change) (sym fit.place)
-
-  pub write_goes : w.table < 2 ^ 32 → ((mutations : List Mutation) → IsAtLogEnd a store.log.file store.log.at mutations → Changes (Step store.log.file (LeftWith (IsLogBeforeOrAfter store.log.file mutations (mutation_of w)))) a b) → ServesStore a store → GoesTo a b store.machine (written_state store.machine w)
+  pub write_goes : w.table < 2 ^ 32 → ((mutations : List Mutation) → IsAtLogEnd a store.log.file store.log.at mutations → Changes (Step store.log.file (LeftWith (IsLogBeforeOrAfter store.log.file mutations w))) a b) → ServesStore a store → GoesTo a b store.machine (written_state store.machine w)
   write_goes small moments serves =
       let last = log_name store.manifest.listing.last in
       let change = moments serves.current (subst (λ f. IsAtLogEnd a f store.log.at serves.current) (sym ready.together.file) serves.log_end) in
-      subst (λ later. GoesTo a b store.machine later) made
-      (write_moments a b sound store.machine store.manifest store.log serves (mutation_of w) ready.consistent (fits small) (subst (λ f. Changes (Step f (LeftWith (IsLogBeforeOrAfter f serves.current (mutation_of w)))) a b) ready.together.file change))
+      write_moments a b sound store.machine store.manifest store.log serves w ready.consistent (fits small) (subst (λ f. Changes (Step f (LeftWith (IsLogBeforeOrAfter f serves.current w))) a b) ready.together.file change)
 
   pub written_ready : (new : Handle) → Changes (Step store.log.file Anyhow) a b → new.file ≡ store.log.file → Reaches b new.file (new.at + 1) → IsTrue new.usable → IsReady b (record { machine = written_state store.machine w; manifest = store.manifest; log = new })
   written_ready new change file room usable = record {
-    together = together_written store.machine store.manifest store.log new w.table w.place w.change ready.together file;
+    together = together_written store.machine store.manifest store.log new w.table (place_of store.machine.partitioner w.key) w.change ready.together file;
     consistent = ready.consistent;
     manifest_room = (
         let apart : manifest_name store.manifest.number ≢ store.log.file = subst (λ f. manifest_name store.manifest.number ≢ f) (sym ready.together.file) (kinds_apart _ _ (omega arith)) in
@@ -86,13 +79,12 @@ module _ (a b : View) (sound : IsSound a) (store : Store) (w : Write) (ready : I
     no_other = alone_written a b store.log.file store.manifest.number store.manifest.listing ready.together.file ready.consistent.start.ordered change ready.no_other;
   }
 
-  pub written_serves : w.table < 2 ^ 32 → (new : Handle) → Changes (Step store.log.file Anyhow) a b → ((mutations : List Mutation) → IsAtLogEnd a store.log.file store.log.at mutations → IsAtLogEnd b store.log.file new.at (mutations ++ mutation_of w ∷ [])) → IsTold a → ServesStore a store → Serves b (written_state store.machine w) store.manifest new
+  pub written_serves : w.table < 2 ^ 32 → (new : Handle) → Changes (Step store.log.file Anyhow) a b → ((mutations : List Mutation) → IsAtLogEnd a store.log.file store.log.at mutations → IsAtLogEnd b store.log.file new.at (mutations ++ w ∷ [])) → IsTold a → ServesStore a store → Serves b (written_state store.machine w) store.manifest new
   written_serves small new change gains told serves =
       let end = gains serves.current (subst (λ f. IsAtLogEnd a f store.log.at serves.current) (sym ready.together.file) serves.log_end) in
-      subst (λ later. Serves b later store.manifest new) made
-      (write_serves a b sound store.machine store.manifest store.log serves (mutation_of w) ready.consistent (fits small) new.at told
-      (subst (λ f. IsAtLogEnd b f new.at (serves.current ++ mutation_of w ∷ [])) ready.together.file end)
-      (subst (λ f. Changes (Step f Anyhow) a b) ready.together.file change) new refl)
+      write_serves a b sound store.machine store.manifest store.log serves w ready.consistent (fits small) new.at told
+      (subst (λ f. IsAtLogEnd b f new.at (serves.current ++ w ∷ [])) ready.together.file end)
+      (subst (λ f. Changes (Step f Anyhow) a b) ready.together.file change) new refl
 
 -- ---- one more table
 

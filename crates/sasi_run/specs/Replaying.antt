@@ -6,7 +6,7 @@ use Rattle.sasi_host.specs.Names.{Bytes, Folder, log_name}
 use Rattle.sasi_host.specs.View.{View, IsThere, IsTold, contents}
 use Rattle.sasi_host.specs.Disk.{Changes, IsKept, Same}
 use Rattle.sasi_model.specs.State.{State, definitions}
-use Rattle.sasi_commitlog.specs.declared.mutation.Mutation.{Mutation}
+use Rattle.sasi_cells.specs.declared.mutation.Mutation.{Mutation}
 use Rattle.sasi_commitlog.specs.Damages.{ShowsLog}
 use Rattle.sasi_commitlog.specs.Format.{IsLog, Tables}
 use Rattle.sasi_commitlog.specs.Standing.{IsAtLogEnd}

@@ -7,7 +7,7 @@ use Rattle.sasi_host.specs.declared.name.FileName.{FileName}
 use Rattle.sasi_host.specs.Damages.{OnDamage, seen_bytes}
 use Rattle.sasi_host.specs.Names.{Folder, log_name}
 use Rattle.sasi_host.specs.View.{View}
-use Rattle.sasi_commitlog.specs.declared.mutation.Mutation.{Mutation}
+use Rattle.sasi_cells.specs.declared.mutation.Mutation.{Mutation}
 use Rattle.sasi_manifest.specs.declared.listing.Listing.{Listing}
 use Rattle.sasi_folder.specs.Stands.{Holds}
 

@@ -7,7 +7,7 @@ ghost use Rattle.sasi_host.specs.Moves.{Each};
 ghost use Rattle.sasi_host.specs.Names.{Folder, name_cmp};
 ghost use Rattle.sasi_gated.specs.Causes.{ReadingCauses};
 ghost use Rattle.sasi_model.specs.State.{State};
-ghost use Rattle.sasi_commitlog.specs.declared.mutation.Mutation.{Mutation};
+ghost use Rattle.sasi_cells.specs.declared.mutation.Mutation.{Mutation};
 ghost use Rattle.sasi_manifest.specs.declared.listing.Listing.{Listing};
 ghost use Rattle.sasi_folder.specs.Damages.{FolderShows, ShowsListed};
 ghost use Rattle.sasi_folder.specs.Replay.{state_made};

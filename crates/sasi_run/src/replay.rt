@@ -16,11 +16,12 @@ ghost use Rattle.sasi_folder.specs.Replay.{after_mutation, listed_state, takes};
 ghost use Rattle.sasi_folder.specs.Stands.{types_listed};
 ghost use Rattle.sasi_run.specs.Replaying.{AreThere, HasReplayed, IsOfListing, IsReplayShown, IsSegmentShown, ReadsAll, ReadsSegment, Replays, ReplaysSegment, SparesReplay, SparesSegment};
 
-use sasi_commitlog::{Log, Mutation};
+use sasi_cells::Mutation;
+use sasi_commitlog::Log;
 use sasi_host::{Host, ReadFault};
-use sasi_machine::{Machine, Write};
+use sasi_machine::Machine;
 use sasi_manifest::{ListedTable, Listing};
-use sasi_types::{Place, TableTypes};
+use sasi_types::TableTypes;
 use std::alloc::{AllocError, Global};
 
 /// What a listing and its live segments of the log stand for, with the last of them at its closed gate.
@@ -135,14 +136,7 @@ fn merge(
     if !takes(listing.tables.as_slice(), number, mutation.table) {
         return Ok(());
     }
-    let Mutation { table, key, change } = mutation;
-    let token = machine.partitioner().token(key.bytes());
-    let place = Place { token, key };
-    machine.write(Write {
-        table,
-        place,
-        change,
-    })
+    machine.write(mutation)
 }
 
 // Merges the mutations of the segment with this number into the listed tables. The log then stands at its closed gate.

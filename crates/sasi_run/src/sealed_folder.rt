@@ -7,7 +7,7 @@ ghost use Rattle.sasi_host.specs.View.{IsThere, Reaches};
 ghost use Rattle.sasi_host.specs.Disk.{Changes, Lists, Same};
 ghost use Rattle.sasi_host.specs.Moves.{Each};
 ghost use Rattle.sasi_gated.specs.Causes.{ReadingCauses};
-ghost use Rattle.sasi_commitlog.specs.declared.mutation.Mutation.{Mutation};
+ghost use Rattle.sasi_cells.specs.declared.mutation.Mutation.{Mutation};
 ghost use Rattle.sasi_manifest.specs.declared.listing.Listing.{Listing as AListing};
 ghost use Rattle.sasi_manifest.specs.Consistent.{IsConsistent};
 ghost use Rattle.sasi_manifest.specs.Reading.{ReadsListing, StandsWhereKept};

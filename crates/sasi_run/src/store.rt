@@ -8,15 +8,17 @@ ghost use Rattle.sasi_model.specs.Step.{step};
 ghost use Rattle.sasi_schema.specs.Defined.{definition};
 ghost use Rattle.sasi_manifest.specs.Listings.{CanCreate};
 ghost use Rattle.sasi_machine.specs.Outcome.{outcome_of};
-ghost use Rattle.sasi_machine.specs.Plans.{IsFit, IsNext, written_state};
+ghost use Rattle.sasi_cells.specs.Mutations.{written_state};
+ghost use Rattle.sasi_machine.specs.Plans.{IsFit, IsNext};
 ghost use Rattle.sasi_run.specs.Storing.{GoesTo, IsReady, ServesStore, Somehow};
 
-use sasi_commitlog::{Log, Mutation};
+use sasi_cells::Mutation;
+use sasi_commitlog::Log;
 use sasi_host::{Host, HostFault};
-use sasi_machine::{Machine, Outcome, Planned, Reply, Write};
+use sasi_machine::{Machine, Outcome, Planned, Reply};
 use sasi_manifest::{Edit, EditList, Manifest};
 use sasi_schema::Table;
-use sasi_types::{PieceEnd, Place};
+use sasi_types::PieceEnd;
 use std::alloc::Global;
 
 /// The state in memory, the manifest that counts, and the last segment of the log.
@@ -52,39 +54,26 @@ pub fn step<H: Host>(
             create(alloc, store, host, table)?;
             Ok(Outcome::Done)
         }
-        Planned::Write(change) => {
-            write(store, host, change)?;
+        Planned::Write(mutation) => {
+            write(store, host, mutation)?;
             Ok(Outcome::Done)
         }
     }
 }
 
 // Records a change of a partition in the log, and makes it.
-fn write<H: Host>(store: &mut Store, host: &mut H, change: Write) -> Result<(), HostFault>
+fn write<H: Host>(store: &mut Store, host: &mut H, mutation: Mutation) -> Result<(), HostFault>
     requires ready { IsReady (H.view host.old) store.old }
-    requires fit { IsFit store.old.machine change }
-    ensures state { OnOk result (store.new.machine ≡ written_state store.old.machine change) }
+    requires fit { IsFit store.old.machine mutation }
+    ensures state { OnOk result (store.new.machine ≡ written_state store.old.machine mutation) }
     ensures ready { OnOk result (IsReady (H.view host.new) store.new) }
     ensures serves { OnOk result (IsTold (H.view host.old) → ServesStore (H.view host.old) store.old → ServesStore (H.view host.new) store.new) }
-    ensures any_moment { ServesStore (H.view host.old) store.old → GoesTo (H.view host.old) (H.view host.new) store.old.machine (written_state store.old.machine change) }
+    ensures any_moment { ServesStore (H.view host.old) store.old → GoesTo (H.view host.old) (H.view host.new) store.old.machine (written_state store.old.machine mutation) }
     ensures changes { Changes Somehow (H.view host.old) (H.view host.new) }
     ensures causes { ListCauses (H.view host.old) (H.view host.new) result }
 {
-    let Write {
-        table,
-        place,
-        change,
-    } = change;
-    let Place { token, key } = place;
-    let mutation = Mutation { table, key, change };
     store.log.append(host, &mutation)?;
-    let Mutation { table, key, change } = mutation;
-    let place = Place { token, key };
-    store.machine.write(Write {
-        table,
-        place,
-        change,
-    })?;
+    store.machine.write(mutation)?;
     Ok(())
 }
 

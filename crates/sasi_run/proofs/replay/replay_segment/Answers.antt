@@ -4,7 +4,7 @@ use Rattle.sasi_host.specs.Disk.{Same}
 use Rattle.sasi_host.specs.Moves.{then_same}
 use Rattle.sasi_host.specs.View.{Reaches}
 use Rattle.sasi_host.specs.declared.name.FileName.{FileName}
-use Rattle.sasi_commitlog.specs.declared.mutation.Mutation.{Mutation}
+use Rattle.sasi_cells.specs.declared.mutation.Mutation.{Mutation}
 use Rattle.sasi_commitlog.specs.Format.{Tables}
 use Rattle.sasi_commitlog.specs.Reads.{IsLogShownAt, ReadsLogGate, ReadsMutations, SparesLog}
 use Rattle.sasi_run.proofs.ReplayingSegment.{begins_replay, failed_later, reads_whole, replayed_whole, replays_more, shown_on, spares_first, spares_on}

@@ -11,8 +11,8 @@ use Rattle.sasi_machine.proofs.machine.Machine.plan_write.Goals as goal
 pub returns-in_ok-ok-in-Ok : goal.returns-in_ok-ok-in-Ok
 returns-in_ok-ok-in-Ok c =
     let s = c.self.inside in
-    subst (λ (old : State). Asks old c.args.statement c.args.reply.now c.ok.new.self (Write c.in-Ok.write)) c.self.view_is
-    (write_asks s.partitioner s.schema s.contents.items s.greatest c.args.statement c.in-Ok.write c.args.reply.now c.ok.new.self c.self.invariant c.requires c.in-Ok.ensures.write c.in-Ok.ensures.answers c.in_ok-ok-in-Ok.ensures.ok)
+    subst (λ (old : State). Asks old c.args.statement c.args.reply.now c.ok.new.self (Write c.in-Ok.mutation)) c.self.view_is
+    (write_asks s.partitioner s.schema s.contents.items s.greatest c.args.statement c.in-Ok.mutation c.args.reply.now c.ok.new.self c.self.invariant c.requires c.in-Ok.ensures.write c.in-Ok.ensures.answers c.in_ok-ok-in-Ok.ensures.ok)
 
 pub returns-in_ok-outcome-in-Err : goal.returns-in_ok-outcome-in-Err
 returns-in_ok-outcome-in-Err c =

@@ -1,5 +1,5 @@
-// What is written to the log at once.
-use sasi_cells::Partition;
+// What a statement writes.
+use crate::Partition;
 use sasi_types::Key;
 
 /// What was written of one key of a table.
