@@ -50,26 +50,32 @@ at_deletion types key start between empty passes key_is = record {
 }
 
 -- bytes that are left behind a body aren't its own
-pub left_over : (types : List ColumnType) (key : Bytes) (part : Partition) (start between end : Reading) → IsKey types key → IsPart types part → Passes (key_bytes key) start between → Passes (part_bytes part) between end
+pub left_over : (types : List ColumnType) (key : Bytes) (part : Partition) (start between end : Reading) → IsKey types key → IsPart types part →
+    Passes (key_bytes key) start between → Passes (part_bytes part) between end
     → end.left ≢ [] → HasOtherLength types start.left
-left_over types key part start between end key_is part_is first second some = goes_on key part end.left (body_of types key part key_is part_is) some (body_passed key part start between end first second)
+left_over types key part start between end key_is part_is first second some = goes_on key part end.left (body_of types key part key_is part_is) some
+    (body_passed key part start between end first second)
 
-pub all_passed : (key : Bytes) (part : Partition) (start between end : Reading) → Passes (key_bytes key) start between → Passes (part_bytes part) between end → end.left ≡ [] → start.left ≡ body key part
+pub all_passed : (key : Bytes) (part : Partition) (start between end : Reading) → Passes (key_bytes key) start between → Passes (part_bytes part)
+    between end → end.left ≡ [] → start.left ≡ body key part
 all_passed key part start between end first second none = body_passed key part start between end first second ∙ ap (λ (l : Bytes). body key part ++ l) none ∙ append-nil (body key part)
 
 -- ---- what was put is read
 
 -- bytes that are a body show no fault
-only_memory : (types : List ColumnType) (key : Bytes) (part : Partition) (bytes : Bytes) (f : BodyFault) → IsBodyOf types key part → bytes ≡ body key part → IsFaultOf types bytes f → IsForLackOfMemory f
+only_memory : (types : List ColumnType) (key : Bytes) (part : Partition) (bytes : Bytes) (f : BodyFault) → IsBodyOf types key part → bytes ≡ body key
+    part → IsFaultOf types bytes f → IsForLackOfMemory f
 only_memory types key part bytes fault.OutOfMemory of is shown = refl
 only_memory types key part bytes fault.OtherLength of is shown = absurd (no_other_length types key part of bytes is shown)
 only_memory types key part bytes (fault.Broken broken) of is shown = absurd (no_break types key part of bytes broken.rule broken.at (seen_bytes broken.seen) is shown)
 
-pub spared : {T : Type 0} (result : Result T BodyFault) (types : List ColumnType) (bytes key : Bytes) (part : Partition) → IfErr result (IsFaultOf types bytes) → IsBodyOf types key part → bytes ≡ body key part → IfErr result IsForLackOfMemory
+pub spared : {T : Type 0} (result : Result T BodyFault) (types : List ColumnType) (bytes key : Bytes) (part : Partition) → IfErr result
+    (IsFaultOf types bytes) → IsBodyOf types key part → bytes ≡ body key part → IfErr result IsForLackOfMemory
 spared result types bytes key part shown of is = IfErr-weaker result (IsFaultOf types bytes) IsForLackOfMemory (λ f. only_memory types key part bytes f of is) shown
 
 pub read_again : (result : Result (Bytes × Partition) BodyFault) (types : List ColumnType) (bytes key : Bytes) (part : Partition)
-    → IfOk result (λ read. bytes ≡ body read.0 read.1) → IfOk result (λ read. IsBodyOf types read.0 read.1) → IsBodyOf types key part → bytes ≡ body key part → IfOk result (λ read. (read.0 ≡ key) × (read.1 ≡ part))
+    → IfOk result (λ read. bytes ≡ body read.0 read.1) → IfOk result (λ read. IsBodyOf types read.0 read.1) → IsBodyOf types key part → bytes ≡ body
+    key part → IfOk result (λ read. (read.0 ≡ key) × (read.1 ≡ part))
 read_again (Ok read) types bytes key part stands in_table of is =
     let same = bodies_same types read.0 key read.1 part [] [] in_table of (ap (λ (l : Bytes). l ++ []) (sym stands ∙ is)) in
     (same.0, same.1)

@@ -92,7 +92,8 @@ pub put_behind : (part : Partition) (k : ℕ) (cell : Cell) → next_column (cel
 put_behind part k cell le = map.entries-insert nat_cmp_total part.cells k cell ∙ put_last (cells_of part) k cell le
 
 -- the cells with one more are those of a body
-pub cells_push : (types : List ColumnType) (deleted : ℕ) (cells : List Entry) (e : Entry) → AreCells types deleted cells → IsCell deleted e → IsListed types e → next_column cells ≤ e.0 → AreCells types deleted (cells ++ e ∷ [])
+pub cells_push : (types : List ColumnType) (deleted : ℕ) (cells : List Entry) (e : Entry) → AreCells types deleted cells → IsCell deleted e → IsListed
+    types e → next_column cells ≤ e.0 → AreCells types deleted (cells ++ e ∷ [])
 cells_push types deleted cells e are is listed le = record {
   each = all_push (IsCell deleted) cells e are.each is;
   listed = all_push (IsListed types) cells e are.listed listed;
@@ -119,7 +120,8 @@ no_cells types deleted cells none = subst (AreCells types deleted) (sym none) (r
 
 -- ---- where the next one stands
 
-pub at_next : (types : List ColumnType) (start now : Reading) (deleted count : ℕ) (cells : List Entry) → AtCells types start deleted count → IsCount deleted count → Passes (flat_map cell_bytes cells) start now → AreCells types deleted cells → length cells < count
+pub at_next : (types : List ColumnType) (start now : Reading) (deleted count : ℕ) (cells : List Entry) → AtCells types start deleted count → IsCount
+    deleted count → Passes (flat_map cell_bytes cells) start now → AreCells types deleted cells → length cells < count
     → IsAtCell types now.done deleted cells
 at_next types start now deleted count cells at count_is passes are more = record {
   before = at.before;

@@ -50,7 +50,8 @@ lacks_next size reading short = record { left = reading.left; is = refl; short =
 
 -- bytes that stand next aren't a value
 pub no_value_next : (types : List ColumnType) (column size : ℕ) (reading : Reading) (value rest seen : Bytes) (at : ℕ)
-    → reading.left ≡ value ++ rest → at ≡ length reading.done → length value ≡ size → seen ≡ take 8 value → ¬ IsTypedAt types column value → IsNoValue types column size (whole reading) reading.done at seen
+    → reading.left ≡ value ++ rest → at ≡ length reading.done → length value ≡ size → seen ≡ take 8 value → ¬ IsTypedAt types column value → IsNoValue
+    types column size (whole reading) reading.done at seen
 no_value_next types column size reading value rest seen at next place sized stated wrong = record {
   value = value;
   rest = rest;

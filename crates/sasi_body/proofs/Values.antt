@@ -49,7 +49,8 @@ is_stored types.Int bytes is = is
 is_stored types.BigInt bytes is = is
 is_stored types.Uuid bytes is = is
 
-pub value_again : {E : Type 0} (result : Result Value E) (type : ColumnType) (bytes : Bytes) → ((i : ℕ) → get_or bytes i 0 < 256) → IsValueOf type bytes → length bytes < 2 ^ 16 → IfOk result (λ value. value ≡ value_stored type bytes)
+pub value_again : {E : Type 0} (result : Result Value E) (type : ColumnType) (bytes : Bytes) → ((i : ℕ) → get_or bytes i 0 < 256) → IsValueOf type
+    bytes → length bytes < 2 ^ 16 → IfOk result (λ value. value ≡ value_stored type bytes)
     → IfOk result (λ value. stored value ≡ bytes) × IfOk result (λ value. type_of value ≡ type) × IfOk result HasBytes
 value_again (Ok value) type bytes fits is short read = (
   ap stored read ∙ stored_again type bytes fits is,

@@ -1,4 +1,4 @@
--- Where bytes aren't a body of a table, and what stands there.
+-- Where bytes break the format of a body, and what is there.
 use Rattle.std.specs.Prelude.{◌≡◌, ◌≢◌, ◌⊎◌, ℕ, ◌^◌, ◌<◌, ◌≤◌, List, [], ◌∷◌, ◌++◌, length, take}
 use Rattle.std.specs.Int.{to_be_bytes, w16, w64}
 use Rattle.sasi_host.specs.declared.damage.FormatRule.{FormatRule}
@@ -13,7 +13,7 @@ use Rattle.sasi_body.specs.Places.{IsAtKey, IsAtDeletion, IsAtCount, next_column
 
 -- ---- a number outside its range
 
--- behind the front, at this place, stands a number that isn't right
+-- the field behind the front, at this offset, is a wrong number
 pub record IsWrong (limit : ℕ) (put : ℕ → Bytes) (Right : ℕ → Type 0) (bytes front : Bytes) (at : ℕ) (seen : Bytes) : Type 0 where
   pub number : ℕ
   pub rest : Bytes
@@ -45,7 +45,7 @@ pub data IsWrongNumber (types : List ColumnType) (bytes : Bytes) (at : ℕ) (see
 
 -- ---- a cell out of order
 
--- behind these cells, at this place, stands the column of another that isn't above them; of this cell eight bytes are seen, or what there is
+-- the column of the cell behind these cells, at this offset, isn't above theirs; eight bytes of the cell are seen, or all
 pub record IsWrongOrder (types : List ColumnType) (bytes : Bytes) (at : ℕ) (seen : Bytes) : Type 0 where
   pub front : Bytes
   pub deleted : ℕ
@@ -63,7 +63,7 @@ pub record IsWrongOrder (types : List ColumnType) (bytes : Bytes) (at : ℕ) (se
 
 -- ---- bytes that are no value of their type
 
--- behind the front, at this place, stand bytes that aren't a value of the column; eight of them are seen, or all
+-- the bytes behind the front, at this offset, encode no value of the column; eight of them are seen, or all
 pub record IsNoValue (types : List ColumnType) (column size : ℕ) (bytes front : Bytes) (at : ℕ) (seen : Bytes) : Type 0 where
   pub value : Bytes
   pub rest : Bytes
@@ -79,7 +79,7 @@ pub data IsWrongText (types : List ColumnType) (bytes : Bytes) (at : ℕ) (seen 
 
 -- ---- all of them
 
--- the bytes break the rule at the place, and the seen bytes stand there
+-- the bytes break the rule at the offset, and the seen bytes are there
 abbrev pub Breaks : List ColumnType → Bytes → FormatRule → ℕ → Bytes → Type 0
 Breaks types bytes Number at seen = IsWrongNumber types bytes at seen
 Breaks types bytes Order at seen = IsWrongOrder types bytes at seen

@@ -1,4 +1,4 @@
--- How far bytes are those of a body: each relation says that the fields up to a place are right, and what the last of them say.
+-- Prefixes of a body: each relation says that the fields up to an offset are right, and what the last of them say.
 use Rattle.std.specs.Prelude.{◌≡◌, ℕ, true, ◌+◌, ◌^◌, ◌<◌, ◌≤◌, max, List, [], ◌∷◌, ◌++◌, length}
 use Rattle.std.specs.Int.{to_be_bytes, w16, w64}
 use Rattle.std.specs.List.{flat_map, AllByRecursion}

@@ -1,4 +1,4 @@
--- What a reader of a body takes from the bytes that it goes over.
+-- What a reader of a body consumes.
 use Rattle.std.specs.Prelude.{◌≡◌, ℕ, ◌+◌, ◌^◌, ◌≤◌, List, [], ◌∷◌, ◌++◌, length, Some, slice_get}
 use Rattle.std.specs.Int.{to_be_bytes, w16}
 use Rattle.sasi_host.specs.Names.{Bytes}
@@ -33,7 +33,7 @@ pub record AtCells (types : List ColumnType) (reading : Reading) (deleted count 
   pub is : reading.done ≡ before ++ to_be_bytes w16 count
   pub deletion : IsAtCount types before deleted
 
--- one more cell goes from the bytes into the partition, behind the others; the least column is then one above its own
+-- the reader consumes one more cell, and the partition has it behind the others; the least column is then one above its own
 pub record Takes (types : List ColumnType) (old new : Reading) (before after : Partition) (least : ℕ) : Type 0 where
   pub entry : Entry
   pub passes : Passes (cell_bytes entry) old new

@@ -1,4 +1,4 @@
--- What is told of bytes that aren't a body.
+-- What a reader reports of bytes that aren't a body.
 use Rattle.std.specs.Prelude.{◌≡◌, ℕ, List, take}
 use Rattle.std.specs.Int.{to_be_bytes, w64}
 use Rattle.sasi_host.specs.declared.damage.Seen.{Seen}
@@ -23,7 +23,7 @@ IsFaultOf types bytes (fault.Broken broken) = Breaks types bytes broken.rule bro
 abbrev pub IsForLackOfMemory : BodyFault → Type 0
 IsForLackOfMemory f = f ≡ fault.OutOfMemory
 
--- a number of eight bytes is missing, or is told with its place
+-- a number of eight bytes is missing, or is reported with its offset
 pub record TellsNumber (at number : ℕ) (broken : Broken) : Type 0 where
   pub rule : broken.rule ≡ Number
   pub place : broken.at ≡ at

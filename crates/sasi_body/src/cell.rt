@@ -17,7 +17,7 @@ use sasi_host::FormatRule;
 use sasi_types::{Cell, ColumnType};
 use std::alloc::Global;
 
-// The next cell, of which the column is this least one or above it.
+// Reads the next cell, whose column is `least` or above.
 pub fn read_cell(
     alloc: Global,
     reader: &mut FieldReader,
@@ -38,7 +38,7 @@ pub fn read_cell(
     Ok((column, Cell { time, value }))
 }
 
-// The number of a column of the list, this least one or above it.
+// Reads a column's number, which is in the list and `least` or above.
 fn read_column(reader: &mut FieldReader, types: &[ColumnType], least: u32) -> Result<u16, BodyFault>
     ensures passes { IfOk result (λ column. Passes (to_be_bytes w16 column) reader.old reader.new) }
     ensures listed { IfOk result (λ column. column < length types.now) }
@@ -60,7 +60,7 @@ fn read_column(reader: &mut FieldReader, types: &[ColumnType], least: u32) -> Re
     Ok(column)
 }
 
-// The time of a cell, which is above the deletion.
+// Reads the timestamp of a cell, which is above that of the deletion.
 fn read_time(reader: &mut FieldReader, types: &[ColumnType], deleted: u64) -> Result<u64, BodyFault>
     requires { deleted ≤ 2 ^ 62 }
     ensures passes { IfOk result (λ time. Passes (to_be_bytes w64 time) reader.old reader.new) }

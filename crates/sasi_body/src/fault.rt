@@ -1,4 +1,4 @@
-// Why bytes aren't read as a body.
+// Why bytes can't be decoded as a body.
 ghost use Rattle.std.specs.Prelude.{◌≡◌, take};
 ghost use Rattle.std.specs.Int.{to_be_bytes, w64};
 ghost use Rattle.sasi_body.specs.Seen.{IsBrokenNumber};
@@ -9,25 +9,25 @@ use sasi_fields::{FieldFault, ShortField};
 use sasi_host::{FormatRule, Seen};
 use std::alloc::AllocError;
 
-/// A rule of the format that bytes break, where they do so, and what stands there.
+/// A broken rule of the format, its offset, and the bytes there.
 #[derive(Clone, Copy, Debug, PartialEq, Eq)]
 pub struct Broken {
     pub rule: FormatRule,
-    /// The place from the start of the bytes.
+    /// The offset in the body.
     pub at: usize,
     pub seen: Seen,
 }
 
-/// Why bytes aren't read as a body.
+/// Why bytes can't be decoded as a body.
 #[derive(Clone, Copy, Debug, PartialEq, Eq)]
 pub enum BodyFault {
     OutOfMemory,
-    /// The bytes end within the body, or go on behind it.
+    /// The bytes end within the body, or continue after it.
     OtherLength,
     Broken(Broken),
 }
 
-/// The rule is broken at this place, where these bytes stand, of which the first eight are told.
+/// The bytes at this offset break the rule. The first eight of them are reported.
 pub fn found(rule: FormatRule, at: usize, bytes: &[u8]) -> Broken
     ensures rule { result.rule ≡ rule }
     ensures at { result.at ≡ at }

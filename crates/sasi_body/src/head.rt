@@ -1,4 +1,4 @@
-// What stands before the cells of a body.
+// The fields of a body before its cells.
 ghost use Rattle.std.specs.Prelude.{◌≡◌, ◌≤◌, ◌^◌, ◌++◌, [], IfErr, IfOk, length};
 ghost use Rattle.std.specs.Int.{to_be_bytes, w16, w64};
 ghost use Rattle.sasi_fields.specs.Reading.{Passes};
@@ -14,13 +14,13 @@ use sasi_host::FormatRule;
 use sasi_types::{ColumnType, Key};
 use std::alloc::Global;
 
-// The greatest time.
+// The largest timestamp.
 pub const LATEST: u64 = 1 << 62;
 
-// The most cells.
+// The most cells of a partition.
 const CELL_LIMIT: u16 = 64;
 
-// The key, which stands at the start.
+// Reads the key, the first field.
 pub fn read_key(
     alloc: Global,
     reader: &mut FieldReader,
@@ -45,7 +45,7 @@ pub fn read_key(
     }
 }
 
-// The time of the deletion.
+// Reads the timestamp of the deletion.
 pub fn read_deletion(reader: &mut FieldReader, types: &[ColumnType]) -> Result<u64, BodyFault>
     ensures passes { IfOk result (λ time. Passes (to_be_bytes w64 time) reader.old reader.new) }
     ensures fits { IfOk result (λ time. time ≤ 2 ^ 62) }
@@ -56,7 +56,7 @@ pub fn read_deletion(reader: &mut FieldReader, types: &[ColumnType]) -> Result<u
     Ok(time)
 }
 
-// The number of the cells.
+// Reads the number of cells.
 pub fn read_count(
     reader: &mut FieldReader,
     types: &[ColumnType],

@@ -1,5 +1,5 @@
-// Bodies of partitions: the bytes that logs and data files have of a key and of what was written of it. Each key and
-// partition has one body, and a reader gives back what was put, or tells where the bytes break the format.
+//! Bodies of partitions: the bytes of a key and its partition, as commit logs and data files store them. Each key and
+//! partition has exactly one body. A reader gives back what was put, or says where the bytes break the format.
 #![tactic(auto)]
 
 mod cell;
@@ -7,8 +7,6 @@ mod fault;
 mod head;
 mod put;
 mod read;
-#[cfg(test)]
-mod tests;
 mod typed;
 mod value;
 

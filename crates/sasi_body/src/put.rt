@@ -1,4 +1,4 @@
-// Bodies put at the end of a list.
+// Encodes bodies.
 ghost use Rattle.std.specs.Prelude.{◌≡◌, ◌<◌, ◌^◌, ◌++◌, length, OnOk, Some, All};
 ghost use Rattle.std.specs.Int.{to_be_bytes, w16};
 ghost use Rattle.std.specs.List.{flat_map};
@@ -9,7 +9,7 @@ use sasi_fields::{put_bytes, put_u8, put_u16, put_u64};
 use sasi_types::{Key, Value};
 use std::alloc::AllocError;
 
-/// Appends the body of a key and what was written of it.
+/// Appends the body of a key and its partition.
 pub fn put_body(out: &mut Vec<u8>, key: &Key, part: &Partition) -> Result<(), AllocError>
     requires { HasBody key.now part.now }
     ensures { OnOk result (out.new.items ≡ out.old.items ++ body key.now part.now) }
@@ -19,7 +19,7 @@ pub fn put_body(out: &mut Vec<u8>, key: &Key, part: &Partition) -> Result<(), Al
     put_cells(out, part.cells())
 }
 
-// The key behind its length.
+// Appends a key's length and the key.
 fn put_key(out: &mut Vec<u8>, key: &Key) -> Result<(), AllocError>
     requires { length key.now < 2 ^ 16 }
     ensures { OnOk result (out.new.items ≡ out.old.items ++ key_bytes key.now) }
@@ -29,7 +29,7 @@ fn put_key(out: &mut Vec<u8>, key: &Key) -> Result<(), AllocError>
     put_bytes(out, bytes)
 }
 
-// The number of the cells, and each of them.
+// Appends the number of cells, and each cell.
 fn put_cells(out: &mut Vec<u8>, cells: &[Entry]) -> Result<(), AllocError>
     requires few { length cells.now < 2 ^ 16 }
     requires each { All HasCellBytes cells.now }
@@ -42,7 +42,7 @@ fn put_cells(out: &mut Vec<u8>, cells: &[Entry]) -> Result<(), AllocError>
     Ok(())
 }
 
-// A column's number and its cell.
+// Appends a column's number and its cell.
 fn put_cell(out: &mut Vec<u8>, entry: &Entry) -> Result<(), AllocError>
     requires { HasCellBytes entry.now }
     ensures { OnOk result (out.new.items ≡ out.old.items ++ cell_bytes entry.now) }
@@ -55,7 +55,7 @@ fn put_cell(out: &mut Vec<u8>, entry: &Entry) -> Result<(), AllocError>
     }
 }
 
-// The tag, the length and the stored bytes of a value.
+// Appends the tag, the length and the bytes of a value.
 fn put_value(out: &mut Vec<u8>, value: &Value) -> Result<(), AllocError>
     requires { HasBytes value.now }
     ensures { OnOk result (out.new.items ≡ out.old.items ++ value_bytes (Some value.now)) }

@@ -1,4 +1,4 @@
-// Bodies read.
+// Decodes bodies.
 ghost use Rattle.std.specs.Prelude.{◌≡◌, ◌≤◌, ◌^◌, ◌++◌, [], ℕ, List, IfErr, IfOk, OnOk, length};
 ghost use Rattle.std.specs.Int.{to_be_bytes, w16, w64};
 ghost use Rattle.std.specs.List.{flat_map};
@@ -19,7 +19,7 @@ use sasi_fields::FieldReader;
 use sasi_types::{ColumnType, Key, TypeList};
 use std::alloc::Global;
 
-/// The key and the partition of which these bytes are the body, all of them, in a table with these types.
+/// Decodes a body, which is all the bytes, of a table whose columns have these types.
 pub fn read_body(
     alloc: Global,
     bytes: &[u8],
@@ -27,16 +27,16 @@ pub fn read_body(
 ) -> Result<(Key, Partition), BodyFault>
     ensures bytes { IfOk result (λ read. bytes.now ≡ body read.0 read.1) }
     ensures in_table { IfOk result (λ read. IsBodyOf types.now read.0 read.1) }
-    // What was put is read, unless memory runs out.
+    // It reads back what was put, unless memory runs out.
     ensures again { (key : Bytes) (part : Partition) → IsBodyOf types.now key part → bytes.now ≡ body key part → IfOk result (λ read. (read.0 ≡ key) × (read.1 ≡ part)) }
     ensures spares { (key : Bytes) (part : Partition) → IsBodyOf types.now key part → bytes.now ≡ body key part → IfErr result IsForLackOfMemory }
-    // Else the fault is one that the bytes show.
+    // Otherwise the bytes break the format as the fault says.
     ensures shown { IfErr result (IsFaultOf types.now bytes.now) }
 {
     read_whole(alloc, bytes, types.as_slice())
 }
 
-// The same, over the types as a slice.
+// `read_body` over the types as a slice.
 fn read_whole(
     alloc: Global,
     bytes: &[u8],
@@ -55,7 +55,7 @@ fn read_whole(
     Ok((key, part))
 }
 
-// What stands behind the key.
+// Reads the deletion and the cells.
 fn read_part(
     alloc: Global,
     reader: &mut FieldReader,
@@ -72,7 +72,7 @@ fn read_part(
     Ok(part)
 }
 
-// So many cells, put into a partition that has none.
+// Reads `count` cells into a partition that has none.
 fn read_cells(
     alloc: Global,
     reader: &mut FieldReader,
@@ -96,7 +96,7 @@ fn read_cells(
     Ok(())
 }
 
-// Takes one more cell, and gives the least column of the next one.
+// Reads one more cell into the partition, and gives the least column that may follow.
 fn take_cell(
     alloc: Global,
     reader: &mut FieldReader,

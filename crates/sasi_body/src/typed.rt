@@ -8,7 +8,7 @@ use sasi_cells::stored_value;
 use sasi_types::{ColumnType, Value};
 use std::alloc::{AllocError, Global};
 
-// The type that the list has at this place, if it has one and the bytes stand for a value of it.
+// The type at this position of the list, if there is one and the bytes encode a value of it.
 pub fn type_of(types: &[ColumnType], place: usize, bytes: &[u8]) -> Option<ColumnType>
     ensures { MatchOption result (¬ IsTypedAt types.now place bytes.now) (λ kind. (slice_get types.now place ≡ Some kind) × IsValueOf kind bytes.now) }
 {
@@ -20,7 +20,7 @@ pub fn type_of(types: &[ColumnType], place: usize, bytes: &[u8]) -> Option<Colum
     }
 }
 
-// Whether the bytes stand for a value of the type.
+// Whether the bytes encode a value of the type.
 fn is_value(kind: ColumnType, bytes: &[u8]) -> bool
     ensures { IsTrue result ↔ IsValueOf kind bytes.now }
 {
@@ -32,7 +32,7 @@ fn is_value(kind: ColumnType, bytes: &[u8]) -> bool
     }
 }
 
-// The value of the type for which the bytes stand.
+// The value of the type that the bytes encode.
 pub fn value_of(alloc: Global, kind: ColumnType, bytes: &[u8]) -> Result<Value, AllocError>
     requires value { IsValueOf kind bytes.now }
     requires short { length bytes.now < 2 ^ 16 }

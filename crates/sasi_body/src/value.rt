@@ -1,4 +1,4 @@
-// What a cell has: a value, or none for a tombstone.
+// The value of a cell; a tombstone has none.
 ghost use Rattle.std.specs.Prelude.{◌≡◌, ◌≤◌, ◌<◌, ◌^◌, ◌++◌, [], ℕ, List, IfErr, IfOk, IfSome, Some, length, slice_get};
 ghost use Rattle.std.specs.Int.{to_be_bytes, w16};
 ghost use Rattle.sasi_types.specs.Value.{stored, type_of as type_of_value};
@@ -15,7 +15,7 @@ use sasi_host::FormatRule;
 use sasi_types::{ColumnType, Text, Value};
 use std::alloc::Global;
 
-// The tag, and behind that of a value the value.
+// Reads the tag of a tombstone, or that of a value and the value.
 pub fn read_value(
     alloc: Global,
     reader: &mut FieldReader,
@@ -39,7 +39,7 @@ pub fn read_value(
     Ok(Some(value))
 }
 
-// A length and a value, which is empty for the marker.
+// Reads a length and a value. The marker's value is empty.
 fn read_live(
     alloc: Global,
     reader: &mut FieldReader,
@@ -58,7 +58,7 @@ fn read_live(
     read_typed(alloc, reader, types, column, size)
 }
 
-// The length of a value, 0 for the marker.
+// Reads the length of a value. The marker's is 0.
 fn read_size(reader: &mut FieldReader, types: &[ColumnType], column: u16) -> Result<u16, BodyFault>
     ensures passes { IfOk result (λ size. Passes (to_be_bytes w16 size) reader.old reader.new) }
     ensures marker { IfOk result (λ size. column ≡ 0 → size ≡ 0) }
@@ -74,7 +74,7 @@ fn read_size(reader: &mut FieldReader, types: &[ColumnType], column: u16) -> Res
     Ok(size)
 }
 
-// A value of the column's type, of so many bytes.
+// Reads `size` bytes as a value of the column's type.
 fn read_typed(
     alloc: Global,
     reader: &mut FieldReader,

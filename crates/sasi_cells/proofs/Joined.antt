@@ -1,4 +1,4 @@
--- What is taken from the front of two lists that are joined.
+-- What the merge of two sorted lists takes from their fronts.
 use Rattle.std.proofs.Common.{◌≡◌, List, [], ◌∷◌, ◌++◌, Option, None, Some, refl, sym, ap, ◌∙◌}
 use Rattle.std.specs.declared.cmp.Ordering.{Ordering}
 use Rattle.std.specs.declared.cmp.Ordering.TheVariants.{Less, Equal, Greater}
@@ -16,22 +16,28 @@ some_same a b e = cc
 
 first_lower : (x : Entry) (xs ys : List Entry) → lower_column (x ∷ xs) ys ≡ Some Less → joined (x ∷ xs) ys ≡ x ∷ joined xs ys
 first_lower x xs [] low = ap (λ l. x ∷ l) (sym (joined_nil xs))
-first_lower x xs (y ∷ ys) low = ap (λ r. match_ordering r (x ∷ joined xs (y ∷ ys)) ((x.0, newest x.1 y.1) ∷ joined xs ys) (y ∷ joined (x ∷ xs) ys)) (some_same _ _ low)
+first_lower x xs (y ∷ ys) low =
+    ap (λ r. match_ordering r (x ∷ joined xs (y ∷ ys)) ((x.0, newest x.1 y.1) ∷ joined xs ys) (y ∷ joined (x ∷ xs) ys)) (some_same _ _ low)
 
 second_lower : (xs : List Entry) (y : Entry) (ys : List Entry) → lower_column xs (y ∷ ys) ≡ Some Greater → joined xs (y ∷ ys) ≡ y ∷ joined xs ys
 second_lower [] y ys low = refl
-second_lower (x ∷ xs) y ys low = ap (λ r. match_ordering r (x ∷ joined xs (y ∷ ys)) ((x.0, newest x.1 y.1) ∷ joined xs ys) (y ∷ joined (x ∷ xs) ys)) (some_same _ _ low)
+second_lower (x ∷ xs) y ys low =
+    ap (λ r. match_ordering r (x ∷ joined xs (y ∷ ys)) ((x.0, newest x.1 y.1) ∷ joined xs ys) (y ∷ joined (x ∷ xs) ys)) (some_same _ _ low)
 
-both_lowest : (x y : Entry) (xs ys : List Entry) → lower_column (x ∷ xs) (y ∷ ys) ≡ Some Equal → joined (x ∷ xs) (y ∷ ys) ≡ (x.0, newest x.1 y.1) ∷ joined xs ys
-both_lowest x y xs ys low = ap (λ r. match_ordering r (x ∷ joined xs (y ∷ ys)) ((x.0, newest x.1 y.1) ∷ joined xs ys) (y ∷ joined (x ∷ xs) ys)) (some_same _ _ low)
+both_lowest : (x y : Entry) (xs ys : List Entry) → lower_column (x ∷ xs) (y ∷ ys) ≡ Some Equal
+    → joined (x ∷ xs) (y ∷ ys) ≡ (x.0, newest x.1 y.1) ∷ joined xs ys
+both_lowest x y xs ys low =
+    ap (λ r. match_ordering r (x ∷ joined xs (y ∷ ys)) ((x.0, newest x.1 y.1) ∷ joined xs ys) (y ∷ joined (x ∷ xs) ys)) (some_same _ _ low)
 
 -- the first list has the lower column
-pub takes_first : (xs ys left : List Entry) (taken : Option Entry) → lower_column xs ys ≡ Some Less → xs ≡ option_to_list taken ++ left → joined xs ys ≡ option_to_list taken ++ joined left ys
+pub takes_first : (xs ys left : List Entry) (taken : Option Entry) → lower_column xs ys ≡ Some Less → xs ≡ option_to_list taken ++ left
+    → joined xs ys ≡ option_to_list taken ++ joined left ys
 takes_first xs ys left None low is = ap (λ l. joined l ys) is
 takes_first xs ys left (Some e) low is = ap (λ l. joined l ys) is ∙ first_lower e left ys (ap (λ l. lower_column l ys) (sym is) ∙ low)
 
 -- the second list has it
-pub takes_second : (xs ys left : List Entry) (taken : Option Entry) → lower_column xs ys ≡ Some Greater → ys ≡ option_to_list taken ++ left → joined xs ys ≡ option_to_list taken ++ joined xs left
+pub takes_second : (xs ys left : List Entry) (taken : Option Entry) → lower_column xs ys ≡ Some Greater → ys ≡ option_to_list taken ++ left
+    → joined xs ys ≡ option_to_list taken ++ joined xs left
 takes_second xs ys left None low is = ap (joined xs) is
 takes_second xs ys left (Some e) low is = ap (joined xs) is ∙ second_lower xs e left (ap (lower_column xs) (sym is) ∙ low)
 
@@ -44,7 +50,8 @@ not_empty_behind [] e = cc
 not_empty_behind (x ∷ xs) e = cc
 
 -- both begin with it
-pub takes_both : (xs ys xs' ys' : List Entry) (a b : Option Entry) → lower_column xs ys ≡ Some Equal → xs ≡ option_to_list a ++ xs' → ys ≡ option_to_list b ++ ys' → (a ≡ None → xs ≡ []) → (b ≡ None → ys ≡ [])
+pub takes_both : (xs ys xs' ys' : List Entry) (a b : Option Entry) → lower_column xs ys ≡ Some Equal → xs ≡ option_to_list a ++ xs'
+    → ys ≡ option_to_list b ++ ys' → (a ≡ None → xs ≡ []) → (b ≡ None → ys ≡ [])
     → joined xs ys ≡ option_to_list (newest_entry a b) ++ joined xs' ys'
 takes_both xs ys xs' ys' None b low is_a is_b none_a none_b = absurd (not_empty ys (ap (λ l. lower_column l ys) (sym (none_a refl)) ∙ low))
 takes_both xs ys xs' ys' (Some x) None low is_a is_b none_a none_b = absurd (not_empty_behind xs (ap (lower_column xs) (sym (none_b refl)) ∙ low))

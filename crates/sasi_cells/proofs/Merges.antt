@@ -1,4 +1,4 @@
--- Two joined lists are the merge of their partitions.
+-- The merge of two sorted lists is the merge of their partitions.
 use Rattle.std.proofs.Common.{◌≡◌, ℕ, max, not, nat_le, Bool, true, false, cond, if◌then◌else◌, T, List, [], ◌∷◌, Option, None, Some, refl, sym, ap, ◌∙◌, subst}
 use Rattle.std.specs.declared.cmp.Ordering.{Ordering}
 use Rattle.std.specs.declared.cmp.Ordering.TheVariants.{Less, Equal, Greater}
@@ -45,7 +45,8 @@ sorted_joined (x ∷ xs) [] g h = g
 sorted_joined (x ∷ xs) (y ∷ ys) g h =
     elim (nat_cmp x.0 y.0) as (λ r. nat_cmp x.0 y.0 ≡ r → T (is_sorted nat_cmp (match_ordering r (x ∷ joined xs (y ∷ ys)) ((x.0, newest x.1 y.1) ∷ joined xs ys) (y ∷ joined (x ∷ xs) ys)))) [
       | Less ↦ λ low. both _ _ (below_joined x.0 xs (y ∷ ys) (first _ _ g) (both _ _ (less _ low) (lower_still x.0 y.0 ys low (first _ _ h)))) (sorted_joined xs (y ∷ ys) (second _ _ g) h)
-      | Equal ↦ λ same. both _ _ (below_joined x.0 xs ys (first _ _ g) (subst (λ k. T (below_all nat_cmp k ys)) (sym (tied x.0 y.0 same)) (first _ _ h))) (sorted_joined xs ys (second _ _ g) (second _ _ h))
+      | Equal ↦ λ same. both _ _ (below_joined x.0 xs ys (first _ _ g)
+          (subst (λ k. T (below_all nat_cmp k ys)) (sym (tied x.0 y.0 same)) (first _ _ h))) (sorted_joined xs ys (second _ _ g) (second _ _ h))
       | Greater ↦ λ high. let low : nat_cmp y.0 x.0 ≡ Less = nat_cmp_total.antisymm y.0 x.0 ∙ ap ordering_reverse high in
           both _ _ (below_joined y.0 (x ∷ xs) ys (both _ _ (less _ low) (lower_still y.0 x.0 xs low (first _ _ g))) (first _ _ h)) (sorted_joined (x ∷ xs) ys g (second _ _ h))
     ] refl
@@ -72,7 +73,8 @@ front_second c y m n rest absent is =
       | false ↦ λ _. is
     ] refl
 
-front_both : (b : Bool) (x y : Cell) (m n rest : Option Cell) → rest ≡ newest_of m n → cond b (Some (newest x y)) rest ≡ newest_of (cond b (Some x) m) (cond b (Some y) n)
+front_both : (b : Bool) (x y : Cell) (m n rest : Option Cell) → rest ≡ newest_of m n
+    → cond b (Some (newest x y)) rest ≡ newest_of (cond b (Some x) m) (cond b (Some y) n)
 front_both true x y m n rest is = refl
 front_both false x y m n rest is = is
 
@@ -83,17 +85,25 @@ newest_of_none (Some cell) = refl
 absent_at : (c k : ℕ) (es : List Entry) → eq_by_cmp nat_cmp c k ≡ true → T (below_all nat_cmp k es) → find nat_cmp c es ≡ None
 absent_at c k es same h = ap (λ n. find nat_cmp n es) (equal_columns c k same) ∙ find_below k es h
 
-find_joined : (c : ℕ) (xs ys : List Entry) → T (is_sorted nat_cmp xs) → T (is_sorted nat_cmp ys) → find nat_cmp c (joined xs ys) ≡ newest_of (find nat_cmp c xs) (find nat_cmp c ys)
+find_joined : (c : ℕ) (xs ys : List Entry) → T (is_sorted nat_cmp xs) → T (is_sorted nat_cmp ys)
+    → find nat_cmp c (joined xs ys) ≡ newest_of (find nat_cmp c xs) (find nat_cmp c ys)
 find_joined c [] ys g h = refl
 find_joined c (x ∷ xs) [] g h = sym (newest_of_none (find nat_cmp c (x ∷ xs)))
 find_joined c (x ∷ xs) (y ∷ ys) g h =
-    elim (nat_cmp x.0 y.0) as (λ r. nat_cmp x.0 y.0 ≡ r → find nat_cmp c (match_ordering r (x ∷ joined xs (y ∷ ys)) ((x.0, newest x.1 y.1) ∷ joined xs ys) (y ∷ joined (x ∷ xs) ys)) ≡ newest_of (find nat_cmp c (x ∷ xs)) (find nat_cmp c (y ∷ ys))) [
-      | Less ↦ λ low. front_first c x (find nat_cmp c xs) (find nat_cmp c (y ∷ ys)) _ (λ same. absent_at c x.0 (y ∷ ys) same (both _ _ (less _ low) (lower_still x.0 y.0 ys low (first _ _ h)))) (find_joined c xs (y ∷ ys) (second _ _ g) h)
+    elim (nat_cmp x.0 y.0) as (λ r. nat_cmp x.0 y.0 ≡ r → find nat_cmp c
+    (match_ordering r (x ∷ joined xs (y ∷ ys)) ((x.0, newest x.1 y.1) ∷ joined xs ys) (y ∷ joined (x ∷ xs) ys))
+    ≡ newest_of (find nat_cmp c (x ∷ xs)) (find nat_cmp c (y ∷ ys))) [
+      | Less ↦ λ low. front_first c x (find nat_cmp c xs) (find nat_cmp c (y ∷ ys)) _
+          (λ same. absent_at c x.0 (y ∷ ys) same (both _ _ (less _ low) (lower_still x.0 y.0 ys low (first _ _ h))))
+          (find_joined c xs (y ∷ ys) (second _ _ g) h)
       | Equal ↦ λ same. let k : x.0 ≡ y.0 = equal_columns x.0 y.0 (ap is_eq same) in
-          subst (λ n. cond (eq_by_cmp nat_cmp c x.0) (Some (newest x.1 y.1)) (find nat_cmp c (joined xs ys)) ≡ newest_of (find nat_cmp c (x ∷ xs)) (cond (eq_by_cmp nat_cmp c n) (Some y.1) (find nat_cmp c ys))) k
+          subst (λ n. cond (eq_by_cmp nat_cmp c x.0) (Some (newest x.1 y.1)) (find nat_cmp c (joined xs ys)) ≡ newest_of (find nat_cmp c (x ∷ xs))
+          (cond (eq_by_cmp nat_cmp c n) (Some y.1) (find nat_cmp c ys))) k
           (front_both (eq_by_cmp nat_cmp c x.0) x.1 y.1 _ _ _ (find_joined c xs ys (second _ _ g) (second _ _ h)))
       | Greater ↦ λ high. let low : nat_cmp y.0 x.0 ≡ Less = nat_cmp_total.antisymm y.0 x.0 ∙ ap ordering_reverse high in
-          front_second c y (find nat_cmp c (x ∷ xs)) (find nat_cmp c ys) _ (λ same. absent_at c y.0 (x ∷ xs) same (both _ _ (less _ low) (lower_still y.0 x.0 xs low (first _ _ g)))) (find_joined c (x ∷ xs) ys g (second _ _ h))
+          front_second c y (find nat_cmp c (x ∷ xs)) (find nat_cmp c ys) _
+          (λ same. absent_at c y.0 (x ∷ xs) same (both _ _ (less _ low) (lower_still y.0 x.0 xs low (first _ _ g))))
+          (find_joined c (x ∷ xs) ys g (second _ _ h))
     ] refl
 
 -- ---- a deletion
@@ -128,7 +138,8 @@ front_kept : (shadowed at : Bool) (cell : Cell) (d c : ℕ) (e : Entry) (kept : 
     → find nat_cmp c (cond (not shadowed) (e ∷ kept) kept) ≡ unshadowed d (cond at (Some e.1) rest)
 front_kept true true cell d c e kept rest s a is none = is ∙ ap (unshadowed d) (none refl) ∙ sym (ap (λ b. if b then None else Some e.1) s)
 front_kept true false cell d c e kept rest s a is none = is
-front_kept false true cell d c e kept rest s a is none = ap (λ b. cond b (Some e.1) (find nat_cmp c kept)) a ∙ sym (ap (λ b. if b then None else Some e.1) s)
+front_kept false true cell d c e kept rest s a is none =
+    ap (λ b. cond b (Some e.1) (find nat_cmp c kept)) a ∙ sym (ap (λ b. if b then None else Some e.1) s)
 front_kept false false cell d c e kept rest s a is none = ap (λ b. cond b (Some e.1) (find nat_cmp c kept)) a ∙ is
 
 find_unshadowed : (c d : ℕ) (es : List Entry) → T (is_sorted nat_cmp es) → find nat_cmp c (unshadowed_entries d es) ≡ unshadowed d (find nat_cmp c es)
@@ -138,8 +149,9 @@ find_unshadowed c d (e ∷ es) h =
 
 -- ---- the merge
 
--- what is joined is sorted, and no deletion shadows it
-pub sorted_merged : (d : ℕ) (xs ys : List Entry) → T (is_sorted nat_cmp xs) → T (is_sorted nat_cmp ys) → T (is_sorted nat_cmp (unshadowed_entries d (joined xs ys)))
+-- the merged list is sorted, and no deletion shadows an entry of it
+pub sorted_merged : (d : ℕ) (xs ys : List Entry) → T (is_sorted nat_cmp xs) → T (is_sorted nat_cmp ys)
+    → T (is_sorted nat_cmp (unshadowed_entries d (joined xs ys)))
 sorted_merged d xs ys g h = sorted_unshadowed d (joined xs ys) (sorted_joined xs ys g h)
 
 -- and is the merge
@@ -148,5 +160,6 @@ pub joined_is_merge : (d e : ℕ) (xs ys : List Entry) → T (is_sorted nat_cmp 
 joined_is_merge d e xs ys g h =
     same_partition _ _ (sym (deleted_merge (partition_of d xs) (partition_of e ys)))
     (λ c. map.get-from_sorted nat_cmp _ c (sorted_merged (max d e) xs ys g h) ∙ find_unshadowed c (max d e) (joined xs ys) (sorted_joined xs ys g h)
-    ∙ ap (unshadowed (max d e)) (find_joined c xs ys g h ∙ ap (λ x. newest_of x (find nat_cmp c ys)) (sym (map.get-from_sorted nat_cmp xs c g)) ∙ ap (newest_of (map.get (map.from_sorted xs) c)) (sym (map.get-from_sorted nat_cmp ys c h)))
+    ∙ ap (unshadowed (max d e)) (find_joined c xs ys g h ∙ ap (λ x. newest_of x (find nat_cmp c ys)) (sym (map.get-from_sorted nat_cmp xs c g))
+    ∙ ap (newest_of (map.get (map.from_sorted xs) c)) (sym (map.get-from_sorted nat_cmp ys c h)))
     ∙ sym (get_merge (partition_of d xs) (partition_of e ys) c))

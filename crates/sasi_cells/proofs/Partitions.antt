@@ -34,7 +34,8 @@ abbrev none_written : List Entry
 none_written = []
 
 none_is_empty : map.from_sorted {R = nat_cmp} none_written ≡ map.empty
-none_is_empty = map.empty_of_len _ (map.len-entries (map.from_sorted {R = nat_cmp} none_written) ∙ ap length (map.entries-from_sorted nat_cmp none_written tt))
+none_is_empty =
+    map.empty_of_len _ (map.len-entries (map.from_sorted {R = nat_cmp} none_written) ∙ ap length (map.entries-from_sorted nat_cmp none_written tt))
 
 pub none_is_deletion : (time : ℕ) (es : List Entry) → es ≡ [] → partition_of time es ≡ deletion time
 none_is_deletion time es e = ap (partition_of time) e ∙ ap (λ (cells : Cells). record { deleted = time; cells = cells }) none_is_empty
@@ -77,9 +78,10 @@ found_above d c (e ∷ es) h =
 pub ordered_is_normal : (d : ℕ) (es : List Entry) → IsOrdered d es → IsNormal (partition_of d es)
 ordered_is_normal d es h c = ap (unshadowed d) (get_is es c h.rising) ∙ found_above d c es h.above ∙ sym (get_is es c h.rising)
 
--- ---- a cell put in its place
+-- ---- a cell put at its position
 
-all_put : (d k : ℕ) (cell : Cell) (es : List Entry) → is_above d (k, cell) ≡ true → list_all (is_above d) es ≡ true → list_all (is_above d) (map.put nat_cmp k cell es) ≡ true
+all_put : (d k : ℕ) (cell : Cell) (es : List Entry) → is_above d (k, cell) ≡ true → list_all (is_above d) es ≡ true
+    → list_all (is_above d) (map.put nat_cmp k cell es) ≡ true
 all_put d k cell [] new h = rw new refl
 all_put d k cell (e ∷ es) new h =
     elim (nat_cmp k e.0) as (λ r. list_all (is_above d) (by_order r ((k, cell) ∷ e ∷ es) ((e.0, cell) ∷ es) (e ∷ map.put nat_cmp k cell es)) ≡ true) [
@@ -92,21 +94,25 @@ put_entries : (es : List Entry) (k : ℕ) (cell : Cell) → map.is_sorted nat_cm
 put_entries es k cell h = map.entries-insert nat_cmp_total (map.from_sorted es) k cell ∙ ap (map.put nat_cmp k cell) (entries_are es h)
 
 put_sorted : (es : List Entry) (k : ℕ) (cell : Cell) → map.is_sorted nat_cmp es ≡ true → map.is_sorted nat_cmp (map.put nat_cmp k cell es) ≡ true
-put_sorted es k cell h = ap (map.is_sorted nat_cmp) (sym (put_entries es k cell h)) ∙ tested _ (map.entries_sorted (map.insert (map.from_sorted {R = nat_cmp} es) k cell))
+put_sorted es k cell h =
+    ap (map.is_sorted nat_cmp) (sym (put_entries es k cell h)) ∙ tested _ (map.entries_sorted (map.insert (map.from_sorted {R = nat_cmp} es) k cell))
 
--- to put a cell in its place is to insert it
-pub put_is_insert : (d : ℕ) (es : List Entry) (k : ℕ) (cell : Cell) → map.is_sorted nat_cmp es ≡ true → partition_of d (map.put nat_cmp k cell es) ≡ with_column (partition_of d es) k cell
+-- to put a cell at its position is to insert it
+pub put_is_insert : (d : ℕ) (es : List Entry) (k : ℕ) (cell : Cell) → map.is_sorted nat_cmp es ≡ true
+    → partition_of d (map.put nat_cmp k cell es) ≡ with_column (partition_of d es) k cell
 put_is_insert d es k cell h =
     ap (λ (cells : Cells). record { deleted = d; cells = cells }) (map.same_entries_map _ _ (entries_are _ (put_sorted es k cell h) ∙ sym (put_entries es k cell h)))
 
 -- over the entry of its column
-pub set_at : (es items : List Entry) (k at : ℕ) (entry : Entry) (cell : Cell) → map.is_sorted nat_cmp es ≡ true → items ≡ es → IsColumnAt items k at → entry ≡ (k, cell) → set es at entry ≡ map.put nat_cmp k cell es
+pub set_at : (es items : List Entry) (k at : ℕ) (entry : Entry) (cell : Cell) → map.is_sorted nat_cmp es ≡ true → items ≡ es → IsColumnAt items k at
+    → entry ≡ (k, cell) → set es at entry ≡ map.put nat_cmp k cell es
 set_at es items k at entry cell h same found is =
     let here = subst (λ l. IsColumnAt l k at) same found in
     ap (set es at) is ∙ ap (λ (n : ℕ). set es at (n, cell)) (sym (here.is entry)) ∙ set_is_put es k at entry cell (test _ h) here.in_range (here.is entry)
 
 -- or between two others
-pub inserted_at : (es items : List Entry) (k at : ℕ) (entry : Entry) (cell : Cell) → items ≡ es → IsGapFor items k at → entry ≡ (k, cell) → insert es at entry ≡ map.put nat_cmp k cell es
+pub inserted_at : (es items : List Entry) (k at : ℕ) (entry : Entry) (cell : Cell) → items ≡ es → IsGapFor items k at → entry ≡ (k, cell)
+    → insert es at entry ≡ map.put nat_cmp k cell es
 inserted_at es items k at entry cell same gap is = ap (insert es at) is ∙ insert_is_put es k at cell (subst (λ l. IsGapFor l k at) same gap)
 
 later_is_above : (d k : ℕ) (cell : Cell) → d < cell.time → is_above d (k, cell) ≡ true
@@ -121,14 +127,18 @@ ordered_after_put (Err e) d old new k cell h later ok err = subst (IsOrdered d) 
 
 -- ---- a merge
 
-pub merged_is_ordered : (m d e : ℕ) (xs ys mine zs : List Entry) → IsOrdered d xs → IsOrdered e ys → m ≡ max d e → mine ≡ xs → zs ≡ unshadowed_entries m (joined mine ys) → IsOrdered m zs
+pub merged_is_ordered : (m d e : ℕ) (xs ys mine zs : List Entry) → IsOrdered d xs → IsOrdered e ys → m ≡ max d e → mine ≡ xs
+    → zs ≡ unshadowed_entries m (joined mine ys) → IsOrdered m zs
 merged_is_ordered m d e xs ys mine zs g h greater same is =
     record {
-      rising = ap (map.is_sorted nat_cmp) (is ∙ ap (λ l. unshadowed_entries m (joined l ys)) same) ∙ tested _ (sorted_merged m xs ys (test _ g.rising) (test _ h.rising));
+      rising =
+          ap (map.is_sorted nat_cmp) (is ∙ ap (λ l. unshadowed_entries m (joined l ys)) same)
+          ∙ tested _ (sorted_merged m xs ys (test _ g.rising) (test _ h.rising));
       above = ap (list_all (is_above m)) is ∙ all_above m (joined mine ys);
     }
 
-pub merged_is_merge : (m d e : ℕ) (xs ys mine zs : List Entry) (p q : Partition) → IsOrdered d xs → IsOrdered e ys → m ≡ max d e → mine ≡ xs → zs ≡ unshadowed_entries m (joined mine ys)
+pub merged_is_merge : (m d e : ℕ) (xs ys mine zs : List Entry) (p q : Partition) → IsOrdered d xs → IsOrdered e ys → m ≡ max d e → mine ≡ xs
+    → zs ≡ unshadowed_entries m (joined mine ys)
     → partition_of d xs ≡ p → partition_of e ys ≡ q → partition_of m zs ≡ merge p q
 merged_is_merge m d e xs ys mine zs p q g h greater same is first second =
     ap (partition_of m) (is ∙ ap (λ l. unshadowed_entries m (joined l ys)) same) ∙ ap (λ n. partition_of n (unshadowed_entries n (joined xs ys))) greater
@@ -146,19 +156,24 @@ get_shown d es p c h is = sym (get_is es c h.rising) ∙ ap (λ (o : Partition).
 abbrev of_column : ℕ → Option Cell → Option Entry
 of_column c cell = option_map (λ (o : Cell). (c, o)) cell
 
-pub cell_shown : (d : ℕ) (es items : List Entry) (p : Partition) (c at : ℕ) (e : Entry) → IsOrdered d es → partition_of d es ≡ p → items ≡ es → IsColumnAt items c at → e ≡ get_or es at e → Some e ≡ of_column c (map.get p.cells c)
+pub cell_shown : (d : ℕ) (es items : List Entry) (p : Partition) (c at : ℕ) (e : Entry) → IsOrdered d es → partition_of d es ≡ p → items ≡ es
+    → IsColumnAt items c at → e ≡ get_or es at e → Some e ≡ of_column c (map.get p.cells c)
 cell_shown d es items p c at e h is same found read =
     let here = subst (λ l. IsColumnAt l c at) same found in
     let column : e.0 ≡ c = ap (λ (o : Entry). o.0) read ∙ here.is e in
     let shown : Some e.1 ≡ map.get p.cells c = ap (λ (o : Entry). Some o.1) read ∙ sym (find_at es c at e (test _ h.rising) here.in_range (here.is e)) ∙ get_shown d es p c h is in
     ap (λ (n : ℕ). Some (n, e.1)) column ∙ ap (of_column c) shown
 
-pub no_cell_shown : (d : ℕ) (es items : List Entry) (p : Partition) (c at : ℕ) → IsOrdered d es → partition_of d es ≡ p → items ≡ es → IsGapFor items c at → None ≡ of_column c (map.get p.cells c)
-no_cell_shown d es items p c at h is same gap = ap (of_column c) (sym (find_gap es c at (subst (λ l. IsGapFor l c at) same gap)) ∙ get_shown d es p c h is)
+pub no_cell_shown : (d : ℕ) (es items : List Entry) (p : Partition) (c at : ℕ) → IsOrdered d es → partition_of d es ≡ p → items ≡ es
+    → IsGapFor items c at → None ≡ of_column c (map.get p.cells c)
+no_cell_shown d es items p c at h is same gap =
+    ap (of_column c) (sym (find_gap es c at (subst (λ l. IsGapFor l c at) same gap)) ∙ get_shown d es p c h is)
 
-pub greatest_shown : (d : ℕ) (es items : List Entry) (p : Partition) (r : ℕ) → IsOrdered d es → partition_of d es ≡ p → items ≡ es → r ≡ max d (greatest_time (cells_of items)) → r ≡ greatest_of p
+pub greatest_shown : (d : ℕ) (es items : List Entry) (p : Partition) (r : ℕ) → IsOrdered d es → partition_of d es ≡ p → items ≡ es
+    → r ≡ max d (greatest_time (cells_of items)) → r ≡ greatest_of p
 greatest_shown d es items p r h is same e =
     e ∙ ap (λ l. max d (greatest_time (cells_of l))) (same ∙ entries_shown d es p h is) ∙ ap (λ (o : Partition). max o.deleted (greatest_time (map.values p.cells))) is
 
-pub live_shown : (d : ℕ) (es items : List Entry) (p : Partition) (r : Bool) → IsOrdered d es → partition_of d es ≡ p → items ≡ es → r ≡ any_live (cells_of items) → r ≡ is_live p
+pub live_shown : (d : ℕ) (es items : List Entry) (p : Partition) (r : Bool) → IsOrdered d es → partition_of d es ≡ p → items ≡ es
+    → r ≡ any_live (cells_of items) → r ≡ is_live p
 live_shown d es items p r h is same e = e ∙ ap (λ l. any_live (cells_of l)) (same ∙ entries_shown d es p h is)

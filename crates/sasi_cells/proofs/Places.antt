@@ -1,4 +1,4 @@
--- What a search finds among entries with rising columns, and what an edit at that place does.
+-- What a search finds among entries with rising columns, and what an edit at that position does.
 use Rattle.std.proofs.Common.{◌≡◌, ℕ, zero, suc, ◌<◌, ◌≤◌, false, cond, T, List, [], ◌∷◌, length, get_or, set, None, Some, Result, Ok, Err, IfOk, IfErr, refl, sym, ap, ◌∙◌, subst, arith}
 use Rattle.std.specs.declared.cmp.Ordering.{Ordering}
 use Rattle.std.specs.declared.cmp.Ordering.TheVariants.{Less, Equal, Greater}
@@ -50,7 +50,8 @@ rising (e ∷ es) (suc i) (suc j) d h before inside = rising es i j d (second _ 
 
 -- ---- the search
 
-comparisons_rise : (es : List Entry) (k : ℕ) (d : Entry) → T (is_sorted nat_cmp es) → IsNonDecreasingBy (λ (e : Entry). ordering_index (nat_cmp e.0 k)) es
+comparisons_rise : (es : List Entry) (k : ℕ) (d : Entry) → T (is_sorted nat_cmp es)
+    → IsNonDecreasingBy (λ (e : Entry). ordering_index (nat_cmp e.0 k)) es
 comparisons_rise es k d h = IsNonDecreasingBy-from_default (λ (e : Entry). ordering_index (nat_cmp e.0 k)) es d (λ i j le inside.
     let columns : (get_or es i d).0 ≤ (get_or es j d).0 = grind (arith, rising es i j d h, λ (same : i ≡ j). ap (λ n. (get_or es n d).0) same) in
     grind (arith, nat_tests))
@@ -58,7 +59,8 @@ comparisons_rise es k d h = IsNonDecreasingBy-from_default (λ (e : Entry). orde
 some_entry : Entry
 some_entry = (0, record { time = 0; value = None })
 
-pub searched : (es : List Entry) (k : ℕ) (r : Result ℕ ℕ) → T (is_sorted nat_cmp es) → IsSearchInRange r (length es) → IsBinarySearchResult (λ (e : Entry). nat_cmp e.0 k) es r
+pub searched : (es : List Entry) (k : ℕ) (r : Result ℕ ℕ) → T (is_sorted nat_cmp es) → IsSearchInRange r (length es)
+    → IsBinarySearchResult (λ (e : Entry). nat_cmp e.0 k) es r
     → record { found : IfOk r (IsColumnAt es k); absent : IfErr r (IsGapFor es k) }
 searched es k (Ok at) h in_range equal = record { found = record { in_range = in_range; is = λ d. ranked _ k Equal (sym (equal d)) }; absent = tt }
 searched es k (Err at) h in_range parted =
@@ -74,7 +76,8 @@ searched es k (Err at) h in_range parted =
 
 -- ---- what is found there
 
-pub find_at : (es : List Entry) (k at : ℕ) (d : Entry) → T (is_sorted nat_cmp es) → at < length es → (get_or es at d).0 ≡ k → find nat_cmp k es ≡ Some (get_or es at d).1
+pub find_at : (es : List Entry) (k at : ℕ) (d : Entry) → T (is_sorted nat_cmp es) → at < length es → (get_or es at d).0 ≡ k
+    → find nat_cmp k es ≡ Some (get_or es at d).1
 find_at [] k at d h inside is = absurd (omega arith)
 find_at (e ∷ es) k zero d h inside is = ap (λ n. find nat_cmp n (e ∷ es)) (sym is) ∙ find_first e es
 find_at (e ∷ es) k (suc at) d h inside is =
@@ -97,8 +100,12 @@ gap_in_front e es k gap = record {
 
 pub find_gap : (es : List Entry) (k at : ℕ) → IsGapFor es k at → find nat_cmp k es ≡ None
 find_gap [] k at gap = refl
-find_gap (e ∷ es) k zero gap = ap (λ r. cond (is_eq r) (Some e.1) (find nat_cmp k es)) (is_less k e.0 (gap.higher_after 0 e (omega arith) (omega arith))) ∙ find_gap es k 0 (gap_in_front e es k gap)
-find_gap (e ∷ es) k (suc at) gap = ap (λ b. cond b (Some e.1) (find nat_cmp k es)) (not_equal k e.0 (gap.lower_before 0 e (omega arith))) ∙ find_gap es k at (gap_behind e es k at gap)
+find_gap (e ∷ es) k zero gap =
+    ap (λ r. cond (is_eq r) (Some e.1) (find nat_cmp k es)) (is_less k e.0 (gap.higher_after 0 e (omega arith) (omega arith)))
+    ∙ find_gap es k 0 (gap_in_front e es k gap)
+find_gap (e ∷ es) k (suc at) gap =
+    ap (λ b. cond b (Some e.1) (find nat_cmp k es)) (not_equal k e.0 (gap.lower_before 0 e (omega arith)))
+    ∙ find_gap es k at (gap_behind e es k at gap)
 
 -- ---- edits
 
@@ -107,7 +114,8 @@ put_by : (e : Entry) (es : List Entry) (k : ℕ) (cell : Cell) (r : Ordering) �
     → put nat_cmp k cell (e ∷ es) ≡ by_order r ((k, cell) ∷ e ∷ es) ((e.0, cell) ∷ es) (e ∷ put nat_cmp k cell es)
 put_by e es k cell r is = ap (λ o. by_order o ((k, cell) ∷ e ∷ es) ((e.0, cell) ∷ es) (e ∷ put nat_cmp k cell es)) is
 
-pub set_is_put : (es : List Entry) (k at : ℕ) (d : Entry) (cell : Cell) → T (is_sorted nat_cmp es) → at < length es → (get_or es at d).0 ≡ k → set es at ((get_or es at d).0, cell) ≡ put nat_cmp k cell es
+pub set_is_put : (es : List Entry) (k at : ℕ) (d : Entry) (cell : Cell) → T (is_sorted nat_cmp es) → at < length es → (get_or es at d).0 ≡ k
+    → set es at ((get_or es at d).0, cell) ≡ put nat_cmp k cell es
 set_is_put [] k at d cell h inside is = absurd (omega arith)
 set_is_put (e ∷ es) k zero d cell h inside is = sym (put_by e es k cell Equal (subst (λ n. nat_cmp n e.0 ≡ Equal) is (tied_itself nat_cmp_total e.0)))
 set_is_put (e ∷ es) k (suc at) d cell h inside is =

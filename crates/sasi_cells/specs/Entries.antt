@@ -1,4 +1,4 @@
--- The cells of a partition as lists with rising columns, and how two such lists are joined in one pass.
+-- The cells of a partition as lists with rising columns, and the merge of two such lists in one pass.
 use Rattle.std.specs.Prelude.{◌≡◌, ℕ, Bool, true, not, nat_le, List, [], ◌∷◌, Option, None, Some}
 use Rattle.std.specs.declared.cmp.Ordering.{Ordering}
 use Rattle.std.specs.declared.cmp.Ordering.TheVariants.{Less, Greater}
@@ -26,7 +26,7 @@ lower_column [] (y ∷ ys) = Some Greater
 lower_column (x ∷ xs) [] = Some Less
 lower_column (x ∷ xs) (y ∷ ys) = Some (nat_cmp x.0 y.0)
 
--- of two entries of one column the newer, if there is one
+-- the newer of two entries of one column, if there is one
 abbrev pub newest_entry : Option Entry → Option Entry → Option Entry
 newest_entry None b = b
 newest_entry (Some a) None = Some a

@@ -1,11 +1,11 @@
--- The entry that a column's number, a time, a state and a value stand for.
+-- The view of an entry: the column's number, and the cell of its time, state and value.
 use Rattle.std.specs.Prelude.{ℕ, Option, None, Some}
 use Rattle.sasi_types.specs.declared.cell.Cell.{Cell}
 use Rattle.sasi_types.specs.declared.value.Value.{Value}
 use Rattle.sasi_cells.specs.declared.entry.State.{State}
 use Rattle.sasi_cells.specs.declared.entry.State.TheVariants.{Live, Tombstone}
 
--- the value of a live cell, and none of a tombstone
+-- the value of a live cell; None for a tombstone
 abbrev pub kept_value : State → Value → Option Value
 kept_value Live value = Some value
 kept_value Tombstone value = None

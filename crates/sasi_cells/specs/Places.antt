@@ -1,8 +1,8 @@
--- Where a column stands in a list of entries with rising columns.
+-- The position of a column in a list of entries with rising columns.
 use Rattle.std.specs.Prelude.{◌≡◌, ℕ, ◌<◌, ◌≤◌, List, length, slice_index_or}
 use Rattle.sasi_cells.specs.Entries.{Entry}
 
--- the entry at the place is the column's
+-- the entry at this position is the column's
 pub record IsColumnAt (entries : List Entry) (column at : ℕ) : Type 0 where
   pub in_range : at < length entries
   pub is : (other : Entry) → (slice_index_or entries at other).0 ≡ column

@@ -13,14 +13,14 @@ enum State {
     Tombstone,
 }
 
-/// A column's number with its cell, seen as the two. It has 48 bytes where the two side by side have 56: the mark of a
+/// A column's number with its cell. It has 48 bytes, where a pair of the two would have 56: the mark of a
 /// tombstone stands beside the number, and not around the value.
 #[derive(Debug, Drop)]
 pub struct Entry {
     time: u64,
     column: u16,
     state: State,
-    // Of a tombstone any value that takes no memory.
+    // In a tombstone any value that takes no memory.
     value: Value,
 }
 
@@ -38,7 +38,7 @@ impl Model for Entry {
 }
 
 impl Entry {
-    /// The cell of a column.
+    /// The entry of a column and its cell.
     pub fn new(column: u16, cell: Cell) -> Entry
         ensures { result ≡ (column, cell) }
     {
@@ -73,7 +73,7 @@ impl Entry {
         self.time
     }
 
-    /// The value of the cell; none of a tombstone.
+    /// The value of the cell; None for a tombstone.
     pub fn value(&self) -> Option<&Value>
         ensures { option_copied result ≡ self.now.1.value }
     {
@@ -102,7 +102,7 @@ impl Entry {
         }
     }
 
-    /// The same entry once more.
+    /// A copy of the entry.
     pub fn copy(&self, alloc: Global) -> Result<Entry, AllocError>
         ensures { IfOk result (λ copy. copy ≡ self.now) }
     {

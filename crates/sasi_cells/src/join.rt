@@ -1,4 +1,4 @@
-// Two lists of cells with rising columns, joined in one pass.
+// The merge of two lists of cells with rising columns, in one pass.
 ghost use Rattle.std.specs.Prelude.{◌≡◌, ◌+◌, ◌≤◌, ◌<◌, ◌++◌, ◌∷◌, [], length, None};
 ghost use Rattle.std.specs.Option.{option_to_list};
 ghost use Rattle.std.specs.Vec.{vec_len, vec_capacity};
@@ -11,7 +11,7 @@ use crate::order::newest;
 use std::cmp::Ordering;
 use std::collections::VecDeque;
 
-// Which of two lists begins with the lower column; none where both are empty.
+// Which of two lists begins with the lower column; None where both are empty.
 fn lower_column(mine: &VecDeque<Entry>, theirs: &VecDeque<Entry>) -> Option<Ordering>
     ensures { result ≡ lower_column mine.now.items theirs.now.items }
 {
@@ -23,7 +23,7 @@ fn lower_column(mine: &VecDeque<Entry>, theirs: &VecDeque<Entry>) -> Option<Orde
     }
 }
 
-// Of two entries of one column the newer.
+// The newer of two entries of one column.
 fn newest_of_column(a: Entry, b: Entry) -> Entry
     ensures { result ≡ (a.0, newest a.1 b.1) }
 {
@@ -31,7 +31,7 @@ fn newest_of_column(a: Entry, b: Entry) -> Entry
     Entry::new(column, newest(a.into_cell(), b.into_cell()))
 }
 
-// Of two entries of one column the newer, if there is one.
+// The newer of two entries of one column, if there is one.
 fn newest_entry(a: Option<Entry>, b: Option<Entry>) -> Option<Entry>
     ensures { result ≡ newest_entry a b }
 {
@@ -42,7 +42,7 @@ fn newest_entry(a: Option<Entry>, b: Option<Entry>) -> Option<Entry>
     }
 }
 
-// Takes the entry of the lowest column of both.
+// Removes the entry of the lowest column from both lists.
 fn next_entry(mine: &mut VecDeque<Entry>, theirs: &mut VecDeque<Entry>) -> Option<Entry>
     ensures items { joined mine.old.items theirs.old.items ≡ option_to_list result ++ joined mine.new.items theirs.new.items }
     ensures len { deque_len mine.new + deque_len theirs.new + length (option_to_list result) ≤ deque_len mine.old + deque_len theirs.old }
@@ -66,8 +66,8 @@ fn add_within(cells: &mut Vec<Entry>, entry: Entry)
     let _ = cells.push(entry);
 }
 
-// The newest cell of each column of both, without those that a deletion at this time shadows, put into a list that has
-// room for all. It takes no memory.
+// The newest cell of each column of both lists, without those that a deletion at this time shadows. They go into `room`,
+// which has capacity for all, so no memory is needed.
 pub(crate) fn join(
     deleted: u64,
     mine: Vec<Entry>,

@@ -1,5 +1,5 @@
-// Cells and partitions: what was written of the columns of one key, and how two of it are merged, so that the newest of
-// every column counts, whatever came first. The crate stands on sasi_types and meets the definitions of sasi_model.
+//! Cells and partitions: what was written to the columns of one key, and the merge of two partitions, in which the newest
+//! cell of a column wins, in whatever order they come. It stands on sasi_types and meets the definitions of sasi_model.
 #![tactic(auto)]
 
 mod entry;
@@ -10,8 +10,6 @@ mod partition;
 mod picked;
 mod row;
 mod search;
-#[cfg(test)]
-mod tests;
 
 pub use entry::Entry;
 pub use mutation::Mutation;

@@ -1,8 +1,8 @@
-// What a statement writes.
+// Mutations.
 use crate::Partition;
 use sasi_types::Key;
 
-/// What was written of one key of a table.
+/// The change of one partition of a table.
 #[derive(Debug, Drop)]
 pub struct Mutation {
     /// The number of the table.

@@ -5,15 +5,15 @@ ghost use Rattle.sasi_model.specs.Cells.{value_cmp, cell_cmp, newest};
 use sasi_types::{Cell, Value};
 use std::cmp::Ordering;
 
-/// The order of two cells of a column, where the greater is the newer: by time, and at one time a tombstone is above
-/// every value, and of two values the one with the greater stored bytes is above the other.
+/// The order of two cells of a column, the newer one above: by timestamp; at equal timestamps a tombstone is above
+/// every value, and of two values the one with the larger stored bytes is above the other.
 pub fn newer(a: &Cell, b: &Cell) -> Ordering
     ensures { result ≡ cell_cmp a.now b.now }
 {
     a.time.cmp(&b.time).then(value_order(&a.value, &b.value))
 }
 
-// The order of two values at one time.
+// The order of two values with equal timestamps.
 fn value_order(a: &Option<Value>, b: &Option<Value>) -> Ordering
     ensures { result ≡ value_cmp a.now b.now }
 {
@@ -25,7 +25,7 @@ fn value_order(a: &Option<Value>, b: &Option<Value>) -> Ordering
     }
 }
 
-// The order of the bytes that stand for two values.
+// The order of the stored bytes of two values.
 fn stored_order(a: &Value, b: &Value) -> Ordering
     ensures { result ≡ value_cmp (Some a.now) (Some b.now) }
 {

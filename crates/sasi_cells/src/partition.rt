@@ -1,4 +1,4 @@
-// What is written of one key.
+// The partition of one key.
 ghost use Rattle.std.specs.Prelude.{◌≡◌, ℕ, ◌<◌, true, OnOk, OnErr, IfOk};
 ghost use Rattle.std.specs.Option.{option_copied, option_map};
 ghost use Rattle.std.specs.Ordering.{nat_cmp};
@@ -15,7 +15,7 @@ use std::alloc::{AllocError, Global};
 use std::marker::Model;
 use std::mem;
 
-/// The cells of one key, and the time of its deletion: no cell is at or below that time. It is seen as the two, with the
+/// The cells of one key, and the timestamp of its deletion: each cell has a larger one. Contracts see the two, with the
 /// cells as a map from the numbers of their columns; column 0 is the marker of the row.
 #[derive(Debug, Drop)]
 pub struct Partition {
@@ -38,7 +38,7 @@ impl Model for Partition {
 }
 
 impl Partition {
-    /// Nothing written.
+    /// The partition to which nothing was written.
     pub fn new(alloc: Global) -> Partition
         ensures { result ≡ empty_partition }
     {
@@ -89,7 +89,7 @@ impl Partition {
         put_in(&mut self.cells, column, cell)
     }
 
-    // The same partition once more.
+    // A copy of the partition.
     fn copy(&self, alloc: Global) -> Result<Partition, AllocError>
         ensures ok { IfOk result (λ copy. copy ≡ self.now) }
         ensures normal { IsNormal self.now }
@@ -101,12 +101,12 @@ impl Partition {
         })
     }
 
-    /// Merges another partition of the key, of which the cells are copied.
+    /// Merges a copy of another partition of the key.
     pub fn merge(&mut self, other: &Partition) -> Result<(), AllocError>
         ensures ok { OnOk result (self.new ≡ merge self.old other.now) }
         ensures err { OnErr result (self.new ≡ self.old) }
 
-        // Whatever the order and the grouping of merges, and however often one is done again.
+        // Merges commute, associate, and change nothing when they are repeated.
         ensures commutes { (types : ℕ → ColumnType) → IsTyped types self.old → IsTyped types other.now → OnOk result (self.new ≡ merge other.now self.old) }
         ensures associates { (third : Written) → OnOk result (merge self.new third ≡ merge self.old (merge other.now third)) }
         ensures idempotent { merge other.now other.now ≡ other.now }
@@ -115,7 +115,7 @@ impl Partition {
         self.merge_from(copy)
     }
 
-    /// Merges another partition of the key, and takes its cells.
+    /// Merges another partition of the key by moving its cells. Out of memory leaves this partition unchanged.
     pub fn merge_from(&mut self, other: Partition) -> Result<(), AllocError>
         ensures ok { OnOk result (self.new ≡ merge self.old other) }
         ensures err { OnErr result (self.new ≡ self.old) }
@@ -136,7 +136,7 @@ impl Partition {
         search::any_live(&self.cells)
     }
 
-    /// The greatest time of the deletion or a cell, 0 if there is none.
+    /// The maximum of the timestamps of the deletion and the cells, 0 if there is none.
     pub fn greatest(&self) -> u64
         ensures { result ≡ greatest_of self.now }
     {
@@ -144,7 +144,7 @@ impl Partition {
     }
 }
 
-// Puts the cell of a column in its place.
+// Puts the cell of a column at its position.
 fn put_in(cells: &mut Vec<Entry>, column: u16, cell: Cell) -> Result<(), AllocError>
     requires { map.is_sorted nat_cmp cells.old.items ≡ true }
     ensures ok { OnOk result (cells.new.items ≡ map.put nat_cmp column cell cells.old.items) }
@@ -157,7 +157,7 @@ fn put_in(cells: &mut Vec<Entry>, column: u16, cell: Cell) -> Result<(), AllocEr
     Ok(())
 }
 
-// The same cells once more.
+// A copy of the cells.
 fn copy_cells(cells: &[Entry], alloc: Global) -> Result<Vec<Entry>, AllocError>
     ensures { IfOk result (λ copy. copy.items ≡ cells.now) }
 {

@@ -28,7 +28,7 @@ impl Model for PickedList {
     ghost view = { λ a. a.items.items };
 }
 
-/// What a row is to show.
+/// The values that a row has to give.
 #[derive(Debug, Drop)]
 pub struct Picked {
     /// The type of the key.

@@ -69,7 +69,7 @@ impl Partition {
     }
 }
 
-/// The value that these bytes stand for, which have to be as long as a value of the type is.
+/// Decodes the stored bytes of a value, which have to be as long as a value of the type is.
 pub fn stored_value(alloc: Global, kind: ColumnType, bytes: &[u8]) -> Result<Value, AllocError>
     requires { IsStored kind bytes.now }
     ensures { IfOk result (λ value. value ≡ value_stored kind bytes.now) }

@@ -1,4 +1,4 @@
-// What stands in a list of cells with rising columns.
+// Searches in a list of cells with rising columns.
 ghost use Rattle.std.specs.Prelude.{◌≡◌, true, IfOk, IfErr, map, max};
 ghost use Rattle.std.specs.Ordering.{nat_cmp};
 ghost use Rattle.std.specs.FinMap.{is_sorted};
@@ -28,7 +28,7 @@ pub(crate) fn any_live(cells: &[Entry]) -> bool
     false
 }
 
-// The greatest time of the cells, if it is above another.
+// The maximum of the timestamps of the cells and another one.
 pub(crate) fn greatest_time(cells: &[Entry], other: u64) -> u64
     ensures { result ≡ max other (greatest_time (map (λ e. e.1) cells.now)) }
 {

@@ -1,4 +1,4 @@
--- Payloads that are those of mutations show no fault, and what a fault of one is in the file.
+-- The payload of a mutation has no fault, and the faults of other payloads.
 use Rattle.std.proofs.Common.{◌≡◌, ℕ, ◌+◌, ◌≤◌, List, ◌++◌, length, refl, sym, ◌∙◌, ap, subst, arith, length-append}
 use Rattle.std.specs.Int.{to_be_bytes, w32}
 use Rattle.sasi_host.specs.declared.damage.FormatRule.{FormatRule}
@@ -18,11 +18,11 @@ use Rattle.sasi_commitlog.specs.Damages.{IsOfTable, PayloadBreaks, PayloadHasOth
 use Rattle.sasi_commitlog.specs.Damages.PayloadBreaks.{no_table, broken_body}
 use Rattle.sasi_commitlog.specs.Damages.PayloadHasOtherLength.{no_number, other_body}
 use Rattle.sasi_commitlog.specs.Faults.{IsWithin, IsFaultBehind}
-use Rattle.sasi_commitlog.specs.Laws.{same_32, types_same}
+use Rattle.sasi_commitlog.proofs.Laws.{same_32, types_same}
 
 -- ---- the body of a payload
 
--- behind the number of its table stands the body
+-- after the number of its table comes the body
 body_behind : (tables : Tables) (m : Mutation) (is : IsMutationOf tables m) (payload : Bytes) (types : List ColumnType) (rest : Bytes) → payload ≡ payload_of m → IsOfTable tables payload types rest
     → IsBodyOf types m.key m.change × (rest ≡ body m.key m.change)
 body_behind tables m is payload types rest stands of =
@@ -30,7 +30,8 @@ body_behind tables m is payload types rest stands of =
     let same = types_same tables m.table of.table is.types types (sym numbers.0) is.listed of.listed in
     (subst (λ (t : List ColumnType). IsBodyOf t m.key m.change) same is.body_is, numbers.1)
 
-no_payload_break : (tables : Tables) (m : Mutation) (is : IsMutationOf tables m) (payload : Bytes) (rule : FormatRule) (at : ℕ) (seen : Bytes) → payload ≡ payload_of m → PayloadBreaks tables payload rule at seen → ⊥
+no_payload_break : (tables : Tables) (m : Mutation) (is : IsMutationOf tables m) (payload : Bytes) (rule : FormatRule) (at : ℕ)
+    (seen : Bytes) → payload ≡ payload_of m → PayloadBreaks tables payload rule at seen → ⊥
 no_payload_break tables m is payload rule at seen stands (no_table rule_is place of) =
     let numbers = same_32 of.table m.table of.rest (body m.key m.change) of.fits is.number (ap (λ (l : Bytes). l ++ of.rest) (sym of.stated) ∙ sym of.is ∙ stands) in
     let between = ap (types_in tables) numbers.0 in
@@ -47,7 +48,7 @@ no_other_payload_length tables m is payload stands (other_body types rest of oth
     let found = body_behind tables m is payload types rest stands of in
     no_other_length types m.key m.change found.0 rest found.1 other
 
--- the payload of a mutation isn't read for want of memory alone
+-- reading the payload of a mutation fails only out of memory
 pub only_memory : (tables : Tables) (m : Mutation) (payload : Bytes) (f : BodyFault) → IsMutationOf tables m → payload ≡ payload_of m → IsPayloadFault tables payload f → f ≡ fault.OutOfMemory
 only_memory tables m payload fault.OutOfMemory is stands shown = refl
 only_memory tables m payload fault.OtherLength is stands shown = absurd (no_other_payload_length tables m is payload stands shown)
@@ -55,7 +56,7 @@ only_memory tables m payload (fault.Broken broken) is stands shown = absurd (no_
 
 -- ---- a fault of the body
 
--- the place of a fault lies within the bytes
+-- the offset of a fault is within the bytes
 pub body_within : (types : List ColumnType) (bytes : Bytes) (limit : ℕ) (f : BodyFault) → IsFaultOf types bytes f → length bytes ≤ limit → IsWithin limit f
 body_within types bytes limit fault.OutOfMemory shown short = tt
 body_within types bytes limit fault.OtherLength shown short = tt
@@ -63,7 +64,8 @@ body_within types bytes limit (fault.Broken broken) shown short = omega (arith, 
 
 breaks_within : (tables : Tables) (payload : Bytes) (rule : FormatRule) (at : ℕ) (seen : Bytes) → PayloadBreaks tables payload rule at seen → at ≤ length payload
 breaks_within tables payload rule at seen (no_table rule_is place of) = omega (arith, place)
-breaks_within tables payload rule at seen (broken_body types rest place of at_is broken) = omega (arith, at_is, ap length of.is, length-append (to_be_bytes w32 of.table) rest, place_within types rest rule place seen broken)
+breaks_within tables payload rule at seen (broken_body types rest place of at_is broken) =
+    omega (arith, at_is, ap length of.is, length-append (to_be_bytes w32 of.table) rest, place_within types rest rule place seen broken)
 
 pub payload_within : (tables : Tables) (payload : Bytes) (limit : ℕ) (f : BodyFault) → IsPayloadFault tables payload f → length payload ≤ limit → IsWithin limit f
 payload_within tables payload limit fault.OutOfMemory shown short = tt
@@ -71,7 +73,8 @@ payload_within tables payload limit fault.OtherLength shown short = tt
 payload_within tables payload limit (fault.Broken broken) shown short = omega (arith, short, breaks_within tables payload broken.rule broken.at (seen_bytes broken.seen) shown)
 
 -- a fault of the body is one of the payload, four bytes on
-pub fault_behind : (tables : Tables) (payload : Bytes) (types : List ColumnType) (rest : Bytes) (f behind : BodyFault) → IsOfTable tables payload types rest → IsFaultOf types rest f → IsFaultBehind f behind → IsPayloadFault tables payload behind
+pub fault_behind : (tables : Tables) (payload : Bytes) (types : List ColumnType) (rest : Bytes) (f behind : BodyFault)
+    → IsOfTable tables payload types rest → IsFaultOf types rest f → IsFaultBehind f behind → IsPayloadFault tables payload behind
 fault_behind tables payload types rest fault.OutOfMemory behind of shown is = subst (IsPayloadFault tables payload) (sym is) tt
 fault_behind tables payload types rest fault.OtherLength behind of shown is = subst (IsPayloadFault tables payload) (sym is) (other_body types rest of shown)
 fault_behind tables payload types rest (fault.Broken broken) behind of shown is =

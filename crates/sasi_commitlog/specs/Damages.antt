@@ -32,12 +32,12 @@ pub record IsOfNoTable (tables : Tables) (payload seen : Bytes) : Type 0 where
   pub fits : table < 2 ^ 32
   pub unlisted : types_in tables table ≡ None
 
--- the payload breaks the rule at the place from its start, and the seen bytes stand there
+-- the payload breaks the rule at this offset, where it has the seen bytes
 pub data PayloadBreaks (tables : Tables) (payload : Bytes) (rule : FormatRule) (at : ℕ) (seen : Bytes) : Type 0 where
   no_table : rule ≡ Number → at ≡ 0 → IsOfNoTable tables payload seen → PayloadBreaks tables payload rule at seen
   broken_body : (types : List ColumnType) (rest : Bytes) (place : ℕ) → IsOfTable tables payload types rest → at ≡ 4 + place → Breaks types rest rule place seen → PayloadBreaks tables payload rule at seen
 
--- the payload has another length than its content: it ends within it, or goes on behind it
+-- the payload has another length than its content: it ends within it, or goes on after it
 pub data PayloadHasOtherLength (tables : Tables) (payload : Bytes) : Type 0 where
   no_number : length payload < 4 → PayloadHasOtherLength tables payload
   other_body : (types : List ColumnType) (rest : Bytes) → IsOfTable tables payload types rest → HasOtherLength types rest → PayloadHasOtherLength tables payload
@@ -48,14 +48,14 @@ IsPayloadFault tables payload fault.OutOfMemory = Unit {0}
 IsPayloadFault tables payload fault.OtherLength = PayloadHasOtherLength tables payload
 IsPayloadFault tables payload (fault.Broken broken) = PayloadBreaks tables payload broken.rule broken.at (seen_bytes broken.seen)
 
--- what a record at a gate at this place is damaged by
+-- the rules that a record after the gate at this offset can break
 pub data RecordBreaks (tables : Tables) (gate : ℕ) (payload : Bytes) (rule : FormatRule) (at : ℕ) (seen : Bytes) : Type 0 where
   -- its length isn't that of its content
   wrong_length : rule ≡ Number → at ≡ gate + 1 → seen ≡ to_be_bytes w32 (length payload) → PayloadHasOtherLength tables payload → RecordBreaks tables gate payload rule at seen
   -- or its content breaks the rule
   wrong_content : (place : ℕ) → at ≡ gate + (5 + place) → PayloadBreaks tables payload rule place seen → RecordBreaks tables gate payload rule at seen
 
--- behind some records the file has one that is so damaged
+-- after some records the file has one that breaks a rule so
 pub record ShowsRecord (tables : Tables) (file : FileName) (bytes : Bytes) (damage : Damage) : Type 0 where
   pub named : damage.file ≡ file
   pub gate : ℕ
@@ -67,6 +67,6 @@ pub record ShowsRecord (tables : Tables) (file : FileName) (bytes : Bytes) (dama
   pub record_stands : Opens rest payload tail
   pub breaks : RecordBreaks tables gate payload damage.rule damage.at (seen_bytes damage.seen)
 
--- the file shows the damage: as a gated file, or by a record that is no mutation
+-- the file has the damage: as a gated file, or in a record that is no mutation
 abbrev pub ShowsLog : Tables → FileName → Bytes → Damage → Type 0
 ShowsLog tables file bytes damage = Shows file bytes damage ⊎ ShowsRecord tables file bytes damage

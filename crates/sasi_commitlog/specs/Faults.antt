@@ -1,4 +1,4 @@
--- Faults of a payload, where it stands in a file.
+-- Faults of a payload, by their offset in the file.
 use Rattle.std.specs.Prelude.{◌≡◌, ℕ, ◌+◌, ◌≤◌}
 use Rattle.sasi_host.specs.declared.name.FileName.{FileName}
 use Rattle.sasi_host.specs.declared.damage.Damage.{Damage}
@@ -11,19 +11,19 @@ use Rattle.sasi_body.specs.declared.fault.BodyFault.TheVariants as fault
 use Rattle.sasi_commitlog.specs.Format.{Tables}
 use Rattle.sasi_commitlog.specs.Damages.{RecordBreaks}
 
--- the place of a broken rule is at most this one
+-- the offset of a broken rule is at most this one
 abbrev pub IsWithin : ℕ → BodyFault → Type 0
 IsWithin limit fault.OutOfMemory = Unit {0}
 IsWithin limit fault.OtherLength = Unit {0}
 IsWithin limit (fault.Broken broken) = broken.at ≤ limit
 
--- the second fault is the first one, in bytes of which four more stand in front
+-- the second fault is the first one, four bytes further on
 abbrev pub IsFaultBehind : BodyFault → BodyFault → Type 0
 IsFaultBehind fault.OutOfMemory behind = behind ≡ fault.OutOfMemory
 IsFaultBehind fault.OtherLength behind = behind ≡ fault.OtherLength
 IsFaultBehind (fault.Broken broken) behind = behind ≡ fault.Broken (record { rule = broken.rule; at = broken.at + 4; seen = broken.seen })
 
--- damage is that of the record behind a gate
+-- damage is that of the record after a gate
 pub record IsRecordDamage (tables : Tables) (file : FileName) (gate : ℕ) (payload : Bytes) (damage : Damage) : Type 0 where
   pub named : damage.file ≡ file
   pub breaks : RecordBreaks tables gate payload damage.rule damage.at (seen_bytes damage.seen)

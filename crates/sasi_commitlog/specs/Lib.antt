@@ -3,4 +3,3 @@ pub mod Standing
 pub mod Damages
 pub mod Reads
 pub mod Faults
-pub mod Laws

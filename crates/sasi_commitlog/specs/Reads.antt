@@ -1,4 +1,4 @@
--- What reads of a segment give, over what the host tells.
+-- What reading a segment gives, where the host knows its files.
 use Rattle.std.specs.Prelude.{◌≡◌, ℕ, true, false, List, [], ◌∷◌, ◌++◌, Option, None, Some}
 use Rattle.sasi_host.specs.declared.name.FileName.{FileName}
 use Rattle.sasi_host.specs.declared.fault.ReadFault.{ReadFault}
@@ -11,17 +11,18 @@ use Rattle.sasi_commitlog.specs.Format.{payload_of, Tables, IsMutationOf}
 use Rattle.sasi_commitlog.specs.Standing.{IsAtLogEnd, IsReadingLog}
 use Rattle.sasi_commitlog.specs.Damages.{ShowsLog}
 
--- if a mutation was read, it is one of these tables, whatever the host tells
+-- a mutation that was read is of one of these tables, whatever the host knows
 abbrev pub IsReadOf : Tables → Option Mutation → Type 0
 IsReadOf tables (Some mutation) = IsMutationOf tables mutation
 IsReadOf tables None = Unit {0}
 
--- What a read at a gate gives: the mutation whose payload stands behind an open one, and it goes on to the next gate; none at a closed one, where it stays.
+-- A read at an open gate gives the mutation of its payload and moves to the next gate. At a closed gate it gives none and
+-- stays there.
 abbrev pub ReadsMutation : Option Mutation → Tables → FileName → Bytes → ℕ → List Bytes → Bytes → Type 0
 ReadsMutation (Some mutation) tables file bytes after done rest = IsMutationOf tables mutation × ReadsAt true file bytes after done rest (payload_of mutation)
 ReadsMutation None tables file bytes after done rest = ReadsAt false file bytes after done rest []
 
--- at a gate of the segment as it reads, this is read, and the reader then stands at the second place
+-- at a gate of the file as it reads, this is read, and the reader is then at the second offset
 abbrev pub ReadsLogGate : View → FileName → Tables → ℕ → ℕ → Option Mutation → Type 0
 ReadsLogGate v file tables at after found = (bytes : Bytes) (done : List Bytes) (rest : Bytes) → contents v file ≡ Some bytes → IsAtGate file bytes at done rest
     → ReadsMutation found tables file bytes after done rest
@@ -33,21 +34,21 @@ ReadsNext (Some mutation) v file at tables done (first ∷ others) = (mutation �
 ReadsNext None v file at tables done [] = IsAtLogEnd v file at done
 ReadsNext None v file at tables done (first ∷ others) = ⊥
 
--- of the mutations that are left this is read, and the reader then stands at the second place
+-- of the mutations that are left this is read, and the reader is then at the second offset
 abbrev pub ReadsMutations : View → View → FileName → Tables → ℕ → ℕ → Option Mutation → Type 0
 ReadsMutations old new file tables at after found = (done left : List Mutation) → IsTold old → IsReadingLog old file at tables done left → ReadsNext found new file after tables done left
 
--- where the mutations end at the first place, there is now this one more, and they end at the second place
+-- the segment has this mutation more: its closed gate was at the first offset, and is at the second
 abbrev pub GainsMutation : View → View → FileName → ℕ → ℕ → Mutation → Type 0
 GainsMutation old new file at after mutation = (mutations : List Mutation) → IsAtLogEnd old file at mutations → IsAtLogEnd new file after (mutations ++ mutation ∷ [])
 
 -- ---- damage
 
--- damage is what the segment shows as it reads, where the reader stood at a gate
+-- reported damage is in the segment as it reads, where the reader was at a gate
 abbrev pub IsLogShownAt : View → FileName → Tables → ℕ → ReadFault → Type 0
 IsLogShownAt v file tables at = OnDamage (λ damage. (bytes : Bytes) (done : List Bytes) (rest : Bytes) → contents v file ≡ Some bytes → IsAtGate file bytes at done rest
     → ShowsLog tables file bytes damage)
 
--- and no segment of mutations of these tables that is being read is damaged
+-- a segment of mutations of these tables is never reported as damaged
 abbrev pub SparesLog : View → FileName → Tables → ℕ → ReadFault → Type 0
 SparesLog v file tables at = OnDamage (λ _. (done left : List Mutation) → IsTold v → IsReadingLog v file at tables done left → ⊥)

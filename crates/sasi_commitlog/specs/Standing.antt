@@ -1,4 +1,4 @@
--- A segment of the log that each crash leaves alike, and where one stands in it.
+-- A durable segment of the log, and how far it was read.
 use Rattle.std.specs.Prelude.{ℕ, List, map}
 use Rattle.std.specs.List.{AllByRecursion}
 use Rattle.sasi_host.specs.declared.name.FileName.{FileName}
@@ -9,11 +9,11 @@ use Rattle.sasi_gated.specs.Standing.{IsAtEnd, IsReading}
 use Rattle.sasi_cells.specs.declared.mutation.Mutation.{Mutation}
 use Rattle.sasi_commitlog.specs.Format.{payload_of, Tables, IsMutationOf}
 
--- each image has the segment with these mutations, and the closed gate stands at this place
+-- each image has the segment with these mutations, and the closed gate is at this offset
 abbrev pub IsAtLogEnd : View → FileName → ℕ → List Mutation → Type 0
 IsAtLogEnd v file at mutations = IsAtEnd v file at (map payload_of mutations)
 
--- each image has the segment; these mutations stand before the gate at this place, and these of the tables from it on
+-- each image has the segment; `done` are the mutations before the gate at this offset, and `left` those from it on
 pub record IsReadingLog (v : View) (file : FileName) (at : ℕ) (tables : Tables) (done left : List Mutation) : Type 0 where
   pub reading : IsReading v file at (map payload_of done) (map payload_of left)
   pub of_tables : AllByRecursion (IsMutationOf tables) left

@@ -1,4 +1,4 @@
-// Faults of a payload, where it stands in a file.
+// Faults of a payload, by their offset in the file.
 ghost use Rattle.std.specs.Prelude.{◌≡◌, ◌≢◌, ◌≤◌, ◌^◌, List, ℕ, length};
 ghost use Rattle.sasi_host.specs.declared.fault.ReadFault.TheVariants as read_fault;
 ghost use Rattle.sasi_body.specs.declared.fault.BodyFault.TheVariants as body_fault;
@@ -9,7 +9,7 @@ ghost use Rattle.sasi_commitlog.specs.Faults.{IsFaultBehind, IsWithin, IsRecordF
 use sasi_body::{BodyFault, Broken, found};
 use sasi_host::{Damage, FileName, FormatRule, ReadFault};
 
-// The fault of a body, from the start of the payload that it ends.
+// Shifts the offset of a fault of the body past the number of the table.
 pub fn behind_number(fault: BodyFault) -> BodyFault
     requires { IsWithin (2 ^ 62) fault }
     ensures { IsFaultBehind fault result }
@@ -25,7 +25,7 @@ pub fn behind_number(fault: BodyFault) -> BodyFault
     }
 }
 
-// The fault of a payload behind the gate at this place, from the start of the file.
+// The fault of the payload after the gate at this offset, with its offset in the file.
 pub fn fault_in_file(file: FileName, gate: u64, payload: &[u8], fault: BodyFault) -> ReadFault
     requires place { gate ≤ 2 ^ 62 }
     requires short { length payload.now ≤ 2 ^ 30 }
@@ -46,7 +46,7 @@ pub fn fault_in_file(file: FileName, gate: u64, payload: &[u8], fault: BodyFault
     }
 }
 
-// A broken rule as the damage of a file at this place.
+// The damage of a file that breaks the rule at this offset.
 fn damage_at(file: FileName, at: u64, broken: Broken) -> Damage
     ensures file { result.file ≡ file }
     ensures at { result.at ≡ at }

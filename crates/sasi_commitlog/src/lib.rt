@@ -1,5 +1,5 @@
-// The commit log: segments of mutations, each a gated file. An appended mutation is there after each crash, and a reader
-// gives the mutations in their order, or tells where a segment breaks its format.
+//! The commit log: segments of mutations, each a gated file. An appended mutation survives each crash. A reader returns
+//! the mutations in order, or reports where a segment breaks its format.
 #![tactic(auto)]
 
 mod fault;
@@ -7,8 +7,6 @@ mod log;
 mod payload;
 mod segment;
 mod tables;
-#[cfg(test)]
-mod tests;
 
 pub use log::Log;
 pub use sasi_cells::Mutation;

@@ -1,4 +1,4 @@
-// A segment of the commit log in hand.
+// An open segment of the commit log.
 ghost use Rattle.std.specs.Prelude.{◌≡◌, ◌+◌, ◌<◌, ◌≤◌, ◌^◌, [], ℕ, List, IfErr, IfOk, IsSome, IsTrue, OnOk, None, is_ok};
 ghost use Rattle.sasi_host.specs.View.{IsAbsent, IsThere, ListCauses, Reaches};
 ghost use Rattle.sasi_host.specs.Disk.{Anyhow, Changes, IsKept, LeftWith, Same, Step};
@@ -19,8 +19,8 @@ use sasi_types::TableTypes;
 use std::alloc::Global;
 use std::marker::Model;
 
-/// A segment of the commit log, opened for reading mutation after mutation, and then for appending. Seen as its file's
-/// name, the place where it stands and whether it is usable.
+/// An open segment of the commit log: its mutations are read first, then it takes appends. Its model is the file's name,
+/// the offset of the next gate, and whether it is usable.
 #[derive(Drop)]
 pub struct Log {
     gated: Gated,
@@ -39,15 +39,14 @@ impl Model for Log {
 }
 
 impl Log {
-    /// Whether no call on it gave a fault.
+    /// Whether every call on it succeeded.
     pub fn is_usable(&self) -> bool
         ensures { result ≡ self.now.usable }
     {
         self.usable && self.gated.is_usable()
     }
 
-    /// Makes the segment with this number, which has no mutation yet, and syncs it and the folder. It stands at the closed
-    /// gate.
+    /// Creates the empty segment with this number, and syncs it and the folder. The log is then at the closed gate.
     pub fn create<H: Host>(alloc: Global, host: &mut H, number: u32) -> Result<Log, HostFault>
         requires { IsAbsent (H.view host.old) (log_name number) }
         ensures ok { IfOk result (λ log. IsAtLogEnd (H.view host.new) (log_name number) log.at []) }
@@ -65,7 +64,7 @@ impl Log {
         })
     }
 
-    /// Opens the segment with this number, and stands before its first mutation.
+    /// Opens the segment with this number. The first mutation is next.
     pub fn open<H: Host>(alloc: Global, host: &mut H, number: u32) -> Result<Log, ReadFault>
         requires { IsThere (H.view host.old) (log_name number) }
         ensures header { IfOk result (λ log. Begins (H.view host.old) (log_name number) log.at) }
@@ -86,7 +85,7 @@ impl Log {
         })
     }
 
-    /// The next mutation, of one of these tables, or none at the closed gate, where it then stands.
+    /// Reads the next mutation, which is of one of these tables. At the closed gate there is none, and the log stays there.
     pub fn next<H: Host>(
         &mut self,
         host: &mut H,
@@ -114,7 +113,7 @@ impl Log {
         Ok(read)
     }
 
-    /// Appends a mutation at the closed gate, by four host calls: it is there after each crash once the call answers Ok.
+    /// Appends a mutation at the closed gate, by four host calls. After Ok the mutation survives each crash.
     pub fn append<H: Host>(&mut self, host: &mut H, mutation: &Mutation) -> Result<(), HostFault>
         requires body { HasBody mutation.now.key mutation.now.change }
         requires room { Reaches (H.view host.old) self.old.file (self.old.at + 1) }

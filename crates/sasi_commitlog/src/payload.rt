@@ -23,7 +23,7 @@ pub fn put_mutation(out: &mut Vec<u8>, mutation: &Mutation) -> Result<(), AllocE
     put_body(out, &mutation.key, &mutation.change)
 }
 
-// The mutation of which these bytes are the payload, all of them.
+// Decodes a whole payload.
 pub fn read_mutation(
     alloc: Global,
     payload: &[u8],

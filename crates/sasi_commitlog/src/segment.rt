@@ -16,7 +16,7 @@ use sasi_host::{Host, HostFault, ReadFault};
 use sasi_types::TableTypes;
 use std::alloc::Global;
 
-// The mutation behind the gate before which the segment stands, or none where the gate is closed.
+// Reads the mutation after the next gate. A closed gate has none.
 pub fn read_next<H: Host>(
     alloc: Global,
     gated: &mut Gated,
@@ -50,7 +50,7 @@ pub fn read_next<H: Host>(
     }
 }
 
-// Appends a mutation at the closed gate before which the segment stands.
+// Appends a mutation at the closed gate.
 pub fn append<H: Host>(
     alloc: Global,
     gated: &mut Gated,

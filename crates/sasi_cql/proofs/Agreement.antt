@@ -136,7 +136,14 @@ create_found table items tokens one_key j =
     let i = o.ends in
     let closes : Ends NoKey i.behind = record { follows = rw i.ends refl; no_comma = rw i.ends refl } in
     let few : leb (length (flat_map keys_of items)) 1 ≡ true = grind arith in
-    rw (one_complete name_of table tokens j.behind (leads _ _ tokens j) tt, these_expected (Open ∷ []) j.behind o.behind refl (leads _ _ j.behind o), items_complete items o.behind i.behind (leads _ _ o.behind i) closes, i.ends, few) refl
+    rw (
+      one_complete name_of table tokens j.behind (leads _ _ tokens j) tt,
+      these_expected (Open ∷ []) j.behind o.behind refl
+          (leads _ _ j.behind o),
+      items_complete items o.behind i.behind (leads _ _ o.behind i) closes,
+      i.ends,
+      few,
+    ) refl
 
 values_found : (table : List ℕ) (columns : List (List ℕ)) (values : List Literal) (time : Option Number) (tokens : List Token) → length values ≡ length columns
     → (listed literal values then these (Close ∷ []) then using_time time then these (Semicolon ∷ [])) tokens
@@ -146,10 +153,18 @@ values_found table columns values time tokens many j =
     let u = c.ends in
     let closes : Ends Anything j.behind = record { follows = tt; no_comma = other_front Comma Close [] [] _ j.behind refl c } in
     let same_count : (length values == length columns) ≡ true = grind arith in
-    rw (literals_complete values tokens j.behind (leads _ _ tokens j) closes, these_expected (Close ∷ []) j.behind c.behind refl (leads _ _ j.behind c), time_complete time c.behind u.behind (leads _ _ c.behind u) (rw u.ends refl), u.ends, same_count) refl
+    rw (
+      literals_complete values tokens j.behind (leads _ _ tokens j) closes,
+      these_expected (Close ∷ []) j.behind c.behind refl
+          (leads _ _ j.behind c),
+      time_complete time c.behind u.behind (leads _ _ c.behind u) (rw u.ends refl),
+      u.ends,
+      same_count,
+    ) refl
 
 insert_found : (table : List ℕ) (columns : List (List ℕ)) (values : List Literal) (time : Option Number) (tokens : List Token) → length values ≡ length columns
-    → (name table then these (Open ∷ []) then listed name columns then these (Close ∷ word "values" ∷ Open ∷ []) then listed literal values then these (Close ∷ []) then using_time time then these (Semicolon ∷ [])) tokens
+    → (name table then these (Open ∷ []) then listed name columns then these
+    (Close ∷ word "values" ∷ Open ∷ []) then listed literal values then these (Close ∷ []) then using_time time then these (Semicolon ∷ [])) tokens
     → insert_of tokens ≡ Some (Insert table columns values time)
 unfolding insert_of
 insert_found table columns values time tokens many j =
@@ -201,13 +216,21 @@ delete_found columns table time key tokens j =
     )
     refl
 
-query_found : (select : Select) (tokens : List Token) → (asked select.columns then these (word "from" ∷ []) then name select.table then these (Semicolon ∷ [])) tokens → query_of tokens ≡ Some (Query select)
+query_found : (select : Select) (tokens : List Token)
+    → (asked select.columns then these (word "from" ∷ []) then name select.table then these (Semicolon ∷ [])) tokens
+    → query_of tokens ≡ Some (Query select)
 unfolding query_of
 query_found select tokens j =
     let f = j.ends in
     let t = f.ends in
     let from = these_expected (word "from" ∷ []) j.behind f.behind refl (leads _ _ j.behind f) in
-    rw (asked_complete select.columns tokens j.behind (leads _ _ tokens j) (record { behind = f.behind; is = from }), from, one_complete name_of select.table f.behind t.behind (leads _ _ f.behind t) tt, t.ends) refl
+    rw (
+      asked_complete select.columns tokens j.behind (leads _ _ tokens j)
+          (record { behind = f.behind; is = from }),
+      from,
+      one_complete name_of select.table f.behind t.behind (leads _ _ f.behind t) tt,
+      t.ends,
+    ) refl
 
 pub found : (tokens : List Token) (statement : Statement) → Reads tokens statement → statement_of tokens ≡ Some statement
 unfolding statement_of

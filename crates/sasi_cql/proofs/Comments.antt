@@ -2,7 +2,7 @@
 use Rattle.std.proofs.Common.{◌≡◌, ℕ, zero, suc, Bool, true, false, ◌&&◌, ◌||◌, ◌==◌, List, [], ◌∷◌, drop, refl, ◌∙◌}
 use Rattle.sasi_model.specs.Pieces.{starts, behind_first, to_close, closes}
 
--- a `*/` is in both or in neither, and the same stands behind the first
+-- a `*/` is in both or in neither, and the same comes after the first
 pub record SameClose (bytes left : List ℕ) : Type 0 where
   pub closes_is : closes bytes ≡ closes left
   pub behind_is : drop (to_close bytes) bytes ≡ drop (to_close left) left

@@ -17,7 +17,7 @@ skipped zero bs = refl
 skipped (suc n) [] = refl
 skipped (suc n) (b ∷ bs) = skipped n bs
 
--- tokens that were found, and what is left; and whether no `*/` is behind the byte in front
+-- tokens that were found, and what is left; and whether no `*/` is after the byte in front
 pub record Lexed (text : List ℕ) (found : List Token) (left : List ℕ) (unclosed : Bool) : Type 0 where
   pub so_far : tokens text ≡ map meaning found ++ tokens left
   pub no_close : unclosed ≡ true → closes (behind_first left) ≡ false
@@ -36,7 +36,8 @@ one_more : (found : List Token) (token : Token) (behind : List model.Token) → 
 one_more [] token behind = refl
 one_more (t ∷ found) token behind = ap (λ (ts : List model.Token). meaning t ∷ ts) (one_more found token behind)
 
-pub lexed_token : (text : List ℕ) (found : List Token) (left : List ℕ) (first : ℕ) (behind : List ℕ) (before unclosed : Bool) (token : Token) (rest : List ℕ) → left ≡ first ∷ behind → is_gap first behind ≡ false
+pub lexed_token : (text : List ℕ) (found : List Token) (left : List ℕ) (first : ℕ) (behind : List ℕ) (before unclosed : Bool)
+    (token : Token) (rest : List ℕ) → left ≡ first ∷ behind → is_gap first behind ≡ false
     → (unclosed ≡ true → closes (behind_first behind) ≡ false) → IsLexeme (lexeme first behind) behind token rest → Lexed text found left before → Lexed text (found ++ token ∷ []) rest unclosed
 lexed_token text found left first behind before unclosed token rest is gap kept x l = record {
   so_far = l.so_far ∙ rw (is, gap, x.left_is, skipped (lexeme first behind).inside behind, ← x.token_is) (one_more found token (tokens (drop (lexeme first behind).inside behind)));
@@ -122,7 +123,8 @@ too_many_digits limit digits i value some so_far above =
     let all : decimal digits ≡ decimal_on (10 * value + (get_or digits i 0 - 48)) (drop (suc i) digits) = so_far ∙ rw (drop-cons digits i 0 some) refl in
     by_tests (leb (10 * value + (get_or digits i 0 - 48)) limit) (leb (decimal digits) limit) refl refl above all more where
       by_tests : (a b : Bool) → leb (10 * value + (get_or digits i 0 - 48)) limit ≡ a → leb (decimal digits) limit ≡ b → None ≡ cond a (Some (10 * value + (get_or digits i 0 - 48))) None
-          → decimal digits ≡ decimal_on (10 * value + (get_or digits i 0 - 48)) (drop (suc i) digits) → 10 * value + (get_or digits i 0 - 48) ≤ decimal_on (10 * value + (get_or digits i 0 - 48)) (drop (suc i) digits)
+          → decimal digits ≡ decimal_on (10 * value + (get_or digits i 0 - 48)) (drop (suc i) digits)
+          → 10 * value + (get_or digits i 0 - 48) ≤ decimal_on (10 * value + (get_or digits i 0 - 48)) (drop (suc i) digits)
           → None ≡ cond b (Some (decimal digits)) None
       by_tests true b p q above all more = absurd cc
       by_tests false false p q above all more = refl

@@ -32,7 +32,7 @@ was_read f (Some first) found h = record { first = first; is = refl; found_is = 
 
 -- ---- phrases in front
 
--- a phrase is in front of tokens, and these are behind it
+-- a phrase is before tokens, and these are after it
 pub record Leads (phrase : Phrase) (tokens behind : List Token) : Type 0 where
   pub front : List Token
   pub whole : tokens ≡ front ++ behind
@@ -51,7 +51,7 @@ leads_on first second tokens middle behind l m = record {
   is = record { front = l.front; behind = m.front; whole = refl; starts = l.is; ends = m.is };
 }
 
--- the first of two phrases in front, and the second behind it
+-- the first of two phrases in front, and the second after it
 pub splits : (first second : Phrase) (tokens behind : List Token) → Leads (first then second) tokens behind → Joined first (λ middle. Leads second middle behind) tokens
 splits first second tokens behind l = record {
   front = l.is.front;
@@ -103,11 +103,11 @@ these_expected wanted tokens behind itself l = rw (l.whole, l.is) (expect_more w
 abbrev pub Sound : {A : Type 0} → (A → Phrase) → (List Token → Option (Read A)) → Type 0
 Sound phrase read = (tokens : List Token) (found : Read _) → read tokens ≡ Some found → Leads (phrase found.value) tokens found.behind
 
--- what is spelled is read, where the tokens behind it are such
+-- what is spelled is read, where the tokens after it are such
 abbrev pub Complete : {A : Type 0} → (A → Phrase) → (List Token → Option (Read A)) → (List Token → Type 0) → Type 0
 Complete phrase read Follows = (value : _) (tokens behind : List Token) → Leads (phrase value) tokens behind → Follows behind → read tokens ≡ Some (record { value = value; behind = behind })
 
--- whatever is behind
+-- whatever is after
 abbrev pub Anything : List Token → Type 0
 Anything tokens = Unit {0}
 
@@ -154,11 +154,12 @@ list_up_to_sound phrase read sound (suc n) tokens found h =
 pub list_sound : {A : Type 0} (phrase : A → Phrase) (read : List Token → Option (Read A)) → Sound phrase read → Sound (listed phrase) (read_list read)
 list_sound phrase read sound tokens = list_up_to_sound phrase read sound (suc (length tokens)) tokens
 
--- a comma in front, and what is behind it
+-- a comma in front, and what is after it
 comma_in_front : (phrase : Phrase) (tokens : List Token) → (j : Joined (these (Comma ∷ [])) phrase tokens) → tokens ≡ Comma ∷ j.behind
 comma_in_front phrase tokens j = rw (j.whole, j.starts) refl
 
-up_to_complete : {A : Type 0} (phrase : A → Phrase) (read : List Token → Option (Read A)) (Follows : List Token → Type 0) → Complete phrase read Follows → ((tokens : List Token) → Follows (Comma ∷ tokens))
+up_to_complete : {A : Type 0} (phrase : A → Phrase) (read : List Token → Option (Read A)) (Follows : List Token → Type 0)
+    → Complete phrase read Follows → ((tokens : List Token) → Follows (Comma ∷ tokens))
     → (items : List A) (n : ℕ) (tokens behind : List Token) → length items ≤ n → Leads (listed phrase items) tokens behind → Follows behind → expect (Comma ∷ []) behind ≡ None
     → read_up_to read n tokens ≡ Some (record { value = items; behind = behind })
 unfolding read_up_to
@@ -186,12 +187,13 @@ few_items phrase (a ∷ b ∷ others) tokens behind l =
     let is = ap length (comma_in_front _ s.behind c) in
     omega arith
 
--- what is behind a list
+-- what is after a list
 pub record Ends (Follows : List Token → Type 0) (behind : List Token) : Type 0 where
   pub follows : Follows behind
   pub no_comma : expect (Comma ∷ []) behind ≡ None
 
-pub list_complete : {A : Type 0} (phrase : A → Phrase) (read : List Token → Option (Read A)) (Follows : List Token → Type 0) → Complete phrase read Follows → ((tokens : List Token) → Follows (Comma ∷ tokens))
+pub list_complete : {A : Type 0} (phrase : A → Phrase) (read : List Token → Option (Read A)) (Follows : List Token → Type 0)
+    → Complete phrase read Follows → ((tokens : List Token) → Follows (Comma ∷ tokens))
     → Complete (listed phrase) (read_list read) (Ends Follows)
 list_complete phrase read Follows complete comma items tokens behind l ends =
     up_to_complete phrase read Follows complete comma items (suc (length tokens)) tokens behind (few_items phrase items tokens behind l) l ends.follows ends.no_comma
@@ -226,7 +228,7 @@ enough phrase read sound (suc m) (suc n) tokens p q =
     let shorter = leads_fewer (phrase first.value) tokens first.behind (sound tokens first is) in
     and_others_same first (read_up_to read m) (read_up_to read n) (λ next fewer. enough phrase read sound m n next (omega arith) (omega arith)))
 
--- the first item, and the others behind a comma
+-- the first item, and the others after a comma
 pub list_step : {A : Type 0} (phrase : A → Phrase) (read : List Token → Option (Read A)) → Sound phrase read → (tokens : List Token)
     → read_list read tokens ≡ (read tokens >>= and_others (read_list read))
 unfolding read_up_to

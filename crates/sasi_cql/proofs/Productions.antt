@@ -10,7 +10,8 @@ use Rattle.sasi_cql.proofs.Phrases.{passed, went_on, was_read, Leads, leads, joi
 -- ---- what is not in front
 
 -- other tokens are in front
-pub other_front : (wanted first : Token) (others firsts : List Token) (phrase : Phrase) (tokens : List Token) → same_token wanted first ≡ false → Joined (these (first ∷ firsts)) phrase tokens → expect (wanted ∷ others) tokens ≡ None
+pub other_front : (wanted first : Token) (others firsts : List Token) (phrase : Phrase) (tokens : List Token)
+    → same_token wanted first ≡ false → Joined (these (first ∷ firsts)) phrase tokens → expect (wanted ∷ others) tokens ≡ None
 other_front wanted first others firsts phrase tokens other j = rw (j.whole, j.starts, other) refl
 
 not_word : (letters : List ℕ) → is_name letters ≡ false → (token : Token) (bytes : List ℕ) → name_of token ≡ Some bytes → same_token (Word letters) token ≡ false
@@ -28,7 +29,8 @@ not_star : (token : Token) (bytes : List ℕ) → name_of token ≡ Some bytes �
 not_star Star bytes h = absurd cc
 not_star _ bytes h = refl
 
-pub name_is_no_word : (letters : List ℕ) (others : List Token) → is_name letters ≡ false → (bytes : List ℕ) (tokens behind : List Token) → Leads (name bytes) tokens behind → expect (Word letters ∷ others) tokens ≡ None
+pub name_is_no_word : (letters : List ℕ) (others : List Token) → is_name letters ≡ false → (bytes : List ℕ) (tokens behind : List Token)
+    → Leads (name bytes) tokens behind → expect (Word letters ∷ others) tokens ≡ None
 name_is_no_word letters others none bytes tokens behind l =
     rw (l.whole, l.is.alone, not_word letters none l.is.token bytes l.is.stands) refl
 
@@ -100,7 +102,12 @@ pub equation_complete : Complete equation read_equation Anything
 equation_complete given tokens behind l any =
     let s = splits (name given.0) (these (Equal ∷ []) then literal given.1) tokens behind l in
     let e = splits (these (Equal ∷ [])) (literal given.1) s.behind behind s.ends in
-    rw (one_complete name_of given.0 tokens s.behind (leads _ _ tokens s) tt, these_expected (Equal ∷ []) s.behind e.behind refl (leads _ _ s.behind e), one_complete literal_of given.1 e.behind behind e.ends tt) refl
+    rw (
+      one_complete name_of given.0 tokens s.behind (leads _ _ tokens s) tt,
+      these_expected (Equal ∷ []) s.behind e.behind refl
+          (leads _ _ s.behind e),
+      one_complete literal_of given.1 e.behind behind e.ends tt,
+    ) refl
 
 pub equations_sound : Sound (listed equation) (read_list read_equation)
 equations_sound = list_sound equation read_equation equation_sound
@@ -113,7 +120,8 @@ equations_complete = list_complete equation read_equation Anything equation_comp
 abbrev pub NoKey : List Token → Type 0
 NoKey tokens = expect (word "primary" ∷ word "key" ∷ []) tokens ≡ None
 
-key_sound : (tokens behind : List Token) (found : Read Item) → expect (word "primary" ∷ word "key" ∷ Open ∷ []) tokens ≡ Some behind → read_key behind ≡ Some found → Leads (item found.value) tokens found.behind
+key_sound : (tokens behind : List Token) (found : Read Item) → expect (word "primary" ∷ word "key" ∷ Open ∷ []) tokens ≡ Some behind
+    → read_key behind ≡ Some found → Leads (item found.value) tokens found.behind
 key_sound tokens behind found p h =
     let k = went_on (read_name behind) _ found h in
     let c = went_on (expect (Close ∷ []) k.first.behind) _ found k.then_is in
@@ -129,7 +137,8 @@ column_sound tokens found h =
     by_key c.first t.first (one_sound name_of tokens c.first c.is) (one_sound type_of c.first.behind t.first t.is) (expect (word "primary" ∷ word "key" ∷ []) t.first.behind) refl t.then_is where
       by_key : (column : Read (List ℕ)) (type : Read ColumnType) → Leads (name column.value) tokens column.behind → Leads (One type_of type.value) column.behind type.behind
           → (key : Option (List Token)) → expect (word "primary" ∷ word "key" ∷ []) type.behind ≡ key
-          → when key (λ behind. Some (record { value = KeyColumn column.value type.value; behind = behind })) (Some (record { value = Column column.value type.value; behind = type.behind })) ≡ Some found
+          → when key (λ behind. Some (record { value = KeyColumn column.value type.value; behind = behind }))
+          (Some (record { value = Column column.value type.value; behind = type.behind })) ≡ Some found
           → Leads (item found.value) tokens found.behind
       by_key column type c t None p h =
           let is : found ≡ record { value = Column column.value type.value; behind = type.behind } = cc in
@@ -142,7 +151,8 @@ column_sound tokens found h =
 
 pub item_sound : Sound item read_item
 item_sound tokens found h = by_front (expect (word "primary" ∷ word "key" ∷ Open ∷ []) tokens) refl h where
-  by_front : (front : Option (List Token)) → expect (word "primary" ∷ word "key" ∷ Open ∷ []) tokens ≡ front → when front read_key (read_column tokens) ≡ Some found → Leads (item found.value) tokens found.behind
+  by_front : (front : Option (List Token)) → expect (word "primary" ∷ word "key" ∷ Open ∷ []) tokens ≡ front → when front read_key
+      (read_column tokens) ≡ Some found → Leads (item found.value) tokens found.behind
   by_front None p h = column_sound tokens found h
   by_front (Some behind) p h = key_sound tokens behind found p h
 
@@ -150,16 +160,35 @@ pub item_complete : Complete item read_item NoKey
 item_complete (Column column type) tokens behind l none =
     let s = splits (name column) (One type_of type) tokens behind l in
     let n = leads (name column) _ tokens s in
-    rw (name_is_no_word (codes "primary") (word "key" ∷ Open ∷ []) refl column tokens s.behind n, one_complete name_of column tokens s.behind n tt, one_complete type_of type s.behind behind s.ends tt, none) refl
+    rw (
+      name_is_no_word (codes "primary") (word "key" ∷ Open ∷ []) refl column tokens s.behind n,
+      one_complete name_of column tokens
+          s.behind n tt,
+      one_complete type_of type s.behind behind s.ends tt,
+      none,
+    ) refl
 item_complete (KeyColumn column type) tokens behind l none =
     let s = splits (name column) (One type_of type then these (word "primary" ∷ word "key" ∷ [])) tokens behind l in
     let t = splits (One type_of type) (these (word "primary" ∷ word "key" ∷ [])) s.behind behind s.ends in
     let n = leads (name column) _ tokens s in
-    rw (name_is_no_word (codes "primary") (word "key" ∷ Open ∷ []) refl column tokens s.behind n, one_complete name_of column tokens s.behind n tt, one_complete type_of type s.behind t.behind (leads _ _ s.behind t) tt, these_expected (word "primary" ∷ word "key" ∷ []) t.behind behind refl t.ends) refl
+    rw (
+      name_is_no_word (codes "primary") (word "key" ∷ Open ∷ []) refl column tokens s.behind n,
+      one_complete name_of column tokens
+          s.behind n tt,
+      one_complete type_of type s.behind t.behind (leads _ _ s.behind t) tt,
+      these_expected
+          (word "primary" ∷ word "key" ∷ []) t.behind behind refl t.ends,
+    ) refl
 item_complete (Key key) tokens behind l none =
     let s = splits (these (word "primary" ∷ word "key" ∷ Open ∷ [])) (name key then these (Close ∷ [])) tokens behind l in
     let k = splits (name key) (these (Close ∷ [])) s.behind behind s.ends in
-    rw (these_expected (word "primary" ∷ word "key" ∷ Open ∷ []) tokens s.behind refl (leads _ _ tokens s), one_complete name_of key s.behind k.behind (leads _ _ s.behind k) tt, these_expected (Close ∷ []) k.behind behind refl k.ends) refl
+    rw (
+      these_expected (word "primary" ∷ word "key" ∷ Open ∷ []) tokens s.behind refl
+          (leads _ _ tokens s),
+      one_complete name_of key s.behind k.behind (leads _ _ s.behind k) tt,
+      these_expected
+          (Close ∷ []) k.behind behind refl k.ends,
+    ) refl
 
 pub items_sound : Sound (listed item) (read_list read_item)
 items_sound = list_sound item read_item item_sound
@@ -167,7 +196,7 @@ items_sound = list_sound item read_item item_sound
 pub items_complete : Complete (listed item) (read_list read_item) (Ends NoKey)
 items_complete = list_complete item read_item NoKey item_complete (λ tokens. refl)
 
--- ---- [name {, name}], in front of FROM
+-- ---- [name {, name}], before FROM
 
 pub record FromFollows (tokens : List Token) : Type 0 where
   pub behind : List Token
@@ -182,7 +211,8 @@ names_or_none_sound tokens found h = by_front (expect (word "from" ∷ []) token
   some_names [] behind l = absurd l.is
   some_names (a ∷ others) behind l = l
 
-  by_front : (front : Option (List Token)) → when front (λ behind. Some (record { value = []; behind = tokens })) (read_list read_name tokens) ≡ Some found → Leads (names_or_none found.value) tokens found.behind
+  by_front : (front : Option (List Token)) → when front (λ behind. Some (record { value = []; behind = tokens }))
+      (read_list read_name tokens) ≡ Some found → Leads (names_or_none found.value) tokens found.behind
   by_front None h = some_names found.value found.behind (names_sound tokens found h)
   by_front (Some behind) h =
       let is : found ≡ record { value = []; behind = tokens } = cc in
@@ -192,9 +222,13 @@ pub names_or_none_complete : Complete names_or_none read_names_or_none FromFollo
 names_or_none_complete [] tokens behind l f = rw (l.whole, l.is, f.is) refl
 names_or_none_complete (a ∷ others) tokens behind l f =
     let first = first_name (a ∷ others) tokens behind l in
-    rw (name_is_no_word (codes "from") [] refl first.bytes tokens first.behind first.is, names_complete (a ∷ others) tokens behind l (record { follows = tt; no_comma = no_comma_at_from behind f })) refl
+    rw (
+      name_is_no_word (codes "from") [] refl first.bytes tokens first.behind first.is,
+      names_complete (a ∷ others) tokens behind l
+          (record { follows = tt; no_comma = no_comma_at_from behind f }),
+    ) refl
 
--- ---- * | name {, name}, in front of FROM
+-- ---- * | name {, name}, before FROM
 
 pub asked_sound : Sound asked read_asked
 asked_sound tokens found h = by_front (expect (Star ∷ []) tokens) refl h where

@@ -7,28 +7,31 @@ use Rattle.sasi_cql.specs.declared.fault.ParseFault.TheVariants.{Syntax, OutOfMe
 use Rattle.sasi_cql.specs.Finds.{all_before, IsMissing}
 use Rattle.sasi_cql.proofs.Phrases.{Sound, leads_fewer, expected, list_step}
 
--- items in front of what one more item stands in front of
+-- items before what one more item stands before
 before_more : {A : Type 0} (items : List A) (item : A) (found : Option (Read (List A))) → all_before items (and_before item found) ≡ all_before (items ++ item ∷ []) found
 before_more items item None = refl
 before_more items item (Some read) = ap (λ (xs : List _). Some (record { value = xs; behind = read.behind })) (simp append_assoc)
 
--- nothing is in front of a list that is begun
+-- nothing is before a list that is begun
 pub list_begun : {A : Type 0} (found : Option (Read (List A))) → found ≡ all_before [] found
 list_begun None = refl
 list_begun (Some read) = refl
 
-pub list_more : {A : Type 0} (phrase : A → Phrase) (read : List Token → Option (Read A)) → Sound phrase read → (all : Option (Read (List A))) (items : List A) (tokens : List Token) (item : A) (behind next : List Token)
+pub list_more : {A : Type 0} (phrase : A → Phrase) (read : List Token → Option (Read A)) → Sound phrase read
+    → (all : Option (Read (List A))) (items : List A) (tokens : List Token) (item : A) (behind next : List Token)
     → read tokens ≡ Some (record { value = item; behind = behind }) → expect (Comma ∷ []) behind ≡ Some next → all ≡ all_before items (read_list read tokens)
     → all ≡ all_before (items ++ item ∷ []) (read_list read next)
 list_more phrase read sound all items tokens item behind next is comma so_far =
     so_far ∙ rw (list_step phrase read sound tokens, is, comma) (before_more items item (read_list read next))
 
-pub list_last : {A : Type 0} (phrase : A → Phrase) (read : List Token → Option (Read A)) → Sound phrase read → (all : Option (Read (List A))) (items : List A) (tokens : List Token) (item : A) (behind : List Token)
+pub list_last : {A : Type 0} (phrase : A → Phrase) (read : List Token → Option (Read A)) → Sound phrase read
+    → (all : Option (Read (List A))) (items : List A) (tokens : List Token) (item : A) (behind : List Token)
     → read tokens ≡ Some (record { value = item; behind = behind }) → expect (Comma ∷ []) behind ≡ None → all ≡ all_before items (read_list read tokens)
     → all ≡ Some (record { value = items ++ item ∷ []; behind = behind })
 list_last phrase read sound all items tokens item behind is comma so_far = so_far ∙ rw (list_step phrase read sound tokens, is, comma) refl
 
-pub list_missing : {A : Type 0} (phrase : A → Phrase) (read : List Token → Option (Read A)) → Sound phrase read → (all : Option (Read (List A))) (items : List A) (tokens : List Token) (fault : ParseFault)
+pub list_missing : {A : Type 0} (phrase : A → Phrase) (read : List Token → Option (Read A)) → Sound phrase read
+    → (all : Option (Read (List A))) (items : List A) (tokens : List Token) (fault : ParseFault)
     → IsMissing (read tokens) fault → all ≡ all_before items (read_list read tokens) → IsMissing all fault
 list_missing phrase read sound all items tokens Syntax missing so_far = so_far ∙ rw (list_step phrase read sound tokens, missing) refl
 list_missing phrase read sound all items tokens OutOfMemory missing so_far = tt
@@ -39,7 +42,7 @@ no_more tokens comma is no_comma = by_result (expect (Comma ∷ []) tokens) is w
   by_result None h = refl
   by_result (Some next) h = absurd cc
 
--- what is behind an item and its comma is shorter
+-- what is after an item and its comma is shorter
 pub list_shorter : {A : Type 0} (phrase : A → Phrase) (read : List Token → Option (Read A)) → Sound phrase read → (tokens : List Token) (item : A) (behind next : List Token)
     → read tokens ≡ Some (record { value = item; behind = behind }) → expect (Comma ∷ []) behind ≡ Some next → length next < length tokens
 list_shorter phrase read sound tokens item behind next is comma =

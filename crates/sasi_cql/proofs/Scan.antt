@@ -1,4 +1,4 @@
--- One more byte: the pieces of what is left, begun in front of the byte and behind it.
+-- One more byte: the pieces of what is left, begun before the byte and after it.
 use Rattle.std.proofs.Common.{◌≡◌, ℕ, suc, ◌+◌, Bool, true, false, ◌&&◌, cond, nat_eq, nat_lt, List, [], ◌∷◌, ◌++◌, length, map, refl, sym, ap, ◌∙◌, arith, append_assoc, length-append}
 use Rattle.sasi_model.specs.Pieces.{starts, behind_first, to_close, closes, opened_by, scan, PIECE_LIMIT, is_space, Cut, in_front, joined, Piece, Whole, TooLong, Unfinished, whole_piece, last_piece, Pieces}
 use Rattle.sasi_cql.specs.Standing.{inside, whole_with, last_sized, pieces_with, plain_pieces, begun_pieces, open_pieces, front_pieces, pieces_at, opens, mode_after, ends_at, leads, size_after, kept, stage_after, tentative, front_size, front_fits, reported, end_at, behind, resume, Standing, IsStanding}
@@ -9,11 +9,11 @@ use Rattle.sasi_cql.specs.declared.stage.Stage.TheVariants.{Front, Begun, Ended}
 
 -- ---- a byte of a piece, in the cut
 
--- what a byte opens, by the bytes behind it and by the mode behind it
+-- what a byte opens, by the bytes after it and by the mode after it
 opened_is : (b : ℕ) (left : List ℕ) → opened_by b left ≡ inside (opens b) left
 opened_is b left = grind arith
 
--- a byte of a piece that ends no piece goes in front of what is cut behind it
+-- a byte of a piece that ends no piece goes before what is cut after it
 body_step : (m : Mode) (b : ℕ) (left : List ℕ) → ends_at m b ≡ false
     → scan true (inside m (b ∷ left)) (b ∷ left) ≡ in_front b (scan true (inside (mode_after m b) left) left)
 body_step Plain b left e = rw (e, opened_is b left) refl
@@ -90,7 +90,7 @@ first_byte b c = first_list c.whole c.rest where
   first_list [] rest = ap only (sym (last_is (b ∷ rest)) ∙ ap last_sized (sym (one_more (length rest))))
   first_list (p ∷ ps) rest = ap (λ n. first_of n (b ∷ p) ps rest) (sym (one_more (length p)))
 
--- ---- a byte in front of a piece
+-- ---- a byte before a piece
 
 -- a `/*` that nothing closes is the last piece
 open_first : (left : List ℕ) → starts 42 left ≡ true → closes (behind_first left) ≡ false
@@ -228,7 +228,8 @@ lead_law text new size stage mode b left ok is h = rw is (lead_step size mode b 
 
 -- a byte of a piece, which ends it or does not
 body_law : (text : List ℕ) (size : ℕ) (mode : Mode) (b : ℕ) (left : List ℕ) (ends : Bool) → ends_at mode b ≡ ends
-    → begun_pieces text size mode (b ∷ left) ≡ behind (reported (end_at (cond ends Ended Begun) (size_after size)) (kept text size b)) (pieces_at (cond ends Ended Begun) (kept text size b) (size_after size) (mode_after mode b) left)
+    → begun_pieces text size mode (b ∷ left) ≡ behind (reported (end_at (cond ends Ended Begun) (size_after size)) (kept text size b))
+    (pieces_at (cond ends Ended Begun) (kept text size b) (size_after size) (mode_after mode b) left)
 body_law text size mode b left false e =
     ap (λ (c : Cut). pieces_with text size c.whole c.rest) (body_step mode b left e)
     ∙ front text size b (scan true (inside (mode_after mode b) left) left).whole (scan true (inside (mode_after mode b) left) left).rest
@@ -249,6 +250,8 @@ body_law text size mode b left true e = ends mode e where
   ends Star e = cc e
 
 pub push_law : (text : List ℕ) (size : ℕ) (stage : Stage) (mode : Mode) (b : ℕ) (left : List ℕ) → stage ≡ Begun
-    → resume (standing text size stage mode) (b ∷ left) ≡ behind (reported (end_at (stage_after mode b) (size_after size)) (kept text size b)) (resume (standing (kept text size b) (size_after size) (stage_after mode b) (mode_after mode b)) left)
+    → resume (standing text size stage mode) (b ∷ left) ≡ behind
+    (reported (end_at (stage_after mode b) (size_after size)) (kept text size b))
+    (resume (standing (kept text size b) (size_after size) (stage_after mode b) (mode_after mode b)) left)
 unfolding resume
 push_law text size stage mode b left is = rw is (body_law text size mode b left _ refl)

@@ -6,7 +6,7 @@ use Rattle.std.specs.Bool.{then_some}
 use Rattle.sasi_model.specs.Tokens.{QuotedText, quoted_on, quoted_text}
 use Rattle.sasi_cql.specs.Meaning.{size_of, undoubled, closes, is_first_quote}
 
--- a size with the bytes in front of it
+-- a size with the bytes before it
 abbrev pub size_behind : ℕ → Option ℕ → Option ℕ
 size_behind n None = None
 size_behind n (Some size) = Some (n + size)
@@ -68,7 +68,7 @@ closing_more bs i true h so_far goes_on =
 closing_more bs i false h so_far goes_on =
     so_far ∙ rw (add-one, drop-cons bs i 0 h) (size_behind-twice i 1 _ ∙ rw add-one refl)
 
--- a byte that is no quote behind one that is
+-- a byte that is no quote after one that is
 pub closing_here : (bs : List ℕ) (i : ℕ) (quote : Bool) → i < length bs → closing false bs ≡ size_behind i (closing quote (drop i bs))
     → closes quote (get_or bs i 0) ≡ true → closing false bs ≡ Some i
 closing_here bs i true h so_far here =
@@ -81,7 +81,7 @@ pub closing_all : (bs : List ℕ) (i : ℕ) (quote : Bool) → length bs ≤ i �
 closing_all bs i true h bound so_far = so_far ∙ rw (drop_all i bs h) (ap (λ (n : ℕ). Some n) (omega arith))
 closing_all bs i false h bound so_far = so_far ∙ rw (drop_all i bs h) refl
 
--- a string that is closed behind this many bytes
+-- a string that is closed after this many bytes
 pub record Closed (bs : List ℕ) (q : QuotedText) : Type 0 where
   pub before : ℕ
   pub size_is : q.size ≡ suc before

@@ -23,7 +23,7 @@ use Rattle.sasi_model.specs.Written.{IsWrittenToken, IsWrittenLiteral, IsWritten
 
 -- ---- texts in strings
 
--- a byte of ASCII, and what stands before it and behind it
+-- a byte of ASCII, and what stands before it and after it
 module _ (front : List ℕ) (b : ℕ) (behind : List ℕ) (ascii : b < 128) (text : IsUtf8 (front ++ b ∷ behind)) where
   here : get_or (front ++ b ∷ behind) (length front) 0 ≡ b
   here = get_or-append_seam front b behind 0
@@ -61,7 +61,7 @@ quoted_some b n (Some p) q is = let e : Some (record { text = b ∷ p.text; size
     some_text : {x : QuotedText} → Some x ≡ Some q → x.text ≡ q.text
     some_text {x} e = let same : x ≡ q = cc in ap (λ (x : QuotedText). x.text) same
 
--- a string's text goes on with what stands in front of it
+-- a string's text goes on with what stands before it
 string_on : (bs front : List ℕ) (q : QuotedText) → IsUtf8 (front ++ bs) → quoted_text bs ≡ Some q → IsUtf8 (front ++ q.text)
 string_on [] front q text is = cc
 string_on (b ∷ []) front q text is =
@@ -72,7 +72,9 @@ string_on (b ∷ []) front q text is =
       | false ↦ λ other e. cc
     ] refl is
 string_on (b ∷ c ∷ bs) front q text is =
-    elim (nat_eq b 39) as (λ v. nat_eq b 39 ≡ v → cond v (cond (nat_eq c 39) (quoted_on 39 2 (quoted_text bs)) (Some (record { text = []; size = 1 }))) (quoted_on b 1 (quoted_text (c ∷ bs))) ≡ Some q → IsUtf8 (front ++ q.text)) [
+    elim (nat_eq b 39) as (λ v. nat_eq b 39 ≡ v → cond v
+    (cond (nat_eq c 39) (quoted_on 39 2 (quoted_text bs)) (Some (record { text = []; size = 1 })))
+    (quoted_on b 1 (quoted_text (c ∷ bs))) ≡ Some q → IsUtf8 (front ++ q.text)) [
       | true ↦ λ quote e.
           elim (nat_eq c 39) as (λ v. nat_eq c 39 ≡ v → cond v (quoted_on 39 2 (quoted_text bs)) (Some (record { text = []; size = 1 })) ≡ Some q → IsUtf8 (front ++ q.text)) [
             | true ↦ λ second f.
@@ -181,7 +183,9 @@ name_written_here behind = by (nat_le 1 (word_on behind)) (nat_le (word_on behin
       word = prefix_passes is_word_byte behind;
     }
 
-    by : (x y z : Bool) → nat_le 1 (word_on behind) ≡ x → nat_le (word_on behind) 48 ≡ y → IsWrittenToken (cond {A = Lexeme} (x && y && z) (record { token = QuotedName (take (word_on behind) behind); inside = suc (word_on behind) }) (record { token = Unknown; inside = 0 })).token
+    by : (x y z : Bool) → nat_le 1 (word_on behind) ≡ x → nat_le (word_on behind) 48 ≡ y → IsWrittenToken
+        (cond {A = Lexeme} (x && y && z) (record { token = QuotedName (take (word_on behind) behind); inside = suc (word_on behind) })
+        (record { token = Unknown; inside = 0 })).token
     by true true true some short = named some short
     by true true false some short = tt
     by true false z some short = tt
@@ -192,7 +196,9 @@ unfolding other_lexeme
 other_written front b behind text = by (is_letter b) (is_digit b) (b == 45 && starts_digit behind) (b == 39) (b == 34) refl refl
   where
     by : (x y z u v : Bool) → is_letter b ≡ x → (b == 39) ≡ u
-        → IsWrittenToken (cond x (word_lexeme b behind) (cond y (positive_lexeme b behind) (cond z (negative_lexeme behind) (cond u (string_lexeme (quoted_text behind)) (cond v (name_lexeme behind) (record { token = sign b; inside = 0 })))))).token
+        → IsWrittenToken (cond x (word_lexeme b behind)
+        (cond y (positive_lexeme b behind) (cond z (negative_lexeme behind)
+        (cond u (string_lexeme (quoted_text behind)) (cond v (name_lexeme behind) (record { token = sign b; inside = 0 })))))).token
     by true y z u v letter quote = word_written b behind letter
     by false true z u v letter quote = tt
     by false false true u v letter quote = tt
@@ -266,7 +272,8 @@ name_written n ts one all = let alone : Written (one.token ∷ []) = subst Writt
 literal_written : (value : Literal) (ts : List Token) → literal value ts → Written ts → IsWrittenLiteral value
 literal_written value ts one all = let alone : Written (one.token ∷ []) = subst Written one.alone all in token_literal one.token value one.stands alone.0
 
-list_written : {A : Type 0} (phrase : A → Phrase) (P : A → Type 0) → ((a : A) (ts : List Token) → phrase a ts → Written ts → P a) → (items : List A) (ts : List Token) → listed phrase items ts → Written ts → AllByRecursion P items
+list_written : {A : Type 0} (phrase : A → Phrase) (P : A → Type 0) → ((a : A) (ts : List Token) → phrase a ts → Written ts → P a)
+    → (items : List A) (ts : List Token) → listed phrase items ts → Written ts → AllByRecursion P items
 list_written phrase P each [] ts reads all = tt
 list_written phrase P each (a ∷ []) ts reads all = (each a ts reads all, tt)
 list_written phrase P each (a ∷ b ∷ others) ts reads all =
@@ -313,7 +320,8 @@ keys_written (Key key ∷ items) all = (all.0, keys_written items all.1)
 
 -- ---- statements
 
-create_written : (ts : List Token) (table : List ℕ) (columns : List (List ℕ × ColumnType)) (keys : List (List ℕ)) → ReadsCreate ts table columns keys → Written ts → IsWritten (CreateTable table columns keys)
+create_written : (ts : List Token) (table : List ℕ) (columns : List (List ℕ × ColumnType)) (keys : List (List ℕ))
+    → ReadsCreate ts table columns keys → Written ts → IsWritten (CreateTable table columns keys)
 create_written ts table columns keys reads all =
     let s = reads.spelled in
     let a = parts _ _ ts s all in
@@ -326,7 +334,8 @@ create_written ts table columns keys reads all =
       rw reads.keys_are (keys_written reads.items items),
     )
 
-insert_written : (ts : List Token) (table : List ℕ) (columns : List (List ℕ)) (values : List Literal) (time : Option Number) → ReadsInsert ts table columns values time → Written ts → IsWritten (Insert table columns values time)
+insert_written : (ts : List Token) (table : List ℕ) (columns : List (List ℕ)) (values : List Literal) (time : Option Number)
+    → ReadsInsert ts table columns values time → Written ts → IsWritten (Insert table columns values time)
 insert_written ts table columns values time reads all =
     let s = reads.spelled in
     let a = parts _ _ ts s all in
@@ -342,7 +351,8 @@ insert_written ts table columns values time reads all =
       list_written literal IsWrittenLiteral literal_written values given.front given.starts f.0,
     )
 
-update_written : (ts : List Token) (table : List ℕ) (time : Option Number) (sets : List (List ℕ × Literal)) (key : List ℕ × Literal) → update table time sets key ts → Written ts → IsName table × AllByRecursion IsWrittenSet sets × IsWrittenSet key × (1 ≤ length sets)
+update_written : (ts : List Token) (table : List ℕ) (time : Option Number) (sets : List (List ℕ × Literal)) (key : List ℕ × Literal)
+    → update table time sets key ts → Written ts → IsName table × AllByRecursion IsWrittenSet sets × IsWrittenSet key × (1 ≤ length sets)
 update_written ts table time sets key s all =
     let a = parts _ _ ts s all in
     let b = parts _ _ s.behind s.ends a.1 in
@@ -364,7 +374,8 @@ columns_named : (columns : List (List ℕ)) (ts : List Token) → names_or_none 
 columns_named [] ts reads all = tt
 columns_named (column ∷ columns) ts reads all = list_written name IsName name_written (column ∷ columns) ts reads all
 
-delete_written : (ts : List Token) (columns : List (List ℕ)) (table : List ℕ) (time : Option Number) (key : List ℕ × Literal) → delete columns table time key ts → Written ts → IsName table × AllByRecursion IsName columns × IsWrittenSet key
+delete_written : (ts : List Token) (columns : List (List ℕ)) (table : List ℕ) (time : Option Number) (key : List ℕ × Literal)
+    → delete columns table time key ts → Written ts → IsName table × AllByRecursion IsName columns × IsWrittenSet key
 delete_written ts columns table time key s all =
     let a = parts _ _ ts s all in
     let names = s.ends in

@@ -19,7 +19,7 @@ meant (written.Column column type) = model.Column column type
 meant (written.KeyColumn column type) = model.KeyColumn column type
 meant (written.Key key) = model.Key key
 
--- the result is the item that there is and the tokens behind it, or says that there is none, unless memory ran out
+-- the result is the item that there is and the tokens after it, or says that there is none, unless it ran out of memory
 abbrev pub FindsItem : Option (Read model.Item) → Result (Item × Bor (List Token)) ParseFault → Type 0
 FindsItem found (Ok r) = found ≡ Some (record { value = meant r.0; behind = map meaning r.1.now })
 FindsItem found (Err fault) = IsMissing found fault
@@ -31,7 +31,7 @@ pub record Declares (found : Option (Read (List model.Item))) (columns : List (L
   pub columns_are : columns ≡ flat_map columns_of items
   pub keys_are : keys ≡ flat_map keys_of items
 
--- the result is what the items declare that there are, or says that there are none, unless memory ran out
+-- the result is what the items declare that there are, or says that there are none, unless it ran out of memory
 abbrev pub FindsItems : Option (Read (List model.Item)) → Result (List (List ℕ × ColumnType) × List (List ℕ) × Bor (List Token)) ParseFault → Type 0
 FindsItems found (Ok r) = Declares found r.0 r.1 (map meaning r.2.now)
 FindsItems found (Err fault) = IsMissing found fault

@@ -1,4 +1,4 @@
--- What the tokens of the code stand for.
+-- The tokens of the code, as those of the model.
 use Rattle.std.specs.Prelude.{◌≡◌, ℕ, Bool, true, false, not, ◌&&◌, ◌==◌, nat_le, if◌then◌else◌, List, [], ◌∷◌, drop, Option, None, Some}
 use Rattle.std.specs.Borrow.{Bor}
 use Rattle.sasi_model.specs.Tokens as model
@@ -15,7 +15,7 @@ undoubled_from false (b ∷ bs) = b ∷ undoubled_from (b == 39) bs
 abbrev pub undoubled : List ℕ → List ℕ
 undoubled bytes = undoubled_from false bytes
 
--- the token that the written one stands for
+-- the model's token
 abbrev pub meaning : Token → model.Token
 meaning (written.Word word) = model.Word (lower word.now)
 meaning (written.QuotedName name) = model.QuotedName name.now
@@ -30,17 +30,17 @@ meaning written.Equal = model.Equal
 meaning written.Semicolon = model.Semicolon
 meaning written.Unknown = model.Unknown
 
--- how many bytes a string has behind its opening quote
+-- the number of bytes of a string after its opening quote
 abbrev pub size_of : Option QuotedText → Option ℕ
 size_of None = None
 size_of (Some q) = Some q.size
 
--- the token is the lexeme's, and what is left behind it of the bytes behind its first
+-- the token is that of the lexeme, and these bytes are left after it
 pub record IsLexeme (lexeme : Lexeme) (behind : List ℕ) (token : Token) (left : List ℕ) : Type 0 where
   pub token_is : meaning token ≡ lexeme.token
   pub left_is : left ≡ drop lexeme.inside behind
 
--- what is left behind so many bytes where the test holds, and none where it fails
+-- the bytes left after this many where the test holds, and none where it fails
 abbrev pub Passes : Bool → ℕ → List ℕ → Option (Bor (List ℕ)) → Type 0
 Passes test size bytes (Some left) = (test ≡ true) × (left.now ≡ drop size bytes)
 Passes test size bytes None = test ≡ false
@@ -49,7 +49,7 @@ Passes test size bytes None = test ≡ false
 abbrev pub at_most : ℕ → ℕ → Option ℕ
 at_most limit n = if nat_le n limit then Some n else None
 
--- a byte closes a string, where `quote` says that a quote stands in front that may be the first of two
+-- the byte closes a string; `quote` says that the byte before it is a quote, and may be the first of two
 abbrev pub closes : Bool → ℕ → Bool
 closes quote b = quote && not (b == 39)
 

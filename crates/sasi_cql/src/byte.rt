@@ -1,4 +1,4 @@
-// What a byte is in a text.
+// Tests of the bytes of a text.
 ghost use Rattle.std.specs.Prelude.{◌≡◌};
 ghost use Rattle.sasi_model.specs.Pieces.{is_space, starts};
 ghost use Rattle.sasi_model.specs.Tokens.{is_digit, is_letter, is_word_byte, lower_byte, starts_digit, starts_word};

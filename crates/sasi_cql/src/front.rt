@@ -1,4 +1,4 @@
-// What tokens begin with: words and signs that are wanted, or one token of some kind.
+// The start of a list of tokens: expected words and signs, or one token of a kind.
 ghost use Rattle.std.specs.Prelude.{◌≡◌, map};
 ghost use Rattle.sasi_model.specs.Statements.{expect, number_of, read_literal, read_name, read_one, same_token, type_of};
 ghost use Rattle.sasi_cql.specs.Finds.{FindsBehind, FindsRead, IsBehind};
@@ -11,7 +11,7 @@ use crate::word::spells;
 use sasi_types::{ColumnType, Literal, Name, Number};
 use std::alloc::Global;
 
-// The token is the wanted word, in whichever case, or the wanted sign.
+// The token is the expected word, in any case, or the expected sign.
 fn same_token(wanted: &Token, token: &Token) -> bool
     ensures { result ≡ same_token (meaning wanted.now) (meaning token.now) }
 {
@@ -27,7 +27,7 @@ fn same_token(wanted: &Token, token: &Token) -> bool
     }
 }
 
-/// What stands behind these words and signs, if they are in front. The calls go no deeper than they are many.
+/// The rest after these words and signs, if the tokens begin with them. The recursion is as deep as they are many.
 pub fn after<'t, 'a>(wanted: &[Token], tokens: &'t [Token<'a>]) -> Option<&'t [Token<'a>]>
     ensures { IsBehind (expect (map meaning wanted.now) (map meaning tokens.now)) result }
 {
@@ -40,7 +40,7 @@ pub fn after<'t, 'a>(wanted: &[Token], tokens: &'t [Token<'a>]) -> Option<&'t [T
     }
 }
 
-/// What stands behind these words and signs, which have to be in front.
+/// The rest after these words and signs, with which the tokens have to begin.
 pub fn expect<'t, 'a>(
     wanted: &[Token],
     tokens: &'t [Token<'a>],

@@ -1,4 +1,4 @@
-// What stands between tokens: spaces and comments.
+// Spaces and comments between tokens.
 ghost use Rattle.std.specs.Prelude.{◌≡◌, ◌&&◌, ◌||◌, drop, true, false};
 ghost use Rattle.sasi_model.specs.Pieces.{behind_first, closes, is_block, is_line, is_space, opened_by, to_byte, to_close};
 ghost use Rattle.sasi_model.specs.Tokens.{is_gap};
@@ -18,7 +18,7 @@ fn is_block(first: u8, behind: &[u8]) -> bool
     first == b'/' && starts(b'*', behind)
 }
 
-// What stands behind the end of the line.
+// The rest after the end of the line.
 fn behind_line<'a>(bytes: &'a [u8]) -> &'a [u8]
     ensures { result.now ≡ drop (to_byte 10 bytes.now) bytes.now }
 {
@@ -32,7 +32,7 @@ fn behind_line<'a>(bytes: &'a [u8]) -> &'a [u8]
     left
 }
 
-// What stands behind the first `*/`, if there is one.
+// The rest after the first `*/`, if there is one.
 fn behind_close<'a>(bytes: &'a [u8]) -> Option<&'a [u8]>
     ensures { Passes (closes bytes.now) (to_close bytes.now) bytes.now result }
 {
@@ -47,7 +47,7 @@ fn behind_close<'a>(bytes: &'a [u8]) -> Option<&'a [u8]>
     None
 }
 
-// What stands behind a space, or a comment up to the end of its line.
+// The rest after a space, or a comment up to the end of its line.
 fn short_gap<'a>(first: u8, behind: &'a [u8]) -> Option<&'a [u8]>
     ensures { Passes (is_space first || is_line first behind.now) (opened_by first behind.now) behind.now result }
 {
@@ -60,8 +60,8 @@ fn short_gap<'a>(first: u8, behind: &'a [u8]) -> Option<&'a [u8]>
     }
 }
 
-// What stands behind a comment up to its `*/`. `unclosed` says that there is no further `*/`: a `/*` that nothing closes
-// is no comment, and the text behind it is searched only once.
+// The rest after a comment up to its `*/`. `unclosed` says that there is no further `*/`: a `/*` that nothing closes
+// is no comment, and the text after it is searched only once.
 fn block<'a>(first: u8, behind: &'a [u8], unclosed: &mut bool) -> Option<&'a [u8]>
     requires { unclosed.old ≡ true → closes behind.now ≡ false }
     ensures found { Passes (is_block first behind.now && closes (behind_first behind.now)) (opened_by first behind.now) behind.now result }
@@ -76,7 +76,7 @@ fn block<'a>(first: u8, behind: &'a [u8], unclosed: &mut bool) -> Option<&'a [u8
     rest
 }
 
-/// What stands behind a space or a comment, if there is one in front. `unclosed` says that there is no further `*/`.
+/// The rest after a space or a comment, if the bytes begin with one. `unclosed` says that there is no further `*/`.
 #[tactic(auto, unfolding(sasi_model::specs::Tokens::is_gap))]
 pub fn gap<'a>(first: u8, behind: &'a [u8], unclosed: &mut bool) -> Option<&'a [u8]>
     requires { unclosed.old ≡ true → closes behind.now ≡ false }

@@ -54,7 +54,7 @@ fn negative(digits: &[u8]) -> Number
     }
 }
 
-// How many of these bytes an integer goes on with.
+// The number of digits at the start.
 fn digits_length(bytes: &[u8]) -> usize
     ensures value { result ≡ digits_on bytes.now }
     ensures bound { result ≤ length bytes.now }
@@ -62,7 +62,7 @@ fn digits_length(bytes: &[u8]) -> usize
     bytes.iter().take_while(|byte| is_digit(**byte)).count()
 }
 
-/// The integer that a first byte and those behind it begin with.
+/// The integer at the start of a first byte and those after it.
 pub fn positive_integer<'a>(first: u8, bytes: &'a [u8], behind: &'a [u8]) -> (Token<'a>, &'a [u8])
     requires { bytes.now ≡ first ∷ behind.now }
     ensures { IsLexeme (positive_lexeme first behind.now) behind.now result.0 result.1.now }
@@ -73,7 +73,7 @@ pub fn positive_integer<'a>(first: u8, bytes: &'a [u8], behind: &'a [u8]) -> (To
     (Token::Integer(positive(digits)), left)
 }
 
-/// The integer behind a `-`.
+/// The integer after a `-`.
 pub fn negative_integer<'a>(behind: &'a [u8]) -> (Token<'a>, &'a [u8])
     ensures { IsLexeme (negative_lexeme behind.now) behind.now result.0 result.1.now }
 {

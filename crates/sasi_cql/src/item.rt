@@ -16,12 +16,12 @@ use std::alloc::{AllocError, Global};
 #[derive(Drop)]
 pub enum Item {
     Column(Name, ColumnType),
-    /// A column that PRIMARY KEY stands behind.
+    /// A column with PRIMARY KEY.
     KeyColumn(Name, ColumnType),
     Key(Name),
 }
 
-// name ), behind PRIMARY KEY (
+// name ), after PRIMARY KEY (
 fn read_key<'t, 'a>(
     alloc: Global,
     tokens: &'t [Token<'a>],

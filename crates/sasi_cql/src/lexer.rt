@@ -11,7 +11,7 @@ use crate::token::Token;
 use std::alloc::{AllocError, Global};
 use uuid::Uuid;
 
-// How many bytes a uuid has as it is written.
+// The length of a uuid in a text.
 const UUID_SIZE: usize = 36;
 
 // The most bytes that a name has.
@@ -31,7 +31,7 @@ fn sign(byte: u8) -> Token<'static>
     }
 }
 
-// How many of these bytes a word goes on with.
+// The number of bytes at the start that go on with a word.
 fn word_length(bytes: &[u8]) -> usize
     ensures value { result ≡ word_on bytes.now }
     ensures bound { result ≤ length bytes.now }
@@ -50,7 +50,7 @@ fn word<'a>(first: u8, bytes: &'a [u8], behind: &'a [u8]) -> (Token<'a>, &'a [u8
     (Token::Word(word), left)
 }
 
-// The quoted name behind its first quote, or the token that the quote alone is.
+// The quoted name after its first quote, or the token of the quote alone.
 fn quoted_name<'a>(behind: &'a [u8]) -> (Token<'a>, &'a [u8])
     ensures { IsLexeme (name_lexeme behind.now) behind.now result.0 result.1.now }
 {
@@ -64,7 +64,7 @@ fn quoted_name<'a>(behind: &'a [u8]) -> (Token<'a>, &'a [u8])
     }
 }
 
-// The string with this size behind its opening quote.
+// The string with this size after its opening quote.
 fn sized_string<'a>(behind: &'a [u8], size: usize) -> (Token<'a>, &'a [u8])
     requires { Some size ≡ size_of (quoted_text behind.now) }
     ensures { IsLexeme (string_lexeme (quoted_text behind.now)) behind.now result.0 result.1.now }
@@ -74,8 +74,8 @@ fn sized_string<'a>(behind: &'a [u8], size: usize) -> (Token<'a>, &'a [u8])
     (Token::Quoted(text), left)
 }
 
-// The string behind an opening quote, or the token that the quote alone is. Where no quote closes it, each run of
-// quotes behind it is even, and so a string of its own: no byte is passed over more than twice.
+// The string after an opening quote, or the token of the quote alone. Without a closing quote each run of quotes after it is
+// even, and so a string of its own: no byte is read more than twice.
 fn string<'a>(behind: &'a [u8]) -> (Token<'a>, &'a [u8])
     ensures { IsLexeme (string_lexeme (quoted_text behind.now)) behind.now result.0 result.1.now }
 {

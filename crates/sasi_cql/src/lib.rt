@@ -1,5 +1,5 @@
-// Reads scripts: cuts their bytes into pieces, and says what statement a piece is. It stands on the small types and on
-// the model, whose pieces and statements it finds exactly.
+//! The reading of scripts: a splitter cuts their bytes into pieces, and a parser finds the statement of a piece. It promises
+//! exactly the pieces and statements of the model.
 #![tactic(auto)]
 
 mod byte;

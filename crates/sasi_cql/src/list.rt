@@ -12,15 +12,14 @@ use crate::token::Token;
 use sasi_types::{Literals, Names, Sets};
 use std::alloc::Global;
 
-/// A `,` is in front.
+/// The first token is a `,`.
 pub fn has_comma(tokens: &[Token]) -> bool
     ensures { result ≡ is_some (expect (Comma ∷ []) (map meaning tokens.now)) }
 {
     matches!(tokens, [Token::Comma, ..])
 }
 
-/// What stands behind the `,` in front. A loop that goes on there takes it by this call: assigned from a pattern, the
-/// loop gets no proof.
+/// The rest after the `,`. A loop that goes on there needs this call: with an assignment from a pattern it gets no proof.
 pub fn behind_comma<'t, 'a>(tokens: &'t [Token<'a>]) -> &'t [Token<'a>]
     requires { is_some (expect (Comma ∷ []) (map meaning tokens.now)) ≡ true }
     ensures { expect (Comma ∷ []) (map meaning tokens.now) ≡ Some (map meaning result.now) }

@@ -1,4 +1,4 @@
-// What one token stands for: a name, a literal, a number or a type.
+// The name, the literal, the number or the type of one token.
 ghost use Rattle.std.specs.Prelude.{◌≡◌, IfOk};
 ghost use Rattle.sasi_model.specs.Tokens.{lower};
 ghost use Rattle.sasi_model.specs.Statements.{literal_of, name_of, number_of, type_named, type_of};

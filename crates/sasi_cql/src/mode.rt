@@ -1,6 +1,6 @@
-// What is open behind a byte of a script.
+// What is open after a byte of a script.
 
-/// What is open behind a byte of a script.
+/// What a byte of a script leaves open.
 #[derive(Clone, Copy, Debug, PartialEq, Eq)]
 pub enum Mode {
     /// Nothing.

@@ -17,7 +17,7 @@ use crate::token::Token;
 use sasi_types::{Columns, Name, Names, Select, Statement};
 use std::alloc::Global;
 
-// The statement, if nothing stands behind it.
+// The statement, if nothing comes after it.
 fn ended(statement: Statement, tokens: &[Token]) -> Result<Statement, ParseFault>
     ensures { Finds (ended statement (map meaning tokens.now)) result }
 {
@@ -119,7 +119,7 @@ fn update(alloc: Global, tokens: &[Token]) -> Result<Statement, ParseFault>
 
 // ---- DELETE
 
-// [name {, name}], in front of FROM
+// [name {, name}], before FROM
 fn read_names_or_none<'t, 'a>(
     alloc: Global,
     tokens: &'t [Token<'a>],
@@ -214,6 +214,3 @@ pub fn parse(alloc: Global, text: &str) -> Result<Statement, ParseFault>
     let tokens = tokens_of(alloc, text.as_bytes())?;
     statement(alloc, tokens.as_slice())
 }
-
-#[cfg(test)]
-mod tests;

@@ -6,7 +6,7 @@ ghost use Rattle.sasi_cql.specs.Meaning.{closes, is_first_quote, size_of, undoub
 use sasi_types::Text;
 use std::alloc::{AllocError, Global};
 
-// A byte closes a string, where `quote` says that a quote stands in front that may be the first of two.
+// The byte closes a string. `quote` says that the byte before it is a quote, and may be the first of two.
 fn closes(quote: bool, byte: u8) -> bool
     ensures { result ≡ closes quote byte }
 {
@@ -20,7 +20,7 @@ fn is_first_quote(quote: bool, byte: u8) -> bool
     !quote && byte == b'\''
 }
 
-/// How many bytes a string has behind its opening quote, with the closing one.
+/// The number of bytes of a string after its opening quote, the closing one included.
 pub fn string_size(bytes: &[u8]) -> Option<usize>
     ensures { result ≡ size_of (quoted_text bytes.now) }
 {
@@ -34,7 +34,7 @@ pub fn string_size(bytes: &[u8]) -> Option<usize>
     quote.then_some(bytes.len())
 }
 
-/// The text of a string from what stands between its quotes.
+/// The text of a string, from the bytes between its quotes.
 pub fn text_of(alloc: Global, bytes: &[u8]) -> Result<Text, AllocError>
     ensures { IfOk result (λ text. text ≡ undoubled bytes.now) }
 {

@@ -18,7 +18,7 @@ const LIMIT: usize = 1 << 20;
 #[derive(Drop)]
 pub struct Splitter {
     text: Vec<u8>,
-    // How many bytes came of the piece, or of the comment that is open in front: at most LIMIT + 1, where it stops.
+    // The number of bytes of the piece so far, or of the open comment before it: at most LIMIT + 1, where it stops.
     size: usize,
     stage: Stage,
     mode: Mode,
@@ -46,7 +46,7 @@ fn opened(byte: u8) -> Mode
     }
 }
 
-// What is open behind the byte.
+// The mode after the byte.
 fn next_mode(mode: Mode, byte: u8) -> Mode
     ensures { result ≡ mode_after mode byte }
 {
@@ -64,7 +64,7 @@ fn next_mode(mode: Mode, byte: u8) -> Mode
     }
 }
 
-// The stage behind a byte of a piece.
+// The stage after a byte of a piece.
 fn next_stage(mode: Mode, byte: u8) -> Stage
     ensures { result ≡ stage_after mode byte }
 {
@@ -74,7 +74,7 @@ fn next_stage(mode: Mode, byte: u8) -> Stage
     }
 }
 
-// Whether no piece has begun behind the byte, if none had before it.
+// Whether the byte begins no piece, where none has begun before it.
 fn is_lead(mode: Mode, byte: u8) -> bool
     ensures { result ≡ leads mode byte }
 {
@@ -86,14 +86,14 @@ fn is_lead(mode: Mode, byte: u8) -> bool
     }
 }
 
-// The count of bytes behind one more.
+// The size with one more byte.
 fn next_size(size: usize) -> usize
     ensures { result ≡ size_after size }
 {
     if size > LIMIT { size } else { size + 1 }
 }
 
-// The count of bytes behind one in front of a piece, which left this mode.
+// The size after a byte before a piece, which left this mode.
 fn next_front_size(mode: Mode, size: usize) -> usize
     ensures { result ≡ front_size mode size }
 {
@@ -129,7 +129,7 @@ fn set_tentative(text: &mut Vec<u8>, mode: Mode) -> Result<(), AllocError>
     Ok(())
 }
 
-// How a piece of so many bytes ended at a byte of its own, if it did.
+// The end of a piece of this size at its own last byte, if it has ended.
 fn end_of(stage: Stage, size: usize) -> Option<PieceEnd>
     ensures { result ≡ end_at stage size }
 {
@@ -142,7 +142,7 @@ fn end_of(stage: Stage, size: usize) -> Option<PieceEnd>
     }
 }
 
-// How the script's end ends a piece of so many bytes.
+// The end of a piece of this size at the end of the script, if there is one.
 fn last_end(stage: Stage, size: usize) -> Option<PieceEnd>
     ensures { result ≡ last_end_of stage size }
 {
@@ -183,7 +183,7 @@ impl Splitter {
         }
     }
 
-    // Takes a byte that leaves it open whether a piece begins.
+    // Pushes a byte that may be before the piece or its first.
     #[tactic(auto, unfolding(crate::specs::Standing::resume))]
     fn take_lead(&mut self, byte: u8) -> Result<(), AllocError>
         requires stage { self.old.stage ≡ Front }
@@ -214,7 +214,7 @@ impl Splitter {
         }
     }
 
-    // Takes a byte of a piece.
+    // Pushes a byte of a piece.
     #[tactic(auto, unfolding(crate::specs::Standing::resume))]
     fn take_body(&mut self, byte: u8) -> Result<Option<PieceEnd>, AllocError>
         requires stage { self.old.stage ≡ Begun }
@@ -228,7 +228,7 @@ impl Splitter {
         Ok(end_of(self.stage, self.size))
     }
 
-    /// Takes the next byte, and says how the piece ended if it did.
+    /// Pushes the next byte of the script. Returns the end of the piece, if this byte ends it.
     pub fn push(&mut self, byte: u8) -> Result<Option<PieceEnd>, AllocError>
         ensures { IfOk result (λ end. (left : List ℕ) →
             resume self.old (byte ∷ left) ≡ behind (reported end self.new.text) (resume self.new left)) }
@@ -242,7 +242,7 @@ impl Splitter {
         self.take_body(byte)
     }
 
-    /// The end of the script: how the last piece ended, if anything is left of one.
+    /// Ends the script. Returns the end of the last piece, if there is one after the last `;`.
     #[tactic(auto, unfolding(crate::specs::Standing::resume))]
     pub fn end(&mut self) -> Option<PieceEnd>
         ensures { resume self.old [] ≡ record { whole = []; last = reported result self.new.text } }
@@ -255,100 +255,5 @@ impl Splitter {
         ensures { result.now ≡ self.now.text }
     {
         &self.text
-    }
-}
-
-#[cfg(test)]
-mod tests {
-    use super::*;
-
-    // Adds a line on a piece: its text, or how it is none.
-    fn note(lines: &mut Vec<u8>, end: PieceEnd, text: &[u8]) -> Result<(), AllocError> {
-        match end {
-            PieceEnd::Whole => lines.extend_from_slice(text)?,
-            PieceEnd::TooLong { finished: true } => lines.extend_from_slice(b"too long")?,
-            PieceEnd::TooLong { finished: false } => lines.extend_from_slice(
-                b"too long at the end",
-            )?,
-            PieceEnd::Unfinished => lines.extend_from_slice(b"unfinished")?,
-        }
-        lines.push(b'|')?;
-        Ok(())
-    }
-
-    // The pieces of `front`, then `count` times `byte`, then `back`.
-    fn cut(
-        alloc: Global,
-        front: &[u8],
-        byte: u8,
-        count: usize,
-        back: &[u8],
-    ) -> Result<Vec<u8>, AllocError> {
-        let mut splitter = Splitter::new(alloc);
-        let mut lines = Vec::new(alloc);
-        let script = front
-            .iter()
-            .copied()
-            .chain(std::iter::repeat_n(byte, count))
-            .chain(back.iter().copied());
-        for byte in script {
-            if let Some(end) = splitter.push(byte)? {
-                note(&mut lines, end, splitter.piece())?;
-            }
-        }
-        if let Some(end) = splitter.end() {
-            note(&mut lines, end, splitter.piece())?;
-        }
-        Ok(lines)
-    }
-
-    #[test]
-    fn cuts_scripts(rt: HostRuntime) {
-        let table: [(&[u8], &[u8]); 22] = [
-            (b"", b""),
-            (b" \t\r\n", b""),
-            (b"a;b;", b"a;|b;|"),
-            (b"  a ; b", b"a ;|unfinished|"),
-            (b";;", b";|;|"),
-            (b"'a;''b';c;", b"'a;''b';|c;|"),
-            (b"\"a;\"\"b\";", b"\"a;\"\"b\";|"),
-            (b"'\";';\"';\";", b"'\";';|\"';\";|"),
-            (b"a 'b;", b"unfinished|"),
-            (b"-- a;\nb;", b"b;|"),
-            (b"// a;\nb;", b"b;|"),
-            (b"/* a; */b;", b"b;|"),
-            (b"a -- b;\nc;d;", b"a -- b;\nc;|d;|"),
-            (b"a /* ; **/ b;", b"a /* ; **/ b;|"),
-            (b"a /*/ ; */;", b"a /*/ ; */;|"),
-            (b"-a;/b;", b"-a;|/b;|"),
-            (b"- -;/ /;", b"- -;|/ /;|"),
-            (b"-- a", b""),
-            (b"-", b"unfinished|"),
-            (b"/* a;", b"unfinished|"),
-            (b"/*/;", b"unfinished|"),
-            (b"-- 'a\n;'", b";|unfinished|"),
-        ];
-        for (script, want) in table {
-            let lines = cut(rt.alloc(), script, b' ', 0, b"").expect(&rt, "memory is left");
-            assert_eq!(rt; lines.as_slice(), want);
-        }
-    }
-
-    #[test]
-    fn tells_long_pieces(rt: HostRuntime) {
-        let table: [(&[u8], usize, &[u8], &[u8]); 6] = [
-            (b"a", LIMIT - 1, b";b;", b"too long|b;|"),
-            (b"", LIMIT, b"", b"unfinished|"),
-            (b"a", LIMIT, b"", b"too long at the end|"),
-            (b"/*", LIMIT - 2, b"", b"unfinished|"),
-            (b"/*", LIMIT - 1, b"", b"too long at the end|"),
-            (b"/*", LIMIT, b"*/b;", b"b;|"),
-        ];
-        for (front, count, back, want) in table {
-            let lines = cut(rt.alloc(), front, b'a', count, back).expect(&rt, "memory is left");
-            assert_eq!(rt; lines.as_slice(), want);
-        }
-        let whole = cut(rt.alloc(), b"", b'a', LIMIT - 1, b";").expect(&rt, "memory is left");
-        assert_eq!(rt; whole.len(), LIMIT + 1);
     }
 }

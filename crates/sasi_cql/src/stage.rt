@@ -1,9 +1,9 @@
-// How far the piece that a splitter is at has come.
+// The progress of the current piece.
 
-/// How far the piece that a splitter is at has come.
+/// The progress of the current piece of a splitter.
 #[derive(Clone, Copy, Debug, PartialEq, Eq)]
 pub enum Stage {
-    /// Not begun, but for a byte or an open comment that may yet belong to it.
+    /// It has not begun, but a byte or an open comment before may still turn out to belong to it.
     Front,
     Begun,
     Ended,

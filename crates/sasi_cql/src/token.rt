@@ -6,9 +6,9 @@ use sasi_types::Number;
 pub enum Token<'a> {
     /// A word as it is written, in whichever case.
     Word(&'a [u8]),
-    /// What stands between double quotes.
+    /// The bytes between double quotes.
     QuotedName(&'a [u8]),
-    /// What stands between the quotes of a string, where a quote is still doubled.
+    /// The bytes between the quotes of a string, with its quotes still doubled.
     Quoted(&'a [u8]),
     Integer(Number),
     Uuid([u8; 16]),

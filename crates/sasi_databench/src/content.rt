@@ -1,4 +1,4 @@
-// The partitions that are written: one for each number, whose key is the number.
+// The partitions of the measured file: one for each number, whose key is the number.
 use sasi_types::{ColumnType, TypeList};
 use std::alloc::{AllocError, Global};
 

@@ -1,7 +1,7 @@
-// Pages read anew each time, and counted.
+// A page reader that counts its reads.
 use sasi_host::{Direct, FileName, Host, HostFault, PageReader};
 
-/// The reader that keeps no page, and counts those that it was asked for.
+/// Keeps no page, and counts the pages that it reads.
 #[derive(Drop)]
 pub struct Counted {
     pub pages: u64,

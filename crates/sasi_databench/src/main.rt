@@ -1,6 +1,6 @@
-// A data file of many partitions in a real folder, to be measured: it is written, and then walked or asked for each of its
-// keys. The words are the folder, the number of partitions, and write, walk or find; what is printed is how many partitions
-// were given and how many pages were read.
+//! Measures a data file of many partitions in a real folder: writes it, and then scans it or looks up each of its keys. The
+//! arguments are the folder, the number of partitions, and write, walk or find. It prints how many partitions were given and
+//! how many pages were read.
 #![tactic(auto)]
 
 mod content;
@@ -37,7 +37,7 @@ fn run(rt: HostRuntime, folder: &str, count: u64, what: &str) -> Result<(u64, u6
     Ok((given, pages.pages))
 }
 
-// The words behind the program's own.
+// The arguments behind the program's own name.
 fn words<R: Env + AllocGlobal>(rt: &R) -> Option<Vec<String>> {
     let args = env::args(rt).ok()?;
     args.skip(1).collect(rt.alloc()).ok()

@@ -1,4 +1,4 @@
-// A data file written, walked, and asked for each of its keys.
+// Writes a data file, scans it, and looks up each of its keys.
 ghost use Rattle.std.specs.Prelude.{◌≡◌, ◌≤◌, IfOk, OnOk, IsTrue, length};
 ghost use Rattle.sasi_types.specs.declared.partitioner.Partitioner.TheVariants.{Lead8};
 ghost use Rattle.sasi_datawrite.specs.Writing.{last_pair};
@@ -55,7 +55,7 @@ pub fn write_all(alloc: Global, host: &mut FileHost, count: u64) -> Result<DataR
     Ok(writer.finish(host)?)
 }
 
-/// How many partitions a walk gives.
+/// How many partitions a scan gives.
 pub fn walk_all(
     alloc: Global,
     host: &mut FileHost,

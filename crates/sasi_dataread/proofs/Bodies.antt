@@ -34,14 +34,18 @@ use Rattle.sasi_dataread.proofs.Runs.{causes_on}
 -- the body at a place is the only one there
 pub sized_same : (bytes : Bytes) (at : ℕ) (a b : Bytes) → length a < 2 ^ 32 → length b < 2 ^ 32 → HasAt bytes at (sized a) → HasAt bytes at (sized b) → a ≡ b
 sized_same bytes at a b a_fits b_fits ha hb =
-    let long : length a ≡ length b = number_at bytes at (length a) (length b) a_fits b_fits (first_at bytes at (to_be_bytes w32 (length a)) a ha) (first_at bytes at (to_be_bytes w32 (length b)) b hb) in
+    let long : length a ≡ length b = number_at bytes at (length a) (length b) a_fits b_fits (first_at bytes at (to_be_bytes w32 (length a)) a ha)
+    (first_at bytes at (to_be_bytes w32 (length b)) b hb) in
     same_at bytes (at + 4) a b (second_at bytes at (to_be_bytes w32 (length a)) a ha) (second_at bytes at (to_be_bytes w32 (length b)) b hb) long
 
-pub sized_read : (bytes body : Bytes) (place count : ℕ) → HasAt bytes place (to_be_bytes w32 count) → body ≡ take count (drop (place + 4) bytes) → length body ≡ count → place + 4 + count ≤ length bytes → HasAt bytes place (sized body)
+pub sized_read : (bytes body : Bytes) (place count : ℕ) → HasAt bytes place (to_be_bytes w32 count) → body ≡ take count (drop (place + 4) bytes) →
+    length body ≡ count → place + 4 + count ≤ length bytes → HasAt bytes place (sized body)
 sized_read bytes body place count has is long within =
-    both_at bytes place (place + 4) (to_be_bytes w32 (length body)) body (subst (λ (n : ℕ). HasAt bytes place (to_be_bytes w32 n)) (sym long) has) refl (window_at bytes body (place + 4) count is within)
+    both_at bytes place (place + 4) (to_be_bytes w32 (length body)) body (subst (λ (n : ℕ). HasAt bytes place (to_be_bytes w32 n)) (sym long) has)
+    refl (window_at bytes body (place + 4) count is within)
 
-pub reads_cost : (bytes body : Bytes) (held after : Option ℕ) (place count r0 r1 r2 : ℕ) → count < 2 ^ 32 → length body < 2 ^ 32 → HasAt bytes place (to_be_bytes w32 count) → HasAt bytes place (sized body) → after ≡ Some ((place + 3) / 4096)
+pub reads_cost : (bytes body : Bytes) (held after : Option ℕ) (place count r0 r1 r2 : ℕ) → count < 2 ^ 32 → length body < 2 ^ 32 → HasAt bytes place
+    (to_be_bytes w32 count) → HasAt bytes place (sized body) → after ≡ Some ((place + 3) / 4096)
     → r1 ≤ r0 + fresh_pages held place 4 → r2 ≤ r1 + fresh_pages after (place + 4) count → r2 ≤ r0 + fresh_cost held place (length body)
 reads_cost bytes body held after place count r0 r1 r2 count_fits body_fits has stands after_is first second =
     let same : count ≡ length body = number_at bytes place count (length body) count_fits body_fits has (first_at bytes place (to_be_bytes w32 (length body)) body stands) in
@@ -51,13 +55,15 @@ reads_cost bytes body held after place count r0 r1 r2 count_fits body_fits has s
     omega (arith, first, second, more, fresh_on held place 4 (length body) (lit< tt))
 
 -- a length and its body, one read after the other
-pub both_causes : {S T : Type 0} (a b c : View) (held after : Option ℕ) (place count : ℕ) (first : Result S ReadFault) (second : Result T ReadFault) → count < 2 ^ 23 → after ≡ Some ((place + 3) / 4096)
+pub both_causes : {S T : Type 0} (a b c : View) (held after : Option ℕ) (place count : ℕ) (first : Result S ReadFault) (second : Result T ReadFault) →
+    count < 2 ^ 23 → after ≡ Some ((place + 3) / 4096)
     → ReadsAtMost (fresh_pages held place 4) a b first → ReadsAtMost (fresh_pages after (place + 4) count) b c second → ReadsAtMost 2050 a c second
 both_causes a b c held after place count first second short after_is one two =
     let more : fresh_pages after (place + 4) count ≡ fresh_pages (Some ((place + 4 - 1) / 4096)) (place + 4) count =
     ap (λ (o : Option ℕ). fresh_pages o (place + 4) count) (after_is ∙ ap (λ (n : ℕ). Some (n / 4096)) (omega arith))
     in
-    causes_on a b c (fresh_pages held place 4) (fresh_pages after (place + 4) count) 2050 first second (omega (arith, more, fresh_on held place 4 count (lit< tt), few_pages held place (4 + count) (omega (arith, short)))) one two
+    causes_on a b c (fresh_pages held place 4) (fresh_pages after (place + 4) count) 2050 first second
+    (omega (arith, more, fresh_on held place 4 count (lit< tt), few_pages held place (4 + count) (omega (arith, short)))) one two
 
 -- ---- what shows damage
 
@@ -66,7 +72,8 @@ length_spares v file end place fault.Failed short = tt
 length_spares v file end place fault.OutOfMemory short = tt
 length_spares v file end place (fault.Damaged damage) short = λ bytes count is has wanted. let less = (short bytes is).short in omega (arith, less, at_ends bytes place (to_be_bytes w32 count) has)
 
-pub far_spares : (v : View) (file : FileName) (end place : ℕ) (f : ReadFault) → 2 ^ 62 < place → ((bytes : Bytes) → contents v file ≡ Some bytes → length bytes ≤ 2 ^ 62) → SparesLength v file end place f
+pub far_spares : (v : View) (file : FileName) (end place : ℕ) (f : ReadFault) → 2 ^ 62 < place →
+    ((bytes : Bytes) → contents v file ≡ Some bytes → length bytes ≤ 2 ^ 62) → SparesLength v file end place f
 far_spares v file end place fault.Failed far fits = tt
 far_spares v file end place fault.OutOfMemory far fits = tt
 far_spares v file end place (fault.Damaged damage) far fits = λ bytes count is has wanted. let le = fits bytes is in omega (arith, far, le, at_ends bytes place (to_be_bytes w32 count) has)
@@ -76,28 +83,38 @@ sized_spares v file end place fault.Failed spares = tt
 sized_spares v file end place fault.OutOfMemory spares = tt
 sized_spares v file end place (fault.Damaged damage) spares = λ bytes body is has wanted. spares bytes (length body) is (first_at bytes place (to_be_bytes w32 (length body)) body has) wanted
 
-pub cut_spares : (a b : View) (file : FileName) (end place count : ℕ) (f : ReadFault) → count < 2 ^ 23 → ((bytes : Bytes) → contents a file ≡ Some bytes → HasAt bytes place (to_be_bytes w32 count)) → Changes Same a b → Shown b file (ShowsEnd (place + 4 + count) file) f
+pub cut_spares : (a b : View) (file : FileName) (end place count : ℕ) (f : ReadFault) → count < 2 ^ 23 →
+    ((bytes : Bytes) → contents a file ≡ Some bytes → HasAt bytes place (to_be_bytes w32 count)) → Changes Same a b → Shown b file
+    (ShowsEnd (place + 4 + count) file) f
     → SparesSized a file end place f
 cut_spares a b file end place count fault.Failed fits has same short = tt
 cut_spares a b file end place count fault.OutOfMemory fits has same short = tt
 cut_spares a b file end place count (fault.Damaged damage) fits has same short = λ bytes body is stands wanted.
     let less = (short bytes (contents_same a b file same ∙ is)).short in
-    let long : count ≡ length body = number_at bytes place count (length body) (omega (arith, fits)) (omega (arith, wanted.short)) (has bytes is) (first_at bytes place (to_be_bytes w32 (length body)) body stands) in
+    let long : count ≡ length body = number_at bytes place count (length body) (omega (arith, fits)) (omega (arith, wanted.short)) (has bytes is)
+    (first_at bytes place (to_be_bytes w32 (length body)) body stands) in
     omega (arith, less, long, at_ends bytes place (sized body) stands, length-append (to_be_bytes w32 (length body)) body)
 
 -- ---- what is shown
 
 -- a place that no file reaches
-pub far_shown : (types : List ColumnType) (v : View) (file : FileName) (end place : ℕ) (f : ReadFault) → 2 ^ 62 < place → ((bytes : Bytes) → contents v file ≡ Some bytes → length bytes ≤ 2 ^ 62) → Shown v file (TellsSize file) f → Shown v file (ShowsPartition types end place file) f
+pub far_shown : (types : List ColumnType) (v : View) (file : FileName) (end place : ℕ) (f : ReadFault) → 2 ^ 62 < place →
+    ((bytes : Bytes) → contents v file ≡ Some bytes → length bytes ≤ 2 ^ 62) → Shown v file (TellsSize file) f → Shown v file
+    (ShowsPartition types end place file) f
 far_shown types v file end place f far fits told =
-    shown_as (TellsSize file) (ShowsPartition types end place file) v file f (λ bytes damage is tells. let le = fits bytes is in no_length (record { tells = tells; short = omega (arith, far, le) })) told
+    shown_as (TellsSize file) (ShowsPartition types end place file) v file f
+    (λ bytes damage is tells. let le = fits bytes is in no_length (record { tells = tells; short = omega (arith, far, le) })) told
 
-pub length_shown : (types : List ColumnType) (v : View) (file : FileName) (end place : ℕ) (f : ReadFault) → Shown v file (ShowsEnd (place + 4) file) f → Shown v file (ShowsPartition types end place file) f
+pub length_shown : (types : List ColumnType) (v : View) (file : FileName) (end place : ℕ) (f : ReadFault) → Shown v file (ShowsEnd (place + 4) file) f
+    → Shown v file (ShowsPartition types end place file) f
 length_shown types v file end place f shown = shown_as (ShowsEnd (place + 4) file) (ShowsPartition types end place file) v file f (λ bytes damage is ends. no_length ends) shown
 
-pub body_shown : (types : List ColumnType) (v : View) (file : FileName) (end place count : ℕ) (f : ReadFault) → ((bytes : Bytes) → contents v file ≡ Some bytes → HasAt bytes place (to_be_bytes w32 count)) → IsLength end place count → Shown v file (ShowsEnd (place + 4 + count) file) f
+pub body_shown : (types : List ColumnType) (v : View) (file : FileName) (end place count : ℕ) (f : ReadFault) →
+    ((bytes : Bytes) → contents v file ≡ Some bytes → HasAt bytes place (to_be_bytes w32 count)) → IsLength end place count → Shown v file
+    (ShowsEnd (place + 4 + count) file) f
     → Shown v file (ShowsPartition types end place file) f
-body_shown types v file end place count f stands is_length shown = shown_as (ShowsEnd (place + 4 + count) file) (ShowsPartition types end place file) v file f (λ bytes damage is ends. no_body count (stands bytes is) is_length ends) shown
+body_shown types v file end place count f stands is_length shown = shown_as (ShowsEnd (place + 4 + count) file) (ShowsPartition types end place file)
+    v file f (λ bytes damage is ends. no_body count (stands bytes is) is_length ends) shown
 
 -- ---- bodies of a table
 
@@ -106,7 +123,8 @@ placed types bytes body_fault.OutOfMemory count is shown = tt
 placed types bytes body_fault.OtherLength count is shown = tt
 placed types bytes (body_fault.Broken broken) count is shown = omega (arith, is, place_within types bytes broken.rule broken.at (seen_bytes broken.seen) shown)
 
-length_of_body : (types : List ColumnType) (key : Bytes) (part : Partition) (end place : ℕ) → IsBodyOf types key part → place + 4 + length (body key part) ≤ end → IsLength end place (length (body key part))
+length_of_body : (types : List ColumnType) (key : Bytes) (part : Partition) (end place : ℕ) → IsBodyOf types key part → place + 4 + length
+    (body key part) ≤ end → IsLength end place (length (body key part))
 unfolding body
 length_of_body types key part end place of within = record {
   some = omega (arith, length-append (key_bytes key) (part_bytes part), length-append (to_be_bytes w16 (length key)) key);
@@ -120,8 +138,10 @@ body_spares v file types end place fault.OutOfMemory spares = tt
 body_spares v file types end place (fault.Damaged damage) spares = λ bytes key part is has of within. spares bytes (body key part) is has (length_of_body types key part end place of within)
 
 -- what isn't read as a body of the table is none
-pub fault_spares : (v : View) (file : FileName) (types : List ColumnType) (end place : ℕ) (read : Bytes) (inner : BodyFault) (f : ReadFault) → length read < 2 ^ 23 → ((bytes : Bytes) → contents v file ≡ Some bytes → HasAt bytes place (sized read))
-    → ((key : Bytes) (part : Partition) → IsBodyOf types key part → read ≡ body key part → inner ≡ body_fault.OutOfMemory) → (inner ≡ body_fault.OutOfMemory → f ≡ fault.OutOfMemory) → SparesBody v file types end place f
+pub fault_spares : (v : View) (file : FileName) (types : List ColumnType) (end place : ℕ) (read : Bytes) (inner : BodyFault) (f : ReadFault) → length
+    read < 2 ^ 23 → ((bytes : Bytes) → contents v file ≡ Some bytes → HasAt bytes place (sized read))
+    → ((key : Bytes) (part : Partition) → IsBodyOf types key part → read ≡ body key part → inner ≡ body_fault.OutOfMemory) →
+    (inner ≡ body_fault.OutOfMemory → f ≡ fault.OutOfMemory) → SparesBody v file types end place f
 fault_spares v file types end place read inner fault.Failed short stands spares memory = tt
 fault_spares v file types end place read inner fault.OutOfMemory short stands spares memory = tt
 fault_spares v file types end place read inner (fault.Damaged damage) short stands spares memory = λ bytes key part is has of within.
@@ -130,7 +150,8 @@ fault_spares v file types end place read inner (fault.Damaged damage) short stan
     cc
 
 -- what a fault of the body shows the file shows
-pub fault_shown : (v : View) (file : FileName) (types : List ColumnType) (end place : ℕ) (read : Bytes) (f : ReadFault) → ((bytes : Bytes) → contents v file ≡ Some bytes → HasAt bytes place (sized read))
+pub fault_shown : (v : View) (file : FileName) (types : List ColumnType) (end place : ℕ) (read : Bytes) (f : ReadFault) →
+    ((bytes : Bytes) → contents v file ≡ Some bytes → HasAt bytes place (sized read))
     → ((whole : Bytes) → HasAt whole place (sized read) → OnDamage (ShowsPartition types end place file whole) f) → Shown v file (ShowsPartition types end place file) f
 fault_shown v file types end place read fault.Failed stands shows = tt
 fault_shown v file types end place read fault.OutOfMemory stands shows = tt

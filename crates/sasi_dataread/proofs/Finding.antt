@@ -69,7 +69,9 @@ pub read_same : (key other k : Bytes) (part p : Partition) → key_eq key other 
 read_same key other k part p equals same part_is = ap (λ (q : Partition). Some q) part_is ∙ sym (lookup_head (key_eq key) (k, p) [] (ap (λ (b : Bytes). key_eq key b) (sym same) ∙ equals))
 
 -- partitions of lower tokens don't have the key
-below_passed : (partitioner : Partitioner) (key : Bytes) (at : ℕ) (content : Content) (count : ℕ) → ((index : ℕ) → index < count → (pair_at (pairs_from partitioner at content) index).token < token_of partitioner key) → partition_of content key ≡ partition_of (drop count content) key
+below_passed : (partitioner : Partitioner) (key : Bytes) (at : ℕ) (content : Content) (count : ℕ) →
+    ((index : ℕ) → index < count → (pair_at (pairs_from partitioner at content) index).token < token_of partitioner key) → partition_of content key ≡
+    partition_of (drop count content) key
 below_passed partitioner key at content zero below = refl
 below_passed partitioner key at [] (suc count) below = refl
 below_passed partitioner key at (one ∷ others) (suc count) below =
@@ -79,14 +81,22 @@ below_passed partitioner key at (one ∷ others) (suc count) below =
 -- nor do those of higher ones
 above_none : (partitioner : Partitioner) (key : Bytes) (content : Content) → AllByRecursion (λ one. token_of partitioner key < token_of partitioner one.0) content → partition_of content key ≡ None
 above_none partitioner key [] all = refl
-above_none partitioner key (one ∷ others) all = lookup_tail (key_eq key) one others (key_differs partitioner key one.0 (λ same. absurd (omega (arith, same, all.0)))) ∙ above_none partitioner key others all.1
+above_none partitioner key (one ∷ others) all = lookup_tail (key_eq key) one others
+    (key_differs partitioner key one.0 (λ same. absurd (omega (arith, same, all.0)))) ∙ above_none partitioner key others all.1
 
-tokens_behind : (partitioner : Partitioner) (token : ℕ) (one : Bytes × Partition) (others : Content) → IsStrictlySortedBy place_cmp (map (place_of partitioner) (one ∷ others)) → token < token_of partitioner one.0 → AllByRecursion (λ o. token < token_of partitioner o.0) (one ∷ others)
+tokens_behind : (partitioner : Partitioner) (token : ℕ) (one : Bytes × Partition) (others : Content) → IsStrictlySortedBy place_cmp
+    (map (place_of partitioner) (one ∷ others)) → token < token_of partitioner one.0 → AllByRecursion (λ o. token < token_of partitioner o.0)
+    (one ∷ others)
 unfolding IsStrictlySortedBy
 tokens_behind partitioner token one [] sorted less = (less, tt)
-tokens_behind partitioner token one (two ∷ others) sorted less = (less, tokens_behind partitioner token two others sorted.1 (omega (arith, less, less_token (place_of partitioner one) (place_of partitioner two) sorted.0.0)))
+tokens_behind partitioner token one (two ∷ others) sorted less = (
+  less,
+  tokens_behind partitioner token two others sorted.1
+      (omega (arith, less, less_token (place_of partitioner one) (place_of partitioner two) sorted.0.0)),
+)
 
-sorted_behind : (partitioner : Partitioner) (content : Content) (index : ℕ) → IsStrictlySortedBy place_cmp (map (place_of partitioner) content) → IsStrictlySortedBy place_cmp (map (place_of partitioner) (drop index content))
+sorted_behind : (partitioner : Partitioner) (content : Content) (index : ℕ) → IsStrictlySortedBy place_cmp (map (place_of partitioner) content) →
+    IsStrictlySortedBy place_cmp (map (place_of partitioner) (drop index content))
 unfolding IsStrictlySortedBy
 sorted_behind partitioner content zero sorted = sorted
 sorted_behind partitioner [] (suc index) sorted = sorted
@@ -104,7 +114,8 @@ left_less partitioner token at content zero = omega arith
 left_less partitioner token at [] (suc index) = omega arith
 left_less partitioner token at (one ∷ others) (suc index) = omega (arith, left_less partitioner token (at + length (partition_bytes one.0 one.1)) others index)
 
-left_same : (partitioner : Partitioner) (token at : ℕ) (content : Content) (n m : ℕ) → length content - n ≡ length content - m → left_cost partitioner token at content n ≡ left_cost partitioner token at content m
+left_same : (partitioner : Partitioner) (token at : ℕ) (content : Content) (n m : ℕ) → length content - n ≡ length content - m → left_cost partitioner
+    token at content n ≡ left_cost partitioner token at content m
 left_same partitioner token at [] zero zero is = refl
 left_same partitioner token at [] zero (suc m) is = refl
 left_same partitioner token at [] (suc n) zero is = refl
@@ -131,7 +142,8 @@ left_one partitioner token at (first ∷ others) zero one rest is same =
     behind = token_cost partitioner token (at + length (partition_bytes first.0 first.1)) others
 left_one partitioner token at (first ∷ others) (suc index) one rest is same =
     left_one partitioner token (at + length (partition_bytes first.0 first.1)) others index one rest is same
-    ∙ ap (λ (n : ℕ). cost n (length (body one.0 one.1)) + 1 + left_cost partitioner token (at + length (partition_bytes first.0 first.1)) others (suc index)) (omega (arith, length-append (partition_bytes first.0 first.1) (partitions (take index others))))
+    ∙ ap (λ (n : ℕ). cost n (length (body one.0 one.1)) + 1 + left_cost partitioner token (at + length (partition_bytes first.0 first.1)) others
+    (suc index)) (omega (arith, length-append (partition_bytes first.0 first.1) (partitions (take index others))))
 
 -- ---- a search
 
@@ -145,7 +157,8 @@ pub record Searches (partitioner : Partitioner) (content : Content) (token : ℕ
   pub same : token ≡ token_of partitioner key → partition_of content key ≡ partition_of (drop index content) key
   pub costs : reads + left_cost partitioner token (length header) content index ≤ most
 
-pub begins : (partitioner : Partitioner) (content : Content) (token : ℕ) (key : Bytes) (passed : ℕ) (next : Option Pair) (reads most : ℕ) (count : ℕ) → CountsBelow (key_pairs partitioner content) token count → TakesNext (key_pairs partitioner content) count passed next
+pub begins : (partitioner : Partitioner) (content : Content) (token : ℕ) (key : Bytes) (passed : ℕ) (next : Option Pair) (reads most : ℕ) (count : ℕ)
+    → CountsBelow (key_pairs partitioner content) token count → TakesNext (key_pairs partitioner content) count passed next
     → reads + token_cost partitioner token (length header) content ≤ most → Searches partitioner content token key 0 passed next reads most
 begins partitioner content token key passed next reads most count counts takes costs = record {
   index = count;
@@ -160,12 +173,15 @@ begins partitioner content token key passed next reads most count counts takes c
 abbrev pub begun : Opened → Walk
 begun opened = record { held = record { file = opened.file; page = None; bytes = [] }; tree = opened.tree; passed = 0 }
 
-pub first_causes : {T : Type 0} (v w : View) (opened : Opened) (tree : Walk) (result : Result T ReadFault) → tree ≡ begun opened → ((most : ℕ) → tree.tree.pairs ≤ most → ReadsAtMost (2 * height most tree.tree.pairs + 2) v w result)
+pub first_causes : {T : Type 0} (v w : View) (opened : Opened) (tree : Walk) (result : Result T ReadFault) → tree ≡ begun opened →
+    ((most : ℕ) → tree.tree.pairs ≤ most → ReadsAtMost (2 * height most tree.tree.pairs + 2) v w result)
     → (most : ℕ) → opened.tree.pairs ≤ most → ReadsAtMost (2 * height most opened.tree.pairs + 2) v w result
-first_causes v w opened tree result tree_is causes = subst (λ (t : TreeRef). (most : ℕ) → t.pairs ≤ most → ReadsAtMost (2 * height most t.pairs + 2) v w result) (ap (λ (t : Walk). t.tree) tree_is) causes
+first_causes v w opened tree result tree_is causes = subst (λ (t : TreeRef). (most : ℕ) → t.pairs ≤ most → ReadsAtMost (2 * height most t.pairs + 2) v
+    w result) (ap (λ (t : Walk). t.tree) tree_is) causes
 
 -- where it stands after the first pair at or after the token
-pub starts : {T : Type 0} (v w : View) (opened : Opened) (tree : Walk) (token : ℕ) (key : Bytes) (passed : ℕ) (next : Option Pair) (result : Result T ReadFault) → tree ≡ begun opened → IsShort v opened.file → GivesFrom v tree.held.file tree.tree token passed next
+pub starts : {T : Type 0} (v w : View) (opened : Opened) (tree : Walk) (token : ℕ) (key : Bytes) (passed : ℕ) (next : Option Pair)
+    (result : Result T ReadFault) → tree ≡ begun opened → IsShort v opened.file → GivesFrom v tree.held.file tree.tree token passed next
     → ((most : ℕ) → tree.tree.pairs ≤ most → ReadsAtMost (2 * height most tree.tree.pairs + 2) v w result)
     → (most : ℕ) (partitioner : Partitioner) (content : Content) → opened.tree.pairs ≤ most → IsOpenOn v opened partitioner content → HaveTokens partitioner content
     → Searches partitioner content token key 0 passed next w.reads (v.reads + (2 * height most opened.tree.pairs + 2 + token_cost partitioner token (length header) content))
@@ -174,7 +190,8 @@ starts v w opened tree token key passed next result tree_is short gives causes m
     let ref_is : tree.tree ≡ opened.tree = ap (λ (t : Walk). t.tree) tree_is in
     let from = gives is.bytes (key_pairs partitioner content) (ap (λ (f : FileName). contents v f) file_is ∙ is.reads) (tree_there v opened tree.tree ref_is short partitioner content is have) in
     let first = (first_causes v w opened tree result tree_is causes most le).reads in
-    begins partitioner content token key passed next w.reads (v.reads + (2 * height most opened.tree.pairs + 2 + token_cost partitioner token (length header) content)) from.0 from.1 from.2 (omega (arith, first))
+    begins partitioner content token key passed next w.reads (v.reads +
+    (2 * height most opened.tree.pairs + 2 + token_cost partitioner token (length header) content)) from.0 from.1 from.2 (omega (arith, first))
 
 pub first_passes : {T : Type 0} (v w : View) (n m : ℕ) (result : Result T ReadFault) → Changes Same v w → ReadsAtMost n v w result → n ≤ m → Passes m v w
 first_passes v w n m result change causes le = passes_on v v w 0 n m result (passes_none v) causes change (omega (arith, le))
@@ -188,7 +205,8 @@ pub record IsHere (partitioner : Partitioner) (content : Content) (token place i
   pub cost_is : left_cost partitioner token (length header) content index ≡ cost place (length (body one.0 one.1)) + 1 + left_cost partitioner token (length header) content passed
   pub on : suc index ≤ passed
 
-pub is_here : (partitioner : Partitioner) (content : Content) (token place index passed : ℕ) → TakesNext (key_pairs partitioner content) index passed (Some (record { token = token; place = place })) → IsHere partitioner content token place index passed
+pub is_here : (partitioner : Partitioner) (content : Content) (token place index passed : ℕ) → TakesNext (key_pairs partitioner content) index passed
+    (Some (record { token = token; place = place })) → IsHere partitioner content token place index passed
 is_here partitioner content token place index passed takes =
     let pair : Pair = record { token = token; place = place } in
     let n = nth partitioner (length header) content index pair (drop passed (key_pairs partitioner content)) takes in
@@ -206,7 +224,9 @@ is_here partitioner content token place index passed takes =
       on = omega (arith, left.0, left.1);
     }
 
-takes_it : (partitioner : Partitioner) (content : Content) (token place index passed : ℕ) (next : Option Pair) → LeadsTo token next (Some place) → TakesNext (key_pairs partitioner content) index passed next → TakesNext (key_pairs partitioner content) index passed (Some (record { token = token; place = place }))
+takes_it : (partitioner : Partitioner) (content : Content) (token place index passed : ℕ) (next : Option Pair) → LeadsTo token next (Some place) →
+    TakesNext (key_pairs partitioner content) index passed next → TakesNext (key_pairs partitioner content) index passed
+    (Some (record { token = token; place = place }))
 takes_it partitioner content token place index passed next leads takes = subst (λ (o : Option Pair). TakesNext (key_pairs partitioner content) index passed o) leads takes
 
 is_none : (found : Option Partition) → is_some found ≡ false → None ≡ found
@@ -214,13 +234,16 @@ is_none None none = refl
 is_none (Some part) none = absurd (cc)
 
 -- it is there
-pub stands_here : (partitioner : Partitioner) (content : Content) (token : ℕ) (key : Bytes) (turns passed place reads most : ℕ) (next : Option Pair) → Searches partitioner content token key turns passed next reads most → LeadsTo token next (Some place) → (one : Bytes × Partition) × StandsAt content place one.0 one.1
+pub stands_here : (partitioner : Partitioner) (content : Content) (token : ℕ) (key : Bytes) (turns passed place reads most : ℕ) (next : Option Pair) →
+    Searches partitioner content token key turns passed next reads most → LeadsTo token next (Some place) → (one : Bytes × Partition) × StandsAt
+    content place one.0 one.1
 stands_here partitioner content token key turns passed place reads most next s leads =
     let here = is_here partitioner content token place s.index passed (takes_it partitioner content token place s.index passed next leads s.takes) in
     (here.one, here.stands)
 
 -- what reading it costs
-pub here_costs : (v w : View) (opened : Opened) (partitioner : Partitioner) (content : Content) (token : ℕ) (key : Bytes) (turns passed place reads most now : ℕ) (next : Option Pair) → IsOpenOn v opened partitioner content → Changes Same v w
+pub here_costs : (v w : View) (opened : Opened) (partitioner : Partitioner) (content : Content) (token : ℕ) (key : Bytes)
+    (turns passed place reads most now : ℕ) (next : Option Pair) → IsOpenOn v opened partitioner content → Changes Same v w
     → Searches partitioner content token key turns passed next reads most → LeadsTo token next (Some place)
     → ((key : Bytes) (part : Partition) → IsOpenOn w opened partitioner content → StandsAt content place key part → now ≤ reads + cost place (length (body key part))) → now + 1 ≤ most
 here_costs v w opened partitioner content token key turns passed place reads most now next is change s leads bound =
@@ -228,17 +251,22 @@ here_costs v w opened partitioner content token key turns passed place reads mos
     omega (arith, s.costs, here.cost_is, bound here.one.0 here.one.1 (open_same v w opened partitioner content change is) here.stands)
 
 -- it has the key
-pub found_here : (v w : View) (opened : Opened) (partitioner : Partitioner) (content : Content) (token : ℕ) (key : Bytes) (turns passed place reads most : ℕ) (next : Option Pair) (found : Option Partition) → IsOpenOn v opened partitioner content → Changes Same v w
-    → Searches partitioner content token key turns passed next reads most → LeadsTo token next (Some place) → GivesWith w opened place key found → is_some found ≡ true → token ≡ token_of partitioner key → found ≡ partition_of content key
+pub found_here : (v w : View) (opened : Opened) (partitioner : Partitioner) (content : Content) (token : ℕ) (key : Bytes)
+    (turns passed place reads most : ℕ) (next : Option Pair) (found : Option Partition) → IsOpenOn v opened partitioner content → Changes Same v w
+    → Searches partitioner content token key turns passed next reads most → LeadsTo token next (Some place) → GivesWith w opened place key found →
+    is_some found ≡ true → token ≡ token_of partitioner key → found ≡ partition_of content key
 found_here v w opened partitioner content token key turns passed place reads most next found is change s leads gives some same =
     let here = is_here partitioner content token place s.index passed (takes_it partitioner content token place s.index passed next leads s.takes) in
     let given = gives partitioner content here.one.0 here.one.1 (open_same v w opened partitioner content change is) here.stands in
     sym (s.same same ∙ ap (λ (l : Content). partition_of l key) here.left ∙ on_first key here.one (drop passed content) found some given)
 
 -- it hasn't
-pub searches_on : (v w : View) (opened : Opened) (partitioner : Partitioner) (content : Content) (token : ℕ) (key : Bytes) (turns passed place reads most after now : ℕ) (last next : Option Pair) (found : Option Partition) → IsOpenOn v opened partitioner content → Changes Same v w
+pub searches_on : (v w : View) (opened : Opened) (partitioner : Partitioner) (content : Content) (token : ℕ) (key : Bytes)
+    (turns passed place reads most after now : ℕ) (last next : Option Pair) (found : Option Partition) → IsOpenOn v opened partitioner content →
+    Changes Same v w
     → Searches partitioner content token key turns passed last reads most → LeadsTo token last (Some place) → GivesWith w opened place key found → is_some found ≡ false
-    → ((key : Bytes) (part : Partition) → IsOpenOn w opened partitioner content → StandsAt content place key part → now ≤ reads + (cost place (length (body key part)) + 1)) → TakesNext (key_pairs partitioner content) passed after next
+    → ((key : Bytes) (part : Partition) → IsOpenOn w opened partitioner content → StandsAt content place key part → now ≤ reads +
+    (cost place (length (body key part)) + 1)) → TakesNext (key_pairs partitioner content) passed after next
     → Searches partitioner content token key (turns + 1) after next now most
 searches_on v w opened partitioner content token key turns passed place reads most after now last next found is change s leads gives none bound takes =
     let here = is_here partitioner content token place s.index passed (takes_it partitioner content token place s.index passed last leads s.takes) in
@@ -248,27 +276,34 @@ searches_on v w opened partitioner content token key turns passed place reads mo
       far = omega (arith, s.far, here.on);
       takes = takes;
       above = λ other le lt. s.above other (omega (arith, le, here.on)) lt;
-      same = λ same. s.same same ∙ ap (λ (l : Content). partition_of l key) here.left ∙ on_others key here.one (drop passed content) (is_none found none ∙ gives partitioner content here.one.0 here.one.1 now_open here.stands);
+      same = λ same. s.same same ∙ ap (λ (l : Content). partition_of l key) here.left ∙ on_others key here.one (drop passed content)
+          (is_none found none ∙ gives partitioner content here.one.0 here.one.1 now_open here.stands);
       costs = omega (arith, s.costs, here.cost_is, bound here.one.0 here.one.1 now_open here.stands);
     }
 
 -- the pair behind one that was found takes at most one page more
-pub one_more : {T : Type 0} (view a b : View) (file : FileName) (ref : TreeRef) (tree : Walk) (token place : ℕ) (next : Option Pair) (result : Result T ReadFault) → LeadsTo token next (Some place) → GivesEntry view file ref tree.passed next → IsNear tree next
+pub one_more : {T : Type 0} (view a b : View) (file : FileName) (ref : TreeRef) (tree : Walk) (token place : ℕ) (next : Option Pair)
+    (result : Result T ReadFault) → LeadsTo token next (Some place) → GivesEntry view file ref tree.passed next → IsNear tree next
     → ReadsAtMost (fresh_pages tree.held.page (pair_place tree.tree tree.passed) 16) a b result → ReadsAtMost 1 a b result
 one_more view a b file ref tree token place next result leads gives near causes =
     let pair : Pair = record { token = token; place = place } in
     let entry = subst (λ (o : Option Pair). GivesEntry view file ref tree.passed o) leads gives in
-    causes_within a b (fresh_pages tree.held.page (pair_place tree.tree tree.passed) 16) 1 result (near_next tree pair (omega (arith, entry.1)) (subst (λ (o : Option Pair). IsNear tree o) leads near)) causes
+    causes_within a b (fresh_pages tree.held.page (pair_place tree.tree tree.passed) 16) 1 result
+    (near_next tree pair (omega (arith, entry.1)) (subst (λ (o : Option Pair). IsNear tree o) leads near)) causes
 
 -- ---- none is left
 
-pub none_here : (v : View) (opened : Opened) (partitioner : Partitioner) (content : Content) (token : ℕ) (key : Bytes) (turns passed : ℕ) (next : Option Pair) (reads most : ℕ) → IsOpenOn v opened partitioner content → Searches partitioner content token key turns passed next reads most
+pub none_here : (v : View) (opened : Opened) (partitioner : Partitioner) (content : Content) (token : ℕ) (key : Bytes) (turns passed : ℕ)
+    (next : Option Pair) (reads most : ℕ) → IsOpenOn v opened partitioner content → Searches partitioner content token key turns passed next reads
+    most
     → LeadsTo token next None → token ≡ token_of partitioner key → None ≡ partition_of content key
-none_here v opened partitioner content token key turns passed None reads most is s other same = sym (s.same same ∙ ap (λ (l : Content). partition_of l key) (none_left partitioner content s.index s.takes.0))
+none_here v opened partitioner content token key turns passed None reads most is s other same = sym
+    (s.same same ∙ ap (λ (l : Content). partition_of l key) (none_left partitioner content s.index s.takes.0))
 none_here v opened partitioner content token key turns passed (Some pair) reads most is s other same =
     let n = nth partitioner (length header) content s.index pair (drop passed (key_pairs partitioner content)) s.takes in
     let left = as_many_left partitioner content s.index passed pair s.takes in
-    let here : pair_at (key_pairs partitioner content) (s.index + 0) ≡ pair = sym (get_or-drop s.index (key_pairs partitioner content) 0 (record { token = 0; place = 0 })) ∙ ap (λ (l : List Pair). pair_at l 0) s.takes in
+    let here : pair_at (key_pairs partitioner content) (s.index + 0) ≡ pair = sym
+    (get_or-drop s.index (key_pairs partitioner content) 0 (record { token = 0; place = 0 })) ∙ ap (λ (l : List Pair). pair_at l 0) s.takes in
     let at : pair_at (key_pairs partitioner content) s.index ≡ pair = ap (λ (k : ℕ). pair_at (key_pairs partitioner content) k) (omega arith) ∙ here in
     let token_is : pair.token ≡ token_of partitioner n.one.0 = ap (λ (p : Pair). p.token) n.pair_is in
     let least = s.above s.index (omega arith) left.0 in
@@ -276,18 +311,23 @@ none_here v opened partitioner content token key turns passed (Some pair) reads 
     let sorted = subst (λ (l : Content). IsStrictlySortedBy place_cmp (map (place_of partitioner) l)) n.left (sorted_behind partitioner content s.index is.data_file.content_is.rising) in
     sym (
     s.same same ∙ ap (λ (l : Content). partition_of l key) n.left
-    ∙ above_none partitioner key (n.one ∷ drop (suc s.index) content) (tokens_behind partitioner (token_of partitioner key) n.one (drop (suc s.index) content) sorted (omega (arith, less, same, token_is)))
+    ∙ above_none partitioner key (n.one ∷ drop (suc s.index) content)
+    (tokens_behind partitioner (token_of partitioner key) n.one (drop (suc s.index) content) sorted (omega (arith, less, same, token_is)))
     )
   where
     below_or_same : (m n : ℕ) → m ≤ n → (m < n) ⊎ (m ≡ n)
     below_or_same m n le = grind arith
 
-pub all_passed : (partitioner : Partitioner) (content : Content) (token : ℕ) (key : Bytes) (turns passed : ℕ) (next : Option Pair) (reads most : ℕ) → Searches partitioner content token key turns passed next reads most → length content ≤ turns → token ≡ token_of partitioner key → None ≡ partition_of content key
+pub all_passed : (partitioner : Partitioner) (content : Content) (token : ℕ) (key : Bytes) (turns passed : ℕ) (next : Option Pair) (reads most : ℕ) →
+    Searches partitioner content token key turns passed next reads most → length content ≤ turns → token ≡ token_of partitioner key → None ≡
+    partition_of content key
 all_passed partitioner content token key turns passed next reads most s le same = sym (s.same same ∙ ap (λ (l : Content). partition_of l key) (drop_all s.index content (omega (arith, le, s.far))))
 
 -- ---- damage
 
-pub here_spares : (v w : View) (opened : Opened) (place : ℕ) (f : ReadFault) → ((partitioner : Partitioner) (content : Content) → IsOpenOn v opened partitioner content → HaveTokens partitioner content → (one : Bytes × Partition) × StandsAt content place one.0 one.1)
+pub here_spares : (v w : View) (opened : Opened) (place : ℕ) (f : ReadFault) →
+    ((partitioner : Partitioner) (content : Content) → IsOpenOn v opened partitioner content → HaveTokens partitioner content →
+    (one : Bytes × Partition) × StandsAt content place one.0 one.1)
     → Changes Same v w → SparesPlace w opened place f → SparesOpened v opened f
 here_spares v w opened place fault.Failed stands change spares = tt
 here_spares v w opened place fault.OutOfMemory stands change spares = tt

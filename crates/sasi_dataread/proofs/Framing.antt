@@ -38,32 +38,41 @@ end_frames end file bytes damage le ends = record {
 }
 
 -- what breaks a rule is shown
-breaks_shown : (file : FileName) (whole : Bytes) (rule : FormatRule) (damage : Damage) → damage.file ≡ file → damage.rule ≡ rule → FrameBreaks whole rule damage.at (seen_bytes damage.seen) → ShowsFrame file whole damage
+breaks_shown : (file : FileName) (whole : Bytes) (rule : FormatRule) (damage : Damage) → damage.file ≡ file → damage.rule ≡ rule → FrameBreaks whole
+    rule damage.at (seen_bytes damage.seen) → ShowsFrame file whole damage
 breaks_shown file whole rule damage named rule_is breaks = record { named = named; breaks = subst (λ (r : FormatRule). FrameBreaks whole r damage.at (seen_bytes damage.seen)) (sym rule_is) breaks }
 
 -- other bytes than the wanted ones
-other_there : (file : FileName) (whole : Bytes) (at : ℕ) (bytes : Bytes) (offset : ℕ) (wanted : Bytes) (rule : FormatRule) (damage : Damage) → HasAt whole at bytes → IsOther file at bytes offset wanted rule damage → Differs whole damage.at (seen_bytes damage.seen) wanted
+other_there : (file : FileName) (whole : Bytes) (at : ℕ) (bytes : Bytes) (offset : ℕ) (wanted : Bytes) (rule : FormatRule) (damage : Damage) → HasAt
+    whole at bytes → IsOther file at bytes offset wanted rule damage → Differs whole damage.at (seen_bytes damage.seen) wanted
 other_there file whole at bytes offset wanted rule damage has other =
     subst (λ (n : ℕ). Differs whole n (seen_bytes damage.seen) wanted) (sym other.place) (differs_in whole at bytes offset (seen_bytes damage.seen) wanted has other.differs)
 
 pub magic_shown : (file : FileName) (whole bytes : Bytes) (damage : Damage) → HasAt whole 0 bytes → IsOther file 0 bytes 0 magic Magic damage → ShowsFrame file whole damage
-magic_shown file whole bytes damage has other = breaks_shown file whole Magic damage other.named other.rule_is (inl (omega (arith, other.place), other_there file whole 0 bytes 0 magic Magic damage has other))
+magic_shown file whole bytes damage has other = breaks_shown file whole Magic damage other.named other.rule_is
+    (inl (omega (arith, other.place), other_there file whole 0 bytes 0 magic Magic damage has other))
 
 pub version_shown : (file : FileName) (whole bytes : Bytes) (damage : Damage) → HasAt whole 0 bytes → IsOther file 0 bytes 8 (to_be_bytes w32 1) Version damage → ShowsFrame file whole damage
-version_shown file whole bytes damage has other = breaks_shown file whole Version damage other.named other.rule_is (omega (arith, other.place), other_there file whole 0 bytes 8 (to_be_bytes w32 1) Version damage has other)
+version_shown file whole bytes damage has other = breaks_shown file whole Version damage other.named other.rule_is
+    (omega (arith, other.place), other_there file whole 0 bytes 8 (to_be_bytes w32 1) Version damage has other)
 
 pub zeros_shown : (file : FileName) (whole bytes : Bytes) (damage : Damage) → HasAt whole 0 bytes → IsOther file 0 bytes 12 (to_be_bytes w32 0) Number damage → ShowsFrame file whole damage
-zeros_shown file whole bytes damage has other = breaks_shown file whole Number damage other.named other.rule_is (inl (omega (arith, other.place), other_there file whole 0 bytes 12 (to_be_bytes w32 0) Number damage has other))
+zeros_shown file whole bytes damage has other = breaks_shown file whole Number damage other.named other.rule_is
+    (inl (omega (arith, other.place), other_there file whole 0 bytes 12 (to_be_bytes w32 0) Number damage has other))
 
-pub mark_shown : (file : FileName) (whole bytes : Bytes) (size : ℕ) (damage : Damage) → 40 ≤ size → size ≡ length whole → HasAt whole (size - 40) bytes → IsOther file (size - 40) bytes 32 end_mark Magic damage → ShowsFrame file whole damage
-mark_shown file whole bytes size damage le sized has other = breaks_shown file whole Magic damage other.named other.rule_is (inr (omega (arith, other.place, le, sized), other_there file whole (size - 40) bytes 32 end_mark Magic damage has other))
+pub mark_shown : (file : FileName) (whole bytes : Bytes) (size : ℕ) (damage : Damage) → 40 ≤ size → size ≡ length whole → HasAt whole (size - 40)
+    bytes → IsOther file (size - 40) bytes 32 end_mark Magic damage → ShowsFrame file whole damage
+mark_shown file whole bytes size damage le sized has other = breaks_shown file whole Magic damage other.named other.rule_is
+    (inr (omega (arith, other.place, le, sized), other_there file whole (size - 40) bytes 32 end_mark Magic damage has other))
 
 -- the number of eight bytes at an offset of a footer
-field_there : (whole bytes seen : Bytes) (at offset place number : ℕ) → length bytes ≡ 40 → offset + 8 ≤ 40 → HasAt whole at bytes → place ≡ at + offset → seen ≡ take 8 (drop offset bytes) → HasAt whole place seen
+field_there : (whole bytes seen : Bytes) (at offset place number : ℕ) → length bytes ≡ 40 → offset + 8 ≤ 40 → HasAt whole at bytes → place ≡ at +
+    offset → seen ≡ take 8 (drop offset bytes) → HasAt whole place seen
 field_there whole bytes seen at offset place number long le has place_is seen_is =
     subst (λ (n : ℕ). HasAt whole n seen) (sym place_is) (inner_at whole at bytes offset seen has (window_at bytes seen offset 8 seen_is (omega (arith, long, le))))
 
-pub end_field_shown : (file : FileName) (whole bytes : Bytes) (at end : ℕ) (damage : Damage) → length bytes ≡ 40 → length whole ≡ at + 40 → HasAt whole at bytes → damage.file ≡ file → damage.rule ≡ Place → damage.at ≡ at + 24
+pub end_field_shown : (file : FileName) (whole bytes : Bytes) (at end : ℕ) (damage : Damage) → length bytes ≡ 40 → length whole ≡ at + 40 → HasAt
+    whole at bytes → damage.file ≡ file → damage.rule ≡ Place → damage.at ≡ at + 24
     → seen_bytes damage.seen ≡ take 8 (drop 24 bytes) → to_be_bytes w64 end ≡ take 8 (drop 24 bytes) → end < 2 ^ 64 → (end < 33) ⊎ (at < end) → ShowsFrame file whole damage
 end_field_shown file whole bytes at end damage long sized has named rule place seen told fits wrong = breaks_shown file whole Place damage named rule (record {
   place = omega (arith, place, sized);
@@ -74,7 +83,8 @@ end_field_shown file whole bytes at end damage long sized has named rule place s
   wrong = ⊎_elim (λ few. inl few) (λ far. inr (omega (arith, far, sized))) wrong;
 })
 
-pub count_field_shown : (file : FileName) (whole bytes : Bytes) (at pairs : ℕ) (damage : Damage) → length bytes ≡ 40 → length whole ≡ at + 40 → HasAt whole at bytes → damage.file ≡ file → damage.rule ≡ Number → damage.at ≡ at + 8
+pub count_field_shown : (file : FileName) (whole bytes : Bytes) (at pairs : ℕ) (damage : Damage) → length bytes ≡ 40 → length whole ≡ at + 40 → HasAt
+    whole at bytes → damage.file ≡ file → damage.rule ≡ Number → damage.at ≡ at + 8
     → seen_bytes damage.seen ≡ take 8 (drop 8 bytes) → to_be_bytes w64 pairs ≡ take 8 (drop 8 bytes) → pairs ≡ 0 → ShowsFrame file whole damage
 count_field_shown file whole bytes at pairs damage long sized has named rule place seen told none = breaks_shown file whole Number damage named rule (inr (record {
   place = omega (arith, place, sized);
@@ -96,12 +106,14 @@ pub header_zeros : take 4 (drop 12 header) ≡ 0 ∷ 0 ∷ 0 ∷ 0 ∷ []
 unfolding header
 header_zeros = refl
 
-pub header_is : (bytes : Bytes) → length bytes ≡ 16 → take 8 (drop 0 bytes) ≡ 83 ∷ 65 ∷ 83 ∷ 73 ∷ 68 ∷ 65 ∷ 84 ∷ 49 ∷ [] → take 4 (drop 8 bytes) ≡ to_be_bytes w32 1 → take 4 (drop 12 bytes) ≡ 0 ∷ 0 ∷ 0 ∷ 0 ∷ [] → bytes ≡ header
+pub header_is : (bytes : Bytes) → length bytes ≡ 16 → take 8 (drop 0 bytes) ≡ 83 ∷ 65 ∷ 83 ∷ 73 ∷ 68 ∷ 65 ∷ 84 ∷ 49 ∷ [] → take 4 (drop 8 bytes) ≡
+    to_be_bytes w32 1 → take 4 (drop 12 bytes) ≡ 0 ∷ 0 ∷ 0 ∷ 0 ∷ [] → bytes ≡ header
 unfolding header
 header_is bytes long one two three =
     sym (take_all 16 bytes (omega (arith, long))) ∙ take-add 8 8 bytes ∙ ap (λ (l : Bytes). l ++ take 8 (drop 8 bytes)) one
     ∙ ap (λ (l : Bytes). (83 ∷ 65 ∷ 83 ∷ 73 ∷ 68 ∷ 65 ∷ 84 ∷ 49 ∷ []) ++ l)
-    (take-add 4 4 (drop 8 bytes) ∙ ap (λ (l : Bytes). l ++ take 4 (drop 4 (drop 8 bytes))) two ∙ ap (λ (l : Bytes). to_be_bytes w32 1 ++ take 4 l) (drop-drop 4 8 bytes) ∙ ap (λ (l : Bytes). to_be_bytes w32 1 ++ l) three)
+    (take-add 4 4 (drop 8 bytes) ∙ ap (λ (l : Bytes). l ++ take 4 (drop 4 (drop 8 bytes))) two ∙ ap (λ (l : Bytes). to_be_bytes w32 1 ++ take 4 l)
+    (drop-drop 4 8 bytes) ∙ ap (λ (l : Bytes). to_be_bytes w32 1 ++ l) three)
 
 -- ---- a footer
 
@@ -128,14 +140,17 @@ footer_mark tree latest end = refl
 cut : (bytes : Bytes) (at n : ℕ) (part : Bytes) → take 8 (drop at bytes) ≡ part → take (8 + n) (drop at bytes) ≡ part ++ take n (drop (at + 8) bytes)
 cut bytes at n part is = take-add 8 n (drop at bytes) ∙ ap (λ (l : Bytes). l ++ take n (drop 8 (drop at bytes))) is ∙ ap (λ (l : Bytes). part ++ take n l) (drop-drop 8 at bytes)
 
-pub footer_is : (bytes : Bytes) (tree : TreeRef) (latest end : ℕ) → length bytes ≡ 40 → to_be_bytes w64 tree.root ≡ take 8 bytes → to_be_bytes w64 tree.pairs ≡ take 8 (drop 8 bytes) → to_be_bytes w64 latest ≡ take 8 (drop 16 bytes) → to_be_bytes w64 end ≡ take 8 (drop 24 bytes)
+pub footer_is : (bytes : Bytes) (tree : TreeRef) (latest end : ℕ) → length bytes ≡ 40 → to_be_bytes w64 tree.root ≡ take 8 bytes → to_be_bytes w64
+    tree.pairs ≡ take 8 (drop 8 bytes) → to_be_bytes w64 latest ≡ take 8 (drop 16 bytes) → to_be_bytes w64 end ≡ take 8 (drop 24 bytes)
     → take 8 (drop 32 bytes) ≡ end_mark → bytes ≡ footer tree latest end
 unfolding footer
 footer_is bytes tree latest end long root pairs times ends mark =
     sym (take_all 40 bytes (omega (arith, long))) ∙ cut bytes 0 32 (to_be_bytes w64 tree.root) (sym root)
     ∙ ap (λ (l : Bytes). to_be_bytes w64 tree.root ++ l)
     (cut bytes 8 24 (to_be_bytes w64 tree.pairs) (sym pairs)
-    ∙ ap (λ (l : Bytes). to_be_bytes w64 tree.pairs ++ l) (cut bytes 16 16 (to_be_bytes w64 latest) (sym times) ∙ ap (λ (l : Bytes). to_be_bytes w64 latest ++ l) (cut bytes 24 8 (to_be_bytes w64 end) (sym ends) ∙ ap (λ (l : Bytes). to_be_bytes w64 end ++ l) mark)))
+    ∙ ap (λ (l : Bytes). to_be_bytes w64 tree.pairs ++ l) (cut bytes 16 16 (to_be_bytes w64 latest) (sym times) ∙ ap
+    (λ (l : Bytes). to_be_bytes w64 latest ++ l) (cut bytes 24 8 (to_be_bytes w64 end) (sym ends) ∙ ap (λ (l : Bytes). to_be_bytes w64 end ++ l)
+    mark)))
 
 -- a number that is read of a footer is its
 pub field_same : (bytes field : Bytes) (at n m : ℕ) → n < 2 ^ 64 → m < 2 ^ 64 → to_be_bytes w64 n ≡ take 8 (drop at bytes) → bytes ≡ field → take 8 (drop at field) ≡ to_be_bytes w64 m → n ≡ m
@@ -151,7 +166,8 @@ run_header v file (fault.Damaged damage) short = λ bytes is has. let less = (sh
 pub run_footer : (v : View) (file : FileName) (at : ℕ) (f : ReadFault) → Shown v file (ShowsEnd (at + 40) file) f → SparesFooter v file at f
 run_footer v file at fault.Failed short = tt
 run_footer v file at fault.OutOfMemory short = tt
-run_footer v file at (fault.Damaged damage) short = λ bytes tree latest end is has. let less = (short bytes is).short in omega (arith, less, at_ends bytes at (footer tree latest end) has, footer_length tree latest end)
+run_footer v file at (fault.Damaged damage) short = λ bytes tree latest end is has. let less = (short bytes is).short in omega
+    (arith, less, at_ends bytes at (footer tree latest end) has, footer_length tree latest end)
 
 pub footer_read : (bytes window : Bytes) (at : ℕ) (tree : TreeRef) (latest end : ℕ) → window ≡ take 40 (drop at bytes) → HasAt bytes at (footer tree latest end) → window ≡ footer tree latest end
 footer_read bytes window at tree latest end is has = is ∙ ap (λ (n : ℕ). take n (drop at bytes)) (sym (footer_length tree latest end)) ∙ at_window bytes at (footer tree latest end) has
@@ -164,7 +180,8 @@ header_spares a b file fault.Failed same spares = tt
 header_spares a b file fault.OutOfMemory same spares = tt
 header_spares a b file (fault.Damaged damage) same spares = λ bytes partitioner types content is of. spares bytes (contents_same a b file same ∙ is) (header_stands partitioner types bytes content of)
 
-pub footer_spares : (a b : View) (file : FileName) (size : ℕ) (f : ReadFault) → Changes Same a b → ((bytes : Bytes) → contents a file ≡ Some bytes → size ≡ length bytes) → SparesFooter b file (size - 40) f → SparesData a file f
+pub footer_spares : (a b : View) (file : FileName) (size : ℕ) (f : ReadFault) → Changes Same a b →
+    ((bytes : Bytes) → contents a file ≡ Some bytes → size ≡ length bytes) → SparesFooter b file (size - 40) f → SparesData a file f
 footer_spares a b file size fault.Failed same sized spares = tt
 footer_spares a b file size fault.OutOfMemory same sized spares = tt
 footer_spares a b file size (fault.Damaged damage) same sized spares = λ bytes partitioner types content is of.
@@ -172,12 +189,15 @@ footer_spares a b file size (fault.Damaged damage) same sized spares = λ bytes 
     (subst (λ (n : ℕ). HasAt bytes (n - 40) (footer_of partitioner content)) (sym (sized bytes is)) (footer_stands partitioner types bytes content of))
 
 -- no footer of a data file is out of its ranges
-pub range_spares : (bytes read : Bytes) (size : ℕ) → size ≡ length bytes → length bytes ≤ 2 ^ 62 → length read ≡ 40 → HasAt bytes (size - 40) read → ((tree : TreeRef) (latest end : ℕ) → read ≡ footer tree latest end → AreInRange (size - 40 + 40) tree latest end → ⊥)
+pub range_spares : (bytes read : Bytes) (size : ℕ) → size ≡ length bytes → length bytes ≤ 2 ^ 62 → length read ≡ 40 → HasAt bytes (size - 40) read →
+    ((tree : TreeRef) (latest end : ℕ) → read ≡ footer tree latest end → AreInRange (size - 40 + 40) tree latest end → ⊥)
     → (partitioner : Partitioner) (types : List ColumnType) (content : Content) → IsDataFile partitioner types bytes content → ⊥
 range_spares bytes read size sized short long has spares partitioner types content of =
-    let footer_at : HasAt bytes (size - 40) (footer_of partitioner content) = subst (λ (n : ℕ). HasAt bytes (n - 40) (footer_of partitioner content)) (sym sized) (footer_stands partitioner types bytes content of) in
+    let footer_at : HasAt bytes (size - 40) (footer_of partitioner content) = subst (λ (n : ℕ). HasAt bytes (n - 40) (footer_of partitioner content))
+    (sym sized) (footer_stands partitioner types bytes content of) in
     let same : read ≡ footer_of partitioner content =
     same_at bytes (size - 40) read (footer_of partitioner content) has footer_at (long ∙ sym (footer_length (tree_of partitioner content) (greatest content) (length (front content))))
     in
     spares (tree_of partitioner content) (greatest content) (length (front content)) same
-    (subst (λ (n : ℕ). AreInRange n (tree_of partitioner content) (greatest content) (length (front content))) (omega (arith, sized, least_size partitioner types bytes content of)) (in_range partitioner types bytes content of short))
+    (subst (λ (n : ℕ). AreInRange n (tree_of partitioner content) (greatest content) (length (front content)))
+    (omega (arith, sized, least_size partitioner types bytes content of)) (in_range partitioner types bytes content of short))

@@ -32,7 +32,8 @@ use Rattle.sasi_dataread.proofs.Framing.{footer_root, footer_pairs, footer_lates
 -- ---- the footer
 
 -- the same footers tell the same
-footers_same : (a b : TreeRef) (x y d e : ℕ) → a.root < 2 ^ 64 → a.pairs < 2 ^ 64 → x < 2 ^ 64 → d < 2 ^ 64 → b.root < 2 ^ 64 → b.pairs < 2 ^ 64 → y < 2 ^ 64 → e < 2 ^ 64 → footer a x d ≡ footer b y e → (a ≡ b) × (x ≡ y) × (d ≡ e)
+footers_same : (a b : TreeRef) (x y d e : ℕ) → a.root < 2 ^ 64 → a.pairs < 2 ^ 64 → x < 2 ^ 64 → d < 2 ^ 64 → b.root < 2 ^ 64 → b.pairs < 2 ^ 64 → y <
+    2 ^ 64 → e < 2 ^ 64 → footer a x d ≡ footer b y e → (a ≡ b) × (x ≡ y) × (d ≡ e)
 footers_same a b x y d e a_root a_pairs x_fits d_fits b_root b_pairs y_fits e_fits same =
     let root : a.root ≡ b.root = same_64 a.root b.root a_root b_root (sym (footer_root a x d) ∙ ap (λ (l : Bytes). take 8 (drop 0 l)) same ∙ footer_root b y e) in
     let pairs : a.pairs ≡ b.pairs = same_64 a.pairs b.pairs a_pairs b_pairs (sym (footer_pairs a x d) ∙ ap (λ (l : Bytes). take 8 (drop 8 l)) same ∙ footer_pairs b y e) in (
@@ -42,21 +43,27 @@ footers_same a b x y d e a_root a_pairs x_fits d_fits b_root b_pairs y_fits e_fi
     )
 
 -- what the footer of a data file tells
-pub frame_tells : (partitioner : Partitioner) (types : List ColumnType) (bytes : Bytes) (content : Content) (tree : TreeRef) (latest end : ℕ) → IsDataFile partitioner types bytes content → IsFramed bytes tree latest end → AreInRange (length bytes) tree latest end → length bytes ≤ 2 ^ 62
+pub frame_tells : (partitioner : Partitioner) (types : List ColumnType) (bytes : Bytes) (content : Content) (tree : TreeRef) (latest end : ℕ) →
+    IsDataFile partitioner types bytes content → IsFramed bytes tree latest end → AreInRange (length bytes) tree latest end → length bytes ≤ 2 ^ 62
     → (tree ≡ tree_of partitioner content) × (latest ≡ greatest content) × (end ≡ length (front content))
 frame_tells partitioner types bytes content tree latest end of framed read short =
     let ranges = in_range partitioner types bytes content of short in
-    footers_same tree (tree_of partitioner content) latest (greatest content) end (length (front content)) read.root read.pairs read.latest_fits read.end_fits ranges.root ranges.pairs ranges.latest_fits ranges.end_fits
-    (same_at bytes (length bytes - 40) (footer tree latest end) (footer_of partitioner content) framed.ends (footer_stands partitioner types bytes content of) (footer_length tree latest end ∙ sym (footer_length (tree_of partitioner content) (greatest content) (length (front content)))))
+    footers_same tree (tree_of partitioner content) latest (greatest content) end (length (front content)) read.root read.pairs read.latest_fits
+    read.end_fits ranges.root ranges.pairs ranges.latest_fits ranges.end_fits
+    (same_at bytes (length bytes - 40) (footer tree latest end) (footer_of partitioner content) framed.ends
+    (footer_stands partitioner types bytes content of) (footer_length tree latest end ∙ sym
+    (footer_length (tree_of partitioner content) (greatest content) (length (front content)))))
 
 -- ---- a partition
 
 -- what was read is what stands there
-pub gives_at : (v : View) (opened : Opened) (place : ℕ) (key : Bytes) (part : Partition) → IsBodyOf opened.types key part → ((bytes : Bytes) → contents v opened.file ≡ Some bytes → HasAt bytes place (sized (body key part))) → Gives v opened place key part
+pub gives_at : (v : View) (opened : Opened) (place : ℕ) (key : Bytes) (part : Partition) → IsBodyOf opened.types key part →
+    ((bytes : Bytes) → contents v opened.file ≡ Some bytes → HasAt bytes place (sized (body key part))) → Gives v opened place key part
 gives_at v opened place key part of stands partitioner content k p is at =
     let typed = partition_typed partitioner opened.types is.bytes content place k p is.data_file at in
     let same : body key part ≡ body k p =
-    sized_same is.bytes place (body key part) (body k p) (omega (arith, body_short key part of.has)) (omega (arith, body_short k p typed.has)) (stands is.bytes is.reads) (partition_stands partitioner opened.types is.bytes content place k p is.data_file at)
+    sized_same is.bytes place (body key part) (body k p) (omega (arith, body_short key part of.has)) (omega (arith, body_short k p typed.has))
+    (stands is.bytes is.reads) (partition_stands partitioner opened.types is.bytes content place k p is.data_file at)
     in
     let both = bodies_same opened.types key k part p [] [] of typed (ap (λ (l : Bytes). l ++ []) same) in
     (both.0, both.1)
@@ -65,29 +72,40 @@ pub spares_at : (v : View) (opened : Opened) (place : ℕ) (f : ReadFault) → S
 spares_at v opened place fault.Failed spares = tt
 spares_at v opened place fault.OutOfMemory spares = tt
 spares_at v opened place (fault.Damaged damage) spares = λ partitioner content key part is at.
-    spares is.bytes key part is.reads (partition_stands partitioner opened.types is.bytes content place key part is.data_file at) (partition_typed partitioner opened.types is.bytes content place key part is.data_file at)
+    spares is.bytes key part is.reads (partition_stands partitioner opened.types is.bytes content place key part is.data_file at)
+    (partition_typed partitioner opened.types is.bytes content place key part is.data_file at)
     (omega (arith, partition_within content place key part at, is.of.end))
 
-reads_at : (v : View) (opened : Opened) (page : Option ℕ) (place reads : ℕ) → ((bytes part : Bytes) → contents v opened.file ≡ Some bytes → HasAt bytes place (sized part) → length part < 2 ^ 32 → reads ≤ v.reads + fresh_cost page place (length part))
-    → (partitioner : Partitioner) (content : Content) (key : Bytes) (part : Partition) → IsOpenOn v opened partitioner content → StandsAt content place key part → reads ≤ v.reads + fresh_cost page place (length (body key part))
+reads_at : (v : View) (opened : Opened) (page : Option ℕ) (place reads : ℕ) →
+    ((bytes part : Bytes) → contents v opened.file ≡ Some bytes → HasAt bytes place (sized part) → length part < 2 ^ 32 → reads ≤ v.reads + fresh_cost
+    page place (length part))
+    → (partitioner : Partitioner) (content : Content) (key : Bytes) (part : Partition) → IsOpenOn v opened partitioner content → StandsAt content
+    place key part → reads ≤ v.reads + fresh_cost page place (length (body key part))
 reads_at v opened page place reads bound partitioner content key part is at =
     bound is.bytes (body key part) is.reads (partition_stands partitioner opened.types is.bytes content place key part is.data_file at)
     (omega (arith, body_short key part (partition_typed partitioner opened.types is.bytes content place key part is.data_file at).has))
 
 -- ---- the same of a call's whole result, which speaks of a file by another name
 
-pub at_ok : (v : View) (opened : Opened) (other : FileName) (place : ℕ) (result : Result (Bytes × Partition) ReadFault) → other ≡ opened.file → IfOk result (λ read. IsBodyOf opened.types read.0 read.1)
+pub at_ok : (v : View) (opened : Opened) (other : FileName) (place : ℕ) (result : Result (Bytes × Partition) ReadFault) → other ≡ opened.file → IfOk
+    result (λ read. IsBodyOf opened.types read.0 read.1)
     → IfOk result (λ read. (bytes : Bytes) → contents v other ≡ Some bytes → HasAt bytes place (sized (body read.0 read.1))) → IfOk result (λ read. Gives v opened place read.0 read.1)
 at_ok v opened other place (Ok read) same of stands = gives_at v opened place read.0 read.1 of (λ bytes is. stands bytes (ap (λ (n : FileName). contents v n) same ∙ is))
 at_ok v opened other place (Err f) same of stands = tt
 
-pub at_undamaged : (v : View) (opened : Opened) (other : FileName) (place : ℕ) (result : Result (Bytes × Partition) ReadFault) → other ≡ opened.file → IfErr result (SparesBody v other opened.types opened.end place) → IfErr result (SparesPlace v opened place)
+pub at_undamaged : (v : View) (opened : Opened) (other : FileName) (place : ℕ) (result : Result (Bytes × Partition) ReadFault) → other ≡ opened.file →
+    IfErr result (SparesBody v other opened.types opened.end place) → IfErr result (SparesPlace v opened place)
 at_undamaged v opened other place (Ok read) same spares = tt
 at_undamaged v opened other place (Err f) same spares = spares_at v opened place f (subst (λ (n : FileName). SparesBody v n opened.types opened.end place f) same spares)
 
-pub at_damaged : (v : View) (opened : Opened) (other : FileName) (place : ℕ) (result : Result (Bytes × Partition) ReadFault) → other ≡ opened.file → IfErr result (Shown v other (ShowsPartition opened.types opened.end place other)) → IfErr result (Shown v opened.file (ShowsPartition opened.types opened.end place opened.file))
+pub at_damaged : (v : View) (opened : Opened) (other : FileName) (place : ℕ) (result : Result (Bytes × Partition) ReadFault) → other ≡ opened.file →
+    IfErr result (Shown v other (ShowsPartition opened.types opened.end place other)) → IfErr result
+    (Shown v opened.file (ShowsPartition opened.types opened.end place opened.file))
 at_damaged v opened other place result same shown = subst (λ (n : FileName). IfErr result (Shown v n (ShowsPartition opened.types opened.end place n))) same shown
 
-pub at_reads : (v : View) (opened : Opened) (other : FileName) (page : Option ℕ) (place reads : ℕ) → other ≡ opened.file → ((bytes part : Bytes) → contents v other ≡ Some bytes → HasAt bytes place (sized part) → length part < 2 ^ 32 → reads ≤ v.reads + fresh_cost page place (length part))
-    → (partitioner : Partitioner) (content : Content) (key : Bytes) (part : Partition) → IsOpenOn v opened partitioner content → StandsAt content place key part → reads ≤ v.reads + fresh_cost page place (length (body key part))
+pub at_reads : (v : View) (opened : Opened) (other : FileName) (page : Option ℕ) (place reads : ℕ) → other ≡ opened.file →
+    ((bytes part : Bytes) → contents v other ≡ Some bytes → HasAt bytes place (sized part) → length part < 2 ^ 32 → reads ≤ v.reads + fresh_cost page
+    place (length part))
+    → (partitioner : Partitioner) (content : Content) (key : Bytes) (part : Partition) → IsOpenOn v opened partitioner content → StandsAt content
+    place key part → reads ≤ v.reads + fresh_cost page place (length (body key part))
 at_reads v opened other page place reads same bound = reads_at v opened page place reads (λ bytes part is. bound bytes part (ap (λ (n : FileName). contents v n) same ∙ is))

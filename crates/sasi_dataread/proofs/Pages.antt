@@ -46,15 +46,25 @@ pub pair_behind : (tree : TreeRef) (index : ℕ) → pair_place tree index + 16 
 pair_behind tree index = omega arith
 
 -- behind one more partition the next one begins
-pub front_more : (content rest : Content) (passed : ℕ) (key : Bytes) (part : Partition) → drop passed content ≡ (key, part) ∷ rest → length (front (take (passed + 1) content)) ≡ length (front (take passed content)) + (4 + length (body key part))
+pub front_more : (content rest : Content) (passed : ℕ) (key : Bytes) (part : Partition) → drop passed content ≡ (key, part) ∷ rest → length
+    (front (take (passed + 1) content)) ≡ length (front (take passed content)) + (4 + length (body key part))
 front_more content rest passed key part left = rw add-one (from content passed left)
   where
-    from : (content : Content) (passed : ℕ) → drop passed content ≡ (key, part) ∷ rest → length (front (take (suc passed) content)) ≡ length (front (take passed content)) + (4 + length (body key part))
+    from : (content : Content) (passed : ℕ) → drop passed content ≡ (key, part) ∷ rest → length (front (take (suc passed) content)) ≡ length
+        (front (take passed content)) + (4 + length (body key part))
     from [] zero left = absurd (cc)
     from [] (suc passed) left = absurd (cc)
     from (one ∷ others) zero left =
         let this : one ≡ (key, part) = cc in
-        omega (arith, length-append header (partition_bytes one.0 one.1 ++ []), length-append (partition_bytes one.0 one.1) [], length-append header [], ap (λ (o : Bytes × Partition). length (partition_bytes o.0 o.1)) this, partition_length key part)
+        omega (
+          arith,
+          length-append header (partition_bytes one.0 one.1 ++ []),
+          length-append (partition_bytes one.0 one.1) [],
+          length-append header
+              [],
+          ap (λ (o : Bytes × Partition). length (partition_bytes o.0 o.1)) this,
+          partition_length key part,
+        )
     from (one ∷ others) (suc passed) left =
         let on = from others passed left in
         omega (
@@ -69,8 +79,10 @@ front_more content rest passed key part left = rw add-one (from content passed l
         )
 
 -- a partition further
-pub goes_on : (bytes : Bytes) (content rest : Content) (opened : Opened) (tree after : Walk) (held now : Held) (place : ℕ) (key : Bytes) (part : Partition) (r0 r1 r2 : ℕ) → tree.tree ≡ opened.tree → after.passed ≡ tree.passed + 1 → drop tree.passed content ≡ (key, part) ∷ rest
-    → place ≡ length (front (take tree.passed content)) → pair_place tree.tree tree.passed + 16 ≤ length bytes → place + (4 + length (body key part)) ≤ length bytes → IsAlong bytes content (walk_of opened tree held)
+pub goes_on : (bytes : Bytes) (content rest : Content) (opened : Opened) (tree after : Walk) (held now : Held) (place : ℕ) (key : Bytes)
+    (part : Partition) (r0 r1 r2 : ℕ) → tree.tree ≡ opened.tree → after.passed ≡ tree.passed + 1 → drop tree.passed content ≡ (key, part) ∷ rest
+    → place ≡ length (front (take tree.passed content)) → pair_place tree.tree tree.passed + 16 ≤ length bytes → place + (4 + length (body key part))
+    ≤ length bytes → IsAlong bytes content (walk_of opened tree held)
     → r1 ≤ r0 + fresh_pages tree.held.page (pair_place tree.tree tree.passed) 16 → r2 ≤ r1 + fresh_cost held.page place (length (body key part))
     → after.held.page ≡ Some ((pair_place tree.tree tree.passed + 15) / 4096) → now.page ≡ Some ((place + 3 + length (body key part)) / 4096)
     → Goes bytes content r0 r2 (walk_of opened tree held) (walk_of opened after now)
@@ -103,5 +115,8 @@ goes_on bytes content rest opened tree after held now place key part r0 r1 r2 tr
     some_same a b is = cc
 
 -- nothing further
-pub goes_nowhere : (bytes : Bytes) (content : Content) (opened : Opened) (tree after : Walk) (held : Held) (r0 r1 : ℕ) → after ≡ tree → r1 ≤ r0 → IsAlong bytes content (walk_of opened tree held) → Goes bytes content r0 r1 (walk_of opened tree held) (walk_of opened after held)
-goes_nowhere bytes content opened tree after held r0 r1 same few along = subst (λ (w : Walk). Goes bytes content r0 r1 (walk_of opened tree held) (walk_of opened w held)) (sym same) (record { along = along; pages = omega (arith, few) })
+pub goes_nowhere : (bytes : Bytes) (content : Content) (opened : Opened) (tree after : Walk) (held : Held) (r0 r1 : ℕ) → after ≡ tree → r1 ≤ r0 →
+    IsAlong bytes content (walk_of opened tree held) → Goes bytes content r0 r1 (walk_of opened tree held) (walk_of opened after held)
+goes_nowhere bytes content opened tree after held r0 r1 same few along = subst
+    (λ (w : Walk). Goes bytes content r0 r1 (walk_of opened tree held) (walk_of opened w held)) (sym same)
+    (record { along = along; pages = omega (arith, few) })

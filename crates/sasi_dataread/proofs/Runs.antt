@@ -31,7 +31,8 @@ rose_before : (a b c : ℕ) → a ≤ b → Rose b c → Rose a c
 rose_before a b c le rose = omega (arith, rose)
 
 -- what made a call fail made a longer one fail
-pub causes_fault : {S T : Type 0} (a b c : View) (n m k : ℕ) (inner : Result S ReadFault) (outer : Result T ReadFault) (f : ReadFault) → inner ≡ Err f → outer ≡ Err f → Passes n a b → ReadsAtMost m b c inner → n + m ≤ k → ReadsAtMost k a c outer
+pub causes_fault : {S T : Type 0} (a b c : View) (n m k : ℕ) (inner : Result S ReadFault) (outer : Result T ReadFault) (f : ReadFault) → inner ≡ Err f
+    → outer ≡ Err f → Passes n a b → ReadsAtMost m b c inner → n + m ≤ k → ReadsAtMost k a c outer
 causes_fault a b c n m k (Ok x) outer f was is first second le = absurd (cc)
 causes_fault a b c n m k (Err e) (Ok x) f was is first second le = absurd (cc)
 causes_fault a b c n m k (Err e) (Err o) f was is first second le =
@@ -50,11 +51,13 @@ causes_ok a b n k x (Err e) is passes le = absurd (cc)
 
 -- ---- calls one after another
 
-failed_later : {T : Type 0} (a b c : View) (result : Result T ReadFault) → a.disk_faults ≤ b.disk_faults → IfErr result (λ f. f ≡ fault.Failed → Rose b.disk_faults c.disk_faults) → IfErr result (λ f. f ≡ fault.Failed → Rose a.disk_faults c.disk_faults)
+failed_later : {T : Type 0} (a b c : View) (result : Result T ReadFault) → a.disk_faults ≤ b.disk_faults → IfErr result
+    (λ f. f ≡ fault.Failed → Rose b.disk_faults c.disk_faults) → IfErr result (λ f. f ≡ fault.Failed → Rose a.disk_faults c.disk_faults)
 failed_later a b c (Ok x) le failed = tt
 failed_later a b c (Err f) le failed = λ is. let rose = failed is in omega (arith, rose, le)
 
-pub causes_on : {S T : Type 0} (a b c : View) (n m k : ℕ) (first : Result S ReadFault) (second : Result T ReadFault) → n + m ≤ k → ReadsAtMost n a b first → ReadsAtMost m b c second → ReadsAtMost k a c second
+pub causes_on : {S T : Type 0} (a b c : View) (n m k : ℕ) (first : Result S ReadFault) (second : Result T ReadFault) → n + m ≤ k → ReadsAtMost n a b
+    first → ReadsAtMost m b c second → ReadsAtMost k a c second
 causes_on a b c n m k first second le one two = record {
   disk = omega (arith, one.disk, two.disk);
   out = two.out ∙ one.out;

@@ -43,24 +43,30 @@ pub open_same : (a b : View) (opened : Opened) (partitioner : Partitioner) (cont
 open_same a b opened partitioner content same is = record { bytes = is.bytes; reads = contents_same a b opened.file same ∙ is.reads; data_file = is.data_file; of = is.of }
 
 -- the tree that one reads is the key tree
-pub tree_there : (v : View) (opened : Opened) (tree : TreeRef) → tree ≡ opened.tree → IsShort v opened.file → (partitioner : Partitioner) (content : Content) (is : IsOpenOn v opened partitioner content) → HaveTokens partitioner content → HasTree is.bytes tree (key_pairs partitioner content)
+pub tree_there : (v : View) (opened : Opened) (tree : TreeRef) → tree ≡ opened.tree → IsShort v opened.file → (partitioner : Partitioner)
+    (content : Content) (is : IsOpenOn v opened partitioner content) → HaveTokens partitioner content → HasTree is.bytes tree
+    (key_pairs partitioner content)
 tree_there v opened tree tree_is short partitioner content is have =
     subst (λ (t : TreeRef). HasTree is.bytes t (key_pairs partitioner content)) (sym tree_is) (has_tree v opened partitioner content is have (short is.bytes is.reads))
 
-pub next_takes : (v : View) (opened : Opened) (file : FileName) (tree : TreeRef) (before after : ℕ) (found : Option Pair) → file ≡ opened.file → tree ≡ opened.tree → IsShort v opened.file → GivesNext v file tree before after found
+pub next_takes : (v : View) (opened : Opened) (file : FileName) (tree : TreeRef) (before after : ℕ) (found : Option Pair) → file ≡ opened.file → tree
+    ≡ opened.tree → IsShort v opened.file → GivesNext v file tree before after found
     → (partitioner : Partitioner) (content : Content) → IsOpenOn v opened partitioner content → HaveTokens partitioner content → TakesNext (key_pairs partitioner content) before after found
 next_takes v opened file tree before after found file_is tree_is short gives partitioner content is have =
     gives is.bytes (key_pairs partitioner content) (ap (λ (f : FileName). contents v f) file_is ∙ is.reads) (tree_there v opened tree tree_is short partitioner content is have)
 
-pub tree_spares : (v : View) (opened : Opened) (file : FileName) (tree : TreeRef) (f : ReadFault) → file ≡ opened.file → tree ≡ opened.tree → IsShort v opened.file → Spares v file tree f → SparesOpened v opened f
+pub tree_spares : (v : View) (opened : Opened) (file : FileName) (tree : TreeRef) (f : ReadFault) → file ≡ opened.file → tree ≡ opened.tree → IsShort
+    v opened.file → Spares v file tree f → SparesOpened v opened f
 tree_spares v opened file tree fault.Failed file_is tree_is short spares = tt
 tree_spares v opened file tree fault.OutOfMemory file_is tree_is short spares = tt
 tree_spares v opened file tree (fault.Damaged damage) file_is tree_is short spares = λ partitioner content is have.
     spares is.bytes (key_pairs partitioner content) (ap (λ (f : FileName). contents v f) file_is ∙ is.reads) (tree_there v opened tree tree_is short partitioner content is have)
 
 -- what stands at the place of a pair is the next partition
-pub took_partition : (v w : View) (opened : Opened) (before after : ℕ) (pair : Pair) (key : Bytes) (part : Partition) (partitioner : Partitioner) (content : Content) → IsOpenOn v opened partitioner content → Changes Same v w
-    → TakesNext (key_pairs partitioner content) before after (Some pair) → Gives w opened pair.place key part → (drop before content ≡ (key, part) ∷ drop after content) × (pair.token ≡ token_of partitioner key)
+pub took_partition : (v w : View) (opened : Opened) (before after : ℕ) (pair : Pair) (key : Bytes) (part : Partition) (partitioner : Partitioner)
+    (content : Content) → IsOpenOn v opened partitioner content → Changes Same v w
+    → TakesNext (key_pairs partitioner content) before after (Some pair) → Gives w opened pair.place key part →
+    (drop before content ≡ (key, part) ∷ drop after content) × (pair.token ≡ token_of partitioner key)
 took_partition v w opened before after pair key part partitioner content is change took gives =
     let n = nth partitioner (length header) content before pair (drop after (key_pairs partitioner content)) took in
     let same = gives partitioner content n.one.0 n.one.1 (open_same v w opened partitioner content change is) (nth_stands partitioner content before pair n) in
@@ -69,7 +75,9 @@ took_partition v w opened before after pair key part partitioner content is chan
       nth_token partitioner (length header) content before pair n ∙ ap (λ (k : Bytes). token_of partitioner k) (sym same.0),
     )
 
-pub place_spares : (v w : View) (opened : Opened) (before after : ℕ) (pair : Pair) (f : ReadFault) → ((partitioner : Partitioner) (content : Content) → IsOpenOn v opened partitioner content → HaveTokens partitioner content → TakesNext (key_pairs partitioner content) before after (Some pair))
+pub place_spares : (v w : View) (opened : Opened) (before after : ℕ) (pair : Pair) (f : ReadFault) →
+    ((partitioner : Partitioner) (content : Content) → IsOpenOn v opened partitioner content → HaveTokens partitioner content → TakesNext
+    (key_pairs partitioner content) before after (Some pair))
     → Changes Same v w → SparesPlace w opened pair.place f → SparesOpened v opened f
 place_spares v w opened before after pair fault.Failed takes change spares = tt
 place_spares v w opened before after pair fault.OutOfMemory takes change spares = tt
@@ -79,35 +87,44 @@ place_spares v w opened before after pair (fault.Damaged damage) takes change sp
 
 -- ---- damage of the tree, and of a partition to which it leads
 
-pub tree_shown : (v : View) (opened : Opened) (file : FileName) (tree : TreeRef) (f : ReadFault) → file ≡ opened.file → tree ≡ opened.tree → Shown v file (ShowsTree file tree) f → Shown v opened.file (ShowsData opened) f
+pub tree_shown : (v : View) (opened : Opened) (file : FileName) (tree : TreeRef) (f : ReadFault) → file ≡ opened.file → tree ≡ opened.tree → Shown v
+    file (ShowsTree file tree) f → Shown v opened.file (ShowsData opened) f
 tree_shown v opened file tree f file_is tree_is shown =
     shown_as (ShowsTree opened.file opened.tree) (ShowsData opened) v opened.file f (λ bytes damage is shows. in_tree shows)
     (subst (λ (n : FileName). Shown v n (ShowsTree n opened.tree) f) file_is (subst (λ (t : TreeRef). Shown v file (ShowsTree file t) f) tree_is shown))
 
-pub entry_of : (v : View) (opened : Opened) (file : FileName) (tree : TreeRef) (passed : ℕ) (found : Option Pair) → file ≡ opened.file → tree ≡ opened.tree → GivesEntry v file tree passed found → GivesEntry v opened.file opened.tree passed found
-entry_of v opened file tree passed found file_is tree_is gives = subst (λ (n : FileName). GivesEntry v n opened.tree passed found) file_is (subst (λ (t : TreeRef). GivesEntry v file t passed found) tree_is gives)
+pub entry_of : (v : View) (opened : Opened) (file : FileName) (tree : TreeRef) (passed : ℕ) (found : Option Pair) → file ≡ opened.file → tree ≡
+    opened.tree → GivesEntry v file tree passed found → GivesEntry v opened.file opened.tree passed found
+entry_of v opened file tree passed found file_is tree_is gives = subst (λ (n : FileName). GivesEntry v n opened.tree passed found) file_is
+    (subst (λ (t : TreeRef). GivesEntry v file t passed found) tree_is gives)
 
 pub entry_before : (v w : View) (file : FileName) (tree : TreeRef) (passed : ℕ) (found : Option Pair) → Changes Same v w → GivesEntry w file tree passed found → GivesEntry v file tree passed found
 entry_before v w file tree passed None change gives = tt
 entry_before v w file tree passed (Some pair) change gives = (gives.0, gives.1, λ bytes is. gives.2 bytes (contents_same v w file change ∙ is))
 
-pub partition_shown : (v : View) (opened : Opened) (passed : ℕ) (pair : Pair) (f : ReadFault) → GivesEntry v opened.file opened.tree passed (Some pair) → Shown v opened.file (ShowsPartition opened.types opened.end pair.place opened.file) f → Shown v opened.file (ShowsData opened) f
+pub partition_shown : (v : View) (opened : Opened) (passed : ℕ) (pair : Pair) (f : ReadFault) → GivesEntry v opened.file opened.tree passed
+    (Some pair) → Shown v opened.file (ShowsPartition opened.types opened.end pair.place opened.file) f → Shown v opened.file (ShowsData opened) f
 partition_shown v opened passed pair f gives shown =
     shown_as (ShowsPartition opened.types opened.end pair.place opened.file) (ShowsData opened) v opened.file f (λ bytes damage is shows. in_partition gives.0 pair (gives.2 bytes is) shows) shown
 
 -- ---- the pages of a walk
 
 -- where no pair is left all were passed
-pub all_pairs : (opened : Opened) (partitioner : Partitioner) (content : Content) (tree : TreeRef) (passed : ℕ) → IsOf opened partitioner content → tree ≡ opened.tree → drop passed (key_pairs partitioner content) ≡ [] → tree.pairs ≤ passed
+pub all_pairs : (opened : Opened) (partitioner : Partitioner) (content : Content) (tree : TreeRef) (passed : ℕ) → IsOf opened partitioner content →
+    tree ≡ opened.tree → drop passed (key_pairs partitioner content) ≡ [] → tree.pairs ≤ passed
 all_pairs opened partitioner content tree passed of same none =
     omega (arith, ap (λ (t : TreeRef). t.pairs) (same ∙ of.tree), ap (λ (l : List Pair). length l) none, length-drop passed (key_pairs partitioner content))
 
 -- the walk went over one partition more
-pub walk_goes : (v w : View) (opened : Opened) (tree after : Walk) (held now : Held) (pair : Pair) (key : Bytes) (part : Partition) (partitioner : Partitioner) (content : Content) (r0 r1 r2 : ℕ) (is : IsOpenOn v opened partitioner content) → Changes Same v w
-    → TakesNext (key_pairs partitioner content) tree.passed after.passed (Some pair) → Gives w opened pair.place key part → tree.tree ≡ opened.tree → after.tree ≡ tree.tree → GivesEntry v opened.file opened.tree after.passed (Some pair) → IsAlong is.bytes content (walk_of opened tree held)
+pub walk_goes : (v w : View) (opened : Opened) (tree after : Walk) (held now : Held) (pair : Pair) (key : Bytes) (part : Partition)
+    (partitioner : Partitioner) (content : Content) (r0 r1 r2 : ℕ) (is : IsOpenOn v opened partitioner content) → Changes Same v w
+    → TakesNext (key_pairs partitioner content) tree.passed after.passed (Some pair) → Gives w opened pair.place key part → tree.tree ≡ opened.tree →
+    after.tree ≡ tree.tree → GivesEntry v opened.file opened.tree after.passed (Some pair) → IsAlong is.bytes content (walk_of opened tree held)
     → r1 ≤ r0 + fresh_pages tree.held.page (pair_place tree.tree tree.passed) 16
-    → ((partitioner : Partitioner) (content : Content) (key : Bytes) (part : Partition) → IsOpenOn w opened partitioner content → StandsAt content pair.place key part → r2 ≤ r1 + fresh_cost held.page pair.place (length (body key part)))
-    → after.passed ≡ tree.passed + 1 → IsNear after (Some pair) → now.page ≡ Some ((pair.place + 3 + length (body key part)) / 4096) → Goes is.bytes content r0 r2 (walk_of opened tree held) (walk_of opened after now)
+    → ((partitioner : Partitioner) (content : Content) (key : Bytes) (part : Partition) → IsOpenOn w opened partitioner content → StandsAt content
+    pair.place key part → r2 ≤ r1 + fresh_cost held.page pair.place (length (body key part)))
+    → after.passed ≡ tree.passed + 1 → IsNear after (Some pair) → now.page ≡ Some ((pair.place + 3 + length (body key part)) / 4096) → Goes is.bytes
+    content r0 r2 (walk_of opened tree held) (walk_of opened after now)
 walk_goes v w opened tree after held now pair key part partitioner content r0 r1 r2 is change took gives tree_is after_is given along first second passed near page =
     let n = nth partitioner (length header) content tree.passed pair (drop after.passed (key_pairs partitioner content)) took in
     let stands = nth_stands partitioner content tree.passed pair n in
@@ -122,10 +139,19 @@ walk_goes v w opened tree after held now pair key part partitioner content r0 r1
     near ∙ ap (λ (t : TreeRef). Some ((pair_place t (after.passed - 1) + 15) / 4096)) after_is ∙ ap (λ (k : ℕ). Some ((pair_place tree.tree k + 15) / 4096)) (omega (arith, passed))
     in
     let has = given.2 is.bytes is.reads in
-    let same_place : pair_place opened.tree given.0 ≡ pair_place tree.tree tree.passed = ap (λ (t : TreeRef). pair_place t given.0) (sym tree_is) ∙ ap (λ (k : ℕ). pair_place tree.tree k) (omega (arith, given.1, passed)) in
-    let pair_within : pair_place tree.tree tree.passed + 16 ≤ length is.bytes = omega (arith, same_place, at_ends is.bytes (pair_place opened.tree given.0) (entry pair) has.stands, entry_length pair) in
+    let same_place : pair_place opened.tree given.0 ≡ pair_place tree.tree tree.passed = ap (λ (t : TreeRef). pair_place t given.0) (sym tree_is) ∙ ap
+    (λ (k : ℕ). pair_place tree.tree k) (omega (arith, given.1, passed)) in
+    let pair_within : pair_place tree.tree tree.passed + 16 ≤ length is.bytes = omega
+    (arith, same_place, at_ends is.bytes (pair_place opened.tree given.0) (entry pair) has.stands, entry_length pair) in
     let read_there = partition_stands partitioner opened.types is.bytes content pair.place n.one.0 n.one.1 is.data_file stands in
     let part_within : pair.place + (4 + length (body key part)) ≤ length is.bytes =
-    omega (arith, at_ends is.bytes pair.place (sized (body n.one.0 n.one.1)) read_there, length-append (to_be_bytes w32 (length (body n.one.0 n.one.1))) (body n.one.0 n.one.1), ap (λ (o : Bytes × Partition). length (body o.0 o.1)) one)
+    omega (
+      arith,
+      at_ends is.bytes pair.place (sized (body n.one.0 n.one.1)) read_there,
+      length-append
+          (to_be_bytes w32 (length (body n.one.0 n.one.1))) (body n.one.0 n.one.1),
+      ap (λ (o : Bytes × Partition). length (body o.0 o.1)) one,
+    )
     in
-    goes_on is.bytes content (drop (suc tree.passed) content) opened tree after held now pair.place key part r0 r1 r2 tree_is passed (n.left ∙ ap (λ (o : Bytes × Partition). o ∷ drop (suc tree.passed) content) one) place pair_within part_within along first read near_is page
+    goes_on is.bytes content (drop (suc tree.passed) content) opened tree after held now pair.place key part r0 r1 r2 tree_is passed
+    (n.left ∙ ap (λ (o : Bytes × Partition). o ∷ drop (suc tree.passed) content) one) place pair_within part_within along first read near_is page

@@ -1,4 +1,4 @@
--- Where a file breaks the format of a data file, and what it has there.
+-- Where a file breaks the format of a data file, and what is there.
 use Rattle.std.specs.Prelude.{◌≡◌, ◌⊎◌, ℕ, ◌+◌, ◌^◌, ◌<◌, List, [], ◌∷◌, length}
 use Rattle.std.specs.Int.{to_be_bytes, w32, w64}
 use Rattle.sasi_types.specs.declared.column.ColumnType.{ColumnType}
@@ -24,7 +24,7 @@ magic = 83 ∷ 65 ∷ 83 ∷ 73 ∷ 68 ∷ 65 ∷ 84 ∷ 49 ∷ []
 abbrev pub end_mark : Bytes
 end_mark = 83 ∷ 65 ∷ 83 ∷ 73 ∷ 68 ∷ 69 ∷ 78 ∷ 68 ∷ []
 
--- the place where the partitions end is within the header, or behind the footer's beginning
+-- the offset where the partitions end is within the header, or behind the start of the footer
 pub record IsWrongEnd (bytes : Bytes) (at : ℕ) (seen : Bytes) : Type 0 where
   pub place : at + 16 ≡ length bytes
   pub stands : HasAt bytes at seen
@@ -39,7 +39,7 @@ pub record IsNoNumber (bytes : Bytes) (at : ℕ) (seen : Bytes) : Type 0 where
   pub stands : HasAt bytes at seen
   pub none : seen ≡ to_be_bytes w64 0
 
--- the header or the footer breaks the rule at the place, and the seen bytes stand there
+-- the header or the footer breaks the rule at the offset, and the seen bytes are there
 abbrev pub FrameBreaks : Bytes → FormatRule → ℕ → Bytes → Type 0
 FrameBreaks bytes Short at seen = (length bytes < 97) × (at ≡ length bytes) × (seen ≡ to_be_bytes w64 (length bytes))
 FrameBreaks bytes Magic at seen = ((at ≡ 0) × Differs bytes at seen magic) ⊎ ((at + 8 ≡ length bytes) × Differs bytes at seen end_mark)
@@ -53,9 +53,9 @@ pub record ShowsFrame (file : FileName) (bytes : Bytes) (damage : Damage) : Type
   pub named : damage.file ≡ file
   pub breaks : FrameBreaks bytes damage.rule damage.at (seen_bytes damage.seen)
 
--- ---- a partition at a place, which has to end in front of the end
+-- ---- a partition at an offset, which has to end before the end
 
--- at the place stands a length that no body has there
+-- the file has a length there that no body has
 pub record IsWrongLength (end place : ℕ) (file : FileName) (bytes : Bytes) (damage : Damage) : Type 0 where
   pub named : damage.file ≡ file
   pub rule : damage.rule ≡ Number
@@ -66,7 +66,7 @@ pub record IsWrongLength (end place : ℕ) (file : FileName) (bytes : Bytes) (da
   pub fits : count < 2 ^ 32
   pub wrong : ¬ IsLength end place count
 
--- a body of another length stands behind it
+-- the bytes behind it are a body of another length
 pub record IsOfOtherLength (types : List ColumnType) (place : ℕ) (file : FileName) (bytes : Bytes) (damage : Damage) : Type 0 where
   pub named : damage.file ≡ file
   pub rule : damage.rule ≡ Number
@@ -77,7 +77,7 @@ pub record IsOfOtherLength (types : List ColumnType) (place : ℕ) (file : FileN
   pub told : seen_bytes damage.seen ≡ to_be_bytes w32 (length body)
   pub other : HasOtherLength types body
 
--- the body that stands behind it breaks a rule of bodies
+-- the body behind it breaks a rule of bodies
 pub record HasBrokenBody (types : List ColumnType) (place : ℕ) (file : FileName) (bytes : Bytes) (damage : Damage) : Type 0 where
   pub named : damage.file ≡ file
   pub body : Bytes
@@ -87,16 +87,16 @@ pub record HasBrokenBody (types : List ColumnType) (place : ℕ) (file : FileNam
   pub at : damage.at ≡ place + 4 + offset
   pub breaks : Breaks types body damage.rule offset (seen_bytes damage.seen)
 
--- the damage is that of this file, in which no partition of a table with these types stands at the place
+-- the damage is that of this file, which has no partition of a table with these types at the offset
 pub data ShowsPartition (types : List ColumnType) (end place : ℕ) (file : FileName) (bytes : Bytes) (damage : Damage) : Type 0 where
-  -- it ends within the length, or within the bytes that are announced
+  -- it ends within the length, or within the bytes of that length
   no_length : ShowsEnd (place + 4) file bytes damage → ShowsPartition types end place file bytes damage
   no_body : (count : ℕ) → HasAt bytes place (to_be_bytes w32 count) → IsLength end place count → ShowsEnd (place + 4 + count) file bytes damage → ShowsPartition types end place file bytes damage
   wrong_length : IsWrongLength end place file bytes damage → ShowsPartition types end place file bytes damage
   other_length : IsOfOtherLength types place file bytes damage → ShowsPartition types end place file bytes damage
   broken_body : HasBrokenBody types place file bytes damage → ShowsPartition types end place file bytes damage
 
--- ---- a file that was opened
+-- ---- an open file
 
 -- the damage is that of the key tree, or of the partition to which one of its pairs leads
 pub data ShowsData (opened : Opened) (bytes : Bytes) (damage : Damage) : Type 0 where

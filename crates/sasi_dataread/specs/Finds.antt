@@ -1,4 +1,4 @@
--- The look-up of a key in a data file.
+-- Look-ups of a key in a data file.
 use Rattle.std.specs.Prelude.{◌≡◌, ◌≢◌, ℕ, ◌+◌, [], ◌∷◌, length, nat_eq, if◌then◌else◌, Option, None, Some}
 use Rattle.std.specs.Map.{lookup}
 use Rattle.sasi_types.specs.declared.partitioner.Partitioner.{Partitioner}
@@ -15,28 +15,29 @@ use Rattle.sasi_dataread.specs.Reads.{IsOpenOn}
 use Rattle.sasi_dataread.specs.Bodies.{cost}
 use Rattle.sasi_dataread.specs.Walks.{HaveTokens}
 
--- what the partitions have at a key
+-- the partition of a key
 abbrev pub partition_of : Content → Bytes → Option Partition
 partition_of content key = lookup (key_eq key) content
 
--- where the file is the data file of a content, and this the token of the key, it is what the content has at the key
+-- where the file is the data file of a content, and this the token of the key, it is the partition of the key
 abbrev pub FindsKey : View → Opened → ℕ → Bytes → Option Partition → Type 0
 FindsKey v opened token key found =
     (partitioner : Partitioner) (content : Content) → IsOpenOn v opened partitioner content → HaveTokens partitioner content → token ≡ token_of partitioner key → found ≡ partition_of content key
 
--- the pages of the partitions with a token, and one for the pair behind each, where the first partition begins here
+-- the pages of the partitions with a token, and one for the pair behind each, where the first partition is at this offset
 abbrev pub token_cost : Partitioner → ℕ → ℕ → Content → ℕ
 token_cost partitioner token at [] = 0
 token_cost partitioner token at (one ∷ others) =
     (if nat_eq (token_of partitioner one.0) token then cost at (length (body one.0 one.1)) + 1 else 0) + token_cost partitioner token (at + length (partition_bytes one.0 one.1)) others
 
--- ---- on the way
+-- ---- steps of a look-up
 
--- where a pair of this token leads
+-- the offset of a pair with this token
 abbrev pub LeadsTo : ℕ → Option Pair → Option ℕ → Type 0
 LeadsTo token next None = (pair : Pair) → next ≡ Some pair → pair.token ≢ token
 LeadsTo token next (Some place) = next ≡ Some (record { token = token; place = place })
 
--- what was read is the partition at a place, where it has the key
+-- the partition read is the one at an offset, where it has the key
 abbrev pub GivesWith : View → Opened → ℕ → Bytes → Option Partition → Type 0
-GivesWith v opened place key found = (partitioner : Partitioner) (content : Content) (k : Bytes) (p : Partition) → IsOpenOn v opened partitioner content → StandsAt content place k p → found ≡ partition_of ((k, p) ∷ []) key
+GivesWith v opened place key found = (partitioner : Partitioner) (content : Content) (k : Bytes) (p : Partition) → IsOpenOn v opened partitioner
+    content → StandsAt content place k p → found ≡ partition_of ((k, p) ∷ []) key

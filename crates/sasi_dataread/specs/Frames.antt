@@ -1,4 +1,4 @@
--- The header and the footer of a file, and what shows that they aren't those of a data file.
+-- The header and the footer of a data file.
 use Rattle.std.specs.Prelude.{◌≡◌, ℕ, ◌-◌, length, Some}
 use Rattle.sasi_types.specs.declared.tree.TreeRef.{TreeRef}
 use Rattle.sasi_host.specs.declared.name.FileName.{FileName}
@@ -13,10 +13,10 @@ pub record IsFramed (bytes : Bytes) (tree : TreeRef) (latest end : ℕ) : Type 0
   pub begins : HasAt bytes 0 header
   pub ends : HasAt bytes (length bytes - 40) (footer tree latest end)
 
--- where damage is told, the file doesn't begin with the header
+-- damage is reported only where the file doesn't begin with the header
 abbrev pub SparesHeader : View → FileName → ReadFault → Type 0
 SparesHeader v file = OnDamage (λ _. (bytes : Bytes) → contents v file ≡ Some bytes → HasAt bytes 0 header → ⊥)
 
--- where damage is told, at this place doesn't stand a footer
+-- damage is reported only where the file has no footer at the offset
 abbrev pub SparesFooter : View → FileName → ℕ → ReadFault → Type 0
 SparesFooter v file at = OnDamage (λ _. (bytes : Bytes) (tree : TreeRef) (latest end : ℕ) → contents v file ≡ Some bytes → HasAt bytes at (footer tree latest end) → ⊥)

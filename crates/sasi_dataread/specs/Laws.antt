@@ -1,4 +1,4 @@
--- Where the parts of a data file stand.
+-- The offsets of the parts of a data file.
 use Rattle.std.specs.Prelude.{◌≡◌, ℕ, zero, suc, ◌+◌, ◌-◌, ◌*◌, ◌^◌, ◌<◌, ◌≤◌, List, [], ◌∷◌, ◌++◌, length, map, refl}
 use Rattle.std.proofs.Common.{sym, ◌∙◌, ap, subst, arith, append_assoc, length-append, ⊎_elim}
 use Rattle.std.proofs.lemmas.List.{append-nil}
@@ -28,11 +28,13 @@ use Rattle.sasi_dataread.specs.Bodies.{sized}
 
 pub partitions_on : (before others : Content) → partitions (before ++ others) ≡ partitions before ++ partitions others
 partitions_on [] others = refl
-partitions_on (one ∷ before) others = ap (λ (l : Bytes). partition_bytes one.0 one.1 ++ l) (partitions_on before others) ∙ sym (append_assoc (partition_bytes one.0 one.1) (partitions before) (partitions others))
+partitions_on (one ∷ before) others = ap (λ (l : Bytes). partition_bytes one.0 one.1 ++ l) (partitions_on before others) ∙ sym
+    (append_assoc (partition_bytes one.0 one.1) (partitions before) (partitions others))
 
 -- what is in front of a partition, the partition, and what is behind it
 pub front_parts : (before behind : Content) (key : Bytes) (part : Partition) → front (before ++ (key, part) ∷ behind) ≡ front before ++ (partition_bytes key part ++ partitions behind)
-front_parts before behind key part = ap (λ (l : Bytes). header ++ l) (partitions_on before ((key, part) ∷ behind)) ∙ sym (append_assoc header (partitions before) (partition_bytes key part ++ partitions behind))
+front_parts before behind key part = ap (λ (l : Bytes). header ++ l) (partitions_on before ((key, part) ∷ behind)) ∙ sym
+    (append_assoc header (partitions before) (partition_bytes key part ++ partitions behind))
 
 partition_is : (key : Bytes) (part : Partition) → partition_bytes key part ≡ sized (body key part)
 unfolding partition_bytes
@@ -42,8 +44,9 @@ pub file_is : (partitioner : Partitioner) (content : Content) → data_bytes par
 unfolding data_bytes
 file_is partitioner content = refl
 
--- a partition stands at its place
-pub partition_stands : (partitioner : Partitioner) (types : List ColumnType) (bytes : Bytes) (content : Content) (place : ℕ) (key : Bytes) (part : Partition) → IsDataFile partitioner types bytes content → StandsAt content place key part → HasAt bytes place (sized (body key part))
+-- the file has a partition at its offset
+pub partition_stands : (partitioner : Partitioner) (types : List ColumnType) (bytes : Bytes) (content : Content) (place : ℕ) (key : Bytes)
+    (part : Partition) → IsDataFile partitioner types bytes content → StandsAt content place key part → HasAt bytes place (sized (body key part))
 partition_stands partitioner types bytes content place key part is at =
     let end = ending (key_pairs partitioner content) (greatest content) (length (front content)) in
     record {
@@ -75,7 +78,8 @@ all_at P [] behind one all = all.0
 all_at P (first ∷ before) behind one all = all_at P before behind one all.1
 
 -- it is one of the table
-pub partition_typed : (partitioner : Partitioner) (types : List ColumnType) (bytes : Bytes) (content : Content) (place : ℕ) (key : Bytes) (part : Partition) → IsDataFile partitioner types bytes content → StandsAt content place key part → IsBodyOf types key part
+pub partition_typed : (partitioner : Partitioner) (types : List ColumnType) (bytes : Bytes) (content : Content) (place : ℕ) (key : Bytes)
+    (part : Partition) → IsDataFile partitioner types bytes content → StandsAt content place key part → IsBodyOf types key part
 partition_typed partitioner types bytes content place key part is at =
     all_at (λ one. IsBodyOf types one.0 one.1) at.before at.behind (key, part) (subst (λ (l : Content). AllByRecursion (λ one. IsBodyOf types one.0 one.1) l) at.is is.typed)
 
@@ -100,7 +104,8 @@ footer_length tree latest end = refl
 abbrev tree_part : Partitioner → Content → Bytes
 tree_part partitioner content = tree_bytes (length (front content)) (key_pairs partitioner content)
 
-whole_length : (partitioner : Partitioner) (types : List ColumnType) (bytes : Bytes) (content : Content) → IsDataFile partitioner types bytes content → length bytes ≡ length (front content) + length (tree_part partitioner content) + 40
+whole_length : (partitioner : Partitioner) (types : List ColumnType) (bytes : Bytes) (content : Content) → IsDataFile partitioner types bytes content
+    → length bytes ≡ length (front content) + length (tree_part partitioner content) + 40
 whole_length partitioner types bytes content is =
     omega (
       arith,
@@ -110,11 +115,13 @@ whole_length partitioner types bytes content is =
       footer_length (tree_of partitioner content) (greatest content) (length (front content)),
     )
 
-pub footer_stands : (partitioner : Partitioner) (types : List ColumnType) (bytes : Bytes) (content : Content) → IsDataFile partitioner types bytes content → HasAt bytes (length bytes - 40) (footer_of partitioner content)
+pub footer_stands : (partitioner : Partitioner) (types : List ColumnType) (bytes : Bytes) (content : Content) → IsDataFile partitioner types bytes
+    content → HasAt bytes (length bytes - 40) (footer_of partitioner content)
 footer_stands partitioner types bytes content is = record {
   front = front content ++ tree_part partitioner content;
   rest = [];
-  is = is.is ∙ file_is partitioner content ∙ regroup (front content) (tree_part partitioner content) (footer_of partitioner content) ∙ sym (append-nil ((front content ++ tree_part partitioner content) ++ footer_of partitioner content));
+  is = is.is ∙ file_is partitioner content ∙ regroup (front content) (tree_part partitioner content) (footer_of partitioner content) ∙ sym
+      (append-nil ((front content ++ tree_part partitioner content) ++ footer_of partitioner content));
   place = omega (arith, whole_length partitioner types bytes content is, length-append (front content) (tree_part partitioner content));
 }
   where
@@ -147,14 +154,22 @@ levels_least : (most level at : ℕ) (entries : List Pair) → 0 < length entrie
 levels_least zero level at entries some enough = absurd (omega arith)
 levels_least (suc most) level at entries some enough = ⊎_elim
     (λ one. omega (arith, some, ap length (one_level most level at entries one.1), level_length level entries))
-    (λ more. omega (arith, some, ap length (more_levels most level at entries more.1), level_length level entries, length-append (level_bytes level entries) (levels most (suc level) (at + size (length entries)) (above at entries))))
+    (λ more. omega (
+      arith,
+      some,
+      ap length (more_levels most level at entries more.1),
+      level_length level entries,
+      length-append
+          (level_bytes level entries) (levels most (suc level) (at + size (length entries)) (above at entries)),
+    ))
     (leb_tells (length entries) 255)
 
 count_is : (partitioner : Partitioner) (content : Content) → length (key_pairs partitioner content) ≡ length content
 count_is partitioner content = pairs_length partitioner (length header) content
 
 tree_least : (partitioner : Partitioner) (content : Content) → IsContent partitioner content → 24 ≤ length (tree_part partitioner content)
-tree_least partitioner content is = levels_least (length (key_pairs partitioner content)) 0 (length (front content)) (key_pairs partitioner content) (omega (arith, is.some, count_is partitioner content)) (omega arith)
+tree_least partitioner content is = levels_least (length (key_pairs partitioner content)) 0 (length (front content)) (key_pairs partitioner content)
+    (omega (arith, is.some, count_is partitioner content)) (omega arith)
 
 -- a data file has 97 bytes or more
 pub least_size : (partitioner : Partitioner) (types : List ColumnType) (bytes : Bytes) (content : Content) → IsDataFile partitioner types bytes content → 97 ≤ length bytes
@@ -194,7 +209,8 @@ pub record AreInRange (size : ℕ) (tree : TreeRef) (latest end : ℕ) : Type 0 
   pub behind : 33 ≤ end
   pub within : end ≤ size - 40
 
-pub in_range : (partitioner : Partitioner) (types : List ColumnType) (bytes : Bytes) (content : Content) → IsDataFile partitioner types bytes content → length bytes ≤ 2 ^ 62 → AreInRange (length bytes) (tree_of partitioner content) (greatest content) (length (front content))
+pub in_range : (partitioner : Partitioner) (types : List ColumnType) (bytes : Bytes) (content : Content) → IsDataFile partitioner types bytes content
+    → length bytes ≤ 2 ^ 62 → AreInRange (length bytes) (tree_of partitioner content) (greatest content) (length (front content))
 in_range partitioner types bytes content is short =
     let count = count_is partitioner content in
     let first = front_least partitioner content is.content_is in

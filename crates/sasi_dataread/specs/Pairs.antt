@@ -1,4 +1,4 @@
--- The pairs of a key tree, and the partitions that they lead to.
+-- The pairs of a key tree, and their partitions.
 use Rattle.std.specs.Prelude.{◌≡◌, ◌⊎◌, ℕ, zero, suc, ◌+◌, ◌-◌, ◌^◌, ◌<◌, ◌≤◌, List, [], ◌∷◌, ◌++◌, length, take, drop, map, refl}
 use Rattle.std.proofs.Common.{sym, ◌∙◌, ap, subst, arith, append_assoc, length-append, length-drop, inl, inr, ⊎_elim, lit<}
 use Rattle.std.proofs.lemmas.List.{drop_all}
@@ -39,7 +39,8 @@ less_or_equal m n le = grind arith
 before : (a b : Pair) → a.token ≤ b.token → a.place < b.place → IsBefore a b
 before a b le lt = ⊎_elim (λ less. inl less) (λ same. inr (same, lt)) (less_or_equal a.token b.token le)
 
-rising_from : (partitioner : Partitioner) (at : ℕ) (content : Content) → IsStrictlySortedBy place_cmp (map (place_of partitioner) content) → (index next : ℕ) → next ≡ suc index → next < length (pairs_from partitioner at content)
+rising_from : (partitioner : Partitioner) (at : ℕ) (content : Content) → IsStrictlySortedBy place_cmp (map (place_of partitioner) content) →
+    (index next : ℕ) → next ≡ suc index → next < length (pairs_from partitioner at content)
     → IsBefore (pair_at (pairs_from partitioner at content) index) (pair_at (pairs_from partitioner at content) next)
 unfolding IsStrictlySortedBy
 rising_from partitioner at [] sorted index next is lt = absurd (omega (arith, lt))
@@ -47,7 +48,9 @@ rising_from partitioner at (one ∷ []) sorted index next is lt = absurd (omega 
 rising_from partitioner at (one ∷ two ∷ others) sorted zero next is lt =
     let P = pairs_from partitioner at (one ∷ two ∷ others) in
     subst (λ (n : ℕ). IsBefore (pair_at P 0) (pair_at P n)) (sym is)
-    (before (record { token = token_of partitioner one.0; place = at }) (record { token = token_of partitioner two.0; place = at + length (partition_bytes one.0 one.1) }) (less_token (place_of partitioner one) (place_of partitioner two) sorted.0.0)
+    (before (record { token = token_of partitioner one.0; place = at })
+    (record { token = token_of partitioner two.0; place = at + length (partition_bytes one.0 one.1) })
+    (less_token (place_of partitioner one) (place_of partitioner two) sorted.0.0)
     (omega (arith, partition_length one.0 one.1)))
 rising_from partitioner at (one ∷ two ∷ others) sorted (suc index) next is lt =
     let P = pairs_from partitioner at (one ∷ two ∷ others) in
@@ -65,7 +68,8 @@ fits_from partitioner at (one ∷ others) have lt (suc index) =
     fits_from partitioner (at + length (partition_bytes one.0 one.1)) others have.1 (omega (arith, lt, length-append (partition_bytes one.0 one.1) (partitions others))) index
 
 -- the file has the key tree
-pub has_tree : (v : View) (opened : Opened) (partitioner : Partitioner) (content : Content) (is : IsOpenOn v opened partitioner content) → HaveTokens partitioner content → length is.bytes ≤ 2 ^ 62 → HasTree is.bytes opened.tree (key_pairs partitioner content)
+pub has_tree : (v : View) (opened : Opened) (partitioner : Partitioner) (content : Content) (is : IsOpenOn v opened partitioner content) → HaveTokens
+    partitioner content → length is.bytes ≤ 2 ^ 62 → HasTree is.bytes opened.tree (key_pairs partitioner content)
 has_tree v opened partitioner content is have short = record {
   front = front content;
   rest = footer_of partitioner content;
@@ -78,16 +82,17 @@ has_tree v opened partitioner content is have short = record {
     regroup : (a b c : Bytes) → a ++ (b ++ c) ≡ (a ++ b) ++ c
     regroup a b c = simp append_assoc
 
--- ---- where they lead
+-- ---- their partitions
 
--- this pair is that of the partition with this index, where the first one begins at a place
+-- this pair is that of the partition with this index, where the first one is at an offset
 pub record IsNth (partitioner : Partitioner) (at : ℕ) (content : Content) (index : ℕ) (pair : Pair) : Type 0 where
   pub one : Bytes × Partition
   pub left : drop index content ≡ one ∷ drop (suc index) content
   pub parts : content ≡ take index content ++ one ∷ drop (suc index) content
   pub pair_is : pair ≡ record { token = token_of partitioner one.0; place = at + length (partitions (take index content)) }
 
-pub nth : (partitioner : Partitioner) (at : ℕ) (content : Content) (index : ℕ) (pair : Pair) (rest : List Pair) → drop index (pairs_from partitioner at content) ≡ pair ∷ rest → IsNth partitioner at content index pair
+pub nth : (partitioner : Partitioner) (at : ℕ) (content : Content) (index : ℕ) (pair : Pair) (rest : List Pair) → drop index
+    (pairs_from partitioner at content) ≡ pair ∷ rest → IsNth partitioner at content index pair
 nth partitioner at [] zero pair rest is = absurd (cc)
 nth partitioner at [] (suc index) pair rest is = absurd (cc)
 nth partitioner at (one ∷ others) zero pair rest is =
@@ -108,7 +113,7 @@ nth partitioner at (one ∷ others) (suc index) pair rest is =
     pair_of : Bytes × Partition → ℕ → Pair
     pair_of o k = record { token = token_of partitioner o.0; place = k }
 
--- the partition stands at the place of its pair
+-- the partition is at the offset of its pair
 pub nth_stands : (partitioner : Partitioner) (content : Content) (index : ℕ) (pair : Pair) (n : IsNth partitioner (length header) content index pair) → StandsAt content pair.place n.one.0 n.one.1
 nth_stands partitioner content index pair n = record {
   before = take index content;
@@ -130,7 +135,8 @@ drops_same (one ∷ others) (suc n) zero is = absurd (omega (arith, is))
 drops_same (one ∷ others) (suc n) (suc m) is = drops_same others n m (omega (arith, is))
 
 -- as many partitions are left behind an index as pairs
-pub as_many_left : (partitioner : Partitioner) (content : Content) (index after : ℕ) (pair : Pair) → drop index (key_pairs partitioner content) ≡ pair ∷ drop after (key_pairs partitioner content) → (index < length content) × (length content - suc index ≡ length content - after)
+pub as_many_left : (partitioner : Partitioner) (content : Content) (index after : ℕ) (pair : Pair) → drop index (key_pairs partitioner content) ≡ pair
+    ∷ drop after (key_pairs partitioner content) → (index < length content) × (length content - suc index ≡ length content - after)
 as_many_left partitioner content index after pair is =
     let pairs = key_pairs partitioner content in
     let taken : length (drop index pairs) ≡ length (pair ∷ drop after pairs) = ap (λ (l : List Pair). length l) is in
@@ -140,7 +146,8 @@ as_many_left partitioner content index after pair is =
     (omega (arith, taken, here, there, all), omega (arith, taken, here, there, all))
 
 -- what is left behind a pair is left behind its partition
-pub left_behind : (partitioner : Partitioner) (content : Content) (index after : ℕ) (pair : Pair) → drop index (key_pairs partitioner content) ≡ pair ∷ drop after (key_pairs partitioner content) → drop (suc index) content ≡ drop after content
+pub left_behind : (partitioner : Partitioner) (content : Content) (index after : ℕ) (pair : Pair) → drop index (key_pairs partitioner content) ≡ pair
+    ∷ drop after (key_pairs partitioner content) → drop (suc index) content ≡ drop after content
 left_behind partitioner content index after pair is = drops_same content (suc index) after (as_many_left partitioner content index after pair is).1
 
 pub none_left : (partitioner : Partitioner) (content : Content) (index : ℕ) → drop index (key_pairs partitioner content) ≡ [] → drop index content ≡ []

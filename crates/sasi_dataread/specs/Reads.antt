@@ -1,4 +1,4 @@
--- What reads of a data file give, over what the host tells.
+-- What a reader of a data file gives, by the host's view.
 use Rattle.std.specs.Prelude.{◌≡◌, ℕ, List, ◌+◌, ◌≤◌, Some}
 use Rattle.sasi_types.specs.declared.column.ColumnType.{ColumnType}
 use Rattle.sasi_types.specs.declared.partitioner.Partitioner.{Partitioner}
@@ -13,7 +13,7 @@ use Rattle.sasi_datawrite.specs.Files.{IsDataFile}
 use Rattle.sasi_dataread.specs.Opened.{Opened, IsOf, StandsAt}
 use Rattle.sasi_host.specs.Disk.{Changes, Same}
 
--- the folder stays, no count of faults falls, and at most so many reads were made
+-- the folder is unchanged, no count of faults falls, and at most so many reads were made
 pub record Passes (most : ℕ) (old new : View) : Type 0 where
   pub changes : Changes Same old new
   pub disk : old.disk_faults ≤ new.disk_faults
@@ -29,18 +29,21 @@ pub record IsOpenOn (v : View) (opened : Opened) (partitioner : Partitioner) (co
   pub data_file : IsDataFile partitioner opened.types bytes content
   pub of : IsOf opened partitioner content
 
--- where damage is told, the file isn't a data file
+-- damage is reported only where the file isn't a data file
 abbrev pub SparesData : View → FileName → ReadFault → Type 0
-SparesData v file = OnDamage (λ _. (bytes : Bytes) (partitioner : Partitioner) (types : List ColumnType) (content : Content) → contents v file ≡ Some bytes → IsDataFile partitioner types bytes content → ⊥)
+SparesData v file = OnDamage (λ _. (bytes : Bytes) (partitioner : Partitioner) (types : List ColumnType) (content : Content) → contents v file ≡ Some
+    bytes → IsDataFile partitioner types bytes content → ⊥)
 
--- what was read is the partition that stands at the place
+-- the partition read is the one at the offset
 abbrev pub Gives : View → Opened → ℕ → Bytes → Partition → Type 0
-Gives v opened place key part = (partitioner : Partitioner) (content : Content) (k : Bytes) (p : Partition) → IsOpenOn v opened partitioner content → StandsAt content place k p → (key ≡ k) × (part ≡ p)
+Gives v opened place key part = (partitioner : Partitioner) (content : Content) (k : Bytes) (p : Partition) → IsOpenOn v opened partitioner content →
+    StandsAt content place k p → (key ≡ k) × (part ≡ p)
 
--- where damage is told, no partition of a data file stands at the place
+-- damage is reported only where no partition of a data file is at the offset
 abbrev pub SparesPlace : View → Opened → ℕ → ReadFault → Type 0
-SparesPlace v opened place = OnDamage (λ _. (partitioner : Partitioner) (content : Content) (key : Bytes) (part : Partition) → IsOpenOn v opened partitioner content → StandsAt content place key part → ⊥)
+SparesPlace v opened place = OnDamage (λ _. (partitioner : Partitioner) (content : Content) (key : Bytes) (part : Partition) → IsOpenOn v opened
+    partitioner content → StandsAt content place key part → ⊥)
 
--- and it is its key
+-- the key read is that of the one at the offset
 abbrev pub GivesKey : View → Opened → ℕ → Bytes → Type 0
 GivesKey v opened place key = (partitioner : Partitioner) (content : Content) (k : Bytes) (p : Partition) → IsOpenOn v opened partitioner content → StandsAt content place k p → key ≡ k

@@ -1,4 +1,4 @@
--- A walk over the partitions of a data file.
+-- Scans of a data file.
 use Rattle.std.specs.Prelude.{◌≡◌, ℕ, ◌^◌, ◌<◌, [], ◌∷◌, drop, Option, None, Some}
 use Rattle.std.specs.List.{AllByRecursion}
 use Rattle.sasi_types.specs.declared.partitioner.Partitioner.{Partitioner}
@@ -13,27 +13,28 @@ use Rattle.sasi_datawrite.specs.Format.{Content}
 use Rattle.sasi_dataread.specs.Opened.{Opened}
 use Rattle.sasi_dataread.specs.Reads.{IsOpenOn}
 
--- what one knows of a walk in hand: the file, how many of its partitions were passed, and the pages that were read last, of the key
--- tree and of the partitions
+-- the view of a scan: the file, how many of its partitions it has passed, and the buffered pages of the key tree and of the
+-- partitions
 pub record Walking : Type 0 where
   pub opened : Opened
   pub passed : ℕ
   pub pairs_held : Held
   pub held : Held
 
--- the token of each key fits its field, as that of each key of bytes does
+-- the token of each key fits its field
 abbrev pub HaveTokens : Partitioner → Content → Type 0
 HaveTokens partitioner content = AllByRecursion (λ one. token_of partitioner one.0 < 2 ^ 64) content
 
--- what was found is the first of the partitions from an index on, with its token, and those behind it are left; nothing is found where none is left
+-- the scan steps to the first of the partitions from an index on, with its token, and those behind it are left; to none where none is left
 abbrev pub TakesPartition : Partitioner → Content → ℕ → ℕ → Option (ℕ × Bytes × Partition) → Type 0
 TakesPartition partitioner content before after None = (drop before content ≡ []) × (after ≡ before)
 TakesPartition partitioner content before after (Some found) = (drop before content ≡ (found.1, found.2) ∷ drop after content) × (found.0 ≡ token_of partitioner found.1)
 
 -- where the file is the data file of a content, this is the next of its partitions
 abbrev pub GivesPartition : View → Opened → ℕ → ℕ → Option (ℕ × Bytes × Partition) → Type 0
-GivesPartition v opened before after found = (partitioner : Partitioner) (content : Content) → IsOpenOn v opened partitioner content → HaveTokens partitioner content → TakesPartition partitioner content before after found
+GivesPartition v opened before after found = (partitioner : Partitioner) (content : Content) → IsOpenOn v opened partitioner content → HaveTokens
+    partitioner content → TakesPartition partitioner content before after found
 
--- where damage is told, the file isn't the data file as which it was opened
+-- damage is reported only where the file isn't the data file that was opened
 abbrev pub SparesOpened : View → Opened → ReadFault → Type 0
 SparesOpened v opened = OnDamage (λ _. (partitioner : Partitioner) (content : Content) → IsOpenOn v opened partitioner content → HaveTokens partitioner content → ⊥)

@@ -1,16 +1,16 @@
-// A data file that is read.
-ghost use Rattle.std.specs.Prelude.{◌≡◌, ◌⊎◌, ◌+◌, ◌*◌, ◌/◌, ◌≤◌, ℕ, [], IfErr, IfOk, None, Some, length};
+// Reads a data file.
+ghost use Rattle.std.specs.Prelude.{◌≡◌, ◌+◌, ◌*◌, ◌/◌, ◌≤◌, ℕ, [], IfErr, IfOk, None, Some, length};
 ghost use Rattle.sasi_types.specs.declared.partitioner.Partitioner.{Partitioner};
 ghost use Rattle.sasi_model.specs.Cells.{Partition as Part};
 ghost use Rattle.sasi_host.specs.declared.name.FileName.{FileName};
 ghost use Rattle.sasi_host.specs.Names.{Bytes};
-ghost use Rattle.sasi_host.specs.View.{IsThere, ReadsAtMost, contents};
-ghost use Rattle.sasi_host.specs.Disk.{Changes, Same};
+ghost use Rattle.sasi_host.specs.View.{ReadsAtMost, contents};
 ghost use Rattle.sasi_body.specs.Format.{body};
 ghost use Rattle.sasi_body.specs.Typed.{IsBodyOf};
 ghost use Rattle.sasi_tokentree.specs.Heights.{height};
 ghost use Rattle.sasi_host.specs.Damages.{Shown};
 ghost use Rattle.sasi_host.specs.Held.{IsHeld};
+ghost use Rattle.sasi_host.specs.PageReading.{CanRead, HasRead};
 ghost use Rattle.sasi_datawrite.specs.Format.{Content, header};
 ghost use Rattle.sasi_datawrite.specs.Files.{IsDataFile};
 ghost use Rattle.sasi_dataread.specs.Opened.{IsOf, StandsAt};
@@ -33,7 +33,7 @@ use sasi_types::{Key, Token, TreeRef, TypeList};
 use std::alloc::{AllocError, Global};
 use std::marker::Model;
 
-/// A data file that is read. It keeps what its footer tells, and the types of its table's columns.
+/// An open data file. It keeps the fields of its footer, and the types of its table's columns.
 #[derive(Drop)]
 pub struct DataFile {
     file: FileName,
@@ -60,17 +60,14 @@ impl DataFile {
         file: FileName,
         types: &TypeList,
     ) -> Result<DataFile, ReadFault>
-        requires there { IsThere (H.view host.old) file }
-        requires agrees { P.agrees pages.old (H.view host.old).files }
+        requires read { CanRead (P.agrees pages.old) (H.view host.old) file }
         ensures ok { IfOk result (λ opened. (bytes : Bytes) (partitioner : Partitioner) (content : Content) → contents (H.view host.old) file ≡ Some bytes → IsDataFile partitioner types.now bytes content → IsOf opened partitioner content) }
         ensures framed { IfOk result (λ opened. (bytes : Bytes) → contents (H.view host.old) file ≡ Some bytes → IsFramed bytes opened.tree opened.latest opened.end) }
         ensures file { IfOk result (λ opened. opened.file ≡ file) }
         ensures types { IfOk result (λ opened. opened.types ≡ types.now) }
         ensures damaged { IfErr result (Shown (H.view host.old) file (ShowsFrame file)) }
         ensures undamaged { IfErr result (SparesData (H.view host.old) file) }
-        ensures agrees { P.agrees pages.new (H.view host.new).files }
-        ensures covers { (name : FileName) → P.covers pages.new name → P.covers pages.old name ⊎ (name ≡ file) }
-        ensures changes { Changes Same (H.view host.old) (H.view host.new) }
+        ensures read { HasRead (P.agrees pages.new) (P.covers pages.old) (P.covers pages.new) (H.view host.old) (H.view host.new) file }
         ensures causes { ReadsAtMost 3 (H.view host.old) (H.view host.new) result }
     {
         let footer = read_frame(host, pages, file)?;
@@ -84,7 +81,7 @@ impl DataFile {
         })
     }
 
-    /// A walk over the partitions, from the first one on. It makes no read.
+    /// A scan of the partitions, from the first one on. It reads nothing yet.
     pub fn walk(&self, alloc: Global) -> Result<DataWalk, AllocError>
         ensures { IfOk result (λ walk. walk ≡ record { opened = self.now; passed = 0; pairs_held = record { file = self.now.file; page = None; bytes = [] }; held = record { file = self.now.file; page = None; bytes = [] } }) }
     {
@@ -105,35 +102,35 @@ impl DataFile {
         })
     }
 
-    /// How many partitions it has.
+    /// The number of partitions.
     pub fn partitions(&self) -> u64
         ensures { result ≡ self.now.tree.pairs }
     {
         self.tree.pairs
     }
 
-    /// The greatest time of a deletion or a cell in it.
+    /// The largest timestamp of a deletion or a cell in it.
     pub fn greatest(&self) -> u64
         ensures { result ≡ self.now.latest }
     {
         self.latest
     }
 
-    /// The key tree, which leads from tokens to the places of partitions, before its first pair.
+    /// A scan of the key tree, from tokens to offsets of partitions, before its first pair.
     pub fn tree(&self) -> Tree
         ensures { result ≡ record { held = record { file = self.now.file; page = None; bytes = [] }; tree = self.now.tree; passed = 0 } }
     {
         Tree::new(self.file, self.tree)
     }
 
-    // None of its pages is in hand yet.
+    // The file, with no page buffered yet.
     pub(crate) fn hold(&self) -> HeldPage
         ensures { result ≡ record { file = self.now.file; page = None; bytes = [] } }
     {
         HeldPage::new(self.file)
     }
 
-    // The partition that begins at this place, read from the page in hand on.
+    // Reads the partition at this offset, through the buffered page.
     pub(crate) fn at_held<H: Host, P: PageReader>(
         &self,
         alloc: Global,
@@ -142,8 +139,7 @@ impl DataFile {
         held: &mut HeldPage,
         place: u64,
     ) -> Result<(Key, Partition), ReadFault>
-        requires there { IsThere (H.view host.old) self.now.file }
-        requires agrees { P.agrees pages.old (H.view host.old).files }
+        requires read { CanRead (P.agrees pages.old) (H.view host.old) self.now.file }
         requires held { IsHeld held.old (H.view host.old).files }
         requires named { held.old.file ≡ self.now.file }
         ensures ok { IfOk result (λ read. Gives (H.view host.old) self.now place read.0 read.1) }
@@ -153,16 +149,14 @@ impl DataFile {
         ensures named { held.new.file ≡ self.now.file }
         ensures held { IsHeld held.new (H.view host.new).files }
         ensures page { IfOk result (λ read. held.new.page ≡ Some ((place + 3 + length (body read.0 read.1)) / 4096)) }
-        ensures agrees { P.agrees pages.new (H.view host.new).files }
-        ensures covers { (name : FileName) → P.covers pages.new name → P.covers pages.old name ⊎ (name ≡ self.now.file) }
-        ensures changes { Changes Same (H.view host.old) (H.view host.new) }
+        ensures read { HasRead (P.agrees pages.new) (P.covers pages.old) (P.covers pages.new) (H.view host.old) (H.view host.new) self.now.file }
         ensures causes { ReadsAtMost 2050 (H.view host.old) (H.view host.new) result }
         ensures reads { (partitioner : Partitioner) (content : Content) (key : Bytes) (part : Part) → IsOpenOn (H.view host.old) self.now partitioner content → StandsAt content place key part → (H.view host.new).reads ≤ (H.view host.old).reads + fresh_cost held.old.page place (length (body key part)) }
     {
         partition_at(alloc, host, pages, held, &self.types, self.end, place)
     }
 
-    /// The partition that begins at this place, which is that of a pair of the key tree.
+    /// Reads the partition at this offset, which is that of a pair of the key tree.
     pub fn at<H: Host, P: PageReader>(
         &self,
         alloc: Global,
@@ -170,24 +164,21 @@ impl DataFile {
         pages: &mut P,
         place: u64,
     ) -> Result<(Key, Partition), ReadFault>
-        requires there { IsThere (H.view host.old) self.now.file }
-        requires agrees { P.agrees pages.old (H.view host.old).files }
+        requires read { CanRead (P.agrees pages.old) (H.view host.old) self.now.file }
         ensures ok { IfOk result (λ read. Gives (H.view host.old) self.now place read.0 read.1) }
         ensures in_table { IfOk result (λ read. IsBodyOf self.now.types read.0 read.1) }
         ensures damaged { IfErr result (Shown (H.view host.old) self.now.file (ShowsPartition self.now.types self.now.end place self.now.file)) }
         ensures undamaged { IfErr result (SparesPlace (H.view host.old) self.now place) }
-        ensures agrees { P.agrees pages.new (H.view host.new).files }
-        ensures covers { (name : FileName) → P.covers pages.new name → P.covers pages.old name ⊎ (name ≡ self.now.file) }
-        ensures changes { Changes Same (H.view host.old) (H.view host.new) }
+        ensures read { HasRead (P.agrees pages.new) (P.covers pages.old) (P.covers pages.new) (H.view host.old) (H.view host.new) self.now.file }
         ensures causes { ReadsAtMost 2050 (H.view host.old) (H.view host.new) result }
-        // It reads the pages on which the partition lies, where the file is a data file.
+        // It reads only the pages on which the partition lies, where the file is a data file.
         ensures reads { (partitioner : Partitioner) (content : Content) (key : Bytes) (part : Part) → IsOpenOn (H.view host.old) self.now partitioner content → StandsAt content place key part → (H.view host.new).reads ≤ (H.view host.old).reads + cost place (length (body key part)) }
     {
         let mut held = self.hold();
         self.at_held(alloc, host, pages, &mut held, place)
     }
 
-    /// The key of the partition that begins at this place, which is that of a pair of the key tree.
+    /// Reads the key of the partition at this offset, which is that of a pair of the key tree.
     pub fn key_at<H: Host, P: PageReader>(
         &self,
         alloc: Global,
@@ -195,14 +186,11 @@ impl DataFile {
         pages: &mut P,
         place: u64,
     ) -> Result<Key, ReadFault>
-        requires there { IsThere (H.view host.old) self.now.file }
-        requires agrees { P.agrees pages.old (H.view host.old).files }
+        requires read { CanRead (P.agrees pages.old) (H.view host.old) self.now.file }
         ensures ok { IfOk result (λ key. GivesKey (H.view host.old) self.now place key) }
         ensures damaged { IfErr result (Shown (H.view host.old) self.now.file (ShowsPartition self.now.types self.now.end place self.now.file)) }
         ensures undamaged { IfErr result (SparesPlace (H.view host.old) self.now place) }
-        ensures agrees { P.agrees pages.new (H.view host.new).files }
-        ensures covers { (name : FileName) → P.covers pages.new name → P.covers pages.old name ⊎ (name ≡ self.now.file) }
-        ensures changes { Changes Same (H.view host.old) (H.view host.new) }
+        ensures read { HasRead (P.agrees pages.new) (P.covers pages.old) (P.covers pages.new) (H.view host.old) (H.view host.new) self.now.file }
         ensures causes { ReadsAtMost 2050 (H.view host.old) (H.view host.new) result }
         ensures reads { (partitioner : Partitioner) (content : Content) (key : Bytes) (part : Part) → IsOpenOn (H.view host.old) self.now partitioner content → StandsAt content place key part → (H.view host.new).reads ≤ (H.view host.old).reads + cost place (length (body key part)) }
     {
@@ -210,7 +198,7 @@ impl DataFile {
         Ok(key)
     }
 
-    /// The partition with this key, whose token this is; None exactly where the file has no such key. It goes down the key
+    /// The partition with this key, whose token this is; None exactly where the file has no such key. It searches the key
     /// tree once, and reads the partitions with the token up to that of the key.
     pub fn find<H: Host, P: PageReader>(
         &self,
@@ -220,17 +208,14 @@ impl DataFile {
         token: Token,
         key: &Key,
     ) -> Result<Option<Partition>, ReadFault>
-        requires there { IsThere (H.view host.old) self.now.file }
-        requires agrees { P.agrees pages.old (H.view host.old).files }
+        requires read { CanRead (P.agrees pages.old) (H.view host.old) self.now.file }
         ensures ok { IfOk result (λ found. FindsKey (H.view host.old) self.now token key.now found) }
         ensures damaged { IfErr result (Shown (H.view host.old) self.now.file (ShowsData self.now)) }
         ensures undamaged { IfErr result (SparesOpened (H.view host.old) self.now) }
-        ensures agrees { P.agrees pages.new (H.view host.new).files }
-        ensures covers { (name : FileName) → P.covers pages.new name → P.covers pages.old name ⊎ (name ≡ self.now.file) }
-        ensures changes { Changes Same (H.view host.old) (H.view host.new) }
+        ensures read { HasRead (P.agrees pages.new) (P.covers pages.old) (P.covers pages.new) (H.view host.old) (H.view host.new) self.now.file }
         ensures causes { (most : ℕ) → self.now.tree.pairs ≤ most → ReadsAtMost (2 * height most self.now.tree.pairs + 2 + 2051 * self.now.tree.pairs) (H.view host.old) (H.view host.new) result }
-        // Two pages a level and two more, and the pages of the partitions with the token and one for each, where the file is a
-        // data file.
+        // It reads at most two pages a level and two more, and the pages of the partitions with the token and one for each,
+        // where the file is a data file.
         ensures reads { (most : ℕ) (partitioner : Partitioner) (content : Content) → self.now.tree.pairs ≤ most → IsOpenOn (H.view host.old) self.now partitioner content → HaveTokens partitioner content
             → (H.view host.new).reads ≤ (H.view host.old).reads + (2 * height most self.now.tree.pairs + 2 + token_cost partitioner token (length header) content) }
     {

@@ -1,15 +1,14 @@
-// A partition found by its key.
-ghost use Rattle.std.specs.Prelude.{◌≡◌, ◌⊎◌, ◌+◌, ◌*◌, ◌≤◌, ℕ, length, IfErr, IfOk};
+// Searches for a partition by its key.
+ghost use Rattle.std.specs.Prelude.{◌≡◌, ◌+◌, ◌*◌, ◌≤◌, ℕ, length, IfErr, IfOk};
 ghost use Rattle.sasi_types.specs.declared.partitioner.Partitioner.{Partitioner};
 ghost use Rattle.sasi_model.specs.Cells.{Partition as Part};
-ghost use Rattle.sasi_host.specs.declared.name.FileName.{FileName};
 ghost use Rattle.sasi_host.specs.Names.{Bytes};
-ghost use Rattle.sasi_host.specs.View.{IsThere, ReadsAtMost};
-ghost use Rattle.sasi_host.specs.Disk.{Changes, Same};
+ghost use Rattle.sasi_host.specs.View.{ReadsAtMost};
 ghost use Rattle.sasi_body.specs.Format.{body};
 ghost use Rattle.sasi_tokentree.specs.Heights.{height};
 ghost use Rattle.sasi_host.specs.Damages.{Shown};
 ghost use Rattle.sasi_host.specs.Held.{IsHeld};
+ghost use Rattle.sasi_host.specs.PageReading.{CanRead, HasRead};
 ghost use Rattle.sasi_datawrite.specs.Format.{Content, header};
 ghost use Rattle.sasi_dataread.specs.Opened.{StandsAt};
 ghost use Rattle.sasi_dataread.specs.Reads.{IsOpenOn, SparesPlace};
@@ -24,7 +23,7 @@ use sasi_host::{HeldPage, Host, PageReader, ReadFault};
 use sasi_types::{Key, Pair, Token};
 use std::alloc::Global;
 
-// Where the pair leads, if it has this token.
+// The offset of the pair, if it has this token.
 fn place_for(next: Option<Pair>, token: Token) -> Option<u64>
     ensures { LeadsTo token next result }
 {
@@ -35,7 +34,7 @@ fn place_for(next: Option<Pair>, token: Token) -> Option<u64>
     Some(pair.place)
 }
 
-// The partition that begins at this place, if it has this key.
+// Reads the partition at this offset, if it has this key.
 fn part_with<H: Host, P: PageReader>(
     alloc: Global,
     host: &mut H,
@@ -45,8 +44,7 @@ fn part_with<H: Host, P: PageReader>(
     place: u64,
     key: &Key,
 ) -> Result<Option<Partition>, ReadFault>
-    requires there { IsThere (H.view host.old) opened.now.file }
-    requires agrees { P.agrees pages.old (H.view host.old).files }
+    requires read { CanRead (P.agrees pages.old) (H.view host.old) opened.now.file }
     requires held { IsHeld held.old (H.view host.old).files }
     requires named { held.old.file ≡ opened.now.file }
     ensures ok { IfOk result (λ found. GivesWith (H.view host.old) opened.now place key.now found) }
@@ -54,9 +52,7 @@ fn part_with<H: Host, P: PageReader>(
     ensures undamaged { IfErr result (SparesPlace (H.view host.old) opened.now place) }
     ensures named { held.new.file ≡ opened.now.file }
     ensures held { IsHeld held.new (H.view host.new).files }
-    ensures agrees { P.agrees pages.new (H.view host.new).files }
-    ensures covers { (name : FileName) → P.covers pages.new name → P.covers pages.old name ⊎ (name ≡ opened.now.file) }
-    ensures changes { Changes Same (H.view host.old) (H.view host.new) }
+    ensures read { HasRead (P.agrees pages.new) (P.covers pages.old) (P.covers pages.new) (H.view host.old) (H.view host.new) opened.now.file }
     ensures causes { ReadsAtMost 2050 (H.view host.old) (H.view host.new) result }
     ensures reads { (partitioner : Partitioner) (content : Content) (key : Bytes) (part : Part) → IsOpenOn (H.view host.old) opened.now partitioner content → StandsAt content place key part → (H.view host.new).reads ≤ (H.view host.old).reads + fresh_cost held.old.page place (length (body key part)) }
 {
@@ -67,7 +63,7 @@ fn part_with<H: Host, P: PageReader>(
     Ok(Some(part))
 }
 
-// The partition with this key, looked for among those with its token.
+// Searches for the partition with this key among those with its token.
 pub fn find_partition<H: Host, P: PageReader>(
     alloc: Global,
     host: &mut H,
@@ -76,14 +72,11 @@ pub fn find_partition<H: Host, P: PageReader>(
     token: Token,
     key: &Key,
 ) -> Result<Option<Partition>, ReadFault>
-    requires there { IsThere (H.view host.old) opened.now.file }
-    requires agrees { P.agrees pages.old (H.view host.old).files }
+    requires read { CanRead (P.agrees pages.old) (H.view host.old) opened.now.file }
     ensures ok { IfOk result (λ found. FindsKey (H.view host.old) opened.now token key.now found) }
     ensures damaged { IfErr result (Shown (H.view host.old) opened.now.file (ShowsData opened.now)) }
     ensures undamaged { IfErr result (SparesOpened (H.view host.old) opened.now) }
-    ensures agrees { P.agrees pages.new (H.view host.new).files }
-    ensures covers { (name : FileName) → P.covers pages.new name → P.covers pages.old name ⊎ (name ≡ opened.now.file) }
-    ensures changes { Changes Same (H.view host.old) (H.view host.new) }
+    ensures read { HasRead (P.agrees pages.new) (P.covers pages.old) (P.covers pages.new) (H.view host.old) (H.view host.new) opened.now.file }
     ensures causes { (most : ℕ) → opened.now.tree.pairs ≤ most → ReadsAtMost (2 * height most opened.now.tree.pairs + 2 + 2051 * opened.now.tree.pairs) (H.view host.old) (H.view host.new) result }
     ensures reads { (most : ℕ) (partitioner : Partitioner) (content : Content) → opened.now.tree.pairs ≤ most → IsOpenOn (H.view host.old) opened.now partitioner content → HaveTokens partitioner content
         → (H.view host.new).reads ≤ (H.view host.old).reads + (2 * height most opened.now.tree.pairs + 2 + token_cost partitioner token (length header) content) }

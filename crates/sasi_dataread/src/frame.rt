@@ -1,13 +1,12 @@
-// The header and the footer of a data file.
+// Reads the header and the footer of a data file.
 ghost use Rattle.std.specs.Prelude.{◌≡◌, ◌≢◌, ◌⊎◌, ◌+◌, ◌-◌, ◌^◌, ◌<◌, ◌≤◌, List, ℕ, length, take, drop, IfErr, IfOk, OnOk, IsTrue, Some, false};
 ghost use Rattle.std.specs.Int.{to_be_bytes, w64};
 ghost use Rattle.sasi_types.specs.declared.tree.TreeRef.{TreeRef as Tree};
 ghost use Rattle.sasi_host.specs.declared.name.FileName.{FileName};
 ghost use Rattle.sasi_host.specs.Names.{Bytes};
-ghost use Rattle.sasi_host.specs.View.{IsThere, ReadsAtMost, contents};
-ghost use Rattle.sasi_host.specs.Disk.{Changes, Same};
+ghost use Rattle.sasi_host.specs.View.{ReadsAtMost, contents};
 ghost use Rattle.sasi_host.specs.Damages.{HasAt, Shown};
-ghost use Rattle.sasi_host.specs.Held.{IsHeld};
+ghost use Rattle.sasi_host.specs.PageReading.{CanRead, HasRead, CanReadOn, HasReadOn};
 ghost use Rattle.sasi_datawrite.specs.Format.{header, footer};
 ghost use Rattle.sasi_dataread.specs.Reads.{SparesData};
 ghost use Rattle.sasi_dataread.specs.Laws.{AreInRange};
@@ -29,12 +28,12 @@ const FOOTER: usize = 40;
 // No data file is shorter.
 const LEAST_SIZE: u64 = 97;
 
-// Where the partitions end at least.
+// The least offset where partitions can end.
 const LEAST_END: u64 = 33;
 
 const VERSION: u32 = 1;
 
-// What the footer tells: the key tree, the greatest time, and where the partitions end.
+// The fields of the footer: the key tree, the largest timestamp, and where the partitions end.
 #[derive(Clone, Copy)]
 pub struct Footer {
     pub tree: TreeRef,
@@ -42,7 +41,7 @@ pub struct Footer {
     pub end: u64,
 }
 
-// The bytes have to be a header.
+// Checks that the bytes are a header.
 fn check_header(file: FileName, bytes: &[u8]) -> Result<(), Damage>
     requires { length bytes.now ≡ 16 }
     ensures ok { OnOk result (bytes.now ≡ header) }
@@ -62,23 +61,17 @@ fn check_header(file: FileName, bytes: &[u8]) -> Result<(), Damage>
     Ok(())
 }
 
-// The file has to begin with a header.
+// Reads the header, and checks it.
 fn read_header<H: Host, P: PageReader>(
     host: &mut H,
     pages: &mut P,
     held: &mut HeldPage,
 ) -> Result<(), ReadFault>
-    requires there { IsThere (H.view host.old) held.old.file }
-    requires agrees { P.agrees pages.old (H.view host.old).files }
-    requires held { IsHeld held.old (H.view host.old).files }
+    requires read { CanReadOn (P.agrees pages.old) (H.view host.old) held.old }
     ensures ok { OnOk result ((bytes : Bytes) → contents (H.view host.old) held.old.file ≡ Some bytes → HasAt bytes 0 header) }
     ensures damaged { IfErr result (Shown (H.view host.old) held.old.file (ShowsFrame held.old.file)) }
     ensures undamaged { IfErr result (SparesHeader (H.view host.old) held.old.file) }
-    ensures file { held.new.file ≡ held.old.file }
-    ensures held { IsHeld held.new (H.view host.new).files }
-    ensures agrees { P.agrees pages.new (H.view host.new).files }
-    ensures covers { (name : FileName) → P.covers pages.new name → P.covers pages.old name ⊎ (name ≡ held.old.file) }
-    ensures changes { Changes Same (H.view host.old) (H.view host.new) }
+    ensures read { HasReadOn (P.agrees pages.new) (P.covers pages.old) (P.covers pages.new) (H.view host.old) (H.view host.new) held.old held.new }
     ensures causes { ReadsAtMost 1 (H.view host.old) (H.view host.new) result }
 {
     let file = held.file();
@@ -88,27 +81,21 @@ fn read_header<H: Host, P: PageReader>(
     Ok(())
 }
 
-// The last bytes of a file of this size, which have to end with the mark of a footer.
+// Reads the last bytes of a file of this size, and checks that they end with the mark of a footer.
 fn read_end<H: Host, P: PageReader>(
     host: &mut H,
     pages: &mut P,
     held: &mut HeldPage,
     size: u64,
 ) -> Result<[u8; FOOTER], ReadFault>
-    requires there { IsThere (H.view host.old) held.old.file }
-    requires agrees { P.agrees pages.old (H.view host.old).files }
-    requires held { IsHeld held.old (H.view host.old).files }
+    requires read { CanReadOn (P.agrees pages.old) (H.view host.old) held.old }
     requires size { 40 ≤ size }
     ensures ok { IfOk result (λ read. (bytes : Bytes) → contents (H.view host.old) held.old.file ≡ Some bytes → HasAt bytes (size - 40) read) }
     ensures length { IfOk result (λ read. length read ≡ 40) }
     ensures mark { IfOk result (λ read. take 8 (drop 32 read) ≡ end_mark) }
     ensures damaged { IfErr result (Shown (H.view host.old) held.old.file (λ bytes damage. size ≡ length bytes → ShowsFrame held.old.file bytes damage)) }
     ensures undamaged { IfErr result (SparesFooter (H.view host.old) held.old.file (size - 40)) }
-    ensures file { held.new.file ≡ held.old.file }
-    ensures held { IsHeld held.new (H.view host.new).files }
-    ensures agrees { P.agrees pages.new (H.view host.new).files }
-    ensures covers { (name : FileName) → P.covers pages.new name → P.covers pages.old name ⊎ (name ≡ held.old.file) }
-    ensures changes { Changes Same (H.view host.old) (H.view host.new) }
+    ensures read { HasReadOn (P.agrees pages.new) (P.covers pages.old) (P.covers pages.new) (H.view host.old) (H.view host.new) held.old held.new }
     ensures causes { ReadsAtMost 2 (H.view host.old) (H.view host.new) result }
 {
     let file = held.file();
@@ -127,7 +114,7 @@ fn number_in(field: &[u8]) -> u64
     FieldReader::new(field).u64().unwrap_or(0)
 }
 
-// Whether the partitions can't end there, in front of this place.
+// Whether partitions can't end there, before this offset.
 fn is_wrong_end(end: u64, at: u64) -> bool
     ensures behind { result ≡ false → 33 ≤ end }
     ensures within { result ≡ false → end ≤ at }
@@ -136,7 +123,7 @@ fn is_wrong_end(end: u64, at: u64) -> bool
     end < LEAST_END || end > at
 }
 
-// The footer in these bytes, which stand at this place of the file.
+// Decodes the footer from these bytes, at this offset of the file.
 fn footer_in(file: FileName, at: u64, bytes: &[u8]) -> Result<Footer, Damage>
     requires whole { length bytes.now ≡ 40 }
     requires mark { take 8 (drop 32 bytes.now) ≡ end_mark }
@@ -163,21 +150,18 @@ fn footer_in(file: FileName, at: u64, bytes: &[u8]) -> Result<Footer, Damage>
     })
 }
 
-// The footer of a file that has a header and one.
+// Reads the header and the footer of a file, and gives the footer.
 pub fn read_frame<H: Host, P: PageReader>(
     host: &mut H,
     pages: &mut P,
     file: FileName,
 ) -> Result<Footer, ReadFault>
-    requires there { IsThere (H.view host.old) file }
-    requires agrees { P.agrees pages.old (H.view host.old).files }
+    requires read { CanRead (P.agrees pages.old) (H.view host.old) file }
     ensures ok { IfOk result (λ read. (bytes : Bytes) → contents (H.view host.old) file ≡ Some bytes → IsFramed bytes read.tree read.latest read.end) }
     ensures in_range { IfOk result (λ read. (bytes : Bytes) → contents (H.view host.old) file ≡ Some bytes → AreInRange (length bytes) read.tree read.latest read.end) }
     ensures damaged { IfErr result (Shown (H.view host.old) file (ShowsFrame file)) }
     ensures undamaged { IfErr result (SparesData (H.view host.old) file) }
-    ensures agrees { P.agrees pages.new (H.view host.new).files }
-    ensures covers { (name : FileName) → P.covers pages.new name → P.covers pages.old name ⊎ (name ≡ file) }
-    ensures changes { Changes Same (H.view host.old) (H.view host.new) }
+    ensures read { HasRead (P.agrees pages.new) (P.covers pages.old) (P.covers pages.new) (H.view host.old) (H.view host.new) file }
     ensures causes { ReadsAtMost 3 (H.view host.old) (H.view host.new) result }
 {
     let size = host.size(file)?;

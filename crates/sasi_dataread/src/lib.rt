@@ -1,5 +1,5 @@
-// Data files read: a file is opened by its header and footer, and gives the partition at a place, the one of a key, or all
-// of them in their order. It reads pages of a host's file, and tells damage only where the file shows it.
+//! Readers of data files: a file is opened by its header and footer, and gives the partition at an offset, that of a key, or
+//! all of them in order. It reads the file by pages, and reports damage only where the file has it.
 #![tactic(auto)]
 
 mod data_file;
@@ -7,8 +7,6 @@ mod find;
 mod frame;
 mod partition;
 mod run;
-#[cfg(test)]
-mod tests;
 mod types;
 mod walk;
 

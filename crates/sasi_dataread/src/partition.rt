@@ -1,15 +1,15 @@
-// Partitions read.
-ghost use Rattle.std.specs.Prelude.{◌≡◌, ◌⊎◌, ◌+◌, ◌/◌, ◌^◌, ◌<◌, ◌≤◌, List, ℕ, length, IfErr, IfOk, OnOk, IsTrue, Some, false};
+// Reads partitions.
+ghost use Rattle.std.specs.Prelude.{◌≡◌, ◌+◌, ◌/◌, ◌^◌, ◌<◌, ◌≤◌, List, ℕ, length, IfErr, IfOk, OnOk, IsTrue, Some, false};
 ghost use Rattle.std.specs.Int.{to_be_bytes, w32};
 ghost use Rattle.sasi_types.specs.declared.column.ColumnType.{ColumnType};
 ghost use Rattle.sasi_model.specs.Cells.{Partition as Part};
 ghost use Rattle.sasi_host.specs.declared.name.FileName.{FileName};
 ghost use Rattle.sasi_host.specs.declared.fault.ReadFault.TheVariants as read_fault;
 ghost use Rattle.sasi_host.specs.Names.{Bytes};
-ghost use Rattle.sasi_host.specs.View.{IsThere, ReadsAtMost, contents};
-ghost use Rattle.sasi_host.specs.Disk.{Changes, Same};
+ghost use Rattle.sasi_host.specs.View.{ReadsAtMost, contents};
 ghost use Rattle.sasi_host.specs.Damages.{HasAt, OnDamage, Shown};
-ghost use Rattle.sasi_host.specs.Held.{IsHeld, fresh_pages};
+ghost use Rattle.sasi_host.specs.Held.{fresh_pages};
+ghost use Rattle.sasi_host.specs.PageReading.{CanReadOn, HasReadOn};
 ghost use Rattle.sasi_body.specs.declared.fault.BodyFault.TheVariants as body_fault;
 ghost use Rattle.sasi_body.specs.Format.{body};
 ghost use Rattle.sasi_body.specs.Seen.{IsFaultOf};
@@ -44,7 +44,7 @@ fn length_in(field: &[u8]) -> u32
     FieldReader::new(field).u32().unwrap_or(0)
 }
 
-// Whether a body can't have so many bytes, where there is room for so many.
+// Whether a body can't have `count` bytes, where there is room for `room`.
 fn is_wrong_length(count: u64, room: u64) -> bool
     ensures some { result ≡ false → 0 < count }
     ensures short { result ≡ false → count < 2 ^ 23 }
@@ -54,7 +54,7 @@ fn is_wrong_length(count: u64, room: u64) -> bool
     count == 0 || count >= BODY_LIMIT || count > room
 }
 
-// The length of the body at this place, which has to end in front of the end.
+// Reads the length of the body at this offset, and checks that the body ends before the end.
 fn read_length<H: Host, P: PageReader>(
     host: &mut H,
     pages: &mut P,
@@ -62,18 +62,12 @@ fn read_length<H: Host, P: PageReader>(
     end: u64,
     place: u64,
 ) -> Result<u64, ReadFault>
-    requires there { IsThere (H.view host.old) held.old.file }
-    requires agrees { P.agrees pages.old (H.view host.old).files }
-    requires held { IsHeld held.old (H.view host.old).files }
+    requires read { CanReadOn (P.agrees pages.old) (H.view host.old) held.old }
     ensures ok { IfOk result (λ count. (bytes : Bytes) → contents (H.view host.old) held.old.file ≡ Some bytes → HasAt bytes place (to_be_bytes w32 count)) }
     ensures length { IfOk result (IsLength end place) }
     ensures damaged { (types : List ColumnType) → IfErr result (Shown (H.view host.old) held.old.file (ShowsPartition types end place held.old.file)) }
     ensures undamaged { IfErr result (SparesLength (H.view host.old) held.old.file end place) }
-    ensures file { held.new.file ≡ held.old.file }
-    ensures held { IsHeld held.new (H.view host.new).files }
-    ensures agrees { P.agrees pages.new (H.view host.new).files }
-    ensures covers { (name : FileName) → P.covers pages.new name → P.covers pages.old name ⊎ (name ≡ held.old.file) }
-    ensures changes { Changes Same (H.view host.old) (H.view host.new) }
+    ensures read { HasReadOn (P.agrees pages.new) (P.covers pages.old) (P.covers pages.new) (H.view host.old) (H.view host.new) held.old held.new }
     ensures page { OnOk result (held.new.page ≡ Some ((place + 3) / 4096)) }
     ensures causes { ReadsAtMost (fresh_pages held.old.page place 4) (H.view host.old) (H.view host.new) result }
 {
@@ -91,7 +85,7 @@ fn read_length<H: Host, P: PageReader>(
     Ok(count)
 }
 
-// The bytes of the body at this place.
+// Reads the bytes of the body at this offset.
 fn read_sized<H: Host, P: PageReader>(
     alloc: Global,
     host: &mut H,
@@ -100,18 +94,12 @@ fn read_sized<H: Host, P: PageReader>(
     end: u64,
     place: u64,
 ) -> Result<Vec<u8>, ReadFault>
-    requires there { IsThere (H.view host.old) held.old.file }
-    requires agrees { P.agrees pages.old (H.view host.old).files }
-    requires held { IsHeld held.old (H.view host.old).files }
+    requires read { CanReadOn (P.agrees pages.old) (H.view host.old) held.old }
     ensures ok { IfOk result (λ read. (bytes : Bytes) → contents (H.view host.old) held.old.file ≡ Some bytes → HasAt bytes place (sized read.items)) }
     ensures length { IfOk result (λ read. IsLength end place (length read.items)) }
     ensures damaged { (types : List ColumnType) → IfErr result (Shown (H.view host.old) held.old.file (ShowsPartition types end place held.old.file)) }
     ensures undamaged { IfErr result (SparesSized (H.view host.old) held.old.file end place) }
-    ensures file { held.new.file ≡ held.old.file }
-    ensures held { IsHeld held.new (H.view host.new).files }
-    ensures agrees { P.agrees pages.new (H.view host.new).files }
-    ensures covers { (name : FileName) → P.covers pages.new name → P.covers pages.old name ⊎ (name ≡ held.old.file) }
-    ensures changes { Changes Same (H.view host.old) (H.view host.new) }
+    ensures read { HasReadOn (P.agrees pages.new) (P.covers pages.old) (P.covers pages.new) (H.view host.old) (H.view host.new) held.old held.new }
     ensures page { IfOk result (λ read. held.new.page ≡ Some ((place + 3 + length read.items) / 4096)) }
     ensures causes { ReadsAtMost 2050 (H.view host.old) (H.view host.new) result }
     ensures reads { (bytes body : Bytes) → contents (H.view host.old) held.old.file ≡ Some bytes → HasAt bytes place (sized body) → length body < 2 ^ 32 → (H.view host.new).reads ≤ (H.view host.old).reads + fresh_cost held.old.page place (length body) }
@@ -121,7 +109,7 @@ fn read_sized<H: Host, P: PageReader>(
     Ok(body)
 }
 
-// What a fault of the body at this place is in the file.
+// The fault in the file, by one of the body at this offset.
 fn fault_in_file(file: FileName, place: u64, bytes: &[u8], fault: BodyFault) -> ReadFault
     requires short { length bytes.now < 2 ^ 23 }
     requires place { place + 4 + length bytes.now < 2 ^ 64 }
@@ -146,7 +134,7 @@ fn fault_in_file(file: FileName, place: u64, bytes: &[u8], fault: BodyFault) -> 
     }
 }
 
-// The partition at this place, which has to end in front of the end.
+// Reads the partition at this offset, and checks that it ends before the end.
 pub fn partition_at<H: Host, P: PageReader>(
     alloc: Global,
     host: &mut H,
@@ -156,18 +144,12 @@ pub fn partition_at<H: Host, P: PageReader>(
     end: u64,
     place: u64,
 ) -> Result<(Key, Partition), ReadFault>
-    requires there { IsThere (H.view host.old) held.old.file }
-    requires agrees { P.agrees pages.old (H.view host.old).files }
-    requires held { IsHeld held.old (H.view host.old).files }
+    requires read { CanReadOn (P.agrees pages.old) (H.view host.old) held.old }
     ensures ok { IfOk result (λ read. (bytes : Bytes) → contents (H.view host.old) held.old.file ≡ Some bytes → HasAt bytes place (sized (body read.0 read.1))) }
     ensures in_table { IfOk result (λ read. IsBodyOf types.now read.0 read.1) }
     ensures damaged { IfErr result (Shown (H.view host.old) held.old.file (ShowsPartition types.now end place held.old.file)) }
     ensures undamaged { IfErr result (SparesBody (H.view host.old) held.old.file types.now end place) }
-    ensures file { held.new.file ≡ held.old.file }
-    ensures held { IsHeld held.new (H.view host.new).files }
-    ensures agrees { P.agrees pages.new (H.view host.new).files }
-    ensures covers { (name : FileName) → P.covers pages.new name → P.covers pages.old name ⊎ (name ≡ held.old.file) }
-    ensures changes { Changes Same (H.view host.old) (H.view host.new) }
+    ensures read { HasReadOn (P.agrees pages.new) (P.covers pages.old) (P.covers pages.new) (H.view host.old) (H.view host.new) held.old held.new }
     ensures page { IfOk result (λ read. held.new.page ≡ Some ((place + 3 + length (body read.0 read.1)) / 4096)) }
     ensures causes { ReadsAtMost 2050 (H.view host.old) (H.view host.new) result }
     ensures reads { (bytes part : Bytes) → contents (H.view host.old) held.old.file ≡ Some bytes → HasAt bytes place (sized part) → length part < 2 ^ 32 → (H.view host.new).reads ≤ (H.view host.old).reads + fresh_cost held.old.page place (length part) }

@@ -1,4 +1,4 @@
-// Lists of types, copied.
+// Copies lists of types.
 ghost use Rattle.std.specs.Prelude.{◌≡◌, IfOk};
 
 use sasi_types::TypeList;

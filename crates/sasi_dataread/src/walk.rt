@@ -1,10 +1,10 @@
-// One partition of a data file after another.
-ghost use Rattle.std.specs.Prelude.{◌≡◌, ◌⊎◌, [], IfErr, IfOk, None};
+// Scans a data file, partition by partition.
+ghost use Rattle.std.specs.Prelude.{◌≡◌, [], IfErr, IfOk, None};
 ghost use Rattle.sasi_host.specs.declared.name.FileName.{FileName};
-ghost use Rattle.sasi_host.specs.View.{IsThere, ReadsAtMost};
-ghost use Rattle.sasi_host.specs.Disk.{Changes, Same};
+ghost use Rattle.sasi_host.specs.View.{ReadsAtMost};
 ghost use Rattle.sasi_host.specs.Damages.{Shown};
 ghost use Rattle.sasi_host.specs.Held.{IsHeld};
+ghost use Rattle.sasi_host.specs.PageReading.{CanRead, HasRead};
 ghost use Rattle.sasi_types.specs.declared.partitioner.Partitioner.{Partitioner};
 ghost use Rattle.sasi_datawrite.specs.Format.{Content};
 ghost use Rattle.sasi_dataread.specs.Reads.{IsOpenOn};
@@ -20,8 +20,8 @@ use sasi_types::{Key, Token};
 use std::alloc::Global;
 use std::marker::Model;
 
-/// A walk over the partitions of a data file, from the first one on. Seen as the file, how many of them it has passed, and the
-/// pages that it has in hand.
+/// A scan of a data file, from its first partition on. Its view is the file, how many partitions it has passed, and its
+/// buffered pages.
 #[derive(Drop)]
 pub struct DataWalk {
     opened: DataFile,
@@ -41,7 +41,7 @@ impl Model for DataWalk {
 }
 
 impl DataWalk {
-    // A walk over this file, before its first partition.
+    // A scan of this file, before its first partition.
     pub(crate) fn new(opened: DataFile) -> DataWalk
         ensures { result ≡ record { opened = opened; passed = 0; pairs_held = record { file = opened.file; page = None; bytes = [] }; held = record { file = opened.file; page = None; bytes = [] } } }
     {
@@ -50,28 +50,25 @@ impl DataWalk {
         DataWalk { opened, tree, held }
     }
 
-    /// The next partition, with the token of its key; None exactly at the end. After a fault it stands before that partition
-    /// or behind it.
+    /// The next partition, with the token of its key; None exactly at the end. After a fault its position is before that
+    /// partition or behind it.
     pub fn next<H: Host, P: PageReader>(
         &mut self,
         alloc: Global,
         host: &mut H,
         pages: &mut P,
     ) -> Result<Option<(Token, Key, Partition)>, ReadFault>
-        requires there { IsThere (H.view host.old) self.old.opened.file }
-        requires agrees { P.agrees pages.old (H.view host.old).files }
+        requires read { CanRead (P.agrees pages.old) (H.view host.old) self.old.opened.file }
         requires pairs_held { IsHeld self.old.pairs_held (H.view host.old).files }
         requires held { IsHeld self.old.held (H.view host.old).files }
         ensures ok { IfOk result (λ found. GivesPartition (H.view host.old) self.old.opened self.old.passed self.new.passed found) }
         ensures damaged { IfErr result (Shown (H.view host.old) self.old.opened.file (ShowsData self.old.opened)) }
         ensures undamaged { IfErr result (SparesOpened (H.view host.old) self.old.opened) }
-        ensures agrees { P.agrees pages.new (H.view host.new).files }
-        ensures covers { (name : FileName) → P.covers pages.new name → P.covers pages.old name ⊎ (name ≡ self.old.opened.file) }
-        ensures changes { Changes Same (H.view host.old) (H.view host.new) }
+        ensures read { HasRead (P.agrees pages.new) (P.covers pages.old) (P.covers pages.new) (H.view host.old) (H.view host.new) self.old.opened.file }
         ensures pairs_held { IsHeld self.new.pairs_held (H.view host.new).files }
         ensures held { IsHeld self.new.held (H.view host.new).files }
         ensures causes { ReadsAtMost 2052 (H.view host.old) (H.view host.new) result }
-        // Each page is read once: all reads of a walk are no more than the pages that it has come to.
+        // A sequential scan reads each page once.
         ensures reads { IfOk result (λ _. (partitioner : Partitioner) (content : Content) (is : IsOpenOn (H.view host.old) self.old.opened partitioner content) → HaveTokens partitioner content → IsAlong is.bytes content self.old → Goes is.bytes content (H.view host.old).reads (H.view host.new).reads self.old self.new) }
         ensures opened { self.new.opened ≡ self.old.opened }
     {
@@ -86,7 +83,7 @@ impl DataWalk {
     }
 }
 
-// The next partition of the file, by its key tree.
+// Reads the next partition of the file, by its key tree.
 fn next_of<H: Host, P: PageReader>(
     alloc: Global,
     host: &mut H,
@@ -95,8 +92,7 @@ fn next_of<H: Host, P: PageReader>(
     tree: &mut Tree,
     held: &mut HeldPage,
 ) -> Result<Option<(Token, Key, Partition)>, ReadFault>
-    requires there { IsThere (H.view host.old) opened.now.file }
-    requires agrees { P.agrees pages.old (H.view host.old).files }
+    requires read { CanRead (P.agrees pages.old) (H.view host.old) opened.now.file }
     requires file { tree.old.held.file ≡ opened.now.file }
     requires tree { tree.old.tree ≡ opened.now.tree }
     requires named { held.old.file ≡ opened.now.file }
@@ -105,9 +101,7 @@ fn next_of<H: Host, P: PageReader>(
     ensures ok { IfOk result (λ found. GivesPartition (H.view host.old) opened.now tree.old.passed tree.new.passed found) }
     ensures damaged { IfErr result (Shown (H.view host.old) opened.now.file (ShowsData opened.now)) }
     ensures undamaged { IfErr result (SparesOpened (H.view host.old) opened.now) }
-    ensures agrees { P.agrees pages.new (H.view host.new).files }
-    ensures covers { (name : FileName) → P.covers pages.new name → P.covers pages.old name ⊎ (name ≡ opened.now.file) }
-    ensures changes { Changes Same (H.view host.old) (H.view host.new) }
+    ensures read { HasRead (P.agrees pages.new) (P.covers pages.old) (P.covers pages.new) (H.view host.old) (H.view host.new) opened.now.file }
     ensures pairs_held { IsHeld tree.new.held (H.view host.new).files }
     ensures held { IsHeld held.new (H.view host.new).files }
     ensures causes { ReadsAtMost 2052 (H.view host.old) (H.view host.new) result }

@@ -21,7 +21,8 @@ overlay_behind old more =
     ∙ ap (λ (l : Bytes). l ++ more) (take_all (length old) old (omega arith))
 
 -- what was written where the file ended is behind what it held
-pub holds_behind : (a b : View) (S : Relation) (file : FileName) (at : ℕ) (bytes more : Bytes) → Changes S a b → Becomes file (λ old. overlay old at more) a b → length bytes ≡ at → Holds a file bytes → Holds b file (bytes ++ more)
+pub holds_behind : (a b : View) (S : Relation) (file : FileName) (at : ℕ) (bytes more : Bytes) → Changes S a b → Becomes file
+    (λ old. overlay old at more) a b → length bytes ≡ at → Holds a file bytes → Holds b file (bytes ++ more)
 holds_behind a b S file at bytes more change becomes is holds told =
     becomes bytes (holds (told_before S a b change told)) ∙ ap (λ (l : Bytes). Some l) (ap (λ (n : ℕ). overlay bytes n more) (sym is) ∙ overlay_behind bytes more)
 
@@ -30,7 +31,8 @@ pub touches_same : (a b : View) (file : FileName) → Changes Same a b → Chang
 touches_same a b file same = changes_as a b Same (Step file Anyhow) same (λ x y is. record { others = λ name other. ap (λ d. get d name) is; this = tt })
 
 -- the key tree and the footer are behind what the file held
-pub ending_written : (a b c : View) (file : FileName) (end : ℕ) (pairs : List Pair) (latest : ℕ) (tree : TreeRef) (more : Bytes) → Writes a b file end (tree_bytes end pairs) → tree ≡ tree_ref end pairs → more ≡ footer tree latest end
+pub ending_written : (a b c : View) (file : FileName) (end : ℕ) (pairs : List Pair) (latest : ℕ) (tree : TreeRef) (more : Bytes) → Writes a b file end
+    (tree_bytes end pairs) → tree ≡ tree_ref end pairs → more ≡ footer tree latest end
     → ((bytes : Bytes) → Holds b file bytes → Holds c file (bytes ++ more)) → (bytes : Bytes) → length bytes ≡ end → Holds a file bytes → Holds c file (bytes ++ ending pairs latest end)
 ending_written a b c file end pairs latest tree more written referred is appended bytes at holds =
     subst (λ (l : Bytes). Holds c file l) (append_assoc bytes (tree_bytes end pairs) (footer (tree_ref end pairs) latest end))

@@ -22,10 +22,19 @@ length_put room bytes is =
     ∙ ap (λ (n : ℕ). to_be_bytes w32 n ++ bytes) (omega (arith, is, length-append room bytes))
 
 -- where a list takes bytes back of which the first four were so put
-pub length_set : (out set room bytes : Bytes) (len : ℕ) → length room ≡ 4 → out ≡ room ++ bytes → len ≡ length out → set ≡ to_be_bytes w32 (length out - 4) ++ drop 4 out → take len (set ++ drop (length set) out) ≡ to_be_bytes w32 (length bytes) ++ bytes
+pub length_set : (out set room bytes : Bytes) (len : ℕ) → length room ≡ 4 → out ≡ room ++ bytes → len ≡ length out → set ≡ to_be_bytes w32
+    (length out - 4) ++ drop 4 out → take len (set ++ drop (length set) out) ≡ to_be_bytes w32 (length bytes) ++ bytes
 length_set out set room bytes len four put same is =
     let set_is : set ≡ to_be_bytes w32 (length bytes) ++ bytes = is ∙ ap (λ (l : Bytes). to_be_bytes w32 (length l - 4) ++ drop 4 l) put ∙ length_put room bytes four in
-    let long : length set ≡ length out = omega (arith, four, ap (λ (l : Bytes). length l) set_is, ap (λ (l : Bytes). length l) put, length-append room bytes, length-append (to_be_bytes w32 (length bytes)) bytes) in
+    let long : length set ≡ length out = omega (
+      arith,
+      four,
+      ap (λ (l : Bytes). length l) set_is,
+      ap (λ (l : Bytes). length l) put,
+      length-append room
+          bytes,
+      length-append (to_be_bytes w32 (length bytes)) bytes,
+    ) in
     ap (λ (l : Bytes). take len (set ++ l)) (drop_all (length set) out (omega (arith, long))) ∙ ap (λ (l : Bytes). take len l) (append-nil set) ∙ take_all len set (omega (arith, long, same)) ∙ set_is
 
 -- ---- its pair
@@ -42,9 +51,11 @@ pub last_push : (pairs : List Pair) (pair : Pair) → last_pair (pairs ++ pair �
 last_push pairs pair = get_or_at pairs pair [] (record { token = 0; place = 0 }) (length (pairs ++ pair ∷ []) - 1) (omega (arith, length_push pairs pair))
 
 -- and comes behind the one before it
-last_before : (pairs : List Pair) (pair : Pair) → IsBefore (last_pair pairs) pair → (index : ℕ) → index + 1 ≡ length pairs → IsBefore (pair_at (pairs ++ pair ∷ []) index) (pair_at (pairs ++ pair ∷ []) (index + 1))
+last_before : (pairs : List Pair) (pair : Pair) → IsBefore (last_pair pairs) pair → (index : ℕ) → index + 1 ≡ length pairs → IsBefore
+    (pair_at (pairs ++ pair ∷ []) index) (pair_at (pairs ++ pair ∷ []) (index + 1))
 last_before pairs pair is_before index is =
-    let left : pair_at (pairs ++ pair ∷ []) index ≡ last_pair pairs = get_or_append_left pairs (pair ∷ []) (record { token = 0; place = 0 }) index (omega (arith, is)) ∙ ap (λ (n : ℕ). pair_at pairs n) (omega (arith, is)) in
+    let left : pair_at (pairs ++ pair ∷ []) index ≡ last_pair pairs = get_or_append_left pairs (pair ∷ []) (record { token = 0; place = 0 }) index
+    (omega (arith, is)) ∙ ap (λ (n : ℕ). pair_at pairs n) (omega (arith, is)) in
     let right : pair_at (pairs ++ pair ∷ []) (index + 1) ≡ pair = get_or_at pairs pair [] (record { token = 0; place = 0 }) (index + 1) (sym is) in
     subst (λ (p : Pair). IsBefore p (pair_at (pairs ++ pair ∷ []) (index + 1))) (sym left) (subst (λ (p : Pair). IsBefore (last_pair pairs) p) (sym right) is_before)
 
@@ -56,7 +67,8 @@ others_before pairs pair rising index lt =
     subst (λ (p : Pair). IsBefore p (pair_at (pairs ++ pair ∷ []) (index + 1))) (sym left) (subst (λ (p : Pair). IsBefore (pair_at pairs index) p) (sym right) (rising index lt))
 
 -- pairs rise with one more behind them
-pub up_to_push : (pairs : List Pair) (pair : Pair) (place next : ℕ) → IsUpTo pairs place → (last_pair pairs).token ≤ pair.token → pair.place ≡ place → place < next → next ≤ 2 ^ 62 → IsUpTo (pairs ++ pair ∷ []) next
+pub up_to_push : (pairs : List Pair) (pair : Pair) (place next : ℕ) → IsUpTo pairs place → (last_pair pairs).token ≤ pair.token → pair.place ≡ place →
+    place < next → next ≤ 2 ^ 62 → IsUpTo (pairs ++ pair ∷ []) next
 up_to_push pairs pair place next up le at lt fits = record {
   rising = λ index within.
       ⊎_elim (λ less. others_before pairs pair up.rising index less) (λ same. last_before pairs pair (before (last_pair pairs) pair le (omega (arith, at, up.below))) index same)
@@ -76,13 +88,17 @@ up_to_none pairs none = subst (λ (l : List Pair). IsUpTo l 16) (sym none) (reco
 -- ---- what it has written
 
 -- the content has one more partition, where the file has its bytes behind the others
-pub writing_push : (v w : View) (old new : Writer) (key : Bytes) (part : Partition) → new.file ≡ old.file → new.partitioner ≡ old.partitioner → new.pairs ≡ old.pairs ++ record { token = token_of old.partitioner key; place = old.place } ∷ []
-    → new.place ≡ old.place + length (partition_bytes key part) → new.latest ≡ max old.latest (greatest_of part) → ((bytes : Bytes) → length bytes ≡ old.place → Holds v old.file bytes → Holds w old.file (bytes ++ partition_bytes key part))
+pub writing_push : (v w : View) (old new : Writer) (key : Bytes) (part : Partition) → new.file ≡ old.file → new.partitioner ≡ old.partitioner →
+    new.pairs ≡ old.pairs ++ record { token = token_of old.partitioner key; place = old.place } ∷ []
+    → new.place ≡ old.place + length (partition_bytes key part) → new.latest ≡ max old.latest (greatest_of part) →
+    ((bytes : Bytes) → length bytes ≡ old.place → Holds v old.file bytes → Holds w old.file (bytes ++ partition_bytes key part))
     → (content : Content) → IsWriting v old content → IsWriting w new (content ++ (key, part) ∷ [])
 writing_push v w old new key part same_file same_partitioner pushed moved later written content is = record {
-  pairs = pushed ∙ ap (λ (n : ℕ). old.pairs ++ pair_of n ∷ []) (is.place ∙ length-append header (partitions content)) ∙ ap (λ (l : List Pair). l ++ pair_of (length header + length (partitions content)) ∷ []) is.pairs
+  pairs = pushed ∙ ap (λ (n : ℕ). old.pairs ++ pair_of n ∷ []) (is.place ∙ length-append header (partitions content)) ∙ ap
+      (λ (l : List Pair). l ++ pair_of (length header + length (partitions content)) ∷ []) is.pairs
       ∙ sym (pairs_push old.partitioner (length header) content key part) ∙ ap (λ p. key_pairs p (content ++ (key, part) ∷ [])) (sym same_partitioner);
-  place = moved ∙ ap (λ (n : ℕ). n + length (partition_bytes key part)) is.place ∙ sym (length-append (front content) (partition_bytes key part)) ∙ ap (λ (l : Bytes). length l) (sym (front_push content key part));
+  place = moved ∙ ap (λ (n : ℕ). n + length (partition_bytes key part)) is.place ∙ sym (length-append (front content) (partition_bytes key part)) ∙ ap
+      (λ (l : Bytes). length l) (sym (front_push content key part));
   latest = later ∙ ap (λ (n : ℕ). max n (greatest_of part)) is.latest ∙ sym (greatest_push content key part);
   holds = subst (λ file. Holds w file (front (content ++ (key, part) ∷ []))) (sym same_file)
       (subst (λ (l : Bytes). Holds w old.file l) (sym (front_push content key part)) (written (front content) (sym is.place) is.holds));
@@ -102,9 +118,12 @@ writing_none w writer bytes none at first is holds = record {
 }
 
 -- and the key tree and the footer make it a data file
-pub writing_ends : (v w : View) (writer : Writer) → ((bytes : Bytes) → length bytes ≡ writer.place → Holds v writer.file bytes → Holds w writer.file (bytes ++ ending writer.pairs writer.latest writer.place))
+pub writing_ends : (v w : View) (writer : Writer) → ((bytes : Bytes) → length bytes ≡ writer.place → Holds v writer.file bytes → Holds w writer.file
+    (bytes ++ ending writer.pairs writer.latest writer.place))
     → (content : Content) → IsWriting v writer content → Holds w writer.file (data_bytes writer.partitioner content)
 unfolding data_bytes
 writing_ends v w writer written content is =
-    subst (λ (l : Bytes). Holds w writer.file (front content ++ l)) (ap (λ (l : List Pair). ending l writer.latest writer.place) is.pairs ∙ ap (λ (n : ℕ). ending (key_pairs writer.partitioner content) n writer.place) is.latest ∙ ap (λ (n : ℕ). ending (key_pairs writer.partitioner content) (greatest content) n) is.place)
+    subst (λ (l : Bytes). Holds w writer.file (front content ++ l)) (ap (λ (l : List Pair). ending l writer.latest writer.place) is.pairs ∙ ap
+    (λ (n : ℕ). ending (key_pairs writer.partitioner content) n writer.place) is.latest ∙ ap
+    (λ (n : ℕ). ending (key_pairs writer.partitioner content) (greatest content) n) is.place)
     (written (front content) (sym is.place) is.holds)

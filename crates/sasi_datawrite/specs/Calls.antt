@@ -13,15 +13,15 @@ pub data Call : Type 0 where
   cell : (column : ℕ) (written : Cell) → Call
   complete : Call
 
--- a cell is shown with its column
+-- the call for a cell, with its column
 abbrev pub cell_call : Entry → Call
 cell_call entry = cell entry.0 entry.1
 
--- the token and the place of a partition, and then each of its cells
+-- the calls for a partition: its token and offset, and then each of its cells
 abbrev pub partition_calls : ℕ → ℕ → Partition → List Call
 partition_calls token place part = start_partition token place ∷ map cell_call (cells_of part)
 
--- the same of each partition of a content, where the first one begins at this place
+-- the calls for a content whose first partition begins at this offset
 abbrev pub calls_from : Partitioner → ℕ → Content → List Call
 calls_from partitioner at [] = []
 calls_from partitioner at (one ∷ others) = partition_calls (token_of partitioner one.0) at one.1 ++ calls_from partitioner (at + length (partition_bytes one.0 one.1)) others

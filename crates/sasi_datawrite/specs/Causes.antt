@@ -30,7 +30,7 @@ of_kit kit.OutOfMemory = pair.OutOfMemory
 
 -- ---- causes
 
--- an observer misses only a class that it lacks
+-- an observer reports a missing class only where it lacks it
 abbrev pub MissesLacking : {T : Type 0} → (Class → Type 0) → Result T KitFault → Type 0
 MissesLacking Lacks result = IfErr result (λ f. (class : Class) → f ≡ kit.Missing class → Lacks class)
 

@@ -16,11 +16,11 @@ use Rattle.sasi_tokentree.specs.Format.{tree_bytes, tree_ref}
 
 -- ---- what a file holds
 
--- keys and what was written of them
+-- keys and their partitions
 abbrev pub Content : Type 0
 Content = List (Bytes × Partition)
 
--- where a key stands in its table
+-- the decorated key of a partition: its token and key
 abbrev pub place_of : Partitioner → Bytes × Partition → Place
 place_of partitioner one = record { token = token_of partitioner one.0; key = one.0 }
 
@@ -30,7 +30,7 @@ pub record IsContent (partitioner : Partitioner) (content : Content) : Type 0 wh
   pub rising : IsStrictlySortedBy place_cmp (map (place_of partitioner) content)
   pub bodies : AllByRecursion (λ one. HasBody one.0 one.1) content
 
--- the greatest time of a deletion or a cell
+-- the largest timestamp of a deletion or a cell
 abbrev pub greatest : Content → ℕ
 greatest [] = 0
 greatest (one ∷ others) = max (greatest_of one.1) (greatest others)
@@ -49,11 +49,11 @@ partition_bytes key part = to_be_bytes w32 (length (body key part)) ++ body key 
 abbrev pub partitions : Content → Bytes
 partitions = flat_map (λ one. partition_bytes one.0 one.1)
 
--- what stands in front of the key tree
+-- the bytes before the key tree
 abbrev pub front : Content → Bytes
 front content = header ++ partitions content
 
--- the token of each key with the place of its partition, where the first one begins at this place
+-- the token of each key with the offset of its partition, where the first one begins at this offset
 abbrev pub pairs_from : Partitioner → ℕ → Content → List Pair
 pairs_from partitioner at [] = []
 pairs_from partitioner at (one ∷ others) = record { token = token_of partitioner one.0; place = at } ∷ pairs_from partitioner (at + length (partition_bytes one.0 one.1)) others
@@ -62,7 +62,7 @@ pairs_from partitioner at (one ∷ others) = record { token = token_of partition
 abbrev pub key_pairs : Partitioner → Content → List Pair
 key_pairs partitioner content = pairs_from partitioner (length header) content
 
--- the root of the key tree, the number of partitions, the greatest time, the place where the partitions end, and "SASIDEND"
+-- the root of the key tree, the number of partitions, the largest timestamp, the offset where the partitions end, and "SASIDEND"
 unfoldable pub footer : TreeRef → ℕ → ℕ → Bytes
 footer tree latest end = to_be_bytes w64 tree.root ++ to_be_bytes w64 tree.pairs ++ to_be_bytes w64 latest ++ to_be_bytes w64 end ++ (83 ∷ 65 ∷ 83 ∷ 73 ∷ 68 ∷ 69 ∷ 78 ∷ 68 ∷ [])
 
@@ -72,6 +72,6 @@ ending pairs latest end = tree_bytes end pairs ++ footer (tree_ref end pairs) la
 
 -- ---- the file
 
--- the one spelling of this content
+-- the one encoding of this content
 unfoldable pub data_bytes : Partitioner → Content → Bytes
 data_bytes partitioner content = front content ++ ending (key_pairs partitioner content) (greatest content) (length (front content))

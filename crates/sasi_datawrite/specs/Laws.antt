@@ -1,4 +1,4 @@
--- What one more partition adds to the parts of a file.
+-- What one more partition adds to a file.
 use Rattle.std.specs.Prelude.{◌≡◌, ℕ, ◌+◌, max, List, [], ◌∷◌, ◌++◌, length, refl}
 use Rattle.std.proofs.Common.{sym, ◌∙◌, ap, arith, append_assoc, length-append}
 use Rattle.std.proofs.lemmas.List.{append-nil}
@@ -25,7 +25,8 @@ partition_length key part = length-append (to_be_bytes w32 (length (body key par
 -- its bytes stand behind the others
 pub partitions_push : (content : Content) (key : Bytes) (part : Partition) → partitions (content ++ (key, part) ∷ []) ≡ partitions content ++ partition_bytes key part
 partitions_push [] key part = append-nil (partition_bytes key part)
-partitions_push (one ∷ others) key part = ap (λ (l : Bytes). partition_bytes one.0 one.1 ++ l) (partitions_push others key part) ∙ sym (append_assoc (partition_bytes one.0 one.1) (partitions others) (partition_bytes key part))
+partitions_push (one ∷ others) key part = ap (λ (l : Bytes). partition_bytes one.0 one.1 ++ l) (partitions_push others key part) ∙ sym
+    (append_assoc (partition_bytes one.0 one.1) (partitions others) (partition_bytes key part))
 
 pub front_push : (content : Content) (key : Bytes) (part : Partition) → front (content ++ (key, part) ∷ []) ≡ front content ++ partition_bytes key part
 front_push content key part = ap (λ (l : Bytes). header ++ l) (partitions_push content key part) ∙ sym (append_assoc header (partitions content) (partition_bytes key part))
@@ -38,7 +39,9 @@ pairs_push partitioner at [] key part = ap (λ (n : ℕ). pair_at n ∷ []) (ome
     pair_at : ℕ → Pair
     pair_at n = record { token = token_of partitioner key; place = n }
 pairs_push partitioner at (one ∷ others) key part =
-    ap (λ (l : List Pair). first ∷ l) (pairs_push partitioner next others key part ∙ ap (λ (n : ℕ). pairs_from partitioner next others ++ pair_at n ∷ []) (omega (arith, length-append (partition_bytes one.0 one.1) (partitions others))))
+    ap (λ (l : List Pair). first ∷ l) (pairs_push partitioner next others key part ∙ ap
+    (λ (n : ℕ). pairs_from partitioner next others ++ pair_at n ∷ [])
+    (omega (arith, length-append (partition_bytes one.0 one.1) (partitions others))))
   where
     pair_at : ℕ → Pair
     pair_at n = record { token = token_of partitioner key; place = n }
@@ -49,13 +52,14 @@ pairs_push partitioner at (one ∷ others) key part =
     first : Pair
     first = record { token = token_of partitioner one.0; place = at }
 
--- and the calls that show it
+-- and so do its calls
 pub calls_push : (partitioner : Partitioner) (at : ℕ) (content : Content) (key : Bytes) (part : Partition)
     → calls_from partitioner at (content ++ (key, part) ∷ []) ≡ calls_from partitioner at content ++ partition_calls (token_of partitioner key) (at + length (partitions content)) part
 calls_push partitioner at [] key part = append-nil (partition_calls (token_of partitioner key) at part) ∙ ap (λ (n : ℕ). partition_calls (token_of partitioner key) n part) (omega arith)
 calls_push partitioner at (one ∷ others) key part =
     ap (λ (l : List Call). mine ++ l)
-    (calls_push partitioner next others key part ∙ ap (λ (n : ℕ). calls_from partitioner next others ++ partition_calls (token_of partitioner key) n part) (omega (arith, length-append (partition_bytes one.0 one.1) (partitions others))))
+    (calls_push partitioner next others key part ∙ ap (λ (n : ℕ). calls_from partitioner next others ++ partition_calls (token_of partitioner key) n
+    part) (omega (arith, length-append (partition_bytes one.0 one.1) (partitions others))))
     ∙ sym (append_assoc mine (calls_from partitioner next others) (partition_calls (token_of partitioner key) (at + length (partitions (one ∷ others))) part))
   where
     next : ℕ
@@ -64,7 +68,7 @@ calls_push partitioner at (one ∷ others) key part =
     mine : List Call
     mine = partition_calls (token_of partitioner one.0) at one.1
 
--- the greatest time is the old one or its own
+-- the largest timestamp is the old one or its own
 pub greatest_push : (content : Content) (key : Bytes) (part : Partition) → greatest (content ++ (key, part) ∷ []) ≡ max (greatest content) (greatest_of part)
 greatest_push [] key part = omega arith
 greatest_push (one ∷ others) key part = omega (arith, greatest_push others key part)

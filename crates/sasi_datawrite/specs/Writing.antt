@@ -1,4 +1,4 @@
--- A data file that is being written.
+-- Writers of data files.
 use Rattle.std.specs.Prelude.{◌≡◌, ℕ, ◌-◌, ◌^◌, ◌<◌, ◌≤◌, Bool, List, length}
 use Rattle.sasi_types.specs.declared.partitioner.Partitioner.{Partitioner}
 use Rattle.sasi_types.specs.declared.tree.Pair.{Pair}
@@ -9,24 +9,24 @@ use Rattle.sasi_host.specs.Contents.{holds_where}
 use Rattle.sasi_tokentree.specs.Format.{pair_at, IsRising}
 use Rattle.sasi_datawrite.specs.Format.{Content, front, greatest, key_pairs}
 
--- what one knows of a writer in hand
+-- the view of a writer
 pub record Writer : Type 0 where
   pub file : FileName
   pub partitioner : Partitioner
   -- the pairs of the key tree so far
   pub pairs : List Pair
-  -- where the next partition goes
+  -- the offset of the next partition
   pub place : ℕ
-  -- the greatest time so far
+  -- the largest timestamp so far
   pub latest : ℕ
-  -- no call on it gave a fault
+  -- no call on it has failed
   pub usable : Bool
 
 -- the last pair; that of 0 and 0 where there is none
 abbrev pub last_pair : List Pair → Pair
 last_pair pairs = pair_at pairs (length pairs - 1)
 
--- the pairs rise, up to this place
+-- the pairs rise, and their offsets are below this one
 pub record IsUpTo (pairs : List Pair) (place : ℕ) : Type 0 where
   pub rising : IsRising pairs
   pub below : (last_pair pairs).place < place
@@ -40,7 +40,8 @@ pub record IsWriting (v : View) (writer : Writer) (content : Content) : Type 0 w
   pub holds : Holds v writer.file (front content)
 
 -- a writer has written what it had, where its file reads as before
-pub writing_where : (a b : View) (S : Relation) (writer : Writer) (content : Content) → Changes S a b → contents b writer.file ≡ contents a writer.file → IsWriting a writer content → IsWriting b writer content
+pub writing_where : (a b : View) (S : Relation) (writer : Writer) (content : Content) → Changes S a b → contents b writer.file ≡ contents a
+    writer.file → IsWriting a writer content → IsWriting b writer content
 writing_where a b S writer content change same is = record {
   pairs = is.pairs;
   place = is.place;

@@ -1,11 +1,11 @@
-// Data files, as a listing refers to them.
+// References to data files, as a manifest lists them.
 
 /// A data file that was written.
 #[derive(Clone, Copy, Debug, PartialEq, Eq)]
 pub struct DataRef {
     pub number: u32,
-    /// How many partitions it has.
+    /// The number of partitions.
     pub partitions: u64,
-    /// The greatest time of a deletion or a cell.
+    /// The largest timestamp of a deletion or a cell.
     pub greatest: u64,
 }

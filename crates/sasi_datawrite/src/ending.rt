@@ -1,4 +1,4 @@
-// What stands behind the partitions.
+// The key tree and the footer, behind the partitions.
 ghost use Rattle.std.specs.Prelude.{◌≡◌, ◌++◌, length, IfOk, OnOk};
 ghost use Rattle.sasi_host.specs.Names.{Bytes};
 ghost use Rattle.sasi_host.specs.View.{Holds, IsThere, ListCauses, Reaches};
@@ -12,7 +12,7 @@ use sasi_tokentree::write;
 use sasi_types::{PairList, TreeRef};
 use std::alloc::{AllocError, Global};
 
-// Writes the key tree at the place where the partitions end, and the footer, and syncs the file.
+// Writes the key tree where the partitions end, and the footer, and syncs the file.
 pub fn write_ending<H: Host>(
     alloc: Global,
     host: &mut H,

@@ -1,4 +1,4 @@
-// Why a data file isn't written with its indexes.
+// Why a data file and its indexes can't be written.
 ghost use Rattle.std.specs.Prelude.{◌≡◌};
 ghost use Rattle.sasi_datawrite.specs.declared.fault.PairFault.TheVariants as pair;
 
@@ -6,7 +6,7 @@ use sasi_host::{Damage, Failed, HostFault, ReadFault};
 use sasi_types::{Class, KitFault};
 use std::alloc::AllocError;
 
-/// Why a data file isn't written, or the index files that go with it.
+/// Why a data file, or an index file that goes with it, can't be written.
 #[derive(Clone, Copy, Debug, PartialEq, Eq)]
 pub enum PairFault {
     Failed,

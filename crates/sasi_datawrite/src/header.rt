@@ -5,7 +5,7 @@ ghost use Rattle.sasi_datawrite.specs.Format.{header};
 use sasi_fields::{put_bytes, put_u32};
 use std::alloc::AllocError;
 
-// Behind so many bytes stands the first partition.
+// The offset of the first partition.
 pub const HEADER_LENGTH: u64 = 16;
 
 const VERSION: u32 = 1;

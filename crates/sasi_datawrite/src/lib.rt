@@ -1,5 +1,5 @@
-// Data files: the partitions of a table in their order, and behind them a tree that leads from tokens to partitions. A
-// file is written in one pass on a host, each cell is shown to an observer, and a content has one spelling.
+//! Data files: the partitions of a table in token order, then a key tree from tokens to their offsets, and a footer. A file
+//! is written in one pass. An observer gets each partition and cell. A content has exactly one encoding.
 #![tactic(auto)]
 
 mod data_ref;
@@ -10,8 +10,6 @@ mod observer;
 mod partition;
 mod push;
 mod show;
-#[cfg(test)]
-mod tests;
 mod writer;
 
 pub use data_ref::DataRef;

@@ -1,4 +1,4 @@
-// What looks on while a data file is written.
+// Observers of a flush.
 ghost use Rattle.std.specs.Prelude.{◌∷◌, ◌++◌, [], List, OnOk};
 ghost use Rattle.sasi_types.specs.declared.class.Class.{Class};
 ghost use Rattle.sasi_datawrite.specs.Calls.{Call};
@@ -7,15 +7,15 @@ ghost use Rattle.sasi_datawrite.specs.Causes.{MissesLacking};
 
 use sasi_types::{Cell, KitFault, Token};
 
-/// What is shown each cell that goes into a data file, as the indexes that are built beside it.
+/// Gets each partition and cell that a data file is written from, as the builder of an index does.
 pub trait FlushObserver {
-    /// It has had these calls.
+    /// It had these calls.
     ghost agrees: { Self → List Call → Type 0 };
 
-    /// It has use for an analyzer of this class, and none was handed in.
+    /// It needs an analyzer of this class, and none was handed in.
     ghost lacks: { Self → Class → Type 0 };
 
-    /// A partition begins, at this place of the data file.
+    /// A partition begins, at this offset of the data file.
     fn start_partition(&mut self, token: Token, place: u64) -> Result<(), KitFault>
         ensures agrees { OnOk result ((calls : List Call) → agrees self.old calls → agrees self.new (calls ++ started token place ∷ [])) }
         ensures lacks { (class : Class) → lacks self.new class → lacks self.old class }
@@ -27,7 +27,7 @@ pub trait FlushObserver {
         ensures lacks { (class : Class) → lacks self.new class → lacks self.old class }
         ensures missing { MissesLacking (lacks self.old) result };
 
-    /// No partition follows. Its holder calls it, once, and no writer does.
+    /// No partition follows. The owner of the observer calls it, once; a writer doesn't.
     fn complete(&mut self) -> Result<(), KitFault>
         ensures agrees { OnOk result ((calls : List Call) → agrees self.old calls → agrees self.new (calls ++ completed ∷ [])) }
         ensures lacks { (class : Class) → lacks self.new class → lacks self.old class }

@@ -1,4 +1,4 @@
-// Partitions put into a file.
+// Writes partitions to a file.
 ghost use Rattle.std.specs.Prelude.{◌≡◌, ◌+◌, ◌-◌, ◌^◌, ◌<◌, ◌≤◌, ◌++◌, length, drop, IfOk, OnOk};
 ghost use Rattle.std.specs.Int.{to_be_bytes, w32};
 ghost use Rattle.sasi_host.specs.Names.{Bytes};
@@ -14,7 +14,7 @@ use sasi_host::{FileName, Host, HostFault};
 use sasi_types::Key;
 use std::alloc::AllocError;
 
-// Writes a partition at this place by one call, and gives the place behind it. The buffer is empty, or what it has is lost.
+// Writes a partition at this offset by one call, and gives the offset behind it. It overwrites the buffer.
 pub fn write_partition<H: Host>(
     host: &mut H,
     file: FileName,
@@ -37,7 +37,7 @@ pub fn write_partition<H: Host>(
     Ok(at + buffer.len() as u64)
 }
 
-// Makes the buffer the bytes of a partition.
+// Encodes a partition into the buffer.
 fn put_partition(buffer: &mut Vec<u8>, key: &Key, part: &Partition) -> Result<(), AllocError>
     requires { HasBody key.now part.now }
     ensures { OnOk result (buffer.new.items ≡ partition_bytes key.now part.now) }
@@ -49,7 +49,7 @@ fn put_partition(buffer: &mut Vec<u8>, key: &Key, part: &Partition) -> Result<()
     Ok(())
 }
 
-// Puts into the first four bytes how many there are behind them.
+// Sets the first four bytes to the number of bytes behind them.
 fn set_length(bytes: &mut [u8])
     requires some { 4 ≤ length bytes.old }
     requires short { length bytes.old < 2 ^ 32 }

@@ -1,4 +1,4 @@
-// Partitions written and shown.
+// Writes partitions, and passes them to the observer.
 ghost use Rattle.std.specs.Prelude.{◌≡◌, ◌+◌, ◌^◌, ◌≤◌, ◌++◌, List, length, IfOk, OnOk};
 ghost use Rattle.sasi_types.specs.declared.class.Class.{Class};
 ghost use Rattle.sasi_host.specs.Names.{Bytes};
@@ -16,7 +16,7 @@ use sasi_cells::Partition;
 use sasi_host::{FileName, Host};
 use sasi_types::{Key, Pair};
 
-// Writes a partition at the place of this pair, shows it, and gives the place behind it.
+// Writes a partition at the offset of this pair, passes it to the observer, and gives the offset behind it.
 pub fn push_partition<H: Host, O: FlushObserver>(
     host: &mut H,
     watch: &mut O,

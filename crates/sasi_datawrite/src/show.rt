@@ -1,4 +1,4 @@
-// Partitions shown to an observer.
+// Passes partitions to an observer.
 ghost use Rattle.std.specs.Prelude.{◌∷◌, ◌++◌, [], List, map, OnOk};
 ghost use Rattle.sasi_types.specs.declared.class.Class.{Class};
 ghost use Rattle.sasi_datawrite.specs.Calls.{Call, cell_call, partition_calls};
@@ -9,7 +9,7 @@ use sasi_cells::{Entry, Partition};
 use sasi_types::{KitFault, Pair};
 use std::alloc::Global;
 
-// Shows the beginning of a partition, and each of its cells.
+// Passes the start of a partition to the observer, and each of its cells.
 pub fn show<O: FlushObserver>(
     alloc: Global,
     watch: &mut O,

@@ -1,4 +1,4 @@
-// A data file that is being written.
+// Writes a data file.
 ghost use Rattle.std.specs.Prelude.{◌≡◌, ◌≤◌, ◌∷◌, ◌++◌, [], List, length, IfOk, OnOk, IsTrue, is_ok};
 ghost use Rattle.sasi_types.specs.declared.class.Class.{Class};
 ghost use Rattle.sasi_types.specs.Token.{token_of};
@@ -21,7 +21,7 @@ use sasi_types::{Key, Pair, PairList, Partitioner};
 use std::alloc::Global;
 use std::marker::Model;
 
-/// A data file that is being written. It keeps in memory a pair for each partition, and the bytes of one partition.
+/// A writer of a data file. It keeps a pair for each partition in memory, and the bytes of one partition.
 #[derive(Drop)]
 pub struct DataWriter {
     file: FileName,
@@ -44,7 +44,7 @@ impl Model for DataWriter {
 }
 
 impl DataWriter {
-    /// Makes the data file with this number, which has a header and no partition yet.
+    /// Creates the data file with this number. It has a header and no partition yet.
     pub fn begin<H: Host>(
         alloc: Global,
         host: &mut H,
@@ -75,7 +75,7 @@ impl DataWriter {
         })
     }
 
-    /// Writes the next partition, by one call of the host, and shows it to the observer. Its token isn't below the last one's.
+    /// Writes the next partition, by one call of the host, and passes it to the observer. Its token isn't below the last one.
     pub fn push<H: Host, O: FlushObserver>(
         &mut self,
         host: &mut H,
@@ -112,7 +112,7 @@ impl DataWriter {
         Ok(())
     }
 
-    /// Writes the key tree and the footer, and syncs the file. Its name is durable with the folder.
+    /// Writes the key tree and the footer, and syncs the file. Its name becomes durable when the folder is synced.
     pub fn finish<H: Host>(self, host: &mut H) -> Result<DataRef, HostFault>
         requires some { 1 ≤ length self.pairs }
         requires room { Reaches (H.view host.old) self.file self.place }

@@ -9,7 +9,7 @@ pub record IsWithin (least greatest number : ℕ) : Type 0 where
   pub above : least ≤ number
   pub below : number ≤ greatest
 
--- the number stands next, at this place, and is outside the range
+-- the number stands next, at this offset, and is outside the range
 pub record IsOutside (reading : Reading) (least greatest at number : ℕ) : Type 0 where
   pub place : at ≡ length reading.done
   pub fits : number < 2 ^ 64

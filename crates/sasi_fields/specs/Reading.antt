@@ -1,4 +1,4 @@
--- A reader of fields, as one sees it, and what a read does to it.
+-- A reader of fields, and what a read does to it.
 use Rattle.std.specs.Prelude.{◌≡◌, ◌<◌, ℕ, List, ◌++◌}
 
 pub record Reading : Type 0 where
@@ -7,11 +7,11 @@ pub record Reading : Type 0 where
   -- the bytes that are left
   pub left : List ℕ
 
--- the reader has passed these bytes, which stood next, and no others
+-- the reader has read these bytes, which stood next, and no others
 pub record Passes (field : List ℕ) (old new : Reading) : Type 0 where
   pub next : old.left ≡ field ++ new.left
   pub done : new.done ≡ old.done ++ field
 
--- where a number below this limit was put next, it is this number, and what was put behind it is left
+-- a number below this limit that was put next is read back, and what was put behind it is left
 abbrev pub GivesBack : ℕ → (ℕ → List ℕ) → ℕ → Reading → Reading → Type 0
 GivesBack limit put number old new = (n : ℕ) (rest : List ℕ) → n < limit → old.left ≡ put n ++ rest → (number ≡ n) × (new.left ≡ rest)

@@ -2,13 +2,13 @@
 ghost use Rattle.std.specs.Prelude.{◌≡◌};
 ghost use Rattle.sasi_fields.specs.declared.fault.FieldFault.TheVariants.{Short};
 
-/// Too few bytes are left for the field that begins at this place.
+/// Too few bytes are left for the field at this offset.
 #[derive(Clone, Copy, Debug, PartialEq, Eq)]
 pub struct ShortField {
     pub at: usize,
 }
 
-/// Why a number in a range can't be read: too few bytes are left, or the number at this place is outside the range.
+/// Why a number in a range can't be read: too few bytes are left, or the number at this offset is outside the range.
 #[derive(Clone, Copy, Debug, PartialEq, Eq)]
 pub enum FieldFault {
     Short(ShortField),

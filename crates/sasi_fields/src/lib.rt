@@ -1,13 +1,11 @@
-// Bounded fields as files hold them: numbers of a fixed width with their greatest byte first, and runs of bytes. What is
-// put at the end of a list a reader over the list gives back, and it moves by exactly the field.
+//! Bounded fields as files hold them: big-endian numbers of a fixed width, and runs of bytes. A reader reads back what
+//! was put at the end of a list, and moves by exactly that field.
 #![tactic(auto)]
 
 mod fault;
 mod number;
 mod put;
 mod reader;
-#[cfg(test)]
-mod tests;
 
 pub use fault::{FieldFault, ShortField};
 pub use put::{put_bytes, put_u8, put_u16, put_u32, put_u64};

@@ -13,7 +13,7 @@ pub fn put_u8(out: &mut Vec<u8>, value: u8) -> Result<(), AllocError>
     Ok(())
 }
 
-/// Appends a number of two bytes, the greater one first.
+/// Appends a big-endian number of two bytes.
 pub fn put_u16(out: &mut Vec<u8>, value: u16) -> Result<(), AllocError>
     ensures ok { OnOk result (out.new.items ≡ out.old.items ++ to_be_bytes w16 value) }
     ensures err { OnErr result (out.new.items ≡ out.old.items) }
@@ -21,7 +21,7 @@ pub fn put_u16(out: &mut Vec<u8>, value: u16) -> Result<(), AllocError>
     out.extend_from_slice(&value.to_be_bytes())
 }
 
-/// Appends a number of four bytes, the greatest one first.
+/// Appends a big-endian number of four bytes.
 pub fn put_u32(out: &mut Vec<u8>, value: u32) -> Result<(), AllocError>
     ensures ok { OnOk result (out.new.items ≡ out.old.items ++ to_be_bytes w32 value) }
     ensures err { OnErr result (out.new.items ≡ out.old.items) }
@@ -29,7 +29,7 @@ pub fn put_u32(out: &mut Vec<u8>, value: u32) -> Result<(), AllocError>
     out.extend_from_slice(&value.to_be_bytes())
 }
 
-/// Appends a number of eight bytes, the greatest one first.
+/// Appends a big-endian number of eight bytes.
 pub fn put_u64(out: &mut Vec<u8>, value: u64) -> Result<(), AllocError>
     ensures ok { OnOk result (out.new.items ≡ out.old.items ++ to_be_bytes w64 value) }
     ensures err { OnErr result (out.new.items ≡ out.old.items) }
@@ -37,7 +37,7 @@ pub fn put_u64(out: &mut Vec<u8>, value: u64) -> Result<(), AllocError>
     out.extend_from_slice(&value.to_be_bytes())
 }
 
-/// Appends the bytes as they are; what tells their number stands before them, or is known to the reader.
+/// Appends the bytes as they are. Their number is a field before them, or the reader knows it.
 pub fn put_bytes(out: &mut Vec<u8>, value: &[u8]) -> Result<(), AllocError>
     ensures ok { OnOk result (out.new.items ≡ out.old.items ++ value.now) }
     ensures err { OnErr result (out.new.items ≡ out.old.items) }

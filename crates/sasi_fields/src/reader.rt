@@ -8,8 +8,8 @@ use crate::fault::{FieldFault, ShortField};
 use crate::number::{number_8, number_16, number_32, number_64};
 use std::marker::Model;
 
-/// Reads fields from borrowed bytes, one after another, and takes no memory. Seen as the bytes that it has read and
-/// those that are left.
+/// Reads fields from borrowed bytes, one after another, without memory of its own. Contracts see the bytes that it has
+/// read and those that are left.
 #[derive(Drop)]
 pub struct FieldReader<'a> {
     bytes: &'a [u8],
@@ -62,7 +62,7 @@ impl<'a> FieldReader<'a> {
         Ok(field)
     }
 
-    // The next bytes, before which the reader stays.
+    // The next bytes; the reader stays before them.
     fn peek(&self, count: usize) -> Result<&'a [u8], ShortField>
         ensures ok { IfOk result (λ field. field.now ≡ take count self.now.left) }
         ensures count { IfOk result (λ field. length field.now ≡ count) }
@@ -129,7 +129,7 @@ impl<'a> FieldReader<'a> {
     {
         Ok(number_64(self.bytes(8)?))
     }
-    /// The next number of eight bytes, which has to lie from `least` to `greatest`. The reader stays where it doesn't.
+    /// The next number of eight bytes, which has to lie from `least` to `greatest`. After an error the reader is unchanged.
     pub fn ranged_u64(&mut self, least: u64, greatest: u64) -> Result<u64, FieldFault>
         ensures ok { IfOk result (λ n. Passes (to_be_bytes w64 n) self.old self.new) }
         ensures gives_back { IfOk result (λ n. GivesBack (2 ^ 64) (to_be_bytes w64) n self.old self.new) }

@@ -49,7 +49,8 @@ behind_one _ name not_index not_segment = refl
 
 -- no word has a dash, and no number
 without_dash : (bs : List ℕ) → position_or_len (λ b. eqb b 45) bs ≡ length bs → (i : ℕ) → i < length bs → get_or bs i 0 ≢ 45
-without_dash bs none i within dash = true≢false (ap (λ b. eqb b 45) (sym dash) ∙ fails_before_first (λ b. eqb b 45) bs i 0 (omega (arith, none, within)))
+without_dash bs none i within dash =
+    true≢false (ap (λ b. eqb b 45) (sym dash) ∙ fails_before_first (λ b. eqb b 45) bs i 0 (omega (arith, none, within)))
 
 word_without_dash : (kind : Kind) → position_or_len (λ b. eqb b 45) (word_of kind) ≡ length (word_of kind)
 word_without_dash Manifest = refl
@@ -65,14 +66,18 @@ number_without_dash n fits i within dash = omega (arith, dash, digit_at (decimal
 -- so the text is split behind its word, and behind each number but the last
 pub word_split : (name : FileName) (text : List ℕ) (r : Option (Bor (List ℕ) × Bor (List ℕ))) → text ≡ name_text name → IsSplitOnceResult 45 text r
     → MatchOption r ⊥ (λ x. (x.0.now ≡ word_of name.kind) × (x.1.now ≡ behind name.kind name))
-word_split name text r is split = split_after 45 text (word_of name.kind) (behind name.kind name) r split (lit< tt) (is ∙ text_is name) (without_dash _ (word_without_dash name.kind))
+word_split name text r is split =
+    split_after 45 text (word_of name.kind) (behind name.kind name) r split (lit< tt) (is ∙ text_is name)
+    (without_dash _ (word_without_dash name.kind))
 
-pub number_split : (n : ℕ) (text rest : List ℕ) (r : Option (Bor (List ℕ) × Bor (List ℕ))) → n < 2 ^ 32 → text ≡ decimal n ++ (45 ∷ rest) → IsSplitOnceResult 45 text r
+pub number_split : (n : ℕ) (text rest : List ℕ) (r : Option (Bor (List ℕ) × Bor (List ℕ))) → n < 2 ^ 32 → text ≡ decimal n ++ (45 ∷ rest)
+    → IsSplitOnceResult 45 text r
     → MatchOption r ⊥ (λ x. (x.0.now ≡ decimal n) × (x.1.now ≡ rest))
 number_split n text rest r fits is split = split_after 45 text (decimal n) rest r split (lit< tt) is (number_without_dash n fits)
 
 -- a kind that is the only one with the word is the name's
-pub word_read : (name : FileName) (text : List ℕ) (word numbers : Bor (List ℕ)) (kind : Kind) → text ≡ name_text name → IsSplitOnceResult 45 text (Some (word, numbers))
+pub word_read : (name : FileName) (text : List ℕ) (word numbers : Bor (List ℕ)) (kind : Kind) → text ≡ name_text name
+    → IsSplitOnceResult 45 text (Some (word, numbers))
     → ((k : Kind) → word.now ≡ word_of k → Some kind ≡ Some k) → (kind ≡ name.kind) × (numbers.now ≡ behind kind name)
 word_read name text word numbers kind is split only =
     let parts = word_split name text (Some (word, numbers)) is split in
@@ -80,7 +85,8 @@ word_read name text word numbers kind is split only =
     (same, parts.1 ∙ ap (λ k. behind k name) (sym same))
 
 -- the three numbers between the dashes
-pub three_read : (name : FileName) (kind : Kind) (numbers number parts index part : Bor (List ℕ)) → Fits name → IsThree kind → numbers.now ≡ behind kind name
+pub three_read : (name : FileName) (kind : Kind) (numbers number parts index part : Bor (List ℕ)) → Fits name → IsThree kind
+    → numbers.now ≡ behind kind name
     → IsSplitOnceResult 45 numbers.now (Some (number, parts)) → IsSplitOnceResult 45 parts.now (Some (index, part))
     → (number.now ≡ decimal name.number) × (index.now ≡ decimal name.index) × (part.now ≡ decimal name.part)
 three_read name kind numbers number parts index part fits three is first second =
@@ -89,19 +95,23 @@ three_read name kind numbers number parts index part fits three is first second 
     (front.0, back.0, back.1)
 
 -- which numbers a name has by its kind
-pub three_some : (name : FileName) (kind : Kind) → kind ≡ name.kind → IsThree kind → HasNumbers name.kind name → (0 < name.number) × (0 < name.index) × (0 < name.part)
+pub three_some : (name : FileName) (kind : Kind) → kind ≡ name.kind → IsThree kind → HasNumbers name.kind name
+    → (0 < name.number) × (0 < name.index) × (0 < name.part)
 three_some name kind same (inl e) has = subst (λ k. HasNumbers k name) (sym same ∙ e) has
 three_some name kind same (inr e) has = subst (λ k. HasNumbers k name) (sym same ∙ e) has
 
-one_of_kind : (name : FileName) (kind : Kind) → kind ≢ Index → kind ≢ Segment → HasNumbers kind name → (0 < name.number) × (name.index ≡ 0) × (name.part ≡ 0)
+one_of_kind : (name : FileName) (kind : Kind) → kind ≢ Index → kind ≢ Segment → HasNumbers kind name
+    → (0 < name.number) × (name.index ≡ 0) × (name.part ≡ 0)
 one_of_kind name Index not_index not_segment has = absurd (not_index refl)
 one_of_kind name Segment not_index not_segment has = absurd (not_segment refl)
 one_of_kind name _ not_index not_segment has = has
 
-pub one_some : (name : FileName) (kind : Kind) → kind ≡ name.kind → kind ≢ Index → kind ≢ Segment → HasNumbers name.kind name → (0 < name.number) × (name.index ≡ 0) × (name.part ≡ 0)
+pub one_some : (name : FileName) (kind : Kind) → kind ≡ name.kind → kind ≢ Index → kind ≢ Segment → HasNumbers name.kind name
+    → (0 < name.number) × (name.index ≡ 0) × (name.part ≡ 0)
 one_some name kind same not_index not_segment has = one_of_kind name kind not_index not_segment (subst (λ k. HasNumbers k name) (sym same) has)
 
 -- equal fields make equal names
-pub same_name : (name : FileName) (kind : Kind) (number index part : ℕ) → kind ≡ name.kind → number ≡ name.number → index ≡ name.index → part ≡ name.part
+pub same_name : (name : FileName) (kind : Kind) (number index part : ℕ) → kind ≡ name.kind → number ≡ name.number → index ≡ name.index
+    → part ≡ name.part
     → record { kind = kind; number = number; index = index; part = part } ≡ name
 same_name name kind number index part k n i p = λ j. record { kind = k j; number = n j; index = i j; part = p j }

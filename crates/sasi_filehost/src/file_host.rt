@@ -31,7 +31,7 @@ impl FileHost {
     }
 }
 
-// What a call gives, where its fault is counted, up to the last value of the count.
+// The result of a call; its I/O error is counted, up to the last value of the count.
 fn counted<T, E: Drop>(faults: &mut u64, answer: Result<T, E>) -> Result<T, Failed>
     ensures same { IfOk result (λ value. answer ≡ Ok value) }
     ensures later { faults.old ≤ faults.new }

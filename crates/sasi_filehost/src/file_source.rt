@@ -38,7 +38,7 @@ impl Source for FileSource {
     }
 }
 
-// Reads, and again where a signal came first.
+// Reads, and tries again where a signal interrupted the call.
 fn read_again(file: &mut fs::File, buf: &mut [u8]) -> io::Result<usize>
     ensures { ReadsAtMost result buf.new }
 {

@@ -23,7 +23,7 @@ pub struct Folder {
     rt: HostRuntime,
     // The path of the folder, with a slash at its end.
     folder: String,
-    // Room for the path of any file in it.
+    // A buffer with capacity for the path of any file in it.
     path: String,
     // The folder itself, if it could be opened.
     opened: Option<fs::File>,
@@ -83,7 +83,7 @@ impl Folder {
         })
     }
 
-    // Writes the path of a file, in the room for it.
+    // Writes the path of a file into its buffer.
     fn spell(&mut self, file: FileName) -> io::Result<()> {
         self.path.clear();
         self.path.push_str(self.folder.as_str())?;
@@ -103,7 +103,7 @@ impl Folder {
         how.open(&self.rt, self.path.as_str())
     }
 
-    // A file to be written or synced, open from now on.
+    // The file, opened to be written or synced, and kept open.
     fn to_write(&mut self, name: FileName) -> io::Result<&fs::File> {
         if self.written.get(name).is_none() {
             let mut how = OpenOptions::new();
@@ -114,7 +114,7 @@ impl Folder {
         self.written.get(name).ok_or(io::ErrorKind::NotFound.into())
     }
 
-    // A file to be read, open from now on.
+    // The file, opened to be read, and kept open.
     fn to_read(&mut self, name: FileName) -> io::Result<&fs::File> {
         if self.written.get(name).is_some() {
             return self.to_write(name);
@@ -128,7 +128,7 @@ impl Folder {
         self.read.get(name).ok_or(io::ErrorKind::NotFound.into())
     }
 
-    // No file of this name is open any more: another one may get the name.
+    // Closes the file of this name: another one may get the name.
     fn close(&mut self, name: FileName) {
         self.written.close(name);
         self.read.close(name);
@@ -156,7 +156,7 @@ impl Folder {
         Ok(self.to_read(name)?.metadata()?.len())
     }
 
-    /// Fills the buffer from this place on, as far as the file reaches.
+    /// Fills the buffer from this offset on, as far as the file reaches.
     pub fn read(&mut self, name: FileName, at: u64, buf: &mut [u8]) -> io::Result<usize>
         ensures { IfOk result (λ count. count ≤ length buf.old) }
     {
@@ -173,7 +173,7 @@ impl Folder {
         Ok(())
     }
 
-    /// Writes all the bytes from this place on.
+    /// Writes all the bytes from this offset on.
     pub fn write(&mut self, name: FileName, at: u64, bytes: &[u8]) -> io::Result<()>
         ensures { OnOk result (at + length bytes.now ≤ 2 ^ 62) }
     {
@@ -190,7 +190,7 @@ impl Folder {
         self.settle(answer)
     }
 
-    /// Takes a file out of the folder.
+    /// Removes a file from the folder.
     pub fn delete(&mut self, name: FileName) -> io::Result<()> {
         self.close(name);
         self.spell(name)?;
@@ -206,7 +206,7 @@ impl Folder {
         self.settle(answer)
     }
 
-    // What a sync gives, where after one that failed each fails.
+    // The result of a sync; after one that failed, each later one fails too.
     fn settle(&mut self, answer: io::Result<()>) -> io::Result<()> {
         if answer.is_err() {
             self.durability = Durability::Lost;
@@ -226,7 +226,7 @@ fn fault_of(error: io::Error) -> HostFault {
     }
 }
 
-// The file that an entry of the folder is; none where its name is a foreign one. One that isn't UTF-8 is.
+// The file name of an entry of the folder; None where it is foreign, as one that isn't UTF-8 is.
 fn name_of(entry: io::Result<fs::DirEntry>) -> Result<Option<FileName>, HostFault> {
     match entry {
         Ok(entry) => Ok(parse_name(entry.file_name())),
@@ -242,7 +242,7 @@ fn in_order(names: &BTreeSet<FileName>, alloc: Global) -> Result<Vec<FileName>, 
     Ok(names)
 }
 
-// Fills the buffer from this place on, as far as the file reaches.
+// Fills the buffer from this offset on, as far as the file reaches.
 fn fill(file: &fs::File, at: u64, buf: &mut [u8]) -> io::Result<usize>
     ensures { IfOk result (λ count. count ≤ length buf.old) }
 {

@@ -1,5 +1,5 @@
-// The outside of a run as real files: a folder and the standard output as its host, and a script file as its source. The
-// crate stands on sasi_host; what a real file holds is not promised, only that each fault is counted.
+//! The host and the source of real files: a folder with the standard output, and a script file. The crate stands on
+//! sasi_host. It promises that each I/O error is counted, and nothing of what a real file holds.
 #![tactic(auto)]
 
 mod file_host;
@@ -7,8 +7,6 @@ mod file_source;
 mod folder;
 mod name_text;
 mod open_files;
-#[cfg(test)]
-mod tests;
 
 pub use file_host::FileHost;
 pub use file_source::FileSource;

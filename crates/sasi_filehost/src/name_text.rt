@@ -9,7 +9,7 @@ use std::fmt;
 /// How many bytes the longest name has.
 pub(crate) const LONGEST_NAME: usize = 40;
 
-/// A file's name, to be printed as it stands in the folder.
+/// A file name, printed as in the folder.
 #[derive(Clone, Copy, Debug)]
 pub struct NameText(pub FileName);
 
@@ -75,7 +75,7 @@ fn number_of(text: &str) -> Option<u32>
     }
 }
 
-/// The file that a name in the folder is of; none where the name is a foreign one.
+/// Parses the name of a file in the folder; None where it is foreign.
 pub fn parse_name(text: &str) -> Option<FileName>
     ensures spelled { IfSome result (λ name. text.now ≡ name_text name) }
     ensures numbers { IfSome result (λ name. HasNumbers name.kind name) }

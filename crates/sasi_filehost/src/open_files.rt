@@ -11,7 +11,7 @@ struct OpenFile {
     file: fs::File,
 }
 
-// Up to eight open files. Where all slots are taken, the one that was filled first is filled again.
+// Up to eight open files. Where all slots are full, the slot that was filled first is reused.
 #[derive(Drop)]
 pub struct OpenFiles {
     slots: [Option<OpenFile>; SLOTS],

@@ -1,4 +1,4 @@
--- Where a folder shows that no store can be opened in it, and what it has there.
+-- The damage that a folder shows: no store can be opened in it.
 use Rattle.std.specs.Prelude.{◌≡◌, ◌≢◌, ◌⊎◌, ℕ, ◌≤◌, [], IsSome, None, Some}
 use Rattle.std.specs.FinMap.{get}
 use Rattle.sasi_host.specs.declared.damage.Damage.{Damage}
@@ -12,7 +12,7 @@ use Rattle.sasi_manifest.specs.Damages.{ShowsDamage}
 use Rattle.sasi_manifest.specs.Format.{IsManifest}
 use Rattle.sasi_folder.specs.Stands.{IsSealed, types_listed}
 
--- no seal was made, and this file is one that the making of a store doesn't begin with
+-- there is no seal, and this file is none that an unfinished creation of a store leaves
 pub record ShowsNoSeal (folder : Folder) (damage : Damage) : Type 0 where
   pub unsealed : (number : ℕ) → get folder (seal_name number) ≡ None
   pub there : IsSome (get folder damage.file)

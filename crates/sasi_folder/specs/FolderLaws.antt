@@ -8,10 +8,10 @@ use Rattle.sasi_host.specs.Names.{Bytes, Folder, rank, log_name, manifest_name, 
 use Rattle.sasi_model.specs.State.{State}
 use Rattle.sasi_cells.specs.declared.mutation.Mutation.{Mutation}
 use Rattle.sasi_commitlog.specs.Format.{IsLog, Tables}
-use Rattle.sasi_commitlog.specs.Laws.{logs_same}
+use Rattle.sasi_commitlog.proofs.Laws.{logs_same}
 use Rattle.sasi_manifest.specs.declared.listing.Listing.{Listing}
 use Rattle.sasi_manifest.specs.Format.{IsManifest}
-use Rattle.sasi_manifest.specs.Laws.{manifest_same}
+use Rattle.sasi_manifest.proofs.Laws.{manifest_same}
 use Rattle.sasi_folder.specs.Replay.{state_made}
 use Rattle.sasi_folder.specs.Stands.{HasSegments, Holds, IsFresh, IsSealed, StandsSealed, Stands, types_listed}
 

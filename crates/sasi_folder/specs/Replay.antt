@@ -1,5 +1,5 @@
--- The state that a listing and the segments of the log make: the listed tables, with the mutations of the segments merged
--- into them one after another. A table takes the mutations of the segments from its own first one on.
+-- Replay: the state that a listing and the segments of the log make. The mutations of the segments are merged into the listed
+-- tables one after another, those of a table from the first segment on that the listing names for it.
 use Rattle.std.specs.Prelude.{ℕ, zero, suc, Bool, false, nat_le, if◌then◌else◌, List, [], ◌∷◌, map, slice_get, Option, None, Some}
 use Rattle.sasi_model.specs.State.{State}
 use Rattle.sasi_model.specs.Changes.{empty_table}
@@ -19,7 +19,7 @@ abbrev pub reaches : ℕ → Option Listed → Bool
 reaches segment None = false
 reaches segment (Some table) = nat_le table.since segment
 
--- the table of this number, from 1, takes the mutations of the segment
+-- mutations of the table with this number, from 1, are replayed from the segment
 abbrev pub takes : List Listed → ℕ → ℕ → Bool
 takes tables segment zero = false
 takes tables segment (suc before) = reaches segment (slice_get tables before)

@@ -1,4 +1,4 @@
--- A store in hand: what stands in the folder at each moment while it makes a change, and after it.
+-- An open store: what each image of its folder holds, at each moment of a change and after it.
 use Rattle.std.specs.Prelude.{◌≡◌, ◌⊎◌, ℕ, suc, ◌+◌, List, [], ◌∷◌, ◌++◌, length, map}
 use Rattle.std.proofs.Common.{sym, ap, subst, ◌∙◌, inl, inr, ⊎_elim, arith}
 use Rattle.sasi_host.specs.Names.{Folder, log_name, manifest_name}
@@ -26,15 +26,15 @@ use Rattle.sasi_folder.specs.Stands.{Holds, StandsSealed, types_listed}
 use Rattle.sasi_folder.specs.FolderLaws.{kinds_apart}
 use Rattle.sasi_folder.specs.FolderMoves.{AddsTable, listing_gained, log_appended, log_gained, manifest_appended, mutation_made, table_made}
 
--- ---- a store in hand
+-- ---- an open store
 
--- the state, the manifest that counts and the last segment of the log belong together, whatever the host tells
+-- the state, the current manifest and the last segment of the log belong together, whatever is known of the host
 pub record BelongTogether (s : State) (manifest : Held) (log : Handle) : Type 0 where
   pub file : log.file ≡ log_name manifest.listing.last
   pub partitioner : s.partitioner ≡ manifest.listing.partitioner
   pub tables : definitions s.tables ≡ listed_definitions manifest.listing.tables
 
--- Each image holds what the manifest in hand lists, with the segments of the log. The last of them is in hand, and all of it makes the state.
+-- Each image holds what the manifest lists, with the segments of the log, of which the last one is open. A replay of them makes the state.
 pub record Serves (v : View) (s : State) (manifest : Held) (log : Handle) : Type 0 where
   pub older : List (List Mutation)
   pub current : List Mutation
@@ -73,7 +73,7 @@ module _ (a b : View) (sound : IsSound a) (s : State) (manifest : Held) (log : H
       (λ later. inr (record { number = manifest.number; listing = listing; logs = serves.older ++ (serves.current ++ m ∷ []) ∷ []; holds = later; makes = change_makes holds.live }))
       (log_appended x y manifest.number listing serves.older serves.current m holds fits step))
 
-  -- and the store then serves the state after it
+  -- and the store is then durable with the state after it
   pub write_serves : (at : ℕ) → IsTold a → IsAtLogEnd b (log_name listing.last) at (serves.current ++ m ∷ []) → Changes (Step (log_name listing.last) Anyhow) a b → (new : Handle) → new.at ≡ at → Serves b (written_state s m) manifest new
   write_serves at told end change new place =
       let before = some_image a sound told in
@@ -121,7 +121,7 @@ module _ (a b : View) (sound : IsSound a) (s : State) (manifest : Held) (log : H
       (λ later. inr (record { number = manifest.number; listing = next; logs = logs; holds = later; makes = table_makes x holds }))
       (manifest_appended x y manifest.number former next t logs holds adds step))
 
-  -- and the store then serves the state with it
+  -- and the store is then durable with the state with it
   pub create_serves : (held : Held) → held.number ≡ manifest.number → held.listing ≡ next → IsTold a → manifests.Stands b manifest.number held.at next → Changes (Step (manifest_name manifest.number) Anyhow) a b → Serves b (with_new_table s t.definition) held log
   create_serves held number_is listing_is told end change =
       let before = some_image a sound told in
@@ -146,7 +146,7 @@ module _ (a b : View) (sound : IsSound a) (s : State) (manifest : Held) (log : H
 
 -- ---- fewer images
 
--- what is served stays where no image is new
+-- a durable store stays durable where no image is new
 pub serves_still : (a b : View) → ((x : Folder) → b.image x → a.image x) → (s : State) (manifest : Held) (log : Handle) → Serves a s manifest log → Serves b s manifest log
 serves_still a b fewer s manifest log serves = record {
   older = serves.older;

@@ -15,7 +15,7 @@ use Rattle.sasi_folder.specs.Replay.{state_made}
 
 -- ---- a new folder
 
--- No seal was made, and nothing but what making one begins with: the first manifest and the first segment of the log, whatever they hold.
+-- There is no seal, and no file but those that an unfinished creation leaves: the first manifest and the first segment of the log, whatever they hold.
 abbrev pub IsFresh : Folder → Type 0
 IsFresh folder = (name : FileName) → name ≢ manifest_name 1 → name ≢ log_name 1 → get folder name ≡ None
 

@@ -18,17 +18,23 @@ pub framed_length : (payload bytes : Bytes) → bytes ≡ frame payload ++ 0 ∷
 framed_length payload bytes whole = omega (arith, ap length whole, length-append (frame payload) (0 ∷ []), frame_length payload)
 
 -- no other file changes
-pub touched : (a b c : View) (file : FileName) (at n m : ℕ) → Changes (Step file (InPlace (Torn (at + 1) n))) a b → Changes (Step file (InPlace (Torn at m))) b c → Changes (Step file Anyhow) a c
-touched a b c file at n m first second = touches_on a b c file (touches a b file (InPlace (Torn (at + 1) n)) first) (touches b c file (InPlace (Torn at m)) second)
+pub touched : (a b c : View) (file : FileName) (at n m : ℕ) → Changes (Step file (InPlace (Torn (at + 1) n))) a b
+    → Changes (Step file (InPlace (Torn at m))) b c → Changes (Step file Anyhow) a c
+touched a b c file at n m first second =
+    touches_on a b c file (touches a b file (InPlace (Torn (at + 1) n)) first) (touches b c file (InPlace (Torn at m)) second)
 
 -- the new closed gate stands within the file
-pub reaches_end : (a b c : View) (file : FileName) (at : ℕ) (bytes : Bytes) → Changes (Step file (InPlace (Torn (at + 1) (length bytes)))) a b → Becomes file (λ (w : Bytes). overlay w (at + 1) bytes) a b → Changes (Step file (InPlace (Torn at 1))) b c → Reaches a file (at + 1) → Reaches c file (at + length bytes + 1)
+pub reaches_end : (a b c : View) (file : FileName) (at : ℕ) (bytes : Bytes) → Changes (Step file (InPlace (Torn (at + 1) (length bytes)))) a b
+    → Becomes file (λ (w : Bytes). overlay w (at + 1) bytes) a b → Changes (Step file (InPlace (Torn at 1))) b c → Reaches a file (at + 1)
+    → Reaches c file (at + length bytes + 1)
 reaches_end a b c file at bytes first becomes second reaches =
     let same : at + 1 + length bytes ≡ at + length bytes + 1 = omega arith in
     subst (λ (n : ℕ). Reaches c file n) same
-    (reaches_on b c file (Torn at 1) (at + 1 + length bytes) second (λ x y torn. torn.no_shorter) (reaches_written a b file (Step file (InPlace (Torn (at + 1) (length bytes)))) (at + 1) bytes first becomes reaches))
+    (reaches_on b c file (Torn at 1) (at + 1 + length bytes) second (λ x y torn. torn.no_shorter)
+    (reaches_written a b file (Step file (InPlace (Torn (at + 1) (length bytes)))) (at + 1) bytes first becomes reaches))
 
-module _ (a b : View) (file : FileName) (at : ℕ) (records : List Bytes) (payload bytes : Bytes) (sound_a : IsSound a) (end : IsAtEnd a file at records) (fits : IsPayload payload) (whole : bytes ≡ frame payload ++ 0 ∷ [])
+module _ (a b : View) (file : FileName) (at : ℕ) (records : List Bytes) (payload bytes : Bytes) (sound_a : IsSound a)
+    (end : IsAtEnd a file at records) (fits : IsPayload payload) (whole : bytes ≡ frame payload ++ 0 ∷ [])
     (first : Changes (Step file (InPlace (Torn (at + 1) (length bytes)))) a b) where
   abbrev P : Bytes → Type 0
   P = IsBeforeOrAfter file records payload
@@ -64,7 +70,8 @@ module _ (a b : View) (file : FileName) (at : ℕ) (records : List Bytes) (paylo
           (second_write file end.at_gate.front behind payload records end.at_gate.records_stand fits at end.at_gate.place tail))
 
       -- and then each image has it
-      pub appended : ((w : Bytes) → IsKept b file w → IsKept c file (overlay w at (1 ∷ []))) → IsAtEnd c file (at + length bytes) (records ++ payload ∷ [])
+      pub appended : ((w : Bytes) → IsKept b file w → IsKept c file (overlay w at (1 ∷ [])))
+          → IsAtEnd c file (at + length bytes) (records ++ payload ∷ [])
       appended opens = record {
         bytes = base ++ 1 ∷ (frame payload ++ 0 ∷ tail);
         rest = 0 ∷ tail;

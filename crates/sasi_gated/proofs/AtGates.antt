@@ -49,20 +49,25 @@ module _ (file : FileName) (bytes : Bytes) (at : ℕ) (done : List Bytes) (rest 
     closes (r, is) = (r ++ more, rest_is ∙ ap (λ (l : Bytes). l ++ more) is)
 
     all_seen : length old ≡ 4096 → length seen < 5 → rest ≡ seen
-    all_seen whole short = rest_is ∙ ap (λ (l : Bytes). seen ++ l) (nothing_more bytes at old new count fills 4096 whole (omega arith)) ∙ append-nil seen
+    all_seen whole short =
+        rest_is ∙ ap (λ (l : Bytes). seen ++ l) (nothing_more bytes at old new count fills 4096 whole (omega arith)) ∙ append-nil seen
 
     -- too few bytes
-    pub ends : (damage : Damage) → length old ≡ 4096 → length seen < 5 → EndsEarly seen → ((b : Bytes) → length b ≡ at + count → TellsSize file b damage) → Shows file bytes damage
+    pub ends : (damage : Damage) → length old ≡ 4096 → length seen < 5 → EndsEarly seen
+        → ((b : Bytes) → length b ≡ at + count → TellsSize file b damage) → Shows file bytes damage
     ends damage whole short early tells =
         let is = all_seen whole short in
-        shows_size file bytes damage (inr (at, done, rest, gate, subst EndsEarly (sym is) early)) (tells bytes (sym size ∙ ap (λ (n : ℕ). at + n) (ap length is ∙ window_length bytes at old new count fills)))
+        shows_size file bytes damage (inr (at, done, rest, gate, subst EndsEarly (sym is) early))
+        (tells bytes (sym size ∙ ap (λ (n : ℕ). at + n) (ap length is ∙ window_length bytes at old new count fills)))
 
     module _ (stated : ℕ) (begun : Bytes) (states : States seen stated begun) where
       pub payload_begins : rest ≡ states.gate ∷ (to_be_bytes w32 stated ++ (begun ++ more))
-      payload_begins = rest_is ∙ ap (λ (l : Bytes). l ++ more) states.is ∙ ap (λ (l : Bytes). states.gate ∷ l) (append_assoc (to_be_bytes w32 stated) begun more)
+      payload_begins =
+          rest_is ∙ ap (λ (l : Bytes). l ++ more) states.is ∙ ap (λ (l : Bytes). states.gate ∷ l) (append_assoc (to_be_bytes w32 stated) begun more)
 
       -- a length that no record has
-      pub no_length : (damage : Damage) → (¬ IsLength stated) → damage.file ≡ file → damage.at ≡ at + 1 → damage.rule ≡ Number → seen_bytes damage.seen ≡ to_be_bytes w32 stated → Shows file bytes damage
+      pub no_length : (damage : Damage) → (¬ IsLength stated) → damage.file ≡ file → damage.at ≡ at + 1 → damage.rule ≡ Number
+          → seen_bytes damage.seen ≡ to_be_bytes w32 stated → Shows file bytes damage
       no_length damage none named place rule shown = record {
         named = named;
         breaks = subst (λ (r : FormatRule). Breaks file bytes r damage.at (seen_bytes damage.seen)) (sym rule) (inr (record {
@@ -71,7 +76,9 @@ module _ (file : FileName) (bytes : Bytes) (at : ℕ) (done : List Bytes) (rest 
           gate = states.gate;
           count = stated;
           rest = begun ++ more;
-          gate_stands = gate_as (states.gate ∷ (seen_bytes damage.seen ++ (begun ++ more))) (payload_begins ∙ ap (λ (l : Bytes). states.gate ∷ (l ++ (begun ++ more))) (sym shown));
+          gate_stands =
+              gate_as (states.gate ∷ (seen_bytes damage.seen ++ (begun ++ more)))
+              (payload_begins ∙ ap (λ (l : Bytes). states.gate ∷ (l ++ (begun ++ more))) (sym shown));
           is_open = states.is_open;
           place = place;
           stated = shown;
@@ -87,7 +94,8 @@ module _ (file : FileName) (bytes : Bytes) (at : ℕ) (done : List Bytes) (rest 
       payload_within = omega (arith, size, ap length payload_begins, length-append (to_be_bytes w32 stated) (begun ++ more))
 
       -- the record, read whole
-      pub opens : (out : Bytes) → IsLength stated → out ≡ take stated (drop (at + 5) bytes) → length out ≡ stated → (tail : Bytes) × Opens rest out tail
+      pub opens : (out : Bytes) → IsLength stated → out ≡ take stated (drop (at + 5) bytes) → length out ≡ stated
+          → (tail : Bytes) × Opens rest out tail
       opens out fits is long = (
         drop stated (begun ++ more),
         record {
@@ -96,14 +104,17 @@ module _ (file : FileName) (bytes : Bytes) (at : ℕ) (done : List Bytes) (rest 
           payload_fits = subst IsLength (sym long) fits;
           is = payload_begins ∙ ap (λ (l : Bytes). states.gate ∷ l) (
               ap (λ (n : ℕ). to_be_bytes w32 n ++ (begun ++ more)) (sym long)
-              ∙ ap (λ (l : Bytes). to_be_bytes w32 (length out) ++ l) (sym (take-append-drop stated (begun ++ more)) ∙ ap (λ (l : Bytes). l ++ drop stated (begun ++ more)) (sym (is ∙ ap (λ (l : Bytes). take stated l) payload_at)))
+              ∙ ap (λ (l : Bytes). to_be_bytes w32 (length out) ++ l)
+              (sym (take-append-drop stated (begun ++ more)) ∙ ap (λ (l : Bytes). l ++ drop stated (begun ++ more))
+              (sym (is ∙ ap (λ (l : Bytes). take stated l) payload_at)))
               ∙ sym (append_assoc (to_be_bytes w32 (length out)) out (drop stated (begun ++ more)))
               ∙ ap (λ (l : Bytes). l ++ drop stated (begun ++ more)) (sym (frame_is out)));
         },
       )
 
       states_count : from_be_bytes w32 (take 4 (to_be_bytes w32 stated ++ (begun ++ more))) ≡ stated
-      states_count = ap (from_be_bytes w32) (take_at (to_be_bytes w32 stated) (begun ++ more) 4 refl) ∙ from_be_bytes-to_be_bytes_4 stated states.count_fits
+      states_count =
+          ap (from_be_bytes w32) (take_at (to_be_bytes w32 stated) (begun ++ more) 4 refl) ∙ from_be_bytes-to_be_bytes_4 stated states.count_fits
 
       -- the file ends within it
       pub ends_within : (damage : Damage) → length (drop (at + 5) bytes) < stated → TellsSize file bytes damage → Shows file bytes damage

@@ -22,7 +22,8 @@ on_damage_weaker P Q (fault.Damaged damage) weaker p = weaker damage p
 pub opened_gate : (file : FileName) (bytes : Bytes) → (rest : Bytes) × (bytes ≡ header file ++ rest) → (rest : Bytes) × IsAtGate file bytes 16 [] rest
 opened_gate file bytes (rest, is) = (rest, at_first_gate file bytes rest is)
 
-pub opened_reading : (a b : View) (file : FileName) (bytes : Bytes) (records : List Bytes) → Changes Same a b → IsKept a file bytes → IsGated file bytes records → IsReading b file 16 [] records
+pub opened_reading : (a b : View) (file : FileName) (bytes : Bytes) (records : List Bytes) → Changes Same a b → IsKept a file bytes
+    → IsGated file bytes records → IsReading b file 16 [] records
 opened_reading a b file bytes records same kept gated = record {
   bytes = bytes;
   rest = gated.rest;

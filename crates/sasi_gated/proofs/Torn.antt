@@ -43,13 +43,15 @@ module _ (base : Bytes) (at : ℕ) (place : at ≡ length base) where
       ∙ append_assoc base (h ∷ []) xs
 
   -- bytes behind it, written whole
-  pub written_after : (g : ℕ) (xs bytes : Bytes) → overlay (base ++ g ∷ xs) (at + 1) bytes ≡ base ++ g ∷ (bytes ++ drop (at + 1 + length bytes) (base ++ g ∷ xs))
+  pub written_after : (g : ℕ) (xs bytes : Bytes)
+      → overlay (base ++ g ∷ xs) (at + 1) bytes ≡ base ++ g ∷ (bytes ++ drop (at + 1 + length bytes) (base ++ g ∷ xs))
   written_after g xs bytes =
       ap (λ (l : Bytes). l ++ bytes ++ drop (at + 1 + length bytes) (base ++ g ∷ xs)) (take_behind g xs)
       ∙ append_assoc (base ++ g ∷ []) bytes _
       ∙ append_assoc base (g ∷ []) _
 
-module _ (file : FileName) (front rest payload : Bytes) (records : List Bytes) (stand : OpenRecords front records) (fits : IsPayload payload) (at : ℕ) (place : at ≡ length (header file ++ front)) where
+module _ (file : FileName) (front rest payload : Bytes) (records : List Bytes) (stand : OpenRecords front records) (fits : IsPayload payload)
+    (at : ℕ) (place : at ≡ length (header file ++ front)) where
   abbrev base : Bytes
   base = header file ++ front
 
@@ -58,7 +60,8 @@ module _ (file : FileName) (front rest payload : Bytes) (records : List Bytes) (
 
   before : (gate : ℕ) (xs : Bytes) → gate ≡ 0 → IsGated file (base ++ gate ∷ xs) records
   before gate xs shut =
-      subst (λ (l : List Bytes). IsGated file (base ++ gate ∷ xs) l) (append-nil records) (gated_at file (base ++ gate ∷ xs) at records (gate ∷ xs) [] (gate_at (gate ∷ xs)) (xs, ap (λ (g : ℕ). g ∷ xs) shut))
+      subst (λ (l : List Bytes). IsGated file (base ++ gate ∷ xs) l) (append-nil records)
+      (gated_at file (base ++ gate ∷ xs) at records (gate ∷ xs) [] (gate_at (gate ∷ xs)) (xs, ap (λ (g : ℕ). g ∷ xs) shut))
 
   after : (gate : ℕ) (xs : Bytes) → gate ≢ 0 → IsGated file (base ++ gate ∷ (frame payload ++ 0 ∷ xs)) (records ++ payload ∷ [])
   after gate xs is_open =

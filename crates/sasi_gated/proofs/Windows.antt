@@ -8,7 +8,7 @@ use Rattle.sasi_host.specs.Disk.{Fills}
 use Rattle.sasi_gated.specs.Format.{header}
 use Rattle.sasi_gated.specs.Damages.{Shows}
 
--- a read from a place within the file gives the next bytes, and all of them if it isn't full
+-- a read from an offset within the file gives the next bytes, and all of them if it isn't full
 module _ (file : Bytes) (at : ℕ) (old new : Bytes) (count : ℕ) (fills : Fills file at old new count) where
   pub window : drop at file ≡ take count new ++ drop count (drop at file)
   window = sym (take-append-drop count (drop at file)) ∙ ap (λ (l : Bytes). l ++ drop count (drop at file)) (sym fills.front)
@@ -20,7 +20,8 @@ module _ (file : Bytes) (at : ℕ) (old new : Bytes) (count : ℕ) (fills : Fill
   nothing_more size is short = drop_all count (drop at file) (omega (arith, is, short, window_length, fills.taken, length-drop at file))
 
 -- the first bytes are the header
-pub header_read : (file : FileName) (bytes old new : Bytes) (count : ℕ) → Fills bytes 0 old new count → (rest : Bytes) × (take count new ≡ header file ++ rest) → (rest : Bytes) × (bytes ≡ header file ++ rest)
+pub header_read : (file : FileName) (bytes old new : Bytes) (count : ℕ) → Fills bytes 0 old new count
+    → (rest : Bytes) × (take count new ≡ header file ++ rest) → (rest : Bytes) × (bytes ≡ header file ++ rest)
 header_read file bytes old new count fills (rest, is) = (
   rest ++ drop count bytes,
   window bytes 0 old new count fills ∙ ap (λ (l : Bytes). l ++ drop count bytes) is ∙ append_assoc (header file) rest (drop count bytes),

@@ -14,7 +14,7 @@ pub record States (bytes : Bytes) (count : ℕ) (rest : Bytes) : Type 0 where
   pub count_fits : count < 2 ^ 32
   pub is : bytes ≡ gate ∷ (to_be_bytes w32 count ++ rest)
 
--- what was told of a gate is so
+-- the gate is what was found
 abbrev pub GateIs : Bytes → Gate → Type 0
 GateIs bytes Closed = Closes bytes
 GateIs bytes (Opened count begun) = States bytes count begun.now × IsLength count

@@ -19,7 +19,7 @@ EndsEarly (gate ∷ rest) = (gate ≢ 0) × (length rest < 4 + from_be_bytes w32
 abbrev pub IsCutOff : FileName → Bytes → Type 0
 IsCutOff file bytes = (length bytes < 16) ⊎ ((at : ℕ) × (done : List Bytes) × (rest : Bytes) × IsAtGate file bytes at done rest × EndsEarly rest)
 
--- behind an open gate stands a length, at this place, that no record has
+-- behind an open gate stands a length, at this offset, that no record has
 pub record IsNoLength (file : FileName) (bytes : Bytes) (at : ℕ) (seen : Bytes) : Type 0 where
   pub before : ℕ
   pub done : List Bytes
@@ -33,7 +33,7 @@ pub record IsNoLength (file : FileName) (bytes : Bytes) (at : ℕ) (seen : Bytes
   pub stated_fits : count < 2 ^ 32
   pub no_length : ¬ IsLength count
 
--- the file breaks the rule at the place, and has the seen bytes there
+-- the file breaks the rule at this offset, and has the seen bytes there
 abbrev pub Breaks : FileName → Bytes → FormatRule → ℕ → Bytes → Type 0
 Breaks file bytes Short at seen = IsCutOff file bytes × (at ≡ length bytes) × (seen ≡ to_be_bytes w64 (length bytes))
 Breaks file bytes Magic at seen = (at ≡ 0) × Differs bytes at seen (magic file.kind)

@@ -4,7 +4,7 @@ use Rattle.sasi_host.specs.declared.name.FileName.{FileName}
 use Rattle.sasi_host.specs.Names.{Bytes}
 use Rattle.sasi_gated.specs.Format.{header, Opens, Closes, OpenRecords}
 
--- behind the header and these records a gate stands at this place, and from it on the file has these bytes, whatever they are
+-- behind the header and these records a gate stands at this offset, and from it on the file has these bytes, whatever they are
 pub record IsAtGate (file : FileName) (bytes : Bytes) (at : ℕ) (done : List Bytes) (rest : Bytes) : Type 0 where
   pub front : Bytes
   pub is : bytes ≡ header file ++ front ++ rest

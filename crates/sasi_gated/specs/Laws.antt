@@ -69,7 +69,8 @@ opens_more bytes payload rest more first = record {
 }
 
 -- one more record behind others
-pub open_records_push : (front : Bytes) (done : List Bytes) (rest payload tail : Bytes) → OpenRecords front done → (next : Opens rest payload tail) → OpenRecords (front ++ next.gate ∷ frame payload) (done ++ payload ∷ [])
+pub open_records_push : (front : Bytes) (done : List Bytes) (rest payload tail : Bytes) → OpenRecords front done → (next : Opens rest payload tail)
+    → OpenRecords (front ++ next.gate ∷ frame payload) (done ++ payload ∷ [])
 open_records_push front [] rest payload tail none next = (
   [],
   record {
@@ -84,15 +85,18 @@ open_records_push front (r ∷ records) rest payload tail (behind, first, others
     (behind ++ next.gate ∷ frame payload, opens_more front r behind (next.gate ∷ frame payload) first, open_records_push behind records rest payload tail others next)
 
 -- open records before records up to a closed gate
-pub from_gate_before : (front : Bytes) (done : List Bytes) (rest : Bytes) (left : List Bytes) → OpenRecords front done → FromGate rest left → FromGate (front ++ rest) (done ++ left)
+pub from_gate_before : (front : Bytes) (done : List Bytes) (rest : Bytes) (left : List Bytes) → OpenRecords front done → FromGate rest left
+    → FromGate (front ++ rest) (done ++ left)
 from_gate_before front [] rest left none from = subst (λ (l : Bytes). FromGate (l ++ rest) left) (sym none) from
 from_gate_before front (r ∷ records) rest left (behind, first, others) from =
     (behind ++ rest, opens_more front r behind rest first, from_gate_before behind records rest left others from)
 
 -- and what is left behind them
-pub from_gate_behind : (front : Bytes) (done : List Bytes) (rest : Bytes) (records : List Bytes) → OpenRecords front done → FromGate (front ++ rest) records → (left : List Bytes) × (records ≡ done ++ left) × FromGate rest left
+pub from_gate_behind : (front : Bytes) (done : List Bytes) (rest : Bytes) (records : List Bytes) → OpenRecords front done
+    → FromGate (front ++ rest) records → (left : List Bytes) × (records ≡ done ++ left) × FromGate rest left
 from_gate_behind front [] rest records none from = (records, refl, subst (λ (l : Bytes). FromGate (l ++ rest) records) none from)
-from_gate_behind front (d ∷ done) rest [] (behind, first, others) closed = absurd (opens_not_closes (front ++ rest) d (behind ++ rest) (opens_more front d behind rest first) closed)
+from_gate_behind front (d ∷ done) rest [] (behind, first, others) closed =
+    absurd (opens_not_closes (front ++ rest) d (behind ++ rest) (opens_more front d behind rest first) closed)
 from_gate_behind front (d ∷ done) rest (r ∷ records) (behind, first, others) (tail, next, from) =
     let same = opens_same (front ++ rest) d r (behind ++ rest) tail (opens_more front d behind rest first) next in
     let more = from_gate_behind behind done rest records others (subst (λ (l : Bytes). FromGate l records) (sym same.1) from) in
@@ -129,7 +133,10 @@ header_length file = omega (
 )
 
 header_apart : (file : FileName) (a b : Bytes) → header file ++ a ≡ header file ++ b → a ≡ b
-header_apart file a b same = sym (drop_at (header file) a (length (header file)) refl) ∙ ap (λ (l : Bytes). drop (length (header file)) l) same ∙ drop_at (header file) b (length (header file)) refl
+header_apart file a b same =
+    sym (drop_at (header file) a (length (header file)) refl)
+    ∙ ap (λ (l : Bytes). drop (length (header file)) l) same
+    ∙ drop_at (header file) b (length (header file)) refl
 
 -- a gated file has one list of records
 pub records_same : (file : FileName) (bytes : Bytes) (left right : List Bytes) → IsGated file bytes left → IsGated file bytes right → left ≡ right
@@ -137,7 +144,8 @@ records_same file bytes left right first second =
     from_gate_same first.rest left right first.records_stand (subst (λ (l : Bytes). FromGate l right) (sym (header_apart file first.rest second.rest (sym first.is ∙ second.is))) second.records_stand)
 
 -- a reader at a gate of a file that has these records from there on
-pub gated_at : (file : FileName) (bytes : Bytes) (at : ℕ) (done : List Bytes) (rest : Bytes) (left : List Bytes) → IsAtGate file bytes at done rest → FromGate rest left → IsGated file bytes (done ++ left)
+pub gated_at : (file : FileName) (bytes : Bytes) (at : ℕ) (done : List Bytes) (rest : Bytes) (left : List Bytes) → IsAtGate file bytes at done rest
+    → FromGate rest left → IsGated file bytes (done ++ left)
 gated_at file bytes at done rest left gate from = record {
   rest = gate.front ++ rest;
   is = gate.is ∙ append_assoc (header file) gate.front rest;
@@ -145,14 +153,16 @@ gated_at file bytes at done rest left gate from = record {
 }
 
 -- and what is left of a gated file's records at a gate
-pub left_at : (file : FileName) (bytes : Bytes) (at : ℕ) (done : List Bytes) (rest : Bytes) (records : List Bytes) → IsAtGate file bytes at done rest → IsGated file bytes records → (left : List Bytes) × (records ≡ done ++ left) × FromGate rest left
+pub left_at : (file : FileName) (bytes : Bytes) (at : ℕ) (done : List Bytes) (rest : Bytes) (records : List Bytes) → IsAtGate file bytes at done rest
+    → IsGated file bytes records → (left : List Bytes) × (records ≡ done ++ left) × FromGate rest left
 left_at file bytes at done rest records gate gated =
     let same : gated.rest ≡ gate.front ++ rest = header_apart file gated.rest (gate.front ++ rest) (sym gated.is ∙ gate.is ∙ append_assoc (header file) gate.front rest) in
     from_gate_behind gate.front done rest records gate.records_stand (subst (λ (l : Bytes). FromGate l records) same gated.records_stand)
 
 -- a gated file at whose end one stands has these records
 pub gated_end : (v : View) (file : FileName) (at : ℕ) (records : List Bytes) → (end : IsAtEnd v file at records) → IsGated file end.bytes records
-gated_end v file at records end = subst (λ (l : List Bytes). IsGated file end.bytes l) (append-nil records) (gated_at file end.bytes at records end.rest [] end.at_gate end.closed)
+gated_end v file at records end =
+    subst (λ (l : List Bytes). IsGated file end.bytes l) (append-nil records) (gated_at file end.bytes at records end.rest [] end.at_gate end.closed)
 
 -- behind the header stands the first gate
 pub at_first_gate : (file : FileName) (bytes rest : Bytes) → bytes ≡ header file ++ rest → IsAtGate file bytes 16 [] rest
@@ -164,12 +174,21 @@ at_first_gate file bytes rest is = record {
 }
 
 -- behind an open record stands the next gate
-pub at_next_gate : (file : FileName) (bytes : Bytes) (at : ℕ) (done : List Bytes) (rest payload tail : Bytes) → IsAtGate file bytes at done rest → Opens rest payload tail → IsAtGate file bytes (at + (5 + length payload)) (done ++ payload ∷ []) tail
+pub at_next_gate : (file : FileName) (bytes : Bytes) (at : ℕ) (done : List Bytes) (rest payload tail : Bytes) → IsAtGate file bytes at done rest
+    → Opens rest payload tail → IsAtGate file bytes (at + (5 + length payload)) (done ++ payload ∷ []) tail
 at_next_gate file bytes at done rest payload tail gate next = record {
   front = gate.front ++ next.gate ∷ frame payload;
   is =
       gate.is ∙ ap (λ (l : Bytes). header file ++ gate.front ++ l) next.is ∙ sym (append_assoc (header file ++ gate.front) (next.gate ∷ frame payload) tail)
       ∙ ap (λ (l : Bytes). l ++ tail) (append_assoc (header file) gate.front (next.gate ∷ frame payload));
   records_stand = open_records_push gate.front done rest payload tail gate.records_stand next;
-  place = omega (arith, gate.place, frame_length payload, length-append (header file) gate.front, length-append (header file) (gate.front ++ next.gate ∷ frame payload), length-append gate.front (next.gate ∷ frame payload));
+  place = omega (
+    arith,
+    gate.place,
+    frame_length payload,
+    length-append (header file) gate.front,
+    length-append (header file)
+        (gate.front ++ next.gate ∷ frame payload),
+    length-append gate.front (next.gate ∷ frame payload),
+  );
 }

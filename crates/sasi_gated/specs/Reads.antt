@@ -14,15 +14,18 @@ use Rattle.sasi_gated.specs.Standing.{IsAtEnd, IsReading, ReadsOn}
 abbrev pub Begins : View → FileName → ℕ → Type 0
 Begins v file at = (bytes : Bytes) → contents v file ≡ Some bytes → (rest : Bytes) × IsAtGate file bytes at [] rest
 
--- at a gate of the file as it reads, this is read, and the reader then stands at the second place
+-- at a gate of the file as it reads, this is read, and the reader then stands at the second offset
 abbrev pub ReadsGate : View → FileName → ℕ → ℕ → Bool → Bytes → Type 0
-ReadsGate v file at after more out = (bytes : Bytes) (done : List Bytes) (rest : Bytes) → contents v file ≡ Some bytes → IsAtGate file bytes at done rest → ReadsAt more file bytes after done rest out
+ReadsGate v file at after more out =
+    (bytes : Bytes) (done : List Bytes)
+    (rest : Bytes) → contents v file ≡ Some bytes → IsAtGate file bytes at done rest → ReadsAt more file bytes after done rest out
 
--- of the records that are left, this is read, and the reader then stands at the second place
+-- of the records that are left, this is read, and the reader then stands at the second offset
 abbrev pub ReadsRecords : View → View → FileName → ℕ → ℕ → Bool → Bytes → Type 0
-ReadsRecords old new file at after more out = (done left : List Bytes) → IsTold old → IsReading old file at done left → ReadsOn more new file after done left out
+ReadsRecords old new file at after more out =
+    (done left : List Bytes) → IsTold old → IsReading old file at done left → ReadsOn more new file after done left out
 
--- where the records end at the first place, there is now this one more, and they end at the second place
+-- where the records end at the first offset, there is now this one more, and they end at the second offset
 abbrev pub Gains : View → View → FileName → ℕ → ℕ → Bytes → Type 0
 Gains old new file at after payload = (records : List Bytes) → IsAtEnd old file at records → IsAtEnd new file after (records ++ payload ∷ [])
 
@@ -34,12 +37,14 @@ IsShown v file = OnDamage (λ damage. (bytes : Bytes) → contents v file ≡ So
 
 -- the same, where the reader stood at a gate
 abbrev pub IsShownAt : View → FileName → ℕ → ReadFault → Type 0
-IsShownAt v file at = OnDamage (λ damage. (bytes : Bytes) (done : List Bytes) (rest : Bytes) → contents v file ≡ Some bytes → IsAtGate file bytes at done rest → Shows file bytes damage)
+IsShownAt v file at =
+    OnDamage
+    (λ damage. (bytes : Bytes) (done : List Bytes) (rest : Bytes) → contents v file ≡ Some bytes → IsAtGate file bytes at done rest → Shows file bytes damage)
 
--- and no gated file is damaged
+-- a file that is a gated one isn't reported as damaged
 abbrev pub SparesGated : View → FileName → ReadFault → Type 0
 SparesGated v file = OnDamage (λ _. (bytes : Bytes) (records : List Bytes) → contents v file ≡ Some bytes → IsGated file bytes records → ⊥)
 
--- nor one whose records are being read
+-- nor is one whose records are being read
 abbrev pub SparesReading : View → FileName → ℕ → ReadFault → Type 0
 SparesReading v file at = OnDamage (λ _. (done left : List Bytes) → IsTold v → IsReading v file at done left → ⊥)

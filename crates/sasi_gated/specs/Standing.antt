@@ -1,4 +1,4 @@
--- A gated file that each crash leaves alike, and where one stands in it.
+-- A durable gated file, and the gate before which its handle stands.
 use Rattle.std.specs.Prelude.{Bool, true, false, [], ◌≡◌, ℕ, List, ◌∷◌, ◌++◌}
 use Rattle.sasi_host.specs.declared.name.FileName.{FileName}
 use Rattle.sasi_host.specs.Names.{Bytes}
@@ -7,15 +7,15 @@ use Rattle.sasi_host.specs.Disk.{IsKept}
 use Rattle.sasi_gated.specs.Format.{Closes, FromGate}
 use Rattle.sasi_gated.specs.Gates.{IsAtGate}
 
--- what one knows of a gated file in hand
+-- what contracts see of an open gated file
 pub record Handle : Type 0 where
   pub file : FileName
-  -- the place of the gate before which it stands
+  -- the offset of the gate before which it stands
   pub at : ℕ
-  -- no call on it gave a fault
+  -- no call on it has failed
   pub usable : Bool
 
--- Each image has the file, alike in each. These records stand before the gate at this place, and these from it on.
+-- The file is durable. These records stand before the gate at this offset, and these from it on.
 pub record IsReading (v : View) (file : FileName) (at : ℕ) (done left : List Bytes) : Type 0 where
   pub bytes : Bytes
   pub rest : Bytes
@@ -23,7 +23,7 @@ pub record IsReading (v : View) (file : FileName) (at : ℕ) (done left : List B
   pub at_gate : IsAtGate file bytes at done rest
   pub records_left : FromGate rest left
 
--- Each image has the file, alike in each, with these records, and the closed gate stands at this place.
+-- The file is durable, with these records, and the closed gate stands at this offset.
 pub record IsAtEnd (v : View) (file : FileName) (at : ℕ) (records : List Bytes) : Type 0 where
   pub bytes : Bytes
   pub rest : Bytes

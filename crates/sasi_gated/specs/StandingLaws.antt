@@ -12,7 +12,8 @@ use Rattle.sasi_gated.specs.Laws.{gated_end}
 use Rattle.sasi_gated.specs.Standing.{IsAtEnd}
 
 -- where nothing is done, each image has the records before an append
-pub unmoved : (v : View) (file : FileName) (at : ℕ) (records : List Bytes) (payload : Bytes) → IsSound v → IsAtEnd v file at records → Changes (Step file (LeftWith (IsBeforeOrAfter file records payload))) v v
+pub unmoved : (v : View) (file : FileName) (at : ℕ) (records : List Bytes) (payload : Bytes) → IsSound v → IsAtEnd v file at records
+    → Changes (Step file (LeftWith (IsBeforeOrAfter file records payload))) v v
 unmoved v file at records payload sound end =
     changes_among v v (λ x. get x file ≡ Some end.bytes) Same (Step file (LeftWith (IsBeforeOrAfter file records payload))) sound end.kept (stays v)
     (λ x y is same. record { others = λ name other. ap (λ (f : Folder). get f name) same; this = (end.bytes, ap (λ (f : Folder). get f file) same ∙ is, inl (gated_end v file at records end)) })

@@ -9,7 +9,7 @@ ghost use Rattle.sasi_gated.specs.Reads.{Gains};
 use crate::Record;
 use sasi_host::{Failed, FileName, Host, write_durably};
 
-// Appends a record at the closed gate at this place, and gives the place of the next one.
+// Appends a record at the closed gate at this offset, and gives the offset of the next one.
 pub fn append_at<H: Host>(
     host: &mut H,
     file: FileName,
@@ -33,7 +33,7 @@ pub fn append_at<H: Host>(
     Ok(at + bytes.len() as u64)
 }
 
-// Writes behind the closed gate at this place, which stays closed, and syncs.
+// Writes behind the closed gate at this offset, which stays closed, and syncs.
 fn write_behind<H: Host>(host: &mut H, file: FileName, at: u64, bytes: &[u8]) -> Result<(), Failed>
     requires room { Reaches (H.view host.old) file (at + 1) }
     requires place { at ≤ 2 ^ 62 }
@@ -46,7 +46,7 @@ fn write_behind<H: Host>(host: &mut H, file: FileName, at: u64, bytes: &[u8]) ->
     write_durably(host, file, at + 1, bytes)
 }
 
-// Opens the gate at this place, and syncs.
+// Opens the gate at this offset, and syncs.
 fn open_gate<H: Host>(host: &mut H, file: FileName, at: u64) -> Result<(), Failed>
     requires { Reaches (H.view host.old) file at }
     ensures ok { OnOk result ((old : _) → IsKept (H.view host.old) file old → IsKept (H.view host.new) file (overlay old at (1 ∷ []))) }

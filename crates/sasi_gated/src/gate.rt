@@ -10,7 +10,7 @@ const LONGEST: u32 = 1 << 30;
 pub enum Gate<'a> {
     // The end of the records.
     Closed,
-    // A record of this length, whose payload begins with these bytes, as far as they are in hand.
+    // A record of this length, with those bytes of its payload that were read with the gate.
     Opened { length: u32, begun: &'a [u8] },
     // Too few bytes.
     CutOff,

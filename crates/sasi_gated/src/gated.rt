@@ -1,4 +1,4 @@
-// A gated file in hand.
+// An open gated file.
 ghost use Rattle.std.specs.Prelude.{◌≡◌, ◌+◌, ◌≤◌, ◌^◌, ◌∷◌, ◌++◌, [], ℕ, List, length, if◌then◌else◌, IfErr, IfOk, OnOk, IsTrue, is_ok, false, Some};
 ghost use Rattle.std.specs.Option.{option_copied, option_to_list};
 ghost use Rattle.sasi_host.specs.View.{DiskCauses, ListCauses, Reaches, IsAbsent, IsThere, IsTold, contents};
@@ -21,8 +21,8 @@ use sasi_host::{Failed, FileName, Host, HostFault, ReadFault, make_file};
 use std::alloc::Global;
 use std::marker::Model;
 
-/// A gated file, opened for reading from gate to gate, and then for appending. Seen as its name, the place where it stands
-/// and whether it is usable.
+/// An open gated file, which is read from gate to gate, and then appended to. Contracts see its name, the offset of the
+/// gate before which it stands, and whether it is usable.
 #[derive(Drop)]
 pub struct Gated {
     file: FileName,
@@ -42,7 +42,7 @@ impl Model for Gated {
 }
 
 impl Gated {
-    /// Whether no call on it gave a fault.
+    /// Whether no call on it has failed.
     pub fn is_usable(&self) -> bool
         ensures { result ≡ self.now.usable }
     {
@@ -56,7 +56,7 @@ impl Gated {
         self.file
     }
 
-    /// The place of the gate before which it stands.
+    /// The offset of the gate before which it stands.
     pub fn place(&self) -> u64
         ensures place { result ≡ self.now.at }
         ensures fits { result ≤ 2 ^ 62 }

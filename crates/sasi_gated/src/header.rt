@@ -9,7 +9,7 @@ use sasi_fields::{FieldReader, ShortField, put_bytes, put_u32};
 use sasi_host::{Damage, FileName, FormatRule, Kind, found};
 use std::alloc::AllocError;
 
-// Behind so many bytes stands the first gate.
+// The offset of the first gate.
 pub const HEADER_LENGTH: u64 = 16;
 
 pub const VERSION: u32 = 1;
@@ -31,7 +31,7 @@ pub fn put_header(out: &mut Vec<u8>, file: FileName) -> Result<(), AllocError>
     put_u32(out, file.number)
 }
 
-// The fields of a header, whatever they are.
+// The fields of a header, as they were read.
 #[derive(Clone, Copy)]
 struct Header<'a> {
     magic: &'a [u8],

@@ -1,5 +1,5 @@
-// Files of records behind gates. A record is written and synced behind a gate that is closed, and then the gate is opened
-// and synced: so a crash leaves the records from before, with the new one or without.
+//! Files of records behind gates. A record is written and synced behind a gate that is closed, and then the gate is opened
+//! and synced: so a crash leaves the records from before, with the new one or without.
 #![tactic(auto)]
 
 mod append;
@@ -12,8 +12,6 @@ mod next;
 mod payload;
 mod read;
 mod record;
-#[cfg(test)]
-mod tests;
 
 pub use gated::Gated;
 pub use record::Record;

@@ -13,10 +13,10 @@ use crate::damage::cut_off;
 use crate::read::read_record;
 use sasi_host::{FileName, Host, ReadFault};
 
-// No file is longer.
+// The most bytes that a file has.
 const LARGEST_FILE: u64 = 1 << 62;
 
-// Whether a record was read, and the place of the gate before which the reader then stands.
+// Whether a record was read, and the offset of the gate before which the reader then stands.
 #[derive(Clone, Copy)]
 pub struct Next {
     pub more: bool,

@@ -10,7 +10,7 @@ ghost use Rattle.sasi_host.specs.Damages.{OnDamage};
 use crate::damage::cut_off;
 use sasi_host::{FileName, Host, ReadFault};
 
-// Appends so many bytes of the file, from this place on: at most as many as one read of the host gives.
+// Appends so many bytes of the file from this offset on, at most as many as one read of the host gives.
 fn read_piece<H: Host>(
     host: &mut H,
     file: FileName,
@@ -38,7 +38,7 @@ fn read_piece<H: Host>(
     Ok(())
 }
 
-// Goes on to append the file's bytes from this place on, until there are so many.
+// Appends the file's bytes from this offset on, until `out` has so many. It begins with those that `out` has.
 pub fn read_payload<H: Host>(
     host: &mut H,
     file: FileName,

@@ -29,7 +29,7 @@ pub fn read_header<H: Host>(host: &mut H, file: FileName) -> Result<(), ReadFaul
     Ok(())
 }
 
-// Reads at the gate at this place: the record behind it, or false where it is closed.
+// Reads at the gate at this offset: true with the record behind it, or false where it is closed.
 pub fn read_record<H: Host>(
     host: &mut H,
     file: FileName,
@@ -63,7 +63,7 @@ pub fn read_record<H: Host>(
     }
 }
 
-// Reads a payload of which the first bytes are in hand.
+// Reads a payload of which the first bytes were read with the gate.
 fn read_begun<H: Host>(
     host: &mut H,
     file: FileName,

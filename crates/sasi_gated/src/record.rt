@@ -6,7 +6,7 @@ use sasi_fields::{put_bytes, put_u8, put_u32};
 use std::alloc::{AllocError, Global};
 use std::marker::Model;
 
-/// What is appended to a gated file, seen as its payload. It keeps the bytes that stand behind the gate, so that an
+/// A record to be appended to a gated file, seen as its payload. It keeps the bytes that stand behind the gate, so that an
 /// append needs no memory.
 #[derive(Drop)]
 pub struct Record {
@@ -35,7 +35,7 @@ impl Record {
         Ok(Record { bytes })
     }
 
-    // What stands behind its gate, with the closed gate that follows it.
+    // The bytes behind its gate, with the closed gate that follows them.
     pub(crate) fn bytes(&self) -> &[u8]
         ensures whole { result.now ≡ frame self.now ++ 0 ∷ [] }
         ensures payload { IsPayload self.now }

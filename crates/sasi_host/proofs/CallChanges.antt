@@ -21,8 +21,9 @@ pub err_from : {T E P : Type 0} (r : Result T E) → is_err r ≡ true → OnErr
 err_from (Ok x) is p = cc
 err_from (Err x) is p = p
 
--- a call that left no note
-pub unmoved : (start : Folder) → (S : Folder → Folder → Type 0) → ((x : Folder) → S x x) → (old new : List Call) → new ≡ old → (d o r d2 o2 r2 : ℕ) → Changes S (view_after start old d o r) (view_after start new d2 o2 r2)
+-- a call that isn't in the log
+pub unmoved : (start : Folder) → (S : Folder → Folder → Type 0) → ((x : Folder) → S x x) → (old new : List Call) → new ≡ old → (d o r d2 o2 r2 : ℕ)
+    → Changes S (view_after start old d o r) (view_after start new d2 o2 r2)
 unmoved start S same old new is d o r d2 o2 r2 = subst (λ (calls : List Call). Changes S (view_after start old d o r) (view_after start calls d2 o2 r2)) (sym is) (record {
   seen = λ f told. (f, told, same f);
   untold = λ told. told;
@@ -35,24 +36,35 @@ unmoved start S same old new is d o r d2 o2 r2 = subst (λ (calls : List Call). 
 pub step_same : (file : FileName) (R : Option Bytes → Option Bytes → Type 0) → ((o : Option Bytes) → R o o) → (f : Folder) → Step file R f f
 step_same file R same f = record { others = λ name apart. refl; this = same (get f file) }
 
--- a call that left a note
-pub noted : (start : Folder) → (old new : List Call) (call : Call) → new ≡ old ++ call ∷ [] → output call ≡ [] → (d o r d2 o2 r2 : ℕ) → Changes (Effect call (replay (opened start) old).folder) (view_after start old d o r) (view_after start new d2 o2 r2)
-noted start old new call is quiet d o r d2 o2 r2 = subst (λ (calls : List Call). Changes (Effect call (replay (opened start) old).folder) (view_after start old d o r) (view_after start calls d2 o2 r2)) (sym is) (pushed start old d o r call d2 o2 r2 quiet)
+-- a call that is in the log
+pub noted : (start : Folder) → (old new : List Call) (call : Call) → new ≡ old ++ call ∷ [] → output call ≡ [] → (d o r d2 o2 r2 : ℕ)
+    → Changes (Effect call (replay (opened start) old).folder) (view_after start old d o r) (view_after start new d2 o2 r2)
+noted start old new call is quiet d o r d2 o2 r2 =
+    subst
+    (λ (calls : List Call). Changes (Effect call (replay (opened start) old).folder) (view_after start old d o r) (view_after start calls d2 o2 r2))
+    (sym is) (pushed start old d o r call d2 o2 r2 quiet)
 
 -- what the folder reads after one more call
-pub folder_on : (start : Folder) → (old new : List Call) (call : Call) → new ≡ old ++ call ∷ [] → (replay (opened start) new).folder ≡ apply call (replay (opened start) old).folder
-folder_on start old new call is = ap (λ (calls : List Call). (replay (opened start) calls).folder) is ∙ ap (λ (m : Medium). m.folder) (replay_push (opened start) old call)
+pub folder_on : (start : Folder) → (old new : List Call) (call : Call) → new ≡ old ++ call ∷ []
+    → (replay (opened start) new).folder ≡ apply call (replay (opened start) old).folder
+folder_on start old new call is =
+    ap (λ (calls : List Call). (replay (opened start) calls).folder) is ∙ ap (λ (m : Medium). m.folder) (replay_push (opened start) old call)
 
 -- what is emitted after one more call
-pub emitted_on : (start : Folder) → (old new : List Call) (call : Call) → new ≡ old ++ call ∷ [] → (replay (opened start) new).emitted ≡ (replay (opened start) old).emitted ++ output call
-emitted_on start old new call is = ap (λ (calls : List Call). (replay (opened start) calls).emitted) is ∙ ap (λ (m : Medium). m.emitted) (replay_push (opened start) old call)
+pub emitted_on : (start : Folder) → (old new : List Call) (call : Call) → new ≡ old ++ call ∷ []
+    → (replay (opened start) new).emitted ≡ (replay (opened start) old).emitted ++ output call
+emitted_on start old new call is =
+    ap (λ (calls : List Call). (replay (opened start) calls).emitted) is ∙ ap (λ (m : Medium). m.emitted) (replay_push (opened start) old call)
 
 -- the images after one more call
-pub image_on : (start : Folder) → (old new : List Call) (call : Call) → new ≡ old ++ call ∷ [] → (c : Folder) → (replay (opened start) new).image c → (d : Folder) × (replay (opened start) old).image d × Effect call (replay (opened start) old).folder d c
-image_on start old new call is c now = subst (λ (m : Medium). m.image c) (ap (λ (calls : List Call). replay (opened start) calls) is ∙ replay_push (opened start) old call) now
+pub image_on : (start : Folder) → (old new : List Call) (call : Call) → new ≡ old ++ call ∷ [] → (c : Folder) → (replay (opened start) new).image c
+    → (d : Folder) × (replay (opened start) old).image d × Effect call (replay (opened start) old).folder d c
+image_on start old new call is c now =
+    subst (λ (m : Medium). m.image c) (ap (λ (calls : List Call). replay (opened start) calls) is ∙ replay_push (opened start) old call) now
 
--- an emit that was noted
-pub emits_all : (start : Folder) → (bytes : Bytes) (old new : List Call) → new ≡ old ++ Emitted bytes ∷ [] → (d o r d2 o2 r2 : ℕ) → Emits bytes (view_after start old d o r) (view_after start new d2 o2 r2)
+-- an emit that is in the log
+pub emits_all : (start : Folder) → (bytes : Bytes) (old new : List Call) → new ≡ old ++ Emitted bytes ∷ [] → (d o r d2 o2 r2 : ℕ)
+    → Emits bytes (view_after start old d o r) (view_after start new d2 o2 r2)
 emits_all start bytes old new is d o r d2 o2 r2 = subst (λ (calls : List Call). Emits bytes (view_after start old d o r) (view_after start calls d2 o2 r2)) (sym is) (record {
   front = bytes;
   back = [];
@@ -82,33 +94,46 @@ emits_all start bytes old new is d o r d2 o2 r2 = subst (λ (calls : List Call).
     after = replay_push (opened start) old (Emitted bytes)
 
 -- one more call keeps the earlier moments
-pub keeps : (start : Folder) (old new : List Call) (call : Call) → new ≡ old ++ call ∷ [] → (d o r d2 o2 r2 : ℕ) → KeepsMoments (view_after start old d o r) (view_after start new d2 o2 r2)
-keeps start old new call is d o r d2 o2 r2 t c e le left = subst (λ (calls : List Call). LeftSince (opened start) calls t c e) (sym is) (since_keeps (opened start) old call t c e left)
+pub keeps : (start : Folder) (old new : List Call) (call : Call) → new ≡ old ++ call ∷ [] → (d o r d2 o2 r2 : ℕ)
+    → KeepsMoments (view_after start old d o r) (view_after start new d2 o2 r2)
+keeps start old new call is d o r d2 o2 r2 t c e le left =
+    subst (λ (calls : List Call). LeftSince (opened start) calls t c e) (sym is) (since_keeps (opened start) old call t c e left)
 
 -- and each first part of what it emits counts
-pub tells_prefixes : (start : Folder) (old new : List Call) (bytes : Bytes) → new ≡ old ++ Emitted bytes ∷ [] → (d o r d2 o2 r2 : ℕ) → TellsPrefixes bytes (view_after start old d o r) (view_after start new d2 o2 r2)
+pub tells_prefixes : (start : Folder) (old new : List Call) (bytes : Bytes) → new ≡ old ++ Emitted bytes ∷ [] → (d o r d2 o2 r2 : ℕ)
+    → TellsPrefixes bytes (view_after start old d o r) (view_after start new d2 o2 r2)
 tells_prefixes start old new bytes is d o r d2 o2 r2 t c b k le now told =
     subst (λ (calls : List Call). LeftSince (opened start) calls t c (b ++ take k bytes)) (sym is)
     (subst (λ (w : Bytes). LeftSince (opened start) (old ++ Emitted bytes ∷ []) t c (w ++ take k bytes)) (some_same _ _ told) (fronts_since (opened start) old (Emitted bytes) t c k le now))
 
 -- ---- what a host in memory keeps of its folder
 
--- a call that was noted and done, or neither
-pub folder_kept : {T E : Type 0} (start : Folder) (old new : List Call) (f g : Folder) (call : Call) (r : Result T E) → f ≡ (replay (opened start) old).folder → OnOk r ((new ≡ old ++ call ∷ []) × (g ≡ apply call f)) → OnErr r ((new ≡ old) × (g ≡ f)) → g ≡ (replay (opened start) new).folder
+-- a call that is in the log and took effect, or neither
+pub folder_kept : {T E : Type 0} (start : Folder) (old new : List Call) (f g : Folder) (call : Call) (r : Result T E)
+    → f ≡ (replay (opened start) old).folder → OnOk r ((new ≡ old ++ call ∷ []) × (g ≡ apply call f)) → OnErr r ((new ≡ old) × (g ≡ f))
+    → g ≡ (replay (opened start) new).folder
 folder_kept start old new f g call (Ok x) is done none = done.1 ∙ ap (apply call) is ∙ sym (folder_on start old new call done.0)
 folder_kept start old new f g call (Err x) is done none = none.1 ∙ is ∙ ap (λ (calls : List Call). (replay (opened start) calls).folder) (sym none.0)
 
 -- a call that changes nothing that is read
-pub folder_still : {T E : Type 0} (start : Folder) (old new : List Call) (f : Folder) (call : Call) (r : Result T E) → ((g : Folder) → apply call g ≡ g) → f ≡ (replay (opened start) old).folder → OnOk r (new ≡ old ++ call ∷ []) → OnErr r (new ≡ old) → f ≡ (replay (opened start) new).folder
+pub folder_still : {T E : Type 0} (start : Folder) (old new : List Call) (f : Folder) (call : Call) (r : Result T E)
+    → ((g : Folder) → apply call g ≡ g) → f ≡ (replay (opened start) old).folder → OnOk r (new ≡ old ++ call ∷ []) → OnErr r (new ≡ old)
+    → f ≡ (replay (opened start) new).folder
 folder_still start old new f call (Ok x) same is done none = is ∙ sym (folder_on start old new call done ∙ same _)
 folder_still start old new f call (Err x) same is done none = is ∙ ap (λ (calls : List Call). (replay (opened start) calls).folder) (sym none)
 
 -- a call that emits nothing
-pub emitted_kept : {T E : Type 0} (start : Folder) (old new : List Call) (out : Bytes) (call : Call) (r : Result T E) → output call ≡ [] → out ≡ (replay (opened start) old).emitted → OnOk r (new ≡ old ++ call ∷ []) → OnErr r (new ≡ old) → out ≡ (replay (opened start) new).emitted
-emitted_kept start old new out call (Ok x) quiet is done none = is ∙ sym (emitted_on start old new call done ∙ ap (λ (b : Bytes). (replay (opened start) old).emitted ++ b) quiet ∙ append-nil _)
+pub emitted_kept : {T E : Type 0} (start : Folder) (old new : List Call) (out : Bytes) (call : Call) (r : Result T E) → output call ≡ []
+    → out ≡ (replay (opened start) old).emitted → OnOk r (new ≡ old ++ call ∷ []) → OnErr r (new ≡ old) → out ≡ (replay (opened start) new).emitted
+emitted_kept start old new out call (Ok x) quiet is done none =
+    is ∙ sym (emitted_on start old new call done ∙ ap (λ (b : Bytes). (replay (opened start) old).emitted ++ b) quiet ∙ append-nil _)
 emitted_kept start old new out call (Err x) quiet is done none = is ∙ ap (λ (calls : List Call). (replay (opened start) calls).emitted) (sym none)
 
--- an emit that was noted and done, or neither
-pub emitted_more : {T E : Type 0} (start : Folder) (old new : List Call) (out more bytes : Bytes) (r : Result T E) → out ≡ (replay (opened start) old).emitted → OnOk r ((new ≡ old ++ Emitted bytes ∷ []) × (more ≡ out ++ bytes)) → OnErr r ((new ≡ old) × (more ≡ out)) → more ≡ (replay (opened start) new).emitted
-emitted_more start old new out more bytes (Ok x) is done none = done.1 ∙ ap (λ (b : Bytes). b ++ bytes) is ∙ sym (emitted_on start old new (Emitted bytes) done.0)
-emitted_more start old new out more bytes (Err x) is done none = none.1 ∙ is ∙ ap (λ (calls : List Call). (replay (opened start) calls).emitted) (sym none.0)
+-- an emit that is in the log and took effect, or neither
+pub emitted_more : {T E : Type 0} (start : Folder) (old new : List Call) (out more bytes : Bytes) (r : Result T E)
+    → out ≡ (replay (opened start) old).emitted → OnOk r ((new ≡ old ++ Emitted bytes ∷ []) × (more ≡ out ++ bytes))
+    → OnErr r ((new ≡ old) × (more ≡ out)) → more ≡ (replay (opened start) new).emitted
+emitted_more start old new out more bytes (Ok x) is done none =
+    done.1 ∙ ap (λ (b : Bytes). b ++ bytes) is ∙ sym (emitted_on start old new (Emitted bytes) done.0)
+emitted_more start old new out more bytes (Err x) is done none =
+    none.1 ∙ is ∙ ap (λ (calls : List Call). (replay (opened start) calls).emitted) (sym none.0)

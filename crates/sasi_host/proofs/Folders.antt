@@ -23,13 +23,15 @@ find_entry (e ∷ es) q = ap (cond (is_at (name_cmp q) e.0) (Some e.1)) (find_en
 pub get_entry : (es : Entries) (q : FileName) → get (folder_of es) q ≡ look_up es q
 get_entry es q = get-from_entries names_total _ q ∙ find_entry es q
 
-pub folder_insert : (es fs : Entries) (name : FileName) (v : Bytes) → ((q : FileName) → look_up fs q ≡ cond (is_at (name_cmp name) q) (Some v) (look_up es q)) → folder_of fs ≡ insert (folder_of es) name v
+pub folder_insert : (es fs : Entries) (name : FileName) (v : Bytes)
+    → ((q : FileName) → look_up fs q ≡ cond (is_at (name_cmp name) q) (Some v) (look_up es q)) → folder_of fs ≡ insert (folder_of es) name v
 folder_insert es fs name v h = same_map names_total names_exact _ _ (λ q.
     get_entry fs q ∙ h q
     ∙ ap (λ b. cond b (Some v) (look_up es q)) ((eq_by_cmp_equiv names_total).symm name q)
     ∙ sym (get-insert names_total (folder_of es) name v q ∙ ap (cond (is_at (name_cmp q) name) (Some v)) (get_entry es q)))
 
-pub folder_remove : (es fs : Entries) (name : FileName) → ((q : FileName) → look_up fs q ≡ cond (is_at (name_cmp name) q) None (look_up es q)) → folder_of fs ≡ remove (folder_of es) name
+pub folder_remove : (es fs : Entries) (name : FileName) → ((q : FileName) → look_up fs q ≡ cond (is_at (name_cmp name) q) None (look_up es q))
+    → folder_of fs ≡ remove (folder_of es) name
 folder_remove es fs name h = same_map names_total names_exact _ _ (λ q.
     get_entry fs q ∙ h q
     ∙ ap (λ b. cond b None (look_up es q)) ((eq_by_cmp_equiv names_total).symm name q)
@@ -38,7 +40,8 @@ folder_remove es fs name h = same_map names_total names_exact _ _ (λ q.
 pub overwritten_there : (old : Bytes) (at : ℕ) (bytes : Bytes) → at ≤ length old → overwritten old at bytes ≡ overlay old at bytes
 overwritten_there old at bytes le = ap (λ (t : Bool). if t then overlay old at bytes else old) (le-leb at (length old) le)
 
-pub written_to : (f : Folder) (file : FileName) (at : ℕ) (bytes old : Bytes) → get f file ≡ Some old → written (get f file) file at bytes f ≡ insert f file (overwritten old at bytes)
+pub written_to : (f : Folder) (file : FileName) (at : ℕ) (bytes old : Bytes) → get f file ≡ Some old
+    → written (get f file) file at bytes f ≡ insert f file (overwritten old at bytes)
 written_to f file at bytes old is = ap (λ (o : Option Bytes). written o file at bytes f) is
 
 pub written_none : (f : Folder) (file : FileName) (at : ℕ) (bytes : Bytes) → get f file ≡ None → written (get f file) file at bytes f ≡ f
@@ -71,14 +74,18 @@ fits_remove f file fits = record {
   ];
 }
 
-overwritten_short : (old : Bytes) (at : ℕ) (bytes : Bytes) → length old ≤ 2 ^ 62 → at + length bytes ≤ 2 ^ 62 → length (overwritten old at bytes) ≤ 2 ^ 62
+overwritten_short : (old : Bytes) (at : ℕ) (bytes : Bytes) → length old ≤ 2 ^ 62 → at + length bytes ≤ 2 ^ 62
+    → length (overwritten old at bytes) ≤ 2 ^ 62
 overwritten_short old at bytes short fits = test (nat_le at (length old))
   where
     test : (t : Bool) → length (if t then overlay old at bytes else old) ≤ 2 ^ 62
-    test true = omega (arith, short, fits, length-append (take at old ++ bytes) (drop (at + length bytes) old), length-append (take at old) bytes, length-drop (at + length bytes) old, length-take at old)
+    test true =
+        omega
+        (arith, short, fits, length-append (take at old ++ bytes) (drop (at + length bytes) old), length-append (take at old) bytes, length-drop (at + length bytes) old, length-take at old)
     test false = short
 
-pub fits_written : (f : Folder) (file : FileName) (at : ℕ) (bytes : Bytes) → FitsAll f → at + length bytes ≤ 2 ^ 62 → FitsAll (written (get f file) file at bytes f)
+pub fits_written : (f : Folder) (file : FileName) (at : ℕ) (bytes : Bytes) → FitsAll f → at + length bytes ≤ 2 ^ 62
+    → FitsAll (written (get f file) file at bytes f)
 fits_written f file at bytes fits short = from (get f file) refl
   where
     from : (o : Option Bytes) → get f file ≡ o → FitsAll (written o file at bytes f)
@@ -91,20 +98,26 @@ fits_written f file at bytes fits short = from (get f file) refl
 abbrev pub SetsTo : Entries → Entries → FileName → Bytes → Type 0
 SetsTo es fs name w = (q : FileName) → look_up fs q ≡ cond (is_at (name_cmp name) q) (Some w) (look_up es q)
 
-pub folder_write : (es fs : Entries) (name : FileName) (at : ℕ) (bytes old w : Bytes) → look_up es name ≡ Some old → SetsTo es fs name w → w ≡ overwritten old at bytes → folder_of fs ≡ written (get (folder_of es) name) name at bytes (folder_of es)
+pub folder_write : (es fs : Entries) (name : FileName) (at : ℕ) (bytes old w : Bytes) → look_up es name ≡ Some old → SetsTo es fs name w
+    → w ≡ overwritten old at bytes → folder_of fs ≡ written (get (folder_of es) name) name at bytes (folder_of es)
 folder_write es fs name at bytes old w is sets new =
     folder_insert es fs name w sets ∙ ap (λ (b : Bytes). insert (folder_of es) name b) new ∙ sym (written_to (folder_of es) name at bytes old (get_entry es name ∙ is))
 
 -- a file that is set to what it was
-pub folder_still : (es fs : Entries) (name : FileName) (old w : Bytes) → look_up es name ≡ Some old → SetsTo es fs name w → w ≡ old → folder_of fs ≡ folder_of es
+pub folder_still : (es fs : Entries) (name : FileName) (old w : Bytes) → look_up es name ≡ Some old → SetsTo es fs name w → w ≡ old
+    → folder_of fs ≡ folder_of es
 folder_still es fs name old w is sets same = folder_insert es fs name w sets ∙ same_map names_total names_exact _ _ (λ q. elim (name_cases q name) [
-  | inl here ↦ ap (λ (n : FileName). get (insert (folder_of es) name w) n) here ∙ insert_here (folder_of es) name w ∙ ap (λ (b : Bytes). Some b) same ∙ sym (ap (λ (n : FileName). get (folder_of es) n) here ∙ get_entry es name ∙ is)
+  | inl here ↦ ap (λ (n : FileName). get (insert (folder_of es) name w) n) here ∙ insert_here (folder_of es) name w
+      ∙ ap (λ (b : Bytes). Some b) same ∙ sym (ap (λ (n : FileName). get (folder_of es) n) here ∙ get_entry es name ∙ is)
   | inr apart ↦ insert_apart (folder_of es) name q w apart
 ])
 
 -- a write that was done or refused leaves each file short
-pub fits_set : {T E : Type 0} (r : Result T E) (es fs : Entries) (name : FileName) (at : ℕ) (bytes old w : Bytes) → FitsAll (folder_of es) → at + length bytes ≤ 2 ^ 62 → look_up es name ≡ Some old → SetsTo es fs name w → OnOk r (w ≡ overwritten old at bytes) → OnErr r (w ≡ old) → FitsAll (folder_of fs)
-fits_set (Ok u) es fs name at bytes old w fits short is sets new same = subst FitsAll (sym (folder_write es fs name at bytes old w is sets new)) (fits_written (folder_of es) name at bytes fits short)
+pub fits_set : {T E : Type 0} (r : Result T E) (es fs : Entries) (name : FileName) (at : ℕ) (bytes old w : Bytes) → FitsAll (folder_of es)
+    → at + length bytes ≤ 2 ^ 62 → look_up es name ≡ Some old → SetsTo es fs name w → OnOk r (w ≡ overwritten old at bytes) → OnErr r (w ≡ old)
+    → FitsAll (folder_of fs)
+fits_set (Ok u) es fs name at bytes old w fits short is sets new same =
+    subst FitsAll (sym (folder_write es fs name at bytes old w is sets new)) (fits_written (folder_of es) name at bytes fits short)
 fits_set (Err e) es fs name at bytes old w fits short is sets new same = subst FitsAll (sym (folder_still es fs name old w is sets same)) fits
 
 -- ---- what the tree lists
@@ -112,7 +125,9 @@ fits_set (Err e) es fs name at bytes old w fits short is sets new same = subst F
 names_decide : (a b : FileName) → Decides (eq_by_cmp name_cmp a b) (a ≡ b)
 names_decide a b = (λ e. same_name a b e, λ e. subst (λ (n : FileName). eq_by_cmp name_cmp a n ≡ true) e (test_here a))
 
-pub lists_names : (es : Entries) (f : Folder) (names : List FileName) → folder_of es ≡ f → ((name : FileName) → is_some (look_up es name) ≡ is_member (eq_by_cmp name_cmp) names name) → (name : FileName) → Contains names name ↔ IsSome (get f name)
+pub lists_names : (es : Entries) (f : Folder) (names : List FileName) → folder_of es ≡ f
+    → ((name : FileName) → is_some (look_up es name) ≡ is_member (eq_by_cmp name_cmp) names name) → (name : FileName)
+    → Contains names name ↔ IsSome (get f name)
 lists_names es f names is has name =
     let there : is_some (get f name) ≡ is_member (eq_by_cmp name_cmp) names name = ap is_some (sym (ap (λ (m : Folder). get m name) is) ∙ get_entry es name) ∙ has name in
     let member = is_member-Decides names_decide names name in

@@ -18,7 +18,8 @@ use Rattle.sasi_host.specs.Showing.{shown_before, end_later}
 use Rattle.sasi_host.specs.Held.{pages_of, in_hand, fresh_pages}
 
 -- what was read of a page is all that the file has there
-pub page_read : (bytes old new : Bytes) (page count : ℕ) → length old ≡ 4096 → Fills bytes (page * 4096) old new count → take count new ≡ take 4096 (drop (4096 * page) bytes)
+pub page_read : (bytes old new : Bytes) (page count : ℕ) → length old ≡ 4096 → Fills bytes (page * 4096) old new count
+    → take count new ≡ take 4096 (drop (4096 * page) bytes)
 page_read bytes old new page count long fills =
     let there = drop (4096 * page) bytes in
     let size : length (take 4096 there) ≤ count = omega (arith, long, fills.taken, length-take 4096 there, length-drop (4096 * page) bytes) in
@@ -26,8 +27,9 @@ page_read bytes old new page count long fills =
     ∙ sym (take-take count 4096 there (omega (arith, long, fills.taken)))
     ∙ take_all count (take 4096 there) size
 
--- what the page in hand gives of a run that lies on it
-pub page_gives : (bytes page : Bytes) (at n : ℕ) → page ≡ take 4096 (drop (4096 * (at / 4096)) bytes) → at % 4096 + n ≤ 4096 → take n (drop (at % 4096) page) ≡ take n (drop at bytes)
+-- the bytes of a run that lies on the buffered page
+pub page_gives : (bytes page : Bytes) (at n : ℕ) → page ≡ take 4096 (drop (4096 * (at / 4096)) bytes) → at % 4096 + n ≤ 4096
+    → take n (drop (at % 4096) page) ≡ take n (drop at bytes)
 page_gives bytes page at n is le =
     let begin = at % 4096 in
     let start = 4096 * (at / 4096) in
@@ -39,15 +41,18 @@ page_gives bytes page at n is le =
     ∙ ap (λ (k : ℕ). take n (drop k bytes)) (omega arith)
 
 -- how long it is
-pub page_long : (bytes page : Bytes) (at : ℕ) → page ≡ take 4096 (drop (4096 * (at / 4096)) bytes) → length page ≡ min 4096 (length bytes - 4096 * (at / 4096))
-page_long bytes page at is = ap (λ (l : Bytes). length l) is ∙ omega (arith, length-take 4096 (drop (4096 * (at / 4096)) bytes), length-drop (4096 * (at / 4096)) bytes)
+pub page_long : (bytes page : Bytes) (at : ℕ) → page ≡ take 4096 (drop (4096 * (at / 4096)) bytes)
+    → length page ≡ min 4096 (length bytes - 4096 * (at / 4096))
+page_long bytes page at is =
+    ap (λ (l : Bytes). length l) is ∙ omega (arith, length-take 4096 (drop (4096 * (at / 4096)) bytes), length-drop (4096 * (at / 4096)) bytes)
 
 -- how long a part of a buffer is
 pub part_long : (out : Bytes) (filled part : ℕ) → filled + part ≤ length out → length (take (filled + part - filled) (drop filled out)) ≡ part
 part_long out filled part le = omega (arith, le, length-take (filled + part - filled) (drop filled out), length-drop filled out)
 
 -- one part more
-pub part_more : (bytes out part : Bytes) (at filled n k m : ℕ) → take filled out ≡ take filled (drop at bytes) → filled ≤ length out → part ≡ take n (drop (at + filled) bytes) → length part ≡ n → m ≡ filled + n
+pub part_more : (bytes out part : Bytes) (at filled n k m : ℕ) → take filled out ≡ take filled (drop at bytes) → filled ≤ length out
+    → part ≡ take n (drop (at + filled) bytes) → length part ≡ n → m ≡ filled + n
     → take m (put_mid filled k out part) ≡ take m (drop at bytes)
 part_more bytes out part at filled n k m is le read long all =
     take-put_mid filled k out part m (omega (arith, long, all)) le
@@ -58,7 +63,7 @@ part_more bytes out part at filled n k m is le read long all =
 
 -- ---- how many pages are read
 
--- the page in hand is at most one of a run's
+-- at most one page of a run is buffered
 in_hand_most : (held : Option ℕ) (at : ℕ) → in_hand held at ≤ 1
 in_hand_most None at = omega arith
 in_hand_most (Some page) at = case (nat_eq page (at / 4096))
@@ -74,13 +79,16 @@ in_hand_first page at is = grind (arith, nat_tests)
 -- a part on one page and what is left behind it take no more pages than both in one
 pub spend : (held : Option ℕ) (here part left : ℕ) → 0 < part → part ≡ min (4096 - here % 4096) left
     → fresh_pages held here part + fresh_pages (Some (here / 4096)) (here + part) (left - part) ≤ fresh_pages held here left
-spend held here part left some is = over (in_hand held here) (in_hand (Some (here / 4096)) (here + part)) (in_hand_most held here) (in_hand_first (here / 4096) (here + part))
+spend held here part left some is =
+    over (in_hand held here) (in_hand (Some (here / 4096)) (here + part)) (in_hand_most held here) (in_hand_first (here / 4096) (here + part))
   where
-    over : (h k : ℕ) → h ≤ 1 → (here / 4096 ≡ (here + part) / 4096 → k ≡ 1) → (pages_of here part - h) + (pages_of (here + part) (left - part) - k) ≤ pages_of here left - h
+    over : (h k : ℕ) → h ≤ 1 → (here / 4096 ≡ (here + part) / 4096 → k ≡ 1)
+        → (pages_of here part - h) + (pages_of (here + part) (left - part) - k) ≤ pages_of here left - h
     over h k most same = grind (arith, some, is, most, same)
 
 -- so no more are read than the whole run takes
-pub spend_on : (held next : Option ℕ) (at filled part whole n start before after most : ℕ) → next ≡ Some ((at + filled) / 4096) → 0 < part → part ≡ min (4096 - (at + filled) % 4096) (whole - filled) → n ≡ part
+pub spend_on : (held next : Option ℕ) (at filled part whole n start before after most : ℕ) → next ≡ Some ((at + filled) / 4096) → 0 < part
+    → part ≡ min (4096 - (at + filled) % 4096) (whole - filled) → n ≡ part
     → before + fresh_pages held (at + filled) (whole - filled) ≤ start + most → after ≤ before + fresh_pages held (at + filled) n
     → after + fresh_pages next (at + (filled + part)) (whole - (filled + part)) ≤ start + most
 spend_on held next at filled part whole n start before after most page some is long credit spent =
@@ -92,11 +100,13 @@ spend_on held next at filled part whole n start before after most page some is l
     let here : fresh_pages held (at + filled) n ≡ fresh_pages held (at + filled) part = ap (λ (i : ℕ). fresh_pages held (at + filled) i) long in
     over (fresh_pages held (at + filled) part) (fresh_pages held (at + filled) n) _ _ _ (spend held (at + filled) part (whole - filled) some is) here behind credit spent
   where
-    over : (part_cost read_cost rest_cost next_cost left_cost : ℕ) → part_cost + rest_cost ≤ left_cost → read_cost ≡ part_cost → next_cost ≡ rest_cost → before + left_cost ≤ start + most → after ≤ before + read_cost → after + next_cost ≤ start + most
+    over : (part_cost read_cost rest_cost next_cost left_cost : ℕ) → part_cost + rest_cost ≤ left_cost → read_cost ≡ part_cost → next_cost ≡ rest_cost
+        → before + left_cost ≤ start + most → after ≤ before + read_cost → after + next_cost ≤ start + most
     over part_cost read_cost rest_cost next_cost left_cost all here behind credit spent = omega arith
 
 -- the first of them takes no more
-pub spend_first : (held : Option ℕ) (here part left n : ℕ) → 0 < part → part ≡ min (4096 - here % 4096) left → n ≡ part → fresh_pages held here n ≤ fresh_pages held here left
+pub spend_first : (held : Option ℕ) (here part left n : ℕ) → 0 < part → part ≡ min (4096 - here % 4096) left → n ≡ part
+    → fresh_pages held here n ≤ fresh_pages held here left
 spend_first held here part left n some is long =
     let all : fresh_pages held here part + fresh_pages (Some (here / 4096)) (here + part) (left - part) ≤ fresh_pages held here left = spend held here part left some is in
     let this : fresh_pages held here n ≡ fresh_pages held here part = ap (λ (i : ℕ). fresh_pages held here i) long in
@@ -112,20 +122,24 @@ spend_none held at whole = ap (λ (i : ℕ). fresh_pages held i (whole - 0)) (om
 -- ---- one read after another
 
 -- a file reads as before after a change that leaves the folder as it is
-pub reads_on : (a b : View) (was now : FileName) (bytes : Bytes) → Changes Same a b → now ≡ was → contents a was ≡ Some bytes → contents b now ≡ Some bytes
+pub reads_on : (a b : View) (was now : FileName) (bytes : Bytes) → Changes Same a b → now ≡ was → contents a was ≡ Some bytes
+    → contents b now ≡ Some bytes
 reads_on a b was now bytes change same is = contents_same a b now change ∙ ap (λ (f : FileName). contents a f) same ∙ is
 
 -- and is there as before
 pub there_on : (a b : View) (was now : FileName) → Changes Same a b → now ≡ was → IsThere a was → IsThere b now
-there_on a b was now change same there = there_where a b Same now change (contents_same a b now change) (subst (λ (f : FileName). IsThere a f) (sym same) there)
+there_on a b was now change same there =
+    there_where a b Same now change (contents_same a b now change) (subst (λ (f : FileName). IsThere a f) (sym same) there)
 
 -- what a file shows at its end it showed before
-pub end_before : (a b : View) (was now : FileName) (near far : ℕ) (f : ReadFault) → Changes Same a b → now ≡ was → near ≤ far → Shown b now (ShowsEnd near now) f → Shown a was (ShowsEnd far was) f
+pub end_before : (a b : View) (was now : FileName) (near far : ℕ) (f : ReadFault) → Changes Same a b → now ≡ was → near ≤ far
+    → Shown b now (ShowsEnd near now) f → Shown a was (ShowsEnd far was) f
 end_before a b was now near far f change same le shown =
     subst (λ (name : FileName). Shown a name (ShowsEnd far name) f) same (end_later a now near far f le (shown_before (ShowsEnd near now) a b now f change shown))
 
 -- what made a call fail made a longer one fail
-pub fault_after : {S T : Type 0} (a b c : View) (n most : ℕ) (f : ReadFault) → a.disk_faults ≤ b.disk_faults → b.out_faults ≡ a.out_faults → b.reads + n ≤ a.reads + most → ReadsAtMost {T = S} n b c (Err f) → ReadsAtMost {T = T} most a c (Err f)
+pub fault_after : {S T : Type 0} (a b c : View) (n most : ℕ) (f : ReadFault) → a.disk_faults ≤ b.disk_faults → b.out_faults ≡ a.out_faults
+    → b.reads + n ≤ a.reads + most → ReadsAtMost {T = S} n b c (Err f) → ReadsAtMost {T = T} most a c (Err f)
 fault_after a b c n most f disk out credit causes = record {
   disk = omega (arith, disk, causes.disk);
   out = causes.out ∙ out;

@@ -25,7 +25,8 @@ replay_push m [] call = refl
 replay_push m (c ∷ calls) call = replay_push (step m c) calls call
 
 -- now is one of the moments since an earlier one
-pub now_since : (m : Medium) (calls : List Call) (t : ℕ) (c : Folder) (e : Bytes) → t ≤ length calls → LeftNow (replay m calls) c e → LeftSince m calls t c e
+pub now_since : (m : Medium) (calls : List Call) (t : ℕ) (c : Folder) (e : Bytes) → t ≤ length calls → LeftNow (replay m calls) c e
+    → LeftSince m calls t c e
 now_since m [] zero c e le now = now
 now_since m [] (suc t) c e le now = absurd (omega arith)
 now_since m (call ∷ calls) zero c e le now = inr (inr (now_since (step m call) calls zero c e (omega arith) now))
@@ -37,7 +38,8 @@ since_last m [] c e left = left
 since_last m (call ∷ calls) c e left = since_last (step m call) calls c e left
 
 -- one more call adds the moments within it, and the one after it
-pub since_push : (m : Medium) (calls : List Call) (call : Call) (t : ℕ) (c : Folder) (e : Bytes) → t ≤ length calls → LeftSince m (calls ++ call ∷ []) t c e
+pub since_push : (m : Medium) (calls : List Call) (call : Call) (t : ℕ) (c : Folder) (e : Bytes) → t ≤ length calls
+    → LeftSince m (calls ++ call ∷ []) t c e
     → LeftSince m calls t c e ⊎ (LeftDuring (replay m calls) call c e ⊎ LeftNow (step (replay m calls) call) c e)
 since_push m [] call zero c e le left = elim left [ inl now ↦ inl now | inr later ↦ inr later ]
 since_push m [] call (suc t) c e le left = absurd (omega arith)
@@ -51,7 +53,8 @@ since_push m (first ∷ calls) call zero c e le left = elim left [
 since_push m (first ∷ calls) call (suc t) c e le left = since_push (step m first) calls call t c e (omega arith) left
 
 -- and keeps the earlier ones
-pub since_keeps : (m : Medium) (calls : List Call) (call : Call) (t : ℕ) (c : Folder) (e : Bytes) → LeftSince m calls t c e → LeftSince m (calls ++ call ∷ []) t c e
+pub since_keeps : (m : Medium) (calls : List Call) (call : Call) (t : ℕ) (c : Folder) (e : Bytes) → LeftSince m calls t c e
+    → LeftSince m (calls ++ call ∷ []) t c e
 since_keeps m [] call zero c e left = inl left
 since_keeps m [] call (suc t) c e left = absurd left
 since_keeps m (first ∷ calls) call zero c e left = elim left [
@@ -64,7 +67,8 @@ since_keeps m (first ∷ calls) call zero c e left = elim left [
 since_keeps m (first ∷ calls) call (suc t) c e left = since_keeps (step m first) calls call t c e left
 
 -- each first part of what it emits is one of its moments
-pub fronts_since : (m : Medium) (calls : List Call) (call : Call) (t : ℕ) (c : Folder) (k : ℕ) → t ≤ length calls → (replay m calls).image c → LeftSince m (calls ++ call ∷ []) t c ((replay m calls).emitted ++ take k (output call))
+pub fronts_since : (m : Medium) (calls : List Call) (call : Call) (t : ℕ) (c : Folder) (k : ℕ) → t ≤ length calls → (replay m calls).image c
+    → LeftSince m (calls ++ call ∷ []) t c ((replay m calls).emitted ++ take k (output call))
 fronts_since m [] call zero c k le now = inr (inl (now, k, refl))
 fronts_since m [] call (suc t) c k le now = absurd (omega arith)
 fronts_since m (first ∷ calls) call zero c k le now = inr (inr (fronts_since (step m first) calls call zero c k (omega arith) now))
@@ -88,7 +92,9 @@ torn_by old at bytes le = record {
     front = omega (arith, length-take at old, le)
 
     long : length (overlay old at bytes) ≡ at + length bytes + (length old - (at + length bytes))
-    long = omega (arith, front, length-append (take at old ++ bytes) (drop (at + length bytes) old), length-append (take at old) bytes, length-drop (at + length bytes) old)
+    long =
+        omega
+        (arith, front, length-append (take at old ++ bytes) (drop (at + length bytes) old), length-append (take at old) bytes, length-drop (at + length bytes) old)
 
 -- and so is none
 itself : (at n : ℕ) (b : Bytes) → Torn at n b b
@@ -108,7 +114,8 @@ overwrites_well old at bytes = from (nat_le at (length old)) refl
     from false e = itself at (length bytes) old
 
 -- a write does to the folder what a crash may leave of it
-pub writes_well : (file : FileName) (at : ℕ) (bytes : Bytes) (f : Folder) (o : Option Bytes) → get f file ≡ o → Step file (InPlace (Torn at (length bytes))) f (written o file at bytes f)
+pub writes_well : (file : FileName) (at : ℕ) (bytes : Bytes) (f : Folder) (o : Option Bytes) → get f file ≡ o
+    → Step file (InPlace (Torn at (length bytes))) f (written o file at bytes f)
 writes_well file at bytes f None is = record { others = λ name apart. refl; this = stays_on at (length bytes) (get f file) }
 writes_well file at bytes f (Some old) is = record {
   others = λ name apart. insert_apart f file name (overwritten old at bytes) apart;
@@ -147,7 +154,8 @@ module _ (start : Folder) (calls : List Call) (disk_faults out_faults reads : �
   }
 
   -- one more call, which emits nothing
-  pub pushed : (call : Call) (d2 o2 r2 : ℕ) → output call ≡ [] → Changes (Effect call (replay (opened start) calls).folder) (view_after start calls disk_faults out_faults reads) (view_after start (calls ++ call ∷ []) d2 o2 r2)
+  pub pushed : (call : Call) (d2 o2 r2 : ℕ) → output call ≡ []
+      → Changes (Effect call (replay (opened start) calls).folder) (view_after start calls disk_faults out_faults reads) (view_after start (calls ++ call ∷ []) d2 o2 r2)
   pushed call d2 o2 r2 quiet =
       subst (λ (m : Medium). Changes (Effect call before.folder) (view_after start calls disk_faults out_faults reads) (told m)) (sym (replay_push (opened start) calls call)) changes
     where
@@ -155,7 +163,17 @@ module _ (start : Folder) (calls : List Call) (disk_faults out_faults reads : �
       before = replay (opened start) calls
 
       told : Medium → View
-      told m = record { files = Some m.folder; emitted = Some m.emitted; image = m.image; moment = length (calls ++ call ∷ []); left = LeftSince (opened start) (calls ++ call ∷ []); disk_faults = d2; out_faults = o2; reads = r2 }
+      told m = record {
+        files = Some m.folder;
+        emitted = Some m.emitted;
+        image = m.image;
+        moment = length (calls ++ call ∷ []);
+        left = LeftSince
+            (opened start) (calls ++ call ∷ []);
+        disk_faults = d2;
+        out_faults = o2;
+        reads = r2;
+      }
 
       changes : Changes (Effect call before.folder) (view_after start calls disk_faults out_faults reads) (told (step before call))
       changes = record {
@@ -179,4 +197,5 @@ module _ (start : Folder) (calls : List Call) (disk_faults out_faults reads : �
           all_out = ap (λ (b : Bytes). before.emitted ++ b) quiet ∙ append-nil before.emitted
 
           no_more : (k : ℕ) → before.emitted ++ take k (output call) ≡ before.emitted
-          no_more k = ap (λ (b : Bytes). before.emitted ++ take k b) quiet ∙ ap (λ (b : Bytes). before.emitted ++ b) (take_none k) ∙ append-nil before.emitted
+          no_more k =
+              ap (λ (b : Bytes). before.emitted ++ take k b) quiet ∙ ap (λ (b : Bytes). before.emitted ++ b) (take_none k) ∙ append-nil before.emitted

@@ -40,7 +40,8 @@ went R (Some x) (Some b) a is on = let same : x ≡ a = cc in (b, refl, subst (�
 -- ---- a file that reads as before
 
 -- what a file reads stays, where each change of the folder leaves it
-pub contents_kept : (a b : View) (S : Relation) (name : FileName) → ((x y : Folder) → S x y → get y name ≡ get x name) → Changes S a b → contents b name ≡ contents a name
+pub contents_kept : (a b : View) (S : Relation) (name : FileName) → ((x y : Folder) → S x y → get y name ≡ get x name) → Changes S a b
+    → contents b name ≡ contents a name
 contents_kept a b S name keeps change = from a.files refl
   where
     from : (o : Option Folder) → a.files ≡ o → contents b name ≡ contents a name
@@ -54,7 +55,8 @@ pub contents_same : (a b : View) (file : FileName) → Changes Same a b → cont
 contents_same a b file change = contents_kept a b Same file (λ x y same. ap (λ (f : Folder). get f file) same) change
 
 -- and where another file changes
-pub contents_other : (a b : View) (file name : FileName) (R : Option Bytes → Option Bytes → Type 0) → name ≢ file → Changes (Step file R) a b → contents b name ≡ contents a name
+pub contents_other : (a b : View) (file name : FileName) (R : Option Bytes → Option Bytes → Type 0) → name ≢ file → Changes (Step file R) a b
+    → contents b name ≡ contents a name
 contents_other a b file name R apart change = contents_kept a b (Step file R) name (λ x y step. step.others name apart) change
 
 -- a file that reads as before, where the folder is told as before, is there, absent, reaches and holds as before
@@ -64,12 +66,14 @@ there_where a b S file change same there told = subst (λ (o : Option Bytes). Is
 pub absent_where : (a b : View) (file : FileName) → contents b file ≡ contents a file → IsAbsent a file → IsAbsent b file
 absent_where a b file same absent = same ∙ absent
 
-pub reaches_where : (a b : View) (S : Relation) (file : FileName) (at : ℕ) → Changes S a b → contents b file ≡ contents a file → Reaches a file at → Reaches b file at
+pub reaches_where : (a b : View) (S : Relation) (file : FileName) (at : ℕ) → Changes S a b → contents b file ≡ contents a file → Reaches a file at
+    → Reaches b file at
 reaches_where a b S file at change same reaches told =
     let was = reaches (told_before S a b change told) in
     (was.0, same ∙ was.1, was.2)
 
-pub holds_where : (a b : View) (S : Relation) (file : FileName) (bytes : Bytes) → Changes S a b → contents b file ≡ contents a file → Holds a file bytes → Holds b file bytes
+pub holds_where : (a b : View) (S : Relation) (file : FileName) (bytes : Bytes) → Changes S a b → contents b file ≡ contents a file
+    → Holds a file bytes → Holds b file bytes
 holds_where a b S file bytes change same holds told = same ∙ holds (told_before S a b change told)
 
 -- what a file holds stays, where the folder is left as it is
@@ -83,7 +87,8 @@ pub becomes_on : (a b c : View) (file : FileName) (f : Bytes → Bytes) → Beco
 becomes_on a b c file f becomes same old is = contents_same b c file same ∙ becomes old is
 
 -- a file that does not shrink reaches as far as before
-pub reaches_on : (a b : View) (file : FileName) (R : Bytes → Bytes → Type 0) (at : ℕ) → Changes (Step file (InPlace R)) a b → ((x y : Bytes) → R x y → length x ≤ length y) → Reaches a file at → Reaches b file at
+pub reaches_on : (a b : View) (file : FileName) (R : Bytes → Bytes → Type 0) (at : ℕ) → Changes (Step file (InPlace R)) a b
+    → ((x y : Bytes) → R x y → length x ≤ length y) → Reaches a file at → Reaches b file at
 reaches_on a b file R at change grows reaches told =
     let told_a = told_before _ a b change told in
     let was = reaches told_a in
@@ -93,17 +98,29 @@ reaches_on a b file R at change grows reaches told =
     (now.0, ap (λ o. contents_in o file) g.1 ∙ now.1, omega (arith, was.2, grows was.0 now.0 now.2))
 
 -- a file that was written reaches to the end of what was written
-pub reaches_written : (a b : View) (file : FileName) (S : Relation) (at : ℕ) (bytes : Bytes) → Changes S a b → Becomes file (λ w. overlay w at bytes) a b → Reaches a file at → Reaches b file (at + length bytes)
+pub reaches_written : (a b : View) (file : FileName) (S : Relation) (at : ℕ) (bytes : Bytes) → Changes S a b
+    → Becomes file (λ w. overlay w at bytes) a b → Reaches a file at → Reaches b file (at + length bytes)
 reaches_written a b file S at bytes change becomes reaches told =
-    let was = reaches (told_before S a b change told) in
-    (overlay was.0 at bytes, becomes was.0 was.1, omega (arith, was.2, length-append (take at was.0 ++ bytes) (drop (at + length bytes) was.0), length-append (take at was.0) bytes, length-take at was.0))
+    let was = reaches (told_before S a b change told) in (
+      overlay was.0 at bytes,
+      becomes was.0 was.1,
+      omega (
+        arith,
+        was.2,
+        length-append (take at was.0 ++ bytes) (drop (at + length bytes) was.0),
+        length-append
+            (take at was.0) bytes,
+        length-take at was.0,
+      ),
+    )
 
 -- what is written at the front of no bytes
 pub overlay_empty : (bytes : Bytes) → overlay [] 0 bytes ≡ bytes
 overlay_empty bytes = ap (λ (l : Bytes). bytes ++ l) (drop_all (0 + length bytes) [] (omega arith)) ∙ append-nil bytes
 
 -- what was written at the front of an empty file is what it holds
-pub holds_first : (a b : View) (S : Relation) (file : FileName) (bytes : Bytes) → Changes S a b → Holds a file [] → Becomes file (λ old. overlay old 0 bytes) a b → Holds b file bytes
+pub holds_first : (a b : View) (S : Relation) (file : FileName) (bytes : Bytes) → Changes S a b → Holds a file []
+    → Becomes file (λ old. overlay old 0 bytes) a b → Holds b file bytes
 holds_first a b S file bytes change empty becomes told =
     becomes [] (empty (told_before S a b change told)) ∙ ap (λ (l : Bytes). Some l) (overlay_empty bytes)
 

@@ -47,7 +47,7 @@ InPlace R (Some a) None = ⊥
 abbrev pub LeftWith : (Bytes → Type 0) → Option Bytes → Option Bytes → Type 0
 LeftWith P a b = (bytes : Bytes) × (b ≡ Some bytes) × P bytes
 
--- whatever becomes of the file
+-- any change of the file
 abbrev pub Anyhow : Option Bytes → Option Bytes → Type 0
 Anyhow a b = Unit {0}
 
@@ -68,7 +68,7 @@ pub record Torn (at n : ℕ) (old new : Bytes) : Type 0 where
 
 -- ---- what a call that succeeded leaves
 
--- the bytes over the old ones, from this place on
+-- the bytes written over the old ones, from this offset on
 abbrev pub overlay : Bytes → ℕ → Bytes → Bytes
 overlay old at bytes = take at old ++ bytes ++ drop (at + length bytes) old
 
@@ -76,7 +76,7 @@ overlay old at bytes = take at old ++ bytes ++ drop (at + length bytes) old
 abbrev pub Becomes : FileName → (Bytes → Bytes) → View → View → Type 0
 Becomes file f old new = (bytes : Bytes) → contents old file ≡ Some bytes → contents new file ≡ Some (f bytes)
 
--- each image has the file with these bytes: the fact of durability that callers carry
+-- the file is durable: each image has it with these bytes
 abbrev pub IsKept : View → FileName → Bytes → Type 0
 IsKept v file bytes = (folder : Folder) → v.image folder → get folder file ≡ Some bytes
 
@@ -92,7 +92,7 @@ IsFolderSynced v = (folder : Folder) (name : FileName) → IsTold v → v.image 
 abbrev pub Lists : View → List FileName → Type 0
 Lists v names = IsTold v → (name : FileName) → Contains names name ↔ IsSome (contents v name)
 
--- a buffer took what the file has from this place on, as far as both reach
+-- a buffer was filled with what the file has from this offset on, as far as both reach
 pub record Fills (file : Bytes) (at : ℕ) (old new : Bytes) (count : ℕ) : Type 0 where
   pub taken : count ≡ min (length old) (length file - at)
   pub front : take count new ≡ take count (drop at file)

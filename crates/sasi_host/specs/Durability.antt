@@ -26,13 +26,15 @@ kept_same a b file bytes same kept folder now =
     ap (λ (f : Folder). get f file) was.2 ∙ kept was.0 was.1
 
 -- a file that each image has stays there, where another file changes
-pub kept_other : (a b : View) (file name : FileName) (R : Option Bytes → Option Bytes → Type 0) (bytes : Bytes) → name ≢ file → Changes (Step file R) a b → IsKept a name bytes → IsKept b name bytes
+pub kept_other : (a b : View) (file name : FileName) (R : Option Bytes → Option Bytes → Type 0) (bytes : Bytes) → name ≢ file
+    → Changes (Step file R) a b → IsKept a name bytes → IsKept b name bytes
 kept_other a b file name R bytes apart change kept x now =
     let was = change.image x now in
     was.2.others name apart ∙ kept was.0 was.1
 
 -- a file that each image had, written and then synced, is in each image what it reads
-pub kept_on : (a b c : View) (file : FileName) (R : Bytes → Bytes → Type 0) (old new : Bytes) → IsKept a file old → Changes (Step file (InPlace R)) a b → Changes Same b c → contents c file ≡ Some new → IsSynced c file → IsKept c file new
+pub kept_on : (a b c : View) (file : FileName) (R : Bytes → Bytes → Type 0) (old new : Bytes) → IsKept a file old
+    → Changes (Step file (InPlace R)) a b → Changes Same b c → contents c file ≡ Some new → IsSynced c file → IsKept c file new
 kept_on a b c file R old new kept write sync reads synced x now =
     let change = then_same a b c (Step file (InPlace R)) write sync in
     let was = change.image x now in
@@ -40,7 +42,8 @@ kept_on a b c file R old new kept write sync reads synced x now =
     there.1 ∙ ap (λ (b : Bytes). Some b) (synced x there.0 new now reads there.1)
 
 -- so a write and a sync of a file that each image had leave in each image what was written
-pub durable : (a b c : View) (file : FileName) (R : Bytes → Bytes → Type 0) (f : Bytes → Bytes) → IsSound a → IsSound c → Changes (Step file (InPlace R)) a b → Becomes file f a b → Changes Same b c → IsSynced c file
+pub durable : (a b c : View) (file : FileName) (R : Bytes → Bytes → Type 0) (f : Bytes → Bytes) → IsSound a → IsSound c
+    → Changes (Step file (InPlace R)) a b → Becomes file f a b → Changes Same b c → IsSynced c file
     → (old : Bytes) → IsKept a file old → IsKept c file (f old)
 durable a b c file R f sound_a sound_c write becomes sync synced old kept x now =
     let told : IsTold a = told_before _ a b write (told_before _ b c sync (sound_c.told x now)) in
@@ -54,7 +57,8 @@ some_of None is = cc
 some_of (Some b) is = (b, refl)
 
 -- a new file that was synced is in each image once the folder is synced too
-pub kept_new : (a b : View) (file : FileName) (bytes : Bytes) → IsSound b → Changes Same a b → IsSynced a file → IsFolderSynced b → (IsTold b → contents b file ≡ Some bytes) → IsKept b file bytes
+pub kept_new : (a b : View) (file : FileName) (bytes : Bytes) → IsSound b → Changes Same a b → IsSynced a file → IsFolderSynced b
+    → (IsTold b → contents b file ≡ Some bytes) → IsKept b file bytes
 kept_new a b file bytes sound same synced folder reads x now =
     let told = sound.told x now in
     let has : contents b file ≡ Some bytes = reads told in
@@ -66,13 +70,15 @@ kept_new a b file bytes sound same synced folder reads x now =
 -- ---- a file that each image had
 
 -- a file that each image had is there in each, with bytes that have P
-pub leaves : (a b : View) (file : FileName) (R : Bytes → Bytes → Type 0) (old : Bytes) (P : Bytes → Type 0) → IsSound a → IsKept a file old → Changes (Step file (InPlace R)) a b → ((new : Bytes) → R old new → P new) → Changes (Step file (LeftWith P)) a b
+pub leaves : (a b : View) (file : FileName) (R : Bytes → Bytes → Type 0) (old : Bytes) (P : Bytes → Type 0) → IsSound a → IsKept a file old
+    → Changes (Step file (InPlace R)) a b → ((new : Bytes) → R old new → P new) → Changes (Step file (LeftWith P)) a b
 leaves a b file R old P sound kept change means =
     changes_among a b (λ x. get x file ≡ Some old) (Step file (InPlace R)) (Step file (LeftWith P)) sound kept change (λ x y is step.
     let there = went R (get x file) (get y file) old is step.this in
     record { others = step.others; this = (there.0, there.1, means there.0 there.2) })
 
 -- and so after another such change
-pub leaves_on : (a b c : View) (file : FileName) (P : Bytes → Type 0) → Changes (Step file (LeftWith P)) a b → Changes (Step file (LeftWith P)) b c → Changes (Step file (LeftWith P)) a c
+pub leaves_on : (a b c : View) (file : FileName) (P : Bytes → Type 0) → Changes (Step file (LeftWith P)) a b → Changes (Step file (LeftWith P)) b c
+    → Changes (Step file (LeftWith P)) a c
 leaves_on a b c file P first second =
     changes_on a b c (Step file (LeftWith P)) (Step file (LeftWith P)) (Step file (LeftWith P)) first second (λ x y s. s) (step_on file (LeftWith P) (LeftWith P) (LeftWith P) (λ x y z s t. t))

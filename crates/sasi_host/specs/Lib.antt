@@ -17,3 +17,4 @@ pub mod Damages
 pub mod Places
 pub mod Showing
 pub mod Held
+pub mod PageReading

@@ -1,4 +1,4 @@
--- A source and a host in memory, as one sees them.
+-- A source and a host in memory, as contracts see them.
 use Rattle.std.specs.Prelude.{◌⊎◌, ◌<◌, ◌-◌, ◌^◌, ℕ, List, [], ◌∷◌, ◌++◌, min, length, Contains, Some}
 use Rattle.sasi_host.specs.declared.call.Call.{Call}
 use Rattle.sasi_host.specs.declared.mem_host.MemHost.{MemHost}
@@ -6,7 +6,7 @@ use Rattle.sasi_host.specs.Names.{Folder}
 use Rattle.sasi_host.specs.View.{SourceView, View, counted}
 use Rattle.sasi_host.specs.Calls.{view_after}
 
--- a source, as one sees it
+-- what contracts see of a source in memory
 pub record MemorySource : Type 0 where
   -- the bytes that are left
   pub left : List ℕ
@@ -32,7 +32,7 @@ failed_read s = record s { reads = counted s.reads; faults = counted s.faults }
 
 -- ---- the host
 
--- the host, as one sees it
+-- what contracts see of a host in memory
 pub record MemoryHost : Type 0 where
   -- the folder that it began with, and the calls that were done since
   pub start : Folder
@@ -49,7 +49,7 @@ pub record MemoryHost : Type 0 where
   pub disk_faults : ℕ
   pub out_faults : ℕ
   pub reads : ℕ
-  -- how many growths of its memory were refused
+  -- how often its memory couldn't grow
   pub refused : ℕ
 
 -- what is seen of a host

@@ -1,4 +1,4 @@
--- How changes of a folder follow one another.
+-- Laws of changes of a folder, one after another.
 use Rattle.std.specs.Prelude.{◌≡◌, ◌⊎◌, Option, Bool, true, false, refl}
 use Rattle.std.proofs.Common.{inl, inr, ⊎_elim, sym, ◌∙◌, ap, subst, arith}
 use Rattle.std.specs.FinMap.{get}
@@ -8,7 +8,8 @@ use Rattle.sasi_host.specs.View.{View, LeavesNow, CrashLeaves, IsSound}
 use Rattle.sasi_host.specs.Disk.{Relation, Same, FromImage, Changes, Step, Within, Anyhow}
 
 -- one stretch of moments after another
-pub crash_leaves_on : (a b c : View) (P Q U : Folder → Bytes → Type 0) → CrashLeaves a b P → CrashLeaves b c Q → ((x : Folder) (e : Bytes) → P x e → U x e) → ((x : Folder) (e : Bytes) → Q x e → U x e) → CrashLeaves a c U
+pub crash_leaves_on : (a b c : View) (P Q U : Folder → Bytes → Type 0) → CrashLeaves a b P → CrashLeaves b c Q
+    → ((x : Folder) (e : Bytes) → P x e → U x e) → ((x : Folder) (e : Bytes) → Q x e → U x e) → CrashLeaves a c U
 crash_leaves_on a b c P Q U first second early late = record {
   later = omega (arith, first.later, second.later);
   left = λ t x e le gone. ⊎_elim
@@ -28,7 +29,8 @@ stays v = record {
 }
 
 -- one change after another
-pub changes_on : (a b c : View) (S T U : Relation) → Changes S a b → Changes T b c → ((x y : Folder) → S x y → U x y) → ((x y z : Folder) → S x y → T y z → U x z) → Changes U a c
+pub changes_on : (a b c : View) (S T U : Relation) → Changes S a b → Changes T b c → ((x y : Folder) → S x y → U x y)
+    → ((x y z : Folder) → S x y → T y z → U x z) → Changes U a c
 changes_on a b c S T U first second early both = record {
   seen = λ f is.
       let mid = first.seen f is in
@@ -47,74 +49,91 @@ changes_on a b c S T U first second early both = record {
   emitted = second.emitted ∙ first.emitted;
 }
 
--- a change, told by a wider relation
+-- a change satisfies each wider relation
 pub changes_as : (a b : View) (S U : Relation) → Changes S a b → ((x y : Folder) → S x y → U x y) → Changes U a b
 changes_as a b S U change wider = record {
   seen = λ f is. let g = change.seen f is in (g.0, g.1, wider f g.0 g.2);
   untold = change.untold;
   image = λ c now. let d = change.image c now in (d.0, d.1, wider d.0 c d.2);
-  during = crash_leaves_on a a b (FromImage U a) (FromImage S a) (FromImage U a) (stays_during a) change.during (λ x e p. p) (λ x e since. (since.0, since.1, wider since.0 x since.2, since.3));
+  during =
+      crash_leaves_on a a b (FromImage U a) (FromImage S a) (FromImage U a) (stays_during a) change.during (λ x e p. p)
+      (λ x e since. (since.0, since.1, wider since.0 x since.2, since.3));
   emitted = change.emitted;
 }
   where
     stays_during : (v : View) → CrashLeaves v v (FromImage U a)
     stays_during v = record { later = omega arith; left = λ t x e le gone. inl gone }
 
--- nothing is done, told of one file
+-- nothing is done, as a change of one file
 pub untouched : (v : View) (file : FileName) → Changes (Step file Anyhow) v v
-untouched v file = changes_as v v Same (Step file Anyhow) (stays v) (λ x y same. record { others = λ name other. ap (λ (f : Folder). get f name) same; this = tt })
+untouched v file =
+    changes_as v v Same (Step file Anyhow) (stays v) (λ x y same. record { others = λ name other. ap (λ (f : Folder). get f name) same; this = tt })
 
 -- a call that leaves the folder as it is comes after a change
 pub then_same : (a b c : View) (S : Relation) → Changes S a b → Changes Same b c → Changes S a c
 then_same a b c S first second = changes_on a b c S Same S first second (λ x y s. s) (λ x y z s same. subst (λ w. S x w) (sym same) s)
 
 -- what is known of each image before a change tells more of the change
-pub changes_among : (a b : View) (I : Folder → Type 0) (S U : Relation) → IsSound a → ((x : Folder) → a.image x → I x) → Changes S a b → ((x y : Folder) → I x → S x y → U x y) → Changes U a b
+pub changes_among : (a b : View) (I : Folder → Type 0) (S U : Relation) → IsSound a → ((x : Folder) → a.image x → I x) → Changes S a b
+    → ((x y : Folder) → I x → S x y → U x y) → Changes U a b
 changes_among a b I S U sound known change more = record {
   seen = λ f is. let g = change.seen f is in (g.0, g.1, more f g.0 (known f (sound.reads f is)) g.2);
   untold = change.untold;
   image = λ c now. let d = change.image c now in (d.0, d.1, more d.0 c (known d.0 d.1) d.2);
-  during = crash_leaves_on a a b (FromImage U a) (FromImage S a) (FromImage U a) (record { later = omega arith; left = λ t x e le gone. inl gone }) change.during (λ x e p. p) (λ x e since. (since.0, since.1, more since.0 x (known since.0 since.1) since.2, since.3));
+  during =
+      crash_leaves_on a a b (FromImage U a) (FromImage S a) (FromImage U a)
+      (record { later = omega arith; left = λ t x e le gone. inl gone }) change.during (λ x e p. p)
+      (λ x e since. (since.0, since.1, more since.0 x (known since.0 since.1) since.2, since.3));
   emitted = change.emitted;
 }
 
 -- what a crash since a start leaves: an image at the start, or what some moment since leaves
-pub since_start : (a b : View) (P : Folder → Bytes → Type 0) → IsSound a → CrashLeaves a b P → (c : Folder) (e : Bytes) → b.left a.moment c e → LeavesNow a c e ⊎ P c e
+pub since_start : (a b : View) (P : Folder → Bytes → Type 0) → IsSound a → CrashLeaves a b P → (c : Folder) (e : Bytes) → b.left a.moment c e
+    → LeavesNow a c e ⊎ P c e
 since_start a b P sound passes c e left = ⊎_elim (λ was. inl (sound.only_now c e was)) (λ p. inr p) (passes.left a.moment c e (omega arith) left)
 
 -- ---- changes of one file
 
 -- one change of a file after another
-pub step_on : (file : FileName) (R Q U : Option Bytes → Option Bytes → Type 0) → ((x y z : Option Bytes) → R x y → Q y z → U x z) → (a b c : Folder) → Step file R a b → Step file Q b c → Step file U a c
+pub step_on : (file : FileName) (R Q U : Option Bytes → Option Bytes → Type 0) → ((x y z : Option Bytes) → R x y → Q y z → U x z) → (a b c : Folder)
+    → Step file R a b → Step file Q b c → Step file U a c
 step_on file R Q U both a b c first second = record {
   others = λ name other. second.others name other ∙ first.others name other;
   this = both _ _ _ first.this second.this;
 }
 
--- a change of a file, told by a wider relation
-pub step_as : (file : FileName) (R U : Option Bytes → Option Bytes → Type 0) → ((x y : Option Bytes) → R x y → U x y) → (a b : Folder) → Step file R a b → Step file U a b
+-- a change of a file satisfies each wider relation
+pub step_as : (file : FileName) (R U : Option Bytes → Option Bytes → Type 0) → ((x y : Option Bytes) → R x y → U x y) → (a b : Folder)
+    → Step file R a b → Step file U a b
 step_as file R U wider a b step = record { others = step.others; this = wider _ _ step.this }
 
--- a change of one file, whatever becomes of it
+-- a change of one file is any change of it
 pub touches : (a b : View) (file : FileName) (R : Option Bytes → Option Bytes → Type 0) → Changes (Step file R) a b → Changes (Step file Anyhow) a b
 touches a b file R change = changes_as a b (Step file R) (Step file Anyhow) change (λ x y step. record { others = step.others; this = tt })
 
 -- and another change of it
 pub touches_on : (a b c : View) (file : FileName) → Changes (Step file Anyhow) a b → Changes (Step file Anyhow) b c → Changes (Step file Anyhow) a c
-touches_on a b c file first second = changes_on a b c (Step file Anyhow) (Step file Anyhow) (Step file Anyhow) first second (λ x y s. s) (step_on file Anyhow Anyhow Anyhow (λ x y z s t. tt))
+touches_on a b c file first second =
+    changes_on a b c (Step file Anyhow) (Step file Anyhow) (Step file Anyhow) first second (λ x y s. s)
+    (step_on file Anyhow Anyhow Anyhow (λ x y z s t. tt))
 
 -- ---- changes within a set of files
 
 -- a change of one file of a set
-pub step_within : (mine : FileName → Bool) (file : FileName) (R : Option Bytes → Option Bytes → Type 0) (a b : View) → mine file ≡ true → Changes (Step file R) a b → Changes (Within mine) a b
-step_within mine file R a b is change = changes_as a b (Step file R) (Within mine) change (λ x y step name not_mine. step.others name (λ same. both_ways (sym is ∙ ap mine (sym same) ∙ not_mine)))
+pub step_within : (mine : FileName → Bool) (file : FileName) (R : Option Bytes → Option Bytes → Type 0) (a b : View) → mine file ≡ true
+    → Changes (Step file R) a b → Changes (Within mine) a b
+step_within mine file R a b is change =
+    changes_as a b (Step file R) (Within mine) change
+    (λ x y step name not_mine. step.others name (λ same. both_ways (sym is ∙ ap mine (sym same) ∙ not_mine)))
   where
     both_ways : true ≡ false → ⊥
     both_ways e = cc
 
 -- and another change of that set
 pub within_on : (mine : FileName → Bool) (a b c : View) → Changes (Within mine) a b → Changes (Within mine) b c → Changes (Within mine) a c
-within_on mine a b c first second = changes_on a b c (Within mine) (Within mine) (Within mine) first second (λ x y s. s) (λ x y z s t name not_mine. t name not_mine ∙ s name not_mine)
+within_on mine a b c first second =
+    changes_on a b c (Within mine) (Within mine) (Within mine) first second (λ x y s. s)
+    (λ x y z s t name not_mine. t name not_mine ∙ s name not_mine)
 
 -- ---- what each image has
 
@@ -127,7 +146,8 @@ pub each_on : (a b : View) (S : Relation) (P : Folder → Type 0) → Changes S 
 each_on a b S P change keeps each c now = let d = change.image c now in keeps d.0 c d.2 (each d.0 d.1)
 
 -- at each moment within a change from images that have P, what a crash leaves has Q
-pub at_each_moment : (a b : View) (S : Relation) (P Q : Folder → Type 0) → IsSound a → Changes S a b → Each a P → ((x y : Folder) → P x → S x y → Q y) → Changes (λ x y. Q y) a b
+pub at_each_moment : (a b : View) (S : Relation) (P Q : Folder → Type 0) → IsSound a → Changes S a b → Each a P → ((x y : Folder) → P x → S x y → Q y)
+    → Changes (λ x y. Q y) a b
 at_each_moment a b S P Q sound change each leads = changes_among a b P S (λ x y. Q y) sound each change leads
 
 -- and so on over the next change

@@ -15,7 +15,7 @@ use Rattle.sasi_host.specs.declared.name.Kind.TheVariants.{Manifest, Seal, Log, 
 use Rattle.sasi_host.specs.declared.name.FileName.{FileName}
 use Rattle.sasi_host.specs.Names.{rank, name_cmp, Bytes, Folder}
 
--- the kind at a place in the order
+-- the kind of a rank
 abbrev pub kind_of : ℕ → Kind
 kind_of zero = Manifest
 kind_of (suc zero) = Seal
@@ -24,7 +24,7 @@ kind_of (suc (suc (suc zero))) = Data
 kind_of (suc (suc (suc (suc zero)))) = Index
 kind_of (suc (suc (suc (suc (suc n))))) = Segment
 
--- a kind is the one at its place
+-- a kind is the one of its rank
 ranked_back : (k : Kind) → kind_of (rank k) ≡ k
 ranked_back Manifest = refl
 ranked_back Seal = refl
@@ -35,7 +35,9 @@ ranked_back Segment = refl
 
 -- any two names are in order
 pub names_total : IsTotalOrder name_cmp
-names_total = then_total (on_total (λ (n : FileName). rank n.kind) nat_cmp_total) (then_total (on_total (λ (n : FileName). n.number) nat_cmp_total) (then_total (on_total (λ (n : FileName). n.index) nat_cmp_total) (on_total (λ (n : FileName). n.part) nat_cmp_total)))
+names_total =
+    then_total (on_total (λ (n : FileName). rank n.kind) nat_cmp_total)
+    (then_total (on_total (λ (n : FileName). n.number) nat_cmp_total) (then_total (on_total (λ (n : FileName). n.index) nat_cmp_total) (on_total (λ (n : FileName). n.part) nat_cmp_total)))
 
 -- the numbers that order a name
 abbrev pub places : FileName → ℕ × (ℕ × (ℕ × ℕ))

@@ -7,7 +7,7 @@ use Rattle.sasi_host.specs.declared.name.Kind.{Kind}
 use Rattle.sasi_host.specs.declared.name.Kind.TheVariants.{Manifest, Seal, Log, Data, Index, Segment}
 use Rattle.sasi_host.specs.declared.name.FileName.{FileName}
 
--- the place of a kind in the order of names
+-- the rank of a kind in the order of names
 abbrev pub rank : Kind → ℕ
 rank Manifest = 0
 rank Seal = 1
@@ -36,11 +36,14 @@ data_name = plain_name Data
 
 -- by kind, then by number, index and part
 abbrev pub name_cmp : FileName → FileName → Ordering
-name_cmp = then_cmp (on (λ n. rank n.kind) nat_cmp) (then_cmp (on (λ n. n.number) nat_cmp) (then_cmp (on (λ n. n.index) nat_cmp) (on (λ n. n.part) nat_cmp)))
+name_cmp =
+    then_cmp (on (λ n. rank n.kind) nat_cmp) (then_cmp (on (λ n. n.number) nat_cmp) (then_cmp (on (λ n. n.index) nat_cmp) (on (λ n. n.part) nat_cmp)))
 
 -- all four are the same
 abbrev pub name_eq : FileName → FileName → Bool
-name_eq = eq_of_both (eq_of_both (eq_of_both (on (λ n. rank n.kind) nat_eq) (on (λ n. n.number) nat_eq)) (on (λ n. n.index) nat_eq)) (on (λ n. n.part) nat_eq)
+name_eq =
+    eq_of_both (eq_of_both (eq_of_both (on (λ n. rank n.kind) nat_eq) (on (λ n. n.number) nat_eq)) (on (λ n. n.index) nat_eq))
+    (on (λ n. n.part) nat_eq)
 
 -- the bytes of a file, or of a reply
 abbrev pub Bytes : Type 0

@@ -50,7 +50,8 @@ pending bytes.Ones file at b left = written (get left file) file at (replicate (
 -- what one call makes of the picked folder, where these calls come after it: what a later sync tells has to be as it reads
 abbrev pub pick_step : Pick → Call → List Call → Folder → Folder
 pick_step pick (Created file) rest left = if folder_later rest || is_now pick.names || is_some (get left file) then insert left file [] else left
-pick_step pick (Wrote file at b) rest left = if synced_later file rest then written (get left file) file at b left else pending pick.bytes file at b left
+pick_step pick (Wrote file at b) rest left =
+    if synced_later file rest then written (get left file) file at b left else pending pick.bytes file at b left
 pick_step pick (Synced file) rest left = left
 pick_step pick (Deleted file) rest left = if folder_later rest || is_now pick.names then remove left file else left
 pick_step pick FolderSynced rest left = left

@@ -1,4 +1,4 @@
--- Bytes that stand at places of a file.
+-- Bytes that stand at an offset of a file.
 use Rattle.std.specs.Prelude.{◌≡◌, ◌≢◌, ℕ, ◌+◌, ◌≤◌, ◌++◌, length, take, drop, refl}
 use Rattle.std.proofs.Common.{sym, ◌∙◌, ap, subst, arith, append_assoc, length-append, length-drop, take-append-drop}
 use Rattle.std.proofs.lemmas.List.{take_at, drop_at, drop-drop, length-take-le}
@@ -14,7 +14,9 @@ pub part_stands : (bytes : Bytes) (at n : ℕ) → at + n ≤ length bytes → H
 part_stands bytes at n le = record {
   front = take at bytes;
   rest = drop n (drop at bytes);
-  is = sym (append_assoc (take at bytes) (take n (drop at bytes)) (drop n (drop at bytes)) ∙ ap (λ (l : Bytes). take at bytes ++ l) (take-append-drop n (drop at bytes)) ∙ take-append-drop at bytes);
+  is =
+      sym
+      (append_assoc (take at bytes) (take n (drop at bytes)) (drop n (drop at bytes)) ∙ ap (λ (l : Bytes). take at bytes ++ l) (take-append-drop n (drop at bytes)) ∙ take-append-drop at bytes);
   place = length-take-le at bytes (omega arith);
 }
 
@@ -25,13 +27,14 @@ window_at bytes window at n is le = subst (λ (l : Bytes). HasAt bytes at l) (sy
 -- what stands somewhere is read there
 pub at_window : (bytes : Bytes) (at : ℕ) (part : Bytes) → HasAt bytes at part → take (length part) (drop at bytes) ≡ part
 at_window bytes at part has =
-    ap (λ (l : Bytes). take (length part) (drop at l)) (has.is ∙ append_assoc has.front part has.rest) ∙ ap (λ (l : Bytes). take (length part) l) (drop_at has.front (part ++ has.rest) at has.place) ∙ take_at part has.rest (length part) refl
+    ap (λ (l : Bytes). take (length part) (drop at l)) (has.is ∙ append_assoc has.front part has.rest) ∙ ap (λ (l : Bytes). take (length part) l)
+    (drop_at has.front (part ++ has.rest) at has.place) ∙ take_at part has.rest (length part) refl
 
 -- and ends within
 pub at_ends : (bytes : Bytes) (at : ℕ) (part : Bytes) → HasAt bytes at part → at + length part ≤ length bytes
 at_ends bytes at part has = omega (arith, ap length has.is, has.place, length-append (has.front ++ part) has.rest, length-append has.front part)
 
--- as many bytes at one place are the same
+-- as many bytes at one offset are the same
 pub same_at : (bytes : Bytes) (at : ℕ) (p q : Bytes) → HasAt bytes at p → HasAt bytes at q → length p ≡ length q → p ≡ q
 same_at bytes at p q hp hq long = sym (at_window bytes at p hp) ∙ ap (λ (n : ℕ). take n (drop at bytes)) long ∙ at_window bytes at q hq
 
@@ -43,7 +46,13 @@ first_at bytes at p q has = record { front = has.front; rest = q ++ has.rest; is
     regroup a b c d = simp append_assoc
 
 pub second_at : (bytes : Bytes) (at : ℕ) (p q : Bytes) → HasAt bytes at (p ++ q) → HasAt bytes (at + length p) q
-second_at bytes at p q has = record { front = has.front ++ p; rest = has.rest; is = has.is ∙ regroup has.front p q has.rest; place = length-append has.front p ∙ ap (λ (n : ℕ). n + length p) has.place }
+second_at bytes at p q has = record {
+  front = has.front ++ p;
+  rest = has.rest;
+  is = has.is
+      ∙ regroup has.front p q has.rest;
+  place = length-append has.front p ∙ ap (λ (n : ℕ). n + length p) has.place;
+}
   where
     regroup : (a b c d : Bytes) → a ++ (b ++ c) ++ d ≡ (a ++ b) ++ c ++ d
     regroup a b c d = simp append_assoc
@@ -53,12 +62,15 @@ pub both_at : (bytes : Bytes) (at next : ℕ) (p q : Bytes) → HasAt bytes at p
 both_at bytes at next p q hp is hq =
     window_at bytes (p ++ q) at (length p + length q)
     (ap (λ (l : Bytes). l ++ q) (sym (at_window bytes at p hp))
-    ∙ ap (λ (l : Bytes). take (length p) (drop at bytes) ++ l) (sym (at_window bytes next q hq) ∙ ap (λ (n : ℕ). take (length q) (drop n bytes)) (omega (arith, is)) ∙ ap (λ (l : Bytes). take (length q) l) (sym (drop-drop (length p) at bytes)))
+    ∙ ap (λ (l : Bytes). take (length p) (drop at bytes) ++ l)
+    (sym (at_window bytes next q hq) ∙ ap (λ (n : ℕ). take (length q) (drop n bytes)) (omega (arith, is)) ∙ ap (λ (l : Bytes). take (length q) l)
+    (sym (drop-drop (length p) at bytes)))
     ∙ sym (take-add (length p) (length q) (drop at bytes)))
     (omega (arith, at_ends bytes next q hq, is))
 
 -- what stands in a part of the bytes stands in them
-pub inner_at : (whole : Bytes) (place : ℕ) (bytes : Bytes) (at : ℕ) (part : Bytes) → HasAt whole place bytes → HasAt bytes at part → HasAt whole (place + at) part
+pub inner_at : (whole : Bytes) (place : ℕ) (bytes : Bytes) (at : ℕ) (part : Bytes) → HasAt whole place bytes → HasAt bytes at part
+    → HasAt whole (place + at) part
 inner_at whole place bytes at part outer inner = record {
   front = outer.front ++ inner.front;
   rest = inner.rest ++ outer.rest;
@@ -69,12 +81,15 @@ inner_at whole place bytes at part outer inner = record {
     regroup : (a b c d e : Bytes) → (a ++ ((b ++ c) ++ d)) ++ e ≡ ((a ++ b) ++ c) ++ (d ++ e)
     regroup a b c d e = simp append_assoc
 
-pub differs_in : (whole : Bytes) (place : ℕ) (bytes : Bytes) (at : ℕ) (seen wanted : Bytes) → HasAt whole place bytes → Differs bytes at seen wanted → Differs whole (place + at) seen wanted
+pub differs_in : (whole : Bytes) (place : ℕ) (bytes : Bytes) (at : ℕ) (seen wanted : Bytes) → HasAt whole place bytes → Differs bytes at seen wanted
+    → Differs whole (place + at) seen wanted
 differs_in whole place bytes at seen wanted outer inner = record { stands = inner_at whole place bytes at seen outer inner.stands; long = inner.long; differs = inner.differs }
 
 -- at an offset of the bytes others stand than the wanted ones
-pub other_at : (file : FileName) (at : ℕ) (bytes : Bytes) (offset n : ℕ) (wanted : Bytes) (rule : FormatRule) (damage : Damage) → n ≡ length wanted → offset + n ≤ length bytes → damage.file ≡ file → damage.at ≡ at + offset → damage.rule ≡ rule
-    → seen_bytes damage.seen ≡ take n (drop offset bytes) → take (length wanted) (drop offset bytes) ≢ wanted → IsOther file at bytes offset wanted rule damage
+pub other_at : (file : FileName) (at : ℕ) (bytes : Bytes) (offset n : ℕ) (wanted : Bytes) (rule : FormatRule) (damage : Damage) → n ≡ length wanted
+    → offset + n ≤ length bytes → damage.file ≡ file → damage.at ≡ at + offset → damage.rule ≡ rule
+    → seen_bytes damage.seen ≡ take n (drop offset bytes) → take (length wanted) (drop offset bytes) ≢ wanted
+    → IsOther file at bytes offset wanted rule damage
 other_at file at bytes offset n wanted rule damage long le named place rule_is seen other = record {
   named = named;
   rule_is = rule_is;

@@ -11,22 +11,30 @@ use Rattle.sasi_host.specs.Disk.{Changes, Same}
 use Rattle.sasi_host.specs.Contents.{contents_same}
 use Rattle.sasi_host.specs.Damages.{Shown, ShowsEnd, TellsSize}
 
--- what a file shows after nothing was done it showed before
-pub shown_before : (Shows : Bytes → Damage → Type 0) (a b : View) (file : FileName) (f : ReadFault) → Changes Same a b → Shown b file Shows f → Shown a file Shows f
+-- what a file shows, it showed before, if nothing was done
+pub shown_before : (Shows : Bytes → Damage → Type 0) (a b : View) (file : FileName) (f : ReadFault) → Changes Same a b → Shown b file Shows f
+    → Shown a file Shows f
 shown_before Shows a b file fault.Failed same shown = tt
 shown_before Shows a b file fault.OutOfMemory same shown = tt
 shown_before Shows a b file (fault.Damaged damage) same shown = λ bytes is. shown bytes (contents_same a b file same ∙ is)
 
--- what follows from what a file shows it shows
-pub shown_as : (Shows Tells : Bytes → Damage → Type 0) (v : View) (file : FileName) (f : ReadFault) → ((bytes : Bytes) (damage : Damage) → contents v file ≡ Some bytes → Shows bytes damage → Tells bytes damage) → Shown v file Shows f → Shown v file Tells f
+-- a file shows what follows from what it shows
+pub shown_as : (Shows Tells : Bytes → Damage → Type 0) (v : View) (file : FileName) (f : ReadFault)
+    → ((bytes : Bytes) (damage : Damage) → contents v file ≡ Some bytes → Shows bytes damage → Tells bytes damage) → Shown v file Shows f
+    → Shown v file Tells f
 shown_as Shows Tells v file fault.Failed follows shown = tt
 shown_as Shows Tells v file fault.OutOfMemory follows shown = tt
 shown_as Shows Tells v file (fault.Damaged damage) follows shown = λ bytes is. follows bytes damage is (shown bytes is)
 
--- a file that tells its size ends before each place that it doesn't reach
-pub end_shown : (v : View) (file : FileName) (end : ℕ) (f : ReadFault) → ((bytes : Bytes) → contents v file ≡ Some bytes → length bytes < end) → Shown v file (TellsSize file) f → Shown v file (ShowsEnd end file) f
-end_shown v file end f short told = shown_as (TellsSize file) (ShowsEnd end file) v file f (λ bytes damage is tells. record { tells = tells; short = short bytes is }) told
+-- a file that tells its size ends before each offset that it doesn't reach
+pub end_shown : (v : View) (file : FileName) (end : ℕ) (f : ReadFault) → ((bytes : Bytes) → contents v file ≡ Some bytes → length bytes < end)
+    → Shown v file (TellsSize file) f → Shown v file (ShowsEnd end file) f
+end_shown v file end f short told =
+    shown_as (TellsSize file) (ShowsEnd end file) v file f (λ bytes damage is tells. record { tells = tells; short = short bytes is }) told
 
 -- and each later one
-pub end_later : (v : View) (file : FileName) (near far : ℕ) (f : ReadFault) → near ≤ far → Shown v file (ShowsEnd near file) f → Shown v file (ShowsEnd far file) f
-end_later v file near far f le shown = shown_as (ShowsEnd near file) (ShowsEnd far file) v file f (λ bytes damage is ends. record { tells = ends.tells; short = omega (arith, ends.short, le) }) shown
+pub end_later : (v : View) (file : FileName) (near far : ℕ) (f : ReadFault) → near ≤ far → Shown v file (ShowsEnd near file) f
+    → Shown v file (ShowsEnd far file) f
+end_later v file near far f le shown =
+    shown_as (ShowsEnd near file) (ShowsEnd far file) v file f
+    (λ bytes damage is ends. record { tells = ends.tells; short = omega (arith, ends.short, le) }) shown

@@ -1,4 +1,4 @@
--- A host that doesn't tell its files, as one of real files, or of none.
+-- A host whose files contracts don't see, as that of real files.
 use Rattle.std.specs.Prelude.{◌≡◌, ◌++◌, ℕ, List, Option, None, refl}
 use Rattle.std.specs.Io.KnownBytes.{Appends}
 use Rattle.std.proofs.Common.{arith}
@@ -28,7 +28,8 @@ silent_sound emitted disk_faults out_faults reads = record {
 }
 
 -- a first part of the bytes was appended to what it tells
-pub silent_emits : (old new : Option (List ℕ)) (disk out reads disk2 out2 reads2 : ℕ) (bytes front back : List ℕ) → bytes ≡ front ++ back → Appends old new front → Emits bytes (silent_view old disk out reads) (silent_view new disk2 out2 reads2)
+pub silent_emits : (old new : Option (List ℕ)) (disk out reads disk2 out2 reads2 : ℕ) (bytes front back : List ℕ) → bytes ≡ front ++ back
+    → Appends old new front → Emits bytes (silent_view old disk out reads) (silent_view new disk2 out2 reads2)
 silent_emits old new disk out reads disk2 out2 reads2 bytes front back parts appended = record {
   front = front;
   back = back;

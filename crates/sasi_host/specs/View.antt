@@ -64,7 +64,7 @@ IsAbsent v file = contents v file ≡ None
 abbrev pub Holds : View → FileName → Bytes → Type 0
 Holds v file bytes = IsTold v → contents v file ≡ Some bytes
 
--- the file is there and reaches to this place, where the folder is told
+-- the file is there and reaches to this offset, where the folder is told
 abbrev pub Reaches : View → FileName → ℕ → Type 0
 Reaches v file at = IsTold v → (bytes : Bytes) × (contents v file ≡ Some bytes) × (at ≤ length bytes)
 
@@ -125,7 +125,7 @@ pub record ReadCauses {T E : Type 0} (old new : View) (result : Result T E) : Ty
   pub reads : new.reads ≡ counted old.reads
   pub failed : OnErr result (Rose old.disk_faults new.disk_faults)
 
--- the same of a call that may also lack memory
+-- the same of a call that may also be out of memory
 pub record ListCauses {T : Type 0} (old new : View) (result : Result T HostFault) : Type 0 where
   pub disk : old.disk_faults ≤ new.disk_faults
   pub out : new.out_faults ≡ old.out_faults
@@ -175,4 +175,5 @@ AllOut bytes old new = Appends old.emitted new.emitted bytes
 
 -- each first part of the bytes counts as emitted at some moment of the call
 abbrev pub TellsPrefixes : List ℕ → View → View → Type 0
-TellsPrefixes bytes old new = (t : ℕ) (folder : Folder) (b : Bytes) (k : ℕ) → t ≤ old.moment → old.image folder → old.emitted ≡ Some b → new.left t folder (b ++ take k bytes)
+TellsPrefixes bytes old new =
+    (t : ℕ) (folder : Folder) (b : Bytes) (k : ℕ) → t ≤ old.moment → old.image folder → old.emitted ≡ Some b → new.left t folder (b ++ take k bytes)

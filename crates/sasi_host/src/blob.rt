@@ -42,7 +42,7 @@ impl Blob {
         &self.bytes
     }
 
-    // Writes over the bytes from this place on, and past their end where the new ones reach further. It leaves no gap.
+    // Writes over the bytes from this offset on, and past their end where the new ones reach further. It leaves no gap.
     pub fn write(&mut self, at: u64, bytes: &[u8]) -> Result<(), AllocError>
         requires { at + length bytes.now ≤ 2 ^ 62 }
         ensures ok { OnOk result (self.new ≡ overwritten self.old at bytes.now) }

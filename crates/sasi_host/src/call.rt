@@ -1,4 +1,4 @@
-// What a host in memory was asked to do.
+// The log of a host in memory.
 use crate::FileName;
 use crate::blob::Blob;
 

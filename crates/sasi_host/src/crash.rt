@@ -23,7 +23,7 @@ fn is_synced_later(file: FileName, rest: &[Call]) -> bool
     false
 }
 
-// Whether the folder is.
+// Whether the folder is synced by one of them.
 fn is_folder_later(rest: &[Call]) -> bool
     ensures { result ≡ folder_later rest.now }
 {
@@ -62,7 +62,7 @@ fn write_pending(
     }
 }
 
-// What one call makes of the picked folder, where these calls come after it.
+// Applies one call to the picked image, where these calls come after it.
 fn step_left(
     alloc: Global,
     left: &mut MemFolder,
@@ -100,7 +100,7 @@ fn step_left(
     }
 }
 
-// The folder that a crash leaves by this pick, from one with nothing pending through these calls.
+// The image that the pick names: a folder with nothing pending, with these calls applied.
 pub fn left_by(
     alloc: Global,
     start: MemFolder,
@@ -116,7 +116,7 @@ pub fn left_by(
     Ok(left)
 }
 
-// Puts a file, unless it is longer than a file may be.
+// Puts a file into the image, unless it is longer than a file may be.
 fn put_left(
     alloc: Global,
     left: &mut MemFolder,

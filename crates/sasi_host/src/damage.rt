@@ -1,4 +1,4 @@
-// What a file shows where it breaks a rule of its format.
+// Corruption: the rule of its format that a file breaks.
 ghost use Rattle.std.specs.Prelude.{◌≡◌, ◌≢◌, ◌+◌, ◌^◌, ◌<◌, ◌≤◌, length, take, drop, IfErr, OnOk};
 ghost use Rattle.sasi_host.specs.Damages.{IsOther, seen_bytes};
 
@@ -21,7 +21,7 @@ pub enum FormatRule {
     Number,
     /// An item doesn't follow the one before it.
     Order,
-    /// A place field leads outside the file, or to a wrong part of it.
+    /// An offset field leads outside the file, or to a wrong part of it.
     Place,
     /// Bytes that must be UTF-8, a value of a type or a free name aren't.
     Text,
@@ -53,13 +53,13 @@ impl Seen {
 #[derive(Clone, Copy, Debug, PartialEq, Eq)]
 pub struct Damage {
     pub file: FileName,
-    /// The place from the file's start.
+    /// The offset from the file's start.
     pub at: u64,
     pub rule: FormatRule,
     pub seen: Seen,
 }
 
-/// The damage of a file that breaks the rule at this place, where it has these bytes.
+/// The damage of a file that breaks the rule at this offset, where it has these bytes.
 pub fn found(file: FileName, at: u64, rule: FormatRule, bytes: &[u8]) -> Damage
     requires { length bytes.now ≤ 8 }
     ensures file { result.file ≡ file }
@@ -75,7 +75,7 @@ pub fn found(file: FileName, at: u64, rule: FormatRule, bytes: &[u8]) -> Damage
     }
 }
 
-/// At this offset of the bytes, which stand at a place of the file, the wanted ones have to stand.
+/// Checks that the wanted bytes stand at this offset of `bytes`, which stand at `at` of the file.
 pub fn check_part(
     file: FileName,
     at: u64,

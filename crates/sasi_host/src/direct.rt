@@ -1,8 +1,8 @@
-// Pages read anew each time.
+// Pages that are read each time.
 
 use crate::{Failed, FileName, Host, HostFault, PageReader};
 
-/// The reader that keeps no page. It agrees with all files.
+/// The reader without a cache. It agrees with all files.
 #[derive(Clone, Copy, Debug)]
 pub struct Direct;
 

@@ -5,7 +5,7 @@ ghost use Rattle.sasi_host.specs.Disk.{Changes, Step, InPlace, Torn, Anyhow, Bec
 
 use crate::{Failed, FileName, Host};
 
-/// Writes, and syncs the file. A file that each image had, each then has with these bytes in place.
+/// Writes and syncs a file. Where it was durable, it is durable with these bytes written over it.
 pub fn write_durably<H: Host>(
     host: &mut H,
     file: FileName,
@@ -24,7 +24,7 @@ pub fn write_durably<H: Host>(
     host.sync(file)
 }
 
-/// Makes a file of these bytes, and syncs it and the folder. Each image then has it.
+/// Makes a file of these bytes, and syncs it and the folder. Then it is durable.
 pub fn make_file<H: Host>(host: &mut H, file: FileName, bytes: &[u8]) -> Result<(), Failed>
     requires { IsAbsent (H.view host.old) file }
     ensures ok { OnOk result (IsKept (H.view host.new) file bytes.now) }

@@ -1,5 +1,5 @@
-// The answer of a call on the outside that failed.
+// The error of a call on the outside.
 
-/// A call on a source or a host failed. The fitting count of faults has risen.
+/// An I/O error of a source or a host. The fitting count of errors has risen.
 #[derive(Clone, Copy, Debug, PartialEq, Eq)]
 pub struct Failed;

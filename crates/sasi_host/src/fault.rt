@@ -1,4 +1,4 @@
-// Why a call on a host, or a read of a format on one, gives no answer.
+// Why a call on a host, or a read of a format on one, fails.
 ghost use Rattle.std.specs.Prelude.{◌≡◌};
 ghost use Rattle.sasi_host.specs.declared.fault.HostFault.TheVariants as host_fault;
 ghost use Rattle.sasi_host.specs.declared.fault.ReadFault.TheVariants as read_fault;
@@ -6,7 +6,7 @@ ghost use Rattle.sasi_host.specs.declared.fault.ReadFault.TheVariants as read_fa
 use crate::{Damage, Failed};
 use std::alloc::AllocError;
 
-/// Why a host gives no answer.
+/// Why a call on a host fails.
 #[derive(Clone, Copy, Debug, PartialEq, Eq)]
 pub enum HostFault {
     Failed,
@@ -29,7 +29,7 @@ impl From<AllocError> for HostFault {
     }
 }
 
-/// Why a file isn't read as its format.
+/// Why a read of a format fails.
 #[derive(Clone, Copy, Debug, PartialEq, Eq)]
 pub enum ReadFault {
     Failed,

@@ -1,4 +1,4 @@
-// The page of a file that was read last.
+// A file read through a buffer of one page.
 ghost use Rattle.std.specs.Prelude.{◌≡◌, ◌⊎◌, ◌+◌, ◌-◌, ◌*◌, ◌/◌, ◌%◌, ◌^◌, ◌<◌, ◌≤◌, List, ℕ, [], length, take, drop, IfErr, IfSome, IfNone, OnOk, Some, None};
 ghost use Rattle.sasi_host.specs.declared.name.FileName.{FileName};
 ghost use Rattle.sasi_host.specs.View.{IsThere, contents, PageCauses, ReadsAtMost};
@@ -11,7 +11,7 @@ use std::marker::Model;
 
 const PAGE: u64 = 4096;
 
-/// Bytes of one file, read with the page of the last ones in hand: who goes on through the file reads each page once.
+/// A buffered file: it keeps the page that was read last. A sequential scan reads each page once.
 #[derive(Drop)]
 pub struct HeldPage {
     file: FileName,
@@ -32,7 +32,7 @@ impl Model for HeldPage {
 }
 
 impl HeldPage {
-    /// No page of the file is in hand yet.
+    /// A buffered file with an empty buffer.
     pub fn new(file: FileName) -> HeldPage
         ensures { result ≡ record { file = file; page = None; bytes = [] } }
     {
@@ -44,14 +44,14 @@ impl HeldPage {
         }
     }
 
-    /// The file whose bytes it reads.
+    /// The name of the file.
     pub fn file(&self) -> FileName
         ensures { result ≡ self.now.file }
     {
         self.file
     }
 
-    /// Fills the buffer with the file's bytes from this place on.
+    /// Fills `out` with the file's bytes from this offset on.
     pub fn read_into<H: Host, P: PageReader>(
         &mut self,
         host: &mut H,
@@ -85,7 +85,7 @@ impl HeldPage {
         Ok(())
     }
 
-    // The same of some bytes that lie on one page.
+    // Fills `out` with bytes that lie on one page.
     fn read_part<H: Host, P: PageReader>(
         &mut self,
         host: &mut H,
@@ -117,7 +117,7 @@ impl HeldPage {
         Ok(())
     }
 
-    // Has the page in hand, and reads it only if it isn't there yet.
+    // Loads the page into the buffer, unless it is there.
     fn take_up<H: Host, P: PageReader>(
         &mut self,
         host: &mut H,
@@ -146,7 +146,7 @@ impl HeldPage {
         Ok(())
     }
 
-    // So many bytes of the page in hand, if it reaches so far.
+    // So many bytes of the buffered page, if it has them.
     fn part(&self, from: usize, count: usize) -> Option<&[u8]>
         requires { from + count ≤ 4096 }
         ensures some { IfSome result (λ part. part.now ≡ take count (drop from self.now.bytes)) }

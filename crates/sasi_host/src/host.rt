@@ -1,4 +1,4 @@
-// Where files are kept and replies are put.
+// The host: files and replies.
 ghost use Rattle.std.specs.Prelude.{◌≡◌, ◌+◌, ◌^◌, ◌<◌, ◌≤◌, [], length, IfOk, OnOk};
 ghost use Rattle.std.specs.List.Sorted.{IsStrictlySortedBy};
 ghost use Rattle.sasi_host.specs.Names.{name_cmp};
@@ -8,9 +8,9 @@ ghost use Rattle.sasi_host.specs.Disk.{Changes, Same, Step, InPlace, Torn, Maybe
 use crate::{Failed, FileName, HostFault};
 use std::alloc::Global;
 
-/// A folder of files, and where replies are put. Both are in one trait, so that they have one order of moments.
+/// A folder of files, and the replies. One trait has both, so that files and replies have one order of moments.
 pub trait Host {
-    /// What it tells of itself.
+    /// What contracts see of it.
     ghost view: { Self → View };
 
     /// The names of the folder's files, in their order. Files with foreign names are left out.
@@ -29,7 +29,7 @@ pub trait Host {
         ensures moments { KeepsMoments (view self.old) (view self.new) }
         ensures causes { DiskCauses (view self.old) (view self.new) result };
 
-    /// Fills the buffer with the file's bytes from this place on, and gives how many there were.
+    /// Fills the buffer with the file's bytes from this offset on, and gives how many there were.
     fn read(&mut self, file: FileName, at: u64, buf: &mut [u8]) -> Result<usize, Failed>
         requires there { IsThere (view self.old) file }
         requires some { 0 < length buf.old }
@@ -40,7 +40,7 @@ pub trait Host {
         ensures moments { KeepsMoments (view self.old) (view self.new) }
         ensures causes { ReadCauses (view self.old) (view self.new) result };
 
-    /// Makes an empty file. It is in each image once it and the folder are synced.
+    /// Makes an empty file. Once it and the folder are synced, each image has it.
     fn create(&mut self, file: FileName) -> Result<(), Failed>
         requires { IsAbsent (view self.old) file }
         ensures ok { OnOk result (Holds (view self.new) file []) }
@@ -48,7 +48,7 @@ pub trait Host {
         ensures moments { KeepsMoments (view self.old) (view self.new) }
         ensures causes { DiskCauses (view self.old) (view self.new) result };
 
-    /// Writes over the file's bytes from this place on, and past its end where they reach further.
+    /// Writes over the file's bytes from this offset on, and past its end where they reach further.
     fn write(&mut self, file: FileName, at: u64, bytes: &[u8]) -> Result<(), Failed>
         requires { Reaches (view self.old) file at }
         ensures ok { OnOk result (Becomes file (λ old. overlay old at bytes.now) (view self.old) (view self.new)) }
@@ -57,7 +57,7 @@ pub trait Host {
         ensures moments { KeepsMoments (view self.old) (view self.new) }
         ensures causes { DiskCauses (view self.old) (view self.new) result };
 
-    /// Makes the file's bytes durable. Its name is so only with the folder's.
+    /// Makes the file's bytes durable. Its name becomes durable by a sync of the folder.
     fn sync(&mut self, file: FileName) -> Result<(), Failed>
         requires { IsThere (view self.old) file }
         ensures ok { OnOk result (IsSynced (view self.new) file) }
@@ -65,7 +65,7 @@ pub trait Host {
         ensures moments { KeepsMoments (view self.old) (view self.new) }
         ensures causes { DiskCauses (view self.old) (view self.new) result };
 
-    /// Takes the file out of the folder. It is out of each image once the folder is synced.
+    /// Deletes the file. Once the folder is synced, no image has it.
     fn delete(&mut self, file: FileName) -> Result<(), Failed>
         requires { IsThere (view self.old) file }
         ensures ok { OnOk result (IsAbsent (view self.new) file) }
@@ -80,7 +80,7 @@ pub trait Host {
         ensures moments { KeepsMoments (view self.old) (view self.new) }
         ensures causes { DiskCauses (view self.old) (view self.new) result };
 
-    /// Appends all the bytes to the replies. After an error a first part of them was.
+    /// Appends all the bytes to the replies. After an I/O error a prefix of them was appended.
     fn emit(&mut self, bytes: &[u8]) -> Result<(), Failed>
         ensures ok { OnOk result (AllOut bytes.now (view self.old) (view self.new)) }
         ensures emits { Emits bytes.now (view self.old) (view self.new) }
@@ -88,6 +88,6 @@ pub trait Host {
         ensures prefixes { OnOk result (TellsPrefixes bytes.now (view self.old) (view self.new)) }
         ensures causes { OutCauses (view self.old) (view self.new) result };
 
-    /// The laws of what it tells.
+    /// The laws of the host's record.
     ghost sound: { (host : Self) → IsSound (view host) };
 }

@@ -1,13 +1,11 @@
-// The outside of a run: the source that a script is read from, and the host that keeps the files and takes the replies.
-// What either tells of itself is one record, so that a contract above speaks of what was told before and after, and of what
-// a crash meanwhile may have left. Beside each trait stands an instance in memory, which fails where it is told to.
+//! The outside of a run: the source of the script, and the host, which keeps the files and takes the replies. Contracts see
+//! each of them as one record, so that a caller's contract relates the record before a call to the one after it, and tells
+//! what a crash in between may leave. Each trait has an implementation in memory, which fails at the calls that are listed.
 #![tactic(auto)]
 
 mod blob;
 mod call;
 mod crash;
-#[cfg(test)]
-mod crash_tests;
 mod damage;
 mod direct;
 mod durable;
@@ -26,8 +24,6 @@ mod page;
 mod pick;
 mod short;
 mod source;
-#[cfg(test)]
-mod tests;
 
 pub use damage::{Damage, FormatRule, Seen, check_part, found};
 pub use direct::Direct;

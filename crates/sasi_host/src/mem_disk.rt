@@ -1,4 +1,4 @@
-// A folder in memory that remembers what was done to it.
+// A folder in memory, with a log of its calls.
 ghost use Rattle.std.specs.Prelude.{◌≡◌, ◌+◌, ◌^◌, ◌≤◌, ◌++◌, ◌∷◌, [], length, ◌↔◌, Some, None, OnOk, OnErr, IfOk, IfSome, IfNone, IsSome, Contains};
 ghost use Rattle.std.specs.List.Sorted.{IsStrictlySortedBy};
 ghost use Rattle.sasi_host.specs.Names.{name_cmp};
@@ -14,7 +14,7 @@ use crate::mem_folder::MemFolder;
 use crate::{FileName, Pick, noting};
 use std::alloc::{AllocError, Global};
 
-// The folder as it began, the calls that were made on it since, and what they made of it.
+// The folder at the start, the calls since then, and the folder that they lead to.
 #[derive(Drop)]
 pub struct MemDisk {
     pub alloc: Global,
@@ -115,7 +115,7 @@ impl MemDisk {
         self.folder.get(file)
     }
 
-    // How many bytes the file has: none where it isn't there.
+    // How many bytes the file has; 0 where it isn't there.
     pub fn size(&self, file: FileName) -> u64
         ensures { (bytes : _) → map.get (replay (opened self.now.start) self.now.calls.items).folder file ≡ Some bytes → result ≡ length bytes }
     {
@@ -125,7 +125,7 @@ impl MemDisk {
         }
     }
 
-    // Fills the buffer with the file's bytes from this place on.
+    // Fills the buffer with the file's bytes from this offset on.
     pub fn read(&self, file: FileName, at: u64, buf: &mut [u8]) -> usize
         ensures fills { (bytes : _) → map.get (replay (opened self.now.start) self.now.calls.items).folder file ≡ Some bytes → Fills bytes at buf.old buf.new result }
         ensures within { result ≤ length buf.old }
@@ -144,7 +144,7 @@ impl MemDisk {
         self.folder.names(alloc)
     }
 
-    // The folder that a crash leaves by this pick.
+    // The image that the pick names.
     pub fn crash(&self, pick: Pick) -> Result<MemDisk, AllocError>
         ensures start { IfOk result (λ d. d.start ≡ picked pick self.now.calls.items self.now.start) }
         ensures calls { IfOk result (λ d. d.calls.items ≡ []) }
@@ -155,7 +155,7 @@ impl MemDisk {
     }
 }
 
-// Fills the buffer with the bytes from this place on, as far as both reach.
+// Fills the buffer with the bytes from this offset on, as far as both reach.
 fn fill(bytes: &[u8], at: u64, buf: &mut [u8]) -> usize
     ensures fills { Fills bytes.now at buf.old buf.new result }
     ensures within { result ≤ length buf.old }

@@ -13,7 +13,7 @@ use std::alloc::{AllocError, Global};
 use std::collections::BTreeMap;
 use std::marker::Model;
 
-// A file has at most so many bytes.
+// The most bytes that a file has.
 pub const LONGEST: u64 = 1 << 62;
 
 // The files of a folder by their names.
@@ -72,7 +72,7 @@ impl MemFolder {
         self.files.remove(&name);
     }
 
-    // Writes over a file and past its end, where it is there and that leaves no gap.
+    // Writes over a file and past its end. Where the file isn't there, or there would be a gap, nothing changes.
     pub fn write(&mut self, name: FileName, at: u64, bytes: &[u8]) -> Result<(), AllocError>
         ensures ok { OnOk result (self.new ≡ written (map.get self.old name) name at bytes.now self.old) }
         ensures err { OnErr result (self.new ≡ self.old) }

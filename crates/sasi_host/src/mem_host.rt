@@ -13,7 +13,7 @@ use crate::mem_folder::MemFolder;
 use crate::{Failed, FileName, Pick};
 use std::alloc::{AllocError, Global};
 
-/// A folder and replies in memory. Its calls fail where they are listed, after its stop, and where its memory can't grow.
+/// A folder and replies in memory. A call fails where it is listed, after the stop, and where memory can't grow.
 #[derive(Drop)]
 pub struct MemHost {
     pub(crate) disk: MemDisk,
@@ -67,21 +67,21 @@ impl MemHost {
         self.failing_disk = calls;
     }
 
-    /// The same of emits.
+    /// From now on the emits listed fail, counted from 1 and from the making of the host.
     pub fn fail_emits(&mut self, calls: Vec<u64>)
         ensures { seen self.new ≡ record (seen self.old) { failing_emits = calls.items } }
     {
         self.failing_emits = calls;
     }
 
-    /// Each call after so many fails. File calls and emits are counted together, from the making of the host.
+    /// Each call after the first so many fails. File calls and emits are counted together, from the making of the host.
     pub fn stop_after(&mut self, calls: u64)
         ensures { seen self.new ≡ record (seen self.old) { stop = calls } }
     {
         self.stop = calls;
     }
 
-    /// Puts a file, which is at once in each image, name and bytes.
+    /// Puts a file. Its name and its bytes are durable at once.
     pub fn put(&mut self, file: FileName, bytes: &[u8]) -> Result<(), AllocError>
         ensures ok { OnOk result (seen self.new ≡ done (Call.Put file bytes.now) (seen self.old)) }
         ensures reads { OnOk result (contents (host_view (seen self.new)) file ≡ Some bytes.now) }
@@ -90,7 +90,7 @@ impl MemHost {
         self.disk.put(file, bytes)
     }
 
-    /// What the file reads: none exactly where it isn't there.
+    /// The bytes of the file; None exactly where it isn't there.
     pub fn bytes(&self, file: FileName) -> Option<&[u8]>
         ensures some { IfSome result (λ bytes. contents (host_view (seen self.now)) file ≡ Some bytes.now) }
         ensures none { IfNone result (contents (host_view (seen self.now)) file ≡ None) }
@@ -112,14 +112,14 @@ impl MemHost {
         self.reads
     }
 
-    /// How many growths of its memory were refused.
+    /// How often its memory couldn't grow.
     pub fn refused(&self) -> u64
         ensures { result ≡ (seen self.now).refused }
     {
         self.refused
     }
 
-    /// What a crash now leaves, by this pick of its images. It has nothing pending, emits from nothing and doesn't fail.
+    /// The image of a crash now that the pick names. It has nothing pending, no replies, and doesn't fail.
     pub fn crash(&self, pick: Pick) -> Result<MemHost, AllocError>
         ensures image { IfOk result (λ h. IsCrashOf (host_view (seen self.now)) (host_view (seen h))) }
         ensures picked { IfOk result (λ h. seen h ≡ host_with (picked pick (seen self.now).calls (seen self.now).start)) }
@@ -148,7 +148,7 @@ impl MemHost {
         Ok(())
     }
 
-    // Counts a file call's want of memory.
+    // Counts a file call that is out of memory.
     pub(crate) fn refuse_disk(&mut self) -> Failed
         ensures counts { seen self.new ≡ disk_refused (seen self.old) }
         ensures later { self.old.disk_faults ≤ self.new.disk_faults }
@@ -174,7 +174,7 @@ impl MemHost {
         Ok(())
     }
 
-    // Counts an emit's want of memory.
+    // Counts an emit that is out of memory.
     pub(crate) fn refuse_emit(&mut self) -> Failed
         ensures counts { seen self.new ≡ emit_refused (seen self.old) }
         ensures later { self.old.out_faults ≤ self.new.out_faults }

@@ -8,7 +8,7 @@ ghost use Rattle.sasi_host.specs.Memory.{source_view, count_given, failed_read};
 use crate::{Failed, Source};
 use std::marker::Model;
 
-/// Bytes in memory, given in parts of a fixed size. It fails at the reads that are listed, and nowhere else.
+/// A script in memory, read in parts of a fixed size. It fails at the reads that are listed, and nowhere else.
 #[derive(Drop)]
 pub struct MemSource {
     bytes: Vec<u8>,

@@ -9,7 +9,7 @@ ghost use Rattle.sasi_host.specs.NameLaws.{names_total};
 
 use std::cmp::Ordering;
 
-/// What a file of the folder is for.
+/// The kind of a file of the folder.
 #[derive(Clone, Copy, Debug)]
 pub enum Kind {
     Manifest,
@@ -21,7 +21,7 @@ pub enum Kind {
 }
 
 impl Kind {
-    /// Its place in the order of names.
+    /// Its rank in the order of names.
     pub fn rank(self) -> u8
         ensures { result ≡ rank self }
     {

@@ -1,4 +1,4 @@
-// Each of these notes a call and then does it, or does neither.
+// The calls of a folder in memory. Each one appends itself to the log and then takes effect, or does neither.
 ghost use Rattle.std.specs.Prelude.{◌≡◌, ◌+◌, ◌^◌, ◌≤◌, ◌++◌, ◌∷◌, [], length, OnOk, OnErr};
 ghost use Rattle.std.specs.FinMap as map;
 ghost use Rattle.sasi_host.specs.Files.{FitsAll, written};
@@ -9,7 +9,7 @@ use crate::call::Call;
 use crate::mem_folder::{LONGEST, MemFolder};
 use std::alloc::{AllocError, Global};
 
-// A call that changes nothing that is read.
+// A call that changes nothing that reads give.
 pub fn note(calls: &mut Vec<Call>, call: Call) -> Result<(), AllocError>
     ensures ok { OnOk result (calls.new.items ≡ calls.old.items ++ call ∷ []) }
     ensures err { OnErr result (calls.new.items ≡ calls.old.items) }
@@ -36,7 +36,7 @@ pub fn create(
     Ok(())
 }
 
-// A write past the longest length is refused.
+// Refuses a write that would make the file too long.
 pub fn write(
     alloc: Global,
     folder: &mut MemFolder,
@@ -72,7 +72,7 @@ pub fn delete(
     Ok(())
 }
 
-// A file past the longest length is refused.
+// Refuses a file that is too long.
 pub fn put(
     alloc: Global,
     folder: &mut MemFolder,

@@ -7,12 +7,12 @@ ghost use Rattle.sasi_host.specs.Disk.{Changes, Same, Fills};
 
 use crate::{FileName, Host, HostFault};
 
-/// What reads the pages of a host's files, of 4,096 bytes each, and may keep some of them.
+/// Reads the pages of a host's files, of 4,096 bytes each, and may cache some of them.
 pub trait PageReader {
-    /// What it keeps is what these files read.
+    /// The pages that it caches are those of these files.
     ghost agrees: { Self → Option Folder → Type 0 };
 
-    /// It may keep pages of the file.
+    /// It may cache pages of the file.
     ghost covers: { Self → FileName → Type 0 };
 
     /// Fills the buffer with the file's bytes from `page` times 4,096 on, and gives how many there were. It makes at most
@@ -35,7 +35,7 @@ pub trait PageReader {
         ensures moments { KeepsMoments (H.view host.old) (H.view host.new) }
         ensures causes { PageCauses (H.view host.old) (H.view host.new) result };
 
-    /// It still agrees where the files that it covers read as before.
+    /// It still agrees while the files that it covers are unchanged.
     ghost keeps: { (reader : Self) (old new : Option Folder) → agrees reader old → (IsSome new → IsSome old)
         → ((name : FileName) → covers reader name → contents_in new name ≡ contents_in old name) → agrees reader new };
 }

@@ -1,4 +1,4 @@
-// Which of its images a crash leaves.
+// A choice among the images that a crash may leave.
 
 /// What becomes of the names that were made or deleted since the last sync of the folder.
 #[derive(Clone, Copy, Debug, PartialEq, Eq)]

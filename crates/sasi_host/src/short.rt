@@ -7,7 +7,7 @@ ghost use Rattle.sasi_host.specs.Damages.{Shown, TellsSize};
 
 use crate::{FileName, FormatRule, Host, ReadFault, found};
 
-/// The fault of a file that ends too early. It asks for the file's size, which is no read.
+/// The error of a file that ends too early. It asks for the file's size, which doesn't count as a read.
 pub fn too_short<H: Host>(host: &mut H, file: FileName) -> ReadFault
     requires { IsThere (H.view host.old) file }
     ensures damaged { Shown (H.view host.old) file (TellsSize file) result }

@@ -8,10 +8,10 @@ use crate::Failed;
 
 /// Where a script is read from.
 pub trait Source {
-    /// What it tells of itself.
+    /// What contracts see of it.
     ghost view: { Self → SourceView };
 
-    /// Gives the next bytes; none are the end. After an error nothing was given.
+    /// Reads the next bytes; Ok(0) is the end. An I/O error consumes nothing.
     fn read(&mut self, buf: &mut [u8]) -> Result<usize, Failed>
         requires { 0 < length buf.old }
         ensures bound { ReadsAtMost result buf.new }

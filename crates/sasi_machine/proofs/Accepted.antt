@@ -7,7 +7,7 @@ use Rattle.sasi_model.specs.Statements.{same}
 use Rattle.sasi_model.specs.State.{Definition, key_name, key_type}
 use Rattle.sasi_model.specs.Refusals.{delete_rules, each, first_of, gives_key, is_column, is_empty_text, is_key, is_key_value, is_null, is_of, key_empty, no_column, no_regular_column, number_range, other_key, repeat_rules, tests, time_rules, type_of_column, update_rules, value_too_long, wrong_type, wrong_where}
 use Rattle.sasi_model.specs.Step.{key_literal}
-use Rattle.sasi_schema.specs.Answers.{none_first, none_parts}
+use Rattle.sasi_schema.proofs.RuleLaws.{none_first, none_parts}
 use Rattle.sasi_schema.specs.Numbers.{IsKeyAt}
 use Rattle.sasi_machine.specs.declared.target.Target.{Target}
 use Rattle.sasi_machine.specs.Checks.{given_key_rules, given_rules, kind_rules, length_rules, missing_rule, range_rules, where_rules}
@@ -46,7 +46,8 @@ key_typed d name at is =
     rw (named, at) refl
 
 -- what the rules say of the key's literal
-key_passes : (d : Definition) (name : List ℕ) (literal : Literal) → IsKeyAt d.key d.columns → is_key d name ≡ true → is_null literal ≡ false → (wrong_type d name literal).0 ≡ false → (number_range d name literal).0 ≡ false
+key_passes : (d : Definition) (name : List ℕ) (literal : Literal) → IsKeyAt d.key d.columns → is_key d name ≡ true → is_null literal ≡ false
+    → (wrong_type d name literal).0 ≡ false → (number_range d name literal).0 ≡ false
     → (key_empty d name literal).0 ≡ false → (value_too_long d name literal).0 ≡ false → IsKeyLiteral (key_type d) literal
 key_passes d name literal at is there wrong range empty long =
     let typed = key_typed d name at is in
@@ -59,7 +60,8 @@ key_passes d name literal at is there wrong range empty long =
     }
 
 -- that which is given the key
-pub key_accepted : (d : Definition) (given : List (List ℕ × Literal)) → IsKeyAt d.key d.columns → gives_key d given ≡ true → first_of (each (wrong_type d) given) ≡ None → first_of (each (number_range d) given) ≡ None
+pub key_accepted : (d : Definition) (given : List (List ℕ × Literal)) → IsKeyAt d.key d.columns → gives_key d given ≡ true → first_of
+    (each (wrong_type d) given) ≡ None → first_of (each (number_range d) given) ≡ None
     → first_of (each (key_empty d) given) ≡ None → first_of (each (value_too_long d) given) ≡ None → IsKeyLiteral (key_type d) (key_literal d given)
 key_accepted d [] at gives wrong range empty long = cc
 key_accepted d (g ∷ given) at gives wrong range empty long =
@@ -80,7 +82,8 @@ pub record IsAccepted (d : Definition) (sets : List (List ℕ × Literal)) (lite
   pub ranges : first_of (each (number_range d) sets) ≡ None
   pub key : IsKeyLiteral (key_type d) literal
 
-pub insert_accepted : (d : Definition) (greatest : ℕ) (given : List (List ℕ × Literal)) (time : Option Number) → IsKeyAt d.key d.columns → first_of (given_rules d greatest given time) ≡ None → IsAccepted d given (key_literal d given)
+pub insert_accepted : (d : Definition) (greatest : ℕ) (given : List (List ℕ × Literal)) (time : Option Number) → IsKeyAt d.key d.columns
+    → first_of (given_rules d greatest given time) ≡ None → IsAccepted d given (key_literal d given)
 insert_accepted d greatest given time at none =
     let wrong = none_parts (each (wrong_type d) given) (each (number_range d) given ++ given_key_rules d greatest given time) none in
     let range = none_parts (each (number_range d) given) (given_key_rules d greatest given time) wrong.1 in
@@ -91,13 +94,16 @@ insert_accepted d greatest given time at none =
 
 -- ---- UPDATE and DELETE
 
-where_tests : (d : Definition) (name : List ℕ) (literal : Literal) → IsKeyAt d.key d.columns → is_key d name ≡ true → (wrong_where d name literal).0 ≡ false → ((wrong_type d name literal).0 ≡ false) × (is_null literal ≡ false)
+where_tests : (d : Definition) (name : List ℕ) (literal : Literal) → IsKeyAt d.key d.columns → is_key d name ≡ true
+    → (wrong_where d name literal).0 ≡ false → ((wrong_type d name literal).0 ≡ false) × (is_null literal ≡ false)
 where_tests d name literal at is wrong =
     let typed = key_typed d name at is in
     let parts = or_parts (not (is_of (key_type d) literal)) (is_null literal) (rw typed at wrong) in
     (rw typed parts.0, parts.1)
 
-pub where_accepted : (d : Definition) (greatest : ℕ) (sets : List (List ℕ × Literal)) (target : Target) (time : Option Number) → IsKeyAt d.key d.columns → is_column d target.column ≡ true → first_of (kind_rules d greatest sets target time) ≡ None → IsAccepted d sets target.value
+pub where_accepted : (d : Definition) (greatest : ℕ) (sets : List (List ℕ × Literal)) (target : Target) (time : Option Number)
+    → IsKeyAt d.key d.columns → is_column d target.column ≡ true → first_of (kind_rules d greatest sets target time) ≡ None
+    → IsAccepted d sets target.value
 where_accepted d greatest sets target time at column none =
     let wrong = none_parts (each (wrong_type d) sets) (wrong_where d target.column target.value ∷ range_rules d greatest sets target time) none in
     let wrong_key = none_first (wrong_where d target.column target.value) (range_rules d greatest sets target time) wrong.1 in
@@ -111,7 +117,9 @@ where_accepted d greatest sets target time at column none =
     let tested = where_tests d target.column target.value at is wrong_key.0 in
     record { ranges = range.0; key = key_passes d target.column target.value at is tested.1 tested.0 range_key.0 empty.0 long_key.0 }
 
-pub update_accepted : (d : Definition) (greatest : ℕ) (table : List ℕ) (sets : List (List ℕ × Literal)) (target : Target) (time : Option Number) → IsKeyAt d.key d.columns → first_of (update_rules greatest table sets target.column target.value time (Some d)) ≡ None → IsAccepted d sets target.value
+pub update_accepted : (d : Definition) (greatest : ℕ) (table : List ℕ) (sets : List (List ℕ × Literal)) (target : Target)
+    (time : Option Number) → IsKeyAt d.key d.columns → first_of
+    (update_rules greatest table sets target.column target.value time (Some d)) ≡ None → IsAccepted d sets target.value
 update_accepted d greatest table sets target time at none =
     let kinds = kind_rules d greatest sets target time in
     let repeats = repeat_rules [] (map (λ set. set.0) sets) in
@@ -120,7 +128,9 @@ update_accepted d greatest table sets target time at none =
     let once = none_parts repeats kinds column.1 in
     where_accepted d greatest sets target time at (not_false (is_column d target.column) column.0) once.1
 
-pub delete_accepted : (d : Definition) (greatest : ℕ) (table : List ℕ) (columns : List (List ℕ)) (target : Target) (time : Option Number) → IsKeyAt d.key d.columns → first_of (delete_rules greatest table columns target.column target.value time (Some d)) ≡ None → IsAccepted d [] target.value
+pub delete_accepted : (d : Definition) (greatest : ℕ) (table : List ℕ) (columns : List (List ℕ)) (target : Target) (time : Option Number)
+    → IsKeyAt d.key d.columns → first_of (delete_rules greatest table columns target.column target.value time (Some d)) ≡ None
+    → IsAccepted d [] target.value
 delete_accepted d greatest table columns target time at none =
     let kinds = kind_rules d greatest [] target time in
     let repeats = repeat_rules [] columns in

@@ -1,4 +1,4 @@
--- What statements ask for, where their step leaves the state that is kept.
+-- What statements prepare.
 use Rattle.std.proofs.Common.{◌≡◌, drop, is_some, ℕ, zero, suc, ◌+◌, ◌-◌, ◌<◌, ◌≤◌, List, [], ◌∷◌, ◌++◌, length, map, set, slice_get, Option, Some, None, Result, Ok, Err, IfOk, refl, sym, ap, subst, ◌∙◌, arith}
 use Rattle.std.specs.Prelude.{max}
 use Rattle.sasi_types.specs.declared.partitioner.Partitioner.{Partitioner}
@@ -11,7 +11,7 @@ use Rattle.sasi_model.specs.Written.{IsWritten}
 use Rattle.sasi_types.specs.declared.column.ColumnType.{ColumnType}
 use Rattle.sasi_types.specs.declared.column.ColumnType.TheVariants as types
 use Rattle.std.specs.List.{AllByRecursion}
-use Rattle.sasi_machine.proofs.Storing.{change_fits, write_rules}
+use Rattle.sasi_machine.proofs.StatementBodies.{change_fits, write_rules}
 use Rattle.sasi_model.specs.Changes.{changed_tables, with_new_table}
 use Rattle.sasi_model.specs.Lines.{ok_line}
 use Rattle.sasi_model.specs.Pieces.{Piece}
@@ -39,24 +39,29 @@ use Rattle.sasi_machine.proofs.Taking.{answers_ok, empty_contents, greatest_kept
 -- ---- the state that is kept
 
 -- a statement that no rule refuses is not refused
-not_refused : (p : Partitioner) (ds : List Definition) (cs : List Contents) (g : ℕ) (statement : Statement) → IsKept ds cs g → first_of (rules ds g statement) ≡ None → refusal (state_of p ds cs) statement ≡ None
+not_refused : (p : Partitioner) (ds : List Definition) (cs : List Contents) (g : ℕ) (statement : Statement) → IsKept ds cs g → first_of
+    (rules ds g statement) ≡ None → refusal (state_of p ds cs) statement ≡ None
 unfolding refusal
 not_refused p ds cs g statement kept none = ap first_of (rules_kept p ds cs g statement kept) ∙ none
 
-no_rule : (p : Partitioner) (ds : List Definition) (cs : List Contents) (g : ℕ) (statement : Statement) → IsKept ds cs g → refusal (state_of p ds cs) statement ≡ None → first_of (rules ds g statement) ≡ None
+no_rule : (p : Partitioner) (ds : List Definition) (cs : List Contents) (g : ℕ) (statement : Statement) → IsKept ds cs g → refusal
+    (state_of p ds cs) statement ≡ None → first_of (rules ds g statement) ≡ None
 unfolding refusal
 no_rule p ds cs g statement kept none = sym (ap first_of (rules_kept p ds cs g statement kept)) ∙ none
 
 -- a write is known by what is kept
-kept_write : (p : Partitioner) (ds : List Definition) (cs : List Contents) (g : ℕ) (statement : Statement) (w : Mutation) → IsKept ds cs g → IsWrite ds g statement w → IsWrite (definitions (tables_of ds cs)) (greatest (state_of p ds cs)) statement w
+kept_write : (p : Partitioner) (ds : List Definition) (cs : List Contents) (g : ℕ) (statement : Statement) (w : Mutation) → IsKept ds cs g
+    → IsWrite ds g statement w → IsWrite (definitions (tables_of ds cs)) (greatest (state_of p ds cs)) statement w
 kept_write p ds cs g statement w kept write =
     subst (λ (tables : List Definition). IsWrite tables (greatest (state_of p ds cs)) statement w) (sym (definitions_of ds cs kept.held))
     (subst (λ (time : ℕ). IsWrite ds time statement w) (sym (greatest_kept p ds cs g kept)) write)
 
 -- ---- CREATE TABLE
 
-pub create_asks : (p : Partitioner) (ds : List Definition) (cs : List Contents) (g : ℕ) (table : List ℕ) (columns : List Column) (keys : List (List ℕ)) (t : Table) (reply_old reply_new : List ℕ) → IsKept ds cs g → first_of (create_rules ds table columns keys) ≡ None
-    → definition t ≡ new_definition table columns keys → t.number ≡ length ds + 1 → reply_new ≡ reply_old ++ ok_line → Asks (state_of p ds cs) (CreateTable table columns keys) reply_old reply_new (Create t)
+pub create_asks : (p : Partitioner) (ds : List Definition) (cs : List Contents) (g : ℕ) (table : List ℕ) (columns : List Column)
+    (keys : List (List ℕ)) (t : Table) (reply_old reply_new : List ℕ) → IsKept ds cs g → first_of (create_rules ds table columns keys) ≡ None
+    → definition t ≡ new_definition table columns keys → t.number ≡ length ds + 1 → reply_new ≡ reply_old ++ ok_line → Asks
+    (state_of p ds cs) (CreateTable table columns keys) reply_old reply_new (Create t)
 create_asks p ds cs g table columns keys t reply_old reply_new kept none is number reply_is =
     let s = state_of p ds cs in (
       takes p ds cs g (CreateTable table columns keys) (with_new_table s (definition t)) reply_old reply_new (outcome_of None) kept none (ap (with_new_table s) is) reply_is refl,
@@ -65,8 +70,10 @@ create_asks p ds cs g table columns keys t reply_old reply_new kept none is numb
 
 -- ---- writes
 
--- the tables after a write are those of the changed contents
-written_tables : (p : Partitioner) (ds : List Definition) (cs : List Contents) (w : Mutation) (c : Contents) → AreContents ds cs → 0 < w.table → slice_get cs (w.table - 1) ≡ Some c → changed_tables w.table (place_of p w.key) w.change (tables_of ds cs) ≡ tables_of ds (set cs (w.table - 1) (written p w c))
+-- the tables after a mutation are those of the changed memtables
+written_tables : (p : Partitioner) (ds : List Definition) (cs : List Contents) (w : Mutation) (c : Contents) → AreContents ds cs
+    → 0 < w.table → slice_get cs (w.table - 1) ≡ Some c → changed_tables w.table (place_of p w.key) w.change
+    (tables_of ds cs) ≡ tables_of ds (set cs (w.table - 1) (written p w c))
 written_tables p ds cs w c held some got = by w.table (omega arith) some
   where
     by : (number : ℕ) → number ≡ suc (w.table - 1) → 0 < number → changed_tables number (place_of p w.key) w.change (tables_of ds cs) ≡ tables_of ds (set cs (w.table - 1) (written p w c))
@@ -75,14 +82,17 @@ written_tables p ds cs w c held some got = by w.table (omega arith) some
         let same : at ≡ w.table - 1 = omega arith in
         rw same (changed_at ds cs (w.table - 1) (place_of p w.key) w.change c held got (written p w c) refl)
 
-pub write_asks : (p : Partitioner) (ds : List Definition) (cs : List Contents) (g : ℕ) (statement : Statement) (w : Mutation) (reply_old reply_new : List ℕ) → IsKept ds cs g → IsWriting statement → IsWrite ds g statement w → first_of (rules ds g statement) ≡ None
+pub write_asks : (p : Partitioner) (ds : List Definition) (cs : List Contents) (g : ℕ) (statement : Statement) (w : Mutation)
+    (reply_old reply_new : List ℕ) → IsKept ds cs g → IsWriting statement → IsWrite ds g statement w → first_of (rules ds g statement) ≡ None
     → reply_new ≡ reply_old ++ ok_line → Asks (state_of p ds cs) statement reply_old reply_new (Writes w)
 write_asks p ds cs g statement w reply_old reply_new kept writing write none reply_is =
     let s = state_of p ds cs in
     let h = is_held ds cs (table_named statement) w.table write.definition kept.held write.number write.found in
     let new = set cs (w.table - 1) (written p w h.contents) in
-    let at : IsWrittenAt p cs w new = (λ c got. let same : h.contents ≡ c = (let e : Some h.contents ≡ Some c = sym h.got ∙ got in cc) in ap (λ (c : Contents). set cs (w.table - 1) (written p w c)) same) in
-    let tables : changed_tables w.table (place_of p w.key) w.change s.tables ≡ tables_after s statement = written_tables p ds cs w h.contents kept.held h.some h.got ∙ write_tables p ds cs new g statement w kept writing write at in (
+    let at : IsWrittenAt p cs w new = (λ c got. let same : h.contents ≡ c = (let e : Some h.contents ≡ Some c = sym h.got ∙ got in cc) in ap
+    (λ (c : Contents). set cs (w.table - 1) (written p w c)) same) in
+    let tables : changed_tables w.table (place_of p w.key) w.change s.tables ≡ tables_after s statement = written_tables p ds cs w
+    h.contents kept.held h.some h.got ∙ write_tables p ds cs new g statement w kept writing write at in (
       takes p ds cs g statement (written_state s w) reply_old reply_new (outcome_of None) kept none
           (ap (λ (tables : List model.Table). record { partitioner = p; tables = tables }) tables)
           (reply_is ∙ ap (λ line. reply_old ++ line) (sym (answers_ok s statement writing)))
@@ -113,13 +123,16 @@ cells_limit deleted (e ∷ es) all = omega (arith, all.0.time, cells_limit delet
 body_limit : (types : List ColumnType) (key : List ℕ) (change : Partition) → IsBodyOf types key change → greatest_of change ≤ TIME_LIMIT
 body_limit types key change body = omega (arith, body.has.deleted, cells_limit change.deleted (cells_of change) body.has.cells)
 
--- a write that was planned is fit
-pub write_is_fit : (p : Partitioner) (ds : List Definition) (cs : List Contents) (g : ℕ) (statement : Statement) (w : Mutation) → IsKept ds cs g → IsWriting statement → IsWritten statement → first_of (rules ds g statement) ≡ None → IsWrite ds g statement w → IsFit (state_of p ds cs) w
+-- a mutation that was prepared can be applied
+pub write_is_fit : (p : Partitioner) (ds : List Definition) (cs : List Contents) (g : ℕ) (statement : Statement) (w : Mutation)
+    → IsKept ds cs g → IsWriting statement → IsWritten statement → first_of (rules ds g statement) ≡ None → IsWrite ds g statement w → IsFit
+    (state_of p ds cs) w
 write_is_fit p ds cs g statement w kept writing written none write =
     let d = write.definition in
     let h = is_held ds cs (table_named statement) w.table d kept.held write.number write.found in
     let change = write.written.change in
-    let fits = change_fits d g statement write.written.time writing written write.key_is_there write.few write.written.time_is.above write.written.time_is.limit (found_rules ds g statement d writing write.found none) in
+    let fits = change_fits d g statement write.written.time writing written write.key_is_there write.few write.written.time_is.above
+    write.written.time_is.limit (found_rules ds g statement d writing write.found none) in
     record {
       some = h.some;
       table = table_with d h.contents;
@@ -127,14 +140,15 @@ write_is_fit p ds cs g statement w kept writing written none write =
       body = rw (change.key_is, change.change_is) fits;
     }
   where
-    found_rules : (ds : List Definition) (g : ℕ) (statement : Statement) (d : Definition) → IsWriting statement → definition_of (table_named statement) ds ≡ Some d → first_of (rules ds g statement) ≡ None → first_of (write_rules g statement d) ≡ None
+    found_rules : (ds : List Definition) (g : ℕ) (statement : Statement) (d : Definition) → IsWriting statement → definition_of
+        (table_named statement) ds ≡ Some d → first_of (rules ds g statement) ≡ None → first_of (write_rules g statement d) ≡ None
     found_rules ds g (CreateTable table columns keys) d writing found none = absurd writing
     found_rules ds g (Insert table columns values time) d writing found none = rw found at none
     found_rules ds g (Update table time sets key value) d writing found none = rw found at none
     found_rules ds g (Delete table columns time key value) d writing found none = rw found at none
     found_rules ds g (Query select) d writing found none = absurd writing
 
--- there is room for a write that is fit
+-- a mutation that can be applied has a memtable
 pub fit_room : (p : Partitioner) (ds : List Definition) (cs : List Contents) (g : ℕ) (w : Mutation) → IsKept ds cs g → IsFit (state_of p ds cs) w → IsRoomFor cs w
 fit_room p ds cs g w kept fit =
     let held = contents_at ds cs (w.table - 1) fit.table kept.held fit.there in
@@ -146,7 +160,8 @@ fit_room p ds cs g w kept fit =
           subst (λ kind. IsStored kind w.key) (sym held.2 ∙ ap (λ (c : Contents). c.kind) same) (body_stored fit.table.definition w.key w.change fit.body);
     }
 
-pub fit_kept : (p : Partitioner) (ds : List Definition) (cs new : List Contents) (g : ℕ) (w : Mutation) → IsKept ds cs g → IsFit (state_of p ds cs) w → IsWrittenAt p cs w new → IsKept ds new (max g (greatest_of w.change))
+pub fit_kept : (p : Partitioner) (ds : List Definition) (cs new : List Contents) (g : ℕ) (w : Mutation) → IsKept ds cs g → IsFit
+    (state_of p ds cs) w → IsWrittenAt p cs w new → IsKept ds new (max g (greatest_of w.change))
 fit_kept p ds cs new g w kept fit is =
     let at = w.table - 1 in
     let held = contents_at ds cs at fit.table kept.held fit.there in
@@ -158,14 +173,15 @@ fit_kept p ds cs new g w kept fit is =
       limit = omega (arith, kept.limit, body_limit (types_of fit.table.definition) w.key w.change fit.body);
     }
 
-pub fit_state : (p : Partitioner) (ds : List Definition) (cs new : List Contents) (g : ℕ) (w : Mutation) → IsKept ds cs g → IsFit (state_of p ds cs) w → IsWrittenAt p cs w new → state_of p ds new ≡ written_state (state_of p ds cs) w
+pub fit_state : (p : Partitioner) (ds : List Definition) (cs new : List Contents) (g : ℕ) (w : Mutation) → IsKept ds cs g → IsFit
+    (state_of p ds cs) w → IsWrittenAt p cs w new → state_of p ds new ≡ written_state (state_of p ds cs) w
 fit_state p ds cs new g w kept fit is =
     let at = w.table - 1 in
     let held = contents_at ds cs at fit.table kept.held fit.there in
     ap (λ (tables : List model.Table). record { partitioner = p; tables = tables })
     (ap (tables_of ds) (is held.0 held.1) ∙ sym (written_tables p ds cs w held.0 kept.held fit.some held.1))
 
--- a table that was planned is the next
+-- a table that was prepared is the next
 create_free : (ds : List Definition) (table : List ℕ) (columns : List Column) (keys : List (List ℕ)) → first_of (create_rules ds table columns keys) ≡ None → definition_of table ds ≡ None
 create_free ds table columns keys none = by (definition_of table ds) (drop 1 (create_rules ds table columns keys)) none
   where
@@ -183,7 +199,8 @@ makes_next s statement t makes = absurd makes
 
 -- ---- a piece that says a statement
 
-steps : (s : State) (piece : Piece) (statement : Statement) (state : State) (reply_old reply : List ℕ) (outcome : Outcome) → read piece ≡ Says statement → reply_old ≡ [] → Takes s statement state reply_old reply outcome → StepsTo s piece state reply outcome
+steps : (s : State) (piece : Piece) (statement : Statement) (state : State) (reply_old reply : List ℕ) (outcome : Outcome)
+    → read piece ≡ Says statement → reply_old ≡ [] → Takes s statement state reply_old reply outcome → StepsTo s piece state reply outcome
 unfolding step
 steps s piece statement state reply_old reply outcome says empty takes =
     let same : step s piece ≡ step_as s (Says statement) = ap (step_as s) says in
@@ -194,16 +211,20 @@ steps s piece statement state reply_old reply outcome says empty takes =
       outcome_is = takes.outcome_is ∙ ap (λ (x : Stepped). outcome_of x.refused) (sym same);
     }
 
--- a write that the state asks for is fit for it
-writes_fit : (p : Partitioner) (ds : List Definition) (cs : List Contents) (g : ℕ) (statement : Statement) (w : Mutation) → IsKept ds cs g → IsWritten statement → WritesTo (state_of p ds cs) statement w → IsFit (state_of p ds cs) w
+-- a mutation that was prepared in a state can be applied to it
+writes_fit : (p : Partitioner) (ds : List Definition) (cs : List Contents) (g : ℕ) (statement : Statement) (w : Mutation) → IsKept ds cs g
+    → IsWritten statement → WritesTo (state_of p ds cs) statement w → IsFit (state_of p ds cs) w
 writes_fit p ds cs g statement w kept written writes =
     write_is_fit p ds cs g statement w kept writes.writing written (no_rule p ds cs g statement kept writes.taken)
     (subst (λ (tables : List Definition). IsWrite tables g statement w) (definitions_of ds cs kept.held)
     (subst (λ (time : ℕ). IsWrite (definitions (tables_of ds cs)) time statement w) (greatest_kept p ds cs g kept) writes.write))
 
-asks_plans : (p : Partitioner) (ds : List Definition) (cs : List Contents) (g : ℕ) (piece : Piece) (statement : Statement) (reply_old reply : List ℕ) (planned : Planned) → IsKept ds cs g → read piece ≡ Says statement → IsWritten statement → reply_old ≡ [] → Asks (state_of p ds cs) statement reply_old reply planned
+asks_plans : (p : Partitioner) (ds : List Definition) (cs : List Contents) (g : ℕ) (piece : Piece) (statement : Statement)
+    (reply_old reply : List ℕ) (planned : Planned) → IsKept ds cs g → read piece ≡ Says statement → IsWritten statement → reply_old ≡ []
+    → Asks (state_of p ds cs) statement reply_old reply planned
     → Plans (state_of p ds cs) piece reply planned
-asks_plans p ds cs g piece statement reply_old reply (Answered outcome) kept says written empty asks = steps (state_of p ds cs) piece statement (state_of p ds cs) reply_old reply outcome says empty asks
+asks_plans p ds cs g piece statement reply_old reply (Answered outcome) kept says written empty asks =
+    steps (state_of p ds cs) piece statement (state_of p ds cs) reply_old reply outcome says empty asks
 asks_plans p ds cs g piece statement reply_old reply (Create t) kept says written empty asks =
     let s = state_of p ds cs in
     (steps s piece statement (with_new_table s (definition t)) reply_old reply (outcome_of None) says empty asks.0, (statement, says, written, asks.1), makes_next s statement t asks.1)
@@ -211,7 +232,9 @@ asks_plans p ds cs g piece statement reply_old reply (Writes w) kept says writte
     let s = state_of p ds cs in
     (steps s piece statement (written_state s w) reply_old reply (outcome_of None) says empty asks.0, (statement, says, written, asks.1), writes_fit p ds cs g statement w kept written asks.1)
 
-pub plans : {E : Type 0} (s : State) (p : Partitioner) (ds : List Definition) (cs : List Contents) (g : ℕ) (piece : Piece) (statement : Statement) (reply_old reply : List ℕ) (result : Result Planned E) → state_of p ds cs ≡ s → IsKept ds cs g → read piece ≡ Says statement → IsWritten statement → reply_old ≡ []
+pub plans : {E : Type 0} (s : State) (p : Partitioner) (ds : List Definition) (cs : List Contents) (g : ℕ) (piece : Piece)
+    (statement : Statement) (reply_old reply : List ℕ) (result : Result Planned E) → state_of p ds cs ≡ s → IsKept ds cs g
+    → read piece ≡ Says statement → IsWritten statement → reply_old ≡ []
     → IfOk result (λ planned. Asks s statement reply_old reply planned) → IfOk result (λ planned. Plans s piece reply planned)
 plans s p ds cs g piece statement reply_old reply (Ok planned) is kept says written empty asks =
     subst (λ (s : State). Plans s piece reply planned) is
@@ -226,5 +249,6 @@ next_number s p ds cs g t is kept next = next.number ∙ ap (λ (s : State). len
 pub next_free : (s : State) (p : Partitioner) (ds : List Definition) (cs : List Contents) (g : ℕ) (t : Table) → state_of p ds cs ≡ s → IsKept ds cs g → IsNext s t → definition_of t.name ds ≡ None
 next_free s p ds cs g t is kept next = ap (definition_of t.name) (sym (definitions_of ds cs kept.held) ∙ ap (λ (s : State). definitions s.tables) is) ∙ next.free
 
-pub created_state : (p : Partitioner) (ds : List Definition) (cs : List Contents) (g : ℕ) (d : Definition) → IsKept ds cs g → state_of p (ds ++ d ∷ []) (cs ++ empty_contents d ∷ []) ≡ with_new_table (state_of p ds cs) d
+pub created_state : (p : Partitioner) (ds : List Definition) (cs : List Contents) (g : ℕ) (d : Definition) → IsKept ds cs g → state_of p
+    (ds ++ d ∷ []) (cs ++ empty_contents d ∷ []) ≡ with_new_table (state_of p ds cs) d
 created_state p ds cs g d kept = ap (λ (tables : List model.Table). record { partitioner = p; tables = tables }) (tables_push ds cs d (empty_contents d) kept.held)

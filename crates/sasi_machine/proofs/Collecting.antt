@@ -12,11 +12,12 @@ use Rattle.sasi_model.specs.Statements.{same}
 use Rattle.sasi_model.specs.State.{Definition, key_name, number_of_column}
 use Rattle.sasi_model.specs.Refusals.{Rule, each, first_of, is_column, is_key, is_key_value, is_out_of_range, number_range, tests, type_of_column}
 use Rattle.sasi_model.specs.Step.{cells_set, key_literal}
-use Rattle.sasi_schema.specs.Answers.{none_first}
+use Rattle.sasi_schema.proofs.RuleLaws.{none_first}
 use Rattle.sasi_schema.specs.Numbers.{IsKeyAt}
 use Rattle.sasi_machine.specs.Collected.{cells_over, key_or, with_set}
 
-pub cells_push : (d : Definition) (time : ℕ) (sets : List (List ℕ × Literal)) (s : List ℕ × Literal) (cells : Cells) → cells_over d time (sets ++ s ∷ []) cells ≡ cells_over d time sets (with_set d time s.0 s.1 cells)
+pub cells_push : (d : Definition) (time : ℕ) (sets : List (List ℕ × Literal)) (s : List ℕ × Literal) (cells : Cells) → cells_over d time
+    (sets ++ s ∷ []) cells ≡ cells_over d time sets (with_set d time s.0 s.1 cells)
 cells_push d time [] s cells = refl
 cells_push d time (set ∷ sets) s cells = ap (with_set d time set.0 set.1) (cells_push d time sets s cells)
 
@@ -24,7 +25,8 @@ pub cells_first : (d : Definition) (time : ℕ) (sets : List (List ℕ × Litera
 cells_first d time [] = refl
 cells_first d time (set ∷ sets) = ap (with_set d time set.0 set.1) (cells_first d time sets)
 
-pub key_push : (d : Definition) (sets : List (List ℕ × Literal)) (s : List ℕ × Literal) (other : Literal) → key_or d (sets ++ s ∷ []) other ≡ key_or d sets (if is_key_value d s.0 s.1 then s.1 else other)
+pub key_push : (d : Definition) (sets : List (List ℕ × Literal)) (s : List ℕ × Literal) (other : Literal) → key_or d
+    (sets ++ s ∷ []) other ≡ key_or d sets (if is_key_value d s.0 s.1 then s.1 else other)
 key_push d [] s other = refl
 key_push d (set ∷ sets) s other = ap (λ (key : Literal). if is_key_value d set.0 set.1 then set.1 else key) (key_push d sets s other)
 
@@ -33,7 +35,8 @@ key_first d [] = refl
 key_first d (set ∷ sets) = ap (λ (key : Literal). if is_key_value d set.0 set.1 then set.1 else key) (key_first d sets)
 
 -- none of the rules applies: nor does one of those in front, nor the last
-pub none_pop : (rule : List ℕ → Literal → Rule) (sets : List (List ℕ × Literal)) (s : List ℕ × Literal) → first_of (each rule (sets ++ s ∷ [])) ≡ None → (first_of (each rule sets) ≡ None) × ((rule s.0 s.1).0 ≡ false)
+pub none_pop : (rule : List ℕ → Literal → Rule) (sets : List (List ℕ × Literal)) (s : List ℕ × Literal) → first_of
+    (each rule (sets ++ s ∷ [])) ≡ None → (first_of (each rule sets) ≡ None) × ((rule s.0 s.1).0 ≡ false)
 none_pop rule [] s none = (refl, (none_first (rule s.0 s.1) [] none).0)
 none_pop rule (set ∷ sets) s none =
     let parts = none_first (rule set.0 set.1) (each rule (sets ++ s ∷ [])) none in

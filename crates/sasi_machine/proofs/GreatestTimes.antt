@@ -1,4 +1,4 @@
--- The greatest time that tables hold.
+-- The largest timestamp of tables.
 use Rattle.std.proofs.Common.{◌≡◌, ℕ, zero, suc, ◌≤◌, true, false, cond, List, [], ◌∷◌, ◌++◌, map, set, slice_get, Option, None, Some, unwrap_or, refl, sym, ap, ◌∙◌, arith}
 use Rattle.std.specs.Prelude.{max}
 use Rattle.std.specs.FinMap as fin
@@ -27,20 +27,22 @@ found_time place (e ∷ es) p found =
       | false ↦ λ is. omega (arith, found_time place es p is)
     ] found
 
--- a partition that is no earlier than the one that it takes the place of
+-- a partition with no smaller timestamp than the one that it replaces
 abbrev IsNoEarlier : Option Partition → Partition → Type 0
 IsNoEarlier old p = (q : Partition) → old ≡ Some q → greatest_of q ≤ greatest_of p
 
-times_put : (place : Place) (p : Partition) (entries : List (Place × Partition)) → IsNoEarlier (fin.find place_cmp place entries) p → times (fin.put place_cmp place p entries) ≡ max (times entries) (greatest_of p)
+times_put : (place : Place) (p : Partition) (entries : List (Place × Partition)) → IsNoEarlier (fin.find place_cmp place entries) p → times
+    (fin.put place_cmp place p entries) ≡ max (times entries) (greatest_of p)
 times_put place p [] later = omega arith
 times_put place p (e ∷ es) later =
-    elim (place_cmp place e.0) as (λ o. IsNoEarlier (cond (is_eq o) (Some e.1) (fin.find place_cmp place es)) p → times (by_order o ((place, p) ∷ e ∷ es) ((e.0, p) ∷ es) (e ∷ fin.put place_cmp place p es)) ≡ max (max (greatest_of e.1) (times es)) (greatest_of p)) [
+    elim (place_cmp place e.0) as (λ o. IsNoEarlier (cond (is_eq o) (Some e.1) (fin.find place_cmp place es)) p → times
+    (by_order o ((place, p) ∷ e ∷ es) ((e.0, p) ∷ es) (e ∷ fin.put place_cmp place p es)) ≡ max (max (greatest_of e.1) (times es)) (greatest_of p)) [
       | Less ↦ λ later. omega arith
       | Equal ↦ λ later. omega (arith, later e.1 refl)
       | Greater ↦ λ later. omega (arith, times_put place p es later)
     ] later
 
--- the greatest time of the partitions after a write
+-- the largest timestamp of the partitions after a mutation
 pub greatest_put : (ps : Partitions) (place : Place) (change : Partition)
     → greatest_in (fin.values (fin.insert ps place (merge (unwrap_or (fin.get ps place) empty_partition) change))) ≡ max (greatest_in (fin.values ps)) (greatest_of change)
 greatest_put ps place change =
@@ -54,12 +56,14 @@ greatest_put ps place change =
     earlier None q found = cc
     earlier (Some x) q found = let same : x ≡ q = cc in omega (arith, ap greatest_of same, greatest_merge x change)
 
-    total : (old : Option Partition) → ((q : Partition) → old ≡ Some q → greatest_of q ≤ times (fin.entries ps)) → max (times (fin.entries ps)) (greatest_of (merge (unwrap_or old empty_partition) change)) ≡ max (times (fin.entries ps)) (greatest_of change)
+    total : (old : Option Partition) → ((q : Partition) → old ≡ Some q → greatest_of q ≤ times (fin.entries ps)) → max
+        (times (fin.entries ps)) (greatest_of (merge (unwrap_or old empty_partition) change)) ≡ max (times (fin.entries ps)) (greatest_of change)
     total None within = omega (arith, greatest_merge empty_partition change, empty_time)
     total (Some x) within = omega (arith, within x refl, greatest_merge x change)
 
--- the greatest time of the tables after a write of one
-pub greatest_set : (ds : List Definition) (cs : List Contents) (at : ℕ) (c new : Contents) (t : ℕ) → AreContents ds cs → slice_get cs at ≡ Some c → greatest_in (fin.values new.partitions) ≡ max (greatest_in (fin.values c.partitions)) t
+-- the largest timestamp of the tables after a mutation of one
+pub greatest_set : (ds : List Definition) (cs : List Contents) (at : ℕ) (c new : Contents) (t : ℕ) → AreContents ds cs
+    → slice_get cs at ≡ Some c → greatest_in (fin.values new.partitions) ≡ max (greatest_in (fin.values c.partitions)) t
     → greatest_among (tables_of ds (set cs at new)) ≡ max (greatest_among (tables_of ds cs)) t
 greatest_set [] [] at c new t held got is = cc
 greatest_set [] (x ∷ cs) at c new t held got is = absurd held

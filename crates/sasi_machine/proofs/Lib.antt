@@ -1,3 +1,4 @@
+pub mod CheckSteps
 pub mod Accepted
 pub mod Collecting
 pub mod GreatestTimes
@@ -9,7 +10,15 @@ pub mod Picked
 pub mod Asking
 pub mod Printed
 pub mod Stored
-pub mod Storing
+pub mod CellEntries
+pub mod ColumnTypes
+pub mod GivenValues
+pub mod WriteCells
+pub mod CellCounts
+pub mod ChangeBodies
+pub mod KeyBytes
+pub mod TableColumns
+pub mod StatementBodies
 pub mod Tabled
 pub mod Taking
 pub mod WholePieces

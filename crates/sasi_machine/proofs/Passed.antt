@@ -3,7 +3,8 @@ use Rattle.std.proofs.Common.{◌≡◌, ℕ, suc, ◌<◌, List, [], ◌∷◌,
 use Rattle.std.proofs.Math.Seq.{drop-cons}
 use Rattle.sasi_types.specs.declared.literal.Literal.{Literal}
 use Rattle.sasi_model.specs.Refusals.{Refusal, Rule, first_of, each}
-use Rattle.sasi_schema.specs.Answers.{IsTold, told_before}
+use Rattle.sasi_schema.specs.Answers.{IsTold}
+use Rattle.sasi_schema.proofs.RuleLaws.{told_before}
 
 is_told_by : (told : Option Refusal) (rules others : List Rule) → first_of rules ≡ first_of others → IsTold told others → IsTold told rules
 is_told_by None rules others same is = tt

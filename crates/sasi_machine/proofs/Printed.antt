@@ -10,21 +10,25 @@ use Rattle.sasi_model.specs.Cells.{Partition, is_live}
 use Rattle.sasi_model.specs.Lines.{row_line}
 use Rattle.sasi_machine.specs.Contents.{rows_picked}
 
-rows_more : (kind : ColumnType) (columns : List PickedColumn) (entry : Place × Partition) (entries : List (Place × Partition)) → rows_picked kind columns (entry ∷ entries) ≡ rows_picked kind columns (entry ∷ []) ++ rows_picked kind columns entries
+rows_more : (kind : ColumnType) (columns : List PickedColumn) (entry : Place × Partition) (entries : List (Place × Partition))
+    → rows_picked kind columns (entry ∷ entries) ≡ rows_picked kind columns (entry ∷ []) ++ rows_picked kind columns entries
 rows_more kind columns entry entries =
     let rest = rows_picked kind columns entries in
     let row = map (picked_value kind entry.0.key entry.1) columns in
     elim (is_live entry.1) as (λ b. (if b then row ∷ rest else rest) ≡ (if b then row ∷ [] else []) ++ rest) [ true ↦ refl | false ↦ refl ]
 
-pub printed_more : (kind : ColumnType) (columns : List PickedColumn) (entry : Place × Partition) (entries : List (Place × Partition)) (before after all : List ℕ) → after ≡ before ++ flat_map row_line (rows_picked kind columns (entry ∷ []))
+pub printed_more : (kind : ColumnType) (columns : List PickedColumn) (entry : Place × Partition) (entries : List (Place × Partition))
+    (before after all : List ℕ) → after ≡ before ++ flat_map row_line (rows_picked kind columns (entry ∷ []))
     → before ++ flat_map row_line (rows_picked kind columns (entry ∷ entries)) ≡ all → after ++ flat_map row_line (rows_picked kind columns entries) ≡ all
 printed_more kind columns entry entries before after all printed is =
     ap (λ x. x ++ flat_map row_line (rows_picked kind columns entries)) printed
     ∙ append_assoc before (flat_map row_line (rows_picked kind columns (entry ∷ []))) (flat_map row_line (rows_picked kind columns entries))
-    ∙ ap (λ x. before ++ x) (sym (flat_map-append row_line (rows_picked kind columns (entry ∷ [])) (rows_picked kind columns entries)) ∙ ap (flat_map row_line) (sym (rows_more kind columns entry entries)))
+    ∙ ap (λ x. before ++ x) (sym (flat_map-append row_line (rows_picked kind columns (entry ∷ [])) (rows_picked kind columns entries)) ∙ ap
+    (flat_map row_line) (sym (rows_more kind columns entry entries)))
     ∙ is
 
-pub counted_more : (kind : ColumnType) (columns : List PickedColumn) (entry : Place × Partition) (entries : List (Place × Partition)) (rows one all : ℕ) → one ≡ length (rows_picked kind columns (entry ∷ []))
+pub counted_more : (kind : ColumnType) (columns : List PickedColumn) (entry : Place × Partition) (entries : List (Place × Partition))
+    (rows one all : ℕ) → one ≡ length (rows_picked kind columns (entry ∷ []))
     → rows + length (rows_picked kind columns (entry ∷ entries)) ≡ all → (rows + one) + length (rows_picked kind columns entries) ≡ all
 counted_more kind columns entry entries rows one all one_is is =
     let e = ap length (rows_more kind columns entry entries) ∙ length-append (rows_picked kind columns (entry ∷ [])) (rows_picked kind columns entries) in omega arith

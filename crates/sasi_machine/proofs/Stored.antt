@@ -52,11 +52,12 @@ rows_at_most kind columns (entry ∷ entries) =
 
 -- ---- after a merge
 
--- the look-ups of entries that differ at one place
+-- the look-ups of entries that differ at one key
 abbrev pub IsPutAt : List (Place × Partition) → Place → Partition → List (Place × Partition) → Type 0
 IsPutAt old place partition new = (q : Place) → partition_at new q ≡ (if is_at (place_cmp place) q then Some partition else partition_at old q)
 
-put_stored : (kind : ColumnType) (old new : List (Place × Partition)) (place : Place) (partition : Partition) → IsStored kind place.key → KeysStored kind old → IsPutAt old place partition new → KeysStored kind new
+put_stored : (kind : ColumnType) (old new : List (Place × Partition)) (place : Place) (partition : Partition) → IsStored kind place.key
+    → KeysStored kind old → IsPutAt old place partition new → KeysStored kind new
 put_stored kind old new place partition is stored put q there =
     elim (is_at (place_cmp place) q) as (λ b. is_at (place_cmp place) q ≡ b → is_some (if b then Some partition else partition_at old q) ≡ true → IsStored kind q.key) [
       | true ↦ λ at _. let same : place ≡ q = place_exact place q (is_equal (place_cmp place q) at) in subst (λ (p : Place). IsStored kind p.key) same is
@@ -68,9 +69,11 @@ pub merge_stored : {A E : Type 0} (kind : ColumnType) (old new : List (Place × 
 merge_stored kind old new place partition (Ok x) is stored ok err = put_stored kind old new place partition is stored ok
 merge_stored kind old new place partition (Err e) is stored ok err = λ q there. stored q (sym (ap is_some (err q)) ∙ there)
 
-pub merge_seen : {A E : Type 0} (kind : ColumnType) (old new : List (Place × Partition)) (place : Place) (change : Partition) (seen : Contents) (result : Result A E) → record { kind = kind; partitions = fin.from_entries {R = place_cmp} old } ≡ seen
+pub merge_seen : {A E : Type 0} (kind : ColumnType) (old new : List (Place × Partition)) (place : Place) (change : Partition)
+    (seen : Contents) (result : Result A E) → record { kind = kind; partitions = fin.from_entries {R = place_cmp} old } ≡ seen
     → OnOk result (IsPutAt old place (merge (unwrap_or (partition_at old place) empty_partition) change) new)
-    → OnOk result (record { kind = kind; partitions = fin.from_entries {R = place_cmp} new } ≡ record seen { partitions = fin.insert seen.partitions place (merge (unwrap_or (fin.get seen.partitions place) empty_partition) change) })
+    → OnOk result (record { kind = kind; partitions = fin.from_entries {R = place_cmp} new } ≡ record seen
+    { partitions = fin.insert seen.partitions place (merge (unwrap_or (fin.get seen.partitions place) empty_partition) change) })
 merge_seen kind old new place change seen (Ok x) is ok =
     let with_partitions : Partitions → Contents = λ ps. record { kind = kind; partitions = ps } in
     let merged : Option Partition → Partition = λ p. merge (unwrap_or p empty_partition) change in
@@ -78,7 +81,8 @@ merge_seen kind old new place change seen (Ok x) is ok =
     ∙ ap (λ p. fin.insert (fin.from_entries {R = place_cmp} old) place (merged p)) (sym (get-from_partitions old place))))
 merge_seen kind old new place change seen (Err e) is ok = tt
 
-pub fault_seen : {A E : Type 0} (kind : ColumnType) (old new : List (Place × Partition)) (seen : Contents) (result : Result A E) → record { kind = kind; partitions = fin.from_entries {R = place_cmp} old } ≡ seen
+pub fault_seen : {A E : Type 0} (kind : ColumnType) (old new : List (Place × Partition)) (seen : Contents) (result : Result A E)
+    → record { kind = kind; partitions = fin.from_entries {R = place_cmp} old } ≡ seen
     → OnErr result ((q : Place) → partition_at new q ≡ partition_at old q) → OnErr result (record { kind = kind; partitions = fin.from_entries {R = place_cmp} new } ≡ seen)
 fault_seen kind old new seen (Ok x) is err = tt
 fault_seen kind old new seen (Err e) is err =

@@ -1,4 +1,4 @@
--- Tables of their definitions and contents.
+-- Tables, made of their definitions and memtables.
 use Rattle.std.proofs.Common.{◌≡◌, ◌⊎◌, inl, inr, ℕ, zero, suc, ◌<◌, true, false, if◌then◌else◌, List, [], ◌∷◌, ◌++◌, length, set, slice_get, Option, None, Some, unwrap_or, refl, sym, ap, ◌∙◌, arith}
 use Rattle.std.specs.FinMap as fin
 use Rattle.sasi_types.specs.declared.place.Place.{Place}
@@ -35,7 +35,8 @@ record IsLater (name : List ℕ) (d : Definition) (ds : List Definition) (at : �
   place_is : at ≡ suc place
   later : number_of_table name ds ≡ Some (suc place)
 
-later_from : (name : List ℕ) (d : Definition) (ds : List Definition) (at : ℕ) (number : Option ℕ) → number_of_table name ds ≡ number → ((n : ℕ) → number ≡ Some n → 0 < n) → same d.name name ≡ false → one_more number ≡ Some (suc at) → IsLater name d ds at
+later_from : (name : List ℕ) (d : Definition) (ds : List Definition) (at : ℕ) (number : Option ℕ) → number_of_table name ds ≡ number
+    → ((n : ℕ) → number ≡ Some n → 0 < n) → same d.name name ≡ false → one_more number ≡ Some (suc at) → IsLater name d ds at
 later_from name d ds at None is some other more = cc
 later_from name d ds at (Some zero) is some other more = absurd (omega (arith, some 0 refl))
 later_from name d ds at (Some (suc place)) is some other more = let e : suc (suc place) ≡ suc at = cc in record { other = other; place = place; place_is = omega arith; later = is }
@@ -54,12 +55,13 @@ number_some name (d ∷ ds) n is =
 
 first_or_later : (name : List ℕ) (d : Definition) (ds : List Definition) (at : ℕ) → number_of_table name (d ∷ ds) ≡ Some (suc at) → ((same d.name name ≡ true) × (at ≡ 0)) ⊎ IsLater name d ds at
 first_or_later name d ds at is =
-    elim (same d.name name) as (λ b. same d.name name ≡ b → (if b then Some 1 else one_more (number_of_table name ds)) ≡ Some (suc at) → ((same d.name name ≡ true) × (at ≡ 0)) ⊎ IsLater name d ds at) [
+    elim (same d.name name) as (λ b. same d.name name ≡ b → (if b then Some 1 else one_more (number_of_table name ds)) ≡ Some (suc at)
+    → ((same d.name name ≡ true) × (at ≡ 0)) ⊎ IsLater name d ds at) [
       | true ↦ λ named e. let one : 1 ≡ suc at = cc in inl (named, omega arith)
       | false ↦ λ other e. inr (later_from name d ds at (number_of_table name ds) refl (λ n there. number_some name ds n there) other e)
     ] refl is
 
--- its contents are there
+-- its memtable is there
 pub number_inside : (name : List ℕ) (ds : List Definition) (cs : List Contents) (at : ℕ) → AreContents ds cs → number_of_table name ds ≡ Some (suc at) → at < length cs
 number_inside name [] cs at held is = cc
 number_inside name (d ∷ ds) [] at held is = absurd held
@@ -69,7 +71,7 @@ number_inside name (d ∷ ds) (c ∷ cs) at held is =
       | inr later ↦ omega (arith, later.place_is, number_inside name ds cs later.place held.1 later.later)
     ]
 
--- what stands at the number of a table
+-- the definition and the memtable at the number of a table
 pub record IsThere (name : List ℕ) (ds : List Definition) (cs : List Contents) (at : ℕ) (d : Definition) (c : Contents) : Type 0 where
   pub table : table_of name (tables_of ds cs) ≡ Some (table_with d c)
   pub numbered : slice_get (tables_of ds cs) at ≡ Some (table_with d c)
@@ -78,18 +80,23 @@ pub record IsThere (name : List ℕ) (ds : List Definition) (cs : List Contents)
   pub changed : (change : Table → Table) (new : Contents) → change (table_with d c) ≡ table_with d new → with_table name change (tables_of ds cs) ≡ tables_of ds (set cs at new)
   pub kept : (new : Contents) → new.kind ≡ c.kind → AreContents ds (set cs at new)
 
-there_first : (name : List ℕ) (d : Definition) (ds : List Definition) (c : Contents) (cs : List Contents) (t : Definition) (x : Contents) → AreContents (d ∷ ds) (c ∷ cs) → same d.name name ≡ true → definition_of name (d ∷ ds) ≡ Some t → c ≡ x → IsThere name (d ∷ ds) (c ∷ cs) 0 t x
+there_first : (name : List ℕ) (d : Definition) (ds : List Definition) (c : Contents) (cs : List Contents) (t : Definition) (x : Contents)
+    → AreContents (d ∷ ds) (c ∷ cs) → same d.name name ≡ true → definition_of name (d ∷ ds) ≡ Some t → c ≡ x → IsThere name (d ∷ ds) (c ∷ cs) 0 t x
 there_first name d ds c cs t x held named found is =
     let t_is : d ≡ t = let e : Some d ≡ Some t = rw named at found in cc in
     record {
       table = rw named (ap (λ (d : Definition). Some (table_with d c)) t_is ∙ ap (λ (c : Contents). Some (table_with t c)) is);
       numbered = ap (λ (d : Definition). Some (table_with d c)) t_is ∙ ap (λ (c : Contents). Some (table_with t c)) is;
       kind = ap (λ (c : Contents). c.kind) (sym is) ∙ held.0 ∙ ap key_type t_is;
-      changed = λ change new e. rw named (ap (λ (first : Table). first ∷ tables_of ds cs) (ap change (ap (λ (d : Definition). table_with d c) t_is ∙ ap (table_with t) is) ∙ e ∙ ap (λ (d : Definition). table_with d new) (sym t_is)));
+      changed = λ change new e. rw named (ap (λ (first : Table). first ∷ tables_of ds cs)
+          (ap change (ap (λ (d : Definition). table_with d c) t_is ∙ ap (table_with t) is) ∙ e ∙ ap (λ (d : Definition). table_with d new)
+          (sym t_is)));
       kept = λ new same_kind. (same_kind ∙ ap (λ (c : Contents). c.kind) (sym is) ∙ held.0, held.1);
     }
 
-there_later : (name : List ℕ) (d : Definition) (ds : List Definition) (c : Contents) (cs : List Contents) (at : ℕ) (t : Definition) (x : Contents) → AreContents (d ∷ ds) (c ∷ cs) → same d.name name ≡ false → IsThere name ds cs at t x → IsThere name (d ∷ ds) (c ∷ cs) (suc at) t x
+there_later : (name : List ℕ) (d : Definition) (ds : List Definition) (c : Contents) (cs : List Contents) (at : ℕ) (t : Definition)
+    (x : Contents) → AreContents (d ∷ ds) (c ∷ cs) → same d.name name ≡ false → IsThere name ds cs at t x → IsThere name (d ∷ ds) (c ∷ cs)
+    (suc at) t x
 there_later name d ds c cs at t x held other there =
     record {
       table = rw other there.table;
@@ -99,7 +106,8 @@ there_later name d ds c cs at t x held other there =
       kept = λ new same_kind. (held.0, there.kept new same_kind);
     }
 
-pub is_there : (name : List ℕ) (ds : List Definition) (cs : List Contents) (at : ℕ) (d : Definition) (c : Contents) → AreContents ds cs → number_of_table name ds ≡ Some (suc at) → definition_of name ds ≡ Some d → slice_get cs at ≡ Some c → IsThere name ds cs at d c
+pub is_there : (name : List ℕ) (ds : List Definition) (cs : List Contents) (at : ℕ) (d : Definition) (c : Contents) → AreContents ds cs
+    → number_of_table name ds ≡ Some (suc at) → definition_of name ds ≡ Some d → slice_get cs at ≡ Some c → IsThere name ds cs at d c
 is_there name [] cs at t x held is found got = cc
 is_there name (d ∷ ds) [] at t x held is found got = absurd held
 is_there name (d ∷ ds) (c ∷ cs) at t x held is found got =
@@ -114,8 +122,10 @@ is_there name (d ∷ ds) (c ∷ cs) at t x held is found got =
 
 -- ---- a change of the table of a number
 
--- it is a change of its contents
-pub changed_at : (ds : List Definition) (cs : List Contents) (at : ℕ) (place : Place) (change : Partition) (c : Contents) → AreContents ds cs → slice_get cs at ≡ Some c → (new : Contents) → new ≡ record c { partitions = fin.insert c.partitions place (merge (unwrap_or (fin.get c.partitions place) empty_partition) change) }
+-- it is a change of its memtable
+pub changed_at : (ds : List Definition) (cs : List Contents) (at : ℕ) (place : Place) (change : Partition) (c : Contents)
+    → AreContents ds cs → slice_get cs at ≡ Some c → (new : Contents)
+    → new ≡ record c { partitions = fin.insert c.partitions place (merge (unwrap_or (fin.get c.partitions place) empty_partition) change) }
     → changed_behind at place change (tables_of ds cs) ≡ tables_of ds (set cs at new)
 changed_at [] [] at place change c held got new is = cc
 changed_at [] (x ∷ cs) at place change c held got new is = absurd held
@@ -125,14 +135,15 @@ changed_at (d ∷ ds) (x ∷ cs) zero place change c held got new is =
     ap (λ (t : Table). t ∷ tables_of ds cs) (ap (λ (x : Contents). apply place change (table_with d x)) same_contents ∙ ap (table_with d) (sym is))
 changed_at (d ∷ ds) (x ∷ cs) (suc at) place change c held got new is = ap (λ (rest : List Table). table_with d x ∷ rest) (changed_at ds cs at place change c held.1 got new is)
 
--- the contents of a table of a number
-pub contents_at : (ds : List Definition) (cs : List Contents) (at : ℕ) (t : Table) → AreContents ds cs → slice_get (tables_of ds cs) at ≡ Some t → (c : Contents) × (slice_get cs at ≡ Some c) × (c.kind ≡ key_type t.definition)
+-- the memtable of a table of a number
+pub contents_at : (ds : List Definition) (cs : List Contents) (at : ℕ) (t : Table) → AreContents ds cs → slice_get
+    (tables_of ds cs) at ≡ Some t → (c : Contents) × (slice_get cs at ≡ Some c) × (c.kind ≡ key_type t.definition)
 contents_at [] cs at t held got = cc
 contents_at (d ∷ ds) [] at t held got = absurd held
 contents_at (d ∷ ds) (c ∷ cs) zero t held got = let is : table_with d c ≡ t = (let e : Some (table_with d c) ≡ Some t = got in cc) in (c, refl, held.0 ∙ ap (λ (t : Table). key_type t.definition) is)
 contents_at (d ∷ ds) (c ∷ cs) (suc at) t held got = contents_at ds cs at t held.1 got
 
--- they can be changed, and stay contents
+-- a memtable can be changed
 pub held_set : (ds : List Definition) (cs : List Contents) (at : ℕ) (c new : Contents) → AreContents ds cs → slice_get cs at ≡ Some c → new.kind ≡ c.kind → AreContents ds (set cs at new)
 held_set [] [] at c new held got kind = cc
 held_set [] (x ∷ cs) at c new held got kind = absurd held

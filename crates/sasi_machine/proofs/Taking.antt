@@ -1,4 +1,4 @@
--- What the statements leave: refused ones, and those that are taken.
+-- The steps of statements: of those that are refused, and of those that are not.
 use Rattle.std.proofs.Common.{◌≡◌, inl, inr, ℕ, suc, ◌-◌, ◌<◌, ◌≤◌, List, [], ◌∷◌, ◌++◌, length, get_or, set, slice_get, Option, Some, None, Result, Ok, Err, OnOk, IfOk, refl, sym, ap, subst, ◌∙◌, arith}
 use Rattle.std.specs.Prelude.{max}
 use Rattle.std.specs.FinMap as fin
@@ -29,35 +29,41 @@ use Rattle.sasi_machine.proofs.WriteTimes.{change_within}
 
 -- ---- whatever the statement
 
--- the rules are tried on what is kept
-pub rules_kept : (p : Partitioner) (ds : List Definition) (cs : List Contents) (g : ℕ) (statement : Statement) → IsKept ds cs g → rules (definitions (tables_of ds cs)) (greatest (state_of p ds cs)) statement ≡ rules ds g statement
+-- the rules are tried on the schema and the largest timestamp
+pub rules_kept : (p : Partitioner) (ds : List Definition) (cs : List Contents) (g : ℕ) (statement : Statement) → IsKept ds cs g → rules
+    (definitions (tables_of ds cs)) (greatest (state_of p ds cs)) statement ≡ rules ds g statement
 unfolding greatest
 rules_kept p ds cs g statement kept =
     ap (λ (tables : List Definition). rules tables (greatest (state_of p ds cs)) statement) (definitions_of ds cs kept.held)
     ∙ ap (λ (time : ℕ). rules ds time statement) (sym kept.greatest_is)
 
-told_refuses : (s : State) (statement : Statement) (told : Option Refusal) (reply_old reply_new : List ℕ) (outcome : Outcome) → IsTold told (rules (definitions s.tables) (greatest s) statement) → IsRefused told reply_old reply_new outcome → Takes s statement s reply_old reply_new outcome
+told_refuses : (s : State) (statement : Statement) (told : Option Refusal) (reply_old reply_new : List ℕ) (outcome : Outcome) → IsTold told
+    (rules (definitions s.tables) (greatest s) statement) → IsRefused told reply_old reply_new outcome
+    → Takes s statement s reply_old reply_new outcome
 unfolding refusal
 told_refuses s statement None reply_old reply_new outcome told refused = absurd refused
 told_refuses s statement (Some r) reply_old reply_new outcome told refused = rw told (record { state_is = refl; reply_is = refused.0; outcome_is = refused.1 })
 
 -- a statement that is refused
-pub refuses : {E : Type 0} (p : Partitioner) (ds : List Definition) (cs : List Contents) (g : ℕ) (statement : Statement) (told : Option Refusal) (reply_old reply_new : List ℕ) (result : Result Outcome E) → IsKept ds cs g → IsTold told (rules ds g statement)
+pub refuses : {E : Type 0} (p : Partitioner) (ds : List Definition) (cs : List Contents) (g : ℕ) (statement : Statement)
+    (told : Option Refusal) (reply_old reply_new : List ℕ) (result : Result Outcome E) → IsKept ds cs g → IsTold told (rules ds g statement)
     → IfOk result (λ o. IsRefused told reply_old reply_new o) → IfOk result (λ o. Takes (state_of p ds cs) statement (state_of p ds cs) reply_old reply_new o)
 refuses p ds cs g statement told reply_old reply_new (Ok o) kept is refused =
     told_refuses (state_of p ds cs) statement told reply_old reply_new o (subst (IsTold told) (sym (rules_kept p ds cs g statement kept)) is) refused
 refuses p ds cs g statement told reply_old reply_new (Err e) kept is refused = tt
 
 -- a statement that isn't
-pub takes : (p : Partitioner) (ds : List Definition) (cs : List Contents) (g : ℕ) (statement : Statement) (new : State) (reply_old reply_new : List ℕ) (outcome : Outcome) → IsKept ds cs g → first_of (rules ds g statement) ≡ None
-    → new ≡ (execute (state_of p ds cs) statement).state → reply_new ≡ reply_old ++ answer_of (state_of p ds cs) statement → outcome ≡ outcome_of None → Takes (state_of p ds cs) statement new reply_old reply_new outcome
+pub takes : (p : Partitioner) (ds : List Definition) (cs : List Contents) (g : ℕ) (statement : Statement) (new : State)
+    (reply_old reply_new : List ℕ) (outcome : Outcome) → IsKept ds cs g → first_of (rules ds g statement) ≡ None
+    → new ≡ (execute (state_of p ds cs) statement).state → reply_new ≡ reply_old ++ answer_of (state_of p ds cs) statement
+    → outcome ≡ outcome_of None → Takes (state_of p ds cs) statement new reply_old reply_new outcome
 unfolding refusal
 takes p ds cs g statement new reply_old reply_new outcome kept none new_is reply_is outcome_is =
     rw (ap first_of (rules_kept p ds cs g statement kept) ∙ none) (record { state_is = new_is; reply_is = reply_is; outcome_is = outcome_is })
 
 -- ---- writes
 
--- the contents of the table of a number
+-- the memtable of the table of a number
 pub record IsHeld (ds : List Definition) (cs : List Contents) (name : List ℕ) (number : ℕ) (d : Definition) : Type 0 where
   pub contents : Contents
   pub some : 0 < number
@@ -65,7 +71,8 @@ pub record IsHeld (ds : List Definition) (cs : List Contents) (name : List ℕ) 
   pub got : slice_get cs (number - 1) ≡ Some contents
   pub there : IsThere name ds cs (number - 1) d contents
 
-pub is_held : (ds : List Definition) (cs : List Contents) (name : List ℕ) (number : ℕ) (d : Definition) → AreContents ds cs → number_of_table name ds ≡ Some number → definition_of name ds ≡ Some d → IsHeld ds cs name number d
+pub is_held : (ds : List Definition) (cs : List Contents) (name : List ℕ) (number : ℕ) (d : Definition) → AreContents ds cs
+    → number_of_table name ds ≡ Some number → definition_of name ds ≡ Some d → IsHeld ds cs name number d
 is_held ds cs name number d held numbered found =
     let some : 0 < number = number_some name ds number numbered in
     let suc_is : number ≡ suc (number - 1) = omega arith in
@@ -77,10 +84,11 @@ is_held ds cs name number d held numbered found =
     ]
 
 -- what was read there
-pub read_held : (ds : List Definition) (cs : List Contents) (name : List ℕ) (number : ℕ) (d : Definition) → (h : IsHeld ds cs name number d) (c : Contents) → c ≡ get_or cs (number - 1) c → c ≡ h.contents
+pub read_held : (ds : List Definition) (cs : List Contents) (name : List ℕ) (number : ℕ) (d : Definition) → (h : IsHeld ds cs name number d)
+    (c : Contents) → c ≡ get_or cs (number - 1) c → c ≡ h.contents
 read_held ds cs name number d h c is = is ∙ get_or_from_slice_get cs (number - 1) h.contents c h.got
 
--- there is room for what is written
+-- a mutation has a memtable
 pub write_fits : (p : Partitioner) (ds : List Definition) (cs : List Contents) (g : ℕ) (statement : Statement) (w : Mutation) → IsKept ds cs g → IsWrite ds g statement w → IsRoomFor cs w
 write_fits p ds cs g statement w kept write =
     let h = is_held ds cs (table_named statement) w.table write.definition kept.held write.number write.found in
@@ -92,8 +100,9 @@ write_fits p ds cs g statement w kept write =
           subst (λ (kind : ColumnType). IsStored kind w.key) (sym h.there.kind ∙ ap (λ (c : Contents). c.kind) same) write.written.change.stored;
     }
 
--- the greatest time is known of what is left
-pub write_kept : (p : Partitioner) (ds : List Definition) (cs new : List Contents) (g : ℕ) (statement : Statement) (w : Mutation) → IsKept ds cs g → IsWrite ds g statement w → IsWrittenAt p cs w new → IsKept ds new (max g (greatest_of w.change))
+-- the largest timestamp of the state after a mutation
+pub write_kept : (p : Partitioner) (ds : List Definition) (cs new : List Contents) (g : ℕ) (statement : Statement) (w : Mutation)
+    → IsKept ds cs g → IsWrite ds g statement w → IsWrittenAt p cs w new → IsKept ds new (max g (greatest_of w.change))
 write_kept p ds cs new g statement w kept write is =
     let h = is_held ds cs (table_named statement) w.table write.definition kept.held write.number write.found in
     let at = w.table - 1 in
@@ -107,7 +116,8 @@ write_kept p ds cs new g statement w kept write is =
     }
 
 -- the table after the write
-written_table : (p : Partitioner) (d : Definition) (statement : Statement) (t : ℕ) (w : Mutation) (c : Contents) → w.key ≡ stored_of (value_given (key_type d) (key_in d statement)) → w.change ≡ change_in d t statement
+written_table : (p : Partitioner) (d : Definition) (statement : Statement) (t : ℕ) (w : Mutation) (c : Contents) → w.key ≡ stored_of
+    (value_given (key_type d) (key_in d statement)) → w.change ≡ change_in d t statement
     → apply (place_given p d (key_in d statement)) (change_in d t statement) (table_with d c) ≡ table_with d (written p w c)
 written_table p d statement t w c key change = rw (← key, ← change) refl
 
@@ -134,7 +144,8 @@ pub greatest_kept : (p : Partitioner) (ds : List Definition) (cs : List Contents
 unfolding greatest
 greatest_kept p ds cs g kept = sym kept.greatest_is
 
-pub write_tables : (p : Partitioner) (ds : List Definition) (cs new : List Contents) (g : ℕ) (statement : Statement) (w : Mutation) → IsKept ds cs g → IsWriting statement → IsWrite ds g statement w → IsWrittenAt p cs w new
+pub write_tables : (p : Partitioner) (ds : List Definition) (cs new : List Contents) (g : ℕ) (statement : Statement) (w : Mutation)
+    → IsKept ds cs g → IsWriting statement → IsWrite ds g statement w → IsWrittenAt p cs w new
     → tables_of ds new ≡ tables_after (state_of p ds cs) statement
 unfolding change_of
 write_tables p ds cs new g statement w kept writing write is =
@@ -144,10 +155,12 @@ write_tables p ds cs new g statement w kept writing write is =
     let time : write.written.time ≡ time_of (greatest s) (time_in statement) = write.written.time_is.is ∙ ap (λ (g : ℕ). time_of g (time_in statement)) (sym (greatest_kept p ds cs g kept)) in
     let change : w.change ≡ change_in d (time_of (greatest s) (time_in statement)) statement = write.written.change.change_is ∙ ap (λ (t : ℕ). change_in d t statement) time in
     ap (tables_of ds) (is h.contents h.got)
-    ∙ sym (writes_table s statement writing ∙ h.there.changed (change_of s statement) (written p w h.contents) (written_table p d statement (time_of (greatest s) (time_in statement)) w h.contents write.written.change.key_is change))
+    ∙ sym (writes_table s statement writing ∙ h.there.changed (change_of s statement) (written p w h.contents)
+    (written_table p d statement (time_of (greatest s) (time_in statement)) w h.contents write.written.change.key_is change))
 
--- a write that is taken
-pub write_taken : (p : Partitioner) (ds : List Definition) (cs new : List Contents) (g : ℕ) (statement : Statement) (w : Mutation) (reply_old reply_new : List ℕ) → IsKept ds cs g → IsWriting statement → IsWrite ds g statement w → first_of (rules ds g statement) ≡ None
+-- the step of a write
+pub write_taken : (p : Partitioner) (ds : List Definition) (cs new : List Contents) (g : ℕ) (statement : Statement) (w : Mutation)
+    (reply_old reply_new : List ℕ) → IsKept ds cs g → IsWriting statement → IsWrite ds g statement w → first_of (rules ds g statement) ≡ None
     → IsWrittenAt p cs w new → reply_new ≡ reply_old ++ ok_line → Takes (state_of p ds cs) statement (state_of p ds new) reply_old reply_new (outcome_of None)
 write_taken p ds cs new g statement w reply_old reply_new kept writing write none is reply_is =
     takes p ds cs g statement (state_of p ds new) reply_old reply_new (outcome_of None) kept none
@@ -157,7 +170,8 @@ write_taken p ds cs new g statement w reply_old reply_new kept writing write non
 
 -- ---- CREATE TABLE
 
-pub create_kept : (ds : List Definition) (cs : List Contents) (g : ℕ) (d : Definition) (c : Contents) → IsKept ds cs g → c.kind ≡ key_type d → greatest_in (fin.values c.partitions) ≡ 0 → IsKept (ds ++ d ∷ []) (cs ++ c ∷ []) g
+pub create_kept : (ds : List Definition) (cs : List Contents) (g : ℕ) (d : Definition) (c : Contents) → IsKept ds cs g → c.kind ≡ key_type d
+    → greatest_in (fin.values c.partitions) ≡ 0 → IsKept (ds ++ d ∷ []) (cs ++ c ∷ []) g
 create_kept ds cs g d c kept kind none =
     record {
       held = held_push ds cs d c kept.held kind;
@@ -169,17 +183,24 @@ create_kept ds cs g d c kept kind none =
 abbrev pub empty_contents : Definition → Contents
 empty_contents d = record { kind = key_type d; partitions = fin.empty }
 
-pub pushed : (cs room new : List Contents) (c : Contents) (kind : ColumnType) (d : Definition) → room ≡ cs → new ≡ room ++ c ∷ [] → c ≡ record { kind = kind; partitions = fin.empty } → kind ≡ key_type d → new ≡ cs ++ empty_contents d ∷ []
+pub pushed : (cs room new : List Contents) (c : Contents) (kind : ColumnType) (d : Definition) → room ≡ cs → new ≡ room ++ c ∷ []
+    → c ≡ record { kind = kind; partitions = fin.empty } → kind ≡ key_type d → new ≡ cs ++ empty_contents d ∷ []
 pushed cs room new c kind d same push is kind_is =
     push ∙ ap (λ (cs : List Contents). cs ++ c ∷ []) same ∙ ap (λ (c : Contents). cs ++ c ∷ []) is ∙ ap (λ (k : ColumnType). cs ++ record { kind = k; partitions = fin.empty } ∷ []) kind_is
 
--- a refusal behind what was taken back
-pub refused_anew : {E : Type 0} (told other : Option Refusal) (reply_old cleared reply_new : List ℕ) (result : Result Outcome E) → other ≡ told → reply_old ≡ [] → cleared ≡ [] → IfOk result (λ o. IsRefused other cleared reply_new o) → IfOk result (λ o. IsRefused told reply_old reply_new o)
+-- a refusal after the reply was cleared
+pub refused_anew : {E : Type 0} (told other : Option Refusal) (reply_old cleared reply_new : List ℕ) (result : Result Outcome E)
+    → other ≡ told → reply_old ≡ [] → cleared ≡ [] → IfOk result (λ o. IsRefused other cleared reply_new o) → IfOk result
+    (λ o. IsRefused told reply_old reply_new o)
 refused_anew told other reply_old cleared reply_new (Ok o) same empty is refused = rw (← same, empty, ← is) refused
 refused_anew told other reply_old cleared reply_new (Err e) same empty is refused = tt
 
-pub create_taken : (p : Partitioner) (ds : List Definition) (cs : List Contents) (g : ℕ) (table : List ℕ) (columns : List Column) (keys : List (List ℕ)) (reply_old reply_new : List ℕ) → IsKept ds cs g → first_of (create_rules ds table columns keys) ≡ None → reply_new ≡ reply_old ++ ok_line
-    → Takes (state_of p ds cs) (CreateTable table columns keys) (state_of p (ds ++ new_definition table columns keys ∷ []) (cs ++ record { kind = key_type (new_definition table columns keys); partitions = fin.empty } ∷ [])) reply_old reply_new (outcome_of None)
+pub create_taken : (p : Partitioner) (ds : List Definition) (cs : List Contents) (g : ℕ) (table : List ℕ) (columns : List Column)
+    (keys : List (List ℕ)) (reply_old reply_new : List ℕ) → IsKept ds cs g → first_of (create_rules ds table columns keys) ≡ None
+    → reply_new ≡ reply_old ++ ok_line
+    → Takes (state_of p ds cs) (CreateTable table columns keys)
+    (state_of p (ds ++ new_definition table columns keys ∷ [])
+    (cs ++ record { kind = key_type (new_definition table columns keys); partitions = fin.empty } ∷ [])) reply_old reply_new (outcome_of None)
 create_taken p ds cs g table columns keys reply_old reply_new kept none reply_is =
     let d = new_definition table columns keys in
     takes p ds cs g (CreateTable table columns keys) _ reply_old reply_new (outcome_of None) kept none
@@ -187,19 +208,24 @@ create_taken p ds cs g table columns keys reply_old reply_new kept none reply_is
 
 -- ---- SELECT
 
-query_absent : (p : Partitioner) (ds : List Definition) (cs : List Contents) (g : ℕ) (select : Select) (reply_old reply_new : List ℕ) (outcome : Outcome) → IsKept ds cs g → definition_of select.table ds ≡ None → IsRefused (Some (NoTable select.table)) reply_old reply_new outcome
+query_absent : (p : Partitioner) (ds : List Definition) (cs : List Contents) (g : ℕ) (select : Select) (reply_old reply_new : List ℕ)
+    (outcome : Outcome) → IsKept ds cs g → definition_of select.table ds ≡ None → IsRefused (Some (NoTable select.table)) reply_old reply_new outcome
     → Takes (state_of p ds cs) (Query select) (state_of p ds cs) reply_old reply_new outcome
 query_absent p ds cs g select reply_old reply_new outcome kept absent refused =
     refuses {E = ℕ} p ds cs g (Query select) (Some (NoTable select.table)) reply_old reply_new (Ok outcome) kept (rw absent refl) refused
 
-pub query_none : {E : Type 0} (p : Partitioner) (ds : List Definition) (cs : List Contents) (g : ℕ) (select : Select) (name reply_old reply_new : List ℕ) (result : Result Outcome E) → IsKept ds cs g → definition_of select.table ds ≡ None → name ≡ select.table
-    → OnOk result (reply_new ≡ reply_old ++ refusal_line (NoTable name)) → IfOk result (λ o. o ≡ outcome_of (Some (NoTable name))) → IfOk result (λ o. Takes (state_of p ds cs) (Query select) (state_of p ds cs) reply_old reply_new o)
+pub query_none : {E : Type 0} (p : Partitioner) (ds : List Definition) (cs : List Contents) (g : ℕ) (select : Select)
+    (name reply_old reply_new : List ℕ) (result : Result Outcome E) → IsKept ds cs g → definition_of select.table ds ≡ None → name ≡ select.table
+    → OnOk result (reply_new ≡ reply_old ++ refusal_line (NoTable name)) → IfOk result (λ o. o ≡ outcome_of (Some (NoTable name)))
+    → IfOk result (λ o. Takes (state_of p ds cs) (Query select) (state_of p ds cs) reply_old reply_new o)
 query_none p ds cs g select name reply_old reply_new (Ok o) kept absent is reply_is outcome_is =
     query_absent p ds cs g select reply_old reply_new o kept absent
     (reply_is ∙ ap (λ (name : List ℕ). reply_old ++ refusal_line (NoTable name)) is, outcome_is ∙ ap (λ (name : List ℕ). outcome_of (Some (NoTable name))) is)
 query_none p ds cs g select name reply_old reply_new (Err e) kept absent is reply_is outcome_is = tt
 
-query_by : (p : Partitioner) (ds : List Definition) (cs : List Contents) (g : ℕ) (select : Select) (d : Definition) (c : Contents) (r : Option Refusal) (reply_old reply_new : List ℕ) (outcome : Outcome) → IsKept ds cs g → table_of select.table (tables_of ds cs) ≡ Some (table_with d c)
+query_by : (p : Partitioner) (ds : List Definition) (cs : List Contents) (g : ℕ) (select : Select) (d : Definition) (c : Contents)
+    (r : Option Refusal) (reply_old reply_new : List ℕ) (outcome : Outcome) → IsKept ds cs g → table_of select.table
+    (tables_of ds cs) ≡ Some (table_with d c)
     → first_of (rules ds g (Query select)) ≡ r → IsAnswered r (rows_lines (rows_among d (columns_asked d select.columns) (fin.entries c.partitions))) reply_old reply_new outcome
     → Takes (state_of p ds cs) (Query select) (state_of p ds cs) reply_old reply_new outcome
 query_by p ds cs g select d c None reply_old reply_new outcome kept there is answered =
@@ -208,10 +234,15 @@ query_by p ds cs g select d c None reply_old reply_new outcome kept there is ans
 query_by p ds cs g select d c (Some r) reply_old reply_new outcome kept there is refused =
     refuses {E = ℕ} p ds cs g (Query select) (Some r) reply_old reply_new (Ok outcome) kept is refused
 
-pub query_taken : {E : Type 0} (p : Partitioner) (ds : List Definition) (cs : List Contents) (g : ℕ) (select : Select) (d : Definition) (c : Contents) (reply_old reply_new : List ℕ) (result : Result Outcome E) → IsKept ds cs g → definition_of select.table ds ≡ Some d → table_of select.table (tables_of ds cs) ≡ Some (table_with d c)
-    → IfOk result (λ o. IsAnswered (first_of (select_rules select.table select.columns (Some d))) (rows_lines (rows_among d (columns_asked d select.columns) (fin.entries c.partitions))) reply_old reply_new o)
+pub query_taken : {E : Type 0} (p : Partitioner) (ds : List Definition) (cs : List Contents) (g : ℕ) (select : Select) (d : Definition)
+    (c : Contents) (reply_old reply_new : List ℕ) (result : Result Outcome E) → IsKept ds cs g → definition_of select.table ds ≡ Some d
+    → table_of select.table (tables_of ds cs) ≡ Some (table_with d c)
+    → IfOk result (λ o. IsAnswered (first_of (select_rules select.table select.columns (Some d)))
+    (rows_lines (rows_among d (columns_asked d select.columns) (fin.entries c.partitions))) reply_old reply_new o)
     → IfOk result (λ o. Takes (state_of p ds cs) (Query select) (state_of p ds cs) reply_old reply_new o)
-query_taken p ds cs g select d c reply_old reply_new (Ok o) kept found there answered = query_by p ds cs g select d c (first_of (select_rules select.table select.columns (Some d))) reply_old reply_new o kept there (rw found refl) answered
+query_taken p ds cs g select d c reply_old reply_new (Ok o) kept found there answered =
+    query_by p ds cs g select d c (first_of (select_rules select.table select.columns (Some d))) reply_old reply_new o kept there
+    (rw found refl) answered
 query_taken p ds cs g select d c reply_old reply_new (Err e) kept found there answered = tt
 
 -- an answer that no rule refuses

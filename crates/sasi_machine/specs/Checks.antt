@@ -7,7 +7,7 @@ use Rattle.sasi_model.specs.Refusals.{Rule, KeyMissing, TIME_LIMIT, each, gives_
 use Rattle.sasi_model.specs.Step.{time_of}
 use Rattle.sasi_machine.specs.declared.target.Target.{Target}
 
--- the time of a write, where this is the greatest that is held
+-- the timestamp of a write, where this is the largest of the state
 pub record IsTimeOf (greatest : ℕ) (given : Option Number) (time : ℕ) : Type 0 where
   pub is : time ≡ time_of greatest given
   pub above : 0 < time

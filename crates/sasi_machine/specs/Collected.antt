@@ -1,4 +1,4 @@
--- What is collected of columns with their literals, from the last to the first.
+-- The key and the cells of columns with their literals, from the last to the first.
 use Rattle.std.specs.Prelude.{ℕ, List, [], ◌∷◌, if◌then◌else◌}
 use Rattle.sasi_types.specs.declared.literal.Literal.{Literal}
 use Rattle.sasi_model.specs.Cells.{Cells}
@@ -10,7 +10,7 @@ use Rattle.sasi_model.specs.Step.{column_type, value_given, with_cell}
 abbrev pub with_set : Definition → ℕ → List ℕ → Literal → Cells → Cells
 with_set d time name literal = with_cell (number_of_column d name) (record { time = time; value = value_given (column_type d name) literal })
 
--- the cells that are set, over some that are there
+-- the cells that are set, added to these
 abbrev pub cells_over : Definition → ℕ → List (List ℕ × Literal) → Cells → Cells
 cells_over d time [] cells = cells
 cells_over d time (set ∷ sets) cells = with_set d time set.0 set.1 (cells_over d time sets cells)

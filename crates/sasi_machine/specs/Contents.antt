@@ -1,4 +1,4 @@
--- What a table holds.
+-- The content of a memtable.
 use Rattle.std.specs.Prelude.{◌≡◌, true, List, [], ◌∷◌, Option, is_some, map, if◌then◌else◌, refl}
 use Rattle.std.specs.Coded.{Coded, code_by, coded×}
 use Rattle.std.specs.BTreeMap.{is_at}
@@ -23,7 +23,7 @@ coded_contents =
     code_by (ColumnType × Partitions) (coded× coded_column_type coded_partitions)
     (λ c. (c.kind, c.partitions)) (λ p. record { kind = p.0; partitions = p.1 }) (λ _. refl)
 
--- the first partition at a place
+-- the first partition of a decorated key
 abbrev pub partition_at : List (Place × Partition) → Place → Option Partition
 partition_at entries place = lookup (is_at (place_cmp place)) entries
 
@@ -31,7 +31,7 @@ partition_at entries place = lookup (is_at (place_cmp place)) entries
 abbrev pub KeysStored : ColumnType → List (Place × Partition) → Type 0
 KeysStored kind entries = (place : Place) → is_some (partition_at entries place) ≡ true → IsStored kind place.key
 
--- the rows that are there, with the values that are picked
+-- the live rows, with the picked values
 abbrev pub rows_picked : ColumnType → List PickedColumn → List (Place × Partition) → List (List (Option Value))
 rows_picked kind columns [] = []
 rows_picked kind columns (entry ∷ entries) =

@@ -5,7 +5,7 @@ use Rattle.sasi_machine.specs.Refusal.{refusal_of}
 use Rattle.sasi_machine.specs.declared.fault.Fault.{Fault}
 use Rattle.sasi_machine.specs.declared.fault.Fault.TheVariants.{OutOfMemory, Refused}
 
--- the refusal that a fault is; want of memory is none
+-- the refusal that a fault is; out of memory is none
 abbrev pub told : Fault → Option model.Refusal
 told OutOfMemory = None
 told (Refused refusal) = Some (refusal_of refusal)

@@ -1,4 +1,4 @@
--- Literals that can be the key's.
+-- Literals of the key.
 use Rattle.std.specs.Prelude.{◌≡◌, ◌≢◌, ◌≤◌, true, false, [], length, ⊤}
 use Rattle.sasi_types.specs.declared.column.ColumnType.{ColumnType}
 use Rattle.sasi_types.specs.declared.literal.Literal.{Literal}
@@ -6,7 +6,7 @@ use Rattle.sasi_types.specs.declared.value.Value.{Value}
 use Rattle.sasi_types.specs.declared.value.Value.TheVariants.{Text, Int, BigInt, Uuid}
 use Rattle.sasi_model.specs.Refusals.{TEXT_LIMIT, is_empty_text, is_long_text, is_null, is_of, is_out_of_range}
 
--- no rule on the key's literal refuses it
+-- no rule refuses the literal of the key
 pub record IsKeyLiteral (type : ColumnType) (literal : Literal) : Type 0 where
   pub typed : is_of type literal ≡ true
   pub there : is_null literal ≡ false

@@ -1,4 +1,4 @@
--- What pieces ask for: an answer alone, one more table, or a change of one partition.
+-- What a piece prepares: an answer alone, a new table, or a mutation.
 use Rattle.std.specs.Prelude.{◌≡◌, ℕ, ◌+◌, ◌-◌, ◌<◌, List, length, slice_get, None, Some}
 use Rattle.sasi_types.specs.declared.statement.Statement.{Statement}
 use Rattle.sasi_types.specs.declared.statement.Statement.TheVariants.{CreateTable}
@@ -28,7 +28,7 @@ pub record IsNext (s : State) (t : Table) : Type 0 where
   pub number : t.number ≡ length s.tables + 1
   pub free : definition_of t.name (definitions s.tables) ≡ None
 
--- the table of the mutation is there, and key and change can be stored in it
+-- the table of the mutation exists, and its key and change can be stored in it
 pub record IsFit (s : State) (w : Mutation) : Type 0 where
   pub some : 0 < w.table
   pub table : model.Table
@@ -37,18 +37,18 @@ pub record IsFit (s : State) (w : Mutation) : Type 0 where
 
 -- ---- what a statement asks for
 
--- a statement that isn't refused makes this table
+-- the statement isn't refused, and creates this table
 abbrev pub Makes : State → Statement → Table → Type 0
 Makes s (CreateTable table columns keys) t = (refusal s (CreateTable table columns keys) ≡ None) × (definition t ≡ new_definition table columns keys) × (t.number ≡ length s.tables + 1)
 Makes s statement t = ⊥
 
--- a statement that isn't refused writes this
+-- the statement isn't refused, and writes this mutation
 pub record WritesTo (s : State) (statement : Statement) (w : Mutation) : Type 0 where
   pub writing : IsWriting statement
   pub taken : refusal s statement ≡ None
   pub write : IsWrite (definitions s.tables) (greatest s) statement w
 
--- what it asks for, with the reply that was added
+-- what a statement prepares, with its reply appended
 abbrev pub Asks : State → Statement → List ℕ → List ℕ → Planned → Type 0
 Asks s statement reply_old reply_new (Answered outcome) = Takes s statement s reply_old reply_new outcome
 Asks s statement reply_old reply_new (Create t) = Takes s statement (with_new_table s (definition t)) reply_old reply_new (outcome_of None) × Makes s statement t
@@ -56,17 +56,17 @@ Asks s statement reply_old reply_new (Writes w) = Takes s statement (written_sta
 
 -- ---- what a piece asks for
 
--- the step of the piece leaves this state, with this reply, and ends so
+-- the step of the piece has this state, this reply and this outcome
 pub record StepsTo (s : State) (piece : Piece) (state : State) (reply : List ℕ) (outcome : Outcome) : Type 0 where
   pub state_is : (step s piece).state ≡ state
   pub reply_is : (step s piece).reply ≡ reply
   pub outcome_is : outcome ≡ outcome_of (step s piece).refused
 
--- the piece says a statement, as it stands in a text, that has P
+-- the piece is a well-formed statement that has P
 abbrev pub SaysOne : Piece → (Statement → Type 0) → Type 0
 SaysOne piece P = (statement : Statement) × (read piece ≡ Says statement) × IsWritten statement × P statement
 
--- what its step changes
+-- what a piece prepares
 abbrev pub Plans : State → Piece → List ℕ → Planned → Type 0
 Plans s piece reply (Answered outcome) = StepsTo s piece s reply outcome
 Plans s piece reply (Create t) = StepsTo s piece (with_new_table s (definition t)) reply (outcome_of None) × SaysOne piece (λ statement. Makes s statement t) × IsNext s t

@@ -1,4 +1,4 @@
--- Refusals, in the model's words.
+-- Refusals, as the model's.
 use Rattle.sasi_schema.specs.Faults.{limit_of}
 use Rattle.sasi_model.specs.Refusals as model
 use Rattle.sasi_machine.specs.declared.refusal.Refusal.{Refusal}

@@ -1,4 +1,4 @@
--- Tables, of their definitions and of what they hold.
+-- Tables, made of their definitions and memtables.
 use Rattle.std.specs.Prelude.{◌≡◌, ℕ, ◌-◌, ◌<◌, ◌≤◌, List, [], ◌∷◌, length, slice_get, slice_set, Some, unwrap_or, ⊤}
 use Rattle.std.specs.FinMap as map_
 use Rattle.sasi_types.specs.declared.partitioner.Partitioner.{Partitioner}
@@ -20,29 +20,29 @@ tables_of (d ∷ ds) (c ∷ cs) = table_with d c ∷ tables_of ds cs
 abbrev pub state_of : Partitioner → List Definition → List Contents → State
 state_of partitioner ds cs = record { partitioner = partitioner; tables = tables_of ds cs }
 
--- there are contents of each table, with keys of its key's type
+-- there is a memtable for each table, with keys of its key's type
 abbrev pub AreContents : List Definition → List Contents → Type 0
 AreContents [] [] = ⊤
 AreContents [] (c ∷ cs) = ⊥
 AreContents (d ∷ ds) [] = ⊥
 AreContents (d ∷ ds) (c ∷ cs) = (c.kind ≡ key_type d) × AreContents ds cs
 
--- the same, and the greatest time that they hold is known
+-- and this is their largest timestamp
 pub record IsKept (tables : List Definition) (contents : List Contents) (greatest : ℕ) : Type 0 where
   pub held : AreContents tables contents
   pub greatest_is : greatest ≡ greatest_among (tables_of tables contents)
   pub limit : greatest ≤ TIME_LIMIT
 
--- the contents after a write
+-- the memtable after a mutation
 abbrev pub written : Partitioner → Mutation → Contents → Contents
 written partitioner m c = record c { partitions = map_.insert c.partitions (place_of partitioner m.key) (merge (unwrap_or (map_.get c.partitions (place_of partitioner m.key)) empty_partition) m.change) }
 
--- the table of the mutation is there, and its keys are of the mutation's type
+-- the table of the mutation exists, and its keys are of the mutation's type
 pub record IsRoomFor (contents : List Contents) (m : Mutation) : Type 0 where
   pub some : 0 < m.table
   pub inside : m.table ≤ length contents
   pub stored : (c : Contents) → slice_get contents (m.table - 1) ≡ Some c → IsStored c.kind m.key
 
--- the contents of its table are those after the write
+-- the memtable of its table is the one after the mutation
 abbrev pub IsWrittenAt : Partitioner → List Contents → Mutation → List Contents → Type 0
 IsWrittenAt partitioner old m new = (c : Contents) → slice_get old (m.table - 1) ≡ Some c → new ≡ slice_set old (m.table - 1) (written partitioner m c)

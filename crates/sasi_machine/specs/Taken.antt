@@ -1,4 +1,4 @@
--- What a statement leaves.
+-- The step of a statement.
 use Rattle.std.specs.Prelude.{◌≡◌, ◌++◌, ℕ, List, Option, None, Some}
 use Rattle.sasi_types.specs.declared.statement.Statement.{Statement}
 use Rattle.sasi_model.specs.State.{State}
@@ -8,7 +8,7 @@ use Rattle.sasi_model.specs.Step.{Stepped, step_as}
 use Rattle.sasi_machine.specs.Outcome.{outcome_of}
 use Rattle.sasi_machine.specs.declared.outcome.Outcome.{Outcome}
 
--- the state is what a step leaves, its reply was added, and the outcome says whether it was refused
+-- the state after the step, its reply appended, and its outcome
 pub record Follows (stepped : Stepped) (state : State) (reply_old reply_new : List ℕ) (outcome : Outcome) : Type 0 where
   pub state_is : state ≡ stepped.state
   pub reply_is : reply_new ≡ reply_old ++ stepped.reply
@@ -18,12 +18,12 @@ pub record Follows (stepped : Stepped) (state : State) (reply_old reply_new : Li
 abbrev pub Takes : State → Statement → State → List ℕ → List ℕ → Outcome → Type 0
 Takes s statement = Follows (step_as s (Says statement))
 
--- a refusal was replied
+-- the reply is a refusal
 abbrev pub IsRefused : Option Refusal → List ℕ → List ℕ → Outcome → Type 0
 IsRefused None reply_old reply_new outcome = ⊥
 IsRefused (Some r) reply_old reply_new outcome = (reply_new ≡ reply_old ++ refusal_line r) × (outcome ≡ outcome_of (Some r))
 
--- an answer was replied, or a refusal
+-- the reply is an answer or a refusal
 abbrev pub IsAnswered : Option Refusal → List ℕ → List ℕ → List ℕ → Outcome → Type 0
 IsAnswered None answer reply_old reply_new outcome = (reply_new ≡ reply_old ++ answer) × (outcome ≡ outcome_of None)
 IsAnswered (Some r) answer reply_old reply_new outcome = (reply_new ≡ reply_old ++ refusal_line r) × (outcome ≡ outcome_of (Some r))

@@ -1,4 +1,4 @@
--- What the writes of a table are: the key, and the change of its partition.
+-- What an INSERT, an UPDATE or a DELETE writes: the key, and the change of its partition.
 use Rattle.std.specs.Prelude.{◌≡◌, ◌≤◌, ℕ, List, length, Option, None, Some, ⊤}
 use Rattle.std.specs.List.{zip}
 use Rattle.sasi_types.specs.declared.literal.Literal.{Literal}

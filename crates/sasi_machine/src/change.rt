@@ -1,4 +1,4 @@
-// The changes that writes make of the partition of their key.
+// The mutations of writes that no rule refuses.
 ghost use Rattle.std.specs.Prelude.{◌≡◌, ◌<◌, None, IfOk};
 ghost use Rattle.sasi_model.specs.Refusals.{each, first_of, number_range};
 ghost use Rattle.sasi_model.specs.State.{key_type};
@@ -15,7 +15,7 @@ use sasi_schema::Table;
 use sasi_types::{Cell, Literal, Names, Sets, Text, Value};
 use std::alloc::{AllocError, Global};
 
-/// The change of the partition of a key.
+/// The mutation of a key with this change.
 fn write_of(
     alloc: Global,
     table: &Table,
@@ -34,7 +34,7 @@ fn write_of(
     })
 }
 
-/// The write of an INSERT: a marker, and a cell for each regular column that is given a literal.
+/// The mutation of an INSERT: a marker, and a cell for each regular column that it names.
 pub fn write_of_insert(
     alloc: Global,
     table: &Table,
@@ -63,7 +63,7 @@ fn marked(alloc: Global, change: Partition, time: u64) -> Result<Partition, Allo
     Ok(change)
 }
 
-/// The write of an UPDATE: the cells alone.
+/// The mutation of an UPDATE: the cells alone.
 pub fn write_of_update(
     alloc: Global,
     table: &Table,
@@ -81,7 +81,7 @@ pub fn write_of_update(
     write_of(alloc, table, key, collected.change)
 }
 
-/// The write of a DELETE: tombstones, or a deletion of the whole row.
+/// The mutation of a DELETE: tombstones, or a deletion of the whole row.
 pub fn write_of_delete(
     alloc: Global,
     table: &Table,

@@ -1,10 +1,11 @@
-// The rules of writes on a table that is there, in their order.
+// The rules of writes on an existing table, in their order.
 ghost use Rattle.std.specs.Prelude.{◌≡◌, ◌≤◌, ◌∷◌, ◌++◌, [], IfOk, map, Some};
-ghost use Rattle.sasi_model.specs.Refusals.{TIME_LIMIT as time_limit, delete_rules, gives_key, other_key, repeat_rules, update_rules};
+ghost use Rattle.sasi_model.specs.Refusals.{TIME_LIMIT as time_limit, delete_rules, each, gives_key, other_key, repeat_rules, update_rules};
 ghost use Rattle.sasi_schema.specs.Answers.{Answers};
 ghost use Rattle.sasi_schema.specs.Defined.{definition};
 ghost use Rattle.sasi_machine.specs.Checks.{IsTimeOf, given_key_rules, given_rules, kind_rules, length_rules, missing_rule, range_rules, where_rules};
 ghost use Rattle.sasi_machine.specs.Faults.{told};
+ghost use Rattle.sasi_machine.specs.Rules.{literal_rule};
 
 use crate::Refusal;
 use crate::collect::is_key_value;
@@ -17,7 +18,7 @@ use sasi_schema::{Table, repeated_column, repeated_name};
 use sasi_types::{Literal, Name, Number};
 use std::alloc::Global;
 
-// No name stands twice.
+// Checks that no name is there twice.
 pub fn check_once(alloc: Global, names: &[Name]) -> Result<(), Fault>
     ensures { Answers told (repeat_rules [] names.now) result }
 {
@@ -27,7 +28,7 @@ pub fn check_once(alloc: Global, names: &[Name]) -> Result<(), Fault>
     }
 }
 
-// No column is set twice.
+// Checks that no column is set twice.
 fn check_set_once(alloc: Global, sets: &[(Name, Literal)]) -> Result<(), Fault>
     ensures { Answers told (repeat_rules [] (map (λ set. set.0) sets.now)) result }
 {
@@ -76,7 +77,7 @@ fn check_given_key(
     time_of(greatest, time)
 }
 
-/// Tries the rules on what an INSERT gives its columns, and finds its time.
+/// Tries the rules on the literals of an INSERT, and finds its timestamp.
 pub fn check_given(
     alloc: Global,
     table: &Table,
@@ -95,7 +96,7 @@ pub fn check_given(
 
 // ---- UPDATE and DELETE
 
-// The column of the WHERE is the key, if it is a column.
+// Checks that the column of the WHERE is the key, if it is a column.
 fn check_is_key(alloc: Global, table: &Table, column: &Name) -> Result<(), Fault>
     ensures { Answers told (other_key (definition table.now) column.now ∷ []) result }
 {
@@ -103,6 +104,21 @@ fn check_is_key(alloc: Global, table: &Table, column: &Name) -> Result<(), Fault
         return Err(Fault::Refused(Refusal::KeyMissing(table.key_name().copy(alloc)?)));
     }
     Ok(())
+}
+
+// Tries a rule on each column's literal, and one on that of the WHERE.
+fn check_literals(
+    alloc: Global,
+    table: &Table,
+    of_sets: LiteralRule,
+    of_where: LiteralRule,
+    sets: &[(Name, Literal)],
+    target: &Target,
+) -> Result<(), Fault>
+    ensures { Answers told (each (literal_rule of_sets (definition table.now)) sets.now ++ literal_rule of_where (definition table.now) target.now.column target.now.value ∷ []) result }
+{
+    of_sets.check_each(alloc, table, sets)?;
+    of_where.check(alloc, table, &target.column, &target.value)
 }
 
 fn check_lengths(
@@ -117,8 +133,8 @@ fn check_lengths(
     ensures answers { Answers told (length_rules (definition table.now) greatest sets.now target.now time) result }
     ensures time { IfOk result (IsTimeOf greatest time) }
 {
-    LiteralRule::ValueTooLong.check_each(alloc, table, sets)?;
-    LiteralRule::ValueTooLong.check(alloc, table, &target.column, &target.value)?;
+    let too_long = LiteralRule::ValueTooLong;
+    check_literals(alloc, table, too_long, too_long, sets, target)?;
     time_of(greatest, time)
 }
 
@@ -151,8 +167,8 @@ fn check_ranges(
     ensures answers { Answers told (range_rules (definition table.now) greatest sets.now target.now time) result }
     ensures time { IfOk result (IsTimeOf greatest time) }
 {
-    LiteralRule::NumberRange.check_each(alloc, table, sets)?;
-    LiteralRule::NumberRange.check(alloc, table, &target.column, &target.value)?;
+    let range = LiteralRule::NumberRange;
+    check_literals(alloc, table, range, range, sets, target)?;
     check_where(alloc, table, greatest, sets, target, time)
 }
 
@@ -168,12 +184,12 @@ fn check_kinds(
     ensures answers { Answers told (kind_rules (definition table.now) greatest sets.now target.now time) result }
     ensures time { IfOk result (IsTimeOf greatest time) }
 {
-    LiteralRule::WrongType.check_each(alloc, table, sets)?;
-    LiteralRule::WrongWhere.check(alloc, table, &target.column, &target.value)?;
+    let (of_sets, of_where) = (LiteralRule::WrongType, LiteralRule::WrongWhere);
+    check_literals(alloc, table, of_sets, of_where, sets, target)?;
     check_ranges(alloc, table, greatest, sets, target, time)
 }
 
-/// Tries the rules of an UPDATE, and finds its time.
+/// Tries the rules of an UPDATE, and finds its timestamp.
 pub fn check_update(
     alloc: Global,
     table: &Table,
@@ -192,7 +208,7 @@ pub fn check_update(
     check_kinds(alloc, table, greatest, sets, target, time)
 }
 
-/// Tries the rules of a DELETE, and finds its time.
+/// Tries the rules of a DELETE, and finds its timestamp.
 pub fn check_delete(
     alloc: Global,
     table: &Table,

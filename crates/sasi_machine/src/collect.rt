@@ -1,4 +1,4 @@
-// What columns with their literals give: the key's literal, and the cells.
+// The literals of an INSERT or UPDATE, as the literal of the key and the cells.
 ghost use Rattle.std.specs.Prelude.{◌≡◌, ◌<◌, None, false, if◌then◌else◌, IfOk, OnOk, map};
 ghost use Rattle.sasi_types.specs.declared.literal.Literal.TheVariants.{Null};
 ghost use Rattle.sasi_model.specs.Refusals.{each, first_of, is_key_value, is_out_of_range, number_range, tests, type_of_column};
@@ -12,15 +12,15 @@ use sasi_schema::Table;
 use sasi_types::{Cell, ColumnType, Literal, Name, Names, Sets};
 use std::alloc::{AllocError, Global};
 
-/// What columns with their literals give.
+/// The literal of the key, and the cells of the regular columns.
 #[derive(Drop)]
 pub struct Collected {
     pub key: Literal,
     pub change: Partition,
 }
 
-/// Collects the key's literal, and a cell for each regular column. The first of two of one column counts, so the list is
-/// gone through from its end.
+/// Finds the literal of the key, and makes a cell for each regular column. Of two literals of one column the first counts,
+/// so the list is read from its end.
 pub fn collect(
     alloc: Global,
     table: &Table,
@@ -43,7 +43,7 @@ pub fn collect(
     Ok(collected)
 }
 
-// Takes one column with its literal.
+// Adds one column with its literal.
 fn take(
     table: &Table,
     time: u64,

@@ -25,7 +25,7 @@ impl From<AllocError> for Fault {
 impl Fault {
     ghost use Rattle.sasi_machine.specs.Faults.{told};
 
-    /// The same fault as the machine tells it.
+    /// The fault of the schema, as one of the machine.
     pub fn of_schema(fault: SchemaFault) -> Fault
         ensures { told result ≡ schema_told fault }
     {

@@ -1,4 +1,4 @@
-// What the tables hold, in the order of the tables.
+// The memtables, in the order of the tables.
 ghost use Rattle.std.specs.Prelude.{◌≡◌, ◌<◌, ◌+◌, ◌++◌, ◌∷◌, [], IfOk, OnOk, OnErr, length, slice_get, slice_set, Some};
 ghost use Rattle.std.specs.Vec.{vec_len, vec_capacity};
 ghost use Rattle.sasi_model.specs.Cells.{greatest_of};
@@ -10,7 +10,7 @@ use sasi_cells::Mutation;
 use sasi_types::Partitioner;
 use std::alloc::AllocError;
 
-/// Makes room for one more.
+/// Reserves room for one more.
 pub fn reserve_one(contents: &mut Vec<Rows>) -> Result<(), AllocError>
     ensures room { OnOk result (vec_len contents.new < vec_capacity contents.new) }
     ensures items { contents.new.items ≡ contents.old.items }
@@ -18,7 +18,7 @@ pub fn reserve_one(contents: &mut Vec<Rows>) -> Result<(), AllocError>
     contents.reserve(1)
 }
 
-/// Adds one at the end of a list that has room for it.
+/// Adds a memtable at the end of a list that has room for it.
 pub fn add_within(contents: &mut Vec<Rows>, rows: Rows)
     requires { vec_len contents.old < vec_capacity contents.old }
     ensures { contents.new.items ≡ contents.old.items ++ rows ∷ [] }
@@ -26,7 +26,7 @@ pub fn add_within(contents: &mut Vec<Rows>, rows: Rows)
     let _ = contents.push(rows);
 }
 
-/// Merges a change into what its table holds, and gives the greatest time of the change.
+/// Merges a mutation into its memtable, and returns the largest timestamp of its change.
 pub fn merge_into(
     contents: &mut Vec<Rows>,
     partitioner: Partitioner,

@@ -1,4 +1,4 @@
-// Keys, and where the rows of keys stand.
+// Keys, and their decorated keys.
 ghost use Rattle.std.specs.Prelude.{◌≡◌, ◌≢◌, ◌≤◌, [], IfOk, length};
 ghost use Rattle.sasi_types.specs.Value.{stored, type_of};
 ghost use Rattle.sasi_cells.specs.Rows.{IsStored};
@@ -10,7 +10,7 @@ use crate::literals::{TEXT_LIMIT, value_given};
 use sasi_types::{ColumnType, Key, KeyFault, Literal, Partitioner, Place, Value};
 use std::alloc::{AllocError, Global};
 
-/// Where the row of a key stands.
+/// The decorated key of a key.
 pub fn place_of(partitioner: Partitioner, key: Key) -> Place
     ensures { result ≡ place_of partitioner key }
 {
@@ -43,7 +43,7 @@ fn key_of_value(alloc: Global, value: &Value) -> Result<Key, AllocError>
     }
 }
 
-// The key of bytes that may be one.
+// The key of bytes that are some and not too many.
 fn key_of(alloc: Global, bytes: &[u8]) -> Result<Key, AllocError>
     requires some { bytes.now ≢ [] }
     requires short { length bytes.now ≤ TEXT_LIMIT }

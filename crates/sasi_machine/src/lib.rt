@@ -1,5 +1,5 @@
-// The plain machine: tables in memory, and one piece at a time with its reply. It stands on the parser, the schema and
-// the cells, and promises that each piece leaves the state, the reply and the refusal that the model's step says.
+//! The plain machine: it keeps the tables in memory, and runs one piece at a time. It stands on the parser, the schema and
+//! the cells, and promises the state, the reply and the refusal of the model's step.
 #![tactic(auto)]
 
 mod change;
@@ -25,8 +25,6 @@ mod refusal;
 mod refuse;
 mod rows;
 mod target;
-#[cfg(test)]
-mod tests;
 mod time;
 mod writer;
 

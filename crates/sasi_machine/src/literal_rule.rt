@@ -29,7 +29,7 @@ impl LiteralRule {
     ghost use Rattle.sasi_machine.specs.Refusal.{refusal_of};
     ghost use Rattle.sasi_machine.specs.Rules.{literal_rule};
 
-    /// Whether the rule refuses the literal; what isn't a column's is no matter of it.
+    /// Whether the rule refuses the literal. It passes the literal of a name that is no column.
     pub fn applies(self, table: &Table, column: &Name, literal: &Literal) -> bool
         ensures { result ≡ (literal_rule self (definition table.now) column.now literal.now).0 }
     {

@@ -1,4 +1,4 @@
-// What literals are.
+// Tests of literals.
 ghost use Rattle.std.specs.Prelude.{◌≡◌, false};
 ghost use Rattle.sasi_model.specs.Step.{value_given};
 ghost use Rattle.sasi_model.specs.Refusals.{is_empty_text, is_long_text, is_null, is_of, is_out_of_range, is_within};

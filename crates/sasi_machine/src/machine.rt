@@ -19,7 +19,7 @@ use sasi_types::{Partitioner, PieceEnd};
 use std::alloc::{AllocError, Global};
 use std::marker::Model;
 
-/// The state that a script works on, in memory: the tables that are defined, and beside each what it holds.
+/// The state of a script, in memory: the schema, and a memtable for each table.
 #[derive(Drop)]
 pub struct Machine {
     pub(crate) alloc: Global,
@@ -58,14 +58,14 @@ impl Machine {
         }
     }
 
-    /// How its tables make tokens of keys.
+    /// The partitioner of the tables.
     pub fn partitioner(&self) -> Partitioner
         ensures { result ≡ self.now.partitioner }
     {
         self.partitioner
     }
 
-    /// Takes one piece: plans it, and does what it asks for. After an error the reply may be a part of one.
+    /// Runs one piece: prepares it, and applies what was prepared. After an error the reply may be incomplete.
     pub fn step(
         &mut self,
         piece: &[u8],
@@ -90,7 +90,7 @@ impl Machine {
         }
     }
 
-    /// Makes a table that was planned, or defined before.
+    /// Creates a table that was prepared, or that a manifest lists.
     pub fn create(&mut self, table: Table) -> Result<(), AllocError>
         requires { IsNext self.old table }
         ensures ok { OnOk result (self.new ≡ with_new_table self.old (definition table)) }
@@ -103,7 +103,7 @@ impl Machine {
         Ok(())
     }
 
-    /// Merges a change that was planned, or written before.
+    /// Applies a mutation that was prepared, or that the commit log has.
     pub fn write(&mut self, mutation: Mutation) -> Result<(), AllocError>
         requires { IsFit self.old mutation }
         ensures ok { OnOk result (self.new ≡ written_state self.old mutation) }

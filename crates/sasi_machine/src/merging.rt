@@ -1,4 +1,4 @@
-// Changes, merged into the partitions of a table.
+// Merging into the partitions of a table.
 ghost use Rattle.std.specs.Prelude.{◌≡◌, Some, unwrap_or, if◌then◌else◌, OnOk, OnErr};
 ghost use Rattle.std.specs.BTreeMap.{get, is_at};
 ghost use Rattle.sasi_types.specs.declared.place.Place.{Place};
@@ -10,7 +10,7 @@ use sasi_types::Place;
 use std::alloc::{AllocError, Global};
 use std::collections::BTreeMap;
 
-/// Merges a change into the partition at a place, if there is one, and else into an empty one.
+/// Merges a change into the partition of a key, or into an empty one where the key has none.
 pub fn merge_at(
     alloc: Global,
     partitions: &mut BTreeMap<Place, Partition>,

@@ -1,6 +1,6 @@
-// How pieces are answered.
+// Outcomes of pieces.
 
-/// How a piece was answered.
+/// The outcome of a piece.
 #[derive(Clone, Copy, Debug, PartialEq, Eq)]
 pub enum Outcome {
     Done,

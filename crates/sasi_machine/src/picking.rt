@@ -1,4 +1,4 @@
-// The columns that a query asks for.
+// The columns of a SELECT.
 ghost use Rattle.std.specs.Prelude.{◌≡◌, ◌≤◌, map, IfOk};
 ghost use Rattle.sasi_model.specs.Refusals.{COLUMN_LIMIT as column_limit};
 ghost use Rattle.sasi_model.specs.State.{key_type};
@@ -11,7 +11,7 @@ use sasi_schema::Table;
 use sasi_types::{Name, Names};
 use std::alloc::{AllocError, Global};
 
-/// The columns that are asked for: those named, or the key and then the others in declared order.
+/// The selected columns: those named, or the key and then the others in declared order.
 pub fn picked(alloc: Global, table: &Table, columns: &Option<Names>) -> Result<Picked, AllocError>
     ensures key { IfOk result (λ picked. picked.key ≡ key_type (definition table.now)) }
     ensures columns { IfOk result (λ picked. picked.columns ≡ map pick (columns_asked (definition table.now) columns.now)) }
@@ -35,7 +35,7 @@ fn pick(number: u16) -> PickedColumn
     }
 }
 
-// All columns of so many.
+// All columns of a table with this number of them.
 fn all(alloc: Global, count: usize) -> Result<PickedList, AllocError>
     requires { count ≤ column_limit }
     ensures { IfOk result (λ list. list ≡ map pick (count_up 0 count)) }

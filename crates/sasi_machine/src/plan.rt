@@ -1,4 +1,4 @@
-// What statements write: refused, or the change of a partition of the table that they name.
+// The mutations of statements, or their refusals.
 ghost use Rattle.std.specs.Prelude.{◌≡◌, ◌≤◌, IfOk};
 ghost use Rattle.sasi_types.specs.declared.statement.Statement.TheVariants.{Insert, Update, Delete};
 ghost use Rattle.sasi_model.specs.Refusals.{TIME_LIMIT as time_limit, rules};
@@ -14,7 +14,7 @@ use sasi_cells::Mutation;
 use sasi_schema::Schema;
 use sasi_types::{Literals, Name, Names, Number, Sets, Statement};
 
-/// What an INSERT, an UPDATE or a DELETE writes.
+/// The mutation of an INSERT, an UPDATE or a DELETE, or its refusal.
 pub fn plan(writer: &Writer, schema: &Schema, statement: Statement) -> Result<Mutation, Fault>
     requires limit { writer.now.greatest ≤ time_limit }
     requires writing { IsWriting statement }

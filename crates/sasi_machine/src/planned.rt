@@ -1,15 +1,15 @@
-// What pieces ask for.
+// Prepared pieces.
 use crate::Outcome;
 use sasi_cells::Mutation;
 use sasi_schema::Table;
 
-/// What a piece asks for, beside the reply that it gets.
+/// What is left to do for a piece, once its reply is known.
 #[derive(Drop)]
 pub enum Planned {
-    /// Nothing more: it is a query, or refused, or has no reply.
+    /// Nothing: the piece is a SELECT, or refused, or has no reply.
     Answered(Outcome),
-    /// A table that is to be made.
+    /// A table to create.
     Create(Table),
-    /// A change that is to be merged.
+    /// A mutation to apply.
     Write(Mutation),
 }

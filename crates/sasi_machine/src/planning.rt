@@ -1,4 +1,4 @@
-// What the machine plans for a piece, before anything changes.
+// The preparing of pieces, before anything changes.
 ghost use Rattle.std.specs.Prelude.{◌≡◌, [], IfOk};
 ghost use Rattle.sasi_types.specs.declared.statement.Statement.TheVariants.{CreateTable, Query};
 ghost use Rattle.sasi_model.specs.Pieces.{piece_of};
@@ -18,7 +18,7 @@ use sasi_types::{Columns, Name, Names, PieceEnd, Select, Statement};
 use std::alloc::AllocError;
 
 impl Machine {
-    /// What a piece asks for. Its reply takes the place of what the buffer held; after an error it may be a part of one.
+    /// Prepares a piece. The reply is replaced; after an error it may be incomplete.
     #[tactic(auto, unfolding(sasi_model::specs::Step::step))]
     pub fn plan(
         &self,
@@ -39,7 +39,7 @@ impl Machine {
         }
     }
 
-    // What a statement asks for, or its refusal.
+    // Prepares a statement, or replies with its refusal.
     fn plan_statement(&self, statement: Statement, reply: &mut Reply) -> Result<Planned, AllocError>
         ensures { IfOk result (λ planned. Asks self.now statement reply.old reply.new planned) }
     {

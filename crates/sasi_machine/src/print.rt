@@ -15,7 +15,7 @@ use std::alloc::{AllocError, Global};
 use std::marker::Model;
 use uuid::Uuid;
 
-/// The reply to a piece, seen as its bytes. After a call that fails it may hold a part of the line: clear it.
+/// The reply to a piece. Its model is its bytes. After a failed call it may have a part of the line: clear it.
 #[derive(Drop)]
 pub struct Reply {
     bytes: Vec<u8>,
@@ -46,14 +46,14 @@ impl Reply {
         &self.bytes
     }
 
-    /// Takes all bytes out.
+    /// Empties the reply.
     pub fn clear(&mut self)
         ensures { self.new ≡ [] }
     {
         self.bytes.clear();
     }
 
-    /// Adds the line of a statement that was taken.
+    /// Adds the line `ok`.
     pub fn ok(&mut self) -> Result<(), AllocError>
         ensures ok { OnOk result (self.new ≡ self.old ++ ok_line) }
     {
@@ -70,7 +70,7 @@ impl Reply {
         Ok(())
     }
 
-    /// Adds the line that says how many rows there are.
+    /// Adds the line with the number of rows.
     pub fn count(&mut self, rows: u64) -> Result<(), AllocError>
         ensures ok { OnOk result (self.new ≡ self.old ++ count_line rows) }
     {
@@ -102,7 +102,7 @@ fn push_number<I: Integer>(reply: &mut Vec<u8>, number: I) -> Result<(), AllocEr
     Ok(())
 }
 
-// Adds what stands behind the number of a refusal.
+// Adds the rest after the number of a refusal.
 fn push_reason(reply: &mut Vec<u8>, refusal: &Refusal) -> Result<(), AllocError>
     ensures ok { OnOk result (reply.new.items ≡ reply.old.items ++ refusal_text (refusal_of refusal.now)) }
 {
@@ -156,7 +156,7 @@ fn push_text(reply: &mut Vec<u8>, text: &[u8]) -> Result<(), AllocError>
     Ok(())
 }
 
-// Adds a uuid, hyphenated and in lower case.
+// Adds a uuid with hyphens, in lower case.
 fn push_uuid(reply: &mut Vec<u8>, bytes: [u8; 16]) -> Result<(), AllocError>
     ensures ok { OnOk result (reply.new.items ≡ reply.old.items ++ hyphenated_text lower bytes) }
 {
@@ -194,7 +194,7 @@ fn push_values(reply: &mut Vec<u8>, values: &[Option<Value>]) -> Result<(), Allo
     push_others(reply, others)
 }
 
-// Adds the values behind the first.
+// Adds the values after the first.
 fn push_others(reply: &mut Vec<u8>, values: &[Option<Value>]) -> Result<(), AllocError>
     ensures ok { OnOk result (reply.new.items ≡ reply.old.items ++ flat_map (λ value. codes " | " ++ printed value) values.now) }
 {

@@ -1,4 +1,4 @@
-// Queries of a table that is there.
+// The SELECT of a table.
 ghost use Rattle.std.specs.Prelude.{◌≡◌, Some, IfOk};
 ghost use Rattle.std.specs.FinMap as map;
 ghost use Rattle.sasi_model.specs.State.{key_type};
@@ -20,7 +20,7 @@ use sasi_schema::Table;
 use sasi_types::Names;
 use std::alloc::{AllocError, Global};
 
-/// Prints the rows that a query asks for, or refuses it.
+/// Prints the selected rows, or refuses the SELECT.
 pub fn query(
     alloc: Global,
     table: &Table,
@@ -41,7 +41,7 @@ pub fn query(
     }
 }
 
-// The columns that are asked for are columns of the table.
+// Checks that the selected names are columns of the table.
 fn check(alloc: Global, table: &Table, columns: &Option<Names>) -> Result<(), Fault>
     ensures { Answers told (select_rules table.now.name columns.now (Some (definition table.now))) result }
 {

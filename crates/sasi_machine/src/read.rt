@@ -1,4 +1,4 @@
-// Pieces, as they are read.
+// The parsing of pieces.
 ghost use Rattle.std.specs.Prelude.{◌≡◌, IfOk};
 ghost use Rattle.sasi_model.specs.Pieces.{Whole, piece_of};
 ghost use Rattle.sasi_model.specs.Refusals.{read};
@@ -9,7 +9,7 @@ use sasi_cql::{ParseFault, parse};
 use sasi_types::{PieceEnd, Statement};
 use std::alloc::{AllocError, Global};
 
-/// What a piece says.
+/// The content of a piece.
 #[derive(Drop)]
 pub enum Reading {
     /// A `;` alone.
@@ -18,7 +18,7 @@ pub enum Reading {
     Bad(Refusal),
 }
 
-/// What a piece says, whatever the tables are.
+/// Parses a piece, without a look at the tables.
 #[tactic(auto, unfolding(sasi_model::specs::Refusals::read))]
 pub fn read(alloc: Global, piece: &[u8], end: PieceEnd) -> Result<Reading, AllocError>
     ensures reads { IfOk result (λ reading. reading_of reading ≡ read (piece_of end piece.now)) }

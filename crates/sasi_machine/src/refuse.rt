@@ -10,7 +10,7 @@ use crate::fault::Fault;
 use crate::{Outcome, Refusal, Reply};
 use std::alloc::AllocError;
 
-/// Refuses a piece.
+/// Replies with a refusal.
 pub fn refuse(reply: &mut Reply, refusal: Refusal) -> Result<Outcome, AllocError>
     ensures reply { OnOk result (reply.new ≡ reply.old ++ refusal_line (refusal_of refusal)) }
     ensures outcome { IfOk result (λ outcome. outcome ≡ outcome_of (Some (refusal_of refusal))) }
@@ -19,7 +19,7 @@ pub fn refuse(reply: &mut Reply, refusal: Refusal) -> Result<Outcome, AllocError
     Ok(Outcome::Refused(refusal.number()))
 }
 
-/// Refuses a piece for a fault that isn't want of memory.
+/// Replies with the refusal of a fault; out of memory is handed on.
 pub fn refuse_fault(reply: &mut Reply, fault: Fault) -> Result<Outcome, AllocError>
     ensures { IfOk result (λ outcome. IsRefused (told fault) reply.old reply.new outcome) }
 {

@@ -1,4 +1,4 @@
-// The partitions of a table, in the order of their places.
+// The memtable of a table.
 ghost use Rattle.std.specs.Prelude.{◌≡◌, ◌++◌, ◌∷◌, [], length, unwrap_or, IfOk, OnOk, OnErr};
 ghost use Rattle.std.specs.BTreeMap.{IsOrdered};
 ghost use Rattle.std.specs.FinMap as map;
@@ -17,7 +17,8 @@ use std::alloc::{AllocError, Global};
 use std::collections::BTreeMap;
 use std::marker::Model;
 
-/// What a table holds: its partitions, seen as a finite map from their places, with the type of their keys.
+/// The memtable of a table: its partitions in the order of their decorated keys. Its model is a finite map, with the type of
+/// the keys.
 #[derive(Drop)]
 pub struct Rows {
     alloc: Global,
@@ -39,7 +40,7 @@ impl Model for Rows {
 }
 
 impl Rows {
-    /// No partitions; the keys are to be of this type.
+    /// The empty memtable for keys of this type.
     pub fn new(alloc: Global, kind: ColumnType) -> Rows
         ensures { result ≡ record { kind = kind; partitions = map.empty } }
     {
@@ -50,7 +51,7 @@ impl Rows {
         }
     }
 
-    /// Merges a change into the partition at a place. The key has to be a value of the type.
+    /// Merges a change into the partition of a key, which is a value of the type.
     pub fn merge(&mut self, place: Place, change: Partition) -> Result<(), AllocError>
         requires { IsStored self.old.kind place.key }
         ensures ok { OnOk result (self.new ≡ record self.old { partitions = map.insert self.old.partitions place (merge (unwrap_or (map.get self.old.partitions place) empty_partition) change) }) }
@@ -59,7 +60,7 @@ impl Rows {
         merge_at(self.alloc, &mut self.partitions, place, change)
     }
 
-    /// Prints the rows that are there, in the order of their places, and how many they are.
+    /// Prints the live rows in order, and their number.
     pub fn print(&self, picked: &Picked, reply: &mut Reply) -> Result<(), AllocError>
         requires { picked.now.key ≡ self.now.kind }
         ensures ok { OnOk result (reply.new ≡ reply.old ++ rows_lines (rows_picked self.now.kind picked.now.columns (map.entries self.now.partitions))) }
@@ -68,7 +69,7 @@ impl Rows {
     }
 }
 
-// The rows are printed as they stand in the tree, which is in the order of their places.
+// Prints the rows in the order of the tree, which is that of the decorated keys.
 fn print_entries(
     alloc: Global,
     partitions: &BTreeMap<Place, Partition>,
@@ -87,7 +88,7 @@ fn print_entries(
     reply.count(rows)
 }
 
-// Prints a row, if it is there, and gives how many that are.
+// Prints the row of a partition, and returns 1, or 0 for a partition without a live row.
 fn print_row(
     alloc: Global,
     place: &Place,

@@ -1,4 +1,4 @@
-// What the WHERE of an UPDATE or a DELETE says.
+// The WHERE of an UPDATE or a DELETE.
 use sasi_types::{Literal, Name};
 
 /// The WHERE of an UPDATE or a DELETE: the column has this value.

@@ -1,4 +1,4 @@
-// The times of writes.
+// The timestamps of writes.
 ghost use Rattle.std.specs.Prelude.{◌≡◌, ◌≤◌, IfOk};
 ghost use Rattle.sasi_model.specs.Refusals.{TIME_LIMIT as time_limit, is_time, time_rules};
 ghost use Rattle.sasi_types.specs.declared.literal.Number.TheVariants.{Fits};
@@ -10,10 +10,10 @@ use crate::Refusal;
 use crate::fault::Fault;
 use sasi_types::Number;
 
-/// The latest time of a write.
+/// The largest timestamp of a write.
 pub const TIME_LIMIT: u64 = 1 << 62;
 
-/// The time of a write: the one given, or one more than the greatest that is held.
+/// The timestamp of a write: the given one, or one more than the largest of the state.
 pub fn time_of(greatest: u64, time: Option<Number>) -> Result<u64, Fault>
     requires { greatest ≤ time_limit }
     ensures answers { Answers told (time_rules greatest time) result }

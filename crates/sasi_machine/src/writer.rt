@@ -1,4 +1,4 @@
-// The writes of statements to a table that is there: refused, or the change of a partition.
+// The mutations of statements on an existing table, or their refusals.
 ghost use Rattle.std.specs.Prelude.{◌≡◌, ◌≤◌, IfOk, Some, [], map};
 ghost use Rattle.std.specs.List.{zip};
 ghost use Rattle.sasi_types.specs.declared.statement.Statement.TheVariants.{Insert, Update, Delete};
@@ -20,16 +20,16 @@ use sasi_schema::Table;
 use sasi_types::{Literals, Names, Number, Sets};
 use std::alloc::Global;
 
-/// What the writes of a state go by.
+/// Makes the mutations of statements.
 #[derive(Clone, Copy)]
 pub struct Writer {
     pub alloc: Global,
-    /// The greatest time that the state holds.
+    /// The largest timestamp of the state.
     pub greatest: u64,
 }
 
 impl Writer {
-    /// The write of an INSERT.
+    /// The mutation of an INSERT.
     pub fn insert(
         &self,
         table: &Table,
@@ -48,7 +48,7 @@ impl Writer {
         self.insert_given(table, given, time)
     }
 
-    // The write of an INSERT that gives columns these literals.
+    // The mutation of an INSERT of these literals.
     fn insert_given(
         &self,
         table: &Table,
@@ -64,7 +64,7 @@ impl Writer {
         Ok(write_of_insert(self.alloc, table, time, given)?)
     }
 
-    /// The write of an UPDATE.
+    /// The mutation of an UPDATE.
     pub fn update(
         &self,
         table: &Table,
@@ -89,7 +89,7 @@ impl Writer {
         Ok(write_of_update(self.alloc, table, time, sets, key)?)
     }
 
-    /// The write of a DELETE.
+    /// The mutation of a DELETE.
     pub fn delete(
         &self,
         table: &Table,

@@ -21,7 +21,7 @@ use Rattle.sasi_manifest.specs.Naming.{IsName, IsFree, AreNames, AreApart}
 use Rattle.sasi_manifest.specs.Listings.{listed_names}
 use Rattle.sasi_manifest.specs.Forms.{Form, number, too_great, One, Two, Four, IsBetween, Broken, name_form, columns_form, start_form, create_form, edit_form, partitioner_of, GREATEST_PARTITIONER}
 use Rattle.sasi_manifest.specs.Misreads.{Misreads}
-use Rattle.sasi_manifest.specs.Carried.{misreads_carries, over_name, over_columns}
+use Rattle.sasi_manifest.proofs.Carried.{misreads_carries, over_name, over_columns}
 
 -- ---- the form of a table, from each of its fields on
 
@@ -40,35 +40,50 @@ named listing next table name = number Two 1 64 (counted listing next table name
 abbrev pub numbered : Listing → (Edit → Form) → ℕ → Form
 numbered listing next table = name_form (listed_names listing.tables) (named listing next table)
 
-pub over_tag : (m : Misread) (listing : Listing) (next : Edit → Form) (tag : ℕ) (old new : Reading) → tag < 2 ^ 8 → IsBetween 2 2 tag → Passes (tag ∷ []) old new → Misreads (create_form listing next) new m → Misreads (edit_form (Some listing) next) old m
+pub over_tag : (m : Misread) (listing : Listing) (next : Edit → Form) (tag : ℕ) (old new : Reading) → tag < 2 ^ 8 → IsBetween 2 2 tag
+    → Passes (tag ∷ []) old new → Misreads (create_form listing next) new m → Misreads (edit_form (Some listing) next) old m
 over_tag m listing next tag old new fits between passes found = (misreads_carries m).over_number One 2 2 (λ tag. create_form listing next) tag old new fits between passes found
 
-pub table_found : (m : Misread) (listing : Listing) (next : Edit → Form) (least greatest : ℕ) (old : Reading) → least ≡ length listing.tables + 1 → greatest ≡ min least 256 → ((then' : ℕ → Form) → Misreads (number Four least greatest then') old m) → Misreads (create_form listing next) old m
+pub table_found : (m : Misread) (listing : Listing) (next : Edit → Form) (least greatest : ℕ) (old : Reading)
+    → least ≡ length listing.tables + 1 → greatest ≡ min least 256
+    → ((then' : ℕ → Form) → Misreads (number Four least greatest then') old m) → Misreads (create_form listing next) old m
 table_found m listing next least greatest old is top found =
     let same : least ≡ suc (length listing.tables) = omega (arith, is) in
     subst (λ n. Misreads (number Four n (min n 256) (numbered listing next)) old m) same (subst (λ n. Misreads (number Four least n (numbered listing next)) old m) top (found (numbered listing next)))
 
-pub over_table : (m : Misread) (listing : Listing) (next : Edit → Form) (least greatest table : ℕ) (old new : Reading) → least ≡ length listing.tables + 1 → greatest ≡ min least 256 → table < 2 ^ 32 → IsBetween least greatest table → Passes (to_be_bytes w32 table) old new
+pub over_table : (m : Misread) (listing : Listing) (next : Edit → Form) (least greatest table : ℕ) (old new : Reading)
+    → least ≡ length listing.tables + 1 → greatest ≡ min least 256 → table < 2 ^ 32 → IsBetween least greatest table → Passes
+    (to_be_bytes w32 table) old new
     → Misreads (numbered listing next table) new m → Misreads (create_form listing next) old m
 over_table m listing next least greatest table old new is top fits between passes found =
     (misreads_carries m).over_number Four (suc (length listing.tables)) (min (suc (length listing.tables)) 256) (numbered listing next) table old new fits
     (record { above = omega (arith, is, between.above); below = omega (arith, is, top, between.below) }) passes found
 
-pub over_table_name : (m : Misread) (listing : Listing) (next : Edit → Form) (table : ℕ) (name : Bytes) (old new : Reading) → IsName name → IsFree (listed_names listing.tables) name → Passes (name_bytes name) old new → Misreads (named listing next table name) new m → Misreads (numbered listing next table) old m
-over_table_name m listing next table name old new fits free passes found = over_name (λ form reading. Misreads form reading m) (misreads_carries m) (listed_names listing.tables) (named listing next table) name old new fits free passes found
+pub over_table_name : (m : Misread) (listing : Listing) (next : Edit → Form) (table : ℕ) (name : Bytes) (old new : Reading) → IsName name
+    → IsFree (listed_names listing.tables) name → Passes (name_bytes name) old new → Misreads (named listing next table name) new m
+    → Misreads (numbered listing next table) old m
+over_table_name m listing next table name old new fits free passes found =
+    over_name (λ form reading. Misreads form reading m) (misreads_carries m) (listed_names listing.tables)
+    (named listing next table) name old new fits free passes found
 
-pub over_count : (m : Misread) (listing : Listing) (next : Edit → Form) (table : ℕ) (name : Bytes) (count : ℕ) (old new : Reading) → count < 2 ^ 16 → IsBetween 1 64 count → Passes (to_be_bytes w16 count) old new → Misreads (counted listing next table name count) new m → Misreads (named listing next table name) old m
+pub over_count : (m : Misread) (listing : Listing) (next : Edit → Form) (table : ℕ) (name : Bytes) (count : ℕ) (old new : Reading)
+    → count < 2 ^ 16 → IsBetween 1 64 count → Passes (to_be_bytes w16 count) old new → Misreads
+    (counted listing next table name count) new m → Misreads (named listing next table name) old m
 over_count m listing next table name count old new fits between passes found = (misreads_carries m).over_number Two 1 64 (counted listing next table name) count old new fits between passes found
 
-pub over_all_columns : (m : Misread) (listing : Listing) (next : Edit → Form) (table : ℕ) (name : Bytes) (count : ℕ) (columns : List Column) (old new : Reading) → length columns ≡ count → AreNames (names_in columns) → AreApart [] (names_in columns) → Passes (column_bytes columns) old new
+pub over_all_columns : (m : Misread) (listing : Listing) (next : Edit → Form) (table : ℕ) (name : Bytes) (count : ℕ) (columns : List Column)
+    (old new : Reading) → length columns ≡ count → AreNames (names_in columns) → AreApart [] (names_in columns) → Passes
+    (column_bytes columns) old new
     → Misreads (columned listing next table name count columns) new m → Misreads (counted listing next table name count) old m
 over_all_columns m listing next table name count columns old new is names apart passes found =
     over_columns (λ form reading. Misreads form reading m) (misreads_carries m) columns 0 count [] (columned listing next table name count) old new (omega (arith, is)) names apart passes
     (subst (λ (l : List Column). Misreads (columned listing next table name count l) new m) (sym (append-nil columns)) found)
 
-pub over_key : (m : Misread) (listing : Listing) (next : Edit → Form) (table : ℕ) (name : Bytes) (count : ℕ) (columns : List Column) (key : ℕ) (old new : Reading) → key < 2 ^ 16 → IsBetween 0 (count - 1) key → Passes (to_be_bytes w16 key) old new
+pub over_key : (m : Misread) (listing : Listing) (next : Edit → Form) (table : ℕ) (name : Bytes) (count : ℕ) (columns : List Column)
+    (key : ℕ) (old new : Reading) → key < 2 ^ 16 → IsBetween 0 (count - 1) key → Passes (to_be_bytes w16 key) old new
     → Misreads (keyed listing next table name columns key) new m → Misreads (columned listing next table name count columns) old m
-over_key m listing next table name count columns key old new fits between passes found = (misreads_carries m).over_number Two 0 (count - 1) (keyed listing next table name columns) key old new fits between passes found
+over_key m listing next table name count columns key old new fits between passes found =
+    (misreads_carries m).over_number Two 0 (count - 1) (keyed listing next table name columns) key old new fits between passes found
 
 -- ---- the form of a start
 
@@ -81,17 +96,21 @@ floored next code floor = number Four 1 (2 ^ 32 - 1) (ended next code floor)
 abbrev pub coded : (Edit → Form) → ℕ → Form
 coded next code = number Four 1 (2 ^ 32 - 1) (floored next code)
 
-pub over_start_tag : (m : Misread) (next : Edit → Form) (tag : ℕ) (old new : Reading) → tag < 2 ^ 8 → IsBetween 1 1 tag → Passes (tag ∷ []) old new → Misreads (start_form next) new m → Misreads (edit_form None next) old m
+pub over_start_tag : (m : Misread) (next : Edit → Form) (tag : ℕ) (old new : Reading) → tag < 2 ^ 8 → IsBetween 1 1 tag → Passes
+    (tag ∷ []) old new → Misreads (start_form next) new m → Misreads (edit_form None next) old m
 over_start_tag m next tag old new fits between passes found = (misreads_carries m).over_number One 1 1 (λ tag. start_form next) tag old new fits between passes found
 
-pub over_code : (m : Misread) (next : Edit → Form) (code : ℕ) (old new : Reading) → code < 2 ^ 8 → IsBetween 0 GREATEST_PARTITIONER code → Passes (code ∷ []) old new → Misreads (coded next code) new m → Misreads (start_form next) old m
+pub over_code : (m : Misread) (next : Edit → Form) (code : ℕ) (old new : Reading) → code < 2 ^ 8 → IsBetween 0 GREATEST_PARTITIONER code
+    → Passes (code ∷ []) old new → Misreads (coded next code) new m → Misreads (start_form next) old m
 over_code m next code old new fits between passes found = (misreads_carries m).over_number One 0 GREATEST_PARTITIONER (coded next) code old new fits between passes found
 
-pub over_floor : (m : Misread) (next : Edit → Form) (code floor : ℕ) (old new : Reading) → floor < 2 ^ 32 → IsBetween 1 (2 ^ 32 - 1) floor → Passes (to_be_bytes w32 floor) old new → Misreads (floored next code floor) new m → Misreads (coded next code) old m
+pub over_floor : (m : Misread) (next : Edit → Form) (code floor : ℕ) (old new : Reading) → floor < 2 ^ 32 → IsBetween 1 (2 ^ 32 - 1) floor
+    → Passes (to_be_bytes w32 floor) old new → Misreads (floored next code floor) new m → Misreads (coded next code) old m
 over_floor m next code floor old new fits between passes found = (misreads_carries m).over_number Four 1 (2 ^ 32 - 1) (floored next code) floor old new fits between passes found
 
 -- a floor above the last
-pub floor_broken : (m : Misread) (next : Edit → Form) (code floor last at : ℕ) (seen : Bytes) (old mid new : Reading) → last < floor → last < 2 ^ 32 → IsBetween 1 (2 ^ 32 - 1) last → Passes (to_be_bytes w32 floor) old mid → Passes (to_be_bytes w32 last) mid new
+pub floor_broken : (m : Misread) (next : Edit → Form) (code floor last at : ℕ) (seen : Bytes) (old mid new : Reading) → last < floor
+    → last < 2 ^ 32 → IsBetween 1 (2 ^ 32 - 1) last → Passes (to_be_bytes w32 floor) old mid → Passes (to_be_bytes w32 last) mid new
     → at ≡ length old.done → seen ≡ to_be_bytes w32 floor → IsBroken rule.Number at seen m → Misreads (floored next code floor) mid m
 floor_broken m next code floor last at seen old mid new above fits between first second place is told =
     (misreads_carries m).over_number Four 1 (2 ^ 32 - 1) (ended next code floor) last mid new fits between second
@@ -107,4 +126,5 @@ floor_broken m next code floor last at seen old mid new above fits between first
     shown misread.OutOfMemory told = tt
     shown misread.NoEnd told = absurd told
     shown (misread.Broken broken at' seen') told =
-        ap (λ r. Broken r at' (seen_bytes seen')) told.0 ∙ ap (λ n. Broken rule.Number n (seen_bytes seen')) (told.1 ∙ sym spot) ∙ ap (λ (l : Bytes). Broken rule.Number (length new.done - 8) l) (told.2 ∙ is)
+        ap (λ r. Broken r at' (seen_bytes seen')) told.0 ∙ ap (λ n. Broken rule.Number n (seen_bytes seen')) (told.1 ∙ sym spot) ∙ ap
+        (λ (l : Bytes). Broken rule.Number (length new.done - 8) l) (told.2 ∙ is)

@@ -20,7 +20,7 @@ parts_free taken n name free =
     let both = no_either (list_any (same name) taken) (list_any (same name) (n ∷ [])) (rw (list_any-append (same name) taken (n ∷ [])) at free) in
     (both.0, (no_either (same name n) false both.1).0)
 
--- a name behind those that are taken is none of them
+-- a name after those that are taken is none of them
 free_at : (taken : List Bytes) (columns : List Column) (k : ℕ) → AreApart taken (names_in columns) → k < length columns → IsFree taken (name_or_none (column_at k columns))
 free_at taken [] k apart within = absurd (omega (arith, within))
 free_at taken (c ∷ cs) zero apart within = apart.0

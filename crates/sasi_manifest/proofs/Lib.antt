@@ -1,3 +1,6 @@
+pub mod Consistency
+pub mod Carried
+pub mod Laws
 pub mod TextSpots
 pub mod Growing
 pub mod Exits

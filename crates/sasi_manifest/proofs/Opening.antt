@@ -27,12 +27,12 @@ use Rattle.sasi_manifest.specs.declared.listing.Listing.{Listing}
 use Rattle.sasi_manifest.specs.declared.misread.Misread.{Misread}
 use Rattle.sasi_manifest.specs.declared.misread.Misread.TheVariants as misread
 use Rattle.sasi_manifest.specs.Listings.{after_all, counted, length_of}
-use Rattle.sasi_manifest.specs.Consistent.{record_consistent}
+use Rattle.sasi_manifest.proofs.Consistency.{record_consistent}
 use Rattle.sasi_manifest.specs.Format.{IsRecord, LeadsTo}
 use Rattle.sasi_manifest.specs.Forms.{Form, number, text, too_great, ends, size_of, field_of, Finding, NoEnd, Broken, Lacks, record_form, Width, One, Two, Four}
 use Rattle.sasi_manifest.specs.Misreads.{Misreads}
 use Rattle.sasi_manifest.specs.Damages.{IsShownBy, SparesManifests}
-use Rattle.sasi_manifest.specs.Laws.{leads_on, manifest_undamaged}
+use Rattle.sasi_manifest.proofs.Laws.{leads_on, manifest_undamaged}
 use Rattle.sasi_manifest.specs.Reading.{GoesOn, IsSpotWithin, IsTelling, ReadsWhole, ReadsListing, StandsWhereKept}
 use Rattle.sasi_manifest.proofs.Records.{sizes_stay, something_listed}
 use Rattle.sasi_manifest.proofs.Moments.{counted_sizes}
@@ -53,7 +53,14 @@ unfolding place_of
 lacks_within (number width least greatest next) at bytes found lacks =
     ⊎_elim (λ short. omega (arith, ap place_of short.1))
     (λ stands. ⊎_elim (λ out. omega (arith, ap place_of out.1))
-    (λ later. omega (arith, lacks_within (next stands.0) (at + size_of width) stands.1 found later.1, ap length stands.2.is, length-append (field_of width stands.0) stands.1, field_size width stands.0))
+    (λ later. omega (
+      arith,
+      lacks_within (next stands.0) (at + size_of width) stands.1 found later.1,
+      ap length stands.2.is,
+      length-append
+          (field_of width stands.0) stands.1,
+      field_size width stands.0,
+    ))
     stands.3)
     lacks
 lacks_within (text size taken next) at bytes found lacks =
@@ -65,7 +72,8 @@ lacks_within (text size taken next) at bytes found lacks =
 lacks_within (too_great before stated) at bytes found lacks = omega (arith, ap place_of lacks)
 lacks_within (ends from) at bytes found lacks = omega (arith, ap place_of lacks.1)
 
-pub misread_within : (from : Option Listing) (payload : Bytes) (most : ℕ) (m : Misread) → length payload ≤ most → Misreads (record_form from) (record { done = []; left = payload }) m → IsSpotWithin most m
+pub misread_within : (from : Option Listing) (payload : Bytes) (most : ℕ) (m : Misread) → length payload ≤ most → Misreads
+    (record_form from) (record { done = []; left = payload }) m → IsSpotWithin most m
 unfolding place_of
 misread_within from payload most misread.OutOfMemory short lacks = tt
 misread_within from payload most misread.NoEnd short lacks = tt
@@ -88,9 +96,13 @@ shown_at_gate a b n gated listed fault.Failed on shown = tt
 shown_at_gate a b n gated listed fault.OutOfMemory on shown = tt
 shown_at_gate a b n gated listed (fault.Damaged damage) on shown = λ bytes is.
     let read = on.reads bytes is in
-    inl (subst (λ (l : FileName). Shows l bytes damage) on.file (shown bytes read.done read.rest (still a b n gated listed bytes on is) (subst (λ (l : FileName). IsAtGate l bytes gated.at read.done read.rest) (sym on.file) read.at_gate)))
+    inl (subst (λ (l : FileName). Shows l bytes damage) on.file
+    (shown bytes read.done read.rest (still a b n gated listed bytes on is)
+    (subst (λ (l : FileName). IsAtGate l bytes gated.at read.done read.rest) (sym on.file) read.at_gate)))
 
-pub shown_inside : (a b : View) (n after : ℕ) (gated : Handle) (listed : Option Listing) (payload : Bytes) (f : ReadFault) → GoesOn a b n gated listed → ReadsGate b gated.file gated.at after true payload → OnDamage (IsTelling n (length_of listed - 1) listed payload) f → IsShownBy a n f
+pub shown_inside : (a b : View) (n after : ℕ) (gated : Handle) (listed : Option Listing) (payload : Bytes) (f : ReadFault)
+    → GoesOn a b n gated listed → ReadsGate b gated.file gated.at after true payload → OnDamage
+    (IsTelling n (length_of listed - 1) listed payload) f → IsShownBy a n f
 shown_inside a b n after gated listed payload fault.Failed on gate telling = tt
 shown_inside a b n after gated listed payload fault.OutOfMemory on gate telling = tt
 shown_inside a b n after gated listed payload (fault.Damaged damage) on gate telling = λ bytes is.
@@ -126,9 +138,13 @@ some_listed x (q ∷ qs) (y, is) (edits, whole, more) = some_listed (counted q (
 
 none_read : (from : Option Listing) (records : List Bytes) → LeadsTo from records None → records ≡ []
 none_read from [] leads = refl
-none_read from (p ∷ ps) (edits, whole, more) = absurd (some_listed (counted p (after_all from edits)) ps (counted_then p (after_all from edits) (something_listed from edits whole.apply whole.some)) more)
+none_read from (p ∷ ps) (edits, whole, more) =
+    absurd (some_listed (counted p (after_all from edits)) ps
+    (counted_then p (after_all from edits) (something_listed from edits whole.apply whole.some)) more)
 
-pub shown_empty : (a b : View) (n after : ℕ) (gated : Handle) (payload : Bytes) (damage : Damage) → GoesOn a b n gated None → ReadsGate b gated.file gated.at after false payload → damage.file ≡ manifest_name n → damage.at ≡ 16 → damage.rule ≡ Number → seen_bytes damage.seen ≡ 0 ∷ []
+pub shown_empty : (a b : View) (n after : ℕ) (gated : Handle) (payload : Bytes) (damage : Damage) → GoesOn a b n gated None
+    → ReadsGate b gated.file gated.at after false payload → damage.file ≡ manifest_name n → damage.at ≡ 16 → damage.rule ≡ Number
+    → seen_bytes damage.seen ≡ 0 ∷ []
     → IsShownBy a n (fault.Damaged damage)
 shown_empty a b n after gated payload damage on gate named place rule seen bytes is =
     let read = on.reads bytes is in
@@ -138,7 +154,8 @@ shown_empty a b n after gated payload damage on gate named place rule seen bytes
       named,
       inl (record {
         rest = read.rest;
-        gate_stands = subst (λ (l : List Bytes). IsAtGate (manifest_name n) bytes 16 l read.rest) (none_read None read.done read.leads) (subst (λ (k : ℕ). IsAtGate (manifest_name n) bytes k read.done read.rest) at read.at_gate);
+        gate_stands = subst (λ (l : List Bytes). IsAtGate (manifest_name n) bytes 16 l read.rest) (none_read None read.done read.leads)
+            (subst (λ (k : ℕ). IsAtGate (manifest_name n) bytes k read.done read.rest) at read.at_gate);
         closed = closed.1;
         rule_is = rule;
         place = place;
@@ -148,7 +165,9 @@ shown_empty a b n after gated payload damage on gate named place rule seen bytes
 
 -- ---- what was read
 
-pub goes_on_first : (a b : View) (n : ℕ) (file : FileName) (gated : Handle) → file ≡ manifest_name n → IsThere a (manifest_name n) → Begins a file gated.at → Changes Same a b → gated.at ≡ 16 → IsTrue gated.usable → gated.file ≡ file → a.disk_faults ≤ b.disk_faults → b.out_faults ≡ a.out_faults → GoesOn a b n gated None
+pub goes_on_first : (a b : View) (n : ℕ) (file : FileName) (gated : Handle) → file ≡ manifest_name n → IsThere a (manifest_name n)
+    → Begins a file gated.at → Changes Same a b → gated.at ≡ 16 → IsTrue gated.usable → gated.file ≡ file → a.disk_faults ≤ b.disk_faults
+    → b.out_faults ≡ a.out_faults → GoesOn a b n gated None
 goes_on_first a b n file gated named there begins same place usable of disk out = record {
   file = of ∙ named;
   usable = usable;
@@ -165,7 +184,9 @@ goes_on_first a b n file gated named there begins same place usable of disk out 
   consistent = tt;
 }
 
-pub goes_on_next : (a b c : View) (n : ℕ) (old new : Handle) (listed : Option Listing) (listing : Listing) (payload : Bytes) (edits : List Edit) → GoesOn a b n old listed → ReadsGate b old.file old.at new.at true payload → Changes Same b c → new.at ≡ old.at + (5 + length payload) → new.at ≤ 2 ^ 62 → new.file ≡ old.file → IsTrue new.usable
+pub goes_on_next : (a b c : View) (n : ℕ) (old new : Handle) (listed : Option Listing) (listing : Listing) (payload : Bytes)
+    (edits : List Edit) → GoesOn a b n old listed → ReadsGate b old.file old.at new.at true payload → Changes Same b c
+    → new.at ≡ old.at + (5 + length payload) → new.at ≤ 2 ^ 62 → new.file ≡ old.file → IsTrue new.usable
     → b.disk_faults ≤ c.disk_faults → c.out_faults ≡ b.out_faults → IsRecord listed payload edits → Some listing ≡ counted payload (after_all listed edits) → GoesOn a c n new (Some listing)
 goes_on_next a b c n old new listed listing payload edits on gate same place fits file usable disk out is made =
     let sizes = counted_sizes (after_all listed edits) payload listing made in
@@ -192,7 +213,8 @@ goes_on_next a b c n old new listed listing payload edits on gate same place fit
       consistent = record_consistent listed payload edits listing is.apply made on.consistent;
     }
 
-pub read_whole : (a b : View) (n after : ℕ) (gated : Handle) (listing : Listing) (payload : Bytes) → GoesOn a b n gated (Some listing) → ReadsGate b gated.file gated.at after false payload → ReadsWhole a n after listing
+pub read_whole : (a b : View) (n after : ℕ) (gated : Handle) (listing : Listing) (payload : Bytes) → GoesOn a b n gated (Some listing)
+    → ReadsGate b gated.file gated.at after false payload → ReadsWhole a n after listing
 read_whole a b n after gated listing payload on gate bytes told =
     let read = on.reads bytes told in
     let closed = gate bytes read.done read.rest (still a b n gated (Some listing) bytes on told) (subst (λ (l : FileName). IsAtGate l bytes gated.at read.done read.rest) (sym on.file) read.at_gate) in
@@ -206,14 +228,26 @@ reads_listing a n at listing whole bytes told =
 pub stands_where_kept : (a b : View) (n at : ℕ) (listing : Listing) → IsSound a → Changes Same a b → ReadsWhole a n at listing → StandsWhereKept a b n at listing
 stands_where_kept a b n at listing sound same whole bytes told kept =
     let read = whole bytes (kept_contents a (manifest_name n) bytes sound told kept) in
-    record { records = read.done; at_end = record { bytes = bytes; rest = read.rest; kept = kept_same a b (manifest_name n) bytes same kept; at_gate = read.at_gate; closed = read.closed }; builds = read.builds }
+    record {
+      records = read.done;
+      at_end = record {
+        bytes = bytes;
+        rest = read.rest;
+        kept = kept_same a b
+            (manifest_name n) bytes same kept;
+        at_gate = read.at_gate;
+        closed = read.closed;
+      };
+      builds = read.builds;
+    }
 
 pub spares : (v : View) (n : ℕ) (f : ReadFault) → IsShownBy v n f → SparesManifests v n f
 spares v n fault.Failed shown = tt
 spares v n fault.OutOfMemory shown = tt
 spares v n (fault.Damaged damage) shown = λ bytes listing told is. manifest_undamaged n bytes damage listing is (shown bytes told)
 
-pub tells_broken : (n before : ℕ) (from : Option Listing) (payload : Bytes) (m : Misread) (rule : FormatRule) (at : ℕ) (seen : Seen) (damage : Damage) → m ≡ misread.Broken rule at seen → Misreads (record_form from) (record { done = []; left = payload }) m
+pub tells_broken : (n before : ℕ) (from : Option Listing) (payload : Bytes) (m : Misread) (rule : FormatRule) (at : ℕ) (seen : Seen)
+    (damage : Damage) → m ≡ misread.Broken rule at seen → Misreads (record_form from) (record { done = []; left = payload }) m
     → damage.file ≡ manifest_name n → damage.rule ≡ rule → damage.at ≡ before + 5 + at → damage.seen ≡ seen → IsTelling n before from payload damage
 tells_broken n before from payload m rule at seen damage is lacks named broken place shown = record {
   named = named;

@@ -15,7 +15,7 @@ use Rattle.sasi_manifest.specs.Format.{IsRecord}
 use Rattle.sasi_manifest.specs.Forms.{Form, Four, IsBetween, edit_form, edits_form, record_form, NoEnd, Lacks}
 use Rattle.sasi_manifest.specs.Misreads.{Misreads}
 use Rattle.sasi_manifest.specs.Taken.{TakesEdits}
-use Rattle.sasi_manifest.specs.Carried.{misreads_carries, lacks_carries, over_edits}
+use Rattle.sasi_manifest.proofs.Carried.{misreads_carries, lacks_carries, over_edits}
 use Rattle.sasi_manifest.proofs.Growing.{passes_on}
 
 -- ---- one edit more
@@ -35,7 +35,9 @@ after_push from (e ∷ es) edit = after_push (after from e) es edit
 pub takes_none : (from : Option Listing) (reading : Reading) → TakesEdits from from 0 reading reading
 takes_none from reading = record { edits = []; many = refl; apply = tt; passes = record { next = refl; done = sym (append-nil reading.done) }; makes = refl }
 
-pub takes_push : (from listed to : Option Listing) (count : ℕ) (old new behind : Reading) (edit : Edit) → TakesEdits from listed count old new → Applies listed edit → Passes (edit_bytes edit) new behind → to ≡ after listed edit → TakesEdits from to (count + 1) old behind
+pub takes_push : (from listed to : Option Listing) (count : ℕ) (old new behind : Reading) (edit : Edit)
+    → TakesEdits from listed count old new → Applies listed edit → Passes (edit_bytes edit) new behind → to ≡ after listed edit
+    → TakesEdits from to (count + 1) old behind
 takes_push from listed to count old new behind edit takes applies passes is = record {
   edits = takes.edits ++ edit ∷ [];
   many = omega (arith, takes.many, length-append takes.edits (edit ∷ []));
@@ -45,7 +47,8 @@ takes_push from listed to count old new behind edit takes applies passes is = re
 }
 
 -- the next edit isn't read
-pub edit_misread : (from listed : Option Listing) (count turn : ℕ) (old new : Reading) (m : Misread) → turn < count → TakesEdits from listed turn old new → ((next : Edit → Form) → Misreads (edit_form listed next) new m) → Misreads (edits_form count from) old m
+pub edit_misread : (from listed : Option Listing) (count turn : ℕ) (old new : Reading) (m : Misread) → turn < count
+    → TakesEdits from listed turn old new → ((next : Edit → Form) → Misreads (edit_form listed next) new m) → Misreads (edits_form count from) old m
 edit_misread from listed count turn old new m more takes found =
     over_edits (λ form reading. Misreads form reading m) (misreads_carries m) takes.edits (suc (count - suc turn)) count from old new (omega (arith, more, takes.many)) takes.apply takes.passes
     (subst (λ (l : Option Listing). Misreads (edits_form (suc (count - suc turn)) l) new m) (sym takes.makes) (found (λ edit. edits_form (count - suc turn) (after listed edit))))
@@ -74,7 +77,9 @@ sizes_stay (Some listing) (Start p floor last ∷ es) all = absurd all.0
 sizes_stay (Some listing) (CreateTable n name columns key since ∷ es) all = sizes_stay _ es all.1
 
 -- the bytes of a record that was read
-pub record_read : (from to : Option Listing) (payload : Bytes) (count : ℕ) (mid new : Reading) → count < 2 ^ 32 → IsBetween 1 (2 ^ 32 - 1) count → Passes (to_be_bytes w32 count) (record { done = []; left = payload }) mid → (takes : TakesEdits from to count mid new) → new.left ≡ []
+pub record_read : (from to : Option Listing) (payload : Bytes) (count : ℕ) (mid new : Reading) → count < 2 ^ 32 → IsBetween 1
+    (2 ^ 32 - 1) count → Passes (to_be_bytes w32 count) (record { done = []; left = payload }) mid
+    → (takes : TakesEdits from to count mid new) → new.left ≡ []
     → IsRecord from payload takes.edits
 record_read from to payload count mid new fits between first takes ended = record {
   is =
@@ -86,19 +91,26 @@ record_read from to payload count mid new fits between first takes ended = recor
 }
 
 -- edits that aren't read
-pub edits_misread : (from : Option Listing) (payload : Bytes) (count : ℕ) (mid : Reading) (m : Misread) → count < 2 ^ 32 → IsBetween 1 (2 ^ 32 - 1) count → Passes (to_be_bytes w32 count) (record { done = []; left = payload }) mid → Misreads (edits_form count from) mid m
+pub edits_misread : (from : Option Listing) (payload : Bytes) (count : ℕ) (mid : Reading) (m : Misread) → count < 2 ^ 32 → IsBetween 1
+    (2 ^ 32 - 1) count → Passes (to_be_bytes w32 count) (record { done = []; left = payload }) mid → Misreads (edits_form count from) mid m
     → Misreads (record_form from) (record { done = []; left = payload }) m
-edits_misread from payload count mid m fits between first found = (misreads_carries m).over_number Four 1 (2 ^ 32 - 1) (λ count. edits_form count from) count (record { done = []; left = payload }) mid fits between first found
+edits_misread from payload count mid m fits between first found =
+    (misreads_carries m).over_number Four 1 (2 ^ 32 - 1) (λ count. edits_form count from) count
+    (record { done = []; left = payload }) mid fits between first found
 
--- bytes behind the last edit
-pub end_missed : (from to : Option Listing) (payload : Bytes) (count : ℕ) (mid new : Reading) → count < 2 ^ 32 → IsBetween 1 (2 ^ 32 - 1) count → Passes (to_be_bytes w32 count) (record { done = []; left = payload }) mid → TakesEdits from to count mid new → new.left ≢ []
+-- bytes after the last edit
+pub end_missed : (from to : Option Listing) (payload : Bytes) (count : ℕ) (mid new : Reading) → count < 2 ^ 32 → IsBetween 1
+    (2 ^ 32 - 1) count → Passes (to_be_bytes w32 count) (record { done = []; left = payload }) mid → TakesEdits from to count mid new → new.left ≢ []
     → Lacks (record_form from) 0 payload NoEnd
 end_missed from to payload count mid new fits between first takes more =
     (lacks_carries NoEnd).over_number Four 1 (2 ^ 32 - 1) (λ count. edits_form count from) count (record { done = []; left = payload }) mid fits between first
-    (over_edits (λ form reading. Lacks form (length reading.done) reading.left NoEnd) (lacks_carries NoEnd) takes.edits 0 count from mid new (omega (arith, takes.many)) takes.apply takes.passes (more, refl))
+    (over_edits (λ form reading. Lacks form (length reading.done) reading.left NoEnd) (lacks_carries NoEnd) takes.edits 0 count from mid new
+    (omega (arith, takes.many)) takes.apply takes.passes (more, refl))
 
 -- what is listed then
-pub record_counts : (from : Option Listing) (payload : Bytes) (listing made : Listing) (edits : List Edit) → after_all from edits ≡ Some listing → made ≡ record listing { records = listing.records + 1; length = listing.length + (5 + length payload) } → Some made ≡ counted payload (after_all from edits)
+pub record_counts : (from : Option Listing) (payload : Bytes) (listing made : Listing) (edits : List Edit)
+    → after_all from edits ≡ Some listing → made ≡ record listing
+    { records = listing.records + 1; length = listing.length + (5 + length payload) } → Some made ≡ counted payload (after_all from edits)
 record_counts from payload listing made edits listed is = ap Some is ∙ sym (ap (counted payload) listed)
 
 -- what a test for no bytes told

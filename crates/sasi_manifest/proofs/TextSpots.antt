@@ -16,7 +16,8 @@ pub not_open : (P : Type 0) (test : Bool) → IsTrue test ↔ P → test ≡ fal
 not_open P test means failed p = let e : test ≡ true = means.1 p in cc
 
 -- bytes were read that may not stand there
-pub text_broken : (old new : Reading) (name : Bytes) (taken : List Bytes) (next : Bytes → Form) (m : Misread) (at : ℕ) (seen : Bytes) → Passes (name_bytes name) old new → 1 ≤ length name → length name ≤ 48 → ¬ IsOpenName taken name
+pub text_broken : (old new : Reading) (name : Bytes) (taken : List Bytes) (next : Bytes → Form) (m : Misread) (at : ℕ) (seen : Bytes)
+    → Passes (name_bytes name) old new → 1 ≤ length name → length name ≤ 48 → ¬ IsOpenName taken name
     → IsBroken rule.Text at seen m → seen ≡ take 8 name → at ≡ length new.done - length name → Misreads (name_form taken next) old m
 text_broken old new name taken next misread.OutOfMemory at seen passes some short closed told shown place = tt
 text_broken old new name taken next misread.NoEnd at seen passes some short closed told shown place = absurd told

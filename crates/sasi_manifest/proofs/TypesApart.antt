@@ -1,4 +1,4 @@
--- The types of the columns in front of the key's and of those behind it are those of the regular columns.
+-- The types of the columns before the key's and of those after it are those of the regular columns.
 use Rattle.std.proofs.Common.{◌≡◌, ◌++◌, ℕ, zero, suc, List, [], ◌∷◌, take, drop, map, ap, refl}
 use Rattle.sasi_types.specs.declared.column.ColumnType.{ColumnType}
 use Rattle.sasi_model.specs.State.{Column}

@@ -1,4 +1,4 @@
--- Where a manifest breaks its format, and what it has there.
+-- Where a manifest breaks its format, and the bytes it has there.
 use Rattle.std.specs.Prelude.{◌≡◌, ◌⊎◌, ℕ, ◌+◌, List, [], ◌∷◌, length, Option, Some, None}
 use Rattle.std.specs.Int.{to_be_bytes, w32}
 use Rattle.sasi_host.specs.declared.damage.Damage.{Damage}
@@ -25,12 +25,13 @@ pub record IsEmpty (number : ℕ) (bytes : Bytes) (rule : FormatRule) (at : ℕ)
   pub place : at ≡ 16
   pub seen_is : seen ≡ 0 ∷ []
 
--- what is found of a record whose gate is at this place: one whose content doesn't have its length breaks the rule at the length
+-- the damage that a fault of the record after the gate at this offset is: a record of another length than its content
+-- breaks the rule on its length field
 abbrev pub IsTold : ℕ → Bytes → Finding → FormatRule → ℕ → Bytes → Type 0
 IsTold before payload NoEnd rule at seen = (rule ≡ Number) × (at ≡ before + 1) × (seen ≡ to_be_bytes w32 (length payload))
 IsTold before payload (Broken broken place found) rule at seen = (rule ≡ broken) × (at ≡ before + (5 + place)) × (seen ≡ found)
 
--- behind records that apply stands one that doesn't
+-- after records that apply comes one that doesn't
 pub record IsMisfit (number : ℕ) (bytes : Bytes) (rule : FormatRule) (at : ℕ) (seen : Bytes) : Type 0 where
   pub before : ℕ
   pub done : List Bytes
@@ -45,16 +46,16 @@ pub record IsMisfit (number : ℕ) (bytes : Bytes) (rule : FormatRule) (at : ℕ
   pub lacks : Lacks (record_form listed) 0 payload found
   pub told : IsTold before payload found rule at seen
 
--- the damage is that of the manifest of this number, which shows it: as a gated file, or in its records
+-- the manifest of this number has the damage: as a gated file, or in its records
 abbrev pub ShowsDamage : ℕ → Bytes → Damage → Type 0
 ShowsDamage number bytes damage =
     Shows (manifest_name number) bytes damage
     ⊎ ((damage.file ≡ manifest_name number) × (IsEmpty number bytes damage.rule damage.at (seen_bytes damage.seen) ⊎ IsMisfit number bytes damage.rule damage.at (seen_bytes damage.seen)))
 
--- damage is what the manifest shows as it reads
+-- reported damage is in the manifest as it reads
 abbrev pub IsShownBy : View → ℕ → ReadFault → Type 0
 IsShownBy v number = OnDamage (λ damage. (bytes : Bytes) → contents v (manifest_name number) ≡ Some bytes → ShowsDamage number bytes damage)
 
--- and no manifest is damaged
+-- a whole manifest is never reported as damaged
 abbrev pub SparesManifests : View → ℕ → ReadFault → Type 0
 SparesManifests v number = OnDamage (λ _. (bytes : Bytes) (listing : Listing) → contents v (manifest_name number) ≡ Some bytes → IsManifest number bytes listing → ⊥)

@@ -1,4 +1,4 @@
--- What a record of a manifest says, and its bytes.
+-- Edits of a manifest, and their bytes.
 use Rattle.std.specs.Prelude.{◌≡◌, ℕ, List, [], ◌∷◌, ◌++◌, length, refl}
 use Rattle.std.proofs.Common.{◌+◌, ◌∙◌, ap, length-append}
 use Rattle.std.specs.Int.{to_be_bytes, w16, w32}
@@ -23,7 +23,7 @@ type_code Int = 1
 type_code BigInt = 2
 type_code Uuid = 3
 
--- how many bytes it has, in one byte, and then these
+-- its length in one byte, then its bytes
 abbrev pub name_bytes : Bytes → Bytes
 name_bytes name = length name ∷ name
 
@@ -43,7 +43,7 @@ abbrev pub edits_bytes : List Edit → Bytes
 edits_bytes [] = []
 edits_bytes (edit ∷ edits) = edit_bytes edit ++ edits_bytes edits
 
--- a record: how many edits, and then these
+-- a record: the number of edits, then the edits
 unfoldable pub encoded : List Edit → Bytes
 encoded edits = to_be_bytes w32 (length edits) ++ edits_bytes edits
 
@@ -55,6 +55,6 @@ encoded_is edits = refl
 pub encoded_length : (edits : List Edit) → length (encoded edits) ≡ 4 + length (edits_bytes edits)
 encoded_length edits = ap length (encoded_is edits) ∙ length-append (to_be_bytes w32 (length edits)) (edits_bytes edits)
 
--- a start alone
+-- the record of a start alone
 pub start_length : (partitioner : Partitioner) (floor last : ℕ) → length (encoded (Start partitioner floor last ∷ [])) ≡ 14
 start_length partitioner floor last = encoded_length (Start partitioner floor last ∷ [])

@@ -14,7 +14,7 @@ pub record IsRecord (from : Option Listing) (payload : Bytes) (edits : List Edit
   pub few : length edits < 2 ^ 32
   pub apply : AllApply from edits
 
--- from what is listed, the records lead to this
+-- the records build the second listing from the first
 abbrev pub LeadsTo : Option Listing → List Bytes → Option Listing → Type 0
 LeadsTo from [] to = from ≡ to
 LeadsTo from (payload ∷ payloads) to = (edits : List Edit) × IsRecord from payload edits × LeadsTo (counted payload (after_all from edits)) payloads to
@@ -23,14 +23,14 @@ LeadsTo from (payload ∷ payloads) to = (edits : List Edit) × IsRecord from pa
 abbrev pub Builds : List Bytes → Listing → Type 0
 Builds records listing = LeadsTo None records (Some listing)
 
--- the bytes are the manifest of this number, and it lists this
+-- the bytes are the manifest of this number, with this listing
 abbrev pub IsManifest : ℕ → Bytes → Listing → Type 0
 IsManifest number bytes listing = (records : List Bytes) × IsGated (manifest_name number) bytes records × Builds records listing
 
--- what a manifest of one record lists: the same tables, and its own length
+-- the listing of a manifest that was written anew: the same tables, in one record
 abbrev pub IsRewritten : Listing → Listing → Type 0
 IsRewritten listing rewritten = Some rewritten ≡ counted (encoded (edits_of listing)) (after_all None (edits_of listing))
 
--- what a manifest lists after one more record of these edits
+-- the listing after one more record of these edits
 abbrev pub IsNext : Listing → List Edit → Listing → Type 0
 IsNext listing edits next = Some next ≡ counted (encoded edits) (after_all (Some listing) edits)

@@ -1,4 +1,4 @@
--- The fields of a record, each with what may stand there. What comes next depends on the fields before.
+-- The form of a record: its fields, each with its allowed values. The next field depends on the fields before.
 use Rattle.std.specs.Prelude.{◌≡◌, ◌≢◌, ◌⊎◌, ℕ, zero, suc, ◌+◌, ◌-◌, ◌^◌, ◌<◌, ◌≤◌, min, nat_lt, List, [], ◌∷◌, ◌++◌, length, take, Option, Some, None, if◌then◌else◌}
 use Rattle.std.specs.Int.{to_be_bytes, w16, w32}
 use Rattle.sasi_types.specs.declared.column.ColumnType.{ColumnType}
@@ -31,21 +31,21 @@ field_of One number = number ∷ []
 field_of Two number = to_be_bytes w16 number
 field_of Four number = to_be_bytes w32 number
 
--- its greatest number is below this
+-- its numbers are below this
 abbrev pub limit_of : Width → ℕ
 limit_of One = 2 ^ 8
 limit_of Two = 2 ^ 16
 limit_of Four = 2 ^ 32
 
--- the fields from one place of a record on
+-- the fields that are left of a record
 pub data Form : Type 0 where
-  -- a number of this width, from the least to the greatest, and then what it asks for
+  -- a number of this width within these bounds, and then the fields that depend on it
   number : Width → ℕ → ℕ → (ℕ → Form) → Form
-  -- so many bytes, a name that is none of these
+  -- a name of this many bytes, other than these
   text : ℕ → List Bytes → (Bytes → Form) → Form
-  -- the four bytes so many before this place hold this number, which is too great
+  -- the number that was read so many bytes before is too large
   too_great : ℕ → ℕ → Form
-  -- the end of the record, where this is listed
+  -- the end of the record, with this listing
   ends : Option Listing → Form
 
 -- ---- the form of a record
@@ -67,16 +67,16 @@ partitioner_of (suc n) = Murmur3
 abbrev pub name_form : List Bytes → (Bytes → Form) → Form
 name_form taken next = number One 1 48 (λ size. text size taken next)
 
--- so many columns: the name and the type of each
+-- this many columns: the name and the type of each
 abbrev pub columns_form : ℕ → List Bytes → (List Column → Form) → Form
 columns_form zero taken next = next []
 columns_form (suc count) taken next = name_form taken (λ name. number One 0 3 (λ code. columns_form count (taken ++ name ∷ []) (λ columns. next ((name, type_of code) ∷ columns))))
 
--- the fields of a start, behind its tag
+-- the fields of a start, after its tag
 abbrev pub start_form : (Edit → Form) → Form
 start_form next = number One 0 GREATEST_PARTITIONER (λ code. number Four 1 (2 ^ 32 - 1) (λ floor. number Four 1 (2 ^ 32 - 1) (λ last. if nat_lt last floor then too_great 8 floor else next (Start (partitioner_of code) floor last))))
 
--- the fields of a table that comes next, behind its tag
+-- the fields of the next table, after its tag
 abbrev pub create_form : Listing → (Edit → Form) → Form
 create_form listing next =
     number Four (suc (length listing.tables)) (min (suc (length listing.tables)) 256) (λ table. name_form (listed_names listing.tables) (λ name. number Two 1 64 (λ count. columns_form count [] (λ columns.
@@ -87,7 +87,7 @@ abbrev pub edit_form : Option Listing → (Edit → Form) → Form
 edit_form None next = number One 1 1 (λ tag. start_form next)
 edit_form (Some listing) next = number One 2 2 (λ tag. create_form listing next)
 
--- so many edits, and then the end
+-- this many edits, and then the end
 abbrev pub edits_form : ℕ → Option Listing → Form
 edits_form zero from = ends from
 edits_form (suc count) from = edit_form from (λ edit. edits_form count (after from edit))
@@ -103,7 +103,7 @@ pub record HasNumber (width : Width) (bytes : Bytes) (stated : ℕ) (rest : Byte
   pub is : bytes ≡ field_of width stated ++ rest
   pub fits : stated < limit_of width
 
--- the bytes begin with so many, and others follow
+-- the bytes begin with this name, and others follow
 pub record HasText (size : ℕ) (bytes name rest : Bytes) : Type 0 where
   pub is : bytes ≡ name ++ rest
   pub length_is : length name ≡ size
@@ -116,23 +116,23 @@ pub record IsOpenName (taken : List Bytes) (name : Bytes) : Type 0 where
   pub word : IsWord name
   pub free : IsFree taken name
 
--- the bytes have the form, and this is listed at their end
+-- the bytes have the form, and build up this listing
 abbrev pub Has : Form → Bytes → Option Listing → Type 0
 Has (number width least greatest next) bytes to = (stated : ℕ) × (rest : Bytes) × HasNumber width bytes stated rest × IsBetween least greatest stated × Has (next stated) rest to
 Has (text size taken next) bytes to = (name : Bytes) × (rest : Bytes) × HasText size bytes name rest × IsOpenName taken name × Has (next name) rest to
 Has (too_great before stated) bytes to = ⊥
 Has (ends from) bytes to = (bytes ≡ []) × (from ≡ to)
 
--- ---- what hasn't
+-- ---- what doesn't
 
--- what is found of bytes that don't have a form
+-- why bytes don't have a form
 pub data Finding : Type 0 where
-  -- they end too early, or go on behind the end
+  -- they end before the last field, or go on after it
   NoEnd : Finding
-  -- a rule is broken at this place, where these bytes stand
+  -- they break the rule at this offset, where they have these bytes
   Broken : FormatRule → ℕ → Bytes → Finding
 
--- from this place on the bytes don't have the form, and this is the first that is found of it
+-- the bytes at this offset don't have the form, and this is their first fault
 abbrev pub Lacks : Form → ℕ → Bytes → Finding → Type 0
 Lacks (number width least greatest next) at bytes found =
     ((length bytes < size_of width) × (found ≡ NoEnd))

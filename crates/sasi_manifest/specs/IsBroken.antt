@@ -1,4 +1,4 @@
--- A broken rule, as it is told.
+-- A broken rule, as a reader reports it.
 use Rattle.std.specs.Prelude.{◌≡◌, ℕ}
 use Rattle.sasi_host.specs.declared.damage.FormatRule.{FormatRule}
 use Rattle.sasi_host.specs.Names.{Bytes}
@@ -6,7 +6,7 @@ use Rattle.sasi_host.specs.Damages.{seen_bytes}
 use Rattle.sasi_manifest.specs.declared.misread.Misread.{Misread}
 use Rattle.sasi_manifest.specs.declared.misread.Misread.TheVariants.{OutOfMemory, NoEnd, Broken}
 
--- this rule, at this place, where these bytes stand
+-- this rule, at this offset, where these bytes are
 abbrev pub IsBroken : FormatRule → ℕ → Bytes → Misread → Type 0
 IsBroken rule at bytes OutOfMemory = ⊥
 IsBroken rule at bytes NoEnd = ⊥

@@ -9,9 +9,7 @@ pub mod Types
 pub mod Forms
 pub mod IsBroken
 pub mod Misreads
-pub mod Carried
 pub mod Taken
 pub mod Damages
 pub mod Standing
 pub mod Reading
-pub mod Laws

@@ -5,10 +5,10 @@ use Rattle.std.proofs.Common.{refl}
 use Rattle.sasi_model.specs.State.{Definition}
 use Rattle.sasi_model.specs.Codes.{coded_definition}
 
--- its number is its place in the listing, from 1
+-- its number is its position in the listing, from 1
 pub record Listed : Type 0 where
   pub definition : Definition
-  -- its records stand in segments of the log from this one on
+  -- the first segment of the log that can have mutations of it
   pub since : ℕ
 
 abbrev pub listed_code : Coded Listed

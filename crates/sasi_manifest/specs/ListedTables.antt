@@ -1,4 +1,4 @@
--- Listed tables, as they are held.
+-- The list of tables in memory.
 use Rattle.std.specs.Prelude.{◌≤◌, List, [], length, map}
 use Rattle.sasi_schema.specs.Defined.{definition}
 use Rattle.sasi_schema.specs.Numbers.{RisesFrom}
@@ -6,7 +6,7 @@ use Rattle.sasi_manifest.specs.declared.listed.ListedTable.{ListedTable}
 use Rattle.sasi_manifest.specs.Listed.{Listed}
 use Rattle.sasi_manifest.specs.Naming.{AreApart}
 
--- what is said of the table
+-- the model of a listed table
 abbrev pub listed : ListedTable → Listed
 listed t = record { definition = definition t.table; since = t.since }
 

@@ -1,4 +1,4 @@
--- What a manifest lists, and what edits make of it.
+-- The listing of a manifest, and the effect of edits on it.
 use Rattle.std.specs.Prelude.{◌≡◌, ℕ, suc, ◌+◌, ◌<◌, ◌≤◌, ◌^◌, List, [], ◌∷◌, ◌++◌, length, map, Option, Some, None}
 use Rattle.sasi_types.specs.declared.partitioner.Partitioner.{Partitioner}
 use Rattle.sasi_host.specs.Names.{Bytes}
@@ -41,19 +41,19 @@ pub record CanCreate (listing : Listing) (number : ℕ) (name : Bytes) (columns 
   pub since_within : since ≤ listing.last
   pub since_fits : since < 2 ^ 32
 
--- the edit may stand behind what is listed; nothing is listed before the first
+-- the edit may follow the listing; before the first edit there is none
 abbrev pub Applies : Option Listing → Edit → Type 0
 Applies None (Start partitioner floor last) = CanStart floor last
 Applies None (CreateTable number name columns key since) = ⊥
 Applies (Some listing) (Start partitioner floor last) = ⊥
 Applies (Some listing) (CreateTable number name columns key since) = CanCreate listing number name columns key since
 
--- an edit whose fields have the width that its bytes give them
+-- the fields of the edit fit their widths
 abbrev pub IsWritable : Edit → Type 0
 IsWritable (Start partitioner floor last) = Unit {0}
 IsWritable (CreateTable number name columns key since) = (length name ≤ 48) × (length columns ≤ 64) × AreNames (names_in columns)
 
--- no tables, before a record is counted; the header and the closed gate have 17 bytes
+-- no tables and no record yet; the header and the closed gate have 17 bytes
 abbrev pub started : Partitioner → ℕ → ℕ → Listing
 started partitioner floor last = record { partitioner = partitioner; floor = floor; last = last; records = 0; length = 17; tables = [] }
 
@@ -64,7 +64,7 @@ created name columns key since = record { definition = record { name = name; col
 abbrev pub with_table : Listed → Listing → Listing
 with_table table listing = record listing { tables = listing.tables ++ table ∷ [] }
 
--- what is listed after an edit
+-- the listing after an edit
 abbrev pub after : Option Listing → Edit → Option Listing
 after from (Start partitioner floor last) = Some (started partitioner floor last)
 after None (CreateTable number name columns key since) = None
@@ -79,12 +79,12 @@ abbrev pub after_all : Option Listing → List Edit → Option Listing
 after_all from [] = from
 after_all from (edit ∷ edits) = after_all (after from edit) edits
 
--- one record more, behind its gate and its length
+-- the listing counts one record more: its gate, its length and its payload
 abbrev pub counted : Bytes → Option Listing → Option Listing
 counted payload None = None
 counted payload (Some listing) = Some (record listing { records = listing.records + 1; length = listing.length + (5 + length payload) })
 
--- how many records there are, and how long the manifest is with them
+-- the number of records, and the length of the manifest
 abbrev pub records_of : Option Listing → ℕ
 records_of None = 0
 records_of (Some listing) = listing.records
@@ -93,12 +93,12 @@ abbrev pub length_of : Option Listing → ℕ
 length_of None = 17
 length_of (Some listing) = listing.length
 
--- ---- the first record of a manifest that lists the same
+-- ---- the record that builds up a listing anew
 
 abbrev pub create_edits : ℕ → List Listed → List Edit
 create_edits number [] = []
 create_edits number (t ∷ tables) = CreateTable number t.definition.name t.definition.columns t.definition.key t.since ∷ create_edits (suc number) tables
 
--- the start, and then its tables in order
+-- the start, then the tables in order
 abbrev pub edits_of : Listing → List Edit
 edits_of listing = Start listing.partitioner listing.floor listing.last ∷ create_edits 1 listing.tables

@@ -1,4 +1,4 @@
--- What a reader finds of a record that doesn't have its form.
+-- Faults of a record, against its form.
 use Rattle.std.specs.Prelude.{length}
 use Rattle.sasi_fields.specs.Reading.{Reading}
 use Rattle.sasi_host.specs.Damages.{seen_bytes}
@@ -6,7 +6,7 @@ use Rattle.sasi_manifest.specs.declared.misread.Misread.{Misread}
 use Rattle.sasi_manifest.specs.declared.misread.Misread.TheVariants as misread
 use Rattle.sasi_manifest.specs.Forms.{Form, NoEnd, Broken, Lacks}
 
--- what was found from where the reader stands; want of memory says nothing of the bytes
+-- the bytes that are left have this fault; out of memory says nothing of the bytes
 abbrev pub Misreads : Form → Reading → Misread → Type 0
 Misreads form reading misread.OutOfMemory = Unit {0}
 Misreads form reading misread.NoEnd = Lacks form (length reading.done) reading.left NoEnd

@@ -5,11 +5,11 @@ use Rattle.sasi_host.specs.Names.{Bytes}
 use Rattle.sasi_model.specs.Statements.{same}
 pub use Rattle.sasi_model.specs.Naming.{IsWord, IsName}
 
--- none of these is the name
+-- the name is none of these
 abbrev pub IsFree : List Bytes → Bytes → Type 0
 IsFree taken name = list_any (same name) taken ≡ false
 
--- none of the names is one of these, or another name before it
+-- the names differ from these and from one another
 abbrev pub AreApart : List Bytes → List Bytes → Type 0
 AreApart taken [] = Unit {0}
 AreApart taken (name ∷ names) = IsFree taken name × AreApart (taken ++ name ∷ []) names

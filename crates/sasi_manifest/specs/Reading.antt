@@ -1,4 +1,4 @@
--- What the reading of a manifest gives.
+-- What reading a manifest gives.
 use Rattle.std.specs.Prelude.{◌≡◌, ℕ, ◌+◌, ◌≤◌, ◌^◌, IsTrue, List, Option, Some, None}
 use Rattle.sasi_host.specs.declared.damage.Damage.{Damage}
 use Rattle.sasi_host.specs.Names.{Bytes, manifest_name}
@@ -18,27 +18,27 @@ use Rattle.sasi_manifest.specs.Forms.{Finding, Lacks, record_form}
 use Rattle.sasi_manifest.specs.Damages.{IsTold as IsToldOf}
 use Rattle.sasi_manifest.specs.Standing.{Stands}
 
--- the damage tells what the record behind the gate at this place lacks
+-- the damage is a fault of the record after the gate at this offset
 pub record IsTelling (number before : ℕ) (from : Option Listing) (payload : Bytes) (damage : Damage) : Type 0 where
   pub named : damage.file ≡ manifest_name number
   pub found : Finding
   pub lacks : Lacks (record_form from) 0 payload found
   pub told : IsToldOf before payload found damage.rule damage.at (seen_bytes damage.seen)
 
--- the place that was found is within so many bytes
+-- the offset of the fault is at most this
 abbrev pub IsSpotWithin : ℕ → Misread → Type 0
 IsSpotWithin size misread.OutOfMemory = Unit {0}
 IsSpotWithin size misread.NoEnd = Unit {0}
 IsSpotWithin size (misread.Broken rule at seen) = at ≤ size
 
--- the records before the gate at this place lead to what is listed
+-- the records before the gate at this offset build up this listing
 pub record IsReadTo (number : ℕ) (bytes : Bytes) (at : ℕ) (listed : Option Listing) : Type 0 where
   pub done : List Bytes
   pub rest : Bytes
   pub at_gate : IsAtGate (manifest_name number) bytes at done rest
   pub leads : LeadsTo None done listed
 
--- all records were read, and the closed gate stands at this place
+-- all records were read, and the closed gate is at this offset
 pub record IsReadWhole (number : ℕ) (bytes : Bytes) (at : ℕ) (listing : Listing) : Type 0 where
   pub done : List Bytes
   pub rest : Bytes
@@ -46,7 +46,7 @@ pub record IsReadWhole (number : ℕ) (bytes : Bytes) (at : ℕ) (listing : List
   pub closed : Closes rest
   pub builds : Builds done listing
 
--- the same of the manifest as it reads
+-- the same of the file as it reads
 abbrev pub ReadsTo : View → ℕ → ℕ → Option Listing → Type 0
 ReadsTo v number at listed = (bytes : Bytes) → contents v (manifest_name number) ≡ Some bytes → IsReadTo number bytes at listed
 
@@ -57,11 +57,11 @@ ReadsWhole v number at listing = (bytes : Bytes) → contents v (manifest_name n
 abbrev pub ReadsListing : View → ℕ → Listing → Type 0
 ReadsListing v number listing = (bytes : Bytes) → contents v (manifest_name number) ≡ Some bytes → IsManifest number bytes listing
 
--- and where each image has it alike, it stands
+-- where the file is durable, the manifest is durable too
 abbrev pub StandsWhereKept : View → View → ℕ → ℕ → Listing → Type 0
 StandsWhereKept old new number at listing = (bytes : Bytes) → IsTold old → IsKept old (manifest_name number) bytes → Stands new number at listing
 
--- a reading that goes on
+-- what holds while a manifest is read
 pub record GoesOn (a b : View) (number : ℕ) (gated : Handle) (listed : Option Listing) : Type 0 where
   pub file : gated.file ≡ manifest_name number
   pub usable : IsTrue gated.usable

@@ -6,7 +6,7 @@ use Rattle.sasi_manifest.specs.declared.listing.Listing.{Listing}
 use Rattle.sasi_manifest.specs.Edits.{edits_bytes}
 use Rattle.sasi_manifest.specs.Listings.{AllApply, after_all}
 
--- the reader has passed so many edits, which apply and make this of what was listed
+-- the reader has read this many edits, which apply and build the second listing from the first
 pub record TakesEdits (from to : Option Listing) (count : ℕ) (old new : Reading) : Type 0 where
   pub edits : List Edit
   pub many : length edits ≡ count

@@ -1,4 +1,4 @@
-// An append of edits to a manifest's file.
+// Appends edits to the file of a manifest.
 ghost use Rattle.std.specs.Prelude.{◌≡◌, ◌+◌, ◌≤◌, ◌^◌, ℕ, List, length, Some, IsTrue, is_ok, OnErr, OnOk};
 ghost use Rattle.sasi_host.specs.View.{ListCauses, Reaches};
 ghost use Rattle.sasi_host.specs.Disk.{Anyhow, Changes, LeftWith, Step};
@@ -15,7 +15,7 @@ use sasi_gated::Gated;
 use sasi_host::{Host, HostFault};
 use std::alloc::Global;
 
-// Appends the record of the edits, and lists what they make.
+// Appends the record of the edits, and applies them to the listing.
 pub fn append_edits<H: Host>(
     alloc: Global,
     host: &mut H,

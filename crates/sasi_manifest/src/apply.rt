@@ -1,4 +1,4 @@
-// What edits make of a listing.
+// The effect of edits on a listing.
 ghost use Rattle.std.specs.Prelude.{◌≡◌, ◌+◌, ◌<◌, ◌++◌, ◌∷◌, [], length, Some, IfOk};
 ghost use Rattle.sasi_schema.specs.Defined.{definition};
 ghost use Rattle.sasi_manifest.specs.Naming.{IsFree};
@@ -9,7 +9,7 @@ use sasi_schema::Table;
 use sasi_types::Partitioner;
 use std::alloc::{AllocError, Global};
 
-// What is listed after an edit.
+// Applies an edit to a listing; a manifest has none before its first edit.
 pub fn apply(alloc: Global, from: Option<Listing>, edit: &Edit) -> Result<Listing, AllocError>
     requires { Applies from edit.now }
     ensures { IfOk result (λ listing. Some listing ≡ after from edit.now) }
@@ -36,7 +36,7 @@ pub fn apply(alloc: Global, from: Option<Listing>, edit: &Edit) -> Result<Listin
     }
 }
 
-// No tables, before a record is counted.
+// The listing of a start: no tables, and no record yet.
 fn started(alloc: Global, partitioner: Partitioner, floor: u32, last: u32) -> Listing
     ensures { result ≡ started partitioner floor last }
 {

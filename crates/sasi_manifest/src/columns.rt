@@ -15,7 +15,7 @@ use sasi_fields::FieldReader;
 use sasi_types::{ColumnType, Columns};
 use std::alloc::Global;
 
-// So many columns, each of a name of its own.
+// Reads this many columns of different names.
 pub fn read_columns(alloc: Global, reader: &mut FieldReader, count: u16) -> Result<Columns, Misread>
     ensures ok { IfOk result (λ columns. Passes (column_bytes columns) reader.old reader.new) }
     ensures count { IfOk result (λ columns. length columns ≡ count) }
@@ -32,7 +32,7 @@ pub fn read_columns(alloc: Global, reader: &mut FieldReader, count: u16) -> Resu
     Ok(columns)
 }
 
-// The type of a column.
+// Reads the type of a column.
 fn read_type(reader: &mut FieldReader) -> Result<ColumnType, Misread>
     ensures ok { IfOk result (λ kind. Passes (type_code kind ∷ []) reader.old reader.new) }
     ensures misread { IfErr result (λ m. (next : ℕ → Form) → Misreads (number One 0 3 next) reader.old m) }

@@ -17,7 +17,7 @@ use sasi_gated::Gated;
 use sasi_host::{FileName, Host, HostFault};
 use std::alloc::Global;
 
-// A manifest's file in hand, and what it lists.
+// The open file of a manifest, and its listing.
 #[derive(Drop)]
 pub struct Opened {
     pub gated: Gated,

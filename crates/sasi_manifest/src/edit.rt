@@ -1,7 +1,7 @@
-// What a record of a manifest says.
+// Edits of a manifest.
 use sasi_types::{Columns, Name, Partitioner};
 
-/// A change of what a manifest lists.
+/// A change of the listing of a manifest.
 #[derive(Drop)]
 pub enum Edit {
     /// The first edit of a manifest: no tables, and the live segments of the log from `floor` to `last`.
@@ -10,8 +10,8 @@ pub enum Edit {
         floor: u32,
         last: u32,
     },
-    /// A table, behind the others. `key` is the place of the key column, and the table's records stand in the segments
-    /// from `since` on.
+    /// A table, after the others. `key` is the position of the key column, and `since` the first segment of the log that
+    /// can have mutations of the table.
     CreateTable {
         number: u32,
         name: Name,

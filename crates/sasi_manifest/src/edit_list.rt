@@ -48,7 +48,7 @@ impl EditList {
         Ok(())
     }
 
-    /// The length of their record, or the greatest number where it is longer.
+    /// The length of the payload of their record, or `u64::MAX` where it is longer.
     pub fn length(&self) -> u64
         ensures { result ≡ min (length (encoded self.now)) (2 ^ 64 - 1) }
     {

@@ -1,4 +1,4 @@
-// Numbers of a record that have to lie in a range.
+// Numbers of a record that have to be in a range.
 ghost use Rattle.std.specs.Prelude.{◌≡◌, ◌<◌, ◌^◌, ◌∷◌, [], ℕ, IfErr, IfOk};
 ghost use Rattle.std.specs.Int.{to_be_bytes, w16, w32};
 ghost use Rattle.sasi_fields.specs.Reading.{Passes};

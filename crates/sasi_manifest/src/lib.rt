@@ -1,6 +1,6 @@
-// Manifests: the files that say which tables there are, and which segments of the log are live. Each record is a list of
-// edits that take effect together, and the records build up one listing. It stands on gated files, and promises that a
-// crash leaves the former listing or the next.
+//! Manifests: the files that list the tables and the live segments of the commit log. Each record is a list of edits that
+//! take effect together, and the records build up one listing. It stands on gated files, and promises that a crash leaves
+//! the former listing or the next.
 #![tactic(auto)]
 
 mod append;
@@ -24,8 +24,6 @@ mod rewrite;
 mod seal;
 mod size;
 mod table_types;
-#[cfg(test)]
-mod tests;
 mod text;
 
 pub use edit::Edit;

@@ -13,11 +13,11 @@ use std::marker::Model;
 #[derive(Drop)]
 pub struct ListedTable {
     pub table: Table,
-    /// The table's records stand in the segments of the log from this one on.
+    /// The first segment of the log that can have mutations of the table.
     pub since: u32,
 }
 
-/// The tables that a manifest lists, in the order of their numbers, which are their places from 1.
+/// The tables that a manifest lists, numbered from 1 in their order.
 #[derive(Drop)]
 pub struct ListedTables {
     items: Vec<ListedTable>,
@@ -68,7 +68,7 @@ impl ListedTables {
         is_listed(name, &self.items)
     }
 
-    /// Adds a table behind the others.
+    /// Adds a table at the end.
     pub fn push(&mut self, table: Table, since: u32) -> Result<(), AllocError>
         requires number { table.number ≡ length self.old + 1 }
         requires few { length self.old < 256 }
@@ -90,7 +90,7 @@ impl ListedTables {
         &self.items
     }
 
-    /// The same tables once more.
+    /// A copy of the tables.
     pub fn copy(&self, alloc: Global) -> Result<ListedTables, AllocError>
         ensures { IfOk result (λ copy. copy ≡ self.now) }
     {

@@ -15,7 +15,7 @@ pub struct Listing {
     pub last: u32,
     /// How many records the manifest has.
     pub records: u64,
-    /// How many bytes it has, up to and with its closed gate.
+    /// The length of the manifest, its closed gate included.
     pub length: u64,
     pub tables: ListedTables,
 }
@@ -23,7 +23,7 @@ pub struct Listing {
 impl Listing {
     ghost use Rattle.sasi_manifest.specs.Types.{numbered_types};
 
-    /// What the manifest of a new folder lists: no tables, and one segment of the log. It has one record of 14 bytes.
+    /// The listing of a new folder: no tables, and one segment of the log. Its manifest has one record of 14 bytes.
     pub fn new(alloc: Global, partitioner: Partitioner) -> Listing
         ensures { result ≡ record { partitioner = partitioner; floor = 1; last = 1; records = 1; length = 36; tables = [] } }
     {
@@ -37,7 +37,7 @@ impl Listing {
         }
     }
 
-    /// The same once more.
+    /// A copy.
     pub fn copy(&self, alloc: Global) -> Result<Listing, AllocError>
         ensures { IfOk result (λ copy. copy ≡ self.now) }
     {

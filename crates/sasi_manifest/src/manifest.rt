@@ -1,4 +1,4 @@
-// A manifest in hand.
+// Open manifests.
 ghost use Rattle.std.specs.Prelude.{◌≡◌, ◌+◌, ◌≤◌, ◌^◌, [], length, None, Some, IsTrue, IfErr, IfOk, OnErr, OnOk, is_ok};
 ghost use Rattle.sasi_host.specs.View.{Holds, IsAbsent, IsThere, IsTold, ListCauses, Reaches, contents};
 ghost use Rattle.sasi_host.specs.Disk.{Anyhow, Changes, IsKept, LeftWith, Same, Step};
@@ -22,8 +22,7 @@ use sasi_host::{Host, HostFault, ReadFault};
 use std::alloc::Global;
 use std::marker::Model;
 
-/// A manifest, standing at its closed gate. Seen as its number, the place of that gate, whether it is usable, and what it
-/// lists.
+/// An open manifest. Its model is its number, the offset of its closed gate, whether it is usable, and its listing.
 #[derive(Drop)]
 pub struct Manifest {
     alloc: Global,
@@ -44,7 +43,7 @@ impl Model for Manifest {
 }
 
 impl Manifest {
-    /// What it lists.
+    /// Its listing.
     pub fn listing(&self) -> &Listing
         ensures listing { result.now ≡ self.now.listing }
         ensures consistent { IsConsistent self.now.listing }
@@ -59,15 +58,15 @@ impl Manifest {
         self.number
     }
 
-    /// Whether no call on it gave a fault.
+    /// Whether every call on it succeeded.
     pub fn is_usable(&self) -> bool
         ensures { result ≡ self.now.usable }
     {
         self.usable
     }
 
-    /// Makes a manifest of one record that lists the same, and its seal: the manifest's file is written and synced, and then
-    /// the seal is made and the folder synced.
+    /// Creates a manifest that has this listing in one record, and its seal. The file of the manifest is written and synced,
+    /// then the seal is created and the folder synced.
     pub fn create<H: Host>(
         alloc: Global,
         host: &mut H,
@@ -98,7 +97,7 @@ impl Manifest {
         })
     }
 
-    /// Opens a manifest: reads all its records, and stands at its closed gate.
+    /// Opens a manifest, and reads all its records.
     pub fn open<H: Host>(alloc: Global, host: &mut H, number: u32) -> Result<Manifest, ReadFault>
         requires { IsThere (H.view host.old) (manifest_name number) }
         ensures ok { IfOk result (λ m. ReadsListing (H.view host.old) number m.listing) }
@@ -121,7 +120,7 @@ impl Manifest {
         })
     }
 
-    /// Appends a record of the edits, which take effect together. What it lists stays after a fault.
+    /// Appends a record of the edits, which take effect together. After a fault the listing is unchanged.
     pub fn append<H: Host>(&mut self, host: &mut H, edits: &EditList) -> Result<(), HostFault>
         requires room { Reaches (H.view host.old) (manifest_name self.old.number) (self.old.at + 1) }
         requires usable { IsTrue self.old.usable }

@@ -6,13 +6,13 @@ ghost use Rattle.sasi_manifest.specs.IsBroken.{IsBroken};
 use sasi_host::{FormatRule, Seen};
 use std::alloc::AllocError;
 
-/// Why the content of a record isn't read.
+/// Why a record can't be decoded.
 #[derive(Clone, Copy)]
 pub enum Misread {
     OutOfMemory,
     /// The content doesn't have the length that the record states.
     NoEnd,
-    /// A rule is broken at this place of the payload, where these bytes stand.
+    /// The payload breaks this rule at this offset, where it has these bytes.
     Broken {
         rule: FormatRule,
         at: usize,
@@ -28,7 +28,7 @@ impl From<AllocError> for Misread {
     }
 }
 
-// A rule is broken at this place, where these bytes stand.
+// The payload breaks this rule at this offset, where it has these bytes.
 pub fn broken(rule: FormatRule, at: usize, bytes: &[u8]) -> Misread
     requires { length bytes.now ≤ 8 }
     ensures { IsBroken rule at bytes.now result }

@@ -20,7 +20,7 @@ pub fn is_listed(name: &[u8], tables: &[ListedTable]) -> bool
     false
 }
 
-// The same tables once more.
+// A copy of the tables.
 pub fn copies(alloc: Global, tables: &[ListedTable]) -> Result<Vec<ListedTable>, AllocError>
     ensures same { IfOk result (λ copies. map listed copies.items ≡ map listed tables.now) }
     ensures numbers { IfOk result (λ copies. map (λ t. t.table.number) copies.items ≡ map (λ t. t.table.number) tables.now) }

@@ -48,7 +48,7 @@ pub fn open_manifest<H: Host>(alloc: Global, host: &mut H, number: u32) -> Resul
     }
 }
 
-// What is listed after the record behind the gate where the listing ends.
+// Applies the record after the gate at the end of the listing.
 fn take_record(
     alloc: Global,
     number: u32,
@@ -70,7 +70,7 @@ fn take_record(
     }
 }
 
-// The place of the gate where the listing ends.
+// The offset of the gate at the end of the listing.
 fn end_of(listed: &Option<Listing>) -> u64
     requires { 1 ≤ length_of listed.now }
     ensures { result ≡ length_of listed.now - 1 }
@@ -81,7 +81,7 @@ fn end_of(listed: &Option<Listing>) -> u64
     }
 }
 
-// What was found of the record behind the gate at this place.
+// The fault of the record after the gate at this offset, with its offset in the file.
 fn told(number: u32, before: u64, payload: &[u8], misread: Misread) -> ReadFault
     requires place { before ≤ 2 ^ 62 + 1 }
     requires within { IsSpotWithin (2 ^ 62) misread }
@@ -107,7 +107,7 @@ fn told(number: u32, before: u64, payload: &[u8], misread: Misread) -> ReadFault
     }
 }
 
-// The first gate is closed.
+// The damage of a manifest without a record.
 fn empty(number: u32) -> Damage
     ensures file { result.file ≡ manifest_name number }
     ensures at { result.at ≡ 16 }

@@ -1,4 +1,4 @@
-// What an append writes, and what is listed after it.
+// The record that an append writes, and the listing after it.
 ghost use Rattle.std.specs.Prelude.{◌≡◌, ◌+◌, ◌≤◌, ◌<◌, ◌^◌, ◌++◌, length, Some, IfOk};
 ghost use Rattle.sasi_manifest.specs.Edits.{encoded};
 ghost use Rattle.sasi_manifest.specs.Listings.{AllApply, after_all, counted, length_of, records_of};
@@ -11,7 +11,7 @@ use sasi_fields::put_u32;
 use sasi_gated::Record;
 use std::alloc::{AllocError, Global};
 
-// The record of the edits, and what is listed after it.
+// The record of the edits, and the listing after it.
 #[derive(Drop)]
 pub struct Prepared {
     pub listing: Listing,
@@ -36,7 +36,7 @@ pub fn prepare(alloc: Global, from: Option<Listing>, edits: &[Edit]) -> Result<P
     Ok(Prepared { listing, record })
 }
 
-// Puts the record of the edits, and gives what is listed after them.
+// Encodes the edits, and applies them to the listing.
 #[tactic(auto, unfolding(crate::specs::Edits::encoded))]
 fn put_edits(
     alloc: Global,

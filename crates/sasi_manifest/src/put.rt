@@ -1,4 +1,4 @@
-// Edits put at the end of a payload.
+// The encoding of edits.
 ghost use Rattle.std.specs.Prelude.{◌≡◌, ◌++◌, ◌∷◌, ◌≤◌, [], length, OnOk};
 ghost use Rattle.std.specs.Int.{to_be_bytes, w16};
 ghost use Rattle.sasi_model.specs.Refusals.{names_in};
@@ -62,7 +62,7 @@ fn put_name(out: &mut Vec<u8>, name: &Name) -> Result<(), AllocError>
     put_bytes(out, bytes)
 }
 
-// How many columns there are, and then these.
+// Appends the number of columns, then each of them.
 fn put_columns(out: &mut Vec<u8>, columns: &[(Name, ColumnType)]) -> Result<(), AllocError>
     requires few { length columns.now ≤ 64 }
     requires names { AreNames (names_in columns.now) }

@@ -24,10 +24,10 @@ const TABLE_LIMIT: u32 = 256;
 // The most columns of a table.
 const COLUMN_LIMIT: u16 = 64;
 
-// The greatest byte that names a partitioner.
+// The largest byte that names a partitioner.
 const GREATEST_PARTITIONER: u8 = 1;
 
-// The next edit, which may stand behind what is listed.
+// Reads the next edit, which applies to the listing.
 pub fn read_edit(
     alloc: Global,
     reader: &mut FieldReader,
@@ -43,7 +43,7 @@ pub fn read_edit(
     }
 }
 
-// The first edit of a manifest.
+// Reads the first edit of a manifest.
 fn read_start(reader: &mut FieldReader) -> Result<Edit, Misread>
     ensures ok { IfOk result (λ edit. Passes (edit_bytes edit) reader.old reader.new) }
     ensures applies { IfOk result (Applies None) }
@@ -74,7 +74,7 @@ fn partitioner_named(code: u8) -> Partitioner
     }
 }
 
-// A table, behind the listed ones.
+// Reads the edit that adds a table after the listed ones.
 fn read_create(alloc: Global, reader: &mut FieldReader, listing: &Listing) -> Result<Edit, Misread>
     ensures ok { IfOk result (λ edit. Passes (edit_bytes edit) reader.old reader.new) }
     ensures applies { IfOk result (Applies (Some listing.now)) }

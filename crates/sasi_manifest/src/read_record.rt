@@ -15,7 +15,7 @@ use crate::read_edit::read_edit;
 use sasi_fields::FieldReader;
 use std::alloc::Global;
 
-// What is listed after the record with this payload.
+// Applies the record with this payload to the listing.
 pub fn read_record(
     alloc: Global,
     listed: Option<Listing>,
@@ -38,7 +38,7 @@ pub fn read_record(
     Ok(one_more(listing, payload.len() as u64))
 }
 
-// So many edits, which apply one after another.
+// Reads this many edits, and applies them one after another.
 fn read_edits(
     alloc: Global,
     reader: &mut FieldReader,
@@ -56,7 +56,7 @@ fn read_edits(
     Ok(listed)
 }
 
-// The listing with one more record, of so many bytes.
+// Counts one record more, whose payload has this size.
 pub fn one_more(mut listing: Listing, size: u64) -> Listing
     requires records { listing.records ≤ 2 ^ 62 }
     requires length { listing.length ≤ 2 ^ 62 + 1 }

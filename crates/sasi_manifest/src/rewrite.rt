@@ -1,11 +1,11 @@
-// The edits of a manifest that lists the same.
+// The edits that build up a listing anew.
 ghost use Rattle.std.specs.Prelude.{◌≡◌, IfOk};
 ghost use Rattle.sasi_manifest.specs.Listings.{edits_of};
 
 use crate::{Edit, Listing};
 use std::alloc::{AllocError, Global};
 
-// The start, and then the tables in order.
+// The start, then the tables in order.
 pub fn edits_of(alloc: Global, listing: &Listing) -> Result<Vec<Edit>, AllocError>
     ensures { IfOk result (λ edits. edits.items ≡ edits_of listing.now) }
 {

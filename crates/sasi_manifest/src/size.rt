@@ -1,11 +1,11 @@
-// How many bytes edits have in a record.
+// The length of a record of edits.
 ghost use Rattle.std.specs.Prelude.{◌≡◌, ◌+◌, ◌^◌, ◌-◌, min, length};
 ghost use Rattle.sasi_manifest.specs.Edits.{encoded, edit_bytes, column_bytes, edits_bytes};
 
 use crate::Edit;
 use sasi_types::{ColumnType, Name};
 
-// The length of the record of these edits, as far as a number holds it.
+// The length of the payload of their record, or `u64::MAX` where it is longer.
 #[tactic(auto, unfolding(crate::specs::Edits::encoded))]
 pub fn edits_size(edits: &[Edit]) -> u64
     ensures { result ≡ min (length (encoded edits.now)) (2 ^ 64 - 1) }

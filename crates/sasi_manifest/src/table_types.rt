@@ -35,7 +35,7 @@ fn types_of(alloc: Global, table: &Table) -> Result<TypeList, AllocError>
     Ok(types)
 }
 
-// The types of the columns at other places than the key's.
+// Adds the types of the columns other than the key.
 fn put_others(
     types: &mut TypeList,
     columns: &[(Name, ColumnType)],

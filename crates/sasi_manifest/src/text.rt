@@ -22,7 +22,7 @@ use std::alloc::Global;
 // The most bytes that a name has.
 const NAME_LIMIT: u8 = 48;
 
-// The bytes of a name, whatever they are.
+// Reads the bytes of a name, without looking at them.
 pub fn read_text<'a>(reader: &mut FieldReader<'a>) -> Result<&'a [u8], Misread>
     ensures ok { IfOk result (λ name. Passes (name_bytes name.now) reader.old reader.new) }
     ensures some { IfOk result (λ name. 1 ≤ length name.now) }
@@ -36,7 +36,7 @@ pub fn read_text<'a>(reader: &mut FieldReader<'a>) -> Result<&'a [u8], Misread>
     Ok(text)
 }
 
-// The name of a column, which none of the columns before it has.
+// Reads the name of a column, which no column before it has.
 pub fn read_column_name(
     alloc: Global,
     reader: &mut FieldReader,
@@ -55,7 +55,7 @@ pub fn read_column_name(
     Ok(Name::new(text.to_vec(alloc)?))
 }
 
-// The name of a table, which none of the listed ones has.
+// Reads the name of a table, which no listed table has.
 pub fn read_table_name(
     alloc: Global,
     reader: &mut FieldReader,
@@ -74,7 +74,7 @@ pub fn read_table_name(
     Ok(Name::new(text.to_vec(alloc)?))
 }
 
-// The first eight bytes, or all that there are.
+// The first eight bytes, or all of fewer.
 pub fn front(text: &[u8]) -> &[u8]
     ensures bytes { result.now ≡ take 8 text.now }
     ensures few { length result.now ≤ 8 }
@@ -82,14 +82,14 @@ pub fn front(text: &[u8]) -> &[u8]
     &text[..text.len().min(8)]
 }
 
-// Whether the text is a name that none of the columns has.
+// Whether the text is a name that no column has.
 fn is_open_column(text: &[u8], columns: &[(Name, ColumnType)]) -> bool
     ensures { IsTrue result ↔ IsOpenName (names_in columns.now) text.now }
 {
     is_word(text) && !is_column(text, columns)
 }
 
-// Whether the text is a name that none of the tables has.
+// Whether the text is a name that no table has.
 fn is_open_table(text: &[u8], tables: &ListedTables) -> bool
     ensures { IsTrue result ↔ IsOpenName (listed_names tables.now) text.now }
 {

@@ -49,7 +49,7 @@ integers : tokens (codes "0 -007 5a - 1--2") ≡ Integer (Fits (pos 0)) ∷ Inte
 unfolding is_gap lexeme uuid_in_front other_lexeme
 integers = refl
 
--- the greatest and the least of 128 bits, and one beyond each
+-- the largest and the smallest number of 128 bits, and one beyond each
 ends_of_128_bits : tokens (codes "170141183460469231731687303715884105727 170141183460469231731687303715884105728 -170141183460469231731687303715884105728 -170141183460469231731687303715884105729")
     ≡ Integer (Fits (pos 170141183460469231731687303715884105727)) ∷ Integer Wide ∷ Integer (Fits (negsuc 170141183460469231731687303715884105727)) ∷ Integer Wide ∷ []
 unfolding is_gap lexeme uuid_in_front other_lexeme

@@ -1,6 +1,6 @@
--- Cells and partitions. A cell is a time and a value, or a tombstone; of two cells of one column the newest counts. A
--- partition is what is written of one key: a deletion, which shadows every cell up to its time, and a cell for each column
--- that has one. Column 0 is the row marker. Merging takes the newest of everything, whatever came first.
+-- Cells and partitions. A cell is a timestamp with a value or a tombstone; of two cells of one column the newest wins. A
+-- partition is the content of one key: a deletion, which shadows each cell up to its timestamp, and at most one cell a
+-- column. Column 0 is the row marker. Merging keeps the newest deletion and cells, in whatever order they come.
 use Rattle.std.specs.Prelude.{◌≡◌, ℕ, Bool, false, ◌||◌, nat_le, max, if◌then◌else◌, List, [], ◌∷◌, ◌++◌, Option, None, Some, is_some}
 use Rattle.std.specs.declared.cmp.Ordering.{Ordering}
 use Rattle.std.specs.Ordering.{nat_cmp, ordering_then, is_lt}
@@ -19,7 +19,7 @@ value_cmp None (Some b) = nat_cmp 1 0
 value_cmp (Some a) None = nat_cmp 0 1
 value_cmp (Some a) (Some b) = slice_cmp nat_cmp (stored a) (stored b)
 
--- which of two cells is newer: by time, and then by value
+-- which of two cells is newer: by timestamp, then by value
 abbrev pub cell_cmp : Cell → Cell → Ordering
 cell_cmp a b = ordering_then (nat_cmp a.time b.time) (value_cmp a.value b.value)
 
@@ -33,19 +33,19 @@ newest_of (Some a) (Some b) = Some (newest a b)
 
 -- ---- partitions
 
--- the cells by their columns' numbers
+-- cells by the numbers of their columns
 abbrev pub Cells : Type 0
 Cells = map_.FinMap nat_cmp Cell
 
 pub record Partition : Type 0 where
-  -- the time of the deletion, 0 for none
+  -- the timestamp of the deletion, 0 for none
   pub deleted : ℕ
   pub cells : Cells
 
 abbrev pub empty_partition : Partition
 empty_partition = record { deleted = 0; cells = map_.empty }
 
--- a deletion at this time shadows the cell, if there is one
+-- the cell, unless a deletion with this timestamp shadows it
 abbrev pub unshadowed : ℕ → Option Cell → Option Cell
 unshadowed deleted None = None
 unshadowed deleted (Some cell) = if nat_le cell.time deleted then None else Some cell
@@ -54,7 +54,7 @@ unshadowed deleted (Some cell) = if nat_le cell.time deleted then None else Some
 abbrev pub IsNormal : Partition → Type 0
 IsNormal p = (column : ℕ) → unshadowed p.deleted (map_.get p.cells column) ≡ map_.get p.cells column
 
--- what two partitions have of a column, where a deletion at this time shadows
+-- the newest cell of a column in two partitions, unless a deletion with this timestamp shadows it
 abbrev pub merged_cell : ℕ → Partition → Partition → ℕ → Option Cell
 merged_cell deleted p q column = unshadowed deleted (newest_of (map_.get p.cells column) (map_.get q.cells column))
 
@@ -67,7 +67,7 @@ abbrev pub merged_cells : ℕ → Partition → Partition → List ℕ → List 
 merged_cells deleted p q [] = []
 merged_cells deleted p q (column ∷ columns) = with_cell column (merged_cell deleted p q column) (merged_cells deleted p q columns)
 
--- the greater deletion, and of each column the newest cell, unless that deletion shadows it
+-- the later deletion, and the newest cell of each column, unless that deletion shadows it
 unfoldable pub merge : Partition → Partition → Partition
 merge p q = record { deleted = max p.deleted q.deleted; cells = map_.from_entries (merged_cells (max p.deleted q.deleted) p q (map_.keys p.cells ++ map_.keys q.cells)) }
 
@@ -80,7 +80,7 @@ abbrev pub any_live : List Cell → Bool
 any_live [] = false
 any_live (cell ∷ cells) = is_live_cell cell || any_live cells
 
--- the row is there: its marker or another cell is live
+-- the row exists: its marker or another cell is live
 abbrev pub is_live : Partition → Bool
 is_live p = any_live (map_.values p.cells)
 
@@ -98,6 +98,6 @@ abbrev pub greatest_time : List Cell → ℕ
 greatest_time [] = 0
 greatest_time (cell ∷ cells) = max cell.time (greatest_time cells)
 
--- the greatest time of the deletion or a cell, 0 if there is none
+-- the largest timestamp of the deletion and the cells, 0 if there is none
 abbrev pub greatest_of : Partition → ℕ
 greatest_of p = max p.deleted (greatest_time (map_.values p.cells))

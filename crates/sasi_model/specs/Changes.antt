@@ -1,12 +1,12 @@
--- Changes of a state by the numbers of its tables, as a log keeps them: one more table, or a change that is merged into the
--- partition of a key.
+-- Changes of a state by the numbers of its tables, as the commit log has them: a new table, or a change that is merged into
+-- the partition of a key.
 use Rattle.std.specs.Prelude.{ℕ, zero, suc, List, [], ◌∷◌, ◌++◌}
 use Rattle.std.specs.FinMap as map_
 use Rattle.sasi_types.specs.declared.place.Place.{Place}
 use Rattle.sasi_model.specs.Cells.{Partition}
 use Rattle.sasi_model.specs.State.{Definition, State, Table, apply}
 
--- the table of this definition, with nothing in it
+-- the empty table of this definition
 abbrev pub empty_table : Definition → Table
 empty_table d = record { definition = d; partitions = map_.empty }
 
@@ -14,17 +14,17 @@ empty_table d = record { definition = d; partitions = map_.empty }
 abbrev pub with_new_table : State → Definition → State
 with_new_table s d = record { partitioner = s.partitioner; tables = s.tables ++ empty_table d ∷ [] }
 
--- the tables after a change at a place of the one that so many stand before
+-- the tables after a change of a partition of the table at this index
 abbrev pub changed_behind : ℕ → Place → Partition → List Table → List Table
 changed_behind before place change [] = []
 changed_behind zero place change (t ∷ ts) = apply place change t ∷ ts
 changed_behind (suc before) place change (t ∷ ts) = t ∷ changed_behind before place change ts
 
--- the tables after a change at a place of the one of this number, from 1
+-- the tables after a change of a partition of the table with this number, from 1
 abbrev pub changed_tables : ℕ → Place → Partition → List Table → List Table
 changed_tables zero place change ts = ts
 changed_tables (suc before) place change ts = changed_behind before place change ts
 
--- the state after a change at a place of the table of this number
+-- the state after a change of a partition of the table with this number
 abbrev pub after_change : State → ℕ → Place → Partition → State
 after_change s number place change = record { partitioner = s.partitioner; tables = changed_tables number place change s.tables }

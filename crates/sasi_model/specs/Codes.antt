@@ -1,4 +1,4 @@
--- How the values of the model are stored, by which a proof tells them apart. Nothing here says what a script means.
+-- Codes of values, by which proofs tell values apart. Nothing here says what a script means.
 use Rattle.std.specs.Prelude.{◌≡◌, ℕ, ℤ, pos, zero, suc, List, [], Option, refl}
 use Rattle.std.specs.FinMap as map_
 use Rattle.std.specs.Coded.{Coded, code_by, coded×, coded_ℕ, coded_ℤ, coded_list, coded_option}

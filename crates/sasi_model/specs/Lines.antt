@@ -1,5 +1,5 @@
--- The lines that are replied. A text is printed in single quotes with its quotes doubled, a number in decimal, a uuid
--- hyphenated in lower case, and a missing value as null.
+-- The lines of replies. A text is printed in single quotes with its quotes doubled, a number in decimal, a uuid with hyphens
+-- in lower case, and a missing value as null.
 use Rattle.std.specs.Prelude.{ℕ, ◌==◌, if◌then◌else◌, codes, List, [], ◌∷◌, ◌++◌, length, Option, None, Some}
 use Rattle.std.specs.List.{flat_map}
 use Rattle.std.specs.Fmt.{decimal, signed_decimal}

@@ -1,13 +1,13 @@
--- A script is bytes, and this module cuts it into pieces, one for each statement. A piece reaches to the next `;` that
--- stands outside strings, quoted names and comments; spaces and comments in front of it are not part of it. The
--- definitions look ahead: for each byte they say how many of the bytes behind it belong to what it opens.
+-- A script is a list of bytes, cut into pieces, one for each statement. A piece ends at the next `;` outside strings, quoted
+-- names and comments. Spaces and comments before it are no part of it. The definitions look ahead: for each byte they say
+-- how many bytes after it belong to the string, quoted name or comment that it opens.
 use Rattle.std.specs.Prelude.{◌++◌, ◌^◌, ℕ, zero, suc, Bool, true, false, ◌||◌, ◌&&◌, ◌==◌, nat_lt, if◌then◌else◌, List, [], ◌∷◌, length, map}
 use Rattle.sasi_types.specs.declared.piece.PieceEnd.{PieceEnd}
 use Rattle.sasi_types.specs.declared.piece.PieceEnd.TheVariants as ends
 
 -- ---- what a byte opens
 
--- how many bytes there are up to and with the first c, or all
+-- the number of bytes up to the first c, which counts too; all of them without a c
 abbrev pub to_byte : ℕ → List ℕ → ℕ
 to_byte c [] = 0
 to_byte c (b ∷ bs) = if b == c then 1 else suc (to_byte c bs)
@@ -21,7 +21,7 @@ abbrev pub behind_first : List ℕ → List ℕ
 behind_first [] = []
 behind_first (b ∷ bs) = bs
 
--- how many bytes there are up to and with the first `*/`, or all
+-- the number of bytes up to the first `*/`, which counts too; all of them without one
 abbrev pub to_close : List ℕ → ℕ
 to_close [] = 0
 to_close (b ∷ bs) = if b == 42 && starts 47 bs then 2 else suc (to_close bs)
@@ -31,7 +31,7 @@ abbrev pub closes : List ℕ → Bool
 closes [] = false
 closes (b ∷ bs) = (b == 42 && starts 47 bs) || closes bs
 
--- a byte and those behind it begin with `--` or `//`: a comment up to the end of the line
+-- a byte and those after it begin with `--` or `//`: a comment up to the end of the line
 abbrev pub is_line : ℕ → List ℕ → Bool
 is_line b behind = (b == 45 && starts 45 behind) || (b == 47 && starts 47 behind)
 
@@ -39,7 +39,7 @@ is_line b behind = (b == 45 && starts 45 behind) || (b == 47 && starts 47 behind
 abbrev pub is_block : ℕ → List ℕ → Bool
 is_block b behind = b == 47 && starts 42 behind
 
--- how many of the bytes behind a byte belong to the string, the quoted name or the comment that it opens
+-- the number of bytes after a byte that belong to the string, the quoted name or the comment that it opens
 abbrev pub opened_by : ℕ → List ℕ → ℕ
 opened_by b behind =
     if b == 39 then to_byte 39 behind
@@ -54,7 +54,7 @@ is_space b = b == 32 || b == 9 || b == 13 || b == 10
 
 -- ---- the cut
 
--- the pieces that end with their `;`, and the bytes of the one that the script ends in: none where nothing is left
+-- the pieces that end with their `;`, and the bytes after the last of them
 pub record Cut : Type 0 where
   pub whole : List (List ℕ)
   pub rest : List ℕ
@@ -63,16 +63,16 @@ abbrev pub joined : ℕ → List (List ℕ) → List ℕ → Cut
 joined b [] rest = record { whole = []; rest = b ∷ rest }
 joined b (p ∷ ps) rest = record { whole = (b ∷ p) ∷ ps; rest = rest }
 
--- with one more byte in front, which ends no piece
+-- with one more byte at the start, which ends no piece
 abbrev pub in_front : ℕ → Cut → Cut
 in_front b c = joined b c.whole c.rest
 
--- with a piece in front that this byte ends
+-- with one more piece at the start, which is this byte
 abbrev pub ended_by : ℕ → Cut → Cut
 ended_by b c = record { whole = (b ∷ []) ∷ c.whole; rest = c.rest }
 
--- The cut of bytes of which the first `inside` belong to a string, a quoted name or a comment. A piece has begun in front
--- of them, or none has. A `/*` that nothing closes is no comment: it begins a piece.
+-- The cut of bytes of which the first `inside` belong to a string, a quoted name or a comment. `begun` says that a piece has
+-- begun before them. A `/*` without a `*/` is no comment: it begins a piece.
 abbrev pub scan : Bool → ℕ → List ℕ → Cut
 scan begun inside [] = record { whole = []; rest = [] }
 scan true (suc inside) (b ∷ bs) = in_front b (scan true inside bs)
@@ -91,15 +91,15 @@ scan false zero (b ∷ bs) =
 abbrev pub PIECE_LIMIT : ℕ
 PIECE_LIMIT = 2 ^ 20
 
--- a piece with its text, or how it is none
+-- a piece with its text, or why it has none
 pub data Piece : Type 0 where
   Whole : List ℕ → Piece
-  -- more than 2^20 bytes; whether a `;` ends it, or the script
+  -- more than 2^20 bytes; true where a `;` ends it, false where the script does
   TooLong : Bool → Piece
   -- the script ends inside it
   Unfinished : Piece
 
--- the piece that ended so, with its text
+-- the piece with this end and this text
 abbrev pub piece_of : PieceEnd → List ℕ → Piece
 piece_of ends.Whole text = Whole text
 piece_of (ends.TooLong finished) text = TooLong finished
@@ -108,12 +108,12 @@ piece_of ends.Unfinished text = Unfinished
 abbrev pub whole_piece : List ℕ → Piece
 whole_piece text = if nat_lt PIECE_LIMIT (length text) then TooLong true else Whole text
 
--- of what is left behind the last `;`
+-- the piece of the bytes after the last `;`
 abbrev pub last_piece : List ℕ → List Piece
 last_piece [] = []
 last_piece (b ∷ bs) = (if nat_lt PIECE_LIMIT (length (b ∷ bs)) then TooLong false else Unfinished) ∷ []
 
--- the pieces of a script: those that end with a `;`, and the last, if anything is left
+-- the pieces of a script: those that end with a `;`, and at most one after them
 pub record Pieces : Type 0 where
   pub whole : List Piece
   pub last : List Piece

@@ -1,5 +1,5 @@
--- Which pieces are refused, and how. A piece is read first; then the rules of its statement are tried, and the first that
--- applies is the refusal. The rules stand in the order of their numbers, and those of one number in the order of the text.
+-- Which pieces are refused, and why. A piece is parsed first, then the rules of its statement are tried: the first rule that
+-- applies gives the refusal. Rules are in the order of their numbers, and those of one number in the order of the text.
 use Rattle.std.specs.Prelude.{ℕ, pos, negsuc, ◌-◌, ◌^◌, Bool, true, false, not, ◌==◌, nat_lt, nat_le, ◌||◌, ◌&&◌, if◌then◌else◌, List, [], ◌∷◌, ◌++◌, length, map, Option, None, Some, is_some}
 use Rattle.std.specs.List.{list_any, zip}
 use Rattle.std.specs.Prelude.{int_le}
@@ -56,7 +56,7 @@ TIME_LIMIT = 2 ^ 62
 
 -- ---- reading a piece
 
--- what a piece says, whatever the state
+-- the content of a piece, whatever the state
 pub data Reading : Type 0 where
   -- a `;` alone
   Nothing : Reading
@@ -83,7 +83,7 @@ abbrev pub first_of : List Rule → Option Refusal
 first_of [] = None
 first_of (rule ∷ others) = if rule.0 then Some rule.1 else first_of others
 
--- a name that stands in the list before
+-- a name that is in the list already
 abbrev pub repeat_rules : List (List ℕ) → List (List ℕ) → List Rule
 repeat_rules before [] = []
 repeat_rules before (name ∷ names) = (list_any (same name) before, ColumnRepeated name) ∷ repeat_rules (before ++ name ∷ []) names
@@ -103,7 +103,7 @@ abbrev pub is_null : Literal → Bool
 is_null Null = true
 is_null literal = false
 
--- a number of so many bits in two's complement, and one more for the sign
+-- the number fits this many bits and a sign, in two's complement
 abbrev pub is_within : ℕ → Number → Bool
 is_within bits (Fits z) = int_le (negsuc (2 ^ bits - 1)) z && int_le z (pos (2 ^ bits - 1))
 is_within bits Wide = false
@@ -134,7 +134,7 @@ typed_at d (Some place) = Some (type_or_text (column_at place d.columns))
 abbrev pub type_of_column : Definition → List ℕ → Option ColumnType
 type_of_column d name = typed_at d (place_in name d.columns)
 
--- a test of the literal, at a column that is there
+-- the test of the literal, if the column exists
 abbrev pub tests : (ColumnType → Literal → Bool) → Option ColumnType → Literal → Bool
 tests test None literal = false
 tests test (Some type) literal = test type literal
@@ -179,7 +179,7 @@ abbrev pub is_time : Number → Bool
 is_time (Fits z) = int_le (pos 1) z && int_le z (pos TIME_LIMIT)
 is_time Wide = false
 
--- the greatest time that the state holds is the first argument
+-- the first argument is the largest timestamp of the state
 abbrev pub time_rules : ℕ → Option Number → List Rule
 time_rules greatest None = (greatest == TIME_LIMIT, ClockSpent) ∷ []
 time_rules greatest (Some time) = (not (is_time time), TimestampRange) ∷ []
@@ -231,7 +231,7 @@ select_rules table columns None = (true, NoTable table) ∷ []
 select_rules table None (Some d) = []
 select_rules table (Some columns) (Some d) = map (no_column d) columns
 
--- the rules where these tables are there, and this is the greatest time that is held
+-- the rules for these tables and this largest timestamp of the state
 abbrev pub rules : List Definition → ℕ → Statement → List Rule
 rules tables greatest (CreateTable table columns keys) = create_rules tables table columns keys
 rules tables greatest (Insert table columns values time) = insert_rules greatest table columns (zip columns values) time (definition_of table tables)

@@ -1,5 +1,5 @@
--- What a script works on: tables in the order of their creation, each a finite map from keys to partitions. The map is
--- ordered by the tokens of the keys and then by their bytes, and this is the order of every answer.
+-- The state of a script: tables in the order of their creation, each a finite map from keys to partitions. The map is
+-- ordered by the tokens of the keys, then by their bytes. Every answer has this order.
 use Rattle.std.specs.Prelude.{ℕ, suc, max, ◌==◌, nat_lt, slice_get, map, List, [], ◌∷◌, Option, None, Some, if◌then◌else◌, unwrap_or}
 use Rattle.std.specs.FinMap as map_
 use Rattle.sasi_types.specs.declared.column.ColumnType.{ColumnType}
@@ -18,12 +18,12 @@ Column = List ℕ × ColumnType
 abbrev pub Partitions : Type 0
 Partitions = map_.FinMap place_cmp Partition
 
--- what a CREATE TABLE says of a table
+-- the definition of a table by a CREATE TABLE
 pub record Definition : Type 0 where
   pub name : List ℕ
   -- in declared order, the key column among them
   pub columns : List Column
-  -- the place of the key column, from 0
+  -- the position of the key column, from 0
   pub key : ℕ
 
 pub record Table : Type 0 where
@@ -53,7 +53,7 @@ abbrev pub table_of : List ℕ → List Table → Option Table
 table_of name [] = None
 table_of name (t ∷ ts) = if same t.definition.name name then Some t else table_of name ts
 
--- the tables, with this in the place of the table of that name
+-- the tables, with the table of that name changed
 abbrev pub with_table : List ℕ → (Table → Table) → List Table → List Table
 with_table name change [] = []
 with_table name change (t ∷ ts) = if same t.definition.name name then change t ∷ ts else t ∷ with_table name change ts
@@ -64,12 +64,12 @@ abbrev pub one_more : Option ℕ → Option ℕ
 one_more None = None
 one_more (Some n) = Some (suc n)
 
--- the place of the first column of that name, from 0
+-- the position of the first column of that name, from 0
 abbrev pub place_in : List ℕ → List Column → Option ℕ
 place_in name [] = None
 place_in name (column ∷ columns) = if same name column.0 then Some 0 else one_more (place_in name columns)
 
--- the number of the column at a place: 0 for the key, and the others from 1 in declared order, without the key
+-- the number of the column at a position: 0 for the key, and the others from 1 in declared order, without the key
 abbrev pub number_at : ℕ → ℕ → ℕ
 number_at key place = if place == key then 0 else if nat_lt place key then suc place else place
 
@@ -101,11 +101,11 @@ key_type d = type_or_text (column_at d.key d.columns)
 
 -- ---- partitions
 
--- where a key stands
+-- the decorated key: the token and the key
 abbrev pub place_of : Partitioner → List ℕ → Place
 place_of partitioner key = record { token = token_of partitioner key; key = key }
 
--- the table after a change at a place: the change is merged into what stands there
+-- the table after a change, which is merged into the partition of its key
 abbrev pub apply : Place → Partition → Table → Table
 apply place change t = record t { partitions = map_.insert t.partitions place (merge (unwrap_or (map_.get t.partitions place) empty_partition) change) }
 
@@ -119,6 +119,6 @@ abbrev pub greatest_among : List Table → ℕ
 greatest_among [] = 0
 greatest_among (t ∷ ts) = max (greatest_in (map_.values t.partitions)) (greatest_among ts)
 
--- the greatest time that the state holds, deletions included, and 0 if it holds none
+-- the largest timestamp of the state, deletions included, and 0 if there is none
 unfoldable pub greatest : State → ℕ
 greatest s = greatest_among s.tables

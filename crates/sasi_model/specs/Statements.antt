@@ -1,5 +1,5 @@
--- The grammar: which statement the tokens of a piece spell. It is a relation, with a line for each production; below it
--- stands a function that finds the statement, and a public contract says that the two agree.
+-- The grammar: which statement the tokens of a piece spell. It is a relation, with a line for each production. The function
+-- below it finds the statement, and a public contract says that the two agree.
 use Rattle.std.specs.Prelude.{◌≡◌, ◌≤◌, ℕ, zero, suc, Bool, true, false, not, ◌&&◌, ◌==◌, nat_eq, nat_le, if◌then◌else◌, codes, List, [], ◌∷◌, ◌++◌, length, Option, None, Some}
 use Rattle.std.specs.List.{flat_map, list_any}
 use Rattle.std.specs.Cmp.Lexicographic.{pointwise}
@@ -71,7 +71,7 @@ word letters = Word (codes letters)
 abbrev pub these : List Token → Phrase
 these wanted tokens = tokens ≡ wanted
 
--- one phrase behind another
+-- one phrase after another
 pub record Joined (first second : Phrase) (tokens : List Token) : Type 0 where
   pub front : List Token
   pub behind : List Token
@@ -112,10 +112,10 @@ using_time (Some number) = these (word "using" ∷ word "timestamp" ∷ []) then
 abbrev pub equation : List ℕ × Literal → Phrase
 equation given = name given.0 then these (Equal ∷ []) then literal given.1
 
--- what stands between the parentheses of a CREATE TABLE
+-- an item between the parentheses of a CREATE TABLE
 pub data Item : Type 0 where
   Column : List ℕ → ColumnType → Item
-  -- a column that PRIMARY KEY stands behind
+  -- a column with PRIMARY KEY
   KeyColumn : List ℕ → ColumnType → Item
   Key : List ℕ → Item
 
@@ -131,7 +131,7 @@ columns_of (Column column type) = (column, type) ∷ []
 columns_of (KeyColumn column type) = (column, type) ∷ []
 columns_of (Key key) = []
 
--- the name that an item says PRIMARY KEY of
+-- the name that an item makes the primary key
 abbrev pub keys_of : Item → List (List ℕ)
 keys_of (Column column type) = []
 keys_of (KeyColumn column type) = column ∷ []
@@ -210,13 +210,13 @@ same_token Equal Equal = true
 same_token Semicolon Semicolon = true
 same_token _ _ = false
 
--- what stands behind these tokens, if they are in front
+-- the rest after these tokens, if the list begins with them
 abbrev pub expect : List Token → List Token → Option (List Token)
 expect [] tokens = Some tokens
 expect (wanted ∷ others) [] = None
 expect (wanted ∷ others) (token ∷ tokens) = if same_token wanted token then expect others tokens else None
 
--- what was read, and the tokens behind it
+-- what was read, and the tokens after it
 pub record Read (A : Type 0) : Type 0 where
   pub value : A
   pub behind : List Token
@@ -229,11 +229,11 @@ abbrev pub read_one : {A : Type 0} → (Token → Option A) → List Token → O
 read_one value_of [] = None
 read_one value_of (token ∷ tokens) = value_of token >>= λ value. Some (record { value = value; behind = tokens })
 
--- with an item in front
+-- with an item at the start
 abbrev pub and_before : {A : Type 0} → A → Option (Read (List A)) → Option (Read (List A))
 and_before a others = read_as (λ behind. a ∷ behind) others
 
--- an item, and behind a comma the others
+-- an item, and after a comma the others
 abbrev pub and_others : {A : Type 0} → (List Token → Option (Read (List A))) → Read A → Option (Read (List A))
 and_others others first = when (expect (Comma ∷ []) first.behind) (λ behind. and_before first.value (others behind)) (Some (record { value = first.value ∷ []; behind = first.behind }))
 
@@ -269,7 +269,7 @@ read_key tokens = do
   behind ← expect (Close ∷ []) key.behind
   Some (record { value = Key key.value; behind = behind })
 
--- a column, of which PRIMARY KEY may be said
+-- a column, with PRIMARY KEY or without
 abbrev pub column_or_key : List ℕ → Read ColumnType → Option (Read Item)
 column_or_key column type =
     when (expect (word "primary" ∷ word "key" ∷ []) type.behind) (λ behind. Some (record { value = KeyColumn column type.value; behind = behind }))
@@ -295,7 +295,7 @@ abbrev pub ended : Statement → List Token → Option Statement
 ended statement [] = Some statement
 ended statement (token ∷ tokens) = None
 
--- ---- the function: the statements, behind their first words
+-- ---- the function: the statements, after their first words
 
 abbrev pub created : List ℕ → List Item → Option Statement
 created table items = if nat_le (length (flat_map keys_of items)) 1 then Some (CreateTable table (flat_map columns_of items) (flat_map keys_of items)) else None

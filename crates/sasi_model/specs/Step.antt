@@ -1,5 +1,5 @@
--- One piece after another: the state that it leaves, and the reply. A write is merged into what stands at its key, and a
--- refused piece leaves the state as it was.
+-- The step of one piece: the state after it, and the reply. A write is merged into the partition of its key. A refused piece
+-- leaves the state unchanged.
 use Rattle.std.specs.Prelude.{ℕ, ◌+◌, suc, zero, List, [], ◌∷◌, ◌++◌, length, map, Option, None, Some, unwrap_or, is_some, if◌then◌else◌}
 use Rattle.std.specs.List.{zip}
 use Rattle.std.specs.Int.{w32, w64, cast_signed, from_be_bytes}
@@ -48,13 +48,13 @@ stored_of (Some value) = stored value
 
 -- ---- what a write changes
 
--- the time of a write: the one given, or one more than the greatest that the state holds
+-- the timestamp of a write: the given one, or one more than the largest of the state
 abbrev pub time_of : ℕ → Option Number → ℕ
 time_of greatest None = greatest + 1
 time_of greatest (Some Wide) = 0
 time_of greatest (Some (Fits z)) = unsigned_abs z
 
--- the type of a column, of a name that may be none
+-- the type of a column; text for a name that no column has
 abbrev pub column_type : Definition → List ℕ → ColumnType
 column_type d name = unwrap_or (type_of_column d name) types.Text
 
@@ -90,7 +90,7 @@ abbrev pub key_literal : Definition → List (List ℕ × Literal) → Literal
 key_literal d [] = literals.Null
 key_literal d (given ∷ others) = if is_key_value d given.0 given.1 then given.1 else key_literal d others
 
--- where the row of a key literal stands
+-- the decorated key that a literal gives
 abbrev pub place_given : Partitioner → Definition → Literal → Place
 place_given partitioner d literal = place_of partitioner (stored_of (value_given (key_type d) literal))
 
@@ -109,12 +109,12 @@ abbrev pub numbers_of : Definition → List (List ℕ) → List ℕ
 numbers_of d [] = []
 numbers_of d (name ∷ names) = unwrap_or (number_of_column d name) 0 ∷ numbers_of d names
 
--- the numbers of the columns that are asked for: those named, or the key and then the others in declared order
+-- the numbers of the selected columns: those named, or the key and then the others in declared order
 abbrev pub columns_asked : Definition → Option (List (List ℕ)) → List ℕ
 columns_asked d None = count_up 0 (length d.columns)
 columns_asked d (Some names) = numbers_of d names
 
--- the rows that are there, in order
+-- the live rows, in order
 abbrev pub rows_among : Definition → List ℕ → List (Place × Partition) → List (List (Option Value))
 rows_among d numbers [] = []
 rows_among d numbers (entry ∷ entries) =
@@ -126,7 +126,7 @@ rows_answered columns (Some t) = rows_among t.definition (columns_asked t.defini
 
 -- ---- one statement
 
--- the table that a CREATE TABLE makes: its key column is the one that PRIMARY KEY is said of
+-- the table that a CREATE TABLE creates: its key column is the one with PRIMARY KEY
 abbrev pub key_place : List Column → List (List ℕ) → ℕ
 key_place columns [] = 0
 key_place columns (key ∷ keys) = unwrap_or (place_in key columns) 0
@@ -151,7 +151,7 @@ answer_of s statement = ok_line
 
 -- ---- one piece
 
--- what a piece leaves, what is replied, and the refusal if it is refused
+-- the state after a piece, its reply, and its refusal if it is refused
 pub record Stepped : Type 0 where
   pub state : State
   pub reply : List ℕ

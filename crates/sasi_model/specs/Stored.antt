@@ -1,5 +1,5 @@
--- What can be stored of a key: the ranges that the bytes of logs and data files have room for, and what they are in a
--- table, where the types of its columns say which bytes a key and a value have.
+-- Partitions that can be stored: the ranges that the formats of logs and data files allow, and in a table the types of its
+-- columns.
 use Rattle.std.specs.Prelude.{◌≡◌, ℕ, zero, suc, ◌^◌, ◌<◌, ◌≤◌, List, [], ◌∷◌, length, map, Some, IfSome, FitsSigned, slice_get}
 use Rattle.std.specs.Int.{w32, w64}
 use Rattle.std.specs.List.{AllByRecursion}
@@ -35,7 +35,7 @@ HasBytes (Uuid bytes) = length bytes ≡ 16
 abbrev pub HasCellBytes : Entry → Type 0
 HasCellBytes entry = IfSome entry.1.value HasBytes
 
--- a cell that no deletion at this time shadows; that of column 0, the row's marker, is an empty text
+-- a cell that no deletion with this timestamp shadows; the row's marker, in column 0, is an empty text
 pub record IsCell (deleted : ℕ) (entry : Entry) : Type 0 where
   pub column : entry.0 < 2 ^ 16
   pub above : deleted < entry.1.time
@@ -58,7 +58,7 @@ pub record HasBody (key : List ℕ) (part : Partition) : Type 0 where
 
 -- ---- in a table
 
--- the types of the regular columns, which are those at other places than the key's
+-- the types of the regular columns, which are all but the key
 abbrev pub regular_types : ℕ → List Column → List ColumnType
 regular_types key [] = []
 regular_types zero (column ∷ columns) = map (λ c. c.1) columns
@@ -68,14 +68,14 @@ regular_types (suc key) (column ∷ columns) = column.1 ∷ regular_types key co
 abbrev pub types_of : Definition → List ColumnType
 types_of d = key_type d ∷ regular_types d.key d.columns
 
--- the bytes stand for a value of the type
+-- the bytes are those of a value of the type
 abbrev pub IsValueOf : ColumnType → List ℕ → Type 0
 IsValueOf types.Text bytes = IsUtf8 bytes
 IsValueOf types.Int bytes = length bytes ≡ 4
 IsValueOf types.BigInt bytes = length bytes ≡ 8
 IsValueOf types.Uuid bytes = length bytes ≡ 16
 
--- the bytes stand for a value of the column that the list has at this place
+-- the bytes are those of a value of the type at this position of the list
 pub record IsTypedAt (types : List ColumnType) (place : ℕ) (bytes : List ℕ) : Type 0 where
   pub type : ColumnType
   pub listed : slice_get types place ≡ Some type

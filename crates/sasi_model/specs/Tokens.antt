@@ -1,6 +1,6 @@
 -- The text of a piece as a list of tokens: words, names, literals and signs, with spaces and comments between them. As
--- with pieces, the definitions look ahead: for each token they say how many of the bytes behind its first belong to it. A
--- byte that begins no token is the token Unknown, which no statement has.
+-- with pieces, the definitions look ahead: for each token they say how many bytes after its first belong to it. A byte
+-- that begins no token is the token Unknown, which no statement has.
 use Rattle.std.specs.Prelude.{◌+◌, ◌-◌, ◌*◌, ◌^◌, ℕ, zero, suc, Bool, false, ◌||◌, ◌&&◌, ◌==◌, nat_lt, nat_le, if◌then◌else◌, pos, neg_ℤ, List, [], ◌∷◌, take, drop, map, Option, None, Some}
 use Rattle.std.specs.List.{prefix_len}
 use Rattle.uuid.specs.Text.{parsed_hyphenated}
@@ -9,11 +9,11 @@ use Rattle.sasi_types.specs.declared.literal.Number.TheVariants.{Fits, Wide}
 use Rattle.sasi_model.specs.Pieces.{is_space, is_line, is_block, closes, opened_by, starts, behind_first}
 
 pub data Token : Type 0 where
-  -- a letter, and the letters, digits and `_` behind it, in lower case
+  -- a letter, and the letters, digits and `_` after it, in lower case
   Word : List ℕ → Token
-  -- what stands between double quotes, in its own case
+  -- the text between double quotes, in its own case
   QuotedName : List ℕ → Token
-  -- what stands between single quotes, a doubled one taken once
+  -- the text between single quotes, with doubled quotes made single
   Quoted : List ℕ → Token
   Integer : Number → Token
   -- by its sixteen bytes
@@ -26,7 +26,7 @@ pub data Token : Type 0 where
   Semicolon : Token
   Unknown : Token
 
--- a token, and how many of the bytes behind its first belong to it
+-- a token, and how many of the bytes after its first belong to it
 pub record Lexeme : Type 0 where
   pub token : Token
   pub inside : ℕ
@@ -52,7 +52,7 @@ lower_byte b = if is_upper b then b + 32 else b
 abbrev pub lower : List ℕ → List ℕ
 lower word = map lower_byte word
 
--- how many bytes in front are letters, digits or `_`
+-- the number of letters, digits and `_` at the start
 abbrev pub word_on : List ℕ → ℕ
 word_on behind = prefix_len is_word_byte behind
 
@@ -70,7 +70,7 @@ name_lexeme behind =
 
 -- ---- strings
 
--- a string behind its opening quote: its text, and how many bytes it has with the closing quote
+-- a string after its opening quote: its text, and how many bytes it has with the closing quote
 pub record QuotedText : Type 0 where
   pub text : List ℕ
   pub size : ℕ
@@ -93,7 +93,7 @@ string_lexeme (Some q) = record { token = Quoted q.text; inside = q.size }
 
 -- ---- integers
 
--- the value of decimal digits that stand behind those of n
+-- the value of decimal digits that follow those of n
 abbrev pub decimal_on : ℕ → List ℕ → ℕ
 decimal_on n [] = n
 decimal_on n (b ∷ bs) = decimal_on (10 * n + (b - 48)) bs
@@ -111,31 +111,31 @@ positive n = if nat_lt n NUMBER_LIMIT then Fits (pos n) else Wide
 abbrev pub negative : ℕ → Number
 negative n = if nat_le n NUMBER_LIMIT then Fits (neg_ℤ (pos n)) else Wide
 
--- how many bytes in front are digits
+-- the number of digits at the start
 abbrev pub digits_on : List ℕ → ℕ
 digits_on behind = prefix_len is_digit behind
 
 abbrev pub positive_lexeme : ℕ → List ℕ → Lexeme
 positive_lexeme b behind = record { token = Integer (positive (decimal (b ∷ take (digits_on behind) behind))); inside = digits_on behind }
 
--- behind its `-`
+-- after its `-`
 abbrev pub negative_lexeme : List ℕ → Lexeme
 negative_lexeme behind = record { token = Integer (negative (decimal (take (digits_on behind) behind))); inside = digits_on behind }
 
 -- ---- uuids
 
--- a letter, a digit or `_` is in front
+-- the first byte is a letter, a digit or `_`
 abbrev pub starts_word : List ℕ → Bool
 starts_word [] = false
 starts_word (b ∷ bs) = is_word_byte b
 
--- the sixteen bytes of the uuid in front: 8-4-4-4-12 hexadecimal digits, with nothing of a word behind them
+-- the sixteen bytes of the uuid at the start: 8-4-4-4-12 hexadecimal digits, and then no letter, digit or `_`
 unfoldable pub uuid_in_front : List ℕ → Option (List ℕ)
 uuid_in_front bytes = if starts_word (drop 36 bytes) then None else parsed_hyphenated (take 36 bytes)
 
 -- ---- the tokens
 
--- what a sign stands for
+-- the token of a sign
 abbrev pub sign : ℕ → Token
 sign b =
     if b == 40 then Open
@@ -150,7 +150,7 @@ abbrev pub starts_digit : List ℕ → Bool
 starts_digit [] = false
 starts_digit (b ∷ bs) = is_digit b
 
--- the token of a byte and those behind it, where it is no uuid
+-- the token of a byte and those after it, where it is no uuid
 unfoldable pub other_lexeme : ℕ → List ℕ → Lexeme
 other_lexeme b behind =
     if is_letter b then word_lexeme b behind
@@ -168,11 +168,11 @@ lexeme_or (Some bytes) other = record { token = Uuid bytes; inside = 35 }
 unfoldable pub lexeme : ℕ → List ℕ → Lexeme
 lexeme b behind = lexeme_or (uuid_in_front (b ∷ behind)) (other_lexeme b behind)
 
--- a byte and those behind it are no token: it is a space, or begins a comment. A `/*` that nothing closes is none
+-- the byte is a space or begins a comment. A `/*` without a `*/` is no comment
 unfoldable pub is_gap : ℕ → List ℕ → Bool
 is_gap b behind = is_space b || is_line b behind || (is_block b behind && closes (behind_first behind))
 
--- the tokens of bytes of which the first `inside` belong to the token or the comment in front of them
+-- the tokens of bytes of which the first `inside` belong to the token or the comment before them
 abbrev pub tokens_from : ℕ → List ℕ → List Token
 tokens_from inside [] = []
 tokens_from (suc inside) (b ∷ bs) = tokens_from inside bs

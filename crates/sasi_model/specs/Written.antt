@@ -1,4 +1,4 @@
--- What a statement holds that stands in a text: names that are names, texts that are UTF-8, and uuids of sixteen bytes.
+-- Well-formed statements: names are names, texts are UTF-8, and uuids have sixteen bytes.
 use Rattle.std.specs.Prelude.{◌≡◌, ℕ, ◌≤◌, List, length, ⊤}
 use Rattle.std.specs.List.{AllByRecursion}
 use Rattle.std.specs.Str.{IsUtf8}
@@ -26,7 +26,7 @@ IsWrittenLiteral (literals.Text text) = IsUtf8 text
 IsWrittenLiteral (literals.Uuid bytes) = length bytes ≡ 16
 IsWrittenLiteral _ = ⊤
 
--- a column with its type, and one with what it is set to
+-- a column with its type, and one with the literal that it is set to
 abbrev pub IsWrittenColumn : Column → Type 0
 IsWrittenColumn column = IsName column.0
 

@@ -1,3 +1,3 @@
-// What a reader has to believe: the meaning of a script, as definitions over lists and finite maps, and no code. In the
-// order of an explanation: Pieces, Tokens, Statements, State, Refusals, Step, Replies.
+//! What a reader has to believe: the meaning of a script, as definitions over lists and finite maps, without code. In the
+//! order of an explanation: Pieces, Tokens, Statements, Cells, State, Refusals, Lines, Step.
 #![tactic(auto)]

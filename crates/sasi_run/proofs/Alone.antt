@@ -17,11 +17,14 @@ use Rattle.sasi_run.proofs.Gone.{keeps_manifest, keeps_seal, keeps_segment}
 both_ways : false ≡ true → ⊥
 both_ways e = cc
 
-apart : (number : ℕ) (listing : Listing) (name kept : FileName) → keeps (KeepStore number listing.floor listing.last) name ≡ false → keeps (KeepStore number listing.floor listing.last) kept ≡ true → name ≢ kept
-apart number listing name kept other is same = both_ways (sym other ∙ ap (λ (n : FileName). keeps (KeepStore number listing.floor listing.last) n) same ∙ is)
+apart : (number : ℕ) (listing : Listing) (name kept : FileName) → keeps (KeepStore number listing.floor listing.last) name ≡ false
+    → keeps (KeepStore number listing.floor listing.last) kept ≡ true → name ≢ kept
+apart number listing name kept other is same = both_ways
+    (sym other ∙ ap (λ (n : FileName). keeps (KeepStore number listing.floor listing.last) n) same ∙ is)
 
 -- all others were deleted
-pub others_gone : (v : View) (number : ℕ) (first second listing : Listing) → first ≡ listing → second ≡ listing → ((name : FileName) → keeps (KeepStore number first.floor second.last) name ≡ false → IsAbsent v name) → HasNoOther v number listing
+pub others_gone : (v : View) (number : ℕ) (first second listing : Listing) → first ≡ listing → second ≡ listing
+    → ((name : FileName) → keeps (KeepStore number first.floor second.last) name ≡ false → IsAbsent v name) → HasNoOther v number listing
 others_gone v number first second listing one two gone =
     subst (λ (l : Listing). (name : FileName) → keeps (KeepStore number listing.floor l.last) name ≡ false → IsAbsent v name) two
     (subst (λ (l : Listing). (name : FileName) → keeps (KeepStore number l.floor second.last) name ≡ false → IsAbsent v name) one gone)
@@ -31,19 +34,27 @@ pub alone_same : (a b : View) (number : ℕ) (listing : Listing) → Changes Sam
 alone_same a b number listing same alone name other = absent_where a b name (contents_same a b name same) (alone name other)
 
 -- a file of the store changed
-alone_step : (a b : View) (file : FileName) (number : ℕ) (listing : Listing) → keeps (KeepStore number listing.floor listing.last) file ≡ true → Changes (Step file Anyhow) a b → HasNoOther a number listing → HasNoOther b number listing
-alone_step a b file number listing kept change alone name other = absent_where a b name (contents_other a b file name Anyhow (apart number listing name file other kept) change) (alone name other)
+alone_step : (a b : View) (file : FileName) (number : ℕ) (listing : Listing)
+    → keeps (KeepStore number listing.floor listing.last) file ≡ true → Changes (Step file Anyhow) a b → HasNoOther a number listing
+    → HasNoOther b number listing
+alone_step a b file number listing kept change alone name other = absent_where a b name
+    (contents_other a b file name Anyhow (apart number listing name file other kept) change) (alone name other)
 
-pub alone_written : (a b : View) (file : FileName) (number : ℕ) (listing : Listing) → file ≡ log_name listing.last → listing.floor ≤ listing.last → Changes (Step file Anyhow) a b → HasNoOther a number listing → HasNoOther b number listing
+pub alone_written : (a b : View) (file : FileName) (number : ℕ) (listing : Listing) → file ≡ log_name listing.last
+    → listing.floor ≤ listing.last → Changes (Step file Anyhow) a b → HasNoOther a number listing → HasNoOther b number listing
 alone_written a b file number listing is ordered change alone =
-    alone_step a b file number listing (ap (keeps (KeepStore number listing.floor listing.last)) is ∙ keeps_segment number listing.floor listing.last listing.last ordered (omega arith)) change alone
+    alone_step a b file number listing
+    (ap (keeps (KeepStore number listing.floor listing.last)) is
+    ∙ keeps_segment number listing.floor listing.last listing.last ordered (omega arith)) change alone
 
-pub alone_created : (a b : View) (number new : ℕ) (listing next : Listing) → new ≡ number → next.floor ≡ listing.floor → next.last ≡ listing.last → Changes (Step (manifest_name number) Anyhow) a b → HasNoOther a number listing → HasNoOther b new next
+pub alone_created : (a b : View) (number new : ℕ) (listing next : Listing) → new ≡ number → next.floor ≡ listing.floor
+    → next.last ≡ listing.last → Changes (Step (manifest_name number) Anyhow) a b → HasNoOther a number listing → HasNoOther b new next
 alone_created a b number new listing next number_is floor last change alone =
     rw (number_is, floor, last) (alone_step a b (manifest_name number) number listing (keeps_manifest number listing.floor listing.last) change alone)
 
 -- the first files were made where there were none
-pub alone_first : (a b c : View) (p : Partitioner) → ((name : FileName) → IsAbsent a name) → Changes (Step (log_name 1) Anyhow) a b → Changes (Touches 1) b c → HasNoOther c 1 (made_listing p)
+pub alone_first : (a b c : View) (p : Partitioner) → ((name : FileName) → IsAbsent a name) → Changes (Step (log_name 1) Anyhow) a b
+    → Changes (Touches 1) b c → HasNoOther c 1 (made_listing p)
 alone_first a b c p none first second name other =
     let no_log = apart 1 (made_listing p) name (log_name 1) other (keeps_segment 1 1 1 1 (omega arith) (omega arith)) in
     let no_manifest = apart 1 (made_listing p) name (manifest_name 1) other (keeps_manifest 1 1 1) in

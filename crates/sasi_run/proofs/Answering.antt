@@ -28,40 +28,63 @@ unmoved : (a b : View) → b.emitted ≡ a.emitted → Appends a.emitted b.emitt
 unmoved a b same = subst (λ (l : Option (List ℕ)). Appends a.emitted l []) (sym same) (appends_none a.emitted)
 
 -- the folder or memory failed before anything was emitted
-pub fails_recorded : (fault : HostFault) (session : Session) (a b : View) (piece : Piece) → Changes Somehow a b → (ServesStore a session.store → GoesTo a b session.store.machine (step session.store.machine piece).state) → FailsOn (stop_of fault) session a b (piece ∷ [])
-fails_recorded host_fault.Failed session a b piece change moves = record { shown = unmoved a b change.emitted; crashes = leaves_recorded a b session.store session.store piece moves }
-fails_recorded host_fault.OutOfMemory session a b piece change moves = record { shown = unmoved a b change.emitted; crashes = leaves_recorded a b session.store session.store piece moves }
+pub fails_recorded : (fault : HostFault) (session : Session) (a b : View) (piece : Piece) → Changes Somehow a b
+    → (ServesStore a session.store → GoesTo a b session.store.machine (step session.store.machine piece).state)
+    → FailsOn (stop_of fault) session a b (piece ∷ [])
+fails_recorded host_fault.Failed session a b piece change moves = record
+    { shown = unmoved a b change.emitted; crashes = leaves_recorded a b session.store session.store piece moves }
+fails_recorded host_fault.OutOfMemory session a b piece change moves = record
+    { shown = unmoved a b change.emitted; crashes = leaves_recorded a b session.store session.store piece moves }
 
-module _ (session : Session) (a b d : View) (later : Store) (piece : Piece) (reply : List ℕ) (said : reply ≡ (step session.store.machine piece).reply) (made : later.machine ≡ (step session.store.machine piece).state) (change : Changes Somehow a b)
-    (moves : ServesStore a session.store → GoesTo a b session.store.machine (step session.store.machine piece).state) (serves : IsTold a → ServesStore a session.store → ServesStore b later) (emits : Emits reply b d) where
+module _ (session : Session) (a b d : View) (later : Store) (piece : Piece) (reply : List ℕ)
+    (said : reply ≡ (step session.store.machine piece).reply) (made : later.machine ≡ (step session.store.machine piece).state)
+    (change : Changes Somehow a b)
+    (moves : ServesStore a session.store → GoesTo a b session.store.machine (step session.store.machine piece).state)
+    (serves : IsTold a → ServesStore a session.store → ServesStore b later) (emits : Emits reply b d) where
   -- the reply was not emitted whole
   pub fails_shown : FailsOn Output session a d (piece ∷ [])
   fails_shown = record {
-    shown = (piece, emits.front, emits.back, refl, sym said ∙ emits.parts, subst (λ (l : Option (List ℕ)). Appends l d.emitted emits.front) change.emitted emits.out);
+    shown = (
+      piece,
+      emits.front,
+      emits.back,
+      refl,
+      sym said
+          ∙ emits.parts,
+      subst (λ (l : Option (List ℕ)). Appends l d.emitted emits.front) change.emitted emits.out,
+    );
     crashes = leaves_answered a b session.store later piece moves d reply said made serves emits;
   }
 
-  counts : (refused : ℕ) (o : Option Refusal) → refused < 2 ^ 64 → counted_outcome refused (outcome_of o) ≡ counted_by refused (if is_some o then 1 else 0)
+  counts : (refused : ℕ) (o : Option Refusal) → refused < 2 ^ 64
+      → counted_outcome refused (outcome_of o) ≡ counted_by refused (if is_some o then 1 else 0)
   counts refused None small = omega arith
   counts refused (Some r) small = omega arith
 
-  pub answers_on : (new : Session) (outcome : Outcome) → new.store ≡ later → session.refused < 2 ^ 64 → outcome ≡ outcome_of (step session.store.machine piece).refused → new.refused ≡ counted_outcome session.refused outcome → new.splitter ≡ session.splitter → IsReady b later → AllOut reply b d → AnswersOn session new a d piece
+  pub answers_on : (new : Session) (outcome : Outcome) → new.store ≡ later → session.refused < 2 ^ 64
+      → outcome ≡ outcome_of (step session.store.machine piece).refused → new.refused ≡ counted_outcome session.refused outcome
+      → new.splitter ≡ session.splitter → IsReady b later → AllOut reply b d → AnswersOn session new a d piece
   answers_on new outcome store_is small outcome_is count reading ready all = record {
     answers = record {
       state = ap (λ (s : Store). s.machine) store_is ∙ made;
-      shown = subst (λ (l : Option (List ℕ)). Appends l d.emitted (step session.store.machine piece).reply) change.emitted (subst (λ (l : List ℕ). Appends b.emitted d.emitted l) said all);
+      shown = subst (λ (l : Option (List ℕ)). Appends l d.emitted (step session.store.machine piece).reply) change.emitted
+          (subst (λ (l : List ℕ). Appends b.emitted d.emitted l) said all);
       count = count ∙ ap (counted_outcome session.refused) outcome_is ∙ counts session.refused (step session.store.machine piece).refused small;
       reading = reading;
     };
     ready = subst (λ (s : Store). IsReady d s) (sym store_is) (ready_still b d later emits.files ready);
-    serves = subst (λ (s : Store). ServesOn a d session.store s (step session.store.machine piece).reply) (sym store_is) (subst (λ (l : List ℕ). ServesOn a d session.store later l) said (serves_answered a b session.store later piece moves d reply said made serves emits all));
+    serves = subst (λ (s : Store). ServesOn a d session.store s (step session.store.machine piece).reply) (sym store_is)
+        (subst (λ (l : List ℕ). ServesOn a d session.store later l) said
+        (serves_answered a b session.store later piece moves d reply said made serves emits all));
     crashes = leaves_answered a b session.store later piece moves d reply said made serves emits;
   }
 
 -- ---- one byte
 
 -- no piece ended
-pub takes_quietly_on : (old new : Session) (a : View) (byte : ℕ) → IsReady a old.store → old.refused < 2 ^ 64 → ((left : List ℕ) → resume old.splitter (byte ∷ left) ≡ behind [] (resume new.splitter left)) → new.store ≡ old.store → new.refused ≡ old.refused → TakesOn old new a a (byte ∷ [])
+pub takes_quietly_on : (old new : Session) (a : View) (byte : ℕ) → IsReady a old.store → old.refused < 2 ^ 64
+    → ((left : List ℕ) → resume old.splitter (byte ∷ left) ≡ behind [] (resume new.splitter left)) → new.store ≡ old.store
+    → new.refused ≡ old.refused → TakesOn old new a a (byte ∷ [])
 unfolding takes_quietly
 takes_quietly_on old new a byte ready small next store count = record {
   takes = takes_quietly old new a.emitted byte small next (ap (λ (s : Store). s.machine) store) count;
@@ -71,12 +94,16 @@ takes_quietly_on old new a byte ready small next store count = record {
 }
 
 -- a piece ended, and was answered
-pub takes_answer_on : (old stand new : Session) (a b : View) (byte : ℕ) (piece : Piece) → ((left : List ℕ) → resume old.splitter (byte ∷ left) ≡ behind (piece ∷ []) (resume stand.splitter left)) → stand.store ≡ old.store → stand.refused ≡ old.refused → AnswersOn stand new a b piece → TakesOn old new a b (byte ∷ [])
+pub takes_answer_on : (old stand new : Session) (a b : View) (byte : ℕ) (piece : Piece)
+    → ((left : List ℕ) → resume old.splitter (byte ∷ left) ≡ behind (piece ∷ []) (resume stand.splitter left)) → stand.store ≡ old.store
+    → stand.refused ≡ old.refused → AnswersOn stand new a b piece → TakesOn old new a b (byte ∷ [])
 unfolding takes_answer
 takes_answer_on old stand new a b byte piece next store count answered = record {
   takes = takes_answer old stand new a.emitted b.emitted byte piece next (ap (λ (s : Store). s.machine) store) count answered.answers;
   ready = answered.ready;
-  serves = subst (λ (s : Store). ServesOn a b s new.store ((step s.machine piece).reply ++ [])) store (subst (λ (l : List ℕ). ServesOn a b stand.store new.store l) (sym (append-nil (step stand.store.machine piece).reply)) answered.serves);
+  serves = subst (λ (s : Store). ServesOn a b s new.store ((step s.machine piece).reply ++ [])) store
+      (subst (λ (l : List ℕ). ServesOn a b stand.store new.store l) (sym (append-nil (step stand.store.machine piece).reply))
+      answered.serves);
   crashes = subst (λ (s : Store). LeavesPieces a b s (piece ∷ [])) store answered.crashes;
 }
 
@@ -86,7 +113,9 @@ unfolding stops_before
 stops_before_on old a bytes = record { stops = stops_before old a.emitted bytes; crashes = leaves_nothing a old.store [] }
 
 -- it stopped at the answer
-pub stops_at_on : (stop : Stop) (old stand : Session) (a b : View) (byte : ℕ) (piece : Piece) → ((left : List ℕ) → resume old.splitter (byte ∷ left) ≡ behind (piece ∷ []) (resume stand.splitter left)) → stand.store ≡ old.store → FailsOn stop stand a b (piece ∷ []) → StopsOn stop old a b (byte ∷ [])
+pub stops_at_on : (stop : Stop) (old stand : Session) (a b : View) (byte : ℕ) (piece : Piece)
+    → ((left : List ℕ) → resume old.splitter (byte ∷ left) ≡ behind (piece ∷ []) (resume stand.splitter left)) → stand.store ≡ old.store
+    → FailsOn stop stand a b (piece ∷ []) → StopsOn stop old a b (byte ∷ [])
 unfolding stops_at
 stops_at_on stop old stand a b byte piece next store fails = record {
   stops = stops_at stop old stand a.emitted b.emitted byte piece next (ap (λ (s : Store). s.machine) store) fails.shown;
@@ -97,9 +126,16 @@ stops_at_on stop old stand a b byte piece next store fails = record {
 
 pub takes_nothing_on : (session : Session) (a : View) → IsReady a session.store → session.refused < 2 ^ 64 → TakesOn session session a a []
 unfolding takes_nothing
-takes_nothing_on session a ready small = record { takes = takes_nothing session a.emitted small; ready = ready; serves = serves_nothing a session.store; crashes = leaves_nothing a session.store [] }
+takes_nothing_on session a ready small = record {
+  takes = takes_nothing session a.emitted small;
+  ready = ready;
+  serves = serves_nothing a session.store;
+  crashes = leaves_nothing a
+      session.store [];
+}
 
-pub takes_both_on : (old mid new : Session) (a b c : View) (xs ys : List ℕ) → TakesOn old mid a b xs → TakesOn mid new b c ys → TakesOn old new a c (xs ++ ys)
+pub takes_both_on : (old mid new : Session) (a b c : View) (xs ys : List ℕ) → TakesOn old mid a b xs → TakesOn mid new b c ys
+    → TakesOn old new a c (xs ++ ys)
 unfolding takes_both
 takes_both_on old mid new a b c xs ys t u = record {
   takes = takes_both old mid new a.emitted b.emitted c.emitted xs ys t.takes u.takes;
@@ -108,16 +144,19 @@ takes_both_on old mid new a b c xs ys t u = record {
   crashes = leaves_both a b c old.store mid.store t.takes.done u.takes.done t.takes.state t.serves t.crashes u.crashes;
 }
 
-pub stops_later_on : (stop : Stop) (old mid : Session) (a b c : View) (bytes xs ys rest : List ℕ) → TakesOn old mid a b xs → StopsOn stop mid b c ys → bytes ≡ xs ++ ys ++ rest → StopsOn stop old a c bytes
+pub stops_later_on : (stop : Stop) (old mid : Session) (a b c : View) (bytes xs ys rest : List ℕ) → TakesOn old mid a b xs
+    → StopsOn stop mid b c ys → bytes ≡ xs ++ ys ++ rest → StopsOn stop old a c bytes
 unfolding stops_later
 stops_later_on stop old mid a b c bytes xs ys rest t u parts = record {
   stops = stops_later stop old mid a.emitted b.emitted c.emitted bytes xs ys rest t.takes u.stops parts;
-  crashes = subst (λ (l : List Piece). LeavesPieces a c old.store l) (sym (append_assoc t.takes.done u.stops.done u.stops.next)) (leaves_both a b c old.store mid.store t.takes.done (u.stops.done ++ u.stops.next) t.takes.state t.serves t.crashes u.crashes);
+  crashes = subst (λ (l : List Piece). LeavesPieces a c old.store l) (sym (append_assoc t.takes.done u.stops.done u.stops.next))
+      (leaves_both a b c old.store mid.store t.takes.done (u.stops.done ++ u.stops.next) t.takes.state t.serves t.crashes u.crashes);
 }
 
 -- ---- the last piece
 
-pub finishes_nothing : (old new : Session) (a : View) → (resume old.splitter []).last ≡ [] → new.store ≡ old.store → new.refused ≡ old.refused → old.refused < 2 ^ 64 → IsReady a old.store → FinishesOn old new a a
+pub finishes_nothing : (old new : Session) (a : View) → (resume old.splitter []).last ≡ [] → new.store ≡ old.store
+    → new.refused ≡ old.refused → old.refused < 2 ^ 64 → IsReady a old.store → FinishesOn old new a a
 finishes_nothing old new a last store count small ready = record {
   finishes = record { shown = rw last (appends_none a.emitted); count = rw last (omega (arith, count, small)) };
   state = rw last (ap (λ (s : Store). s.machine) store);
@@ -126,11 +165,15 @@ finishes_nothing old new a last store count small ready = record {
   crashes = rw last (leaves_nothing a old.store []);
 }
 
-pub finishes_answer : (old stand new : Session) (a b : View) (piece : Piece) → (resume old.splitter []).last ≡ piece ∷ [] → stand.store ≡ old.store → stand.refused ≡ old.refused → AnswersOn stand new a b piece → FinishesOn old new a b
+pub finishes_answer : (old stand new : Session) (a b : View) (piece : Piece) → (resume old.splitter []).last ≡ piece ∷ []
+    → stand.store ≡ old.store → stand.refused ≡ old.refused → AnswersOn stand new a b piece → FinishesOn old new a b
 finishes_answer old stand new a b piece last store count answered = record {
   finishes = record {
     shown = rw (last, append-nil) (subst (λ (s : Store). Appends a.emitted b.emitted (step s.machine piece).reply) store answered.answers.shown);
-    count = rw last (subst (λ (s : Store). new.refused ≡ counted_by old.refused (refused_by s.machine piece + 0)) store (subst (λ n. new.refused ≡ counted_by n (refused_by stand.store.machine piece + 0)) count (answered.answers.count ∙ ap (counted_by stand.refused) (omega arith))));
+    count = rw last
+        (subst (λ (s : Store). new.refused ≡ counted_by old.refused (refused_by s.machine piece + 0)) store
+        (subst (λ n. new.refused ≡ counted_by n (refused_by stand.store.machine piece + 0)) count
+        (answered.answers.count ∙ ap (counted_by stand.refused) (omega arith))));
   };
   state = rw last (subst (λ (s : Store). new.store.machine ≡ (step s.machine piece).state) store answered.answers.state);
   ready = answered.ready;

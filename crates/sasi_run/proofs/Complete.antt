@@ -11,7 +11,8 @@ within : (script read : List ℕ) (left : Option (List ℕ)) → Consumes (Some 
 within script read None c = absurd c
 within script read (Some rest) c = omega (arith, ap length c, length-append read rest)
 
-pub through : (status : Status) (s : State) (l l2 o o2 : Option (List ℕ)) → Runs status s l l2 o o2 → status ≢ Usage → status ≢ ScriptFault → status ≢ OutputFault → status ≢ FolderFault → IfSome l (λ script. length script ≤ SCRIPT_MOST → RanThrough status)
+pub through : (status : Status) (s : State) (l l2 o o2 : Option (List ℕ)) → Runs status s l l2 o o2 → status ≢ Usage → status ≢ ScriptFault
+    → status ≢ OutputFault → status ≢ FolderFault → IfSome l (λ script. length script ≤ SCRIPT_MOST → RanThrough status)
 through status s None l2 o o2 runs u f e d = tt
 through Done s (Some script) l2 o o2 runs u f e d = λ _. tt
 through (Refused n) s (Some script) l2 o o2 runs u f e d = λ _. tt

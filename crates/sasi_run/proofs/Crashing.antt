@@ -33,8 +33,10 @@ serves_nothing v store out serving = subst (λ (l : List ℕ). IsServing v store
 
 -- ---- one piece
 
-module _ (a b : View) (store later : Store) (piece : Piece) (moves : ServesStore a store → GoesTo a b store.machine (step store.machine piece).state) where
-  recorded : (out : List ℕ) → IsServing a store out → (x : Folder) (e : Bytes) → FromImage (StandsForEither store.machine (step store.machine piece).state) a x e → Crashed store.machine out (piece ∷ []) x e
+module _ (a b : View) (store later : Store) (piece : Piece)
+    (moves : ServesStore a store → GoesTo a b store.machine (step store.machine piece).state) where
+  recorded : (out : List ℕ) → IsServing a store out → (x : Folder) (e : Bytes)
+      → FromImage (StandsForEither store.machine (step store.machine piece).state) a x e → Crashed store.machine out (piece ∷ []) x e
   recorded out serving x e (was, image, either, emitted) =
       let same : e ≡ out = one_of e out (sym emitted ∙ serving.emitted) in
       record {
@@ -43,15 +45,29 @@ module _ (a b : View) (store later : Store) (piece : Piece) (moves : ServesStore
         parts = refl;
         stands = ⊎_elim
             (λ before. inl (record { went = same ∙ sym (append-nil out); stands = before }))
-            (λ after. inr (record { piece = piece; others = []; next = refl; front = []; back = (step store.machine piece).reply; parts = refl; went = same ∙ sym (append-nil out); stands = after }))
+            (λ after. inr
+            (record {
+              piece = piece;
+              others = [];
+              next = refl;
+              front = [];
+              back = (step store.machine piece).reply;
+              parts = refl;
+              went = same ∙ sym (append-nil out);
+              stands = after;
+            }))
             either;
       }
 
   -- it was recorded, but nothing emitted
   pub leaves_recorded : LeavesPieces a b store (piece ∷ [])
-  leaves_recorded out serving = crash_leaves_on a a b (Crashed store.machine out (piece ∷ [])) (FromImage (StandsForEither store.machine (step store.machine piece).state) a) (Crashed store.machine out (piece ∷ [])) (crash_stays a (Crashed store.machine out (piece ∷ []))) (moves serving.serves).during (λ x e p. p) (recorded out serving)
+  leaves_recorded out serving = crash_leaves_on a a b (Crashed store.machine out (piece ∷ []))
+      (FromImage (StandsForEither store.machine (step store.machine piece).state) a) (Crashed store.machine out (piece ∷ []))
+      (crash_stays a (Crashed store.machine out (piece ∷ []))) (moves serving.serves).during (λ x e p. p) (recorded out serving)
 
-  module _ (c : View) (reply : List ℕ) (said : reply ≡ (step store.machine piece).reply) (made : later.machine ≡ (step store.machine piece).state) (serves : IsTold a → ServesStore a store → ServesStore b later) (emits : Emits reply b c) where
+  module _ (c : View) (reply : List ℕ) (said : reply ≡ (step store.machine piece).reply)
+      (made : later.machine ≡ (step store.machine piece).state) (serves : IsTold a → ServesStore a store → ServesStore b later)
+      (emits : Emits reply b c) where
     partly : (out : List ℕ) → IsServing a store out → (x : Folder) (e : Bytes) → PartlyOut b reply x e → Crashed store.machine out (piece ∷ []) x e
     partly out serving x e (image, bytes, k, emitted, went) =
         let same : bytes ≡ out = one_of bytes out (sym emitted ∙ (moves serving.serves).emitted ∙ serving.emitted) in
@@ -74,7 +90,8 @@ module _ (a b : View) (store later : Store) (piece : Piece) (moves : ServesStore
 
     -- it was recorded, and its reply emitted or a first part of it
     pub leaves_answered : LeavesPieces a c store (piece ∷ [])
-    leaves_answered out serving = crash_leaves_on a b c (Crashed store.machine out (piece ∷ [])) (PartlyOut b reply) (Crashed store.machine out (piece ∷ [])) (leaves_recorded out serving) emits.during (λ x e p. p) (partly out serving)
+    leaves_answered out serving = crash_leaves_on a b c (Crashed store.machine out (piece ∷ [])) (PartlyOut b reply)
+        (Crashed store.machine out (piece ∷ [])) (leaves_recorded out serving) emits.during (λ x e p. p) (partly out serving)
 
     told_still : (out : List ℕ) → IsServing a store out → IsTold c
     told_still out serving = subst (λ (f : Option Folder). IsSome f) (sym emits.files) (told_after _ a b (moves serving.serves) serving.told)
@@ -89,11 +106,13 @@ module _ (a b : View) (store later : Store) (piece : Piece) (moves : ServesStore
         grown : (old new : Option Bytes) (before more : List ℕ) → old ≡ Some before → Appends old new more → new ≡ Some (before ++ more)
         grown None new before more is appends = cc
         grown (Some o) None before more is appends = absurd appends
-        grown (Some o) (Some n) before more is appends = (let same : o ≡ before = cc in ap (λ (l : List ℕ). Some l) (appends ∙ ap (λ (l : List ℕ). l ++ more) same))
+        grown (Some o) (Some n) before more is
+            appends = (let same : o ≡ before = cc in ap (λ (l : List ℕ). Some l) (appends ∙ ap (λ (l : List ℕ). l ++ more) same))
 
 -- ---- one part after another
 
-crashed_more : (s : State) (out : List ℕ) (pieces more : List Piece) (x : Folder) (e : Bytes) → Crashed s out pieces x e → Crashed s out (pieces ++ more) x e
+crashed_more : (s : State) (out : List ℕ) (pieces more : List Piece) (x : Folder) (e : Bytes) → Crashed s out pieces x e
+    → Crashed s out (pieces ++ more) x e
 crashed_more s out pieces more x e was = record {
   done = was.done;
   rest = was.rest ++ more;
@@ -110,10 +129,15 @@ crashed_more s out pieces more x e was = record {
   })) was.stands;
 }
 
-crashed_later : (s m : State) (out : List ℕ) (done pieces : List Piece) (x : Folder) (e : Bytes) → m ≡ state_after s done → Crashed m (out ++ replies s done) pieces x e → Crashed s out (done ++ pieces) x e
+crashed_later : (s m : State) (out : List ℕ) (done pieces : List Piece) (x : Folder) (e : Bytes) → m ≡ state_after s done
+    → Crashed m (out ++ replies s done) pieces x e → Crashed s out (done ++ pieces) x e
 crashed_later s m out done pieces x e is was =
-    let state : state_after m was.done ≡ state_after s (done ++ was.done) = ap (λ (t : State). state_after t was.done) is ∙ sym (state_after-append done was.done s) in
-    let said : (out ++ replies s done) ++ replies m was.done ≡ out ++ replies s (done ++ was.done) = append_assoc out (replies s done) (replies m was.done) ∙ ap (λ (l : List ℕ). out ++ l) (ap (λ (t : State). replies s done ++ replies t was.done) is ∙ sym (replies-append done was.done s)) in
+    let state : state_after m was.done ≡ state_after s (done ++ was.done) = ap (λ (t : State). state_after t was.done) is
+    ∙ sym (state_after-append done was.done s) in
+    let said : (out ++ replies s done) ++ replies m was.done ≡ out ++ replies s (done ++ was.done) = append_assoc out (replies s done)
+    (replies m was.done)
+    ∙ ap (λ (l : List ℕ). out ++ l)
+    (ap (λ (t : State). replies s done ++ replies t was.done) is ∙ sym (replies-append done was.done s)) in
     record {
       done = done ++ was.done;
       rest = was.rest;
@@ -127,20 +151,30 @@ crashed_later s m out done pieces x e is was =
             front = answering.front;
             back = answering.back;
             parts = subst (λ (t : State). (step t answering.piece).reply ≡ answering.front ++ answering.back) state answering.parts;
-            went = answering.went ∙ sym (append_assoc (out ++ replies s done) (replies m was.done) answering.front) ∙ ap (λ (l : List ℕ). l ++ answering.front) said ∙ append_assoc out (replies s (done ++ was.done)) answering.front;
+            went = answering.went ∙ sym (append_assoc (out ++ replies s done) (replies m was.done) answering.front)
+                ∙ ap (λ (l : List ℕ). l ++ answering.front) said ∙ append_assoc out (replies s (done ++ was.done)) answering.front;
             stands = subst (λ (t : State). StandsSealed x (step t answering.piece).state) state answering.stands;
           }))
           was.stands;
     }
 
-pub leaves_both : (a b c : View) (old mid : Store) (done more : List Piece) → mid.machine ≡ state_after old.machine done → ServesOn a b old mid (replies old.machine done) → LeavesPieces a b old done → LeavesPieces b c mid more → LeavesPieces a c old (done ++ more)
+pub leaves_both : (a b c : View) (old mid : Store) (done more : List Piece) → mid.machine ≡ state_after old.machine done
+    → ServesOn a b old mid (replies old.machine done) → LeavesPieces a b old done → LeavesPieces b c mid more
+    → LeavesPieces a c old (done ++ more)
 leaves_both a b c old mid done more is serves first second out serving =
-    crash_leaves_on a b c (Crashed old.machine out done) (Crashed mid.machine (out ++ replies old.machine done) more) (Crashed old.machine out (done ++ more)) (first out serving) (second (out ++ replies old.machine done) (serves out serving))
+    crash_leaves_on a b c (Crashed old.machine out done) (Crashed mid.machine (out ++ replies old.machine done) more)
+    (Crashed old.machine out (done ++ more)) (first out serving) (second (out ++ replies old.machine done) (serves out serving))
     (λ x e p. crashed_more old.machine out done more x e p) (λ x e p. crashed_later old.machine mid.machine out done more x e is p)
 
-pub serves_both : (a b c : View) (old mid new : Store) (done more : List Piece) → mid.machine ≡ state_after old.machine done → ServesOn a b old mid (replies old.machine done) → ServesOn b c mid new (replies mid.machine more) → ServesOn a c old new (replies old.machine (done ++ more))
+pub serves_both : (a b c : View) (old mid new : Store) (done more : List Piece) → mid.machine ≡ state_after old.machine done
+    → ServesOn a b old mid (replies old.machine done) → ServesOn b c mid new (replies mid.machine more)
+    → ServesOn a c old new (replies old.machine (done ++ more))
 serves_both a b c old mid new done more is first second out serving =
-    subst (λ (l : List ℕ). IsServing c new l) (append_assoc out (replies old.machine done) (replies mid.machine more) ∙ ap (λ (l : List ℕ). out ++ l) (ap (λ (t : State). replies old.machine done ++ replies t more) is ∙ sym (replies-append done more old.machine))) (second (out ++ replies old.machine done) (first out serving))
+    subst (λ (l : List ℕ). IsServing c new l)
+    (append_assoc out (replies old.machine done) (replies mid.machine more)
+    ∙ ap (λ (l : List ℕ). out ++ l)
+    (ap (λ (t : State). replies old.machine done ++ replies t more) is ∙ sym (replies-append done more old.machine)))
+    (second (out ++ replies old.machine done) (first out serving))
 
 -- ---- the store goes on
 
@@ -157,4 +191,6 @@ ready_still a b store same ready = record {
 
 pub leaves_more : (a b : View) (store : Store) (pieces more : List Piece) → LeavesPieces a b store pieces → LeavesPieces a b store (pieces ++ more)
 leaves_more a b store pieces more leaves out serving =
-    crash_leaves_on a a b (Crashed store.machine out (pieces ++ more)) (Crashed store.machine out pieces) (Crashed store.machine out (pieces ++ more)) (crash_stays a (Crashed store.machine out (pieces ++ more))) (leaves out serving) (λ x e p. p) (λ x e p. crashed_more store.machine out pieces more x e p)
+    crash_leaves_on a a b (Crashed store.machine out (pieces ++ more)) (Crashed store.machine out pieces)
+    (Crashed store.machine out (pieces ++ more)) (crash_stays a (Crashed store.machine out (pieces ++ more))) (leaves out serving)
+    (λ x e p. p) (λ x e p. crashed_more store.machine out pieces more x e p)

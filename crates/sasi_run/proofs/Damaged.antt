@@ -28,7 +28,8 @@ module _ (v : View) (folder : Folder) (files : v.files ≡ Some folder) where
   -- ---- a manifest
 
   -- damage that the manifest shows as it reads
-  pub manifest_shown : (number : ℕ) (fault : ReadFault) → IsThere v (manifest_name number) → IsShownBy v number fault → OnDamage (ShowsListed folder number) fault
+  pub manifest_shown : (number : ℕ) (fault : ReadFault) → IsThere v (manifest_name number) → IsShownBy v number fault
+      → OnDamage (ShowsListed folder number) fault
   manifest_shown number Failed there shown = tt
   manifest_shown number OutOfMemory there shown = tt
   manifest_shown number (Damaged damage) there shown =
@@ -50,18 +51,27 @@ module _ (v : View) (folder : Folder) (files : v.files ≡ Some folder) where
     manifest_missing number damage tells = no_manifest (missing (manifest_name number) damage tells)
 
     -- a segment that it lists isn't
-    pub segment_missing : (number : ℕ) (listing : Listing) (damage : Damage) → IsThere v (manifest_name number) → ReadsListing v number listing → TellsSegment names listing.floor listing.last damage → ShowsListed folder number damage
+    pub segment_missing : (number : ℕ) (listing : Listing) (damage : Damage) → IsThere v (manifest_name number)
+        → ReadsListing v number listing → TellsSegment names listing.floor listing.last damage → ShowsListed folder number damage
     segment_missing number listing damage there reads tells =
         let bytes = bytes_there v folder (manifest_name number) files there in
         broken_log bytes.0 listing bytes.1 (reads bytes.0 (reads_of v folder (manifest_name number) bytes.0 files bytes.1))
-        (record { segment = tells.segment; above = tells.above; below = tells.below; shows = inl (missing (log_name tells.segment) damage tells.missing) })
+        (record {
+          segment = tells.segment;
+          above = tells.above;
+          below = tells.below;
+          shows = inl
+              (missing (log_name tells.segment) damage tells.missing);
+        })
 
     -- ---- seals
 
     pub sealed_highest : (number : ℕ) → IsHighestSeal names (Some number) → IsSealed folder number
     sealed_highest number highest = record {
-      there = (let bytes = bytes_there v folder (seal_name number) files (listed_is_there v names (seal_name number) lists highest.0) in ap (λ (o : Option Bytes). is_some o) bytes.1);
-      highest = λ other above. none_where (get folder (seal_name other)) (λ there. highest.1 other above (held_is_listed v names folder (seal_name other) lists files there));
+      there = (let bytes = bytes_there v folder (seal_name number) files (listed_is_there v names (seal_name number) lists highest.0) in ap
+          (λ (o : Option Bytes). is_some o) bytes.1);
+      highest = λ other above. none_where (get folder (seal_name other))
+          (λ there. highest.1 other above (held_is_listed v names folder (seal_name other) lists files there));
     }
 
     -- a file that the making of a store doesn't begin with, where there is no seal
@@ -69,8 +79,11 @@ module _ (v : View) (folder : Folder) (files : v.files ≡ Some folder) where
     foreign_shown Failed none foreign = tt
     foreign_shown OutOfMemory none foreign = tt
     foreign_shown (Damaged damage) none foreign = inl (record {
-      unsealed = λ number. none_where (get folder (seal_name number)) (λ there. none number (held_is_listed v names folder (seal_name number) lists files there));
-      there = (let bytes = bytes_there v folder damage.file files (listed_is_there v names damage.file lists (foreign_listed names damage foreign)) in ap (λ (o : Option Bytes). is_some o) bytes.1);
+      unsealed = λ number. none_where (get folder (seal_name number))
+          (λ there. none number (held_is_listed v names folder (seal_name number) lists files there));
+      there = (let bytes = bytes_there v folder damage.file files
+          (listed_is_there v names damage.file lists (foreign_listed names damage foreign)) in ap (λ (o : Option Bytes). is_some o)
+          bytes.1);
       no_manifest = apart damage.file (manifest_name 1) refl foreign.other;
       no_log = apart damage.file (log_name 1) refl foreign.other;
       rule = foreign.rule;
@@ -81,7 +94,9 @@ module _ (v : View) (folder : Folder) (files : v.files ≡ Some folder) where
 -- ---- a segment of the log
 
 -- damage that a live segment shows as it reads, once other files were deleted
-pub segment_shown : (a b : View) (folder : Folder) (number : ℕ) (listing : Listing) (fault : ReadFault) → a.files ≡ Some folder → IsThere a (manifest_name number) → ReadsListing a number listing → Changes (Deletes (keeps (KeepStore number listing.floor listing.last))) a b → AreThere b listing → IsReplayShown b listing fault
+pub segment_shown : (a b : View) (folder : Folder) (number : ℕ) (listing : Listing) (fault : ReadFault) → a.files ≡ Some folder
+    → IsThere a (manifest_name number) → ReadsListing a number listing
+    → Changes (Deletes (keeps (KeepStore number listing.floor listing.last))) a b → AreThere b listing → IsReplayShown b listing fault
     → OnDamage (ShowsListed folder number) fault
 segment_shown a b folder number listing Failed files there reads deletes live shown = tt
 segment_shown a b folder number listing OutOfMemory files there reads deletes live shown = tt
@@ -92,11 +107,18 @@ segment_shown a b folder number listing (Damaged damage) files there reads delet
     let same : get now.0 (log_name segment) ≡ get folder (log_name segment) = unless_kept _ _ _ kept (now.2 (log_name segment)) in
     let bytes = bytes_there b now.0 (log_name segment) now.1 (live segment above below) in
     broken_log manifest.0 listing manifest.1 (reads manifest.0 (reads_of a folder (manifest_name number) manifest.0 files manifest.1))
-    (record { segment = segment; above = above; below = below; shows = inr (bytes.0, sym same ∙ bytes.1, shown bytes.0 (reads_of b now.0 (log_name segment) bytes.0 now.1 bytes.1)) })
+    (record {
+      segment = segment;
+      above = above;
+      below = below;
+      shows = inr
+          (bytes.0, sym same ∙ bytes.1, shown bytes.0 (reads_of b now.0 (log_name segment) bytes.0 now.1 bytes.1));
+    })
 
 -- ---- the folder
 
-pub sealed_shown : (folder : Folder) (number : ℕ) (fault : ReadFault) → IsSealed folder number → OnDamage (ShowsListed folder number) fault → OnDamage (FolderShows folder) fault
+pub sealed_shown : (folder : Folder) (number : ℕ) (fault : ReadFault) → IsSealed folder number → OnDamage (ShowsListed folder number) fault
+    → OnDamage (FolderShows folder) fault
 sealed_shown folder number Failed sealed shows = tt
 sealed_shown folder number OutOfMemory sealed shows = tt
 sealed_shown folder number (Damaged damage) sealed shows = inr (record { number = number; sealed = sealed; shows = shows })

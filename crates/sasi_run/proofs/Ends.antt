@@ -42,7 +42,8 @@ all_behind : (p : Pieces) (done : List Piece) (q : Pieces) → p ≡ behind done
 all_behind p done q is = ap (λ (x : Pieces). x.whole ++ x.last) is ∙ append_assoc done q.whole q.last
 
 -- the pieces that were answered are a first part of those of the script
-answered_first : (from to : Session) (l l2 o o2 : Option (List ℕ)) (read : List ℕ) → IsFresh from → (t : Takes from to o o2 read) → Consumes l l2 read → (rest : List Piece) × (all_pieces (script_of l read) ≡ t.done ++ rest)
+answered_first : (from to : Session) (l l2 o o2 : Option (List ℕ)) (read : List ℕ) → IsFresh from → (t : Takes from to o o2 read)
+    → Consumes l l2 read → (rest : List Piece) × (all_pieces (script_of l read) ≡ t.done ++ rest)
 answered_first from to l l2 o o2 read fresh t consumed =
     let parts = script_parts l l2 read consumed in
     (_, ap all_pieces parts.1 ∙ all_behind _ t.done (resume to.splitter parts.0) (pieces_on from to o o2 read fresh t parts.0))
@@ -56,7 +57,8 @@ stopped Output is = is
 stopped Memory is = is
 
 -- a read failed
-pub ends_fault : (from mid : Session) (l l1 l2 : Option (List ℕ)) (a b : View) (n : ℕ) → IsFresh from → GoesOn from mid l l1 a b n → n ≤ 2 ^ 40 → Keeps l1 l2 → RunsOn ScriptFault from.store l l2 a b
+pub ends_fault : (from mid : Session) (l l1 l2 : Option (List ℕ)) (a b : View) (n : ℕ) → IsFresh from → GoesOn from mid l l1 a b n
+    → n ≤ 2 ^ 40 → Keeps l1 l2 → RunsOn ScriptFault from.store l l2 a b
 unfolding exits.ends_fault
 ends_fault from mid l l1 l2 a b n fresh on few kept =
     let runs = exits.ends_fault from mid l l1 l2 a.emitted b.emitted n fresh on.goes few kept in
@@ -64,7 +66,9 @@ ends_fault from mid l l1 l2 a b n fresh on few kept =
     record { runs = runs; crashes = widened a b from.store on.goes.taken.done first.0 _ first.1 on.crashes; ends = λ is. absurd is }
 
 -- the script ended
-pub ends_done : (from mid to : Session) (l l1 l2 : Option (List ℕ)) (a b c : View) (n : ℕ) (none : List ℕ) → IsFresh from → GoesOn from mid l l1 a b n → n ≤ 2 ^ 40 → Consumes l1 l2 none → length none ≡ 0 → IsAtEnd l2 → FinishesOn mid to b c → RunsOn (status_of_count to.refused) from.store l l2 a c
+pub ends_done : (from mid to : Session) (l l1 l2 : Option (List ℕ)) (a b c : View) (n : ℕ) (none : List ℕ) → IsFresh from
+    → GoesOn from mid l l1 a b n → n ≤ 2 ^ 40 → Consumes l1 l2 none → length none ≡ 0 → IsAtEnd l2 → FinishesOn mid to b c
+    → RunsOn (status_of_count to.refused) from.store l l2 a c
 unfolding exits.ends_done
 ends_done from mid to l l1 l2 a b c n none fresh on few ate empty end fin =
     let runs = exits.ends_done from mid to l l1 l2 a.emitted b.emitted c.emitted n none fresh on.goes few ate empty end fin.finishes in
@@ -72,59 +76,103 @@ ends_done from mid to l l1 l2 a b c n none fresh on few ate empty end fin =
     let all = all_now from mid a.emitted b.emitted on.goes.read fresh on.goes.taken in
     record {
       runs = runs;
-      crashes = subst (λ (l : List Piece). LeavesPieces a c from.store l) (sym (ap all_pieces whole ∙ all)) (leaves_both a b c from.store mid.store on.goes.taken.done (resume mid.splitter []).last on.goes.taken.state on.serves on.crashes fin.crashes);
+      crashes = subst (λ (l : List Piece). LeavesPieces a c from.store l) (sym (ap all_pieces whole ∙ all))
+          (leaves_both a b c from.store mid.store on.goes.taken.done (resume mid.splitter []).last on.goes.taken.state on.serves on.crashes
+          fin.crashes);
       ends = λ is. subst (λ (l : List Piece). ServesAfter from.store a c l) (sym (ap all_pieces whole ∙ all)) (record {
         last = to.store;
-        state = fin.state ∙ ap (λ (s : State). state_after s (resume mid.splitter []).last) on.goes.taken.state ∙ sym (state_after-append on.goes.taken.done (resume mid.splitter []).last from.store.machine);
+        state = fin.state ∙ ap (λ (s : State). state_after s (resume mid.splitter []).last) on.goes.taken.state
+            ∙ sym (state_after-append on.goes.taken.done (resume mid.splitter []).last from.store.machine);
         ready = fin.ready;
-        serves = serves_both a b c from.store mid.store to.store on.goes.taken.done (resume mid.splitter []).last on.goes.taken.state on.serves fin.serves;
+        serves = serves_both a b c from.store mid.store to.store on.goes.taken.done (resume mid.splitter []).last on.goes.taken.state
+            on.serves fin.serves;
       });
     }
 
 -- the last reply was not emitted
-pub ends_last : (stop : Stop) (from mid : Session) (l l1 l2 : Option (List ℕ)) (a b c : View) (n : ℕ) (none : List ℕ) → IsFresh from → GoesOn from mid l l1 a b n → n ≤ 2 ^ 40 → Consumes l1 l2 none → length none ≡ 0 → IsAtEnd l2 → FailsOn stop mid b c (resume mid.splitter []).last → RunsOn (status_of_stop stop) from.store l l2 a c
+pub ends_last : (stop : Stop) (from mid : Session) (l l1 l2 : Option (List ℕ)) (a b c : View) (n : ℕ) (none : List ℕ) → IsFresh from
+    → GoesOn from mid l l1 a b n → n ≤ 2 ^ 40 → Consumes l1 l2 none → length none ≡ 0 → IsAtEnd l2
+    → FailsOn stop mid b c (resume mid.splitter []).last → RunsOn (status_of_stop stop) from.store l l2 a c
 ends_last stop from mid l l1 l2 a b c n none fresh on few ate empty end fails =
     let runs = exits.ends_last stop from mid l l1 l2 a.emitted b.emitted c.emitted n none fresh on.goes few ate empty fails.shown in
     let all = all_now from mid a.emitted b.emitted on.goes.read fresh on.goes.taken in
-    let both = leaves_both a b c from.store mid.store on.goes.taken.done (resume mid.splitter []).last on.goes.taken.state on.serves on.crashes fails.crashes in
+    let both = leaves_both a b c from.store mid.store on.goes.taken.done (resume mid.splitter []).last on.goes.taken.state on.serves
+    on.crashes fails.crashes in
     let known = exits.ends_last_read stop from mid l l1 l2 a.emitted b.emitted c.emitted n none fresh on.goes few ate empty fails.shown in
     let whole = script_whole l l2 runs.read runs.consumed end in
-    record { runs = runs; crashes = subst (λ (l : List Piece). LeavesPieces a c from.store l) (sym (ap all_pieces (whole ∙ known) ∙ all)) both; ends = λ is. absurd (stopped stop is) }
+    record {
+      runs = runs;
+      crashes = subst (λ (l : List Piece). LeavesPieces a c from.store l) (sym (ap all_pieces (whole ∙ known) ∙ all))
+          both;
+      ends = λ is. absurd (stopped stop is);
+    }
 
 -- the script was too long
-pub ends_long : (from mid to : Session) (l l1 l2 : Option (List ℕ)) (a b c : View) (n : ℕ) (chunk part rest : List ℕ) → IsFresh from → GoesOn from mid l l1 a b n → n ≤ 2 ^ 40 → Consumes l1 l2 chunk → length chunk ≤ READ_MOST → chunk ≡ part ++ rest → n + length part ≡ SCRIPT_MOST → 0 < length rest → TakesOn mid to b c part → RunsOn ScriptTooLong from.store l l2 a c
+pub ends_long : (from mid to : Session) (l l1 l2 : Option (List ℕ)) (a b c : View) (n : ℕ) (chunk part rest : List ℕ) → IsFresh from
+    → GoesOn from mid l l1 a b n → n ≤ 2 ^ 40 → Consumes l1 l2 chunk → length chunk ≤ READ_MOST → chunk ≡ part ++ rest
+    → n + length part ≡ SCRIPT_MOST → 0 < length rest → TakesOn mid to b c part → RunsOn ScriptTooLong from.store l l2 a c
 unfolding exits.ends_long takes_both
 ends_long from mid to l l1 l2 a b c n chunk part rest fresh on few ate small parts full over more =
-    let runs = exits.ends_long from mid to l l1 l2 a.emitted b.emitted c.emitted n chunk part rest fresh on.goes few ate small parts full over more.takes in
+    let runs = exits.ends_long from mid to l l1 l2 a.emitted b.emitted c.emitted n chunk part rest fresh on.goes few ate small parts full
+    over more.takes in
     let t = takes_both from mid to a.emitted b.emitted c.emitted on.goes.read part on.goes.taken more.takes in
     let script = script_parts l l2 (on.goes.read ++ chunk) runs.consumed in
-    let bytes : script_of l (on.goes.read ++ chunk) ≡ (on.goes.read ++ part) ++ (rest ++ script.0) = script.1 ∙ ap (λ (r : List ℕ). (on.goes.read ++ r) ++ script.0) parts ∙ simp append_assoc in
-    let cut = ap all_pieces bytes ∙ all_behind _ t.done (resume to.splitter (rest ++ script.0)) (pieces_on from to a.emitted c.emitted (on.goes.read ++ part) fresh t (rest ++ script.0)) in
-    record { runs = runs; crashes = widened a c from.store t.done _ _ cut (leaves_both a b c from.store mid.store on.goes.taken.done more.takes.done on.goes.taken.state on.serves on.crashes more.crashes); ends = λ is. absurd is }
+    let bytes : script_of l (on.goes.read ++ chunk) ≡ (on.goes.read ++ part) ++ (rest ++ script.0) = script.1
+    ∙ ap (λ (r : List ℕ). (on.goes.read ++ r) ++ script.0) parts ∙ simp append_assoc in
+    let cut = ap all_pieces bytes
+    ∙ all_behind _ t.done (resume to.splitter (rest ++ script.0))
+    (pieces_on from to a.emitted c.emitted (on.goes.read ++ part) fresh t (rest ++ script.0)) in
+    record {
+      runs = runs;
+      crashes = widened a c from.store t.done _ _ cut
+          (leaves_both a b c from.store mid.store on.goes.taken.done more.takes.done on.goes.taken.state on.serves on.crashes more.crashes);
+      ends = λ is. absurd is;
+    }
 
 -- it stopped within what a read gave
-pub ends_within : (stop : Stop) (from mid : Session) (l l1 l2 : Option (List ℕ)) (a b c : View) (n : ℕ) (chunk part rest : List ℕ) → IsFresh from → GoesOn from mid l l1 a b n → n ≤ 2 ^ 40 → Consumes l1 l2 chunk → length chunk ≤ READ_MOST → chunk ≡ part ++ rest → StopsOn stop mid b c part → RunsOn (status_of_stop stop) from.store l l2 a c
+pub ends_within : (stop : Stop) (from mid : Session) (l l1 l2 : Option (List ℕ)) (a b c : View) (n : ℕ) (chunk part rest : List ℕ)
+    → IsFresh from → GoesOn from mid l l1 a b n → n ≤ 2 ^ 40 → Consumes l1 l2 chunk → length chunk ≤ READ_MOST → chunk ≡ part ++ rest
+    → StopsOn stop mid b c part → RunsOn (status_of_stop stop) from.store l l2 a c
 ends_within stop from mid l l1 l2 a b c n chunk part rest fresh on few ate small parts u =
     let runs = exits.ends_within stop from mid l l1 l2 a.emitted b.emitted c.emitted n chunk part rest fresh on.goes few ate small parts u.stops in
-    let known = exits.ends_within_read stop from mid l l1 l2 a.emitted b.emitted c.emitted n chunk part rest fresh on.goes few ate small parts u.stops in
+    let known = exits.ends_within_read stop from mid l l1 l2 a.emitted b.emitted c.emitted n chunk part rest fresh on.goes few ate small
+    parts u.stops in
     let t = on.goes.taken in
     let script = script_parts l l2 runs.read runs.consumed in
     let onward = resume u.stops.stand (u.stops.rest ++ (rest ++ script.0)) in
-    let bytes : script_of l runs.read ≡ on.goes.read ++ (u.stops.taken ++ (u.stops.rest ++ (rest ++ script.0))) = script.1 ∙ ap (λ (r : List ℕ). r ++ script.0) known ∙ ap (λ (r : List ℕ). (on.goes.read ++ r) ++ script.0) parts ∙ ap (λ (r : List ℕ). (on.goes.read ++ (r ++ rest)) ++ script.0) u.stops.parts ∙ simp append_assoc in
+    let bytes : script_of l runs.read ≡ on.goes.read ++ (u.stops.taken ++ (u.stops.rest ++ (rest ++ script.0))) = script.1
+    ∙ ap (λ (r : List ℕ). r ++ script.0) known ∙ ap (λ (r : List ℕ). (on.goes.read ++ r) ++ script.0) parts
+    ∙ ap (λ (r : List ℕ). (on.goes.read ++ (r ++ rest)) ++ script.0) u.stops.parts ∙ simp append_assoc in
     let cut : pieces (script_of l runs.read) ≡ behind t.done (behind (u.stops.done ++ u.stops.next) onward) =
-    ap pieces bytes ∙ pieces_on from mid a.emitted b.emitted on.goes.read fresh t (u.stops.taken ++ (u.stops.rest ++ (rest ++ script.0))) ∙ ap (behind t.done) (u.stops.reading (u.stops.rest ++ (rest ++ script.0))) in
-    let all = all_behind _ t.done (behind (u.stops.done ++ u.stops.next) onward) cut ∙ ap (λ (l : List Piece). t.done ++ l) (append_assoc (u.stops.done ++ u.stops.next) onward.whole onward.last) ∙ sym (append_assoc t.done (u.stops.done ++ u.stops.next) (onward.whole ++ onward.last)) in
-    record { runs = runs; crashes = widened a c from.store (t.done ++ (u.stops.done ++ u.stops.next)) _ _ all (leaves_both a b c from.store mid.store t.done (u.stops.done ++ u.stops.next) t.state on.serves on.crashes u.crashes); ends = λ is. absurd (stopped stop is) }
+    ap pieces bytes ∙ pieces_on from mid a.emitted b.emitted on.goes.read fresh t (u.stops.taken ++ (u.stops.rest ++ (rest ++ script.0)))
+    ∙ ap (behind t.done) (u.stops.reading (u.stops.rest ++ (rest ++ script.0))) in
+    let all = all_behind _ t.done (behind (u.stops.done ++ u.stops.next) onward) cut
+    ∙ ap (λ (l : List Piece). t.done ++ l) (append_assoc (u.stops.done ++ u.stops.next) onward.whole onward.last)
+    ∙ sym (append_assoc t.done (u.stops.done ++ u.stops.next) (onward.whole ++ onward.last)) in
+    record {
+      runs = runs;
+      crashes = widened a c from.store (t.done ++ (u.stops.done ++ u.stops.next)) _ _ all
+          (leaves_both a b c from.store mid.store t.done (u.stops.done ++ u.stops.next) t.state on.serves on.crashes u.crashes);
+      ends = λ is.
+          absurd (stopped stop is);
+    }
 
 -- ---- it goes on
 
 -- nothing was read yet
-pub starts_on : (session : Session) (l : Option (List ℕ)) (a : View) → IsReady a session.store → session.refused < 2 ^ 64 → GoesOn session session l l a a 0
+pub starts_on : (session : Session) (l : Option (List ℕ)) (a : View) → IsReady a session.store → session.refused < 2 ^ 64
+    → GoesOn session session l l a a 0
 starts_on session l a ready small =
     let t = takes_nothing_on session a ready small in
-    record { goes = record { read = []; consumed = consumes_nothing l; taken = t.takes; length_is = refl }; ready = t.ready; serves = t.serves; crashes = t.crashes }
+    record {
+      goes = record { read = []; consumed = consumes_nothing l; taken = t.takes; length_is = refl };
+      ready = t.ready;
+      serves = t.serves;
+      crashes = t.crashes;
+    }
 
-pub goes_on : (from mid to : Session) (l l1 l2 : Option (List ℕ)) (a b c : View) (n m : ℕ) (chunk : List ℕ) → GoesOn from mid l l1 a b n → Consumes l1 l2 chunk → TakesOn mid to b c chunk → m ≡ length chunk → GoesOn from to l l2 a c (n + m)
+pub goes_on : (from mid to : Session) (l l1 l2 : Option (List ℕ)) (a b c : View) (n m : ℕ) (chunk : List ℕ) → GoesOn from mid l l1 a b n
+    → Consumes l1 l2 chunk → TakesOn mid to b c chunk → m ≡ length chunk → GoesOn from to l l2 a c (n + m)
 unfolding exits.goes_on takes_both
 goes_on from mid to l l1 l2 a b c n m chunk on ate more is = record {
   goes = exits.goes_on from mid to l l1 l2 a.emitted b.emitted c.emitted n m chunk on.goes ate more.takes is;

@@ -7,9 +7,10 @@ use Rattle.std.specs.Io.KnownBytes.{Consumes, Keeps, IsAtEnd}
 use Rattle.sasi_model.specs.Pieces.{Piece, Pieces, pieces, all_pieces}
 use Rattle.sasi_model.specs.State.{State}
 use Rattle.sasi_model.specs.Step.{state_after, replies, refusals}
-use Rattle.sasi_cql.specs.Standing.{resume, behind, resume_nothing}
+use Rattle.sasi_cql.specs.Standing.{resume, behind}
+use Rattle.sasi_cql.proofs.Resumed.{resume_nothing}
 use Rattle.sasi_run.specs.Session.{counted_by, Takes, Stops, ShownAt, Goes, Finishes, IsFresh}
-use Rattle.sasi_run.specs.Headline.{Runs, Shows, ShowsAll, EndsWith, SCRIPT_MOST, READ_MOST, status_of_stop, status_of_count}
+use Rattle.sasi_run.specs.Headline.{Runs, Shows, ShowsAll, ShowsFirst, EndsWith, SCRIPT_MOST, READ_MOST, status_of_stop, status_of_count}
 use Rattle.sasi_run.specs.declared.session.Session.{Session}
 use Rattle.sasi_run.specs.declared.session.Stop.{Stop}
 use Rattle.sasi_run.specs.declared.session.Stop.TheVariants.{Disk, Output, Memory}
@@ -20,33 +21,45 @@ use Rattle.sasi_run.proofs.Taking.{takes_both, replies-append, refusals-append, 
 -- ---- the pieces of what was read
 
 -- and of more behind it
-pub pieces_on : (from to : Session) (a b : Option (List ℕ)) (read : List ℕ) → IsFresh from → (t : Takes from to a b read) → (more : List ℕ) → pieces (read ++ more) ≡ behind t.done (resume to.splitter more)
+pub pieces_on : (from to : Session) (a b : Option (List ℕ)) (read : List ℕ) → IsFresh from → (t : Takes from to a b read) → (more : List ℕ)
+    → pieces (read ++ more) ≡ behind t.done (resume to.splitter more)
 pieces_on from to a b read fresh t more = sym (fresh.reading (read ++ more)) ∙ t.reading more
 
-pieces_now : (from to : Session) (a b : Option (List ℕ)) (read : List ℕ) → IsFresh from → (t : Takes from to a b read) → pieces read ≡ behind t.done (resume to.splitter [])
+pieces_now : (from to : Session) (a b : Option (List ℕ)) (read : List ℕ) → IsFresh from → (t : Takes from to a b read)
+    → pieces read ≡ behind t.done (resume to.splitter [])
 pieces_now from to a b read fresh t = ap pieces (sym (append-nil read)) ∙ pieces_on from to a b read fresh t []
 
-pub whole_now : (from to : Session) (a b : Option (List ℕ)) (read : List ℕ) → IsFresh from → (t : Takes from to a b read) → (pieces read).whole ≡ t.done
-whole_now from to a b read fresh t = ap (λ (p : Pieces). p.whole) (pieces_now from to a b read fresh t) ∙ ap (λ w. t.done ++ w) (resume_nothing to.splitter) ∙ append-nil t.done
+pub whole_now : (from to : Session) (a b : Option (List ℕ)) (read : List ℕ) → IsFresh from → (t : Takes from to a b read)
+    → (pieces read).whole ≡ t.done
+whole_now from to a b read fresh t = ap (λ (p : Pieces). p.whole) (pieces_now from to a b read fresh t)
+    ∙ ap (λ w. t.done ++ w) (resume_nothing to.splitter) ∙ append-nil t.done
 
-pub all_now : (from to : Session) (a b : Option (List ℕ)) (read : List ℕ) → IsFresh from → (t : Takes from to a b read) → all_pieces read ≡ t.done ++ (resume to.splitter []).last
-all_now from to a b read fresh t = rw (whole_now from to a b read fresh t) (ap (λ (p : Pieces). t.done ++ p.last) (pieces_now from to a b read fresh t))
+pub all_now : (from to : Session) (a b : Option (List ℕ)) (read : List ℕ) → IsFresh from → (t : Takes from to a b read)
+    → all_pieces read ≡ t.done ++ (resume to.splitter []).last
+all_now from to a b read fresh t = rw (whole_now from to a b read fresh t)
+    (ap (λ (p : Pieces). t.done ++ p.last) (pieces_now from to a b read fresh t))
 
 -- ---- the ends
 
 -- a read failed
-unfoldable pub ends_fault : (from mid : Session) (l l1 l2 o o1 : Option (List ℕ)) (n : ℕ) → IsFresh from → Goes from mid l l1 o o1 n → n ≤ 2 ^ 40 → Keeps l1 l2 → Runs ScriptFault from.store.machine l l2 o o1
+unfoldable pub ends_fault : (from mid : Session) (l l1 l2 o o1 : Option (List ℕ)) (n : ℕ) → IsFresh from → Goes from mid l l1 o o1 n
+    → n ≤ 2 ^ 40 → Keeps l1 l2 → Runs ScriptFault from.store.machine l l2 o o1
 ends_fault from mid l l1 l2 o o1 n fresh goes few kept = record {
   read = goes.read;
   shown = replies from.store.machine goes.taken.done;
   consumed = consumes_kept l l1 l2 goes.read goes.consumed kept;
   emitted = goes.taken.shown;
   at_end = tt;
-  shows = record { whole = ap (replies from.store.machine) (sym (whole_now from mid o o1 goes.read fresh goes.taken)); short = omega (arith, goes.length_is) };
+  shows = record {
+    whole = ap (replies from.store.machine) (sym (whole_now from mid o o1 goes.read fresh goes.taken));
+    short = omega
+        (arith, goes.length_is);
+  };
   bounded = omega (arith, goes.length_is);
 }
 
-pub shows_count : (s : State) (n : ℕ) (read shown : List ℕ) (left : Option (List ℕ)) → ShowsAll s read shown n → IsAtEnd left → (b : Bool) → nat_eq n 0 ≡ b → Shows (cond b Done (Refused n)) s read shown × EndsWith (cond b Done (Refused n)) left
+pub shows_count : (s : State) (n : ℕ) (read shown : List ℕ) (left : Option (List ℕ)) → ShowsAll s read shown n → IsAtEnd left → (b : Bool)
+    → nat_eq n 0 ≡ b → Shows (cond b Done (Refused n)) s read shown × EndsWith (cond b Done (Refused n)) left
 shows_count s n read shown left all end true e =
     let is : n ≡ 0 = grind arith in
     (subst (λ m. ShowsAll s read shown m) is all, end)
@@ -55,19 +68,24 @@ shows_count s n read shown left all end false e =
     ((some, all), end)
 
 -- the script ended
-unfoldable pub ends_done : (from mid to : Session) (l l1 l2 o o1 o2 : Option (List ℕ)) (n : ℕ) (none : List ℕ) → IsFresh from → Goes from mid l l1 o o1 n → n ≤ 2 ^ 40 → Consumes l1 l2 none → length none ≡ 0 → IsAtEnd l2 → Finishes mid to o1 o2
+unfoldable pub ends_done : (from mid to : Session) (l l1 l2 o o1 o2 : Option (List ℕ)) (n : ℕ) (none : List ℕ) → IsFresh from
+    → Goes from mid l l1 o o1 n → n ≤ 2 ^ 40 → Consumes l1 l2 none → length none ≡ 0 → IsAtEnd l2 → Finishes mid to o1 o2
     → Runs (status_of_count to.refused) from.store.machine l l2 o o2
 ends_done from mid to l l1 l2 o o1 o2 n none fresh goes few ate empty end fin =
     let t = goes.taken in
     let last = (resume mid.splitter []).last in
     let at : mid.store.machine ≡ state_after from.store.machine t.done = t.state in
     let all : all_pieces goes.read ≡ t.done ++ last = all_now from mid o o1 goes.read fresh t in
-    let text : replies from.store.machine (all_pieces goes.read) ≡ replies from.store.machine t.done ++ replies mid.store.machine last = rw (all, replies-append, at) refl in
+    let text : replies from.store.machine (all_pieces goes.read) ≡ replies from.store.machine t.done ++ replies mid.store.machine last = rw
+    (all, replies-append, at) refl in
     let before : mid.refused ≡ counted_by 0 (refusals from.store.machine t.done) = rw (← fresh.count) t.count in
-    let total : refusals from.store.machine (all_pieces goes.read) ≡ refusals from.store.machine t.done + refusals mid.store.machine last = rw (all, refusals-append, at) refl in
+    let total : refusals from.store.machine (all_pieces goes.read)
+    ≡ refusals from.store.machine t.done + refusals mid.store.machine last = rw (all, refusals-append, at) refl in
     let final : to.refused ≡ min (refusals from.store.machine (all_pieces goes.read)) (2 ^ 64 - 1) = omega (arith, fin.count, before, total) in
-    let shown : ShowsAll from.store.machine goes.read (replies from.store.machine t.done ++ replies mid.store.machine last) to.refused = record { all = sym text; count = final; short = omega (arith, goes.length_is) } in
-    let both = shows_count from.store.machine to.refused goes.read (replies from.store.machine t.done ++ replies mid.store.machine last) l2 shown end (nat_eq to.refused 0) refl in
+    let shown : ShowsAll from.store.machine goes.read (replies from.store.machine t.done ++ replies mid.store.machine last)
+    to.refused = record { all = sym text; count = final; short = omega (arith, goes.length_is) } in
+    let both = shows_count from.store.machine to.refused goes.read (replies from.store.machine t.done ++ replies mid.store.machine last) l2
+    shown end (nat_eq to.refused 0) refl in
     record {
       read = goes.read;
       shown = replies from.store.machine t.done ++ replies mid.store.machine last;
@@ -78,8 +96,25 @@ ends_done from mid to l l1 l2 o o1 o2 n none fresh goes few ate empty end fin =
       bounded = omega (arith, goes.length_is);
     }
 
+-- whole replies of a first part of the pieces were emitted
+replied_first : (s : State) (read : List ℕ) (done next rest more : List Piece) (before : ℕ) → all_pieces read ≡ done ++ next ++ rest
+    → length read ≤ before + READ_MOST → done ≡ (pieces (take before read)).whole ++ more → ShowsFirst s read (replies s done)
+replied_first s read done next rest more before parts late has = record {
+  done = done;
+  first = record {
+    rest = next ++ rest;
+    parts = parts ∙ rw (append_assoc, append-nil) refl;
+    before = before;
+    late = late;
+    more = more;
+    has = has;
+  };
+  replied = refl;
+}
+
 -- a run that stopped shows a first part
-stops_show : (stop : Stop) (s : State) (read : List ℕ) (done next rest more : List Piece) (before : ℕ) (l l2 o o2 : Option (List ℕ)) → Consumes l l2 read → length read ≤ SCRIPT_MOST + READ_MOST → all_pieces read ≡ done ++ next ++ rest → length read ≤ before + READ_MOST
+stops_show : (stop : Stop) (s : State) (read : List ℕ) (done next rest more : List Piece) (before : ℕ) (l l2 o o2 : Option (List ℕ))
+    → Consumes l l2 read → length read ≤ SCRIPT_MOST + READ_MOST → all_pieces read ≡ done ++ next ++ rest → length read ≤ before + READ_MOST
     → done ≡ (pieces (take before read)).whole ++ more → ShownAt stop s o o2 done next → Runs (status_of_stop stop) s l l2 o o2
 stops_show Memory s read done next rest more before l l2 o o2 consumed bounded parts late has at = record {
   read = read;
@@ -87,11 +122,7 @@ stops_show Memory s read done next rest more before l l2 o o2 consumed bounded p
   consumed = consumed;
   emitted = at;
   at_end = tt;
-  shows = record {
-    done = done;
-    first = record { rest = next ++ rest; parts = parts ∙ rw (append_assoc, append-nil) refl; before = before; late = late; more = more; has = has };
-    replied = refl;
-  };
+  shows = replied_first s read done next rest more before parts late has;
   bounded = bounded;
 }
 stops_show Disk s read done next rest more before l l2 o o2 consumed bounded parts late has at = record {
@@ -100,11 +131,7 @@ stops_show Disk s read done next rest more before l l2 o o2 consumed bounded par
   consumed = consumed;
   emitted = at;
   at_end = tt;
-  shows = record {
-    done = done;
-    first = record { rest = next ++ rest; parts = parts ∙ rw (append_assoc, append-nil) refl; before = before; late = late; more = more; has = has };
-    replied = refl;
-  };
+  shows = replied_first s read done next rest more before parts late has;
   bounded = bounded;
 }
 stops_show Output s read done next rest more before l l2 o o2 consumed bounded parts late has (piece, front, back, one, reply, shown) = record {
@@ -125,15 +152,19 @@ stops_show Output s read done next rest more before l l2 o o2 consumed bounded p
   bounded = bounded;
 }
 
-stops_read : (stop : Stop) (s : State) (read : List ℕ) (done next rest more : List Piece) (before : ℕ) (l l2 o o2 : Option (List ℕ)) (consumed : Consumes l l2 read) (bounded : length read ≤ SCRIPT_MOST + READ_MOST) (parts : all_pieces read ≡ done ++ next ++ rest) (late : length read ≤ before + READ_MOST)
-    (has : done ≡ (pieces (take before read)).whole ++ more) (at : ShownAt stop s o o2 done next) → (stops_show stop s read done next rest more before l l2 o o2 consumed bounded parts late has at).read ≡ read
+stops_read : (stop : Stop) (s : State) (read : List ℕ) (done next rest more : List Piece) (before : ℕ) (l l2 o o2 : Option (List ℕ))
+    (consumed : Consumes l l2 read) (bounded : length read ≤ SCRIPT_MOST + READ_MOST) (parts : all_pieces read ≡ done ++ next ++ rest)
+    (late : length read ≤ before + READ_MOST)
+    (has : done ≡ (pieces (take before read)).whole ++ more) (at : ShownAt stop s o o2 done next)
+    → (stops_show stop s read done next rest more before l l2 o o2 consumed bounded parts late has at).read ≡ read
 unfolding stops_show
 stops_read Memory s read done next rest more before l l2 o o2 consumed bounded parts late has at = refl
 stops_read Disk s read done next rest more before l l2 o o2 consumed bounded parts late has at = refl
 stops_read Output s read done next rest more before l l2 o o2 consumed bounded parts late has (piece, front, back, one, reply, shown) = refl
 
 -- the last reply was not emitted
-pub ends_last : (stop : Stop) (from mid : Session) (l l1 l2 o o1 o2 : Option (List ℕ)) (n : ℕ) (none : List ℕ) → IsFresh from → Goes from mid l l1 o o1 n → n ≤ 2 ^ 40 → Consumes l1 l2 none → length none ≡ 0
+pub ends_last : (stop : Stop) (from mid : Session) (l l1 l2 o o1 o2 : Option (List ℕ)) (n : ℕ) (none : List ℕ) → IsFresh from
+    → Goes from mid l l1 o o1 n → n ≤ 2 ^ 40 → Consumes l1 l2 none → length none ≡ 0
     → ShownAt stop mid.store.machine o1 o2 [] (resume mid.splitter []).last → Runs (status_of_stop stop) from.store.machine l l2 o o2
 ends_last stop from mid l l1 l2 o o1 o2 n none fresh goes few ate empty at =
     let t = goes.taken in
@@ -143,15 +174,21 @@ ends_last stop from mid l l1 l2 o o1 o2 n none fresh goes few ate empty at =
     (rw append-nil (all_now from mid o o1 goes.read fresh t))
     (omega arith)
     (rw (take-length, append-nil) (sym (whole_now from mid o o1 goes.read fresh t)))
-    (rw (← append-nil t.done) (stopped_later stop from.store.machine mid.store.machine t.done [] (resume mid.splitter []).last o o1 o2 t.state t.shown at))
+    (rw (← append-nil t.done)
+    (stopped_later stop from.store.machine mid.store.machine t.done [] (resume mid.splitter []).last o o1 o2 t.state t.shown at))
 
-pub ends_last_read : (stop : Stop) (from mid : Session) (l l1 l2 o o1 o2 : Option (List ℕ)) (n : ℕ) (none : List ℕ) (fresh : IsFresh from) (goes : Goes from mid l l1 o o1 n) (few : n ≤ 2 ^ 40) (ate : Consumes l1 l2 none) (empty : length none ≡ 0)
-    (at : ShownAt stop mid.store.machine o1 o2 [] (resume mid.splitter []).last) → (ends_last stop from mid l l1 l2 o o1 o2 n none fresh goes few ate empty at).read ≡ goes.read
+pub ends_last_read : (stop : Stop) (from mid : Session) (l l1 l2 o o1 o2 : Option (List ℕ)) (n : ℕ) (none : List ℕ) (fresh : IsFresh from)
+    (goes : Goes from mid l l1 o o1 n) (few : n ≤ 2 ^ 40) (ate : Consumes l1 l2 none) (empty : length none ≡ 0)
+    (at : ShownAt stop mid.store.machine o1 o2 [] (resume mid.splitter []).last)
+    → (ends_last stop from mid l l1 l2 o o1 o2 n none fresh goes few ate empty at).read ≡ goes.read
 unfolding ends_last
-ends_last_read stop from mid l l1 l2 o o1 o2 n none fresh goes few ate empty at = stops_read stop from.store.machine goes.read goes.taken.done (resume mid.splitter []).last [] [] (length goes.read) l l2 o o2 _ _ _ _ _ _
+ends_last_read stop from mid l l1 l2 o o1 o2 n none fresh goes few ate empty at = stops_read stop from.store.machine goes.read
+    goes.taken.done (resume mid.splitter []).last [] [] (length goes.read) l l2 o o2 _ _ _ _ _ _
 
 -- the script was too long
-unfoldable pub ends_long : (from mid to : Session) (l l1 l2 o o1 o2 : Option (List ℕ)) (n : ℕ) (chunk part rest : List ℕ) → IsFresh from → Goes from mid l l1 o o1 n → n ≤ 2 ^ 40 → Consumes l1 l2 chunk → length chunk ≤ READ_MOST → chunk ≡ part ++ rest → n + length part ≡ SCRIPT_MOST
+unfoldable pub ends_long : (from mid to : Session) (l l1 l2 o o1 o2 : Option (List ℕ)) (n : ℕ) (chunk part rest : List ℕ) → IsFresh from
+    → Goes from mid l l1 o o1 n → n ≤ 2 ^ 40 → Consumes l1 l2 chunk → length chunk ≤ READ_MOST → chunk ≡ part ++ rest
+    → n + length part ≡ SCRIPT_MOST
     → 0 < length rest → Takes mid to o1 o2 part → Runs ScriptTooLong from.store.machine l l2 o o2
 ends_long from mid to l l1 l2 o o1 o2 n chunk part rest fresh goes few ate small parts full over more =
     let t = takes_both from mid to o o1 o2 goes.read part goes.taken more in
@@ -170,7 +207,8 @@ ends_long from mid to l l1 l2 o o1 o2 n chunk part rest fresh goes few ate small
     }
 
 -- it stopped within what a read gave
-pub ends_within : (stop : Stop) (from mid : Session) (l l1 l2 o o1 o2 : Option (List ℕ)) (n : ℕ) (chunk part rest : List ℕ) → IsFresh from → Goes from mid l l1 o o1 n → n ≤ 2 ^ 40 → Consumes l1 l2 chunk → length chunk ≤ READ_MOST → chunk ≡ part ++ rest
+pub ends_within : (stop : Stop) (from mid : Session) (l l1 l2 o o1 o2 : Option (List ℕ)) (n : ℕ) (chunk part rest : List ℕ) → IsFresh from
+    → Goes from mid l l1 o o1 n → n ≤ 2 ^ 40 → Consumes l1 l2 chunk → length chunk ≤ READ_MOST → chunk ≡ part ++ rest
     → Stops stop mid o1 o2 part → Runs (status_of_stop stop) from.store.machine l l2 o o2
 ends_within stop from mid l l1 l2 o o1 o2 n chunk part rest fresh goes few ate small parts u =
     let t = goes.taken in
@@ -178,7 +216,8 @@ ends_within stop from mid l l1 l2 o o1 o2 n chunk part rest fresh goes few ate s
     let bytes : goes.read ++ chunk ≡ goes.read ++ (u.taken ++ (u.rest ++ rest)) = rw (parts, u.parts) (simp append_assoc) in
     let cut : pieces (goes.read ++ chunk) ≡ behind t.done (behind (u.done ++ u.next) onward) =
     ap pieces bytes ∙ pieces_on from mid o o1 goes.read fresh t (u.taken ++ (u.rest ++ rest)) ∙ ap (behind t.done) (u.reading (u.rest ++ rest)) in
-    stops_show stop from.store.machine (goes.read ++ chunk) (t.done ++ u.done) u.next (onward.whole ++ onward.last) u.done (length goes.read) l l2 o o2
+    stops_show stop from.store.machine (goes.read ++ chunk) (t.done ++ u.done) u.next (onward.whole ++ onward.last) u.done
+    (length goes.read) l l2 o o2
     (consumes_both l l1 l2 goes.read chunk goes.consumed ate)
     (omega (arith, length-append goes.read chunk, goes.length_is))
     (ap (λ (p : Pieces). p.whole ++ p.last) cut ∙ simp append_assoc)
@@ -186,14 +225,19 @@ ends_within stop from mid l l1 l2 o o1 o2 n chunk part rest fresh goes few ate s
     (rw (take-append_seam goes.read chunk, whole_now from mid o o1 goes.read fresh t) refl)
     (stopped_later stop from.store.machine mid.store.machine t.done u.done u.next o o1 o2 t.state t.shown u.shown)
 
-pub ends_within_read : (stop : Stop) (from mid : Session) (l l1 l2 o o1 o2 : Option (List ℕ)) (n : ℕ) (chunk part rest : List ℕ) (fresh : IsFresh from) (goes : Goes from mid l l1 o o1 n) (few : n ≤ 2 ^ 40) (ate : Consumes l1 l2 chunk) (small : length chunk ≤ READ_MOST) (parts : chunk ≡ part ++ rest)
-    (u : Stops stop mid o1 o2 part) → (ends_within stop from mid l l1 l2 o o1 o2 n chunk part rest fresh goes few ate small parts u).read ≡ goes.read ++ chunk
+pub ends_within_read : (stop : Stop) (from mid : Session) (l l1 l2 o o1 o2 : Option (List ℕ)) (n : ℕ) (chunk part rest : List ℕ)
+    (fresh : IsFresh from) (goes : Goes from mid l l1 o o1 n) (few : n ≤ 2 ^ 40) (ate : Consumes l1 l2 chunk)
+    (small : length chunk ≤ READ_MOST) (parts : chunk ≡ part ++ rest)
+    (u : Stops stop mid o1 o2 part)
+    → (ends_within stop from mid l l1 l2 o o1 o2 n chunk part rest fresh goes few ate small parts u).read ≡ goes.read ++ chunk
 unfolding ends_within
-ends_within_read stop from mid l l1 l2 o o1 o2 n chunk part rest fresh goes few ate small parts u = stops_read stop from.store.machine (goes.read ++ chunk) (goes.taken.done ++ u.done) u.next _ u.done (length goes.read) l l2 o o2 _ _ _ _ _ _
+ends_within_read stop from mid l l1 l2 o o1 o2 n chunk part rest fresh goes few ate small parts u = stops_read stop from.store.machine
+    (goes.read ++ chunk) (goes.taken.done ++ u.done) u.next _ u.done (length goes.read) l l2 o o2 _ _ _ _ _ _
 
 -- ---- it goes on
 
-unfoldable pub goes_on : (from mid to : Session) (l l1 l2 o o1 o2 : Option (List ℕ)) (n m : ℕ) (chunk : List ℕ) → Goes from mid l l1 o o1 n → Consumes l1 l2 chunk → Takes mid to o1 o2 chunk → m ≡ length chunk → Goes from to l l2 o o2 (n + m)
+unfoldable pub goes_on : (from mid to : Session) (l l1 l2 o o1 o2 : Option (List ℕ)) (n m : ℕ) (chunk : List ℕ) → Goes from mid l l1 o o1 n
+    → Consumes l1 l2 chunk → Takes mid to o1 o2 chunk → m ≡ length chunk → Goes from to l l2 o o2 (n + m)
 goes_on from mid to l l1 l2 o o1 o2 n m chunk goes ate more is = record {
   read = goes.read ++ chunk;
   consumed = consumes_both l l1 l2 goes.read chunk goes.consumed ate;

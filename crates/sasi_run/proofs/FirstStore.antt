@@ -16,7 +16,8 @@ use Rattle.sasi_gated.specs.Format.{IsGated}
 use Rattle.sasi_gated.specs.Laws.{gated_end}
 use Rattle.sasi_commitlog.specs.Standing.{IsAtLogEnd}
 use Rattle.sasi_manifest.specs.declared.listing.Listing.{Listing}
-use Rattle.sasi_manifest.specs.Consistent.{IsConsistent, record_consistent}
+use Rattle.sasi_manifest.specs.Consistent.{IsConsistent}
+use Rattle.sasi_manifest.proofs.Consistency.{record_consistent}
 use Rattle.sasi_manifest.specs.Edits.{encoded, start_length}
 use Rattle.sasi_manifest.specs.Format.{IsManifest, IsRewritten}
 use Rattle.sasi_manifest.specs.Listings.{AllApply, edits_of}
@@ -44,7 +45,8 @@ first_short p = omega (arith, start_length p 1 1)
 
 -- the listing that is made
 abbrev pub made_listing : Partitioner → Listing
-made_listing p = record { partitioner = p; floor = 1; last = 1; records = 0 + 1; length = 17 + (5 + length (encoded (edits_of (new_listing p)))); tables = [] }
+made_listing p = record
+    { partitioner = p; floor = 1; last = 1; records = 0 + 1; length = 17 + (5 + length (encoded (edits_of (new_listing p)))); tables = [] }
 
 pub is_rewritten : (p : Partitioner) → IsRewritten (new_listing p) (made_listing p)
 is_rewritten p = refl
@@ -53,7 +55,8 @@ pub made_is : (p : Partitioner) (made : Listing) → IsRewritten (new_listing p)
 made_is p made is = let e : Some made ≡ Some (made_listing p) = is in cc
 
 made_consistent : (p : Partitioner) → IsConsistent (made_listing p)
-made_consistent p = record_consistent None (encoded (edits_of (new_listing p))) (edits_of (new_listing p)) (made_listing p) (first_apply p) (is_rewritten p) tt
+made_consistent p = record_consistent None (encoded (edits_of (new_listing p))) (edits_of (new_listing p)) (made_listing p) (first_apply p)
+    (is_rewritten p) tt
 
 -- it makes the state without tables
 made_state : (p : Partitioner) → empty_state p ≡ state_made (made_listing p) ([] ∷ [])
@@ -66,7 +69,9 @@ made_state p = refl
 abbrev pub IsFirstLog : Bytes → Type 0
 IsFirstLog bytes = IsGated (log_name 1) bytes []
 
-holds_made : (p : Partitioner) (y : Folder) (manifest log : Bytes) → IsSome (get y (seal_name 1)) → ((other : ℕ) → 1 < other → get y (seal_name other) ≡ None) → get y (manifest_name 1) ≡ Some manifest → IsManifest 1 manifest (made_listing p)
+holds_made : (p : Partitioner) (y : Folder) (manifest log : Bytes) → IsSome (get y (seal_name 1))
+    → ((other : ℕ) → 1 < other → get y (seal_name other) ≡ None) → get y (manifest_name 1) ≡ Some manifest
+    → IsManifest 1 manifest (made_listing p)
     → get y (log_name 1) ≡ Some log → IsFirstLog log → Holds y 1 (made_listing p) ([] ∷ [])
 holds_made p y manifest log sealed none there lists has first = record {
   sealed = record { there = sealed; highest = none };
@@ -81,8 +86,10 @@ fresh_stands : (p : Partitioner) (x y : Folder) → IsFresh y → StandsEmpty p 
 fresh_stands p x y fresh = inl (fresh, refl)
 
 -- where each image is new and stays so
-pub fresh_moments : (a b : View) (S : Relation) (p : Partitioner) → IsSound a → ((x y : Folder) → S x y → IsFresh x → IsFresh y) → Changes S a b → Each a IsFresh → Changes (StandsEmpty p) a b
-fresh_moments a b S p sound keeps change fresh = at_each_moment a b S IsFresh (λ y. StandsEmpty p y y) sound change fresh (λ x y was step. fresh_stands p y y (keeps x y step was))
+pub fresh_moments : (a b : View) (S : Relation) (p : Partitioner) → IsSound a → ((x y : Folder) → S x y → IsFresh x → IsFresh y)
+    → Changes S a b → Each a IsFresh → Changes (StandsEmpty p) a b
+fresh_moments a b S p sound keeps change fresh = at_each_moment a b S IsFresh (λ y. StandsEmpty p y y) sound change fresh
+    (λ x y was step. fresh_stands p y y (keeps x y step was))
 
 pub same_fresh : (x y : Folder) → Same x y → IsFresh x → IsFresh y
 same_fresh x y same fresh = subst IsFresh (sym same) fresh
@@ -121,7 +128,9 @@ created_stands p log x y first begun creates = ⊎_elim
       number = 1;
       listing = made_listing p;
       logs = [] ∷ [];
-      holds = holds_made p y whole.1 log (ap (λ (o : Option Bytes). is_some o) whole.0) (λ other above. creates.others (seal_name other) (kinds_apart _ _ (omega arith)) (seals_apart other above) ∙ seal_none x other begun.fresh) whole.2 whole.3 (creates.others (log_name 1) (log_apart 1) (log_seal_apart 1) ∙ begun.has) first;
+      holds = holds_made p y whole.1 log (ap (λ (o : Option Bytes). is_some o) whole.0)
+          (λ other above. creates.others (seal_name other) (kinds_apart _ _ (omega arith)) (seals_apart other above)
+          ∙ seal_none x other begun.fresh) whole.2 whole.3 (creates.others (log_name 1) (log_apart 1) (log_seal_apart 1) ∙ begun.has) first;
       makes = made_state p;
     }))
     creates.whole
@@ -129,11 +138,15 @@ created_stands p log x y first begun creates = ⊎_elim
 first_log : (v : View) (at : ℕ) → (end : IsAtLogEnd v (log_name 1) at []) → IsFirstLog end.bytes
 first_log v at end = gated_end v (log_name 1) at [] end
 
-pub create_moments : (a b c : View) (p : Partitioner) (at : ℕ) → IsSound a → IsSound b → Each a IsFresh → Changes (Step (log_name 1) Anyhow) a b → IsAtLogEnd b (log_name 1) at [] → Changes (Creates 1 (made_listing p)) b c → Changes (StandsEmpty p) a c
+pub create_moments : (a b c : View) (p : Partitioner) (at : ℕ) → IsSound a → IsSound b → Each a IsFresh
+    → Changes (Step (log_name 1) Anyhow) a b → IsAtLogEnd b (log_name 1) at [] → Changes (Creates 1 (made_listing p)) b c
+    → Changes (StandsEmpty p) a c
 create_moments a b c p at sound_a sound_b fresh first end second =
     let fresh_b = each_on a b (Step (log_name 1) Anyhow) IsFresh first log_fresh fresh in
     then_each_moment a b c (λ y. StandsEmpty p y y) (fresh_moments a b (Step (log_name 1) Anyhow) p sound_a log_fresh first fresh)
-    (at_each_moment b c (Creates 1 (made_listing p)) (IsBegun end.bytes) (λ y. StandsEmpty p y y) sound_b second (λ x now. record { fresh = fresh_b x now; has = end.kept x now }) (λ x y begun creates. created_stands p end.bytes x y (first_log b at end) begun creates))
+    (at_each_moment b c (Creates 1 (made_listing p)) (IsBegun end.bytes) (λ y. StandsEmpty p y y) sound_b second
+    (λ x now. record { fresh = fresh_b x now; has = end.kept x now })
+    (λ x y begun creates. created_stands p end.bytes x y (first_log b at end) begun creates))
 
 -- ---- the store that is made
 
@@ -141,7 +154,8 @@ log_kept : (x y : Folder) → Touches 1 x y → get y (log_name 1) ≡ get x (lo
 log_kept x y touches = touches (log_name 1) (log_apart 1) (log_seal_apart 1)
 
 pub log_room : (b c : View) (at : ℕ) → Changes (Touches 1) b c → Reaches b (log_name 1) at → Reaches c (log_name 1) at
-log_room b c at change reaches = reaches_where b c (Touches 1) (log_name 1) at change (contents_kept b c (Touches 1) (log_name 1) log_kept change) reaches
+log_room b c at change reaches = reaches_where b c (Touches 1) (log_name 1) at change
+    (contents_kept b c (Touches 1) (log_name 1) log_kept change) reaches
 
 log_end : (b c : View) (at : ℕ) → Changes (Touches 1) b c → IsAtLogEnd b (log_name 1) at [] → IsAtLogEnd c (log_name 1) at []
 log_end b c at change end = record {
@@ -152,11 +166,14 @@ log_end b c at change end = record {
   closed = end.closed;
 }
 
-module _ (p : Partitioner) (store : Store) (machine_is : store.machine ≡ empty_state p) (rewritten : IsRewritten (new_listing p) store.manifest.listing) (number_is : store.manifest.number ≡ 1) (file_is : store.log.file ≡ log_name 1) where
+module _ (p : Partitioner) (store : Store) (machine_is : store.machine ≡ empty_state p)
+    (rewritten : IsRewritten (new_listing p) store.manifest.listing) (number_is : store.manifest.number ≡ 1)
+    (file_is : store.log.file ≡ log_name 1) where
   listing_is : store.manifest.listing ≡ made_listing p
   listing_is = made_is p store.manifest.listing rewritten
 
-  pub first_ready : (c : View) → Reaches c (manifest_name 1) (store.manifest.at + 1) → Reaches c (log_name 1) (store.log.at + 1) → IsTrue store.manifest.usable → IsTrue store.log.usable → HasNoOther c 1 (made_listing p) → IsReady c store
+  pub first_ready : (c : View) → Reaches c (manifest_name 1) (store.manifest.at + 1) → Reaches c (log_name 1) (store.log.at + 1)
+      → IsTrue store.manifest.usable → IsTrue store.log.usable → HasNoOther c 1 (made_listing p) → IsReady c store
   first_ready c manifest_room log_room manifest_usable log_usable alone = record {
     together = record {
       file = file_is ∙ ap (λ (l : Listing). log_name l.last) (sym listing_is);
@@ -171,13 +188,19 @@ module _ (p : Partitioner) (store : Store) (machine_is : store.machine ≡ empty
     no_other = subst (λ n. HasNoOther c n store.manifest.listing) (sym number_is) (subst (HasNoOther c 1) (sym listing_is) alone);
   }
 
-  pub first_serves : (a b c : View) → Each a IsFresh → Changes (Step (log_name 1) Anyhow) a b → IsAtLogEnd b (log_name 1) store.log.at [] → Changes (Touches 1) b c → (IsUnsealed b 1 → IsKept c (seal_name 1) [])
+  pub first_serves : (a b c : View) → Each a IsFresh → Changes (Step (log_name 1) Anyhow) a b → IsAtLogEnd b (log_name 1) store.log.at []
+      → Changes (Touches 1) b c → (IsUnsealed b 1 → IsKept c (seal_name 1) [])
       → manifests.Stands c 1 store.manifest.at store.manifest.listing → ServesStore c store
   first_serves a b c fresh first end second sealed stands =
       let fresh_b = each_on a b (Step (log_name 1) Anyhow) IsFresh first log_fresh fresh in
       let end_c = log_end b c store.log.at second end in
       let stands_made : manifests.Stands c 1 store.manifest.at (made_listing p) = subst (manifests.Stands c 1 store.manifest.at) listing_is stands in
-      let whole : IsManifest 1 stands_made.at_end.bytes (made_listing p) = (stands_made.records, gated_end c (manifest_name 1) store.manifest.at stands_made.records stands_made.at_end, stands_made.builds) in
+      let whole : IsManifest 1 stands_made.at_end.bytes (made_listing p) = (
+        stands_made.records,
+        gated_end c (manifest_name 1)
+            store.manifest.at stands_made.records stands_made.at_end,
+        stands_made.builds,
+      ) in
       record {
         older = [];
         current = [];
@@ -185,10 +208,13 @@ module _ (p : Partitioner) (store : Store) (machine_is : store.machine ≡ empty
         manifest_end = subst (λ n. manifests.Stands c n store.manifest.at store.manifest.listing) (sym number_is) stands;
         held = λ y now. (
             let from = second.image y now in
-            let none = λ (other : ℕ) (above : 1 < other). from.2 (seal_name other) (kinds_apart _ _ (omega arith)) (seals_apart other above) ∙ seal_none from.0 other (fresh_b from.0 from.1) in
+            let none = λ (other : ℕ) (above : 1 < other). from.2 (seal_name other) (kinds_apart _ _ (omega arith)) (seals_apart other above)
+            ∙ seal_none from.0 other (fresh_b from.0 from.1) in
             let there : IsSome (get y (seal_name 1)) = ap (λ (o : Option Bytes). is_some o) (sealed (fresh_unsealed b fresh_b) y now) in
-            let holds = holds_made p y stands_made.at_end.bytes end_c.bytes there none (stands_made.at_end.kept y now) whole (end_c.kept y now) (first_log c store.log.at end_c) in
-            subst (λ n. Holds y n store.manifest.listing ([] ∷ [])) (sym number_is) (subst (λ (l : Listing). Holds y 1 l ([] ∷ [])) (sym listing_is) holds)
+            let holds = holds_made p y stands_made.at_end.bytes end_c.bytes there none (stands_made.at_end.kept y now) whole
+            (end_c.kept y now) (first_log c store.log.at end_c) in
+            subst (λ n. Holds y n store.manifest.listing ([] ∷ [])) (sym number_is)
+            (subst (λ (l : Listing). Holds y 1 l ([] ∷ [])) (sym listing_is) holds)
             );
         makes = machine_is ∙ made_state p ∙ ap (λ (l : Listing). state_made l ([] ∷ [])) (sym listing_is);
       }
@@ -217,21 +243,25 @@ somehow_on a b c first second = changes_on a b c Somehow Somehow Somehow first s
 pub no_moments : (v : View) (p : Partitioner) → IsSound v → Each v IsFresh → Changes (StandsEmpty p) v v
 no_moments v p sound fresh = fresh_moments v v Same p sound same_fresh (stays v) fresh
 
-module _ (a b : View) (p : Partitioner) (kept : FileName → Bool) (sound : IsSound a) (change : Changes (Deletes kept) a b) (fresh : Each a IsFresh) where
+module _ (a b : View) (p : Partitioner) (kept : FileName → Bool) (sound : IsSound a) (change : Changes (Deletes kept) a b)
+    (fresh : Each a IsFresh) where
   pub deleted_moments : Changes (StandsEmpty p) a b
   deleted_moments = fresh_moments a b (Deletes kept) p sound (deletes_fresh kept) change fresh
 
   pub deleted_fresh : Each b IsFresh
   deleted_fresh = each_on a b (Deletes kept) IsFresh change (deletes_fresh kept) fresh
 
-module _ (a b c : View) (p : Partitioner) (kept : FileName → Bool) (sound_a : IsSound a) (sound_b : IsSound b) (change : Changes (Deletes kept) a b) (sync : Changes Same b c) (fresh : Each a IsFresh) where
+module _ (a b c : View) (p : Partitioner) (kept : FileName → Bool) (sound_a : IsSound a) (sound_b : IsSound b)
+    (change : Changes (Deletes kept) a b) (sync : Changes Same b c) (fresh : Each a IsFresh) where
   pub synced_moments : Changes (StandsEmpty p) a c
-  synced_moments = then_each_moment a b c (λ y. StandsEmpty p y y) (deleted_moments a b p kept sound_a change fresh) (fresh_moments b c Same p sound_b same_fresh sync (deleted_fresh a b p kept sound_a change fresh))
+  synced_moments = then_each_moment a b c (λ y. StandsEmpty p y y) (deleted_moments a b p kept sound_a change fresh)
+      (fresh_moments b c Same p sound_b same_fresh sync (deleted_fresh a b p kept sound_a change fresh))
 
   pub synced_fresh : Each c IsFresh
   synced_fresh = each_on b c Same IsFresh sync same_fresh (deleted_fresh a b p kept sound_a change fresh)
 
 -- what a later part of a call promises, promised from its start
-pub serves_later : (result : Result Store HostFault) (b c a : View) → IfOk result (λ store. IsTold b → Each b IsFresh → ServesStore c store) → (IsTold a → IsTold b) → (Each a IsFresh → Each b IsFresh) → IfOk result (λ store. IsTold a → Each a IsFresh → ServesStore c store)
+pub serves_later : (result : Result Store HostFault) (b c a : View) → IfOk result (λ store. IsTold b → Each b IsFresh → ServesStore c store)
+    → (IsTold a → IsTold b) → (Each a IsFresh → Each b IsFresh) → IfOk result (λ store. IsTold a → Each a IsFresh → ServesStore c store)
 serves_later (Ok store) b c a serves told fresh = λ seen new. serves (told seen) (fresh new)
 serves_later (Err fault) b c a serves told fresh = tt

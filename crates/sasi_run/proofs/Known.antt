@@ -26,4 +26,5 @@ no_bytes (x ∷ xs) e = absurd (omega arith)
 
 -- a read that gave no bytes
 pub consumes_none : (a b c : Option (List ℕ)) (xs none : List ℕ) → Consumes a b xs → Consumes b c none → length none ≡ 0 → Consumes a c xs
-consumes_none a b c xs none p q e = subst (λ ys. Consumes a c ys) (ap (λ ys. xs ++ ys) (no_bytes none e) ∙ append-nil xs) (consumes_both a b c xs none p q)
+consumes_none a b c xs none p q e = subst (λ ys. Consumes a c ys) (ap (λ ys. xs ++ ys) (no_bytes none e) ∙ append-nil xs)
+    (consumes_both a b c xs none p q)

@@ -37,34 +37,83 @@ module _ (a : View) (s : State) (starts : StartsFrom a s) (before : List ℕ) (e
   at_start : (folder : Folder) (out : List ℕ) → LeavesNow a folder out → Recovers a s pieces before folder out
   at_start folder out now =
       let stood = starts.images folder now.0 in
-      record { shown = []; went = one_of out before (sym now.1 ∙ emitted) ∙ sym (append-nil before); stands = inl (record { nothing = refl; image = folder; was = now.0; state = stood.0; stood = stood.1; stands = stood.1 }) }
+      record {
+        shown = [];
+        went = one_of out before (sym now.1 ∙ emitted)
+            ∙ sym (append-nil before);
+        stands = inl
+            (record { nothing = refl; image = folder; was = now.0; state = stood.0; stood = stood.1; stands = stood.1 });
+      }
 
   while_opening : IsSound a → (folder : Folder) (out : List ℕ) → FromImage (OpensTo Lead8 s) a folder out → Recovers a s pieces before folder out
   while_opening sound folder out (was, image, opens, said) =
       let stood = starts.images was image in
       let none : out ≡ before ++ [] = one_of out before (sym said ∙ emitted) ∙ sym (append-nil before) in
       ⊎_elim
-      (λ same. record { shown = []; went = none; stands = inl (record { nothing = refl; image = was; was = image; state = stood.0; stood = stood.1; stands = subst (λ (f : Folder). Stands Lead8 f stood.0) (sym same) stood.1 }) })
-      (λ stands. record { shown = []; went = none; stands = inl (record { nothing = refl; image = starts.folder; was = sound.reads starts.folder starts.reads; state = s; stood = starts.stands; stands = stands }) })
+      (λ same. record {
+        shown = [];
+        went = none;
+        stands = inl
+            (record {
+              nothing = refl;
+              image = was;
+              was = image;
+              state = stood.0;
+              stood = stood.1;
+              stands = subst
+                  (λ (f : Folder). Stands Lead8 f stood.0) (sym same) stood.1;
+            });
+      })
+      (λ stands. record {
+        shown = [];
+        went = none;
+        stands = inl
+            (record {
+              nothing = refl;
+              image = starts.folder;
+              was = sound.reads starts.folder starts.reads;
+              state = s;
+              stood = starts.stands;
+              stands = stands;
+            });
+      })
       opens
 
   -- the run stopped in the opening
-  pub recovers_opening : (b : View) → IsSound a → Changes (OpensTo Lead8 s) a b → (folder : Folder) (out : List ℕ) → b.left a.moment folder out → Recovers a s pieces before folder out
-  recovers_opening b sound change folder out left = ⊎_elim (at_start folder out) (while_opening sound folder out) (since_start a b (FromImage (OpensTo Lead8 s) a) sound change.during folder out left)
+  pub recovers_opening : (b : View) → IsSound a → Changes (OpensTo Lead8 s) a b → (folder : Folder) (out : List ℕ)
+      → b.left a.moment folder out → Recovers a s pieces before folder out
+  recovers_opening b sound change folder out left = ⊎_elim (at_start folder out) (while_opening sound folder out)
+      (since_start a b (FromImage (OpensTo Lead8 s) a) sound change.during folder out left)
 
   crashed : (folder : Folder) (out : List ℕ) → Crashed s before pieces folder out → Recovers a s pieces before folder out
   crashed folder out was =
       ⊎_elim
-      (λ quiet. record { shown = replies s was.done; went = quiet.went; stands = inr (λ n greatest. after_crash s before pieces folder out (replies s was.done) quiet.went n greatest was) })
-      (λ answering. record { shown = replies s was.done ++ answering.front; went = answering.went; stands = inr (λ n greatest. after_crash s before pieces folder out (replies s was.done ++ answering.front) answering.went n greatest was) })
+      (λ quiet. record {
+        shown = replies s was.done;
+        went = quiet.went;
+        stands = inr
+            (λ n greatest. after_crash s before pieces folder out (replies s was.done) quiet.went n greatest was);
+      })
+      (λ answering. record {
+        shown = replies s was.done
+            ++ answering.front;
+        went = answering.went;
+        stands = inr
+            (λ n greatest. after_crash s before pieces folder out (replies s was.done ++ answering.front) answering.went n greatest was);
+      })
       was.stands
 
   -- it went on behind it
-  pub recovers_run : (b c : View) (store : Store) → IsSound a → Changes (OpensTo Lead8 s) a b → ServesStore b store → store.machine ≡ s → LeavesPieces b c store pieces → (folder : Folder) (out : List ℕ) → c.left a.moment folder out → Recovers a s pieces before folder out
+  pub recovers_run : (b c : View) (store : Store) → IsSound a → Changes (OpensTo Lead8 s) a b → ServesStore b store → store.machine ≡ s
+      → LeavesPieces b c store pieces → (folder : Folder) (out : List ℕ) → c.left a.moment folder out
+      → Recovers a s pieces before folder out
   recovers_run b c store sound change serves is leaves folder out left =
       let told : IsTold a = subst (λ (f : Option Folder). IsSome f) (sym starts.reads) refl in
-      let serving : IsServing b store before = record { told = told_after (OpensTo Lead8 s) a b change told; serves = serves; emitted = change.emitted ∙ emitted } in
-      let both = crash_leaves_on a b c (FromImage (OpensTo Lead8 s) a) (Crashed store.machine before pieces) (λ x e. Recovers a s pieces before x e) change.during (leaves before serving) (while_opening sound) (λ x e p. crashed x e (subst (λ (t : State). Crashed t before pieces x e) is p)) in
+      let serving : IsServing b store before = record
+      { told = told_after (OpensTo Lead8 s) a b change told; serves = serves; emitted = change.emitted ∙ emitted } in
+      let both = crash_leaves_on a b c (FromImage (OpensTo Lead8 s) a) (Crashed store.machine before pieces)
+      (λ x e. Recovers a s pieces before x e) change.during (leaves before serving) (while_opening sound)
+      (λ x e p. crashed x e (subst (λ (t : State). Crashed t before pieces x e) is p)) in
       ⊎_elim (at_start folder out) (λ r. r) (since_start a c (λ x e. Recovers a s pieces before x e) sound both folder out left)
 
 -- ---- the end
@@ -86,23 +135,43 @@ alone_there v store sound told ready serves =
       holds = serves.held files.0 (sound.reads files.0 files.1);
       makes = serves.makes;
       alone = λ name other. sym (ap (λ (o : Option Folder). contents_in o name) files.1) ∙ ready.no_other name other;
-      images = λ image now. record { number = store.manifest.number; listing = store.manifest.listing; logs = serves.older ++ serves.current ∷ []; holds = serves.held image now; makes = serves.makes };
+      images = λ image now. record {
+        number = store.manifest.number;
+        listing = store.manifest.listing;
+        logs = serves.older
+            ++ serves.current ∷ [];
+        holds = serves.held image now;
+        makes = serves.makes;
+      };
     }
 
-ends_alone : (a b c : View) (s : State) (store : Store) → StartsFrom a s → (before : List ℕ) → a.emitted ≡ Some before → Changes (OpensTo Lead8 s) a b → ServesStore b store → store.machine ≡ s → IsSound c → (pieces : List Piece) → ServesAfter store b c pieces → StandsAlone c (state_after s pieces)
+ends_alone : (a b c : View) (s : State) (store : Store) → StartsFrom a s → (before : List ℕ) → a.emitted ≡ Some before
+    → Changes (OpensTo Lead8 s) a b → ServesStore b store → store.machine ≡ s → IsSound c → (pieces : List Piece)
+    → ServesAfter store b c pieces → StandsAlone c (state_after s pieces)
 ends_alone a b c s store starts before emitted change serves is sound pieces after =
     let told : IsTold a = subst (λ (f : Option Folder). IsSome f) (sym starts.reads) refl in
-    let serving : IsServing b store before = record { told = told_after (OpensTo Lead8 s) a b change told; serves = serves; emitted = change.emitted ∙ emitted } in
+    let serving : IsServing b store before = record
+    { told = told_after (OpensTo Lead8 s) a b change told; serves = serves; emitted = change.emitted ∙ emitted } in
     let later = after.serves before serving in
-    subst (λ (t : State). StandsAlone c t) (after.state ∙ ap (λ (t : State). state_after t pieces) is) (alone_there c after.last sound later.told after.ready later.serves)
+    subst (λ (t : State). StandsAlone c t) (after.state ∙ ap (λ (t : State). state_after t pieces) is)
+    (alone_there c after.last sound later.told after.ready later.serves)
 
 -- ---- what a run does
 
 -- the words named no script
 pub runs_nothing : (a : View) (s : State) (l : Option (List ℕ)) → IsSound a → StartsFrom a s → RunsFrom Usage s l l a a
 runs_nothing a s l sound starts = record {
-  runs = record { read = []; shown = []; consumed = consumes_nothing l; emitted = appends_none a.emitted; at_end = tt; shows = (refl, refl); bounded = omega arith };
-  crash = λ before emitted folder out left. recovers_opening a s starts before emitted _ a sound (changes_as a a Same (OpensTo Lead8 s) (stays a) (λ x y same. inl same)) folder out left;
+  runs = record {
+    read = [];
+    shown = [];
+    consumed = consumes_nothing l;
+    emitted = appends_none a.emitted;
+    at_end = tt;
+    shows = (refl, refl);
+    bounded = omega arith;
+  };
+  crash = λ before emitted folder out left. recovers_opening a s starts before emitted _ a sound
+      (changes_as a a Same (OpensTo Lead8 s) (stays a) (λ x y same. inl same)) folder out left;
   ends = λ is. absurd is;
 }
 
@@ -114,9 +183,36 @@ nothing_read s = record {
 }
 
 first_runs : (fault : ReadFault) (s : State) (l o o2 : Option (List ℕ)) → o2 ≡ o → Runs (status_of_fault fault) s l l o o2
-first_runs read_fault.Failed s l o o2 same = record { read = []; shown = []; consumed = consumes_nothing l; emitted = subst (λ (x : Option (List ℕ)). Appends o x []) (sym same) (appends_none o); at_end = tt; shows = nothing_read s; bounded = omega arith }
-first_runs read_fault.OutOfMemory s l o o2 same = record { read = []; shown = []; consumed = consumes_nothing l; emitted = subst (λ (x : Option (List ℕ)). Appends o x []) (sym same) (appends_none o); at_end = tt; shows = nothing_read s; bounded = omega arith }
-first_runs (read_fault.Damaged damage) s l o o2 same = record { read = []; shown = []; consumed = consumes_nothing l; emitted = subst (λ (x : Option (List ℕ)). Appends o x []) (sym same) (appends_none o); at_end = tt; shows = (refl, refl); bounded = omega arith }
+first_runs read_fault.Failed s l o o2 same = record {
+  read = [];
+  shown = [];
+  consumed = consumes_nothing l;
+  emitted = subst (λ (x : Option (List ℕ)). Appends o x []) (sym same)
+      (appends_none o);
+  at_end = tt;
+  shows = nothing_read s;
+  bounded = omega arith;
+}
+first_runs read_fault.OutOfMemory s l o o2 same = record {
+  read = [];
+  shown = [];
+  consumed = consumes_nothing l;
+  emitted = subst (λ (x : Option (List ℕ)). Appends o x []) (sym same)
+      (appends_none o);
+  at_end = tt;
+  shows = nothing_read s;
+  bounded = omega arith;
+}
+first_runs (read_fault.Damaged damage) s l o o2 same = record {
+  read = [];
+  shown = [];
+  consumed = consumes_nothing l;
+  emitted = subst (λ (x : Option (List ℕ)). Appends o x []) (sym same)
+      (appends_none o);
+  at_end = tt;
+  shows = (refl, refl);
+  bounded = omega arith;
+}
 
 not_ended : (fault : ReadFault) → RanToEnd (status_of_fault fault) → ⊥
 not_ended read_fault.Failed is = is
@@ -124,7 +220,8 @@ not_ended read_fault.OutOfMemory is = is
 not_ended (read_fault.Damaged damage) is = is
 
 -- the folder wasn't opened
-pub runs_unopened : (fault : ReadFault) (a b : View) (s : State) (l : Option (List ℕ)) → IsSound a → StartsFrom a s → Changes (OpensTo Lead8 s) a b → RunsFrom (status_of_fault fault) s l l a b
+pub runs_unopened : (fault : ReadFault) (a b : View) (s : State) (l : Option (List ℕ)) → IsSound a → StartsFrom a s
+    → Changes (OpensTo Lead8 s) a b → RunsFrom (status_of_fault fault) s l l a b
 runs_unopened fault a b s l sound starts change = record {
   runs = first_runs fault s l a.emitted b.emitted change.emitted;
   crash = λ before emitted folder out left. recovers_opening a s starts before emitted _ b sound change folder out left;
@@ -132,11 +229,17 @@ runs_unopened fault a b s l sound starts change = record {
 }
 
 -- it was, and the script run
-pub runs_opened : (status : Status) (a b c : View) (s : State) (store : Store) (l l2 : Option (List ℕ)) → IsSound a → StartsFrom a s → Changes (OpensTo Lead8 s) a b → ServesStore b store → store.machine ≡ s → IsSound c → RunsOn status store l l2 b c → RunsFrom status s l l2 a c
+pub runs_opened : (status : Status) (a b c : View) (s : State) (store : Store) (l l2 : Option (List ℕ)) → IsSound a → StartsFrom a s
+    → Changes (OpensTo Lead8 s) a b → ServesStore b store → store.machine ≡ s → IsSound c → RunsOn status store l l2 b c
+    → RunsFrom status s l l2 a c
 runs_opened status a b c s store l l2 sound starts change serves is sound_c on = record {
   runs = moved s store.machine is b.emitted a.emitted change.emitted on.runs;
-  crash = λ before emitted folder out left. recovers_run a s starts before emitted (all_pieces (script_of l (moved s store.machine is b.emitted a.emitted change.emitted on.runs).read)) b c store sound change serves is (same_read s store.machine is b.emitted a.emitted change.emitted) folder out left;
-  ends = λ ran said. (let out = some_out a.emitted said in ends_alone a b c s store starts out.0 out.1 change serves is sound_c (all_pieces (script_of l on.runs.read)) (on.ends ran));
+  crash = λ before emitted folder out left. recovers_run a s starts before emitted
+      (all_pieces (script_of l (moved s store.machine is b.emitted a.emitted change.emitted on.runs).read)) b c store sound change serves is
+      (same_read s store.machine is b.emitted a.emitted change.emitted) folder out left;
+  ends = λ ran said.
+      (let out = some_out a.emitted said in ends_alone a b c s store starts out.0 out.1 change serves is sound_c
+      (all_pieces (script_of l on.runs.read)) (on.ends ran));
 }
   where
     moved : (t m : State) → m ≡ t → (o p : Option (List ℕ)) → o ≡ p → Runs status m l l2 o c.emitted → Runs status t l l2 p c.emitted
@@ -159,7 +262,8 @@ rose_later : (a b c : ℕ) → a ≤ b → Rose b c → Rose a c
 rose_later a b c le rose = omega (arith, le, rose)
 
 -- the words name no script
-pub headline_unused : (words : List (List ℕ)) (script : SourceView) (a : View) → IsSound a → (AreWords words → ⊥) → Headline words Usage script script a a
+pub headline_unused : (words : List (List ℕ)) (script : SourceView) (a : View) → IsSound a → (AreWords words → ⊥)
+    → Headline words Usage script script a a
 headline_unused words script a sound none = record {
   shows = λ s starts. runs_nothing a s script.left sound starts;
   usage = (λ is. none, λ no. refl);
@@ -176,7 +280,13 @@ damage_same : (x y : Damage) → Damaged x ≡ Damaged y → x ≡ y
 damage_same x y is = cc
 
 -- the folder wasn't opened
-pub headline_unopened : (words : List (List ℕ)) (fault : ReadFault) (script : SourceView) (a b : View) → IsSound a → AreWords words → b.emitted ≡ a.emitted → ((folder : Folder) (s : State) → a.files ≡ Some folder → Stands Lead8 folder s → Changes (OpensTo Lead8 s) a b) → (fault ≡ read_fault.Failed → Rose a.disk_faults b.disk_faults) → ((folder : Folder) → a.files ≡ Some folder → OnDamage (FolderShows folder) fault) → ((folder : Folder) (s : State) → a.files ≡ Some folder → Stands Lead8 folder s → OnDamage (λ _. ⊥) fault) → Headline words (status_of_fault fault) script script a b
+pub headline_unopened : (words : List (List ℕ)) (fault : ReadFault) (script : SourceView) (a b : View) → IsSound a → AreWords words
+    → b.emitted ≡ a.emitted
+    → ((folder : Folder) (s : State) → a.files ≡ Some folder → Stands Lead8 folder s → Changes (OpensTo Lead8 s) a b)
+    → (fault ≡ read_fault.Failed → Rose a.disk_faults b.disk_faults)
+    → ((folder : Folder) → a.files ≡ Some folder → OnDamage (FolderShows folder) fault)
+    → ((folder : Folder) (s : State) → a.files ≡ Some folder → Stands Lead8 folder s → OnDamage (λ _. ⊥) fault)
+    → Headline words (status_of_fault fault) script script a b
 headline_unopened words read_fault.Failed script a b sound are silent change failed shown undamaged = record {
   shows = λ s starts. runs_unopened read_fault.Failed a b s script.left sound starts (change starts.folder s starts.reads starts.stands);
   usage = (λ is. cc, λ no. absurd (no are));
@@ -209,7 +319,8 @@ headline_unopened words (read_fault.Damaged damage) script a b sound are silent 
   script_fault = λ is. cc;
   folder_fault = λ is. cc;
   output_fault = λ is. cc;
-  damaged = λ told is. subst (λ (d : Damage). TellsDamage d script script a b) (damage_same damage told is) (record { shows = shown; unread = refl; silent = silent });
+  damaged = λ told is. subst (λ (d : Damage). TellsDamage d script script a b) (damage_same damage told is)
+      (record { shows = shown; unread = refl; silent = silent });
   refused = λ folder files none. record { refusal = tt; unread = refl; silent = silent };
   undamaged = λ s damage starts is. undamaged starts.folder s starts.reads starts.stands;
   complete = λ words x y disk. through_damage script.left;
@@ -220,14 +331,24 @@ headline_unopened words (read_fault.Damaged damage) script a b sound are silent 
     through_damage (Some script) = λ _. tt
 
 -- the script was run
-pub headline_opened : (words : List (List ℕ)) (status : Status) (script later : SourceView) (a b c : View) (store : Store) → IsSound a → IsSound c → AreWords words → ((folder : Folder) (s : State) → a.files ≡ Some folder → Stands Lead8 folder s → Changes (OpensTo Lead8 s) a b) → a.disk_faults ≤ b.disk_faults → b.out_faults ≡ a.out_faults
-    → ((folder : Folder) (s : State) → a.files ≡ Some folder → Stands Lead8 folder s → ServesStore b store × (store.machine ≡ s)) → ((folder : Folder) → a.files ≡ Some folder → Stands Lead8 folder store.machine) → RunsOn status store script.left later.left b c → (status ≡ ScriptFault → Rose script.faults later.faults) → (status ≡ OutputFault → Rose b.out_faults c.out_faults)
-    → (status ≡ FolderFault → Rose b.disk_faults c.disk_faults) → status ≢ Usage → ((damage : Damage) → status ≢ Damaged damage) → Headline words status script later a c
-headline_opened words status script later a b c store sound sound_c are change disk out opened stands on script_fault output_fault folder_fault used undamaged =
+pub headline_opened : (words : List (List ℕ)) (status : Status) (script later : SourceView) (a b c : View) (store : Store) → IsSound a
+    → IsSound c → AreWords words
+    → ((folder : Folder) (s : State) → a.files ≡ Some folder → Stands Lead8 folder s → Changes (OpensTo Lead8 s) a b)
+    → a.disk_faults ≤ b.disk_faults → b.out_faults ≡ a.out_faults
+    → ((folder : Folder) (s : State) → a.files ≡ Some folder → Stands Lead8 folder s → ServesStore b store × (store.machine ≡ s))
+    → ((folder : Folder) → a.files ≡ Some folder → Stands Lead8 folder store.machine) → RunsOn status store script.left later.left b c
+    → (status ≡ ScriptFault → Rose script.faults later.faults) → (status ≡ OutputFault → Rose b.out_faults c.out_faults)
+    → (status ≡ FolderFault → Rose b.disk_faults c.disk_faults) → status ≢ Usage → ((damage : Damage) → status ≢ Damaged damage)
+    → Headline words status script later a c
+headline_opened words status script later a b c store sound sound_c are change disk out opened stands on script_fault output_fault
+    folder_fault used undamaged =
     let output : status ≡ OutputFault → Rose a.out_faults c.out_faults = λ is. subst (λ n. Rose n c.out_faults) out (output_fault is) in
-    let folder : status ≡ FolderFault → Rose a.disk_faults c.disk_faults = λ is. rose_later a.disk_faults b.disk_faults c.disk_faults disk (folder_fault is) in
+    let folder : status ≡ FolderFault → Rose a.disk_faults c.disk_faults = λ is. rose_later a.disk_faults b.disk_faults c.disk_faults disk
+    (folder_fault is) in
     record {
-      shows = λ s starts. (let known = opened starts.folder s starts.reads starts.stands in runs_opened status a b c s store script.left later.left sound starts (change starts.folder s starts.reads starts.stands) known.0 known.1 sound_c on);
+      shows = λ s starts.
+          (let known = opened starts.folder s starts.reads starts.stands in runs_opened status a b c s store script.left later.left sound
+          starts (change starts.folder s starts.reads starts.stands) known.0 known.1 sound_c on);
       usage = (λ is. absurd (used is), λ no. absurd (no are));
       script_fault = script_fault;
       folder_fault = folder;
@@ -235,5 +356,6 @@ headline_opened words status script later a b c store sound sound_c are change d
       damaged = λ damage is. absurd (undamaged damage is);
       refused = λ folder files none. absurd (none store.machine (stands folder files));
       undamaged = λ s damage starts. undamaged damage;
-      complete = λ words x y z. through status store.machine script.left later.left b.emitted c.emitted on.runs used (λ is. x (script_fault is)) (λ is. y (output is)) (λ is. z (folder is));
+      complete = λ words x y z. through status store.machine script.left later.left b.emitted c.emitted on.runs used
+          (λ is. x (script_fault is)) (λ is. y (output is)) (λ is. z (folder is));
     }

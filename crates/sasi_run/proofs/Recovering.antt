@@ -47,9 +47,10 @@ silent s (p ∷ pieces) none =
     let first = silent_step s p (nil_front _ _ none) in
     silent (step s p).state pieces (nil_back (step s p).reply _ none) ∙ first
 
--- ---- the greatest number
+-- ---- the number of whole replies
 
-module _ (s : State) (before : List ℕ) (pieces : List Piece) (folder : Folder) (out shown : List ℕ) (went : out ≡ before ++ shown) (n : ℕ) (greatest : IsGreatest s pieces shown n) where
+module _ (s : State) (before : List ℕ) (pieces : List Piece) (folder : Folder) (out shown : List ℕ) (went : out ≡ before ++ shown) (n : ℕ)
+    (greatest : IsGreatest s pieces shown n) where
   at_least : (done rest : List Piece) (more : List ℕ) → pieces ≡ done ++ rest → shown ≡ replies s done ++ more → length done ≤ n
   at_least done rest more parts is = by (n - length done) (length done - n) refl refl
     where
@@ -57,25 +58,31 @@ module _ (s : State) (before : List ℕ) (pieces : List Piece) (folder : Folder)
       by k zero a b = omega arith
       by k (suc j) a b = (
           let same : take (length done) pieces ≡ done = ap (take (length done)) parts ∙ take-append_seam done rest in
-          absurd (greatest.no_more (length done) more (omega arith) (omega (arith, ap length parts, length-append done rest)) (is ∙ ap (λ (l : List Piece). replies s l ++ more) (sym same)))
+          absurd (greatest.no_more (length done) more (omega arith) (omega (arith, ap length parts, length-append done rest))
+          (is ∙ ap (λ (l : List Piece). replies s l ++ more) (sym same)))
           )
 
   -- the first n pieces, where so many of them were answered
   split : (done rest : List Piece) → pieces ≡ done ++ rest → length done ≤ n → take n pieces ≡ done ++ take (n - length done) rest
   split done rest parts le =
       let count : length done + (n - length done) ≡ n = omega (arith, le) in
-      subst (λ m. take m pieces ≡ done ++ take (n - length done) rest) count (ap (take (length done + (n - length done))) parts ∙ take-append-add done rest (n - length done))
+      subst (λ m. take m pieces ≡ done ++ take (n - length done) rest) count
+      (ap (take (length done + (n - length done))) parts ∙ take-append-add done rest (n - length done))
 
   quiet : (done rest : List Piece) → pieces ≡ done ++ rest → IsQuiet s before done folder out → StandsAfter s pieces n folder
   quiet done rest parts is =
-      let shows : shown ≡ replies s done ++ [] = append_cancel_left before shown (replies s done ++ []) (sym went ∙ is.went ∙ ap (λ (l : List ℕ). before ++ l) (sym (append-nil (replies s done)))) in
+      let shows : shown ≡ replies s done ++ [] = append_cancel_left before shown (replies s done ++ [])
+      (sym went ∙ is.went ∙ ap (λ (l : List ℕ). before ++ l) (sym (append-nil (replies s done)))) in
       let le = at_least done rest [] parts shows in
       let m = state_after s done in
       let mid = take (n - length done) rest in
       let first = split done rest parts le in
       let none : replies m mid ++ greatest.rest ≡ [] = sym (append_cancel_left (replies s done) [] (replies m mid ++ greatest.rest)
-      (sym shows ∙ greatest.begins ∙ ap (λ (l : List Piece). replies s l ++ greatest.rest) first ∙ ap (λ (l : List ℕ). l ++ greatest.rest) (replies-append done mid s) ∙ append_assoc (replies s done) (replies m mid) greatest.rest)) in
-      let same : state_after s (take n pieces) ≡ m = ap (state_after s) first ∙ state_after-append done mid s ∙ silent m mid (nil_front (replies m mid) greatest.rest none) in
+      (sym shows ∙ greatest.begins ∙ ap (λ (l : List Piece). replies s l ++ greatest.rest) first
+      ∙ ap (λ (l : List ℕ). l ++ greatest.rest) (replies-append done mid s)
+      ∙ append_assoc (replies s done) (replies m mid) greatest.rest)) in
+      let same : state_after s (take n pieces) ≡ m = ap (state_after s) first ∙ state_after-append done mid s
+      ∙ silent m mid (nil_front (replies m mid) greatest.rest none) in
       inl (inr (subst (λ (t : State). StandsSealed folder t) (sym same) is.stands))
 
   answering : (done rest : List Piece) → pieces ≡ done ++ rest → IsAnswering s before done rest folder out → StandsAfter s pieces n folder
@@ -88,9 +95,15 @@ module _ (s : State) (before : List ℕ) (pieces : List Piece) (folder : Folder)
       by zero count shows le = (
           let all : pieces ≡ done ++ (is.piece ∷ is.others) = parts ∙ ap (λ (l : List Piece). done ++ l) is.next in
           let one : length done + 1 ≡ suc n = omega (arith, le) in
-          let first : take (suc n) pieces ≡ done ++ (is.piece ∷ []) = subst (λ j. take j pieces ≡ done ++ (is.piece ∷ [])) one (ap (take (length done + 1)) all ∙ take-append-add done (is.piece ∷ is.others) 1) in
+          let first : take (suc n) pieces ≡ done ++ (is.piece ∷ []) = subst (λ j. take j pieces ≡ done ++ (is.piece ∷ [])) one
+          (ap (take (length done + 1)) all ∙ take-append-add done (is.piece ∷ is.others) 1) in
           let within : n < length pieces = omega (arith, le, ap length all, length-append done (is.piece ∷ is.others)) in
-          inr (within, inr (subst (λ (t : State). StandsSealed folder t) (sym (ap (state_after s) first ∙ state_after-append done (is.piece ∷ []) s)) is.stands))
+          inr (
+            within,
+            inr
+                (subst (λ (t : State). StandsSealed folder t) (sym (ap (state_after s) first ∙ state_after-append done (is.piece ∷ []) s))
+                is.stands),
+          )
           )
       by (suc j) count shows le = (
           let m = state_after s done in
@@ -98,13 +111,21 @@ module _ (s : State) (before : List ℕ) (pieces : List Piece) (folder : Folder)
           let mid = take j is.others in
           let taken : take (n - length done) rest ≡ is.piece ∷ mid = ap (λ k. take k rest) (sym count) ∙ ap (take (suc j)) is.next in
           let first : take n pieces ≡ done ++ (is.piece ∷ mid) = split done rest parts le ∙ ap (λ (l : List Piece). done ++ l) taken in
-          let begins : is.front ≡ replies m (is.piece ∷ mid) ++ greatest.rest = append_cancel_left (replies s done) is.front (replies m (is.piece ∷ mid) ++ greatest.rest)
-          (sym shows ∙ greatest.begins ∙ ap (λ (l : List Piece). replies s l ++ greatest.rest) first ∙ ap (λ (l : List ℕ). l ++ greatest.rest) (replies-append done (is.piece ∷ mid) s) ∙ append_assoc (replies s done) (replies m (is.piece ∷ mid)) greatest.rest) in
+          let begins : is.front ≡ replies m (is.piece ∷ mid) ++ greatest.rest = append_cancel_left (replies s done) is.front
+          (replies m (is.piece ∷ mid) ++ greatest.rest)
+          (sym shows ∙ greatest.begins ∙ ap (λ (l : List Piece). replies s l ++ greatest.rest) first
+          ∙ ap (λ (l : List ℕ). l ++ greatest.rest) (replies-append done (is.piece ∷ mid) s)
+          ∙ append_assoc (replies s done) (replies m (is.piece ∷ mid)) greatest.rest) in
           let tail = is.back ++ (replies later mid ++ greatest.rest) in
-          let whole : is.front ++ [] ≡ is.front ++ tail = append-nil is.front ∙ begins ∙ append_assoc (step m is.piece).reply (replies later mid) greatest.rest ∙ ap (λ (l : List ℕ). l ++ (replies later mid ++ greatest.rest)) is.parts ∙ append_assoc is.front is.back (replies later mid ++ greatest.rest) in
+          let whole : is.front ++ [] ≡ is.front ++ tail = append-nil is.front ∙ begins
+          ∙ append_assoc (step m is.piece).reply (replies later mid) greatest.rest
+          ∙ ap (λ (l : List ℕ). l ++ (replies later mid ++ greatest.rest)) is.parts
+          ∙ append_assoc is.front is.back (replies later mid ++ greatest.rest) in
           let none : tail ≡ [] = sym (append_cancel_left is.front [] tail whole) in
-          let silent_mid = silent later mid (nil_front (replies later mid) greatest.rest (nil_back is.back (replies later mid ++ greatest.rest) none)) in
-          inl (inr (subst (λ (t : State). StandsSealed folder t) (sym (ap (state_after s) first ∙ state_after-append done (is.piece ∷ mid) s ∙ silent_mid)) is.stands))
+          let silent_mid = silent later mid
+          (nil_front (replies later mid) greatest.rest (nil_back is.back (replies later mid ++ greatest.rest) none)) in
+          inl (inr (subst (λ (t : State). StandsSealed folder t)
+          (sym (ap (state_after s) first ∙ state_after-append done (is.piece ∷ mid) s ∙ silent_mid)) is.stands))
           )
 
   pub after_crash : Crashed s before pieces folder out → StandsAfter s pieces n folder

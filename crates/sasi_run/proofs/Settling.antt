@@ -39,18 +39,22 @@ module _ (a b : View) (same : Changes Same a b) where
   pub folder_same : IsFolderSynced a → IsFolderSynced b
   folder_same synced x name told now =
       let was = same.image x now in
-      synced x name (told_before Same a b same told) (subst a.image (sym was.2) was.1) ∙ ap (λ (o : Option Bytes). is_some o) (sym (contents_same a b name same))
+      synced x name (told_before Same a b same told) (subst a.image (sym was.2) was.1)
+      ∙ ap (λ (o : Option Bytes). is_some o) (sym (contents_same a b name same))
 
-  -- **What is settled stays so, where the folder is left as it is.**
+  -- **What is durable stays durable where the folder doesn't change.**
   pub settled_same : IsSettled a → IsSettled b
   settled_same settled = record { names = folder_same settled.names; records = λ name. record_same name (settled.records name) }
 
   pub lists_same : (names : List FileName) → Lists a names → Lists b names
-  lists_same names lists told name = subst (λ (o : Option Bytes). Contains names name ↔ IsSome o) (sym (contents_same a b name same)) (lists (told_before Same a b same told) name)
+  lists_same names lists told name = subst (λ (o : Option Bytes). Contains names name ↔ IsSome o) (sym (contents_same a b name same))
+      (lists (told_before Same a b same told) name)
 
   -- one more name
-  pub synced_more : (names : List FileName) (i : ℕ) (d : FileName) → i < length names → All (IsRecordSynced a) (take i names) → IsRecordSynced b (get_or names i d) → All (IsRecordSynced b) (take (i + 1) names)
-  synced_more names i d within done one = All-more (IsRecordSynced b) names i d within (All-weaker (IsRecordSynced a) (IsRecordSynced b) record_same (take i names) done) one
+  pub synced_more : (names : List FileName) (i : ℕ) (d : FileName) → i < length names → All (IsRecordSynced a) (take i names)
+      → IsRecordSynced b (get_or names i d) → All (IsRecordSynced b) (take (i + 1) names)
+  synced_more names i d within done one = All-more (IsRecordSynced b) names i d within
+      (All-weaker (IsRecordSynced a) (IsRecordSynced b) record_same (take i names) done) one
 
 -- the listed names are there
 pub listed_there : (v : View) (names : List FileName) → Lists v names → All (IsThere v) names
@@ -105,18 +109,22 @@ module _ (v : View) (sound : IsSound v) (settled : IsSettled v) where
 
 -- ---- what a folder holds, where it keeps what the store has there
 
-pub holds_where_kept : (x y : Folder) (number : ℕ) (listing : Listing) (logs : List (List Mutation)) → KeepsStore number listing.floor listing.last x y → Holds x number listing logs → Holds y number listing logs
+pub holds_where_kept : (x y : Folder) (number : ℕ) (listing : Listing) (logs : List (List Mutation))
+    → KeepsStore number listing.floor listing.last x y → Holds x number listing logs → Holds y number listing logs
 holds_where_kept x y number listing logs keeps holds = record {
   sealed = record { there = keeps.seal ∙ holds.sealed.there; highest = λ other above. keeps.higher other above (holds.sealed.highest other above) };
   manifest = (holds.manifest.0, keeps.manifest ∙ holds.manifest.1, holds.manifest.2);
   live = holds.live;
-  segments = segments_kept x y (types_listed listing) listing.floor logs (λ segment above below. keeps.logs segment above (omega (arith, below, holds.live))) holds.segments;
+  segments = segments_kept x y (types_listed listing) listing.floor logs
+      (λ segment above below. keeps.logs segment above (omega (arith, below, holds.live))) holds.segments;
 }
 
--- **Each image of a settled folder holds what the folder holds as it reads.**
-pub settled_holds : (v : View) (f : Folder) (number : ℕ) (listing : Listing) (logs : List (List Mutation)) → IsSound v → IsSettled v → v.files ≡ Some f → Holds f number listing logs → Each v (λ x. Holds x number listing logs)
-settled_holds v f number listing logs sound settled files holds x now = holds_where_kept f x number listing logs (settled_store v sound settled f files x now number listing.floor listing.last) holds
+-- **Each image of a durable folder holds what the folder holds as it reads.**
+pub settled_holds : (v : View) (f : Folder) (number : ℕ) (listing : Listing) (logs : List (List Mutation)) → IsSound v → IsSettled v
+    → v.files ≡ Some f → Holds f number listing logs → Each v (λ x. Holds x number listing logs)
+settled_holds v f number listing logs sound settled files holds x now = holds_where_kept f x number listing logs
+    (settled_store v sound settled f files x now number listing.floor listing.last) holds
 
--- **Each image of a settled new folder is new.**
+-- **Each image of a durable new folder is new.**
 pub settled_fresh : (v : View) (f : Folder) → IsSound v → IsSettled v → v.files ≡ Some f → IsFresh f → Each v IsFresh
 settled_fresh v f sound settled files fresh x now name other another = settled_none v sound settled f files x now name (fresh name other another)

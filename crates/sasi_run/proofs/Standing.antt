@@ -26,7 +26,9 @@ use Rattle.sasi_run.proofs.Gone.{keeps_segment, unless_kept}
 use Rattle.sasi_run.proofs.SealedStore.{bytes_there, held_is_listed, none_where, reads_of}
 
 -- what was read of a sealed folder, once other files were deleted
-pub sealed_stands : (a b : View) (folder : Folder) (number : ℕ) (listing : Listing) (state : State) → a.files ≡ Some folder → IsSealed folder number → IsThere a (manifest_name number) → ReadsListing a number listing → Changes (Deletes (keeps (KeepStore number listing.floor listing.last))) a b → ReadsAll b listing state → StandsSealed folder state
+pub sealed_stands : (a b : View) (folder : Folder) (number : ℕ) (listing : Listing) (state : State) → a.files ≡ Some folder
+    → IsSealed folder number → IsThere a (manifest_name number) → ReadsListing a number listing
+    → Changes (Deletes (keeps (KeepStore number listing.floor listing.last))) a b → ReadsAll b listing state → StandsSealed folder state
 unfolding state_made
 sealed_stands a b folder number listing state files sealed there reads deletes all =
     let now = deletes.seen folder files in
@@ -41,7 +43,9 @@ sealed_stands a b folder number listing state files sealed there reads deletes a
         manifest = (bytes.0, bytes.1, reads bytes.0 (reads_of a folder (manifest_name number) bytes.0 files bytes.1));
         live = read.count;
         segments = segments_kept now.0 folder (types_listed listing) listing.floor read.logs
-            (λ segment above below. sym (unless_kept _ _ _ (keeps_segment number listing.floor listing.last segment above (omega (arith, below, read.count))) (now.2 (log_name segment))))
+            (λ segment above below. sym
+            (unless_kept _ _ _ (keeps_segment number listing.floor listing.last segment above (omega (arith, below, read.count)))
+            (now.2 (log_name segment))))
             read.segments;
       };
       makes = read.state;
@@ -62,7 +66,9 @@ either_of true y is = inl refl
 either_of false y is = inr is
 
 -- a folder that has no other names than those that the making of a store begins with is new
-pub firsts_stand : (v : View) (names : List FileName) (partitioner : Partitioner) (folder : Folder) (result : Result Store ReadFault) → Lists v names → v.files ≡ Some folder → OnOk result (All (λ name. is_first name ≡ true) names) → IfOk result (λ store. store.machine ≡ empty_state partitioner) → IfOk result (λ store. Stands partitioner folder store.machine)
+pub firsts_stand : (v : View) (names : List FileName) (partitioner : Partitioner) (folder : Folder) (result : Result Store ReadFault)
+    → Lists v names → v.files ≡ Some folder → OnOk result (All (λ name. is_first name ≡ true) names)
+    → IfOk result (λ store. store.machine ≡ empty_state partitioner) → IfOk result (λ store. Stands partitioner folder store.machine)
 firsts_stand v names partitioner folder (Err fault) lists files firsts empty = tt
 firsts_stand v names partitioner folder (Ok store) lists files firsts empty = inl (fresh, empty)
   where
@@ -72,6 +78,7 @@ firsts_stand v names partitioner folder (Ok store) lists files firsts empty = in
         (λ is. no_log (name_same name (log_name 1) is))
         (either_of _ _ (All-contains (λ n. is_first n ≡ true) names name firsts (held_is_listed v names folder name lists files there))))
 
-pub sealed_stand : (partitioner : Partitioner) (folder : Folder) (result : Result Store ReadFault) → IfOk result (λ store. StandsSealed folder store.machine) → IfOk result (λ store. Stands partitioner folder store.machine)
+pub sealed_stand : (partitioner : Partitioner) (folder : Folder) (result : Result Store ReadFault)
+    → IfOk result (λ store. StandsSealed folder store.machine) → IfOk result (λ store. Stands partitioner folder store.machine)
 sealed_stand partitioner folder (Err fault) stands = tt
 sealed_stand partitioner folder (Ok store) stands = inr stands

@@ -19,7 +19,8 @@ state_after-append (p ∷ ps) qs s = state_after-append ps qs (step s p).state
 
 pub replies-append : (ps qs : List Piece) (s : State) → replies s (ps ++ qs) ≡ replies s ps ++ replies (state_after s ps) qs
 replies-append [] qs s = refl
-replies-append (p ∷ ps) qs s = rw (replies-append ps qs (step s p).state) (sym (append_assoc (step s p).reply (replies (step s p).state ps) (replies (state_after (step s p).state ps) qs)))
+replies-append (p ∷ ps) qs s = rw (replies-append ps qs (step s p).state)
+    (sym (append_assoc (step s p).reply (replies (step s p).state ps) (replies (state_after (step s p).state ps) qs)))
 
 pub refusals-append : (ps qs : List Piece) (s : State) → refusals s (ps ++ qs) ≡ refusals s ps + refusals (state_after s ps) qs
 refusals-append [] qs s = omega arith
@@ -45,22 +46,28 @@ counted_twice n a b = omega arith
 behind_both : (xs ys : List Piece) (p q r : Pieces) → p ≡ behind xs q → q ≡ behind ys r → p ≡ behind (xs ++ ys) r
 behind_both xs ys p q r e f = e ∙ ap (behind xs) f ∙ ap (λ w. record { whole = w; last = r.last }) (sym (append_assoc xs ys r.whole))
 
-pub reads_on : (a : Standing) (b : Standing) (xs ys : List ℕ) (done : List Piece) → ((left : List ℕ) → resume a (xs ++ left) ≡ behind done (resume b left))
-    → (c : Standing) (more : List Piece) → ((left : List ℕ) → resume b (ys ++ left) ≡ behind more (resume c left)) → (left : List ℕ) → resume a ((xs ++ ys) ++ left) ≡ behind (done ++ more) (resume c left)
-reads_on a b xs ys done first c more then left = ap (resume a) (append_assoc xs ys left) ∙ behind_both done more _ _ _ (first (ys ++ left)) (then left)
+pub reads_on : (a : Standing) (b : Standing) (xs ys : List ℕ) (done : List Piece)
+    → ((left : List ℕ) → resume a (xs ++ left) ≡ behind done (resume b left))
+    → (c : Standing) (more : List Piece) → ((left : List ℕ) → resume b (ys ++ left) ≡ behind more (resume c left)) → (left : List ℕ)
+    → resume a ((xs ++ ys) ++ left) ≡ behind (done ++ more) (resume c left)
+reads_on a b xs ys done first c more then left = ap (resume a) (append_assoc xs ys left)
+    ∙ behind_both done more _ _ _ (first (ys ++ left)) (then left)
 
 -- one part after another
-unfoldable pub takes_both : (old mid new : Session) (a b c : Option (List ℕ)) (xs ys : List ℕ) → Takes old mid a b xs → Takes mid new b c ys → Takes old new a c (xs ++ ys)
+unfoldable pub takes_both : (old mid new : Session) (a b c : Option (List ℕ)) (xs ys : List ℕ) → Takes old mid a b xs → Takes mid new b c ys
+    → Takes old new a c (xs ++ ys)
 takes_both old mid new a b c xs ys t u = record {
   done = t.done ++ u.done;
   reading = reads_on old.splitter mid.splitter xs ys t.done t.reading new.splitter u.done u.reading;
   state = u.state ∙ ap (λ s. state_after s u.done) t.state ∙ sym (state_after-append t.done u.done old.store.machine);
   shown = rw replies-append (appends_both a b c _ _ t.shown (rw (← t.state) u.shown));
   count = u.count ∙ ap (λ n. counted_by n (refusals mid.store.machine u.done)) t.count ∙ counted_twice old.refused _ _
-      ∙ ap (counted_by old.refused) (ap (λ s. refusals old.store.machine t.done + refusals s u.done) t.state ∙ sym (refusals-append t.done u.done old.store.machine));
+      ∙ ap (counted_by old.refused)
+      (ap (λ s. refusals old.store.machine t.done + refusals s u.done) t.state ∙ sym (refusals-append t.done u.done old.store.machine));
 }
 
-pub stopped_later : (stop : Stop) (s m : State) (done more next : List Piece) (a b c : Option (List ℕ)) → m ≡ state_after s done → Appends a b (replies s done) → ShownAt stop m b c more next → ShownAt stop s a c (done ++ more) next
+pub stopped_later : (stop : Stop) (s m : State) (done more next : List Piece) (a b c : Option (List ℕ)) → m ≡ state_after s done
+    → Appends a b (replies s done) → ShownAt stop m b c more next → ShownAt stop s a c (done ++ more) next
 stopped_later Memory s m done more next a b c is shown at = rw replies-append (appends_both a b c _ _ shown (rw (← is) at))
 stopped_later Disk s m done more next a b c is shown at = rw replies-append (appends_both a b c _ _ shown (rw (← is) at))
 stopped_later Output s m done more next a b c is shown (piece, front, back, one, parts, rest) = (
@@ -69,11 +76,13 @@ stopped_later Output s m done more next a b c is shown (piece, front, back, one,
   back,
   one,
   rw (state_after-append done more s, ← is) parts,
-  rw (replies-append done more s, append_assoc (replies s done) (replies (state_after s done) more) front) (appends_both a b c _ _ shown (rw (← is) rest)),
+  rw (replies-append done more s, append_assoc (replies s done) (replies (state_after s done) more) front)
+      (appends_both a b c _ _ shown (rw (← is) rest)),
 )
 
 -- a part, and then a stop
-unfoldable pub stops_later : (stop : Stop) (old mid : Session) (a b c : Option (List ℕ)) (bytes xs ys rest : List ℕ) → Takes old mid a b xs → Stops stop mid b c ys → bytes ≡ xs ++ ys ++ rest → Stops stop old a c bytes
+unfoldable pub stops_later : (stop : Stop) (old mid : Session) (a b c : Option (List ℕ)) (bytes xs ys rest : List ℕ) → Takes old mid a b xs
+    → Stops stop mid b c ys → bytes ≡ xs ++ ys ++ rest → Stops stop old a c bytes
 stops_later stop old mid a b c bytes xs ys rest t u parts = record {
   taken = xs ++ u.taken;
   rest = u.rest ++ rest;
@@ -81,7 +90,8 @@ stops_later stop old mid a b c bytes xs ys rest t u parts = record {
   done = t.done ++ u.done;
   next = u.next;
   stand = u.stand;
-  reading = λ left. reads_on old.splitter mid.splitter xs u.taken t.done t.reading u.stand (u.done ++ u.next) u.reading left ∙ ap (λ ps. behind ps (resume u.stand left)) (sym (append_assoc t.done u.done u.next));
+  reading = λ left. reads_on old.splitter mid.splitter xs u.taken t.done t.reading u.stand (u.done ++ u.next) u.reading left
+      ∙ ap (λ ps. behind ps (resume u.stand left)) (sym (append_assoc t.done u.done u.next));
   shown = stopped_later stop old.store.machine mid.store.machine t.done u.done u.next a b c t.state t.shown u.shown;
 }
 
@@ -96,29 +106,35 @@ takes_nothing session a small = record { done = []; reading = λ left. refl; sta
 
 -- no piece ended
 unfoldable pub takes_quietly : (old new : Session) (a : Option (List ℕ)) (byte : ℕ) → old.refused < 2 ^ 64
-    → ((left : List ℕ) → resume old.splitter (byte ∷ left) ≡ behind [] (resume new.splitter left)) → new.store.machine ≡ old.store.machine → new.refused ≡ old.refused
+    → ((left : List ℕ) → resume old.splitter (byte ∷ left) ≡ behind [] (resume new.splitter left)) → new.store.machine ≡ old.store.machine
+    → new.refused ≡ old.refused
     → Takes old new a a (byte ∷ [])
 takes_quietly old new a byte small next state count = record { done = []; reading = next; state = state; shown = appends_none a; count = omega arith }
 
 -- a piece ended, and was answered
 unfoldable pub takes_answer : (old stand new : Session) (a b : Option (List ℕ)) (byte : ℕ) (piece : Piece)
-    → ((left : List ℕ) → resume old.splitter (byte ∷ left) ≡ behind (piece ∷ []) (resume stand.splitter left)) → stand.store.machine ≡ old.store.machine → stand.refused ≡ old.refused
+    → ((left : List ℕ) → resume old.splitter (byte ∷ left) ≡ behind (piece ∷ []) (resume stand.splitter left))
+    → stand.store.machine ≡ old.store.machine → stand.refused ≡ old.refused
     → Answers stand new a b piece → Takes old new a b (byte ∷ [])
 takes_answer old stand new a b byte piece next state count answered = record {
   done = piece ∷ [];
   reading = λ left. rw answered.reading (next left);
   state = rw (← state) answered.state;
   shown = rw (append-nil, ← state) answered.shown;
-  count = answered.count ∙ ap (counted_by stand.refused) (ap (λ m. refused_by m piece) state ∙ sym (add-zero (refused_by old.store.machine piece))) ∙ ap (λ n. counted_by n (refused_by old.store.machine piece + 0)) count;
+  count = answered.count
+      ∙ ap (counted_by stand.refused) (ap (λ m. refused_by m piece) state ∙ sym (add-zero (refused_by old.store.machine piece)))
+      ∙ ap (λ n. counted_by n (refused_by old.store.machine piece + 0)) count;
 }
 
 -- it stopped before the byte was taken
 unfoldable pub stops_before : (old : Session) (a : Option (List ℕ)) (bytes : List ℕ) → Stops Memory old a a bytes
-stops_before old a bytes = record { taken = []; rest = bytes; parts = refl; done = []; next = []; stand = old.splitter; reading = λ left. refl; shown = appends_none a }
+stops_before old a bytes = record
+    { taken = []; rest = bytes; parts = refl; done = []; next = []; stand = old.splitter; reading = λ left. refl; shown = appends_none a }
 
 -- it stopped at the answer
 unfoldable pub stops_at : (stop : Stop) (old stand : Session) (a b : Option (List ℕ)) (byte : ℕ) (piece : Piece)
-    → ((left : List ℕ) → resume old.splitter (byte ∷ left) ≡ behind (piece ∷ []) (resume stand.splitter left)) → stand.store.machine ≡ old.store.machine
+    → ((left : List ℕ) → resume old.splitter (byte ∷ left) ≡ behind (piece ∷ []) (resume stand.splitter left))
+    → stand.store.machine ≡ old.store.machine
     → ShownAt stop stand.store.machine a b [] (piece ∷ []) → Stops stop old a b (byte ∷ [])
 stops_at stop old stand a b byte piece next state at = record {
   taken = byte ∷ [];

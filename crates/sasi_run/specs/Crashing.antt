@@ -40,7 +40,7 @@ pub record Crashed (s : State) (before : List ℕ) (pieces : List Piece) (folder
   pub parts : pieces ≡ done ++ rest
   pub stands : IsQuiet s before done folder out ⊎ IsAnswering s before done rest folder out
 
--- the host tells its files, each image holds what the store has in hand, and this was emitted
+-- the host tells its files, each image holds the state of the store, and this was emitted
 pub record IsServing (v : View) (store : Store) (out : List ℕ) : Type 0 where
   pub told : IsTold v
   pub serves : ServesStore v store
@@ -50,7 +50,7 @@ pub record IsServing (v : View) (store : Store) (out : List ℕ) : Type 0 where
 abbrev pub LeavesPieces : View → View → Store → List Piece → Type 0
 LeavesPieces a b store pieces = (out : List ℕ) → IsServing a store out → CrashLeaves a b (Crashed store.machine out pieces)
 
--- and it then serves on, with this emitted besides
+-- and the store is durable after it, with this emitted besides
 abbrev pub ServesOn : View → View → Store → Store → List ℕ → Type 0
 ServesOn a b old new shown = (out : List ℕ) → IsServing a old out → IsServing b new (out ++ shown)
 
@@ -91,7 +91,7 @@ pub record GoesOn (from to : Session) (left_old left_new : Option (List ℕ)) (a
 
 -- ---- a run
 
--- a store is in hand in which these pieces were run
+-- a store is open in which these pieces were run
 pub record ServesAfter (store : Store) (a b : View) (pieces : List Piece) : Type 0 where
   pub last : Store
   pub state : last.machine ≡ state_after store.machine pieces

@@ -1,4 +1,4 @@
--- A folder in which no store was made yet.
+-- A folder in which no store was created yet.
 use Rattle.std.specs.Prelude.{◌≡◌, Bool, true, false, ◌||◌, List, [], ◌∷◌, ◌++◌, Some}
 use Rattle.std.specs.List.{AllByRecursion}
 use Rattle.sasi_types.specs.declared.partitioner.Partitioner.{Partitioner}
@@ -11,11 +11,11 @@ use Rattle.sasi_host.specs.View.{View}
 use Rattle.sasi_model.specs.State.{empty_state}
 use Rattle.sasi_folder.specs.Stands.{IsFresh, Stands}
 
--- what the making of a store begins with: the first manifest and the first segment of the log
+-- a file that an unfinished creation of a store may leave: the first manifest or the first segment of the log
 abbrev pub is_first : FileName → Bool
 is_first name = name_eq name (manifest_name 1) || name_eq name (log_name 1)
 
--- the damage tells the first of the names that is another one
+-- the damage reports the first of the names that is another one
 pub record IsForeign (names : List FileName) (damage : Damage) : Type 0 where
   pub before : List FileName
   pub behind : List FileName
@@ -26,7 +26,7 @@ pub record IsForeign (names : List FileName) (damage : Damage) : Type 0 where
   pub place : damage.at ≡ 0
   pub seen : seen_bytes damage.seen ≡ []
 
--- the folder isn't a new one, where it is told
+-- the folder isn't a new one, where its files are known
 abbrev pub SparesFresh : View → Type 0
 SparesFresh v = (folder : Folder) → v.files ≡ Some folder → ¬ IsFresh folder
 

@@ -1,4 +1,4 @@
--- The number of each status, with which the program ends. The numbers between them belong to statuses that are still to come.
+-- The exit status of the program for each status of a run. The numbers between them belong to statuses that are still to come.
 use Rattle.std.specs.Prelude.{ℕ}
 use Rattle.sasi_run.specs.declared.status.Status.{Status}
 use Rattle.sasi_run.specs.declared.status.Status.TheVariants.{Done, Refused, Usage, ScriptFault, FolderFault, OutputFault, OutOfMemory, Damaged, ScriptTooLong}

@@ -1,4 +1,4 @@
--- What the opening of a folder makes sure of.
+-- What an opening makes durable, and which seal counts.
 use Rattle.std.specs.Prelude.{◌≡◌, ◌≢◌, ℕ, ◌<◌, ◌≤◌, Bool, true, false, List, Contains, Option, Some, None, is_some}
 use Rattle.std.specs.FinMap.{get}
 use Rattle.sasi_host.specs.declared.name.FileName.{FileName}
@@ -16,7 +16,7 @@ has_records Manifest = true
 has_records Log = true
 has_records _ = false
 
--- such a file is synced
+-- a file with records is synced
 abbrev pub IsRecordSynced : View → FileName → Type 0
 IsRecordSynced v name = has_records name.kind ≡ true → IsSynced v name
 
@@ -27,7 +27,7 @@ pub record IsSettled (v : View) : Type 0 where
 
 -- ---- the highest seal
 
--- no name is that of a seal, or this is the greatest number of one
+-- no name is that of a seal, or this is the highest number of one
 abbrev pub IsHighestSeal : List FileName → Option ℕ → Type 0
 IsHighestSeal names None = (number : ℕ) → ¬ Contains names (seal_name number)
 IsHighestSeal names (Some number) = Contains names (seal_name number) × ((other : ℕ) → number < other → ¬ Contains names (seal_name other))

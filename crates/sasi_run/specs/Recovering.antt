@@ -8,7 +8,7 @@ use Rattle.sasi_model.specs.State.{State}
 use Rattle.sasi_model.specs.Step.{state_after, replies}
 use Rattle.sasi_folder.specs.Stands.{Stands}
 
--- what was shown begins with the replies of the first n pieces, and of no more of them
+-- n is the number of whole replies that were emitted: what was shown begins with the replies of the first n pieces, and of no more
 pub record IsGreatest (s : State) (pieces : List Piece) (shown : List ℕ) (n : ℕ) : Type 0 where
   pub within : n ≤ length pieces
   pub rest : List ℕ

@@ -1,4 +1,4 @@
--- A folder with a seal: what its store reads, and what isn't there.
+-- A folder with a seal: which damage is reported of a file that is missing.
 use Rattle.std.specs.Prelude.{◌≡◌, ℕ, ◌≤◌, ◌<◌, Bool, false, List, [], Contains, Some}
 use Rattle.sasi_host.specs.declared.damage.Damage.{Damage}
 use Rattle.sasi_host.specs.declared.damage.FormatRule.TheVariants.{Missing}
@@ -13,7 +13,7 @@ use Rattle.sasi_folder.specs.Stands.{Holds}
 
 -- ---- what isn't there
 
--- the damage tells that this file isn't among the names
+-- the damage reports that this file isn't among the names
 pub record TellsMissing (names : List FileName) (file : FileName) (damage : Damage) : Type 0 where
   pub absent : ¬ Contains names file
   pub named : damage.file ≡ file
@@ -21,7 +21,7 @@ pub record TellsMissing (names : List FileName) (file : FileName) (damage : Dama
   pub place : damage.at ≡ 0
   pub seen : seen_bytes damage.seen ≡ []
 
--- the damage tells the first live segment of the log that isn't
+-- the damage reports the first live segment of the log that isn't among them
 pub record TellsSegment (names : List FileName) (floor last : ℕ) (damage : Damage) : Type 0 where
   pub segment : ℕ
   pub above : floor ≤ segment

@@ -1,4 +1,4 @@
--- What a part of a run does: it takes bytes of the script, and emits the replies of the pieces that end in them. Each
+-- What a part of a run does: it is fed bytes of the script, and emits the replies of the pieces that end in them. Each
 -- word speaks of whatever may follow in the script, so that parts join to a run.
 use Rattle.std.specs.Prelude.{◌≡◌, ℕ, ◌+◌, ◌-◌, ◌^◌, min, if◌then◌else◌, length, List, [], ◌∷◌, ◌++◌, Option, Ok, Err, is_some, IsErrOf, ◌≤◌}
 use Rattle.std.specs.declared.result.Result.{Result}
@@ -16,7 +16,7 @@ use Rattle.sasi_run.specs.declared.session.Session.{Session}
 use Rattle.sasi_run.specs.declared.session.Stop.{Stop}
 use Rattle.sasi_run.specs.declared.session.Stop.TheVariants.{Output, Memory, Disk}
 
--- a fault of the folder's files, or of memory
+-- an I/O error of the folder, or out of memory
 abbrev pub stop_of : HostFault → Stop
 stop_of host_fault.Failed = Disk
 stop_of host_fault.OutOfMemory = Memory
@@ -45,7 +45,7 @@ pub record Answers (old new : Session) (out_old out_new : Option (List ℕ)) (pi
   pub count : new.refused ≡ counted_by old.refused (refused_by old.store.machine piece)
   pub reading : new.splitter ≡ old.splitter
 
--- the session has taken these bytes: it has run the pieces that ended in them, and goes on behind them
+-- the session was fed these bytes: it has run the pieces that ended in them, and goes on behind them
 pub record Takes (old new : Session) (out_old out_new : Option (List ℕ)) (bytes : List ℕ) : Type 0 where
   pub done : List Piece
   pub reading : (left : List ℕ) → resume old.splitter (bytes ++ left) ≡ behind done (resume new.splitter left)
@@ -60,7 +60,7 @@ ShownAt Disk s out_old out_new done next = Appends out_old out_new (replies s do
 ShownAt Output s out_old out_new done next = (piece : Piece) × (front back : List ℕ) × (next ≡ piece ∷ []) × ((step (state_after s done) piece).reply ≡ front ++ back)
     × Appends out_old out_new (replies s done ++ front)
 
--- the session has taken a first part of these bytes, and stopped
+-- the session was fed a first part of these bytes, and stopped
 pub record Stops (stop : Stop) (old : Session) (out_old out_new : Option (List ℕ)) (bytes : List ℕ) : Type 0 where
   pub taken : List ℕ
   pub rest : List ℕ
@@ -88,7 +88,7 @@ pub record IsFresh (session : Session) : Type 0 where
   pub reading : (left : List ℕ) → resume session.splitter left ≡ pieces left
   pub count : session.refused ≡ 0
 
--- so many bytes were read, and the session has taken them
+-- so many bytes were read and fed to the session
 pub record Goes (old new : Session) (left_old left_new out_old out_new : Option (List ℕ)) (count : ℕ) : Type 0 where
   pub read : List ℕ
   pub consumed : Consumes left_old left_new read

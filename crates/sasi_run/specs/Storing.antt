@@ -1,4 +1,4 @@
--- A store in hand, and what stands in its folder while it makes a change.
+-- An open store, and what its folder stands for while it makes a change.
 use Rattle.std.specs.Prelude.{◌≡◌, ◌⊎◌, IsTrue, ◌+◌, ℕ, false}
 use Rattle.sasi_types.specs.declared.partitioner.Partitioner.{Partitioner}
 use Rattle.sasi_model.specs.State.{State}
@@ -14,7 +14,7 @@ use Rattle.sasi_run.specs.Deletion.{keeps}
 use Rattle.sasi_run.specs.declared.deleting.Keep.TheVariants.{Store as KeepStore}
 use Rattle.sasi_run.specs.declared.store.Store.{Store}
 
--- whatever becomes of the folder
+-- any change of the folder
 abbrev pub Somehow : Folder → Folder → Type 0
 Somehow old new = Unit {0}
 
@@ -32,7 +32,7 @@ pub record IsReady (v : View) (store : Store) : Type 0 where
   pub log_usable : IsTrue store.log.usable
   pub no_other : HasNoOther v store.manifest.number store.manifest.listing
 
--- each image holds what the store has in hand
+-- each image holds the state of the store
 abbrev pub ServesStore : View → Store → Type 0
 ServesStore v store = Serves v store.machine store.manifest store.log
 

@@ -1,4 +1,4 @@
-// The deletion of files that a folder's store doesn't have.
+// Deletes the files that a store doesn't list.
 ghost use Rattle.std.specs.Prelude.{◌≡◌, OnOk, false};
 ghost use Rattle.std.specs.List.Sorted.{IsStrictlySortedBy};
 ghost use Rattle.sasi_host.specs.declared.name.FileName.{FileName as AName};
@@ -9,15 +9,15 @@ ghost use Rattle.sasi_run.specs.Deletion.{DeletedUnless, Deletes, has_segment, k
 
 use sasi_host::{Failed, FileName, Host};
 
-/// Which files stay where the others of a folder are deleted.
+/// The files of a folder that are kept. The others are deleted.
 #[derive(Clone, Copy)]
 pub enum Keep {
     Nothing,
-    /// The manifest of this number, its seal, and the segments of the log from `floor` to `last`.
+    /// The manifest of this number, its seal, and the segments of the commit log from `floor` to `last`.
     Store { number: u32, floor: u32, last: u32 },
 }
 
-/// Deletes each of the names that isn't kept. They are out of each image once the folder is synced.
+/// Deletes each file that isn't kept. A crash leaves none of them once the folder is synced.
 pub fn delete_others<H: Host>(host: &mut H, names: &[FileName], keep: Keep) -> Result<(), Failed>
     requires lists { Lists (H.view host.old) names.now }
     requires sorted { IsStrictlySortedBy name_cmp names.now }
@@ -61,7 +61,7 @@ fn is_kept(keep: Keep, name: FileName) -> bool
     }
 }
 
-// Whether it is a segment of the log with a number from `floor` to `last`.
+// Whether it is a segment of the commit log with a number from `floor` to `last`.
 fn is_segment(name: FileName, floor: u32, last: u32) -> bool
     ensures { result ≡ has_segment floor last name }
 {

@@ -1,4 +1,4 @@
-// A folder in which no store was made yet.
+// Creates the store of a new folder.
 ghost use Rattle.std.specs.Prelude.{◌≡◌, [], All, IfErr, IfOk, OnOk, true};
 ghost use Rattle.std.specs.List.Sorted.{IsStrictlySortedBy};
 ghost use Rattle.sasi_host.specs.declared.name.FileName.{FileName as AName};
@@ -22,8 +22,8 @@ use sasi_manifest::{Listing, Manifest};
 use sasi_types::Partitioner;
 use std::alloc::Global;
 
-/// Makes the store of a folder that has no seal, of which these are the names: its first segment of the log, its first
-/// manifest, and the seal. What an earlier making left is deleted before.
+/// Creates the store of a folder without a seal: its first segment of the commit log, its first manifest, and the seal.
+/// Deletes before what an unfinished creation left. `names` are the files of the folder.
 pub fn make_new<H: Host>(
     alloc: Global,
     host: &mut H,
@@ -48,7 +48,7 @@ pub fn make_new<H: Host>(
     Ok(store)
 }
 
-// Whether the names are those that the making of a store begins with; damage is the first that is another.
+// Passes where each file is one that an unfinished creation leaves, and else reports the first other one as damage.
 fn check_new(names: &[FileName]) -> Result<(), Damage>
     ensures firsts { OnOk result (All (λ name. is_first name ≡ true) names.now) }
     ensures foreign { IfErr result (IsForeign names.now) }
@@ -67,7 +67,7 @@ fn is_first(name: FileName) -> bool
     name == FileName::manifest(1) || name == FileName::log(1)
 }
 
-// Deletes what is there, and makes the store.
+// Deletes all files, and creates the store.
 fn begin_anew<H: Host>(
     alloc: Global,
     host: &mut H,
@@ -88,7 +88,7 @@ fn begin_anew<H: Host>(
     make_first(alloc, host, partitioner)
 }
 
-// Makes the store in a folder that has no files.
+// Creates the store in an empty folder.
 fn make_first<H: Host>(
     alloc: Global,
     host: &mut H,

@@ -1,4 +1,4 @@
-// The opening of a folder.
+// Opens a folder.
 ghost use Rattle.std.specs.Prelude.{◌≡◌, IfErr, IfOk, List, Some};
 ghost use Rattle.std.specs.List.Sorted.{IsStrictlySortedBy};
 ghost use Rattle.sasi_host.specs.Damages.{OnDamage};
@@ -25,7 +25,7 @@ use sasi_host::{FileName, Host, ReadFault};
 use sasi_types::Partitioner;
 use std::alloc::Global;
 
-/// Opens the folder of a host, or makes a new one of this partitioner.
+/// Opens the store of a folder, or creates one with this partitioner where the folder has no seal.
 pub fn open<H: Host>(
     alloc: Global,
     host: &mut H,
@@ -47,7 +47,7 @@ pub fn open<H: Host>(
     }
 }
 
-// Opens a folder of these names, of whose seals this is the number of the highest.
+// Opens a folder whose highest seal has this number. `names` are the files of the folder.
 fn open_sealed<H: Host>(
     alloc: Global,
     host: &mut H,

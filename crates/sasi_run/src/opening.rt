@@ -1,4 +1,4 @@
-// What the opening of a folder begins with.
+// Syncs what an opening reads.
 ghost use Rattle.std.specs.Prelude.{◌≡◌, All, IfOk, OnOk};
 ghost use Rattle.std.specs.List.Sorted.{IsStrictlySortedBy};
 ghost use Rattle.sasi_host.specs.Names.{name_cmp};
@@ -9,7 +9,8 @@ ghost use Rattle.sasi_run.specs.Opening.{IsRecordSynced, IsSettled, has_records}
 use sasi_host::{Failed, FileName, Host, HostFault, Kind};
 use std::alloc::Global;
 
-/// Syncs the folder, and each manifest and each segment of the log in it. Gives the names that are there, in their order.
+/// Syncs the folder, and each manifest and each segment of the commit log in it, so that a crash keeps what is read next.
+/// Gives the names of the files, in order.
 pub fn sync_all<H: Host>(alloc: Global, host: &mut H) -> Result<Vec<FileName>, HostFault>
     ensures names { IfOk result (λ names. Lists (H.view host.new) names.items) }
     ensures sorted { IfOk result (λ names. IsStrictlySortedBy name_cmp names.items) }
@@ -23,7 +24,7 @@ pub fn sync_all<H: Host>(alloc: Global, host: &mut H) -> Result<Vec<FileName>, H
     Ok(names)
 }
 
-// Syncs each manifest and each segment of the log among these names.
+// Syncs each manifest and each segment of the commit log among these names.
 fn sync_records<H: Host>(host: &mut H, names: &[FileName]) -> Result<(), Failed>
     requires { All (IsThere (H.view host.old)) names.now }
     ensures synced { OnOk result (All (IsRecordSynced (H.view host.new)) names.now) }
@@ -36,7 +37,7 @@ fn sync_records<H: Host>(host: &mut H, names: &[FileName]) -> Result<(), Failed>
     Ok(())
 }
 
-// Syncs the file, if it is a manifest or a segment of the log.
+// Syncs the file, if it is a manifest or a segment of the commit log.
 fn sync_record<H: Host>(host: &mut H, name: FileName) -> Result<(), Failed>
     requires { IsThere (H.view host.old) name }
     ensures synced { OnOk result (IsRecordSynced (H.view host.new) name) }
@@ -49,7 +50,7 @@ fn sync_record<H: Host>(host: &mut H, name: FileName) -> Result<(), Failed>
     Ok(())
 }
 
-// Whether states are read from files of this kind.
+// Whether an opening reads records from files of this kind.
 fn has_records(kind: Kind) -> bool
     ensures { result ≡ has_records kind }
 {

@@ -1,6 +1,6 @@
-// Where the words of the command line stand.
+// What the command line names.
 
-/// Where the words stand that a run is told by, counted from 0.
+/// The index of the folder's path and of the script's path among the words of the command line.
 #[derive(Clone, Copy, Debug, PartialEq, Eq)]
 pub struct Command {
     pub folder: usize,

@@ -37,7 +37,7 @@ fn end_status(refused: u64) -> Status
     }
 }
 
-/// Runs the script to its end, or to what stops the run, from the tables that the session has.
+/// Runs the script to its end, or until a fault stops the run.
 pub fn run_script<S: Source, H: Host>(session: &mut Session, script: &mut S, host: &mut H) -> Status
     requires fresh { IsFresh session.old }
     requires ready { IsReady (H.view host.old) session.old.store }

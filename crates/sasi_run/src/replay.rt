@@ -1,4 +1,4 @@
-// The state in memory that a listing and the live segments of the log stand for.
+// Replays the live segments of the commit log over the listed tables.
 ghost use Rattle.std.specs.Prelude.{◌≡◌, [], map, IfErr, IfOk, IsTrue, OnErr, OnOk, ◌+◌, ◌≤◌};
 ghost use Rattle.sasi_host.specs.View.{IsThere, Reaches};
 ghost use Rattle.sasi_host.specs.Disk.{Changes, Same};
@@ -108,7 +108,7 @@ fn create_tables(
     Ok(())
 }
 
-// Whether the table of this number takes the mutations of the segment.
+// Whether mutations of the table with this number are replayed from the segment.
 fn takes(tables: &[ListedTable], segment: u32, number: u32) -> bool
     ensures { result ≡ takes (map listed tables.now) segment number }
 {
@@ -121,7 +121,7 @@ fn takes(tables: &[ListedTable], segment: u32, number: u32) -> bool
     }
 }
 
-// Merges a mutation of the segment with this number, if its table takes it.
+// Merges a mutation of the segment with this number, unless its table begins later.
 fn merge(
     machine: &mut Machine,
     listing: &Listing,

@@ -1,5 +1,5 @@
-// A folder in which a store was made.
-ghost use Rattle.std.specs.Prelude.{◌≡◌, ◌+◌, ◌≤◌, Contains, IfErr, IfOk, IsTrue, List, OnOk, Some, false, true, ℕ};
+// Opens the manifest of a folder that has a seal.
+ghost use Rattle.std.specs.Prelude.{◌≡◌, ◌≢◌, ◌+◌, ◌≤◌, Contains, IfErr, IfOk, IsTrue, List, OnOk, Some, false, true, ℕ};
 ghost use Rattle.std.specs.List.Sorted.{IsStrictlySortedBy};
 ghost use Rattle.sasi_host.specs.Damages.{OnDamage};
 ghost use Rattle.sasi_host.specs.Names.{Folder, name_cmp, log_name, manifest_name};
@@ -23,8 +23,8 @@ use sasi_host::{Damage, FileName, FormatRule, Host, ReadFault, found};
 use sasi_manifest::Manifest;
 use std::alloc::Global;
 
-/// Opens the manifest of this number in a folder of these names, sees that each segment that it lists is there, and deletes
-/// every file but these and its seal.
+/// Opens the manifest of this number, checks that each segment that it lists exists, and deletes the unlisted files.
+/// `names` are the files of the folder.
 pub fn open_listed<H: Host>(
     alloc: Global,
     host: &mut H,
@@ -65,7 +65,7 @@ pub fn open_listed<H: Host>(
     Ok(manifest)
 }
 
-// Opens the manifest, and sees that each segment that it lists is there.
+// Opens the manifest, and checks that each segment that it lists exists.
 fn read_listed<H: Host>(
     alloc: Global,
     host: &mut H,
@@ -93,7 +93,7 @@ fn read_listed<H: Host>(
     Ok(manifest)
 }
 
-// Whether each segment of the log from `floor` to `last` is there; damage is the first that isn't.
+// Passes where each segment of the commit log from `floor` to `last` exists, and else reports the first missing one.
 fn check_segments(names: &[FileName], floor: u32, last: u32) -> Result<(), Damage>
     requires { floor ≤ last }
     ensures there { OnOk result ((segment : ℕ) → floor ≤ segment → segment ≤ last → Contains names.now (log_name segment)) }
@@ -106,7 +106,7 @@ fn check_segments(names: &[FileName], floor: u32, last: u32) -> Result<(), Damag
     Ok(())
 }
 
-// Whether the file is among the names; damage where it isn't.
+// Passes where the file is among the names, and else reports it as missing.
 fn check_there(names: &[FileName], file: FileName) -> Result<(), Damage>
     ensures there { OnOk result (Contains names.now file) }
     ensures missing { IfErr result (TellsMissing names.now file) }
@@ -123,9 +123,17 @@ fn is_listed(names: &[FileName], file: FileName) -> bool
     ensures no { result ≡ false → ¬ Contains names.now file }
 {
     for name in names {
-        if *name == file {
+        if is_same(*name, file) {
             return true;
         }
     }
     false
+}
+
+// Whether the two names are one.
+fn is_same(name: FileName, other: FileName) -> bool
+    ensures yes { result ≡ true → name ≡ other }
+    ensures no { result ≡ false → name ≢ other }
+{
+    name == other
 }

@@ -6,7 +6,7 @@ ghost use Rattle.sasi_run.specs.Opening.{IsHighestSeal, IsSealNumber};
 
 use sasi_host::FileName;
 
-/// The number of the highest seal among the names, if one is there.
+/// The number of the highest seal among the names, if there is one.
 pub fn highest_seal(names: &[FileName]) -> Option<u32>
     ensures { IsHighestSeal names.now result }
 {
@@ -17,7 +17,7 @@ pub fn highest_seal(names: &[FileName]) -> Option<u32>
     highest
 }
 
-// The higher of a seal and of this name's, if it is one.
+// The higher of this number and the name's, if the name is that of a seal.
 fn higher(highest: Option<u32>, name: FileName) -> Option<u32>
     ensures { (before : List AName) → IsHighestSeal before highest → IsHighestSeal (before ++ name ∷ []) result }
 {

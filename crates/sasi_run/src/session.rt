@@ -1,4 +1,4 @@
-// A run between two reads of its script.
+// A session: a run between two reads of its script.
 ghost use Rattle.std.specs.Prelude.{◌≡◌, OnOk, IfErr, ◌∷◌, []};
 ghost use Rattle.sasi_host.specs.View.{AllOut, Emits, OutCauses};
 ghost use Rattle.sasi_host.specs.declared.fault.HostFault.TheVariants as host_fault;
@@ -16,14 +16,14 @@ use sasi_machine::{Outcome, Reply};
 use sasi_types::PieceEnd;
 use std::alloc::{AllocError, Global};
 
-/// A run between two reads of its script.
+/// A run between two reads of its script: its store, the splitter of the script, and the last reply.
 #[derive(Drop)]
 pub struct Session {
     pub alloc: Global,
     pub store: Store,
     pub splitter: Splitter,
     pub reply: Reply,
-    /// How many pieces were refused; it stays at its last value.
+    /// How many pieces were refused, at most 2^64 - 1.
     pub refused: u64,
 }
 
@@ -74,7 +74,7 @@ fn count_refused(count: u64, outcome: Outcome) -> u64
     }
 }
 
-// Emits a reply by one call, unless there is none.
+// Emits a reply by one call, unless it is empty.
 fn show<H: Host>(host: &mut H, reply: &[u8]) -> Result<(), Failed>
     ensures bytes { EmitAppends (H.view host.old).emitted (H.view host.new).emitted result reply.now }
     ensures all { OnOk result (AllOut reply.now (H.view host.old) (H.view host.new)) }
@@ -107,7 +107,7 @@ pub fn answer<H: Host>(session: &mut Session, host: &mut H, end: PieceEnd) -> Re
     Ok(())
 }
 
-// Takes the next byte of the script, and runs the piece that it ends, if it ends one.
+// Pushes the next byte of the script, and runs the piece that it ends, if it ends one.
 fn take_byte<H: Host>(session: &mut Session, host: &mut H, byte: u8) -> Result<(), Stop>
     requires ready { IsReady (H.view host.old) session.old.store }
     ensures ok { OnOk result (TakesOn session.old session.new (H.view host.old) (H.view host.new) (byte ∷ [])) }
@@ -121,7 +121,7 @@ fn take_byte<H: Host>(session: &mut Session, host: &mut H, byte: u8) -> Result<(
     }
 }
 
-/// Takes the next bytes of the script, and runs each piece that ends in them.
+/// Feeds the next bytes of the script, and runs each piece that ends in them.
 pub fn feed<H: Host>(session: &mut Session, host: &mut H, bytes: &[u8]) -> Result<(), Stop>
     requires ready { IsReady (H.view host.old) session.old.store }
     ensures ok { OnOk result (TakesOn session.old session.new (H.view host.old) (H.view host.new) bytes.now) }
@@ -134,7 +134,7 @@ pub fn feed<H: Host>(session: &mut Session, host: &mut H, bytes: &[u8]) -> Resul
     Ok(())
 }
 
-/// Runs what the script's end cut off, if anything is left.
+/// Runs the piece that the script's end cuts off, if there is one.
 pub fn finish<H: Host>(session: &mut Session, host: &mut H) -> Result<(), Stop>
     requires ready { IsReady (H.view host.old) session.old.store }
     ensures ok { OnOk result (FinishesOn session.old session.new (H.view host.old) (H.view host.new)) }

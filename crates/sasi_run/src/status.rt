@@ -11,13 +11,13 @@ pub enum Status {
     Done,
     /// The script was read to its end, and so many pieces were refused.
     Refused(u64),
-    /// The words are not those of the command line.
+    /// The words are no command line.
     Usage,
-    /// The source failed.
+    /// The script could not be read.
     ScriptFault,
     /// A file of the folder could not be read or written.
     FolderFault,
-    /// The host didn't take a reply.
+    /// A reply could not be written.
     OutputFault,
     OutOfMemory,
     /// A file of the folder breaks its format.
@@ -27,7 +27,7 @@ pub enum Status {
 }
 
 impl Status {
-    /// The status that the program ends with.
+    /// The exit status of the program.
     pub fn code(self) -> u8
         ensures { result ≡ number_of self }
     {

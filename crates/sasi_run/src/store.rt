@@ -1,4 +1,4 @@
-// A folder's store in hand: what it holds in memory, and the two files that record each change before it is made.
+// An open store: its tables in memory, and the manifest and the commit log, which record each change before it is applied.
 ghost use Rattle.std.specs.Prelude.{◌≡◌, ◌∷◌, [], IfErr, IfOk, OnOk};
 ghost use Rattle.sasi_host.specs.View.{IsTold, ListCauses};
 ghost use Rattle.sasi_host.specs.Disk.{Changes};

@@ -1,4 +1,4 @@
-// The top call.
+// The entry point: a run of a script over a folder.
 ghost use Rattle.std.specs.Prelude.{◌≡◌, map, string_bytes};
 ghost use Rattle.sasi_run.specs.Headline.{Headline, status_of_fault};
 
@@ -10,7 +10,8 @@ use sasi_host::{Host, ReadFault, Source};
 use sasi_types::Partitioner;
 use std::alloc::Global;
 
-/// Runs a script and emits its replies. The words are those of the command line, without the program's own.
+/// Runs a script over the folder of a host, and emits its replies. `words` are those of the command line, without the
+/// program's own.
 pub fn run<S: Source, H: Host>(
     alloc: Global,
     words: &[String],
@@ -34,7 +35,7 @@ pub fn run<S: Source, H: Host>(
     }
 }
 
-// The status of a folder that isn't opened.
+// The status of a run whose folder could not be opened.
 fn fault_status(fault: ReadFault) -> Status
     ensures { result ≡ status_of_fault fault }
 {

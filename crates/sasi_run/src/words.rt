@@ -4,7 +4,7 @@ ghost use Rattle.sasi_run.specs.Words.{is_path, IsCommand, AreWords};
 
 use crate::Command;
 
-// A path isn't empty, and no option.
+// A path isn't empty and doesn't begin with a dash.
 fn is_path_word(word: &[u8]) -> bool
     ensures { result ≡ is_path word.now }
 {
@@ -14,7 +14,7 @@ fn is_path_word(word: &[u8]) -> bool
     }
 }
 
-/// Reads the words of the command line, without the program's own. They are a folder and a script.
+/// Reads the words of the command line, without the program's own: a folder and a script. None where they are anything else.
 pub fn command(words: &[String]) -> Option<Command>
     ensures some { IfSome result (λ command. IsCommand (map (λ w. string_bytes w) words.now) command) }
     ensures none { IfNone result (AreWords (map (λ w. string_bytes w) words.now) → ⊥) }

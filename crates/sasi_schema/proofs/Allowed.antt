@@ -6,7 +6,7 @@ use Rattle.sasi_model.specs.State.{Column, Definition}
 use Rattle.sasi_model.specs.Refusals.{KeyMissing, TooManyTables, TooManyColumns, first_of, create_rules, repeat_rules, names_in, TABLE_LIMIT, COLUMN_LIMIT}
 use Rattle.sasi_model.specs.Step.{key_place}
 use Rattle.sasi_schema.specs.declared.table.Table.{Table}
-use Rattle.sasi_schema.specs.Answers.{none_first, none_parts}
+use Rattle.sasi_schema.proofs.RuleLaws.{none_first, none_parts}
 use Rattle.sasi_schema.specs.Checks.{name_rules, key_rules, count_rules}
 use Rattle.sasi_schema.specs.Defined.{definition, definitions}
 use Rattle.sasi_schema.specs.Numbers.{IsKeyAt}

@@ -1,3 +1,4 @@
+pub mod RuleLaws
 pub mod Allowed
 pub mod Keys
 pub mod Places

@@ -35,17 +35,20 @@ or_second false false = refl
 pub seen_more : (names : List (List ℕ)) (i : ℕ) (name copy q : List ℕ) (before after : Bool) → i < length names → name ≡ get_or names i name → copy ≡ name → before ≡ list_any (same q) (take i names)
     → after ≡ (if is_eq (key_cmp copy q) then true else before) → after ≡ list_any (same q) (take (i + 1) names)
 seen_more names i name copy q before after inside is copied was now =
-    now ∙ rw (copied, was, alike name q, add-one, take-suc names i name inside, ← is, list_any-append (same q) (take i names) (name ∷ [])) (sym (or_second (same q name) (list_any (same q) (take i names))))
+    now ∙ rw (copied, was, alike name q, add-one, take-suc names i name inside, ← is, list_any-append (same q) (take i names) (name ∷ []))
+    (sym (or_second (same q name) (list_any (same q) (take i names))))
 
 -- a name that was new in the set doesn't stand before
-pub was_new : (names : List (List ℕ)) (i : ℕ) (name copy : List ℕ) (before added : Bool) → copy ≡ name → before ≡ list_any (same copy) (take i names) → added ≡ not before → added ≡ true → list_any (same name) (take i names) ≡ false
+pub was_new : (names : List (List ℕ)) (i : ℕ) (name copy : List ℕ) (before added : Bool) → copy ≡ name → before ≡ list_any (same copy)
+    (take i names) → added ≡ not before → added ≡ true → list_any (same name) (take i names) ≡ false
 was_new names i name copy before added copied was added_is new = ap (λ (n : List ℕ). list_any (same n) (take i names)) (sym copied) ∙ sym was ∙ by before (sym added_is ∙ new)
   where
     by : (b : Bool) → not b ≡ true → b ≡ false
     by true e = cc
     by false e = refl
 
-pub was_old : (names : List (List ℕ)) (i : ℕ) (name copy : List ℕ) (before added : Bool) → copy ≡ name → before ≡ list_any (same copy) (take i names) → added ≡ not before → added ≡ false → list_any (same name) (take i names) ≡ true
+pub was_old : (names : List (List ℕ)) (i : ℕ) (name copy : List ℕ) (before added : Bool) → copy ≡ name → before ≡ list_any (same copy)
+    (take i names) → added ≡ not before → added ≡ false → list_any (same name) (take i names) ≡ true
 was_old names i name copy before added copied was added_is old = ap (λ (n : List ℕ). list_any (same n) (take i names)) (sym copied) ∙ sym was ∙ by before (sym added_is ∙ old)
   where
     by : (b : Bool) → not b ≡ false → b ≡ true

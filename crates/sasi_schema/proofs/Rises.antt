@@ -30,7 +30,8 @@ pub number_past : (name : List ℕ) (tables : List Table) (i : ℕ) (t : Table) 
 number_past name tables i t inside is other = rw (add-one, drop-cons tables i t inside, ← is, other) (from_more i (number_of_table name (definitions (drop (suc i) tables))))
 
 -- the table of the name is found
-pub named_here : (name : List ℕ) (tables : List Table) (i : ℕ) (t : Table) → i < length tables → t ≡ get_or tables i t → same t.name name ≡ true → definition_of name (definitions (drop i tables)) ≡ Some (definition t)
+pub named_here : (name : List ℕ) (tables : List Table) (i : ℕ) (t : Table) → i < length tables → t ≡ get_or tables i t
+    → same t.name name ≡ true → definition_of name (definitions (drop i tables)) ≡ Some (definition t)
 named_here name tables i t inside is found = rw (drop-cons tables i t inside, ← is, found) refl
 
 pub number_here : (name : List ℕ) (tables : List Table) (i : ℕ) (t : Table) → i < length tables → t ≡ get_or tables i t → same t.name name ≡ true

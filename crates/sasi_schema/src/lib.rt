@@ -9,8 +9,6 @@ mod repeats;
 mod schema;
 mod search;
 mod table;
-#[cfg(test)]
-mod tests;
 
 pub use fault::{Limit, SchemaFault};
 pub use repeats::{repeated_column, repeated_name};

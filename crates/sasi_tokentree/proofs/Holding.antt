@@ -1,4 +1,4 @@
--- What is told after a read with the page in hand, told of what was before it.
+-- What holds after a buffered read, said of the state before it.
 use Rattle.std.proofs.Common.{◌≡◌, Some, ◌∙◌, ap, subst}
 use Rattle.sasi_host.specs.declared.name.FileName.{FileName}
 use Rattle.sasi_host.specs.declared.fault.ReadFault.{ReadFault}

@@ -20,28 +20,42 @@ next_place level at entries index lt = ap (λ (n : ℕ). at + n) (first_nodes_le
 pub first_written : (a : View) (file : FileName) (at level : ℕ) (entries : List Pair) → Reaches a file at → Writes a a file at (first_nodes level entries 0)
 first_written a file at level entries room = subst (λ (l : Bytes). Writes a a file at l) (sym (first_nodes_none level entries)) (writes_nothing a file at room)
 
-pub next_room : (a b : View) (file : FileName) (level at : ℕ) (entries : List Pair) (index : ℕ) → 255 * index < length entries → Writes a b file at (first_nodes level entries index) → Reaches b file (at + 4088 * index)
+pub next_room : (a b : View) (file : FileName) (level at : ℕ) (entries : List Pair) (index : ℕ) → 255 * index < length entries → Writes a b file at
+    (first_nodes level entries index) → Reaches b file (at + 4088 * index)
 next_room a b file level at entries index lt written = subst (λ (n : ℕ). Reaches b file n) (next_place level at entries index lt) written.reaches
 
-pub next_changes : (a b c : View) (file : FileName) (level at : ℕ) (entries : List Pair) (index : ℕ) → Writes a b file at (first_nodes level entries index) → ChangesPast file (at + 4088 * index) b c → ChangesPast file at a c
+pub next_changes : (a b c : View) (file : FileName) (level at : ℕ) (entries : List Pair) (index : ℕ) → Writes a b file at
+    (first_nodes level entries index) → ChangesPast file (at + 4088 * index) b c → ChangesPast file at a c
 next_changes a b c file level at entries index written change = changes_past_on a b c file at (at + 4088 * index) (omega arith) written.changes change
 
-pub next_written : (a b c : View) (file : FileName) (level at : ℕ) (entries here : List Pair) (index : ℕ) → 255 * index < length entries → here ≡ part entries index → Reaches a file at → Writes a b file at (first_nodes level entries index)
+pub next_written : (a b c : View) (file : FileName) (level at : ℕ) (entries here : List Pair) (index : ℕ) → 255 * index < length entries → here ≡ part
+    entries index → Reaches a file at → Writes a b file at (first_nodes level entries index)
     → Writes b c file (at + 4088 * index) (node level here) → Writes a c file at (first_nodes level entries (index + 1))
 next_written a b c file level at entries here index lt is room written more =
     subst (λ (l : Bytes). Writes a c file at l) (ap (λ (l : List Pair). first_nodes level entries index ++ node level l) is ∙ sym (first_nodes_more level entries index))
-    (writes_on a b c file at (first_nodes level entries index) (node level here) room written (subst (λ (n : ℕ). Writes b c file n (node level here)) (sym (next_place level at entries index lt)) more))
+    (writes_on a b c file at (first_nodes level entries index) (node level here) room written
+    (subst (λ (n : ℕ). Writes b c file n (node level here)) (sym (next_place level at entries index lt)) more))
 
-pub next_fits : (level at : ℕ) (entries here : List Pair) (index : ℕ) → 255 * index < length entries → here ≡ part entries index → at + 4088 * index + length (node level here) ≤ 2 ^ 62 → at + length (first_nodes level entries (index + 1)) ≤ 2 ^ 62
+pub next_fits : (level at : ℕ) (entries here : List Pair) (index : ℕ) → 255 * index < length entries → here ≡ part entries index → at + 4088 * index +
+    length (node level here) ≤ 2 ^ 62 → at + length (first_nodes level entries (index + 1)) ≤ 2 ^ 62
 next_fits level at entries here index lt is fits =
-    omega (arith, fits, ap length (first_nodes_more level entries index), length-append (first_nodes level entries index) (node level (part entries index)), next_place level at entries index lt, ap (λ (l : List Pair). length (node level l)) is)
+    omega (
+      arith,
+      fits,
+      ap length (first_nodes_more level entries index),
+      length-append (first_nodes level entries index)
+          (node level (part entries index)),
+      next_place level at entries index lt,
+      ap (λ (l : List Pair). length (node level l)) is,
+    )
 
 pub next_entry : (at : ℕ) (entries here above : List Pair) (index token : ℕ) → here ≡ part entries index → token ≡ (pair_at here 0).token → above ≡ first_above at entries index
     → above ++ record { token = token; place = at + 4088 * index } ∷ [] ≡ first_above at entries (index + 1)
 next_entry at entries here above index token is least so_far =
     let zero_pair : Pair = record { token = 0; place = 0 } in
     let first : pair_at here 0 ≡ pair_at entries (255 * index) =
-    ap (λ (l : List Pair). pair_at l 0) is ∙ get_or-take 255 (drop (255 * index) entries) 0 zero_pair (omega arith) ∙ get_or-drop (255 * index) entries 0 zero_pair ∙ ap (λ (n : ℕ). pair_at entries n) (omega arith)
+    ap (λ (l : List Pair). pair_at l 0) is ∙ get_or-take 255 (drop (255 * index) entries) 0 zero_pair (omega arith) ∙ get_or-drop (255 * index)
+    entries 0 zero_pair ∙ ap (λ (n : ℕ). pair_at entries n) (omega arith)
     in
     ap (λ (l : List Pair). l ++ record { token = token; place = at + 4088 * index } ∷ []) so_far
     ∙ ap (λ (n : ℕ). first_above at entries index ++ record { token = n; place = at + 4088 * index } ∷ []) (least ∙ ap (λ (p : Pair). p.token) first)
@@ -50,7 +64,8 @@ next_entry at entries here above index token is least so_far =
 -- ---- levels
 
 -- a level of one node is the last
-pub last_written : (a b : View) (file : FileName) (level at most : ℕ) (entries : List Pair) → 0 < length entries → length entries ≤ 255 → length entries ≤ most → Writes a b file at (level_bytes level entries) → Writes a b file at (levels most level at entries)
+pub last_written : (a b : View) (file : FileName) (level at most : ℕ) (entries : List Pair) → 0 < length entries → length entries ≤ 255 → length
+    entries ≤ most → Writes a b file at (level_bytes level entries) → Writes a b file at (levels most level at entries)
 last_written a b file level at zero entries some one enough written = absurd (omega arith)
 last_written a b file level at (suc most) entries some one enough written = subst (λ (l : Bytes). Writes a b file at l) (sym (one_level most level at entries one)) written
 
@@ -63,8 +78,10 @@ pub fewer : (count most : ℕ) → 255 < count → count ≤ suc most → nodes 
 fewer count most many enough = omega arith
 
 -- behind a level of more nodes the levels above it follow
-pub more_written : (a b c : View) (file : FileName) (level at most : ℕ) (entries next : List Pair) → 255 < length entries → length entries ≤ most → next ≡ above at entries → Reaches a file at → Writes a b file at (level_bytes level entries)
-    → ((bound : ℕ) → length next ≤ bound → Writes b c file (at + size (length entries)) (levels bound (level + 1) (at + size (length entries)) next)) → Writes a c file at (levels most level at entries)
+pub more_written : (a b c : View) (file : FileName) (level at most : ℕ) (entries next : List Pair) → 255 < length entries → length entries ≤ most →
+    next ≡ above at entries → Reaches a file at → Writes a b file at (level_bytes level entries)
+    → ((bound : ℕ) → length next ≤ bound → Writes b c file (at + size (length entries)) (levels bound (level + 1) (at + size (length entries)) next))
+    → Writes a c file at (levels most level at entries)
 more_written a b c file level at zero entries next many enough is room first others = absurd (omega arith)
 more_written a b c file level at (suc most) entries next many enough is room first others =
     let few : length next ≤ most = omega (arith, ap length is, first_above_length at entries (nodes (length entries)), fewer (length entries) most many enough) in

@@ -1,4 +1,4 @@
--- What the bytes of a node tell.
+-- The fields of a node, by its bytes.
 use Rattle.std.proofs.Common.{◌≡◌, ℕ, zero, suc, add-zero, ◌+◌, ◌-◌, ◌*◌, ◌^◌, ◌<◌, ◌≤◌, List, [], ◌∷◌, ◌++◌, length, take, drop, refl, sym, ◌∙◌, ap, subst, arith, append_assoc, lit<, ⊎_elim}
 use Rattle.std.proofs.lemmas.List.{take_at, drop_at, take-take, drop-take, drop-drop, drop_more, drop_all}
 use Rattle.std.proofs.lemmas.Nat.{from_be_bytes-to_be_bytes_8}
@@ -20,8 +20,9 @@ use Rattle.sasi_host.specs.Damages.{seen_bytes, HasAt, IsOther}
 
 -- ---- what is seen
 
--- in the head of a node
-pub head_in : (file : FileName) (at : ℕ) (bytes : Bytes) (level count offset : ℕ) (wanted : Bytes) (damage : Damage) → IsHeadPart level count offset wanted → IsOther file at bytes offset wanted Number damage → IsInNode file at bytes level count damage
+-- in the header of a node
+pub head_in : (file : FileName) (at : ℕ) (bytes : Bytes) (level count offset : ℕ) (wanted : Bytes) (damage : Damage) → IsHeadPart level count offset
+    wanted → IsOther file at bytes offset wanted Number damage → IsInNode file at bytes level count damage
 head_in file at bytes level count offset wanted damage part other = record {
   offset = offset;
   named = other.named;
@@ -32,13 +33,15 @@ head_in file at bytes level count offset wanted damage part other = record {
 }
 
 -- an entry that doesn't come after the one before it
-pub disorder_in : (file : FileName) (at : ℕ) (bytes : Bytes) (level count index n : ℕ) (last pair : Pair) (damage : Damage) → length bytes ≡ 8 + 16 * count → 0 < index → index < count → AreFit (last ∷ pair ∷ [])
+pub disorder_in : (file : FileName) (at : ℕ) (bytes : Bytes) (level count index n : ℕ) (last pair : Pair) (damage : Damage) → length bytes ≡ 8 + 16 *
+    count → 0 < index → index < count → AreFit (last ∷ pair ∷ [])
     → HasAt bytes (8 + 16 * (index - 1)) (entry last) → HasAt bytes (8 + 16 * index) (entry pair) → ¬ IsBefore last pair → damage.file ≡ file → damage.at ≡ at + (8 + 16 * index) → damage.rule ≡ Order
     → n ≡ 8 → seen_bytes damage.seen ≡ take n (drop (8 + 16 * index) bytes) → IsInNode file at bytes level count damage
 unfolding entry
 disorder_in file at bytes level count index n last pair damage long some lt fit last_stands pair_stands disorder named place rule eight seen =
     let next : 8 + 16 * index ≡ 8 + 16 * (index - 1) + length (entry last) = omega (arith, some, entry_length last) in
-    let told : take 8 (drop (8 + 16 * index) bytes) ≡ to_be_bytes w64 pair.token = at_window bytes (8 + 16 * index) (to_be_bytes w64 pair.token) (first_at bytes (8 + 16 * index) (to_be_bytes w64 pair.token) (to_be_bytes w64 pair.place) pair_stands) in
+    let told : take 8 (drop (8 + 16 * index) bytes) ≡ to_be_bytes w64 pair.token = at_window bytes (8 + 16 * index) (to_be_bytes w64 pair.token)
+    (first_at bytes (8 + 16 * index) (to_be_bytes w64 pair.token) (to_be_bytes w64 pair.place) pair_stands) in
     record {
       offset = 8 + 16 * index;
       named = named;
@@ -49,7 +52,8 @@ disorder_in file at bytes level count index n last pair damage long some lt fit 
         last = last;
         pair = pair;
         within = omega (arith, some, lt);
-        stands = subst (λ (k : ℕ). HasAt bytes k (entry last ++ entry pair)) (omega arith) (both_at bytes (8 + 16 * (index - 1)) (8 + 16 * index) (entry last) (entry pair) last_stands next pair_stands);
+        stands = subst (λ (k : ℕ). HasAt bytes k (entry last ++ entry pair)) (omega arith)
+            (both_at bytes (8 + 16 * (index - 1)) (8 + 16 * index) (entry last) (entry pair) last_stands next pair_stands);
         fit = fit;
         disorder = disorder;
         place = omega (arith, some);
@@ -57,7 +61,7 @@ disorder_in file at bytes level count index n last pair damage long some lt fit 
       });
     }
 
--- ---- the head
+-- ---- the header
 
 within_head : (bytes : Bytes) (offset n : ℕ) → offset + n ≤ 8 → take n (drop offset bytes) ≡ drop offset (take (offset + n) (take 8 bytes))
 within_head bytes offset n le = sym (drop-take offset n bytes) ∙ ap (λ (l : Bytes). drop offset l) (sym (take-take (offset + n) 8 bytes le))
@@ -81,12 +85,14 @@ pub head_zeros : (level count : ℕ) → drop 4 (take 8 (head level count)) ≡ 
 unfolding head
 head_zeros level count = refl
 
-pub head_is : (bytes : Bytes) (level count : ℕ) → take 1 (drop 0 bytes) ≡ level ∷ [] → take 1 (drop 1 bytes) ≡ 0 ∷ [] → take 2 (drop 2 bytes) ≡ to_be_bytes w16 count → take 4 (drop 4 bytes) ≡ 0 ∷ 0 ∷ 0 ∷ 0 ∷ [] → take 8 bytes ≡ head level count
+pub head_is : (bytes : Bytes) (level count : ℕ) → take 1 (drop 0 bytes) ≡ level ∷ [] → take 1 (drop 1 bytes) ≡ 0 ∷ [] → take 2 (drop 2 bytes) ≡
+    to_be_bytes w16 count → take 4 (drop 4 bytes) ≡ 0 ∷ 0 ∷ 0 ∷ 0 ∷ [] → take 8 bytes ≡ head level count
 unfolding head
 head_is bytes level count one two three four =
     take-add 1 7 bytes ∙ ap (λ (l : Bytes). l ++ take 7 (drop 1 bytes)) one
     ∙ ap (λ (l : Bytes). level ∷ l) (take-add 1 6 (drop 1 bytes) ∙ ap (λ (l : Bytes). l ++ take 6 (drop 1 (drop 1 bytes))) two ∙ ap (λ (l : Bytes). 0 ∷ take 6 l) (drop-drop 1 1 bytes)
-    ∙ ap (λ (l : Bytes). 0 ∷ l) (take-add 2 4 (drop 2 bytes) ∙ ap (λ (l : Bytes). l ++ take 4 (drop 2 (drop 2 bytes))) three ∙ ap (λ (l : Bytes). to_be_bytes w16 count ++ take 4 l) (drop-drop 2 2 bytes) ∙ ap (λ (l : Bytes). to_be_bytes w16 count ++ l) four))
+    ∙ ap (λ (l : Bytes). 0 ∷ l) (take-add 2 4 (drop 2 bytes) ∙ ap (λ (l : Bytes). l ++ take 4 (drop 2 (drop 2 bytes))) three ∙ ap
+    (λ (l : Bytes). to_be_bytes w16 count ++ take 4 l) (drop-drop 2 2 bytes) ∙ ap (λ (l : Bytes). to_be_bytes w16 count ++ l) four))
 
 -- ---- entries
 
@@ -98,7 +104,8 @@ drop_entries (first ∷ others) (suc index) =
     ∙ ap (λ (l : Bytes). drop (16 * index) l) (drop_at (entry first) (flat_map entry others) (length (entry first)) refl) ∙ drop_entries others index
 
 -- from an entry on a node has it and the ones behind it
-pub from_entry : (level : ℕ) (entries : List Pair) (index : ℕ) → index < length entries → drop (8 + 16 * index) (node level entries) ≡ entry (pair_at entries index) ++ flat_map entry (drop (index + 1) entries)
+pub from_entry : (level : ℕ) (entries : List Pair) (index : ℕ) → index < length entries → drop (8 + 16 * index) (node level entries) ≡ entry
+    (pair_at entries index) ++ flat_map entry (drop (index + 1) entries)
 unfolding node
 from_entry level entries index lt =
     sym (drop-drop (16 * index) 8 (node level entries))
@@ -109,7 +116,8 @@ from_entry level entries index lt =
 pub same_number : (a b : ℕ) → a < 2 ^ 64 → b < 2 ^ 64 → to_be_bytes w64 a ≡ to_be_bytes w64 b → a ≡ b
 same_number a b a_fits b_fits same = sym (from_be_bytes-to_be_bytes_8 a a_fits) ∙ ap (from_be_bytes w64) same ∙ from_be_bytes-to_be_bytes_8 b b_fits
 
-pub entry_reads : (bytes : Bytes) (level : ℕ) (entries : List Pair) (index token place : ℕ) → AreFit entries → bytes ≡ node level entries → 24 + 16 * index ≤ length bytes → token < 2 ^ 64 → place < 2 ^ 64
+pub entry_reads : (bytes : Bytes) (level : ℕ) (entries : List Pair) (index token place : ℕ) → AreFit entries → bytes ≡ node level entries → 24 + 16 *
+    index ≤ length bytes → token < 2 ^ 64 → place < 2 ^ 64
     → to_be_bytes w64 token ≡ take 8 (drop (8 + 16 * index) bytes) → to_be_bytes w64 place ≡ take 8 (drop (8 + 16 * index + 8) bytes) → record { token = token; place = place } ≡ pair_at entries index
 unfolding entry
 entry_reads bytes level entries index token place fit is le token_fits place_fits token_is place_is =
@@ -122,15 +130,19 @@ entry_reads bytes level entries index token place fit is le token_fits place_fit
     let behind : drop (8 + 16 * index + 8) bytes ≡ to_be_bytes w64 p.place ++ rest =
     sym (drop-drop 8 (8 + 16 * index) bytes) ∙ ap (λ (l : Bytes). drop 8 l) here ∙ drop_at (to_be_bytes w64 p.token) (to_be_bytes w64 p.place ++ rest) 8 refl
     in
-    let tokens : token ≡ p.token = same_number token p.token token_fits (fit index).0 (token_is ∙ ap (λ (l : Bytes). take 8 l) here ∙ take_at (to_be_bytes w64 p.token) (to_be_bytes w64 p.place ++ rest) 8 refl) in
+    let tokens : token ≡ p.token = same_number token p.token token_fits (fit index).0
+    (token_is ∙ ap (λ (l : Bytes). take 8 l) here ∙ take_at (to_be_bytes w64 p.token) (to_be_bytes w64 p.place ++ rest) 8 refl) in
     let places : place ≡ p.place = same_number place p.place place_fits (fit index).1 (place_is ∙ ap (λ (l : Bytes). take 8 l) behind ∙ take_at (to_be_bytes w64 p.place) rest 8 refl) in
     ap (λ (n : ℕ). record { token = n; place = place }) tokens ∙ ap (λ (n : ℕ). record { token = p.token; place = n }) places
 
 -- two numbers that stand there are an entry
-pub entry_at : (bytes : Bytes) (at token place n m : ℕ) → n ≡ 8 → m ≡ 8 → at + 16 ≤ length bytes → to_be_bytes w64 token ≡ take n (drop at bytes) → to_be_bytes w64 place ≡ take m (drop (at + 8) bytes) → HasAt bytes at (entry (record { token = token; place = place }))
+pub entry_at : (bytes : Bytes) (at token place n m : ℕ) → n ≡ 8 → m ≡ 8 → at + 16 ≤ length bytes → to_be_bytes w64 token ≡ take n (drop at bytes) →
+    to_be_bytes w64 place ≡ take m (drop (at + 8) bytes) → HasAt bytes at (entry (record { token = token; place = place }))
 unfolding entry
 entry_at bytes at token place n m n_is m_is le token_is place_is =
-    both_at bytes at (at + 8) (to_be_bytes w64 token) (to_be_bytes w64 place) (window_at bytes (to_be_bytes w64 token) at n token_is (omega (arith, n_is, le))) refl (window_at bytes (to_be_bytes w64 place) (at + 8) m place_is (omega (arith, m_is, le)))
+    both_at bytes at (at + 8) (to_be_bytes w64 token) (to_be_bytes w64 place)
+    (window_at bytes (to_be_bytes w64 token) at n token_is (omega (arith, n_is, le))) refl
+    (window_at bytes (to_be_bytes w64 place) (at + 8) m place_is (omega (arith, m_is, le)))
 
 -- pairs whose numbers fit
 pub pair_fits : (a : Pair) → a.token < 2 ^ 64 → a.place < 2 ^ 64 → AreFit (a ∷ [])
@@ -159,7 +171,8 @@ do_not_fall entries rising first (suc more) lt =
     let same : first + more + 1 ≡ first + suc more = omega arith in
     omega (arith, before, step, ap (λ (k : ℕ). (pair_at entries k).token) same)
 
-pub found_at : (level count token index : ℕ) (bytes : Bytes) (entries : List Pair) (last pair : Pair) → length bytes ≡ 8 + 16 * count → bytes ≡ node level entries → IsRising entries → index < count → pair ≡ pair_at entries index → token ≤ pair.token
+pub found_at : (level count token index : ℕ) (bytes : Bytes) (entries : List Pair) (last pair : Pair) → length bytes ≡ 8 + 16 * count → bytes ≡ node
+    level entries → IsRising entries → index < count → pair ≡ pair_at entries index → token ≤ pair.token
     → ((k : ℕ) → k < index → (pair_at entries k).token < token) → (0 < index → last ≡ pair_at entries (index - 1)) → FindsBelow entries token index last.place
 found_at level count token index bytes entries last pair long is rising lt pair_is reached below last_is = record {
   counts = record {
@@ -185,7 +198,8 @@ found_all level count token bytes entries last long is below last_is = record {
 }
 
 -- entries that rise aren't out of order
-pub no_disorder : (level count index : ℕ) (bytes : Bytes) (entries : List Pair) (last pair : Pair) → length bytes ≡ 8 + 16 * count → bytes ≡ node level entries → IsRising entries → index < count → 0 < index → last ≡ pair_at entries (index - 1) → pair ≡ pair_at entries index
+pub no_disorder : (level count index : ℕ) (bytes : Bytes) (entries : List Pair) (last pair : Pair) → length bytes ≡ 8 + 16 * count → bytes ≡ node
+    level entries → IsRising entries → index < count → 0 < index → last ≡ pair_at entries (index - 1) → pair ≡ pair_at entries index
     → (IsBefore last pair → ⊥) → ⊥
 no_disorder level count index bytes entries last pair long is rising lt some last_is pair_is out =
     let same : index - 1 + 1 ≡ index = omega arith in

@@ -1,4 +1,4 @@
--- A node that stands in a file is what a read there gives, and a fault there shows that none does.
+-- A read gives the node that the file has there, and a fault shows that the file has none.
 use Rattle.std.proofs.Common.{◌≡◌, ℕ, ◌+◌, ◌*◌, ◌<◌, ◌≤◌, List, ◌++◌, length, take, drop, refl, sym, ◌∙◌, ap, subst, min, ◌-◌, ◌≢◌, arith, length-append}
 use Rattle.std.proofs.lemmas.List.{take_at}
 use Rattle.sasi_types.specs.declared.tree.Pair.{Pair}
@@ -27,7 +27,15 @@ node_is bytes out level at n entries has size is =
 -- the file reaches to its end
 pub node_ends : (bytes : Bytes) (level at : ℕ) (entries : List Pair) → HasNode bytes level at entries → at + (8 + 16 * length entries) ≤ length bytes
 node_ends bytes level at entries has =
-    omega (arith, ap length has.stands.is, has.stands.place, length-append (has.stands.front ++ node level entries) has.stands.rest, length-append has.stands.front (node level entries), node_length level entries)
+    omega (
+      arith,
+      ap length has.stands.is,
+      has.stands.place,
+      length-append (has.stands.front ++ node level entries) has.stands.rest,
+      length-append
+          has.stands.front (node level entries),
+      node_length level entries,
+    )
 
 -- so no node stands where the file ends before
 pub early_spares : (v : View) (file : FileName) (level at count n : ℕ) (f : ReadFault) → n ≡ 8 + 16 * count → Shown v file (ShowsEnd (at + n) file) f → SparesNode v file level at count f
@@ -35,14 +43,15 @@ early_spares v file level at count n fault.Failed size early = tt
 early_spares v file level at count n fault.OutOfMemory size early = tt
 early_spares v file level at count n (fault.Damaged damage) size early = λ bytes entries is has long. let less = (early bytes is).short in omega (arith, less, node_ends bytes level at entries has)
 
--- the head that a node begins with
+-- the header that a node begins with
 pub node_head : (out : Bytes) (level count : ℕ) (entries : List Pair) → out ≡ node level entries → length entries ≡ count → take 8 out ≡ head level count
 unfolding node
 node_head out level count entries is long = ap (λ (l : Bytes). take 8 l) is ∙ take_at (head level (length entries)) _ 8 (head_length level (length entries)) ∙ ap (λ (k : ℕ). head level k) long
 
 -- ---- damage of a node
 
-node_in : (bytes : Bytes) (at : ℕ) (window : Bytes) (level count : ℕ) (rule : FormatRule) (offset : ℕ) (seen : Bytes) → HasAt bytes at window → rule ≢ Short → NodeBreaks window (record { level = level; at = 0; count = count }) rule offset seen
+node_in : (bytes : Bytes) (at : ℕ) (window : Bytes) (level count : ℕ) (rule : FormatRule) (offset : ℕ) (seen : Bytes) → HasAt bytes at window → rule ≢
+    Short → NodeBreaks window (record { level = level; at = 0; count = count }) rule offset seen
     → NodeBreaks bytes (record { level = level; at = at; count = count }) rule (at + offset) seen
 node_in bytes at window level count Short offset seen has long breaks = absurd (long refl)
 node_in bytes at window level count Number offset seen has long breaks = record {
@@ -57,7 +66,8 @@ node_in bytes at window level count Order offset seen has long breaks = record {
   last = breaks.last;
   pair = breaks.pair;
   within = breaks.within;
-  stands = subst (λ (n : ℕ). HasAt bytes n (entry breaks.last ++ entry breaks.pair)) (omega arith) (inner_at bytes at window (0 + (8 + 16 * breaks.index)) (entry breaks.last ++ entry breaks.pair) has breaks.stands);
+  stands = subst (λ (n : ℕ). HasAt bytes n (entry breaks.last ++ entry breaks.pair)) (omega arith)
+      (inner_at bytes at window (0 + (8 + 16 * breaks.index)) (entry breaks.last ++ entry breaks.pair) has breaks.stands);
   fit = breaks.fit;
   disorder = breaks.disorder;
   place = omega (arith, breaks.place);
@@ -71,16 +81,19 @@ node_in bytes at window level count Place offset seen has long breaks = breaks
 node_in bytes at window level count Text offset seen has long breaks = breaks
 
 -- what breaks the bytes of a node breaks it in the file
-pub node_shown : (file : FileName) (bytes : Bytes) (at : ℕ) (window : Bytes) (level count : ℕ) (damage : Damage) → HasAt bytes at window → IsInNode file at window level count damage → ShowsOf (λ n. n ≡ record { level = level; at = at; count = count }) file bytes damage
+pub node_shown : (file : FileName) (bytes : Bytes) (at : ℕ) (window : Bytes) (level count : ℕ) (damage : Damage) → HasAt bytes at window → IsInNode
+    file at window level count damage → ShowsOf (λ n. n ≡ record { level = level; at = at; count = count }) file bytes damage
 node_shown file bytes at window level count damage has seen = record {
   named = seen.named;
   node = record { level = level; at = at; count = count };
   is_of = refl;
-  breaks = subst (λ (n : ℕ). NodeBreaks bytes (record { level = level; at = at; count = count }) damage.rule n (seen_bytes damage.seen)) (sym seen.place) (node_in bytes at window level count damage.rule seen.offset (seen_bytes damage.seen) has seen.long seen.breaks);
+  breaks = subst (λ (n : ℕ). NodeBreaks bytes (record { level = level; at = at; count = count }) damage.rule n (seen_bytes damage.seen))
+      (sym seen.place) (node_in bytes at window level count damage.rule seen.offset (seen_bytes damage.seen) has seen.long seen.breaks);
 }
 
 -- a file that ends before one of these nodes does breaks it
-pub early_shown : (These : Node → Type 0) (v : View) (file : FileName) (end : ℕ) (node : Node) (f : ReadFault) → These node → end ≤ node.at + (8 + 16 * node.count) → Shown v file (ShowsEnd end file) f → ShownOf These v file f
+pub early_shown : (These : Node → Type 0) (v : View) (file : FileName) (end : ℕ) (node : Node) (f : ReadFault) → These node → end ≤ node.at +
+    (8 + 16 * node.count) → Shown v file (ShowsEnd end file) f → ShownOf These v file f
 early_shown These v file end node f is_of le early =
     shown_as (ShowsEnd end file) (ShowsOf These file) v file f (λ bytes damage is ends. record {
       named = ends.tells.named;
@@ -95,7 +108,8 @@ shown_more These Those v file f more shown =
     shown_as (ShowsOf These file) (ShowsOf Those file) v file f (λ bytes damage is s. record { named = s.named; node = s.node; is_of = more s.node s.is_of; breaks = s.breaks }) shown
 
 -- a node of the level
-pub node_of_level : (level at count node here : ℕ) → 255 * node < count → here ≡ min (count - 255 * node) 255 → (n : Node) → n ≡ record { level = level; at = at + 4088 * node; count = here } → IsNodeFrom n level at count
+pub node_of_level : (level at count node here : ℕ) → 255 * node < count → here ≡ min (count - 255 * node) 255 → (n : Node) → n ≡ record
+    { level = level; at = at + 4088 * node; count = here } → IsNodeFrom n level at count
 node_of_level level at count node here lt is n n_is = of_level level at count node lt (n_is ∙ ap (λ (k : ℕ). made k) is)
   where
     made : ℕ → Node

@@ -1,4 +1,4 @@
--- What a fault at a part of a tree shows of the whole, and what reads one after another cost.
+-- A fault at a node is one of the tree; and the cost of one read after another.
 use Rattle.std.proofs.Common.{◌≡◌, ℕ, zero, suc, ◌+◌, ◌-◌, ◌*◌, ◌<◌, ◌≤◌, min, List, length, refl, sym, ◌∙◌, ap, subst, arith, ⊎_elim, IfErr, Ok, Err}
 use Rattle.std.proofs.lemmas.Bool.Decides.{leb_tells}
 use Rattle.std.specs.declared.result.Result.{Result}
@@ -20,7 +20,8 @@ use Rattle.sasi_tokentree.proofs.Standing.{stands_node, stands_above, stands_one
 pub part_size : (entries : List Pair) (node count here : ℕ) → length entries ≡ count → here ≡ min (count - 255 * node) 255 → length (part entries node) ≡ here
 part_size entries node count here long is = omega (arith, part_length entries node, long, is)
 
-pub spares_part : (v : View) (file : FileName) (level at count node here : ℕ) (f : ReadFault) → 255 * node < count → here ≡ min (count - 255 * node) 255 → SparesNode v file level (at + 4088 * node) here f → SparesLevel v file level at count f
+pub spares_part : (v : View) (file : FileName) (level at count node here : ℕ) (f : ReadFault) → 255 * node < count → here ≡ min (count - 255 * node)
+    255 → SparesNode v file level (at + 4088 * node) here f → SparesLevel v file level at count f
 spares_part v file level at count node here fault.Failed lt is spares = tt
 spares_part v file level at count node here fault.OutOfMemory lt is spares = tt
 spares_part v file level at count node here (fault.Damaged damage) lt is spares = λ bytes entries reads stands long.
@@ -29,10 +30,13 @@ spares_part v file level at count node here (fault.Damaged damage) lt is spares 
 pub spares_one : (v : View) (file : FileName) (level at count : ℕ) (f : ReadFault) → count ≤ 255 → SparesNode v file level at count f → SparesLevel v file level at count f
 spares_one v file level at count fault.Failed le spares = tt
 spares_one v file level at count fault.OutOfMemory le spares = tt
-spares_one v file level at count (fault.Damaged damage) le spares = λ bytes entries reads stands long. spares bytes entries reads (stands_one bytes level at entries stands (omega (arith, le, long))) long
+spares_one v file level at count (fault.Damaged damage) le spares = λ bytes entries reads stands long. spares bytes entries reads
+    (stands_one bytes level at entries stands (omega (arith, le, long))) long
 
-pub up : (bytes : Bytes) (level at count : ℕ) (entries : List Pair) → 255 < count → length entries ≡ count → StandsFrom bytes level at entries → StandsFrom bytes (level + 1) (at + size count) (above at entries)
-up bytes level at count entries many long stands = subst (λ (n : ℕ). StandsFrom bytes (level + 1) (at + size n) (above at entries)) long (stands_above bytes level at entries stands (omega (arith, many, long)))
+pub up : (bytes : Bytes) (level at count : ℕ) (entries : List Pair) → 255 < count → length entries ≡ count → StandsFrom bytes level at entries →
+    StandsFrom bytes (level + 1) (at + size count) (above at entries)
+up bytes level at count entries many long stands = subst (λ (n : ℕ). StandsFrom bytes (level + 1) (at + size n) (above at entries)) long
+    (stands_above bytes level at entries stands (omega (arith, many, long)))
 
 pub up_length : (at count : ℕ) (entries : List Pair) → length entries ≡ count → length (above at entries) ≡ nodes count
 up_length at count entries long = first_above_length at entries (nodes (length entries)) ∙ ap nodes long
@@ -50,12 +54,14 @@ spares_before a b was now level at count (fault.Damaged damage) change same spar
 
 -- ---- reads
 
-failed_later : {T : Type 0} (a b c : View) (result : Result T ReadFault) → a.disk_faults ≤ b.disk_faults → IfErr result (λ f. f ≡ fault.Failed → Rose b.disk_faults c.disk_faults) → IfErr result (λ f. f ≡ fault.Failed → Rose a.disk_faults c.disk_faults)
+failed_later : {T : Type 0} (a b c : View) (result : Result T ReadFault) → a.disk_faults ≤ b.disk_faults → IfErr result
+    (λ f. f ≡ fault.Failed → Rose b.disk_faults c.disk_faults) → IfErr result (λ f. f ≡ fault.Failed → Rose a.disk_faults c.disk_faults)
 failed_later a b c (Ok x) le failed = tt
 failed_later a b c (Err f) le failed = λ is. let rose = failed is in omega (arith, rose, le)
 
 -- reads after reads
-pub reads_on : {S T : Type 0} (a b c : View) (n m most : ℕ) (first : Result S ReadFault) (second : Result T ReadFault) → n + m ≤ most → ReadsAtMost n a b first → ReadsAtMost m b c second → ReadsAtMost most a c second
+pub reads_on : {S T : Type 0} (a b c : View) (n m most : ℕ) (first : Result S ReadFault) (second : Result T ReadFault) → n + m ≤ most → ReadsAtMost n
+    a b first → ReadsAtMost m b c second → ReadsAtMost most a c second
 reads_on a b c n m most first second le one two = record {
   disk = omega (arith, one.disk, two.disk);
   out = two.out ∙ one.out;
@@ -82,7 +88,8 @@ fault_reads a b n f one = record {
 }
 
 -- damage that is told after them isn't a failure of the host
-pub damage_reads : {S T : Type 0} (a b : View) (n most : ℕ) (first : Result S ReadFault) (damage : Damage) → n ≤ most → ReadsAtMost n a b first → ReadsAtMost {T = T} most a b (Err (fault.Damaged damage))
+pub damage_reads : {S T : Type 0} (a b : View) (n most : ℕ) (first : Result S ReadFault) (damage : Damage) → n ≤ most → ReadsAtMost n a b first →
+    ReadsAtMost {T = T} most a b (Err (fault.Damaged damage))
 damage_reads a b n most first damage le one = record {
   disk = one.disk;
   out = one.out;
@@ -113,7 +120,8 @@ more_level_reads a b c (suc most) count first second many le one two =
 pub above_reads : {S : Type 0} (a b : View) (most count : ℕ) (first : Result S ReadFault) → 255 < count → count ≤ most
     → ((bound : ℕ) → nodes count ≤ bound → ReadsAtMost (2 * height bound (nodes count)) a b first) → ReadsAtMost (2 * height most count) a b first
 above_reads a b zero count first many le one = absurd (omega arith)
-above_reads a b (suc most) count first many le one = reads_within a b (2 * height most (nodes count)) (2 * height (suc most) count) first (omega (arith, more_high most count many)) (one most (omega (arith, many, le)))
+above_reads a b (suc most) count first many le one = reads_within a b (2 * height most (nodes count)) (2 * height (suc most) count) first
+    (omega (arith, more_high most count many)) (one most (omega (arith, many, le)))
 
 -- ---- the bytes before the last level
 

@@ -1,4 +1,4 @@
--- The nodes of a level that stands in a file, and the level above it.
+-- The nodes of a level in a file, and the level above it.
 use Rattle.std.proofs.Common.{◌≡◌, ℕ, zero, suc, add-one, add-zero, ◌+◌, ◌-◌, ◌*◌, ◌^◌, ◌<◌, ◌≤◌, List, [], ◌∷◌, ◌++◌, length, drop, refl, sym, ◌∙◌, ap, subst, inl, inr, arith, append_assoc, length-append, ⊎_elim, min}
 use Rattle.std.proofs.lemmas.Bool.{cases_eq}
 use Rattle.std.proofs.lemmas.Bool.Decides.{leb_tells}
@@ -13,7 +13,8 @@ use Rattle.sasi_tokentree.proofs.NodeParts.{do_not_fall}
 -- ---- a node of a level
 
 -- the nodes of a level before and behind one of them
-node_in : (level : ℕ) (entries : List Pair) (index count : ℕ) → index < count → (rest : Bytes) × (first_nodes level entries count ≡ first_nodes level entries index ++ node level (part entries index) ++ rest)
+node_in : (level : ℕ) (entries : List Pair) (index count : ℕ) → index < count → (rest : Bytes) ×
+    (first_nodes level entries count ≡ first_nodes level entries index ++ node level (part entries index) ++ rest)
 unfolding first_nodes
 node_in level entries index zero lt = absurd (omega arith)
 node_in level entries index (suc count) lt = ⊎_elim
@@ -56,7 +57,8 @@ part_fit entries index fit k = ⊎_elim
     (leb_tells 255 k)
 
 -- each node of a level that stands in the file stands there
-pub stands_node : (bytes : Bytes) (level at : ℕ) (entries : List Pair) (index : ℕ) → StandsFrom bytes level at entries → 255 * index < length entries → HasNode bytes level (at + 4088 * index) (part entries index)
+pub stands_node : (bytes : Bytes) (level at : ℕ) (entries : List Pair) (index : ℕ) → StandsFrom bytes level at entries → 255 * index < length entries
+    → HasNode bytes level (at + 4088 * index) (part entries index)
 stands_node bytes level at entries index stands lt =
     let up = level_first stands.most level at entries stands.some stands.enough in
     let rest = node_in level entries index (nodes (length entries)) (omega (arith, lt)) in
@@ -82,7 +84,8 @@ pub above_at : (at : ℕ) (entries : List Pair) (index count : ℕ) → index < 
 unfolding first_above
 above_at at entries index zero lt = absurd (omega arith)
 above_at at entries index (suc count) lt = ⊎_elim
-    (λ last. get_or_push (first_above at entries count) (entry_for at entries count) (record { token = 0; place = 0 }) index (first_above_length at entries count ∙ sym last) ∙ ap (λ (n : ℕ). entry_for at entries n) (sym last))
+    (λ last. get_or_push (first_above at entries count) (entry_for at entries count) (record { token = 0; place = 0 }) index
+    (first_above_length at entries count ∙ sym last) ∙ ap (λ (n : ℕ). entry_for at entries n) (sym last))
     (λ other.
     get_or_append_left (first_above at entries count) (entry_for at entries count ∷ []) (record { token = 0; place = 0 }) index (omega (arith, other, first_above_length at entries count))
     ∙ above_at at entries index count (omega (arith, other)))
@@ -110,14 +113,16 @@ above_fit at entries fit short index =
     (leb_tells count index)
 
 -- above a level of more than one node the next one stands behind it
-pub stands_above : (bytes : Bytes) (level at : ℕ) (entries : List Pair) → StandsFrom bytes level at entries → 255 < length entries → StandsFrom bytes (level + 1) (at + size (length entries)) (above at entries)
+pub stands_above : (bytes : Bytes) (level at : ℕ) (entries : List Pair) → StandsFrom bytes level at entries → 255 < length entries → StandsFrom bytes
+    (level + 1) (at + size (length entries)) (above at entries)
 stands_above bytes level at entries stands many = from stands.most refl
   where
     from : (most : ℕ) → stands.most ≡ most → StandsFrom bytes (level + 1) (at + size (length entries)) (above at entries)
     from zero is = absurd (omega (arith, is, stands.enough, many))
     from (suc most) is =
         let long = level_length level entries in
-        let whole = stands.is ∙ ap (λ (n : ℕ). stands.front ++ levels n level at entries ++ stands.rest) is ∙ ap (λ (l : Bytes). stands.front ++ l ++ stands.rest) (more_levels most level at entries many) in
+        let whole = stands.is ∙ ap (λ (n : ℕ). stands.front ++ levels n level at entries ++ stands.rest) is ∙ ap
+        (λ (l : Bytes). stands.front ++ l ++ stands.rest) (more_levels most level at entries many) in
         record {
           most = most;
           front = stands.front ++ level_bytes level entries;
@@ -129,7 +134,18 @@ stands_above bytes level at entries stands many = from stands.most refl
               ∙ ap (λ (n : ℕ). stands.front ++ level_bytes level entries ++ levels most n (at + size (length entries)) (above at entries) ++ stands.rest) (sym (add-one level));
           place = length-append stands.front (level_bytes level entries) ∙ omega (arith, stands.place, long);
           rising = above_rising at entries stands.rising;
-          fit = above_fit at entries stands.fit (omega (arith, ap length whole, stands.short, stands.place, long, length-append stands.front (level_bytes level entries ++ levels most (suc level) (at + size (length entries)) (above at entries)), length-append (stands.front ++ (level_bytes level entries ++ levels most (suc level) (at + size (length entries)) (above at entries))) stands.rest, length-append (level_bytes level entries) (levels most (suc level) (at + size (length entries)) (above at entries))));
+          fit = above_fit at entries stands.fit (omega (
+            arith,
+            ap length whole,
+            stands.short,
+            stands.place,
+            long,
+            length-append stands.front
+                (level_bytes level entries ++ levels most (suc level) (at + size (length entries)) (above at entries)),
+            length-append
+                (stands.front ++ (level_bytes level entries ++ levels most (suc level) (at + size (length entries)) (above at entries))) stands.rest,
+            length-append (level_bytes level entries) (levels most (suc level) (at + size (length entries)) (above at entries)),
+          ));
           short = stands.short;
         }
 
@@ -154,7 +170,8 @@ none_below at entries token place other rising some none = record {
     zero_plus n = omega arith
 
 -- else those below are the ones before a node, and those below within it
-pub below_in : (at : ℕ) (entries : List Pair) (token above_place node count place : ℕ) → IsRising entries → 255 * node < length entries → FindsBelow (above at entries) token (node + 1) above_place → FindsBelow (part entries node) token count place
+pub below_in : (at : ℕ) (entries : List Pair) (token above_place node count place : ℕ) → IsRising entries → 255 * node < length entries → FindsBelow
+    (above at entries) token (node + 1) above_place → FindsBelow (part entries node) token count place
     → FindsBelow entries token (255 * node + count) place
 below_in at entries token above_place node count place rising within up found = record {
   counts = record {
@@ -167,7 +184,13 @@ below_in at entries token above_place node count place rising within up found = 
         (λ late.
         let here = found.counts.below (index - 255 * node) (omega (arith, late.1, lt)) in
         let same : 255 * node + (index - 255 * node) ≡ index = omega (arith, late.1) in
-        omega (arith, here, ap (λ (p : Pair). p.token) (part_at entries node (index - 255 * node) (omega (arith, late.1, lt, found.counts.within, size))), ap (λ (n : ℕ). (pair_at entries n).token) same))
+        omega (
+          arith,
+          here,
+          ap (λ (p : Pair). p.token) (part_at entries node (index - 255 * node)
+              (omega (arith, late.1, lt, found.counts.within, size))),
+          ap (λ (n : ℕ). (pair_at entries n).token) same,
+        ))
         (leb_tells index (255 * node));
     above = λ index le lt. ⊎_elim
         (λ later.
@@ -205,4 +228,6 @@ below_in at entries token above_place node count place rising within up found = 
 -- a level of one node is that node
 pub stands_one : (bytes : Bytes) (level at : ℕ) (entries : List Pair) → StandsFrom bytes level at entries → length entries ≤ 255 → HasNode bytes level at entries
 stands_one bytes level at entries stands le =
-    subst (λ (l : List Pair). HasNode bytes level at l) (take_all 255 entries le) (subst (λ (n : ℕ). HasNode bytes level n (part entries 0)) (add-zero at) (stands_node bytes level at entries 0 stands (omega (arith, stands.some))))
+    subst (λ (l : List Pair). HasNode bytes level at l) (take_all 255 entries le)
+    (subst (λ (n : ℕ). HasNode bytes level n (part entries 0)) (add-zero at)
+    (stands_node bytes level at entries 0 stands (omega (arith, stands.some))))

@@ -40,13 +40,15 @@ entry_in_node bytes level at entries k has lt =
       front = has.stands.front ++ before;
       rest = behind ++ has.stands.rest;
       is =
-          has.stands.is ∙ ap (λ (l : Bytes). has.stands.front ++ l ++ has.stands.rest) (sym (take-append-drop (8 + 16 * k) (node level entries)) ∙ ap (λ (l : Bytes). before ++ l) (from_entry level entries k lt))
+          has.stands.is ∙ ap (λ (l : Bytes). has.stands.front ++ l ++ has.stands.rest)
+          (sym (take-append-drop (8 + 16 * k) (node level entries)) ∙ ap (λ (l : Bytes). before ++ l) (from_entry level entries k lt))
           ∙ regroup has.stands.front before (entry (pair_at entries k)) behind has.stands.rest;
       place = length-append has.stands.front before ∙ omega (arith, has.stands.place, length-take-le (8 + 16 * k) (node level entries) (omega (arith, lt, node_length level entries)));
     }
 
 -- each pair stands in its leaf
-pub entry_stands : (bytes : Bytes) (at index : ℕ) (entries : List Pair) → StandsFrom bytes 0 at entries → index < length entries → HasAt bytes (at + 4088 * (index / 255) + (8 + 16 * (index % 255))) (entry (pair_at entries index))
+pub entry_stands : (bytes : Bytes) (at index : ℕ) (entries : List Pair) → StandsFrom bytes 0 at entries → index < length entries → HasAt bytes
+    (at + 4088 * (index / 255) + (8 + 16 * (index % 255))) (entry (pair_at entries index))
 entry_stands bytes at index entries stands lt =
     let leaf = index / 255 in
     let k = index % 255 in
@@ -54,25 +56,39 @@ entry_stands bytes at index entries stands lt =
     subst (λ (p : Pair). HasAt bytes (at + 4088 * leaf + (8 + 16 * k)) (entry p)) (part_at entries leaf k (omega arith) ∙ ap (λ (n : ℕ). pair_at entries n) same)
     (entry_in_node bytes 0 (at + 4088 * leaf) (part entries leaf) k (stands_node bytes 0 at entries leaf stands (omega (arith, lt))) (omega (arith, lt, part_length entries leaf)))
 
-pub ends_within : (bytes : Bytes) (at index : ℕ) (entries : List Pair) → StandsFrom bytes 0 at entries → index < length entries → at + 4088 * (index / 255) + (8 + 16 * (index % 255)) + 16 ≤ length bytes
+pub ends_within : (bytes : Bytes) (at index : ℕ) (entries : List Pair) → StandsFrom bytes 0 at entries → index < length entries → at + 4088 *
+    (index / 255) + (8 + 16 * (index % 255)) + 16 ≤ length bytes
 ends_within bytes at index entries stands lt =
     let has = entry_stands bytes at index entries stands lt in
-    omega (arith, ap length has.is, has.place, length-append (has.front ++ entry (pair_at entries index)) has.rest, length-append has.front (entry (pair_at entries index)), entry_length (pair_at entries index))
+    omega (
+      arith,
+      ap length has.is,
+      has.place,
+      length-append (has.front ++ entry (pair_at entries index)) has.rest,
+      length-append has.front
+          (entry (pair_at entries index)),
+      entry_length (pair_at entries index),
+    )
 
-pub pair_reads : (bytes window : Bytes) (at index token place n m : ℕ) (entries : List Pair) → StandsFrom bytes 0 at entries → index < length entries → window ≡ take 16 (drop (at + 4088 * (index / 255) + (8 + 16 * (index % 255))) bytes) → n ≡ 8 → m ≡ 8
+pub pair_reads : (bytes window : Bytes) (at index token place n m : ℕ) (entries : List Pair) → StandsFrom bytes 0 at entries → index < length entries
+    → window ≡ take 16 (drop (at + 4088 * (index / 255) + (8 + 16 * (index % 255))) bytes) → n ≡ 8 → m ≡ 8
     → token < 2 ^ 64 → place < 2 ^ 64 → to_be_bytes w64 token ≡ take n window → to_be_bytes w64 place ≡ take m (drop 8 window) → record { token = token; place = place } ≡ pair_at entries index
 unfolding entry
 pair_reads bytes window at index token place n m entries stands lt is n_is m_is token_fits place_fits token_is place_is =
     let p = pair_at entries index in
     let has = entry_stands bytes at index entries stands lt in
     let whole : window ≡ to_be_bytes w64 p.token ++ to_be_bytes w64 p.place = is ∙ at_window bytes (at + 4088 * (index / 255) + (8 + 16 * (index % 255))) (entry p) has in
-    let first : take n window ≡ to_be_bytes w64 p.token = ap (λ (k : ℕ). take k window) n_is ∙ ap (λ (l : Bytes). take 8 l) whole ∙ take_at (to_be_bytes w64 p.token) (to_be_bytes w64 p.place) 8 refl in
-    let second : take m (drop 8 window) ≡ to_be_bytes w64 p.place = ap (λ (k : ℕ). take k (drop 8 window)) m_is ∙ ap (λ (l : Bytes). take 8 (drop 8 l)) whole ∙ ap (λ (l : Bytes). take 8 l) (drop_at (to_be_bytes w64 p.token) (to_be_bytes w64 p.place) 8 refl) in
+    let first : take n window ≡ to_be_bytes w64 p.token = ap (λ (k : ℕ). take k window) n_is ∙ ap (λ (l : Bytes). take 8 l) whole ∙ take_at
+    (to_be_bytes w64 p.token) (to_be_bytes w64 p.place) 8 refl in
+    let second : take m (drop 8 window) ≡ to_be_bytes w64 p.place = ap (λ (k : ℕ). take k (drop 8 window)) m_is ∙ ap
+    (λ (l : Bytes). take 8 (drop 8 l)) whole ∙ ap (λ (l : Bytes). take 8 l) (drop_at (to_be_bytes w64 p.token) (to_be_bytes w64 p.place) 8 refl)
+    in
     let tokens : token ≡ p.token = same_number token p.token token_fits (stands.fit index).0 (token_is ∙ first) in
     let places : place ≡ p.place = same_number place p.place place_fits (stands.fit index).1 (place_is ∙ second) in
     ap (λ (k : ℕ). record { token = k; place = place }) tokens ∙ ap (λ (k : ℕ). record { token = p.token; place = k }) places
 
-pub short_spares : (v : View) (file : FileName) (at index : ℕ) (f : ReadFault) → Shown v file (ShowsEnd (at + 4088 * (index / 255) + (8 + 16 * (index % 255)) + 16) file) f → SparesPair v file at index f
+pub short_spares : (v : View) (file : FileName) (at index : ℕ) (f : ReadFault) → Shown v file
+    (ShowsEnd (at + 4088 * (index / 255) + (8 + 16 * (index % 255)) + 16) file) f → SparesPair v file at index f
 short_spares v file at index fault.Failed short = tt
 short_spares v file at index fault.OutOfMemory short = tt
 short_spares v file at index (fault.Damaged damage) short = λ bytes entries is stands lt. let less = (short bytes is).short in omega (arith, less, ends_within bytes at index entries stands lt)
@@ -87,14 +103,28 @@ lead_within (suc most) level at entries some enough = ⊎_elim
     let next = above at entries in
     let long : length next ≡ nodes (length entries) = first_above_length at entries (nodes (length entries)) in
     let up = lead_within most (suc level) (at + size (length entries)) next (omega (arith, long, more.1)) (omega (arith, long, more.1, enough)) in
-    omega (arith, up, ap (λ (n : ℕ). lead most n) long, more_lead most (length entries) more.1, ap length (more_levels most level at entries more.1), level_length level entries, length-append (level_bytes level entries) (levels most (suc level) (at + size (length entries)) next)))
+    omega (
+      arith,
+      up,
+      ap (λ (n : ℕ). lead most n) long,
+      more_lead most (length entries) more.1,
+      ap length (more_levels most level at entries more.1),
+      level_length level entries,
+      length-append (level_bytes level entries) (levels most (suc level) (at + size (length entries)) next),
+    ))
     (leb_tells (length entries) 255)
 
 pairs_within : (most level at : ℕ) (entries : List Pair) → 0 < length entries → length entries ≤ most → 16 * length entries ≤ length (levels most level at entries)
 pairs_within zero level at entries some enough = absurd (omega arith)
 pairs_within (suc most) level at entries some enough = ⊎_elim
     (λ one. omega (arith, ap length (one_level most level at entries one.1), level_length level entries))
-    (λ more. omega (arith, ap length (more_levels most level at entries more.1), level_length level entries, length-append (level_bytes level entries) (levels most (suc level) (at + size (length entries)) (above at entries))))
+    (λ more. omega (
+      arith,
+      ap length (more_levels most level at entries more.1),
+      level_length level entries,
+      length-append (level_bytes level entries)
+          (levels most (suc level) (at + size (length entries)) (above at entries)),
+    ))
     (leb_tells (length entries) 255)
 
 pub count_is : (bytes : Bytes) (tree : TreeRef) (pairs : List Pair) → HasTree bytes tree pairs → length pairs ≡ tree.pairs
@@ -106,7 +136,8 @@ root_is bytes tree pairs has some =
     ap (λ (t : TreeRef). t.root) has.referred ∙ top_is (length pairs) (length has.front) (length pairs) (omega (arith, long, some)) (omega arith)
     ∙ ap (λ (n : ℕ). length has.front + lead n n) long
 
-pub tree_stands : (bytes : Bytes) (tree : TreeRef) (pairs : List Pair) → HasTree bytes tree pairs → 0 < tree.pairs → length bytes ≤ 2 ^ 62 → StandsFrom bytes 0 (tree.root - lead tree.pairs tree.pairs) pairs
+pub tree_stands : (bytes : Bytes) (tree : TreeRef) (pairs : List Pair) → HasTree bytes tree pairs → 0 < tree.pairs → length bytes ≤ 2 ^ 62 →
+    StandsFrom bytes 0 (tree.root - lead tree.pairs tree.pairs) pairs
 tree_stands bytes tree pairs has some short =
     let begun : length has.front ≡ tree.root - lead tree.pairs tree.pairs = omega (arith, root_is bytes tree pairs has some) in
     record {
@@ -122,7 +153,8 @@ tree_stands bytes tree pairs has some short =
       short = short;
     }
 
-pub tree_stands_at : (bytes : Bytes) (tree : TreeRef) (pairs : List Pair) (start : ℕ) → HasTree bytes tree pairs → 0 < tree.pairs → length bytes ≤ 2 ^ 62 → start ≡ tree.root - lead tree.pairs tree.pairs → StandsFrom bytes 0 start pairs
+pub tree_stands_at : (bytes : Bytes) (tree : TreeRef) (pairs : List Pair) (start : ℕ) → HasTree bytes tree pairs → 0 < tree.pairs → length bytes ≤ 2 ^
+    62 → start ≡ tree.root - lead tree.pairs tree.pairs → StandsFrom bytes 0 start pairs
 tree_stands_at bytes tree pairs start has some short is = subst (λ (n : ℕ). StandsFrom bytes 0 n pairs) (sym is) (tree_stands bytes tree pairs has some short)
 
 pub tree_fits : (bytes : Bytes) (tree : TreeRef) (pairs : List Pair) → HasTree bytes tree pairs → 0 < tree.pairs → length bytes ≤ 2 ^ 62 → (2 ^ 62 < tree.root) ⊎ (2 ^ 58 < tree.pairs) → ⊥
@@ -137,20 +169,27 @@ tree_fits bytes tree pairs has some short long =
     let same : lead (length pairs) (length pairs) ≡ lead tree.pairs tree.pairs = ap (λ (n : ℕ). lead n n) count in
     ⊎_elim (λ far. omega (arith, far, root, whole, parts, first, leads, same, short)) (λ many. omega (arith, many, count, whole, parts, first, holds, short)) long
 
--- ---- what shows damage of a part shows it of the tree
+-- ---- damage of a node is damage of the tree
 
-pub long_spares : (v : View) (file : FileName) (tree : TreeRef) (f : ReadFault) → ((bytes : Bytes) → contents v file ≡ Some bytes → length bytes ≤ 2 ^ 62) → 0 < tree.pairs → (2 ^ 62 < tree.root) ⊎ (2 ^ 58 < tree.pairs) → Spares v file tree f
+pub long_spares : (v : View) (file : FileName) (tree : TreeRef) (f : ReadFault) →
+    ((bytes : Bytes) → contents v file ≡ Some bytes → length bytes ≤ 2 ^ 62) → 0 < tree.pairs → (2 ^ 62 < tree.root) ⊎ (2 ^ 58 < tree.pairs) → Spares
+    v file tree f
 long_spares v file tree fault.Failed short some long = tt
 long_spares v file tree fault.OutOfMemory short some long = tt
 long_spares v file tree (fault.Damaged damage) short some long = λ bytes pairs is has. tree_fits bytes tree pairs has some (short bytes is) long
 
-pub pair_spares : (v : View) (file : FileName) (tree : TreeRef) (index start : ℕ) (f : ReadFault) → ((bytes : Bytes) → contents v file ≡ Some bytes → length bytes ≤ 2 ^ 62) → index < tree.pairs → start ≡ tree.root - lead tree.pairs tree.pairs → SparesPair v file start index f → Spares v file tree f
+pub pair_spares : (v : View) (file : FileName) (tree : TreeRef) (index start : ℕ) (f : ReadFault) →
+    ((bytes : Bytes) → contents v file ≡ Some bytes → length bytes ≤ 2 ^ 62) → index < tree.pairs → start ≡ tree.root - lead tree.pairs tree.pairs →
+    SparesPair v file start index f → Spares v file tree f
 pair_spares v file tree index start fault.Failed short lt is spares = tt
 pair_spares v file tree index start fault.OutOfMemory short lt is spares = tt
 pair_spares v file tree index start (fault.Damaged damage) short lt is spares = λ bytes pairs reads has.
-    spares bytes pairs reads (subst (λ (n : ℕ). StandsFrom bytes 0 n pairs) (sym is) (tree_stands bytes tree pairs has (omega (arith, lt)) (short bytes reads))) (omega (arith, lt, count_is bytes tree pairs has))
+    spares bytes pairs reads (subst (λ (n : ℕ). StandsFrom bytes 0 n pairs) (sym is)
+    (tree_stands bytes tree pairs has (omega (arith, lt)) (short bytes reads))) (omega (arith, lt, count_is bytes tree pairs has))
 
-pub level_spares : (v : View) (file : FileName) (tree : TreeRef) (start : ℕ) (f : ReadFault) → ((bytes : Bytes) → contents v file ≡ Some bytes → length bytes ≤ 2 ^ 62) → 0 < tree.pairs → start ≡ tree.root - lead tree.pairs tree.pairs → SparesLevel v file 0 start tree.pairs f → Spares v file tree f
+pub level_spares : (v : View) (file : FileName) (tree : TreeRef) (start : ℕ) (f : ReadFault) →
+    ((bytes : Bytes) → contents v file ≡ Some bytes → length bytes ≤ 2 ^ 62) → 0 < tree.pairs → start ≡ tree.root - lead tree.pairs tree.pairs →
+    SparesLevel v file 0 start tree.pairs f → Spares v file tree f
 level_spares v file tree start fault.Failed short some is spares = tt
 level_spares v file tree start fault.OutOfMemory short some is spares = tt
 level_spares v file tree start (fault.Damaged damage) short some is spares = λ bytes pairs reads has.
@@ -190,35 +229,52 @@ long_node tree some long = ⊎_elim
     ))
     long
 
-pub long_shown : (v : View) (file : FileName) (tree : TreeRef) (f : ReadFault) → ((bytes : Bytes) → contents v file ≡ Some bytes → length bytes ≤ 2 ^ 62) → 0 < tree.pairs → (2 ^ 62 < tree.root) ⊎ (2 ^ 58 < tree.pairs) → Shown v file (TellsSize file) f → ShownOf (IsNodeOf tree) v file f
+pub long_shown : (v : View) (file : FileName) (tree : TreeRef) (f : ReadFault) →
+    ((bytes : Bytes) → contents v file ≡ Some bytes → length bytes ≤ 2 ^ 62) → 0 < tree.pairs → (2 ^ 62 < tree.root) ⊎ (2 ^ 58 < tree.pairs) → Shown v
+    file (TellsSize file) f → ShownOf (IsNodeOf tree) v file f
 long_shown v file tree f short some long told =
     let long_one = long_node tree some long in
     let end = long_one.0.at + (8 + 16 * long_one.0.count) in
     early_shown (IsNodeOf tree) v file end long_one.0 f long_one.1 (omega arith) (end_shown v file end f (λ bytes is. let le = short bytes is in omega (arith, le, long_one.2)) told)
 
 -- the leaf of a pair ends behind its entry
-pub pair_shown : (v : View) (file : FileName) (tree : TreeRef) (begin index : ℕ) (f : ReadFault) → index < tree.pairs → begin ≡ start tree → Shown v file (ShowsEnd (begin + 4088 * (index / 255) + (8 + 16 * (index % 255)) + 16) file) f → ShownOf (IsNodeOf tree) v file f
+pub pair_shown : (v : View) (file : FileName) (tree : TreeRef) (begin index : ℕ) (f : ReadFault) → index < tree.pairs → begin ≡ start tree → Shown v
+    file (ShowsEnd (begin + 4088 * (index / 255) + (8 + 16 * (index % 255)) + 16) file) f → ShownOf (IsNodeOf tree) v file f
 pair_shown v file tree begin index f lt is shown =
-    early_shown (IsNodeOf tree) v file (begin + 4088 * (index / 255) + (8 + 16 * (index % 255)) + 16) (record { level = 0; at = start tree + 4088 * (index / 255); count = min (tree.pairs - 255 * (index / 255)) 255 }) f
+    early_shown (IsNodeOf tree) v file (begin + 4088 * (index / 255) + (8 + 16 * (index % 255)) + 16)
+    (record { level = 0; at = start tree + 4088 * (index / 255); count = min (tree.pairs - 255 * (index / 255)) 255 }) f
     (of_level 0 (start tree) tree.pairs (index / 255) (omega (arith, lt)) refl) (omega (arith, lt, is)) shown
 
-pub leaves_shown : (v : View) (file : FileName) (tree : TreeRef) (begin : ℕ) (f : ReadFault) → begin ≡ start tree → ShownOf (λ n. IsNodeFrom n 0 begin tree.pairs) v file f → ShownOf (IsNodeOf tree) v file f
+pub leaves_shown : (v : View) (file : FileName) (tree : TreeRef) (begin : ℕ) (f : ReadFault) → begin ≡ start tree → ShownOf
+    (λ n. IsNodeFrom n 0 begin tree.pairs) v file f → ShownOf (IsNodeOf tree) v file f
 leaves_shown v file tree begin f is shown = subst (λ (n : ℕ). ShownOf (λ k. IsNodeFrom k 0 n tree.pairs) v file f) is shown
 
 -- ---- the pairs left
 
 -- an entry that was read
 pub gives_entry : (v : View) (file : FileName) (tree : TreeRef) (begin index : ℕ) (pair : Pair) → begin ≡ start tree → index < tree.pairs
-    → pair.token < 2 ^ 64 → pair.place < 2 ^ 64 → ((bytes : Bytes) → contents v file ≡ Some bytes → HasAt bytes (begin + 4088 * (index / 255) + (8 + 16 * (index % 255))) (entry pair)) → GivesEntry v file tree (index + 1) (Some pair)
-gives_entry v file tree begin index pair is lt token_fits place_fits stands =
-    (index, refl, λ bytes reads. record { within = lt; stands = subst (λ (n : ℕ). HasAt bytes (n + 4088 * (index / 255) + (8 + 16 * (index % 255))) (entry pair)) is (stands bytes reads); fit = pair_fits pair token_fits place_fits })
+    → pair.token < 2 ^ 64 → pair.place < 2 ^ 64 → ((bytes : Bytes) → contents v file ≡ Some bytes → HasAt bytes
+    (begin + 4088 * (index / 255) + (8 + 16 * (index % 255))) (entry pair)) → GivesEntry v file tree (index + 1) (Some pair)
+gives_entry v file tree begin index pair is lt token_fits place_fits stands = (
+  index,
+  refl,
+  λ bytes reads. record {
+    within = lt;
+    stands = subst
+        (λ (n : ℕ). HasAt bytes (n + 4088 * (index / 255) + (8 + 16 * (index % 255))) (entry pair)) is (stands bytes reads);
+    fit = pair_fits pair
+        token_fits place_fits;
+  },
+)
 
-pub gave_entry : (a b : View) (was now : FileName) (tree : TreeRef) (passed : ℕ) (found : Option Pair) → Changes Same a b → now ≡ was → GivesEntry b now tree passed found → GivesEntry a was tree passed found
+pub gave_entry : (a b : View) (was now : FileName) (tree : TreeRef) (passed : ℕ) (found : Option Pair) → Changes Same a b → now ≡ was → GivesEntry b
+    now tree passed found → GivesEntry a was tree passed found
 gave_entry a b was now tree passed None change same gives = tt
 gave_entry a b was now tree passed (Some pair) change same gives = (gives.0, gives.1, λ bytes is. gives.2 bytes (reads_still a b was now bytes change same is))
 
 -- the page on which it ends is in hand
-pub near_entry : (page : Option ℕ) (tree : TreeRef) (begin index : ℕ) → begin ≡ start tree → page ≡ Some ((begin + 4088 * (index / 255) + (8 + 16 * (index % 255)) + 15) / 4096) → page ≡ Some ((pair_place tree (index + 1 - 1) + 15) / 4096)
+pub near_entry : (page : Option ℕ) (tree : TreeRef) (begin index : ℕ) → begin ≡ start tree → page ≡ Some
+    ((begin + 4088 * (index / 255) + (8 + 16 * (index % 255)) + 15) / 4096) → page ≡ Some ((pair_place tree (index + 1 - 1) + 15) / 4096)
 near_entry page tree begin index is near =
     let same : index ≡ index + 1 - 1 = omega arith in
     near

@@ -1,4 +1,4 @@
--- Where a file breaks the format of a tree, and what it has there.
+-- Where a file breaks the format of a tree, and what is there.
 use Rattle.std.specs.Prelude.{◌≡◌, ℕ, ◌+◌, ◌-◌, ◌*◌, ◌<◌, [], ◌∷◌, ◌++◌, length, min}
 use Rattle.std.specs.Int.{to_be_bytes, w16, w32, w64}
 use Rattle.sasi_types.specs.declared.tree.Pair.{Pair}
@@ -14,7 +14,7 @@ use Rattle.sasi_host.specs.View.{View}
 use Rattle.sasi_tokentree.specs.Format.{entry, nodes, size, AreFit, IsBefore}
 use Rattle.sasi_tokentree.specs.Heights.{lead}
 
--- ---- where the nodes of a tree stand
+-- ---- the nodes of a tree
 
 -- a node: its level, where it begins, and how many entries it has
 pub record Node : Type 0 where
@@ -22,7 +22,7 @@ pub record Node : Type 0 where
   pub at : ℕ
   pub count : ℕ
 
--- it is one of a level of so many entries that begins at this place, or of the levels above it
+-- it is a node of a level of so many entries at this offset, or of the levels above it
 pub data IsNodeFrom (node : Node) : ℕ → ℕ → ℕ → Type 0 where
   of_level : (level at count index : ℕ) → 255 * index < count → node ≡ record { level = level; at = at + 4088 * index; count = min (count - 255 * index) 255 } → IsNodeFrom node level at count
   of_above : (level at count : ℕ) → 255 < count → IsNodeFrom node (level + 1) (at + size count) (nodes count) → IsNodeFrom node level at count
@@ -31,20 +31,20 @@ pub data IsNodeFrom (node : Node) : ℕ → ℕ → ℕ → Type 0 where
 abbrev pub start : TreeRef → ℕ
 start tree = tree.root - lead tree.pairs tree.pairs
 
--- it is one of the tree that is referred to so
+-- it is a node of the tree with this reference
 abbrev pub IsNodeOf : TreeRef → Node → Type 0
 IsNodeOf tree node = IsNodeFrom node 0 (start tree) tree.pairs
 
 -- ---- what breaks a node
 
--- at this offset of a node these bytes are wanted
+-- the format fixes these bytes at this offset of a node
 pub data IsHeadPart (level count offset : ℕ) (wanted : Bytes) : Type 0 where
   the_level : offset ≡ 0 → wanted ≡ level ∷ [] → IsHeadPart level count offset wanted
   a_zero : offset ≡ 1 → wanted ≡ 0 ∷ [] → IsHeadPart level count offset wanted
   the_count : offset ≡ 2 → wanted ≡ to_be_bytes w16 count → IsHeadPart level count offset wanted
   four_zeros : offset ≡ 4 → wanted ≡ to_be_bytes w32 0 → IsHeadPart level count offset wanted
 
--- a part of its head is another one
+-- a field of its header is wrong
 pub record HasWrongHead (bytes : Bytes) (node : Node) (at : ℕ) (seen : Bytes) : Type 0 where
   pub offset : ℕ
   pub wanted : Bytes
@@ -52,7 +52,7 @@ pub record HasWrongHead (bytes : Bytes) (node : Node) (at : ℕ) (seen : Bytes) 
   pub place : at ≡ node.at + offset
   pub differs : Differs bytes at seen wanted
 
--- an entry doesn't come after the one before it
+-- an entry isn't above the one before it
 pub record HasDisorder (bytes : Bytes) (node : Node) (at : ℕ) (seen : Bytes) : Type 0 where
   pub index : ℕ
   pub last : Pair
@@ -64,14 +64,14 @@ pub record HasDisorder (bytes : Bytes) (node : Node) (at : ℕ) (seen : Bytes) :
   pub place : at ≡ node.at + (8 + 16 * (index + 1))
   pub told : seen ≡ to_be_bytes w64 pair.token
 
--- the node breaks the rule at the place, and the seen bytes stand there
+-- the node breaks the rule at the offset, and the seen bytes are there
 abbrev pub NodeBreaks : Bytes → Node → FormatRule → ℕ → Bytes → Type 0
 NodeBreaks bytes node Short at seen = (length bytes < node.at + (8 + 16 * node.count)) × (at ≡ length bytes) × (seen ≡ to_be_bytes w64 (length bytes))
 NodeBreaks bytes node Number at seen = HasWrongHead bytes node at seen
 NodeBreaks bytes node Order at seen = HasDisorder bytes node at seen
 NodeBreaks bytes node _ at seen = ⊥
 
--- ---- what is told of a file
+-- ---- the damage of a file
 
 -- the damage is that of this file, in which one of these nodes breaks the rule
 pub record ShowsOf (These : Node → Type 0) (file : FileName) (bytes : Bytes) (damage : Damage) : Type 0 where
@@ -80,7 +80,7 @@ pub record ShowsOf (These : Node → Type 0) (file : FileName) (bytes : Bytes) (
   pub is_of : These node
   pub breaks : NodeBreaks bytes node damage.rule damage.at (seen_bytes damage.seen)
 
--- the file breaks the format of the tree that is referred to so
+-- the file breaks the format of the tree with this reference
 abbrev pub ShowsTree : FileName → TreeRef → Bytes → Damage → Type 0
 ShowsTree file tree = ShowsOf (IsNodeOf tree) file
 

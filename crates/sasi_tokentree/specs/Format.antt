@@ -26,11 +26,11 @@ IsRising pairs = (index : ℕ) → index + 1 < length pairs → IsBefore (pair_a
 unfoldable pub entry : Pair → Bytes
 entry pair = to_be_bytes w64 pair.token ++ to_be_bytes w64 pair.place
 
--- the head of a node: the level, a zero byte, the number of entries, and four zero bytes
+-- the header of a node: the level, a zero byte, the number of entries, and four zero bytes
 unfoldable pub head : ℕ → ℕ → Bytes
 head level count = level ∷ 0 ∷ (to_be_bytes w16 count ++ to_be_bytes w32 0)
 
--- a node: its head and its entries
+-- a node: its header and its entries
 unfoldable pub node : ℕ → List Pair → Bytes
 node level entries = head level (length entries) ++ flat_map entry entries
 
@@ -40,7 +40,7 @@ node level entries = head level (length entries) ++ flat_map entry entries
 abbrev pub nodes : ℕ → ℕ
 nodes entries = (entries + 254) / 255
 
--- how many bytes they take: 16 for each entry, and 8 for the head of each node
+-- how many bytes they take: 16 for each entry, and 8 for the header of each node
 abbrev pub size : ℕ → ℕ
 size entries = 16 * entries + 8 * nodes entries
 
@@ -72,21 +72,22 @@ above at entries = first_above at entries (nodes (length entries))
 
 -- ---- a tree
 
--- A level at a place, and then the levels above it up to the first with one node. There are fewer levels than the number that bounds them.
+-- A level at an offset, and then the levels above it up to the root. There are fewer levels than the number that bounds them.
 unfoldable pub levels : ℕ → ℕ → ℕ → List Pair → Bytes
 levels zero level at entries = []
-levels (suc most) level at entries = if nat_le (length entries) 255 then level_bytes level entries else (level_bytes level entries ++ levels most (suc level) (at + size (length entries)) (above at entries))
+levels (suc most) level at entries = if nat_le (length entries) 255 then level_bytes level entries else
+    (level_bytes level entries ++ levels most (suc level) (at + size (length entries)) (above at entries))
 
--- where the last of these levels begins
+-- the offset of the root
 unfoldable pub top : ℕ → ℕ → ℕ → ℕ
 top zero at count = 0
 top (suc most) at count = if nat_le count 255 then at else top most (at + size count) (nodes count)
 
--- the tree of these pairs at a place: none has more levels than pairs
+-- the tree of these pairs at an offset: none has more levels than pairs
 abbrev pub tree_bytes : ℕ → List Pair → Bytes
 tree_bytes at pairs = levels (length pairs) 0 at pairs
 
--- what refers to it: the place of its root, and how many pairs it has
+-- its reference: the offset of its root, and how many pairs it has
 abbrev pub tree_ref : ℕ → List Pair → TreeRef
 tree_ref at pairs = record { root = top (length pairs) at (length pairs); pairs = length pairs }
 
@@ -94,7 +95,7 @@ tree_ref at pairs = record { root = top (length pairs) at (length pairs); pairs 
 abbrev pub AreFit : List Pair → Type 0
 AreFit pairs = (index : ℕ) → ((pair_at pairs index).token < 2 ^ 64) × ((pair_at pairs index).place < 2 ^ 64)
 
--- somewhere in the bytes of a file stands the tree of these pairs that is referred to so
+-- the bytes of a file have the tree of these pairs, with this reference
 pub record HasTree (bytes : Bytes) (tree : TreeRef) (pairs : List Pair) : Type 0 where
   pub front : Bytes
   pub rest : Bytes

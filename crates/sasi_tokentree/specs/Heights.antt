@@ -1,4 +1,4 @@
--- How high a tree can be.
+-- The height of a tree.
 use Rattle.std.specs.Prelude.{◌≡◌, ℕ, zero, suc, ◌+◌, ◌*◌, ◌/◌, ◌^◌, ◌<◌, ◌≤◌, nat_le, if◌then◌else◌}
 use Rattle.std.proofs.Common.{arith, add-one, subst, sym, lit≤, ⊎_elim, ◌-◌, ◌∙◌}
 use Rattle.std.proofs.lemmas.Bool.{le-leb, lt-leb}
@@ -6,17 +6,17 @@ use Rattle.std.proofs.lemmas.Bool.Decides.{leb_tells}
 use Rattle.sasi_tokentree.specs.Format.{nodes, size, top}
 use Rattle.sasi_tokentree.specs.Sizes.{top_one, top_more}
 
--- how many levels so many entries have, on and above their own
+-- how many levels a tree of so many entries has
 unfoldable pub height : ℕ → ℕ → ℕ
 height zero count = 0
 height (suc most) count = if nat_le count 255 then 1 else (1 + height most (nodes count))
 
--- how many bytes the levels before the last one take
+-- how many bytes the levels below the root take
 unfoldable pub lead : ℕ → ℕ → ℕ
 lead zero count = 0
 lead (suc most) count = if nat_le count 255 then 0 else (size count + lead most (nodes count))
 
--- more entries than these no level of this number has
+-- the most entries of a level, by its number
 abbrev pub greatest : ℕ → ℕ
 greatest zero = 2 ^ 64
 greatest (suc level) = greatest level / 128

@@ -1,4 +1,4 @@
--- What a written tree is to those who read it.
+-- A file to which a tree was written has it.
 use Rattle.std.specs.Prelude.{◌≡◌, ℕ, ◌+◌, ◌≤◌, List, ◌++◌, length, take, drop}
 use Rattle.std.proofs.Common.{sym, ap}
 use Rattle.std.proofs.lemmas.List.{length-take-le}

@@ -1,4 +1,4 @@
--- How many pages an entry takes of those that aren't in hand.
+-- How many pages an entry lies on that aren't buffered.
 use Rattle.std.specs.Prelude.{◌≡◌, ◌⊎◌, ℕ, ◌+◌, ◌-◌, ◌/◌, ◌%◌, ◌<◌, ◌≤◌, Option, Some}
 use Rattle.std.proofs.Common.{arith, inl, inr, subst, sym, ⊎_elim}
 use Rattle.std.proofs.lemmas.Bool.Decides.{leb_tells, nat_tests}
@@ -18,14 +18,14 @@ node_pages page at n le = over (in_hand page at)
 pub entry_pages : (page : Option ℕ) (at : ℕ) → fresh_pages page at 16 ≤ 2
 entry_pages page at = node_pages page at 16 (omega arith)
 
--- the next entry begins right behind the one before it, or behind the head of the next leaf
+-- the next entry begins right behind the one before it, or behind the header of the next leaf
 place_behind : (tree : TreeRef) (passed : ℕ) → 0 < passed → (pair_place tree passed ≡ pair_place tree (passed - 1) + 16) ⊎ (pair_place tree passed ≡ pair_place tree (passed - 1) + 24)
 place_behind tree passed some = ⊎_elim
     (λ first. inr (omega (arith, some, first.1)))
     (λ later. inl (omega (arith, some, later.1)))
     (leb_tells (passed % 255) 0)
 
--- where the page on which the entry before ends is in hand, at most one more is read
+-- where the page on which the entry before ends is buffered, at most one more is read
 behind_pages : (before next : ℕ) → (next ≡ before + 16) ⊎ (next ≡ before + 24) → fresh_pages (Some ((before + 15) / 4096)) next 16 ≤ 1
 behind_pages before next behind = ⊎_elim
     (λ near. over (in_hand (Some ((before + 15) / 4096)) next) first (omega (arith, near)) (omega (arith, near)))
@@ -41,7 +41,7 @@ behind_pages before next behind = ⊎_elim
         (λ behind. omega (arith, low, high, behind.1))
         (leb_tells (next / 4096) ((before + 15) / 4096))
 
--- behind a pair that was found, the next one takes at most one page more
+-- behind a pair that was read, the next one costs at most one page more
 pub near_next : (w : Walk) (pair : Pair) → 0 < w.passed → IsNear w (Some pair) → fresh_pages w.held.page (pair_place w.tree w.passed) 16 ≤ 1
 near_next w pair some near =
     subst (λ (p : Option ℕ). fresh_pages p (pair_place w.tree w.passed) 16 ≤ 1) (sym near)

@@ -1,4 +1,4 @@
--- What reads of a tree give, over what the host tells.
+-- What a reader of a tree gives, by the host's view.
 use Rattle.std.specs.Prelude.{◌≡◌, ◌≢◌, ℕ, ◌+◌, ◌-◌, ◌^◌, ◌<◌, ◌≤◌, List, ◌++◌, length, Some}
 use Rattle.sasi_types.specs.declared.tree.Pair.{Pair}
 use Rattle.sasi_types.specs.declared.tree.TreeRef.{TreeRef}
@@ -14,7 +14,7 @@ use Rattle.sasi_tokentree.specs.Damages.{NodeBreaks}
 
 -- ---- damage
 
--- the damage is that these bytes, which stand at a place of the file, aren't a node of this level and number of entries
+-- the damage is that these bytes, at an offset of the file, aren't a node of this level and number of entries
 pub record IsInNode (file : FileName) (at : ℕ) (window : Bytes) (level count : ℕ) (damage : Damage) : Type 0 where
   pub offset : ℕ
   pub named : damage.file ≡ file
@@ -22,19 +22,19 @@ pub record IsInNode (file : FileName) (at : ℕ) (window : Bytes) (level count :
   pub long : damage.rule ≢ Short
   pub breaks : NodeBreaks window (record { level = level; at = 0; count = count }) damage.rule offset (seen_bytes damage.seen)
 
--- no file with the tree is damaged
+-- damage is reported only where the file doesn't have the tree
 abbrev pub Spares : View → FileName → TreeRef → ReadFault → Type 0
 Spares v file tree = OnDamage (λ _. (bytes : Bytes) (pairs : List Pair) → contents v file ≡ Some bytes → HasTree bytes tree pairs → ⊥)
 
--- ---- a level that stands in a file, with those above it
+-- ---- a level in a file, with those above it
 
--- at this place stands a node of these entries, which rise
+-- at this offset the file has a node of these entries, which rise
 pub record HasNode (bytes : Bytes) (level at : ℕ) (entries : List Pair) : Type 0 where
   pub stands : HasAt bytes at (node level entries)
   pub rising : IsRising entries
   pub fit : AreFit entries
 
--- at this place stand the nodes of a level of these entries, and behind them those of the levels above it
+-- at this offset the file has the nodes of a level of these entries, and then those of the levels above it
 pub record StandsFrom (bytes : Bytes) (level at : ℕ) (entries : List Pair) : Type 0 where
   pub most : ℕ
   pub front : Bytes
@@ -58,14 +58,14 @@ pub record FindsBelow (entries : List Pair) (token count place : ℕ) : Type 0 w
   pub counts : CountsBelow entries token count
   pub last : 0 < count → place ≡ (pair_at entries (count - 1)).place
 
--- where damage is told, no node of so many entries stands there
+-- damage is reported only where the file has no node of so many entries there
 abbrev pub SparesNode : View → FileName → ℕ → ℕ → ℕ → ReadFault → Type 0
 SparesNode v file level at count = OnDamage (λ _. (bytes : Bytes) (entries : List Pair) → contents v file ≡ Some bytes → HasNode bytes level at entries → length entries ≡ count → ⊥)
 
--- where damage is told, no level of so many entries stands there with those above it
+-- damage is reported only where the file has no level of so many entries there, with those above it
 abbrev pub SparesLevel : View → FileName → ℕ → ℕ → ℕ → ReadFault → Type 0
 SparesLevel v file level at count = OnDamage (λ _. (bytes : Bytes) (entries : List Pair) → contents v file ≡ Some bytes → StandsFrom bytes level at entries → length entries ≡ count → ⊥)
 
--- where damage is told, no leaves that reach to a pair with this index stand there
+-- damage is reported only where the file has no leaves there that reach to a pair with this index
 abbrev pub SparesPair : View → FileName → ℕ → ℕ → ReadFault → Type 0
 SparesPair v file at index = OnDamage (λ _. (bytes : Bytes) (entries : List Pair) → contents v file ≡ Some bytes → StandsFrom bytes 0 at entries → index < length entries → ⊥)

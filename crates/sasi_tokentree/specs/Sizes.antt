@@ -45,7 +45,14 @@ pub first_nodes_length : (level : ℕ) (entries : List Pair) (index : ℕ) → 2
 unfolding first_nodes
 first_nodes_length level entries zero le = refl
 first_nodes_length level entries (suc index) le =
-    omega (arith, length-append (first_nodes level entries index) (node level (part entries index)), first_nodes_length level entries index (omega arith), node_length level (part entries index), part_length entries index)
+    omega (
+      arith,
+      length-append (first_nodes level entries index) (node level (part entries index)),
+      first_nodes_length level entries index
+          (omega arith),
+      node_length level (part entries index),
+      part_length entries index,
+    )
 
 -- and all of them have the bytes of the level
 pub level_length : (level : ℕ) (entries : List Pair) → length (level_bytes level entries) ≡ size (length entries)
@@ -55,7 +62,15 @@ level_length level entries = from (nodes (length entries)) refl
     from : (count : ℕ) → nodes (length entries) ≡ count → length (first_nodes level entries count) ≡ size (length entries)
     from zero is = omega arith
     from (suc index) is =
-        omega (arith, is, length-append (first_nodes level entries index) (node level (part entries index)), first_nodes_length level entries index (omega (arith, is)), node_length level (part entries index), part_length entries index)
+        omega (
+          arith,
+          is,
+          length-append (first_nodes level entries index) (node level (part entries index)),
+          first_nodes_length level entries index
+              (omega (arith, is)),
+          node_length level (part entries index),
+          part_length entries index,
+        )
 
 -- ---- the level above
 
@@ -78,7 +93,8 @@ pub one_level : (most level at : ℕ) (entries : List Pair) → length entries �
 unfolding levels
 one_level most level at entries le = rw (le-leb (length entries) 255 le)
 
-pub more_levels : (most level at : ℕ) (entries : List Pair) → 255 < length entries → levels (suc most) level at entries ≡ level_bytes level entries ++ levels most (suc level) (at + size (length entries)) (above at entries)
+pub more_levels : (most level at : ℕ) (entries : List Pair) → 255 < length entries → levels (suc most) level at entries ≡ level_bytes level entries ++
+    levels most (suc level) (at + size (length entries)) (above at entries)
 unfolding levels
 more_levels most level at entries lt = rw (lt-leb (length entries) 255 lt)
 

@@ -1,4 +1,4 @@
--- A walk over the pairs of a tree.
+-- Scans of the pairs of a tree.
 use Rattle.std.specs.Prelude.{◌≡◌, ℕ, ◌+◌, ◌-◌, ◌*◌, ◌/◌, ◌%◌, ◌<◌, List, [], ◌∷◌, drop, Option, None, Some}
 use Rattle.sasi_types.specs.declared.tree.Pair.{Pair}
 use Rattle.sasi_types.specs.declared.tree.TreeRef.{TreeRef}
@@ -11,33 +11,33 @@ use Rattle.sasi_tokentree.specs.Format.{entry, AreFit, HasTree}
 use Rattle.sasi_tokentree.specs.Damages.{start}
 use Rattle.sasi_tokentree.specs.Reads.{CountsBelow}
 
--- what one knows of a tree in hand: the file with its page in hand, where the tree is, and how many of its pairs were passed
+-- the view of a scan: the buffered file, where the tree is, and how many of its pairs the scan has passed
 pub record Walk : Type 0 where
   pub held : Held
   pub tree : TreeRef
   pub passed : ℕ
 
--- the pair found is the first of those from an index on, and the ones behind it are left; none is found where none is left
+-- the scan steps to the first of the pairs from an index on, and those behind it are left; to none where none is left
 abbrev pub TakesNext : List Pair → ℕ → ℕ → Option Pair → Type 0
 TakesNext pairs from passed None = (drop from pairs ≡ []) × (passed ≡ from)
 TakesNext pairs from passed (Some pair) = drop from pairs ≡ pair ∷ drop passed pairs
 
--- where the pair with this index stands: by its leaf, and by what is before it there
+-- the offset of the pair with this index: that of its leaf, and its offset there
 abbrev pub pair_place : TreeRef → ℕ → ℕ
 pair_place tree index = start tree + 4088 * (index / 255) + (8 + 16 * (index % 255))
 
--- behind a pair that was found, the page on which its entry ends is in hand
+-- behind a pair that was read, the page on which its entry ends is buffered
 abbrev pub IsNear : Walk → Option Pair → Type 0
 IsNear w None = Unit {0}
 IsNear w (Some pair) = w.held.page ≡ Some ((pair_place w.tree (w.passed - 1) + 15) / 4096)
 
--- the file has this pair as the entry with this index, whether or not the tree is right
+-- the file has this pair as the entry with this index, even where the tree is damaged
 pub record HasEntry (bytes : Bytes) (tree : TreeRef) (index : ℕ) (pair : Pair) : Type 0 where
   pub within : index < tree.pairs
   pub stands : HasAt bytes (pair_place tree index) (entry pair)
   pub fit : AreFit (pair ∷ [])
 
--- what was found, if anything, is the last of the entries that were passed
+-- the pair read, if any, is the last of the passed entries
 abbrev pub GivesEntry : View → FileName → TreeRef → ℕ → Option Pair → Type 0
 GivesEntry v file tree passed None = Unit {0}
 GivesEntry v file tree passed (Some pair) = (index : ℕ) × (passed ≡ index + 1) × ((bytes : Bytes) → contents v file ≡ Some bytes → HasEntry bytes tree index pair)

@@ -1,4 +1,4 @@
--- What was written to a file from a place on.
+-- What was written to a file from an offset on.
 use Rattle.std.specs.Prelude.{◌≡◌, ℕ, ◌+◌, ◌≤◌, ◌++◌, [], length, take, drop, Option, Some, None, is_some, refl}
 use Rattle.std.specs.FinMap.{get}
 use Rattle.std.proofs.Common.{sym, ◌∙◌, ap, subst, arith, append_assoc, length-append, take-append-drop}
@@ -10,12 +10,12 @@ use Rattle.sasi_host.specs.Disk.{Changes, Same, Step, InPlace, Torn, Becomes, ov
 use Rattle.sasi_host.specs.Contents.{reaches_written}
 use Rattle.sasi_host.specs.Moves.{changes_on, changes_as, stays, step_on, step_as}
 
--- whatever the file has from this place on, what stood before it stays, and the file is no shorter
+-- the bytes before this offset stay, and the file gets no shorter
 pub record IsPast (at : ℕ) (old new : Bytes) : Type 0 where
   pub before : take at new ≡ take at old
   pub no_shorter : length old ≤ length new
 
--- a file changes in place, from this place on
+-- a file changes in place, from this offset on
 abbrev pub ChangesPast : FileName → ℕ → View → View → Type 0
 ChangesPast file at old new = Changes (Step file (InPlace (IsPast at))) old new
 
@@ -25,7 +25,7 @@ pub record KeepsCounts (old new : View) : Type 0 where
   pub out : new.out_faults ≡ old.out_faults
   pub reads : new.reads ≡ old.reads
 
--- these bytes were written from this place on, the file reaches to their end, and nothing before it changed
+-- these bytes were written at this offset, the file reaches to their end, and nothing before it changed
 pub record Writes (old new : View) (file : FileName) (at : ℕ) (bytes : Bytes) : Type 0 where
   pub becomes : Becomes file (λ was. overlay was at bytes) old new
   pub reaches : Reaches new file (at + length bytes)
@@ -108,7 +108,8 @@ overlay_on old x y at within =
 -- nothing is written
 pub writes_nothing : (v : View) (file : FileName) (at : ℕ) → Reaches v file at → Writes v v file at []
 writes_nothing v file at reaches = record {
-  becomes = λ bytes is. is ∙ ap (λ (l : Bytes). Some l) (sym (ap (λ (l : Bytes). l ++ drop (at + 0) bytes) (append-nil (take at bytes)) ∙ ap (λ (n : ℕ). take at bytes ++ drop n bytes) (omega arith) ∙ take-append-drop at bytes));
+  becomes = λ bytes is. is ∙ ap (λ (l : Bytes). Some l) (sym (ap (λ (l : Bytes). l ++ drop (at + 0) bytes) (append-nil (take at bytes)) ∙ ap
+      (λ (n : ℕ). take at bytes ++ drop n bytes) (omega arith) ∙ take-append-drop at bytes));
   reaches = λ told. let r = reaches told in (r.0, r.1, omega (arith, r.2));
   changes = changes_past_stays v file at;
   counts = record { disk = omega arith; out = refl; reads = refl };
@@ -141,7 +142,8 @@ writes_on a b c file at x y reaches first second = record {
 }
 
 -- one write writes its bytes
-pub writes_once : (a b : View) (file : FileName) (at : ℕ) (bytes wanted : Bytes) → bytes ≡ wanted → Reaches a file at → Becomes file (λ old. overlay old at bytes) a b → Changes (Step file (InPlace (Torn at (length bytes)))) a b → KeepsCounts a b
+pub writes_once : (a b : View) (file : FileName) (at : ℕ) (bytes wanted : Bytes) → bytes ≡ wanted → Reaches a file at → Becomes file
+    (λ old. overlay old at bytes) a b → Changes (Step file (InPlace (Torn at (length bytes)))) a b → KeepsCounts a b
     → Writes a b file at wanted
 writes_once a b file at bytes wanted is reaches becomes changes counts = subst (λ (l : Bytes). Writes a b file at l) is (record {
   becomes = becomes;

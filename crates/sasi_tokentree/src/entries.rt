@@ -1,4 +1,4 @@
-// The bytes of a node, read.
+// Decodes the bytes of a node.
 ghost use Rattle.std.specs.Prelude.{◌≡◌, ◌≢◌, ◌+◌, ◌*◌, ◌^◌, ◌<◌, ◌≤◌, ℕ, List, length, take, drop, IfErr, IfOk, OnOk, IsTrue, false};
 ghost use Rattle.std.specs.Int.{to_be_bytes, w64};
 ghost use Rattle.sasi_types.specs.declared.tree.Pair.{Pair};
@@ -11,20 +11,20 @@ use sasi_fields::FieldReader;
 use sasi_host::{Damage, FileName, FormatRule, check_part, found};
 use sasi_types::{Pair, Token};
 
-// The bytes of a node's head.
+// The bytes of a node's header.
 pub const HEAD: usize = 8;
 
 // The bytes of an entry.
 pub const ENTRY: usize = 16;
 
-// So many entries of a node have tokens below the one that was asked for, and the last of them has this place.
+// How many entries have tokens below a given one, and the place of the last of them.
 #[derive(Clone, Copy)]
 pub struct Below {
     pub count: usize,
     pub place: u64,
 }
 
-// The head of the node has to have this level and number of entries.
+// Checks the header of a node of this level and number of entries.
 pub fn check_head(
     file: FileName,
     at: u64,
@@ -53,7 +53,7 @@ pub fn number_in(field: &[u8]) -> u64
     FieldReader::new(field).u64().unwrap_or(0)
 }
 
-// An entry of the node.
+// The entry at this index of the node.
 pub fn entry_in(bytes: &[u8], index: usize) -> Pair
     requires { 24 + 16 * index ≤ length bytes.now }
     ensures stands { HasAt bytes.now (8 + 16 * index) (entry result) }
@@ -66,7 +66,7 @@ pub fn entry_in(bytes: &[u8], index: usize) -> Pair
     }
 }
 
-// Whether the entry with this index doesn't follow the one before it.
+// Whether the entry with this index isn't above the one before it.
 fn is_out_of_order(index: usize, last: Pair, pair: Pair) -> bool
     ensures some { IsTrue result → 0 < index }
     ensures order { IsTrue result → IsBefore last pair → ⊥ }
@@ -75,7 +75,7 @@ fn is_out_of_order(index: usize, last: Pair, pair: Pair) -> bool
     index > 0 && !is_before(last, pair)
 }
 
-// How many entries of the node have tokens below this one. Entries up to the first other one have to rise.
+// How many entries of the node have tokens below this one. It checks the order of the entries up to the first other one.
 pub fn find_below(
     file: FileName,
     at: u64,

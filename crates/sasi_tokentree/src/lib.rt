@@ -1,5 +1,5 @@
-// Token trees in files: pairs of a token and a place, rising, in leaves below nodes that hold the least tokens. A tree is
-// written from left to right, and read from any token on with the last page in hand; it stands on a host.
+//! Token trees in files: sorted pairs of a token and an offset, in leaves below nodes of their least tokens. A tree is
+//! written from left to right, and scanned from any token on. A scan reads each page once.
 #![tactic(auto)]
 
 mod entries;
@@ -8,8 +8,6 @@ mod nodes;
 mod order;
 mod seek;
 mod shape;
-#[cfg(test)]
-mod tests;
 mod tree;
 mod walk;
 mod writing;

@@ -1,4 +1,4 @@
-// The bytes of a node.
+// Encodes a node.
 ghost use Rattle.std.specs.Prelude.{◌≡◌, ◌^◌, ◌<◌, ◌≤◌, ◌++◌, length, IfOk, OnOk};
 ghost use Rattle.std.specs.List.{flat_map};
 ghost use Rattle.sasi_tokentree.specs.Format.{entry, head, node, AreFit};
@@ -7,7 +7,7 @@ use sasi_fields::{put_u8, put_u16, put_u32, put_u64};
 use sasi_types::Pair;
 use std::alloc::{AllocError, Global};
 
-// A node of these entries.
+// The bytes of a node of these entries.
 #[tactic(auto, unfolding(crate::specs::Format::node))]
 pub fn node_bytes(alloc: Global, level: u8, entries: &[Pair]) -> Result<Vec<u8>, AllocError>
     requires { length entries.now ≤ 255 }

@@ -1,11 +1,9 @@
-// Nodes of a tree, read from the file.
-ghost use Rattle.std.specs.Prelude.{◌≡◌, ◌⊎◌, ◌+◌, ◌*◌, ◌^◌, ◌<◌, ◌≤◌, List, ℕ, length, IfErr, IfOk, OnOk, Some};
+// Reads nodes of a tree from the file.
+ghost use Rattle.std.specs.Prelude.{◌≡◌, ◌+◌, ◌*◌, ◌^◌, ◌<◌, ◌≤◌, List, ℕ, length, IfErr, IfOk, OnOk, Some};
 ghost use Rattle.sasi_types.specs.declared.tree.Pair.{Pair};
-ghost use Rattle.sasi_host.specs.declared.name.FileName.{FileName};
-ghost use Rattle.sasi_host.specs.View.{IsThere, contents, ReadsAtMost};
-ghost use Rattle.sasi_host.specs.Disk.{Changes, Same};
-ghost use Rattle.sasi_host.specs.Held.{IsHeld};
+ghost use Rattle.sasi_host.specs.View.{contents, ReadsAtMost};
 ghost use Rattle.sasi_host.specs.Damages.{HasAt};
+ghost use Rattle.sasi_host.specs.PageReading.{CanReadOn, HasReadOn};
 ghost use Rattle.sasi_tokentree.specs.Format.{node};
 ghost use Rattle.sasi_tokentree.specs.Damages.{ShownOf};
 ghost use Rattle.sasi_tokentree.specs.Reads.{FindsBelow, HasNode, SparesNode};
@@ -14,7 +12,7 @@ use crate::entries::{Below, ENTRY, HEAD, check_head, find_below};
 use sasi_host::{HeldPage, Host, PageReader, ReadFault};
 use sasi_types::Token;
 
-// Fills the buffer with a node, whose head has to have this level and number of entries.
+// Fills the buffer with a node, and checks its header against this level and number of entries.
 fn read_node<H: Host, P: PageReader>(
     host: &mut H,
     pages: &mut P,
@@ -24,9 +22,7 @@ fn read_node<H: Host, P: PageReader>(
     count: usize,
     out: &mut [u8],
 ) -> Result<(), ReadFault>
-    requires there { IsThere (H.view host.old) held.old.file }
-    requires agrees { P.agrees pages.old (H.view host.old).files }
-    requires held { IsHeld held.old (H.view host.old).files }
+    requires read { CanReadOn (P.agrees pages.old) (H.view host.old) held.old }
     requires place { at < 2 ^ 63 + 2 ^ 60 }
     requires most { count ≤ 255 }
     requires whole { length out.old ≡ 8 + 16 * count }
@@ -34,11 +30,7 @@ fn read_node<H: Host, P: PageReader>(
     ensures is { OnOk result ((bytes : List ℕ) → contents (H.view host.old) held.old.file ≡ Some bytes → HasAt bytes at out.new) }
     ensures damaged { IfErr result (ShownOf (λ n. n ≡ record { level = level; at = at; count = count }) (H.view host.old) held.old.file) }
     ensures undamaged { IfErr result (SparesNode (H.view host.old) held.old.file level at count) }
-    ensures held { IsHeld held.new (H.view host.new).files }
-    ensures file { held.new.file ≡ held.old.file }
-    ensures agrees { P.agrees pages.new (H.view host.new).files }
-    ensures covers { (name : FileName) → P.covers pages.new name → P.covers pages.old name ⊎ (name ≡ held.old.file) }
-    ensures changes { Changes Same (H.view host.old) (H.view host.new) }
+    ensures read { HasReadOn (P.agrees pages.new) (P.covers pages.old) (P.covers pages.new) (H.view host.old) (H.view host.new) held.old held.new }
     ensures causes { ReadsAtMost 2 (H.view host.old) (H.view host.new) result }
 {
     held.read_into(host, pages, at, out)?;
@@ -56,9 +48,7 @@ pub fn node_below<H: Host, P: PageReader>(
     count: usize,
     token: Token,
 ) -> Result<Below, ReadFault>
-    requires there { IsThere (H.view host.old) held.old.file }
-    requires agrees { P.agrees pages.old (H.view host.old).files }
-    requires held { IsHeld held.old (H.view host.old).files }
+    requires read { CanReadOn (P.agrees pages.old) (H.view host.old) held.old }
     requires place { at < 2 ^ 63 + 2 ^ 60 }
     requires most { count ≤ 255 }
     ensures ok { IfOk result (λ below. (bytes : List ℕ) (entries : List Pair) → contents (H.view host.old) held.old.file ≡ Some bytes → HasNode bytes level at entries → length entries ≡ count
@@ -66,11 +56,7 @@ pub fn node_below<H: Host, P: PageReader>(
     ensures within { IfOk result (λ below. below.count ≤ count) }
     ensures damaged { IfErr result (ShownOf (λ n. n ≡ record { level = level; at = at; count = count }) (H.view host.old) held.old.file) }
     ensures undamaged { IfErr result (SparesNode (H.view host.old) held.old.file level at count) }
-    ensures held { IsHeld held.new (H.view host.new).files }
-    ensures file { held.new.file ≡ held.old.file }
-    ensures agrees { P.agrees pages.new (H.view host.new).files }
-    ensures covers { (name : FileName) → P.covers pages.new name → P.covers pages.old name ⊎ (name ≡ held.old.file) }
-    ensures changes { Changes Same (H.view host.old) (H.view host.new) }
+    ensures read { HasReadOn (P.agrees pages.new) (P.covers pages.old) (P.covers pages.new) (H.view host.old) (H.view host.new) held.old held.new }
     ensures causes { ReadsAtMost 2 (H.view host.old) (H.view host.new) result }
 {
     let mut buffer = [0; 4088];

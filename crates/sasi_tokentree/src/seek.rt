@@ -1,10 +1,8 @@
-// The first pair at or after a token, looked for from the root down.
-ghost use Rattle.std.specs.Prelude.{◌≡◌, ◌⊎◌, ◌+◌, ◌*◌, ◌^◌, ◌<◌, ◌≤◌, List, ℕ, length, IfErr, IfOk, OnOk, Some};
+// Searches a tree from the root down for the first pair at or after a token.
+ghost use Rattle.std.specs.Prelude.{◌≡◌, ◌+◌, ◌*◌, ◌^◌, ◌<◌, ◌≤◌, List, ℕ, length, IfErr, IfOk, OnOk, Some};
 ghost use Rattle.sasi_types.specs.declared.tree.Pair.{Pair};
-ghost use Rattle.sasi_host.specs.declared.name.FileName.{FileName};
-ghost use Rattle.sasi_host.specs.View.{IsThere, contents, ReadsAtMost};
-ghost use Rattle.sasi_host.specs.Disk.{Changes, Same};
-ghost use Rattle.sasi_host.specs.Held.{IsHeld};
+ghost use Rattle.sasi_host.specs.View.{contents, ReadsAtMost};
+ghost use Rattle.sasi_host.specs.PageReading.{CanReadOn, HasReadOn};
 ghost use Rattle.sasi_tokentree.specs.Format.{part};
 ghost use Rattle.sasi_tokentree.specs.Heights.{greatest, height, lead};
 ghost use Rattle.sasi_tokentree.specs.Damages.{IsNodeFrom, ShownOf};
@@ -16,7 +14,7 @@ use crate::shape::{FULL, FULL_BYTES, level_size, node_count};
 use sasi_host::{HeldPage, Host, PageReader, ReadFault};
 use sasi_types::Token;
 
-// How many bytes the levels before the last one take.
+// How many bytes the levels below the root take.
 pub fn lead_size(count: usize) -> u64
     requires { count ≤ 2 ^ 58 }
     ensures is { (most : ℕ) → count ≤ most → result ≡ lead most count }
@@ -28,7 +26,7 @@ pub fn lead_size(count: usize) -> u64
     level_size(count) + lead_size(node_count(count))
 }
 
-// How many entries have tokens below this one, of a level that begins at this place, with those above it behind it.
+// How many entries have tokens below this one, of a level at this offset that the levels above it follow.
 pub fn count_below<H: Host, P: PageReader>(
     host: &mut H,
     pages: &mut P,
@@ -38,9 +36,7 @@ pub fn count_below<H: Host, P: PageReader>(
     count: usize,
     token: Token,
 ) -> Result<Below, ReadFault>
-    requires there { IsThere (H.view host.old) held.old.file }
-    requires agrees { P.agrees pages.old (H.view host.old).files }
-    requires held { IsHeld held.old (H.view host.old).files }
+    requires read { CanReadOn (P.agrees pages.old) (H.view host.old) held.old }
     requires some { 0 < count }
     requires most { count ≤ greatest level }
     requires place { at + 17 * count < 2 ^ 63 + 2 ^ 60 }
@@ -49,11 +45,7 @@ pub fn count_below<H: Host, P: PageReader>(
     ensures within { IfOk result (λ below. below.count ≤ count) }
     ensures damaged { IfErr result (ShownOf (λ n. IsNodeFrom n level at count) (H.view host.old) held.old.file) }
     ensures undamaged { IfErr result (SparesLevel (H.view host.old) held.old.file level at count) }
-    ensures held { IsHeld held.new (H.view host.new).files }
-    ensures file { held.new.file ≡ held.old.file }
-    ensures agrees { P.agrees pages.new (H.view host.new).files }
-    ensures covers { (name : FileName) → P.covers pages.new name → P.covers pages.old name ⊎ (name ≡ held.old.file) }
-    ensures changes { Changes Same (H.view host.old) (H.view host.new) }
+    ensures read { HasReadOn (P.agrees pages.new) (P.covers pages.old) (P.covers pages.new) (H.view host.old) (H.view host.new) held.old held.new }
     ensures causes { (most : ℕ) → count ≤ most → ReadsAtMost (2 * height most count) (H.view host.old) (H.view host.new) result }
 {
     if count <= FULL {
@@ -84,9 +76,7 @@ fn count_in_node<H: Host, P: PageReader>(
     node: usize,
     token: Token,
 ) -> Result<Below, ReadFault>
-    requires there { IsThere (H.view host.old) held.old.file }
-    requires agrees { P.agrees pages.old (H.view host.old).files }
-    requires held { IsHeld held.old (H.view host.old).files }
+    requires read { CanReadOn (P.agrees pages.old) (H.view host.old) held.old }
     requires node { 255 * node < count }
     requires place { at + 17 * count < 2 ^ 63 + 2 ^ 60 }
     ensures ok { IfOk result (λ below. (bytes : List ℕ) (entries : List Pair) → contents (H.view host.old) held.old.file ≡ Some bytes → StandsFrom bytes level at entries → length entries ≡ count
@@ -94,11 +84,7 @@ fn count_in_node<H: Host, P: PageReader>(
     ensures within { IfOk result (λ below. 255 * node + below.count ≤ count) }
     ensures damaged { IfErr result (ShownOf (λ n. IsNodeFrom n level at count) (H.view host.old) held.old.file) }
     ensures undamaged { IfErr result (SparesLevel (H.view host.old) held.old.file level at count) }
-    ensures held { IsHeld held.new (H.view host.new).files }
-    ensures file { held.new.file ≡ held.old.file }
-    ensures agrees { P.agrees pages.new (H.view host.new).files }
-    ensures covers { (name : FileName) → P.covers pages.new name → P.covers pages.old name ⊎ (name ≡ held.old.file) }
-    ensures changes { Changes Same (H.view host.old) (H.view host.new) }
+    ensures read { HasReadOn (P.agrees pages.new) (P.covers pages.old) (P.covers pages.new) (H.view host.old) (H.view host.new) held.old held.new }
     ensures causes { ReadsAtMost 2 (H.view host.old) (H.view host.new) result }
 {
     let here = (count - FULL * node).min(FULL);

@@ -1,4 +1,4 @@
-// Where the parts of a level stand, by its number of entries.
+// The layout of a level, by its number of entries.
 ghost use Rattle.std.specs.Prelude.{◌≡◌, ◌+◌, ◌*◌, ◌^◌, ◌<◌, ◌≤◌, length};
 ghost use Rattle.sasi_tokentree.specs.Format.{nodes, part, size};
 

@@ -1,4 +1,4 @@
-// Trees written to a file.
+// Writes trees to a file.
 ghost use Rattle.std.specs.Prelude.{◌≡◌, ℕ, ◌+◌, ◌^◌, ◌≤◌, ◌<◌, [], ◌∷◌, ◌++◌, length, IfOk, OnOk};
 ghost use Rattle.sasi_host.specs.View.{ListCauses, Reaches};
 ghost use Rattle.sasi_tokentree.specs.Format.{node, size, level_bytes, above, levels, top, tree_bytes, tree_ref, AreFit, IsRising};
@@ -11,8 +11,8 @@ use sasi_host::{FileName, Host, HostFault};
 use sasi_types::{Pair, PairList, TreeRef};
 use std::alloc::{AllocError, Global};
 
-/// Writes the tree of these pairs at this place, in one pass from left to right, a node at a time, and doesn't sync it.
-/// It keeps in memory a node, and of each level the entries of the level above.
+/// Writes the tree of these pairs at this offset, in one pass from left to right, a node at a time. It doesn't sync the
+/// file. It keeps one node in memory, and for each level the entries of the level above.
 pub fn write<H: Host>(
     alloc: Global,
     host: &mut H,
@@ -39,7 +39,7 @@ pub fn write<H: Host>(
     })
 }
 
-// Writes a level of these entries and the levels above it, and gives the place of the last one.
+// Writes a level of these entries and the levels above it, and gives the offset of the root.
 fn write_levels<H: Host>(
     alloc: Global,
     host: &mut H,

@@ -1,5 +1,5 @@
-// The program: it reads the command line, makes the script file and the folder the source and the host of a run, and ends
-// with the status that the run answers. Nothing is proved of what a real file or a terminal holds.
+//! The program: it reads the command line, runs the script file over the folder, and ends with the status of the run. Nothing
+//! is proved of what a real file or a terminal holds.
 #![tactic(auto)]
 
 mod message;
@@ -15,7 +15,7 @@ use std::env;
 use std::env::Env;
 use std::process::ExitCode;
 
-// The words behind the program's own. A word that isn't UTF-8 makes them no words that a run takes.
+// The words behind the program's own. One that isn't UTF-8 is a usage error.
 fn words<R: Env + AllocGlobal>(rt: &R) -> Result<Vec<String>, Status> {
     let Ok(args) = env::args(rt) else {
         return Err(Status::Usage);
@@ -26,7 +26,7 @@ fn words<R: Env + AllocGlobal>(rt: &R) -> Result<Vec<String>, Status> {
     }
 }
 
-// Runs the words that name no script: nothing is read or written.
+// Runs words that are no command line: nothing is read or written.
 fn run_nothing(alloc: Global, words: &[String]) -> Status {
     let mut script = MemSource::new(Vec::new(alloc), 1, Vec::new(alloc));
     let mut host = MemHost::new(alloc);

@@ -1,4 +1,4 @@
-// What the program says of a status.
+// The line that the program prints of a status.
 use sasi_filehost::NameText;
 use sasi_host::{Damage, Seen};
 use sasi_run::Status;

@@ -1,42 +1,57 @@
 // The lines on standard error.
 use crate::message::Message;
-use sasi_host::{FileName, FormatRule, Kind, found};
+use sasi_host::{Damage, FileName, FormatRule, Kind, found};
 use sasi_run::Status;
-use std::test::Fail;
+use std::alloc::Global;
+use std::process::Abort;
+
+/// The message of the status must be this line.
+fn check(rt: &impl Abort, alloc: Global, status: Status, line: &str) {
+    let printed = format!(in alloc; "{}", Message(status)).expect(rt, "memory");
+    assert_eq!(rt; printed.as_str(), line);
+}
+
+fn check_damage(rt: &impl Abort, alloc: Global, damage: Damage, line: &str) {
+    check(rt, alloc, Status::Damaged(damage), line);
+}
+
+const MANIFEST: FileName = FileName {
+    kind: Kind::Manifest,
+    number: 1,
+    index: 0,
+    part: 0,
+};
+
+const INDEX: FileName = FileName {
+    kind: Kind::Index,
+    number: 1,
+    index: 2,
+    part: 3,
+};
 
 #[test]
-fn damage_is_told_in_one_line(rt: HostRuntime) -> Result<(), Fail> {
-    let alloc = rt.alloc();
-    let manifest = FileName::manifest(1);
-    let index = FileName {
-        kind: Kind::Index,
-        number: 1,
-        index: 2,
-        part: 3,
-    };
+fn damage_is_told_in_one_line(rt: HostRuntime) {
     let cases = [
         (
-            found(manifest, 16, FormatRule::Number, b"\x00\xaf"),
+            found(MANIFEST, 16, FormatRule::Number, b"\x00\xaf"),
             "damaged manifest-1 at 16 rule Number seen 00af",
         ),
         (
-            found(index, 20, FormatRule::Short, b"\0\0\0\0\0\0\0\x14"),
+            found(INDEX, 20, FormatRule::Short, b"\0\0\0\0\0\0\0\x14"),
             "damaged index-1-2-3 at 20 rule Short seen 0000000000000014",
         ),
         (
-            found(manifest, 0, FormatRule::Missing, b""),
+            found(MANIFEST, 0, FormatRule::Missing, b""),
             "damaged manifest-1 at 0 rule Missing seen ",
         ),
     ];
     for (damage, line) in cases {
-        let printed = format!(in alloc; "{}", Message(Status::Damaged(damage)))?;
-        assert_eq!(rt; printed.as_str(), line);
+        check_damage(&rt, rt.alloc(), damage, line);
     }
-    Ok(())
 }
 
 #[test]
-fn other_faults_have_their_lines(rt: HostRuntime) -> Result<(), Fail> {
+fn other_faults_have_their_lines(rt: HostRuntime) {
     let cases = [
         (Status::Done, ""),
         (Status::Refused(3), ""),
@@ -51,8 +66,6 @@ fn other_faults_have_their_lines(rt: HostRuntime) -> Result<(), Fail> {
         (Status::ScriptTooLong, "script too long"),
     ];
     for (status, line) in cases {
-        let printed = format!(in rt.alloc(); "{}", Message(status))?;
-        assert_eq!(rt; printed.as_str(), line);
+        check(&rt, rt.alloc(), status, line);
     }
-    Ok(())
 }

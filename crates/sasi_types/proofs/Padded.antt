@@ -8,7 +8,8 @@ short : (key : List ℕ) (k m : ℕ) → length key + m ≡ k → take (length k
 short key k m all =
     let left : k - length key ≡ m = omega arith in
     let few : m ≤ k = omega arith in
-    let back : take k (key ++ replicate k 0) ≡ key ++ replicate m 0 = ap (λ n. take n (key ++ replicate k 0)) (sym all) ∙ take-append-add key (replicate k 0) m ∙ ap (λ r. key ++ r) (take-replicate m k 0 few) in
+    let back : take k (key ++ replicate k 0) ≡ key ++ replicate m 0 = ap (λ n. take n (key ++ replicate k 0)) (sym all) ∙ take-append-add key
+    (replicate k 0) m ∙ ap (λ r. key ++ r) (take-replicate m k 0 few) in
     rw (take-length, drop-replicate, left) (sym back)
 
 -- it is longer
@@ -17,7 +18,8 @@ long key k more =
     let none : k - k ≡ 0 = omega arith in
     rw (drop-replicate, none, append-nil) (sym (take-append-le k key (replicate k 0) more))
 
-either : (key : List ℕ) (k n : ℕ) (fits : Bool) → nat_le (length key) k ≡ fits → n ≡ min (length key) k → take n key ++ drop n (replicate k 0) ≡ take k (key ++ replicate k 0)
+either : (key : List ℕ) (k n : ℕ) (fits : Bool) → nat_le (length key) k ≡ fits → n ≡ min (length key) k
+    → take n key ++ drop n (replicate k 0) ≡ take k (key ++ replicate k 0)
 either key k n true fits is =
     let n_is : n ≡ length key = grind arith in
     rw n_is (short key k (k - length key) (grind arith))

@@ -20,7 +20,7 @@ factor_one = 0x87c37b91114253d5
 abbrev pub factor_two : ℕ
 factor_two = 0x4cf5ad432745937f
 
--- what the first half of a block, and its second half, bring into their sums
+-- what the first half of a block, and its second half, add to their sums
 unfoldable pub first_mixed : ℕ → ℕ
 first_mixed half = times (rotate_left w64 (times half factor_one) 31) factor_two
 
@@ -50,12 +50,12 @@ blocks_taken key = fold with_block (record { first = 0; second = 0 }) (first_chu
 unfoldable pub in_place : ℕ → ℕ → ℕ
 in_place place byte = cast_unsigned w64 (cast_signed w8 byte) * 2 ^ (8 * place) % 2 ^ 64
 
--- the first n of these bytes, each in its place, in one exclusive or
+-- the exclusive or of the first n of these bytes, each shifted to its index
 unfoldable pub signed_word : ℕ → List ℕ → ℕ
 signed_word zero bytes = 0
 signed_word (suc n) bytes = bit_xor (signed_word n bytes) (in_place n (slice_index bytes n))
 
--- all of them
+-- the exclusive or of all these bytes
 abbrev pub signed_half : List ℕ → ℕ
 signed_half bytes = signed_word (length bytes) bytes
 
@@ -85,7 +85,7 @@ finished sums count =
 unfoldable pub hash : List ℕ → ℕ
 hash key = finished (with_tail (blocks_taken key) (drop (length key / 16 * 16) key)) (length key)
 
--- a hash as a token: of the signed numbers the least gives way to the greatest, and the top bit is flipped, so that the
+-- a hash as a token: the least signed number is replaced by the largest, and the top bit is flipped, so that the
 -- order of the tokens is that of signed numbers
 unfoldable pub ordered : ℕ → ℕ
 ordered h = bit_xor (if nat_eq h (2 ^ 63) then 2 ^ 63 - 1 else h) (2 ^ 63)

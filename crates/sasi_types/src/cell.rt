@@ -4,17 +4,17 @@ ghost use Rattle.std.specs.Prelude.{◌≡◌, IfOk};
 use crate::Value;
 use std::alloc::{AllocError, Global};
 
-/// What was written of one column of one key.
+/// A cell: what was written to one column of one key.
 #[derive(Debug, Drop)]
 pub struct Cell {
-    /// 1 to 2^62; the greater time is the newer.
+    /// The timestamp, from 1 to 2^62; the larger one is newer.
     pub time: u64,
     /// None for a tombstone.
     pub value: Option<Value>,
 }
 
 impl Cell {
-    /// The same cell once more.
+    /// A copy of the cell.
     pub fn copy(&self, alloc: Global) -> Result<Cell, AllocError>
         ensures { IfOk result (λ copy. copy ≡ self.now) }
     {
@@ -26,7 +26,7 @@ impl Cell {
     }
 }
 
-// A value that may be none, once more.
+// A copy of a value that may be none.
 fn copy_of(value: &Option<Value>, alloc: Global) -> Result<Option<Value>, AllocError>
     ensures { IfOk result (λ copy. copy ≡ value.now) }
 {

@@ -1,6 +1,6 @@
 // Classes of analyzers.
 
-/// What kind of analyzer an index of texts asks for: one that takes a text as a whole, or one that takes its words.
+/// The class of an analyzer: an index of texts asks for one that keeps a text whole, or for one that splits it into words.
 #[derive(Clone, Copy, Debug, PartialEq, Eq)]
 pub enum Class {
     NonTokenizing,

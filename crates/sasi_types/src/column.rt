@@ -46,7 +46,7 @@ impl Columns {
         &self.items
     }
 
-    /// The same columns once more.
+    /// A copy of the columns.
     pub fn copy(&self, alloc: Global) -> Result<Columns, AllocError>
         ensures { IfOk result (λ copy. copy ≡ self.now) }
     {

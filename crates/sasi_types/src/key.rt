@@ -28,7 +28,7 @@ impl Model for Key {
     ghost view = { λ a. a.bytes.items };
 }
 
-/// Why bytes are no key.
+/// Why bytes aren't a key.
 #[derive(Clone, Copy, Debug, PartialEq, Eq)]
 pub enum KeyFault {
     Empty,

@@ -1,4 +1,4 @@
-// Why terms aren't had of a text.
+// Why a kit gives no terms of a text.
 ghost use Rattle.std.specs.Prelude.{◌≡◌};
 ghost use Rattle.sasi_types.specs.declared.kit_fault.KitFault.TheVariants.{OutOfMemory};
 

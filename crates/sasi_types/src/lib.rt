@@ -1,5 +1,5 @@
-// The small types that every layer shares: names and texts, keys and the order of their partitions, and statements as
-// they are read. The crate stands on std alone; its types are seen as their bytes and lists, whatever holds them.
+//! The small types that every layer shares: names, texts, decorated keys and their order, values, and statements as the
+//! parser reads them. The crate stands on std alone. Contracts see its types as their bytes and lists.
 #![tactic(auto)]
 
 mod cell;
@@ -15,8 +15,6 @@ mod piece;
 mod place;
 mod row;
 mod statement;
-#[cfg(test)]
-mod tests;
 mod text;
 mod tree;
 mod type_list;

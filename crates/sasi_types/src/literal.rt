@@ -92,7 +92,7 @@ impl Sets {
         }
     }
 
-    /// Columns with their values, as many as there are of both.
+    /// The columns, each with the value at its position, up to the shorter list's end.
     pub fn of(alloc: Global, columns: Names, values: Literals) -> Result<Sets, AllocError>
         ensures { IfOk result (λ sets. sets ≡ zip columns values) }
     {
@@ -100,7 +100,7 @@ impl Sets {
         Ok(Sets { items })
     }
 
-    /// Takes the last column and its value out.
+    /// Removes the last column and its value.
     pub fn pop(&mut self) -> Option<(Name, Literal)>
         ensures items { self.old ≡ self.new ++ option_to_list result }
         ensures end { result ≡ None → self.old ≡ [] }

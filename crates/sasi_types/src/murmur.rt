@@ -8,7 +8,7 @@ const FIRST_FACTOR: u64 = 0x87c3_7b91_1142_53d5;
 
 const SECOND_FACTOR: u64 = 0x4cf5_ad43_2745_937f;
 
-// The two sums that the bytes of a key go into.
+// The two halves of the hash, as they stand between blocks.
 #[derive(Clone, Copy)]
 struct Sums {
     first: u64,
@@ -96,7 +96,7 @@ fn blocks_taken(blocks: &[[u8; 16]]) -> Sums
         .fold(start, |sums, block| with_block(sums, block))
 }
 
-// A byte as a signed number, in its place among eight.
+// A byte as a signed number, shifted to its index among eight.
 #[tactic(auto, unfolding(crate::specs::Murmur::in_place))]
 fn in_place(place: usize, byte: u8) -> u64
     requires { place < 8 }
@@ -105,7 +105,7 @@ fn in_place(place: usize, byte: u8) -> u64
     i64::from(byte.cast_signed()).cast_unsigned() << (8 * place)
 }
 
-// At most eight bytes, each as a signed number in its place.
+// At most eight bytes, each as a signed number shifted to its index.
 #[tactic(auto, unfolding(crate::specs::Murmur::signed_word))]
 fn signed_half(bytes: &[u8]) -> u64
     requires { length bytes.now ≤ 8 }

@@ -40,7 +40,7 @@ impl Name {
         &self.bytes
     }
 
-    /// The same name once more.
+    /// A copy of the name.
     pub fn copy(&self, alloc: Global) -> Result<Name, AllocError>
         ensures { IfOk result (λ copy. copy ≡ self.now) }
     {

@@ -43,7 +43,7 @@ fn first_eight(key: &[u8]) -> [u8; 8]
 // The hash that is the least of the signed numbers.
 const LEAST: u64 = 1 << 63;
 
-// A hash as a token: the least of the signed numbers gives way to the greatest, and the top bit is flipped.
+// A hash as a token: the least signed number is replaced by the largest, and the top bit is flipped.
 #[tactic(auto, unfolding(crate::specs::Murmur::ordered))]
 fn ordered(hash: u64) -> Token
     ensures { result ≡ ordered hash }

@@ -1,4 +1,4 @@
-// Where a partition stands in its table.
+// Decorated keys, which order the partitions of a table.
 ghost use Rattle.std.specs.Prelude.{◌≡◌};
 ghost use Rattle.std.specs.Ordering.{nat_cmp, ordering_then};
 ghost use Rattle.sasi_types.specs.Key.{key_cmp};
@@ -6,7 +6,7 @@ ghost use Rattle.sasi_types.specs.Key.{key_cmp};
 use crate::{Key, Token};
 use std::cmp::Ordering;
 
-/// Where a partition stands in its table: by the token of its key, and then by the key.
+/// A decorated key: a key with its token. Partitions are sorted by token, and then by key.
 #[derive(Debug, PartialEq, Eq, PartialOrd, Ord, Drop)]
 pub struct Place {
     pub token: Token,

@@ -1,15 +1,15 @@
-// Statements, as they are read.
+// Statements, as the parser reads them.
 use crate::{Columns, Literal, Literals, Name, Names, Number, Sets};
 
-/// Which rows a query asks for, and what of them.
+/// The table that a query reads, and the columns that it asks for.
 #[derive(Drop)]
 pub struct Select {
-    /// The columns asked for; none stand for `*`.
+    /// The columns; None for `*`.
     pub columns: Option<Names>,
     pub table: Name,
 }
 
-/// A statement, as it is read.
+/// A statement, as the parser reads it.
 #[derive(Drop)]
 pub enum Statement {
     CreateTable {
@@ -33,7 +33,7 @@ pub enum Statement {
     },
     Delete {
         table: Name,
-        /// The columns to delete; none stand for the whole row.
+        /// The columns to delete; an empty list deletes the whole row.
         columns: Names,
         time: Option<Number>,
         key: Name,

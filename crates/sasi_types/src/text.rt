@@ -32,7 +32,7 @@ impl Text {
     {
         &self.bytes
     }
-    /// The same text once more.
+    /// A copy of the text.
     pub fn copy(&self, alloc: Global) -> Result<Text, AllocError>
         ensures { IfOk result (λ copy. copy ≡ self.now) }
     {

@@ -5,11 +5,11 @@ use crate::Token;
 use std::alloc::{AllocError, Global};
 use std::marker::Model;
 
-/// A token, and the place in a file that it leads to.
+/// A token, and the offset in a file to which it leads.
 #[derive(Clone, Copy, Debug, PartialEq, Eq)]
 pub struct Pair {
     pub token: Token,
-    /// From the start of the file.
+    /// The offset from the file's start.
     pub place: u64,
 }
 
@@ -55,7 +55,7 @@ impl PairList {
     }
 }
 
-/// A token tree in a file: the place of its root and its number of pairs, both 0 for the empty tree.
+/// A token tree in a file: the offset of its root and its number of pairs, both 0 for the empty tree.
 #[derive(Clone, Copy, Debug, PartialEq, Eq)]
 pub struct TreeRef {
     pub root: u64,

@@ -1,4 +1,4 @@
-// The types of a table's columns, which files are read by.
+// The types of a table's columns, by which files are read.
 ghost use Rattle.std.specs.Prelude.{◌≡◌, ◌++◌, ◌∷◌, [], OnOk, OnErr};
 
 use crate::ColumnType;

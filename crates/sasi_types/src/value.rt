@@ -64,7 +64,7 @@ impl Value {
             Value::Uuid(bytes) => Stored::Borrowed(bytes),
         }
     }
-    /// The same value once more.
+    /// A copy of the value.
     pub fn copy(&self, alloc: Global) -> Result<Value, AllocError>
         ensures { IfOk result (λ copy. copy ≡ self.now) }
     {

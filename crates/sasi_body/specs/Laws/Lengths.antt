@@ -25,7 +25,13 @@ value_length (Some v) has = omega (arith, value_short v has, length-append (to_b
 
 cell_length : (deleted : ℕ) (entry : Entry) → IsCell deleted entry → length (cell_bytes entry) ≤ 65548
 cell_length deleted entry is =
-    omega (arith, value_length entry.1.value is.value, length-append (to_be_bytes w16 entry.0 ++ to_be_bytes w64 entry.1.time) (value_bytes entry.1.value), length-append (to_be_bytes w16 entry.0) (to_be_bytes w64 entry.1.time))
+    omega (
+      arith,
+      value_length entry.1.value is.value,
+      length-append (to_be_bytes w16 entry.0 ++ to_be_bytes w64 entry.1.time)
+          (value_bytes entry.1.value),
+      length-append (to_be_bytes w16 entry.0) (to_be_bytes w64 entry.1.time),
+    )
 
 cells_length : (deleted : ℕ) (cells : List Entry) → AllByRecursion (IsCell deleted) cells → length (flat_map cell_bytes cells) ≤ 65548 * length cells
 cells_length deleted [] each = omega arith
@@ -67,7 +73,7 @@ text_within : (types : List ColumnType) (bytes : Bytes) (at : ℕ) (seen : Bytes
 text_within types bytes at seen (wrong_key front size stands w) = value_within types _ _ bytes front at seen w
 text_within types bytes at seen (wrong_value front column size stands some w) = value_within types _ _ bytes front at seen w
 
--- the place of damage lies within the bytes
+-- the offset of damage lies within the bytes
 pub place_within : (types : List ColumnType) (bytes : Bytes) (rule : FormatRule) (at : ℕ) (seen : Bytes) → Breaks types bytes rule at seen → at ≤ length bytes
 place_within types bytes Number at seen broken = number_within types bytes at seen broken
 place_within types bytes Order at seen broken = omega (arith, broken.place, ap length broken.is, length-append broken.front broken.left)

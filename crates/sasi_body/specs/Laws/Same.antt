@@ -109,9 +109,11 @@ values_of_one_column zero x y marker kinds has also same = marker refl
 values_of_one_column (suc c) x y marker kinds has also same = values_same x y (kinds (omega arith)) has also same
 
 -- two cells of a table that begin the same bytes are one
-pub cell_same : (types : List ColumnType) (d d' : ℕ) (e f : Entry) (a b : Bytes) → IsCell d e → IsListed types e → IsCell d' f → IsListed types f → cell_bytes e ++ a ≡ cell_bytes f ++ b → (e ≡ f) × (a ≡ b)
+pub cell_same : (types : List ColumnType) (d d' : ℕ) (e f : Entry) (a b : Bytes) → IsCell d e → IsListed types e → IsCell d' f → IsListed types f →
+    cell_bytes e ++ a ≡ cell_bytes f ++ b → (e ≡ f) × (a ≡ b)
 cell_same types d d' e f a b e_is e_listed f_is f_listed same =
-    let columns = same_16 e.0 f.0 (to_be_bytes w64 e.1.time ++ (value_bytes e.1.value ++ a)) (to_be_bytes w64 f.1.time ++ (value_bytes f.1.value ++ b)) e_is.column f_is.column (sym (cell_apart e a) ∙ same ∙ cell_apart f b) in
+    let columns = same_16 e.0 f.0 (to_be_bytes w64 e.1.time ++ (value_bytes e.1.value ++ a))
+    (to_be_bytes w64 f.1.time ++ (value_bytes f.1.value ++ b)) e_is.column f_is.column (sym (cell_apart e a) ∙ same ∙ cell_apart f b) in
     let times = same_64 e.1.time f.1.time (value_bytes e.1.value ++ a) (value_bytes f.1.value ++ b) (omega (arith, e_is.time)) (omega (arith, f_is.time)) columns.1 in
     let kinds : (x y : Value) → e.1.value ≡ Some x → f.1.value ≡ Some y → stored x ≡ stored y → x ≡ y =
     λ x y x_is y_is bytes.
@@ -123,7 +125,8 @@ cell_same types d d' e f a b e_is e_listed f_is f_listed same =
     (entries_same e f columns.0 times.0 values.0, values.1)
 
 -- so are as many cells, one after another
-pub cells_same : (types : List ColumnType) (d d' : ℕ) (xs ys : List Entry) (a b : Bytes) → AllByRecursion (IsCell d) xs → AllByRecursion (IsListed types) xs → AllByRecursion (IsCell d') ys → AllByRecursion (IsListed types) ys
+pub cells_same : (types : List ColumnType) (d d' : ℕ) (xs ys : List Entry) (a b : Bytes) → AllByRecursion (IsCell d) xs → AllByRecursion
+    (IsListed types) xs → AllByRecursion (IsCell d') ys → AllByRecursion (IsListed types) ys
     → length xs ≡ length ys → flat_map cell_bytes xs ++ a ≡ flat_map cell_bytes ys ++ b → (xs ≡ ys) × (a ≡ b)
 cells_same types d d' [] [] a b x_are x_listed y_are y_listed sizes same = (refl, same)
 cells_same types d d' [] (y ∷ ys) a b x_are x_listed y_are y_listed sizes same = absurd (omega (arith, sizes))
@@ -156,11 +159,13 @@ partitions_same p q deleted cells =
     ap (λ (d : ℕ). partition d p.cells) deleted ∙ ap (λ (m : Cells). partition q.deleted m) (map.same_entries_map p.cells q.cells cells)
 
 -- two bodies of a table that begin the same bytes are those of one key and partition
-pub bodies_same : (types : List ColumnType) (key key' : Bytes) (part part' : Partition) (a b : Bytes) → IsBodyOf types key part → IsBodyOf types key' part' → body key part ++ a ≡ body key' part' ++ b → (key ≡ key') × (part ≡ part') × (a ≡ b)
+pub bodies_same : (types : List ColumnType) (key key' : Bytes) (part part' : Partition) (a b : Bytes) → IsBodyOf types key part → IsBodyOf types key'
+    part' → body key part ++ a ≡ body key' part' ++ b → (key ≡ key') × (part ≡ part') × (a ≡ b)
 bodies_same types key key' part part' a b first second same =
     let keys = sized_same key key' (part_bytes part ++ a) (part_bytes part' ++ b) first.has.key_short second.has.key_short (sym (body_apart key part a) ∙ same ∙ body_apart key' part' b) in
     let times =
-    same_64 part.deleted part'.deleted (to_be_bytes w16 (length (cells_of part)) ++ (flat_map cell_bytes (cells_of part) ++ a)) (to_be_bytes w16 (length (cells_of part')) ++ (flat_map cell_bytes (cells_of part') ++ b))
+    same_64 part.deleted part'.deleted (to_be_bytes w16 (length (cells_of part)) ++ (flat_map cell_bytes (cells_of part) ++ a))
+    (to_be_bytes w16 (length (cells_of part')) ++ (flat_map cell_bytes (cells_of part') ++ b))
     (omega (arith, first.has.deleted)) (omega (arith, second.has.deleted)) (sym (part_apart part a) ∙ keys.1 ∙ part_apart part' b)
     in
     let counts =

@@ -60,13 +60,15 @@ next_below (x ∷ xs) e ys is =
     omega (arith, here, others)
 
 -- the first cell behind some of them
-cells_front : (types : List ColumnType) (d d' : ℕ) (xs ys : List Entry) (left : Bytes) → AllByRecursion (IsCell d) xs → AllByRecursion (IsListed types) xs → AllByRecursion (IsCell d') ys → AllByRecursion (IsListed types) ys
+cells_front : (types : List ColumnType) (d d' : ℕ) (xs ys : List Entry) (left : Bytes) → AllByRecursion (IsCell d) xs → AllByRecursion
+    (IsListed types) xs → AllByRecursion (IsCell d') ys → AllByRecursion (IsListed types) ys
     → length xs < length ys → flat_map cell_bytes xs ++ left ≡ flat_map cell_bytes ys → (e : Entry) × (more : List Entry) × (ys ≡ xs ++ e ∷ more) × (left ≡ cell_bytes e ++ flat_map cell_bytes more)
 cells_front types d d' [] [] left x_are x_listed y_are y_listed sizes same = absurd (omega (arith, sizes))
 cells_front types d d' [] (y ∷ ys) left x_are x_listed y_are y_listed sizes same = (y, ys, refl, same)
 cells_front types d d' (x ∷ xs) [] left x_are x_listed y_are y_listed sizes same = absurd (omega (arith, sizes))
 cells_front types d d' (x ∷ xs) (y ∷ ys) left x_are x_listed y_are y_listed sizes same =
-    let one = cell_same types d d' x y (flat_map cell_bytes xs ++ left) (flat_map cell_bytes ys) x_are.0 x_listed.0 y_are.0 y_listed.0 (sym (append_assoc (cell_bytes x) (flat_map cell_bytes xs) left) ∙ same) in
+    let one = cell_same types d d' x y (flat_map cell_bytes xs ++ left) (flat_map cell_bytes ys) x_are.0 x_listed.0 y_are.0 y_listed.0
+    (sym (append_assoc (cell_bytes x) (flat_map cell_bytes xs) left) ∙ same) in
     let sizes' : length xs < length ys = omega (arith, sizes) in
     let others = cells_front types d d' xs ys left x_are.1 x_listed.1 y_are.1 y_listed.1 sizes' one.1 in
     (others.0, others.1, ap (λ (e : Entry). e ∷ ys) (sym one.0) ∙ ap (λ (l : List Entry). x ∷ l) others.2, others.3)
@@ -96,23 +98,27 @@ module _ (types : List ColumnType) (key : Bytes) (part : Partition) (of : IsBody
 
   at_deletion : (front left : Bytes) → front ++ left ≡ body key part → IsAtDeletion types front → left ≡ part_bytes part
   at_deletion front left same at =
-      let keys = sized_same at.key key left (part_bytes part) at.key_is.short of.has.key_short (shift (to_be_bytes w16 (length at.key)) at.key left (body key part) front at.is same ∙ body_parts key part) in
+      let keys = sized_same at.key key left (part_bytes part) at.key_is.short of.has.key_short
+      (shift (to_be_bytes w16 (length at.key)) at.key left (body key part) front at.is same ∙ body_parts key part) in
       keys.1
 
-  at_count : (front left : Bytes) (deleted : ℕ) → front ++ left ≡ body key part → IsAtCount types front deleted → (deleted ≡ part.deleted) × (left ≡ to_be_bytes w16 (length (cells_of part)) ++ flat_map cell_bytes (cells_of part))
+  at_count : (front left : Bytes) (deleted : ℕ) → front ++ left ≡ body key part → IsAtCount types front deleted → (deleted ≡ part.deleted) ×
+      (left ≡ to_be_bytes w16 (length (cells_of part)) ++ flat_map cell_bytes (cells_of part))
   at_count front left deleted same at =
       same_64 deleted part.deleted left (to_be_bytes w16 (length (cells_of part)) ++ flat_map cell_bytes (cells_of part)) (omega (arith, at.fits)) (omega (arith, of.has.deleted))
       (at_deletion at.before (to_be_bytes w64 deleted ++ left) (shift at.before (to_be_bytes w64 deleted) left (body key part) front at.is same) at.key ∙ part_parts part)
 
   at_cell : (front left : Bytes) (deleted : ℕ) (cells : List Entry) → front ++ left ≡ body key part → IsAtCell types front deleted cells
-      → (entry : Entry) × (more : List Entry) × IsCell part.deleted entry × IsListed types entry × (next_column cells ≤ entry.0) × (deleted ≡ part.deleted) × (left ≡ cell_bytes entry ++ flat_map cell_bytes more)
+      → (entry : Entry) × (more : List Entry) × IsCell part.deleted entry × IsListed types entry × (next_column cells ≤ entry.0) ×
+      (deleted ≡ part.deleted) × (left ≡ cell_bytes entry ++ flat_map cell_bytes more)
   at_cell front left deleted cells same at =
       let count =
       at_count at.before (to_be_bytes w16 at.count ++ (flat_map cell_bytes cells ++ left)) deleted
       (shift at.before (to_be_bytes w16 at.count) (flat_map cell_bytes cells ++ left) (body key part) (at.before ++ to_be_bytes w16 at.count) refl
       (shift (at.before ++ to_be_bytes w16 at.count) (flat_map cell_bytes cells) left (body key part) front at.is same)) at.deletion
       in
-      let sizes = same_16 at.count (length (cells_of part)) (flat_map cell_bytes cells ++ left) (flat_map cell_bytes (cells_of part)) (omega (arith, at.count_is.few)) (omega (arith, of.has.count.few)) count.1 in
+      let sizes = same_16 at.count (length (cells_of part)) (flat_map cell_bytes cells ++ left) (flat_map cell_bytes (cells_of part))
+      (omega (arith, at.count_is.few)) (omega (arith, of.has.count.few)) count.1 in
       let few : length cells < length (cells_of part) = omega (arith, at.more, sizes.0) in
       let found = cells_front types deleted part.deleted cells (cells_of part) left at.cells_are.each at.cells_are.listed of.has.cells of.columns few sizes.1 in
       let IsRising : List Entry → Type 0 = λ l. is_sorted nat_cmp l ≡ true in (
@@ -133,7 +139,8 @@ module _ (types : List ColumnType) (key : Bytes) (part : Partition) (of : IsBody
       let columns = same_16 column found.0.0 left (to_be_bytes w64 found.0.1.time ++ (value_bytes found.0.1.value ++ more)) at.fits found.2.column (found.6 ∙ cell_apart found.0 more) in
       (found.0, more, record { cell = found.2; listed = found.3; column_is = columns.0 }, found.5, columns.1)
 
-  at_tag : (front left : Bytes) (column : ℕ) → front ++ left ≡ body key part → IsAtTag types front column → (entry : Entry) × (more : Bytes) × IsNext column entry × (left ≡ value_bytes entry.1.value ++ more)
+  at_tag : (front left : Bytes) (column : ℕ) → front ++ left ≡ body key part → IsAtTag types front column → (entry : Entry) × (more : Bytes) × IsNext
+      column entry × (left ≡ value_bytes entry.1.value ++ more)
   at_tag front left column same at =
       let found = at_time at.before (to_be_bytes w64 at.time ++ left) at.deleted column (shift at.before (to_be_bytes w64 at.time) left (body key part) front at.is same) at.column_stands in
       let times = same_64 at.time found.0.1.time left (value_bytes found.0.1.value ++ found.1) (omega (arith, at.time_is.fits)) (omega (arith, found.2.cell.time)) found.4 in
@@ -161,12 +168,14 @@ module _ (types : List ColumnType) (key : Bytes) (part : Partition) (of : IsBody
 
   -- ---- nothing is wrong there
 
-  right_16 : (Right : ℕ → Type 0) (bytes front : Bytes) (at : ℕ) (seen : Bytes) (n : ℕ) (more : Bytes) (w : IsWrong16 Right bytes front at seen) → seen ++ w.rest ≡ to_be_bytes w16 n ++ more → n < 2 ^ 16 → Right n → ⊥
+  right_16 : (Right : ℕ → Type 0) (bytes front : Bytes) (at : ℕ) (seen : Bytes) (n : ℕ) (more : Bytes) (w : IsWrong16 Right bytes front at seen) →
+      seen ++ w.rest ≡ to_be_bytes w16 n ++ more → n < 2 ^ 16 → Right n → ⊥
   right_16 Right bytes front at seen n more w same fits right =
       let numbers = same_16 w.number n w.rest more w.fits fits (ap (λ (l : Bytes). l ++ w.rest) (sym w.stated) ∙ same) in
       w.wrong (subst Right (sym numbers.0) right)
 
-  right_64 : (Right : ℕ → Type 0) (bytes front : Bytes) (at : ℕ) (seen : Bytes) (n : ℕ) (more : Bytes) (w : IsWrong64 Right bytes front at seen) → seen ++ w.rest ≡ to_be_bytes w64 n ++ more → n < 2 ^ 64 → Right n → ⊥
+  right_64 : (Right : ℕ → Type 0) (bytes front : Bytes) (at : ℕ) (seen : Bytes) (n : ℕ) (more : Bytes) (w : IsWrong64 Right bytes front at seen) →
+      seen ++ w.rest ≡ to_be_bytes w64 n ++ more → n < 2 ^ 64 → Right n → ⊥
   right_64 Right bytes front at seen n more w same fits right =
       let numbers = same_64 w.number n w.rest more w.fits fits (ap (λ (l : Bytes). l ++ w.rest) (sym w.stated) ∙ same) in
       w.wrong (subst Right (sym numbers.0) right)
@@ -186,9 +195,11 @@ module _ (types : List ColumnType) (key : Bytes) (part : Partition) (of : IsBody
           inl (cc)
 
   no_wrong_number : (bytes : Bytes) (at : ℕ) (seen : Bytes) → bytes ≡ body key part → IsWrongNumber types bytes at seen → ⊥
-  no_wrong_number bytes at seen is (wrong_key_length w) = right_16 (λ n. 1 ≤ n) bytes [] at seen (length key) (key ++ part_bytes part) w (sym w.is ∙ is ∙ body_parts key part) of.has.key_short of.has.key_some
+  no_wrong_number bytes at seen is (wrong_key_length w) = right_16 (λ n. 1 ≤ n) bytes [] at seen (length key) (key ++ part_bytes part) w
+      (sym w.is ∙ is ∙ body_parts key part) of.has.key_short of.has.key_some
   no_wrong_number bytes at seen is (wrong_deletion front stands w) =
-      right_64 (λ n. n ≤ 2 ^ 62) bytes front at seen part.deleted (to_be_bytes w16 (length (cells_of part)) ++ flat_map cell_bytes (cells_of part)) w (at_deletion front (seen ++ w.rest) (sym w.is ∙ is) stands ∙ part_parts part)
+      right_64 (λ n. n ≤ 2 ^ 62) bytes front at seen part.deleted (to_be_bytes w16 (length (cells_of part)) ++ flat_map cell_bytes (cells_of part)) w
+      (at_deletion front (seen ++ w.rest) (sym w.is ∙ is) stands ∙ part_parts part)
       (omega (arith, of.has.deleted)) of.has.deleted
   no_wrong_number bytes at seen is (wrong_count front deleted stands w) =
       let found = at_count front (seen ++ w.rest) deleted (sym w.is ∙ is) stands in
@@ -196,7 +207,9 @@ module _ (types : List ColumnType) (key : Bytes) (part : Partition) (of : IsBody
       (subst (λ (d : ℕ). IsCount d (length (cells_of part))) (sym found.0) of.has.count)
   no_wrong_number bytes at seen is (wrong_column front deleted cells stands w) =
       let found = at_cell front (seen ++ w.rest) deleted cells (sym w.is ∙ is) stands in
-      right_16 (λ n. n < length types) bytes front at seen found.0.0 (to_be_bytes w64 found.0.1.time ++ (value_bytes found.0.1.value ++ flat_map cell_bytes found.1)) w (found.6 ∙ cell_apart found.0 (flat_map cell_bytes found.1)) found.2.column found.3.column
+      right_16 (λ n. n < length types) bytes front at seen found.0.0
+      (to_be_bytes w64 found.0.1.time ++ (value_bytes found.0.1.value ++ flat_map cell_bytes found.1)) w
+      (found.6 ∙ cell_apart found.0 (flat_map cell_bytes found.1)) found.2.column found.3.column
   no_wrong_number bytes at seen is (wrong_time front deleted column stands w) =
       let found = at_time front (seen ++ w.rest) deleted column (sym w.is ∙ is) stands in
       right_64 (IsTime deleted) bytes front at seen found.0.1.time (value_bytes found.0.1.value ++ found.1) w found.4 (omega (arith, found.2.cell.time))
@@ -208,13 +221,15 @@ module _ (types : List ColumnType) (key : Bytes) (part : Partition) (of : IsBody
       let found = at_size front (seen ++ w.rest) 0 (sym w.is ∙ is) stands in
       let marker = found.3.cell.marker (sym found.3.column_is) in
       let empty : found.1 ≡ values.Text [] = cc in
-      right_16 (λ n. n ≡ 0) bytes front at seen (length (stored found.1)) (stored found.1 ++ found.2) w found.5 (value_short found.1 (has_bytes found.0.1.value found.1 found.4 found.3.cell.value)) (ap (λ (v : Value). length (stored v)) empty)
+      right_16 (λ n. n ≡ 0) bytes front at seen (length (stored found.1)) (stored found.1 ++ found.2) w found.5
+      (value_short found.1 (has_bytes found.0.1.value found.1 found.4 found.3.cell.value)) (ap (λ (v : Value). length (stored v)) empty)
 
   no_wrong_order : (bytes : Bytes) (at : ℕ) (seen : Bytes) → bytes ≡ body key part → IsWrongOrder types bytes at seen → ⊥
   no_wrong_order bytes at seen is w =
       let found = at_cell w.front w.left w.deleted w.cells (sym w.is ∙ is) w.cells_stand in
       let columns =
-      same_16 w.column found.0.0 w.rest (to_be_bytes w64 found.0.1.time ++ (value_bytes found.0.1.value ++ flat_map cell_bytes found.1)) w.fits found.2.column (sym w.stated ∙ found.6 ∙ cell_apart found.0 (flat_map cell_bytes found.1))
+      same_16 w.column found.0.0 w.rest (to_be_bytes w64 found.0.1.time ++ (value_bytes found.0.1.value ++ flat_map cell_bytes found.1)) w.fits
+      found.2.column (sym w.stated ∙ found.6 ∙ cell_apart found.0 (flat_map cell_bytes found.1))
       in
       omega (arith, w.wrong, columns.0, found.4)
 
@@ -224,7 +239,8 @@ module _ (types : List ColumnType) (key : Bytes) (part : Partition) (of : IsBody
   stored_is_value (values.BigInt number) has = refl
   stored_is_value (values.Uuid bytes) has = has
 
-  right_value : (column size : ℕ) (bytes front : Bytes) (at : ℕ) (seen value more : Bytes) (w : IsNoValue types column size bytes front at seen) → w.value ++ w.rest ≡ value ++ more → size ≡ length value → IsTypedAt types column value → ⊥
+  right_value : (column size : ℕ) (bytes front : Bytes) (at : ℕ) (seen value more : Bytes) (w : IsNoValue types column size bytes front at seen) →
+      w.value ++ w.rest ≡ value ++ more → size ≡ length value → IsTypedAt types column value → ⊥
   right_value column size bytes front at seen value more w same sizes typed =
       let values = parts_same w.value value w.rest more (w.sized ∙ sizes) same in
       w.wrong (subst (IsTypedAt types column) (sym values.0) typed)
@@ -265,13 +281,15 @@ module _ (types : List ColumnType) (key : Bytes) (part : Partition) (of : IsBody
       let found = at_key front w.left size (sym w.is ∙ is) stands in
       enough size bytes front key (part_bytes part) w found.1 found.0
   no_other_length bytes is (no_deletion front stands w) =
-      enough 8 bytes front (to_be_bytes w64 part.deleted) (to_be_bytes w16 (length (cells_of part)) ++ flat_map cell_bytes (cells_of part)) w (at_deletion front w.left (sym w.is ∙ is) stands ∙ part_parts part) refl
+      enough 8 bytes front (to_be_bytes w64 part.deleted) (to_be_bytes w16 (length (cells_of part)) ++ flat_map cell_bytes (cells_of part)) w
+      (at_deletion front w.left (sym w.is ∙ is) stands ∙ part_parts part) refl
   no_other_length bytes is (no_count front deleted stands w) =
       let found = at_count front w.left deleted (sym w.is ∙ is) stands in
       enough 2 bytes front (to_be_bytes w16 (length (cells_of part))) (flat_map cell_bytes (cells_of part)) w found.1 refl
   no_other_length bytes is (no_column front deleted cells stands w) =
       let found = at_cell front w.left deleted cells (sym w.is ∙ is) stands in
-      enough 2 bytes front (to_be_bytes w16 found.0.0) (to_be_bytes w64 found.0.1.time ++ (value_bytes found.0.1.value ++ flat_map cell_bytes found.1)) w (found.6 ∙ cell_apart found.0 (flat_map cell_bytes found.1)) refl
+      enough 2 bytes front (to_be_bytes w16 found.0.0) (to_be_bytes w64 found.0.1.time ++
+      (value_bytes found.0.1.value ++ flat_map cell_bytes found.1)) w (found.6 ∙ cell_apart found.0 (flat_map cell_bytes found.1)) refl
   no_other_length bytes is (no_time front deleted column stands w) =
       let found = at_time front w.left deleted column (sym w.is ∙ is) stands in
       enough 8 bytes front (to_be_bytes w64 found.0.1.time) (value_bytes found.0.1.value ++ found.1) w found.4 refl

@@ -1,4 +1,4 @@
--- What a merge holds: of each column the newest cell of the two partitions, unless the greater deletion shadows it. Merges
+-- What a merge holds: of each column the newest cell of the two partitions, unless the later deletion shadows it. Merges
 -- of the same partitions are equal, whatever their order and grouping.
 use Rattle.std.specs.Prelude.{◌≡◌, ℕ, ◌≤◌, Bool, true, false, cond, ◌||◌, nat_le, max, if◌then◌else◌, ◌⊎◌, List, [], ◌∷◌, ◌++◌, Option, None, Some, is_some}
 use Rattle.std.specs.List.{list_any}
@@ -17,16 +17,19 @@ use Rattle.sasi_cells.specs.Laws.Newest.{newest_of_itself, newest_of_associates,
 -- ---- look-ups
 
 -- a cell in front, looked up at its own column and at another
-find_here : (c : ℕ) (x : Option Cell) (rest : List (ℕ × Cell)) (m : Option Cell) → x ≡ m → (m ≡ None → map_.find nat_cmp c rest ≡ m) → map_.find nat_cmp c (with_cell c x rest) ≡ m
+find_here : (c : ℕ) (x : Option Cell) (rest : List (ℕ × Cell)) (m : Option Cell) → x ≡ m → (m ≡ None → map_.find nat_cmp c rest ≡ m)
+    → map_.find nat_cmp c (with_cell c x rest) ≡ m
 find_here c None rest m e left = left (sym e)
 find_here c (Some cell) rest m e left = ap (λ r. cond (is_eq r) (Some cell) (map_.find nat_cmp c rest)) (tied_itself nat_cmp_total c) ∙ e
 
-find_there : (c column : ℕ) (x : Option Cell) (rest : List (ℕ × Cell)) → eq_by_cmp nat_cmp c column ≡ false → map_.find nat_cmp c (with_cell column x rest) ≡ map_.find nat_cmp c rest
+find_there : (c column : ℕ) (x : Option Cell) (rest : List (ℕ × Cell)) → eq_by_cmp nat_cmp c column ≡ false
+    → map_.find nat_cmp c (with_cell column x rest) ≡ map_.find nat_cmp c rest
 find_there c column None rest e = refl
 find_there c column (Some cell) rest e = ap (λ b. cond b (Some cell) (map_.find nat_cmp c rest)) e
 
 -- the merged cells of some columns, looked up at one of them, or at one where there is none
-find_merged : (d : ℕ) (p q : Partition) (c : ℕ) (columns : List ℕ) (m : Option Cell) → merged_cell d p q c ≡ m → (list_any (eq_by_cmp nat_cmp c) columns ≡ false → m ≡ None)
+find_merged : (d : ℕ) (p q : Partition) (c : ℕ) (columns : List ℕ) (m : Option Cell) → merged_cell d p q c ≡ m
+    → (list_any (eq_by_cmp nat_cmp c) columns ≡ false → m ≡ None)
     → map_.find nat_cmp c (merged_cells d p q columns) ≡ m
 find_merged d p q c [] m e absent = sym (absent refl)
 find_merged d p q c (column ∷ columns) m e absent =
@@ -55,7 +58,8 @@ right_false true b e = cc
 right_false false b e = e
 
 -- at a column that neither has, a merge has none
-merged_none : (d : ℕ) (p q : Partition) (c : ℕ) → list_any (eq_by_cmp nat_cmp c) (map_.keys p.cells ++ map_.keys q.cells) ≡ false → merged_cell d p q c ≡ None
+merged_none : (d : ℕ) (p q : Partition) (c : ℕ) → list_any (eq_by_cmp nat_cmp c) (map_.keys p.cells ++ map_.keys q.cells) ≡ false
+    → merged_cell d p q c ≡ None
 merged_none d p q c none =
     let either = sym (list_any-append (eq_by_cmp nat_cmp c) (map_.keys p.cells) (map_.keys q.cells)) ∙ none in
     ap (λ x. unshadowed d (newest_of x (map_.get q.cells c))) (get_absent p.cells c (left_false _ _ either))
@@ -79,7 +83,8 @@ same_partition p q same alike =
 
 -- ---- laws
 
-shadowed_once : (t : Bool) (cell : Cell) (d : ℕ) → nat_le cell.time d ≡ t → unshadowed d (if t then None else Some cell) ≡ (if t then None else Some cell)
+shadowed_once : (t : Bool) (cell : Cell) (d : ℕ) → nat_le cell.time d ≡ t
+    → unshadowed d (if t then None else Some cell) ≡ (if t then None else Some cell)
 shadowed_once true cell d e = refl
 shadowed_once false cell d e = ap (λ b. if b then None else Some cell) e
 
@@ -91,7 +96,8 @@ unshadowed_again d (Some cell) = shadowed_once _ cell d refl
 pub merge_is_normal : (p q : Partition) → IsNormal (merge p q)
 merge_is_normal p q c =
     let d = max p.deleted q.deleted in
-    ap (λ e. unshadowed e (map_.get (merge p q).cells c)) (deleted_merge p q) ∙ ap (unshadowed d) (get_merge p q c) ∙ unshadowed_again d (newest_of (map_.get p.cells c) (map_.get q.cells c)) ∙ sym (get_merge p q c)
+    ap (λ e. unshadowed e (map_.get (merge p q).cells c)) (deleted_merge p q) ∙ ap (unshadowed d) (get_merge p q c)
+    ∙ unshadowed_again d (newest_of (map_.get p.cells c) (map_.get q.cells c)) ∙ sym (get_merge p q c)
 
 -- a partition merged with itself
 pub merge_with_itself : (p : Partition) → IsNormal p → merge p p ≡ p
@@ -153,7 +159,8 @@ shadowed_behind d e x (Some c) h =
     ] refl
 
 -- a column of two merges, the first two first
-merged_left : (p q r : Partition) (c : ℕ) → map_.get (merge (merge p q) r).cells c ≡ unshadowed (max (max p.deleted q.deleted) r.deleted) (newest_of (newest_of (map_.get p.cells c) (map_.get q.cells c)) (map_.get r.cells c))
+merged_left : (p q r : Partition) (c : ℕ)
+    → map_.get (merge (merge p q) r).cells c ≡ unshadowed (max (max p.deleted q.deleted) r.deleted) (newest_of (newest_of (map_.get p.cells c) (map_.get q.cells c)) (map_.get r.cells c))
 merged_left p q r c =
     let d = max p.deleted q.deleted in
     get_merge (merge p q) r c
@@ -162,7 +169,8 @@ merged_left p q r c =
     ∙ shadowed_before d (max d r.deleted) (newest_of (map_.get p.cells c) (map_.get q.cells c)) (map_.get r.cells c) (omega arith)
 
 -- and the last two first
-merged_right : (p q r : Partition) (c : ℕ) → map_.get (merge p (merge q r)).cells c ≡ unshadowed (max p.deleted (max q.deleted r.deleted)) (newest_of (map_.get p.cells c) (newest_of (map_.get q.cells c) (map_.get r.cells c)))
+merged_right : (p q r : Partition) (c : ℕ)
+    → map_.get (merge p (merge q r)).cells c ≡ unshadowed (max p.deleted (max q.deleted r.deleted)) (newest_of (map_.get p.cells c) (newest_of (map_.get q.cells c) (map_.get r.cells c)))
 merged_right p q r c =
     let d = max q.deleted r.deleted in
     get_merge p (merge q r) c

@@ -132,11 +132,12 @@ time_of_either : (t : Bool) (a b : Cell) → a.time ≡ b.time → (if t then b 
 time_of_either true a b e = omega arith
 time_of_either false a b e = omega arith
 
-time_by : (r : Ordering) (a b : Cell) → MatchOrdering r (a.time < b.time) (a.time ≡ b.time) (b.time < a.time) → (if is_lt (ordering_then r (value_cmp a.value b.value)) then b else a).time ≡ max a.time b.time
+time_by : (r : Ordering) (a b : Cell) → MatchOrdering r (a.time < b.time) (a.time ≡ b.time) (b.time < a.time)
+    → (if is_lt (ordering_then r (value_cmp a.value b.value)) then b else a).time ≡ max a.time b.time
 time_by Less a b h = omega arith
 time_by Equal a b h = time_of_either (is_lt (value_cmp a.value b.value)) a b h
 time_by Greater a b h = omega arith
 
--- the newest of two has the greater time
+-- the newest of two has the larger timestamp
 pub newest_time : (a b : Cell) → (newest a b).time ≡ max a.time b.time
 newest_time a b = time_by (nat_cmp a.time b.time) a b (ranked a.time b.time _ refl)

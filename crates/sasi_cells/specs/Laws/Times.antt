@@ -1,4 +1,4 @@
--- The greatest time of a merge is the greater of the two.
+-- The maximum timestamp of a merge is the larger one of the two partitions'.
 use Rattle.std.specs.Prelude.{◌≡◌, ℕ, ◌≤◌, true, false, cond, nat_le, if◌then◌else◌, max, T, List, [], ◌∷◌, map, Option, None, Some, ◌⊎◌}
 use Rattle.std.specs.Ordering.{nat_cmp, eq_by_cmp}
 use Rattle.std.specs.FinMap as map_
@@ -21,16 +21,17 @@ found_time k (e ∷ es) cell found =
       | false ↦ λ is. omega (arith, found_time k es cell is)
     ] found
 
-times_below : (t : ℕ) (es : List (ℕ × Cell)) → T (map_.is_sorted nat_cmp es) → ((k : ℕ) (cell : Cell) → map_.find nat_cmp k es ≡ Some cell → cell.time ≤ t) → times es ≤ t
+times_below : (t : ℕ) (es : List (ℕ × Cell)) → T (map_.is_sorted nat_cmp es)
+    → ((k : ℕ) (cell : Cell) → map_.find nat_cmp k es ≡ Some cell → cell.time ≤ t) → times es ≤ t
 times_below t [] sorted all = omega arith
 times_below t (e ∷ es) sorted all =
     omega (arith, all e.0 e.1 (find_first e es), times_below t es (second _ _ sorted) (λ k cell found. all k cell (find_behind e es k cell (first _ _ sorted) found)))
 
--- no cell is newer than the greatest time
+-- no cell is newer than the maximum timestamp
 pub get_time : (m : Cells) (k : ℕ) (cell : Cell) → map_.get m k ≡ Some cell → cell.time ≤ greatest_time (map_.values m)
 get_time m k cell found = found_time k (map_.entries m) cell (sym (map_.get-entries m k) ∙ found)
 
--- nor is the greatest time later than every cell
+-- and a bound of all cells bounds the maximum timestamp
 pub values_below : (t : ℕ) (m : Cells) → ((k : ℕ) (cell : Cell) → map_.get m k ≡ Some cell → cell.time ≤ t) → greatest_time (map_.values m) ≤ t
 values_below t m all = times_below t (map_.entries m) (map_.entries_sorted m) (λ k cell found. all k cell (map_.get-entries m k ∙ found))
 
@@ -52,26 +53,31 @@ shown_time d c cell t is h =
     ] is
 
 -- what is merged of two columns is no newer than both
-merged_time : (d : ℕ) (x y : Option Cell) (cell : Cell) (t : ℕ) → ((a : Cell) → x ≡ Some a → a.time ≤ t) → ((b : Cell) → y ≡ Some b → b.time ≤ t) → unshadowed d (newest_of x y) ≡ Some cell → cell.time ≤ t
+merged_time : (d : ℕ) (x y : Option Cell) (cell : Cell) (t : ℕ) → ((a : Cell) → x ≡ Some a → a.time ≤ t) → ((b : Cell) → y ≡ Some b → b.time ≤ t)
+    → unshadowed d (newest_of x y) ≡ Some cell → cell.time ≤ t
 merged_time d None None cell t first second is = cc
 merged_time d None (Some b) cell t first second is = shown_time d b cell t is (second b refl)
 merged_time d (Some a) None cell t first second is = shown_time d a cell t is (first a refl)
-merged_time d (Some a) (Some b) cell t first second is = shown_time d (newest a b) cell t is (omega (arith, newest_time a b, first a refl, second b refl))
+merged_time d (Some a) (Some b) cell t first second is =
+    shown_time d (newest a b) cell t is (omega (arith, newest_time a b, first a refl, second b refl))
 
 -- a cell that isn't shown is no later than the deletion
 cell_time : (d : ℕ) (c : Cell) (t : ℕ) → d ≤ t → ((cell : Cell) → unshadowed d (Some c) ≡ Some cell → cell.time ≤ t) → c.time ≤ t
 cell_time d c t later all = elim (shown_or_shadowed d c) [ inl is ↦ all c is | inr h ↦ omega arith ]
 
 -- each of two merged cells is no later than the deletion or what is merged
-first_time : (d : ℕ) (a : Cell) (y : Option Cell) (t : ℕ) → d ≤ t → ((cell : Cell) → unshadowed d (newest_of (Some a) y) ≡ Some cell → cell.time ≤ t) → a.time ≤ t
+first_time : (d : ℕ) (a : Cell) (y : Option Cell) (t : ℕ) → d ≤ t → ((cell : Cell) → unshadowed d (newest_of (Some a) y) ≡ Some cell → cell.time ≤ t)
+    → a.time ≤ t
 first_time d a None t later all = cell_time d a t later all
 first_time d a (Some b) t later all = omega (arith, cell_time d (newest a b) t later all, newest_time a b)
 
-second_time : (d : ℕ) (x : Option Cell) (b : Cell) (t : ℕ) → d ≤ t → ((cell : Cell) → unshadowed d (newest_of x (Some b)) ≡ Some cell → cell.time ≤ t) → b.time ≤ t
+second_time : (d : ℕ) (x : Option Cell) (b : Cell) (t : ℕ) → d ≤ t → ((cell : Cell) → unshadowed d (newest_of x (Some b)) ≡ Some cell → cell.time ≤ t)
+    → b.time ≤ t
 second_time d None b t later all = cell_time d b t later all
 second_time d (Some a) b t later all = omega (arith, cell_time d (newest a b) t later all, newest_time a b)
 
-cells_below : (p q : Partition) → greatest_time (map_.values (merge p q).cells) ≤ max (greatest_time (map_.values p.cells)) (greatest_time (map_.values q.cells))
+cells_below : (p q : Partition)
+    → greatest_time (map_.values (merge p q).cells) ≤ max (greatest_time (map_.values p.cells)) (greatest_time (map_.values q.cells))
 cells_below p q =
     values_below _ (merge p q).cells (λ k cell found.
     merged_time (max p.deleted q.deleted) (map_.get p.cells k) (map_.get q.cells k) cell _
@@ -91,6 +97,6 @@ second_below p q =
     second_time d (map_.get p.cells k) b _ (omega (arith, deleted_merge p q))
     (λ cell is. omega (arith, get_time (merge p q).cells k cell (get_merge p q k ∙ ap (λ x. unshadowed d (newest_of (map_.get p.cells k) x)) found ∙ is))))
 
--- the greatest time of a merge, whether or not the two are normal
+-- the maximum timestamp of a merge, whether or not the two are normal
 pub greatest_merge : (p q : Partition) → greatest_of (merge p q) ≡ max (greatest_of p) (greatest_of q)
 greatest_merge p q = omega (arith, deleted_merge p q, cells_below p q, first_below p q, second_below p q)

@@ -44,11 +44,13 @@ same_value type u v g h same =
 
 -- ---- cells that tie
 
-same_values : (type : ColumnType) (x y : Option Value) → ((u : Value) → x ≡ Some u → IsOf type u) → ((v : Value) → y ≡ Some v → IsOf type v) → value_cmp x y ≡ Equal → x ≡ y
+same_values : (type : ColumnType) (x y : Option Value) → ((u : Value) → x ≡ Some u → IsOf type u) → ((v : Value) → y ≡ Some v → IsOf type v)
+    → value_cmp x y ≡ Equal → x ≡ y
 same_values type None None g h tie = refl
 same_values type None (Some v) g h tie = cc
 same_values type (Some u) None g h tie = cc
-same_values type (Some u) (Some v) g h tie = ap Some (same_value type u v (g u refl) (h v refl) (map_.slice_cmp-IsAntisymmetric map_.nat_cmp-IsAntisymmetric (stored u) (stored v) tie))
+same_values type (Some u) (Some v) g h tie =
+    ap Some (same_value type u v (g u refl) (h v refl) (map_.slice_cmp-IsAntisymmetric map_.nat_cmp-IsAntisymmetric (stored u) (stored v) tie))
 
 both_equal : (r s : Ordering) → ordering_then r s ≡ Equal → (r ≡ Equal) × (s ≡ Equal)
 both_equal Less s e = cc
@@ -69,7 +71,8 @@ typed_merge_commutes types p q g h = merge_commutes p q (typed_ties types p q g 
 
 -- ---- a merge of such partitions
 
-value_of_newest : (x y : Option Cell) (value : Value) (P : Type 0) → (value_of x ≡ Some value → P) → (value_of y ≡ Some value → P) → value_of (newest_of x y) ≡ Some value → P
+value_of_newest : (x y : Option Cell) (value : Value) (P : Type 0) → (value_of x ≡ Some value → P) → (value_of y ≡ Some value → P)
+    → value_of (newest_of x y) ≡ Some value → P
 value_of_newest None y value P g h is = h is
 value_of_newest (Some a) None value P g h is = g is
 value_of_newest (Some a) (Some b) value P g h is =

@@ -18,5 +18,6 @@ pub returns-then-from-types-clause-fault : goal.returns-then-from-types-clause-f
 returns-then-from-types-clause-fault c deleted cells least before =
     let wrong : ¬ (c.in_ok-column.column < length c.args.types.now) = λ h. omega (arith, h) in
     number_told c.args.types.now (2 ^ 16) (to_be_bytes w16) (λ n. n < length c.args.types.now) c.args.reader.now c.u16.new.self.left c.in_ok-column.column c.place-at.result c.found.result
-    c.found.ensures.rule c.found.ensures.at c.place-at.ensures (c.found.ensures.seen ∙ ap (λ (l : Bytes). take 8 l) c.to_be_bytes-bytes.ensures) c.in_ok-column.ensures.ok.next c.in_ok-column.ensures.fits wrong
+    c.found.ensures.rule c.found.ensures.at c.place-at.ensures (c.found.ensures.seen ∙ ap (λ (l : Bytes). take 8 l) c.to_be_bytes-bytes.ensures)
+    c.in_ok-column.ensures.ok.next c.in_ok-column.ensures.fits wrong
     (λ at seen w. wrong_column c.args.reader.now.done deleted cells before w)

@@ -23,5 +23,6 @@ returns-then-count-gt-CELL_LIMIT-clause-fault c before =
       | then-count-gt-CELL_LIMIT-via-else-count-gt-CELL_LIMIT+then-deleted-eq0 w ↦ omega (arith, is.some w.if-deleted-eq0.true.1, w.if-deleted-eq0.true.0)
     ] in
     number_told c.args.types.now (2 ^ 16) (to_be_bytes w16) (IsCount c.args.deleted) c.args.reader.now c.u16.new.self.left c.in_ok-count.count c.place-at.result c.found.result
-    c.found.ensures.rule c.found.ensures.at c.place-at.ensures (c.found.ensures.seen ∙ ap (λ (l : Bytes). take 8 l) c.to_be_bytes-bytes.ensures) c.in_ok-count.ensures.ok.next c.in_ok-count.ensures.fits wrong
+    c.found.ensures.rule c.found.ensures.at c.place-at.ensures (c.found.ensures.seen ∙ ap (λ (l : Bytes). take 8 l) c.to_be_bytes-bytes.ensures)
+    c.in_ok-count.ensures.ok.next c.in_ok-count.ensures.fits wrong
     (λ at seen w. wrong_count c.args.reader.now.done c.args.deleted before w)

@@ -43,7 +43,9 @@ returns-in_default-clause-fault c =
     let stands = at_key c.args.reader.now r c.in_ok-size.size c.requires c.in_ok-size.ensures.ok c.in_ok-size.ensures.fits some in
     let size : length c.in_ok-bytes.bytes.now ≡ c.in_ok-size.size = omega (arith, c.in_ok-bytes.ensures.count) in
     told_text c.args.types.now (whole c.args.reader.now) c.found-in_default.result.rule c.found-in_default.result.at (seen_bytes c.found-in_default.result.seen) c.found-in_default.ensures.rule
-    (subst (λ (b : Bytes). IsWrongText c.args.types.now b c.found-in_default.result.at (seen_bytes c.found-in_default.result.seen)) (whole_same (to_be_bytes w16 c.in_ok-size.size) c.args.reader.now r c.in_ok-size.ensures.ok)
+    (subst (λ (b : Bytes). IsWrongText c.args.types.now b c.found-in_default.result.at (seen_bytes c.found-in_default.result.seen))
+    (whole_same (to_be_bytes w16 c.in_ok-size.size) c.args.reader.now r c.in_ok-size.ensures.ok)
     (wrong_key r.done c.in_ok-size.size stands
-    (no_value_next c.args.types.now 0 c.in_ok-size.size r c.in_ok-bytes.bytes.now c.bytes.new.self.left (seen_bytes c.found-in_default.result.seen) c.found-in_default.result.at c.in_ok-bytes.ensures.ok.next
+    (no_value_next c.args.types.now 0 c.in_ok-size.size r c.in_ok-bytes.bytes.now c.bytes.new.self.left (seen_bytes c.found-in_default.result.seen)
+    c.found-in_default.result.at c.in_ok-bytes.ensures.ok.next
     (c.found-in_default.ensures.at ∙ sym (ap length stands.is)) size c.found-in_default.ensures.seen c.in_default.ensures)))

@@ -20,5 +20,6 @@ returns-then-size-ne0-clause-fault c before =
     let wrong : ¬ (c.in_ok-size.size ≡ 0) = c.if-size-ne0.true in
     let marker : c.args.column ≡ 0 = c.if-column-eq0.true in
     number_told c.args.types.now (2 ^ 16) (to_be_bytes w16) (λ n. n ≡ 0) c.args.reader.now c.u16.new.self.left c.in_ok-size.size c.place-at.result c.found.result
-    c.found.ensures.rule c.found.ensures.at c.place-at.ensures (c.found.ensures.seen ∙ ap (λ (l : Bytes). take 8 l) c.to_be_bytes-bytes.ensures) c.in_ok-size.ensures.ok.next c.in_ok-size.ensures.fits wrong
+    c.found.ensures.rule c.found.ensures.at c.place-at.ensures (c.found.ensures.seen ∙ ap (λ (l : Bytes). take 8 l) c.to_be_bytes-bytes.ensures)
+    c.in_ok-size.ensures.ok.next c.in_ok-size.ensures.fits wrong
     (λ at seen w. wrong_marker c.args.reader.now.done (subst (IsAtSize c.args.types.now c.args.reader.now.done) marker before) w)

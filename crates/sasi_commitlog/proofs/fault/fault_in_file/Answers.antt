@@ -12,7 +12,8 @@ returns-in-OtherLength-clause-shown c tables shown =
     let other = subst (IsPayloadFault tables c.args.payload.now) c.in-OtherLength.is shown in
     record {
       named = c.damage_at.ensures.file;
-      breaks = wrong_length (c.damage_at.ensures.rule ∙ c.found.ensures.rule) c.damage_at.ensures.at (ap seen_bytes c.damage_at.ensures.seen ∙ c.found.ensures.seen ∙ ap (λ (l : Bytes). take 8 l) c.to_be_bytes-bytes.ensures) other;
+      breaks = wrong_length (c.damage_at.ensures.rule ∙ c.found.ensures.rule) c.damage_at.ensures.at
+          (ap seen_bytes c.damage_at.ensures.seen ∙ c.found.ensures.seen ∙ ap (λ (l : Bytes). take 8 l) c.to_be_bytes-bytes.ensures) other;
     }
 
 pub returns-in-Broken-clause-shown : goal.returns-in-Broken-clause-shown

@@ -32,12 +32,18 @@ returns-in_err-record-clause-changes g c = untouched (g.H.Host.view c.args.host.
 
 pub returns-in_err-append-clause-any_moment : goal.returns-in_err-append-clause-any_moment
 returns-in_err-append-clause-any_moment g c mutations end =
-    let payload : c.in_ok-record.record ≡ payload_of c.args.mutation.now = c.in_ok-record.ensures ∙ c.deref.ensures.value ∙ c.in_ok-put_mutation.ensures ∙ ap (λ (l : Bytes). l ++ payload_of c.args.mutation.now) c.clear.ensures.items in
-    subst (λ (p : Bytes). Changes (Step c.args.gated.now.file (LeftWith (IsBeforeOrAfter c.args.gated.now.file (map payload_of mutations) p))) (g.H.Host.view c.args.host.now) (g.H.Host.view c.append.new.host)) payload
+    let payload : c.in_ok-record.record ≡ payload_of c.args.mutation.now = c.in_ok-record.ensures ∙ c.deref.ensures.value
+    ∙ c.in_ok-put_mutation.ensures ∙ ap (λ (l : Bytes). l ++ payload_of c.args.mutation.now) c.clear.ensures.items in
+    subst (λ (p : Bytes). Changes (Step c.args.gated.now.file
+    (LeftWith (IsBeforeOrAfter c.args.gated.now.file (map payload_of mutations) p))) (g.H.Host.view c.args.host.now)
+    (g.H.Host.view c.append.new.host)) payload
     (c.append.ensures.any_moment (map payload_of mutations) end)
 
 pub returns-clause-any_moment : goal.returns-clause-any_moment
 returns-clause-any_moment g c mutations end =
-    let payload : c.in_ok-record.record ≡ payload_of c.args.mutation.now = c.in_ok-record.ensures ∙ c.deref.ensures.value ∙ c.in_ok-put_mutation.ensures ∙ ap (λ (l : Bytes). l ++ payload_of c.args.mutation.now) c.clear.ensures.items in
-    subst (λ (p : Bytes). Changes (Step c.args.gated.now.file (LeftWith (IsBeforeOrAfter c.args.gated.now.file (map payload_of mutations) p))) (g.H.Host.view c.args.host.now) (g.H.Host.view c.append.new.host)) payload
+    let payload : c.in_ok-record.record ≡ payload_of c.args.mutation.now = c.in_ok-record.ensures ∙ c.deref.ensures.value
+    ∙ c.in_ok-put_mutation.ensures ∙ ap (λ (l : Bytes). l ++ payload_of c.args.mutation.now) c.clear.ensures.items in
+    subst (λ (p : Bytes). Changes (Step c.args.gated.now.file
+    (LeftWith (IsBeforeOrAfter c.args.gated.now.file (map payload_of mutations) p))) (g.H.Host.view c.args.host.now)
+    (g.H.Host.view c.append.new.host)) payload
     (c.append.ensures.any_moment (map payload_of mutations) end)

@@ -15,7 +15,8 @@ returns-in_err-next-clause-damaged g c =
 pub returns-in_err-next-clause-undamaged : goal.returns-in_err-next-clause-undamaged
 returns-in_err-next-clause-undamaged g c =
     let p = err_from_is_err_and c.from_residual.result c.from_residual.ensures.1 in
-    rw (p.1, p.2) (on_damage _ _ c.in_err-next.field-0.0 (λ damage spares done left told reading. spares (map payload_of done) (map payload_of left) told reading.reading) c.in_err-next.ensures.undamaged)
+    rw (p.1, p.2) (on_damage _ _ c.in_err-next.field-0.0
+    (λ damage spares done left told reading. spares (map payload_of done) (map payload_of left) told reading.reading) c.in_err-next.ensures.undamaged)
 
 pub returns-then-not-branch-clause-gate : goal.returns-then-not-branch-clause-gate
 returns-then-not-branch-clause-gate g c bytes done rest is gate =
@@ -29,29 +30,37 @@ returns-then-not-branch-clause-mutations g c done left told reading =
 pub returns-in-Ok-clause-gate : goal.returns-in-Ok-clause-gate
 returns-in-Ok-clause-gate g c bytes done rest is gate = (
   subst (λ (t : Tables). IsMutationOf t c.in-Ok.mutation) c.as_slice.ensures c.in-Ok.ensures.of_table,
-  opened_gate c.in_ok-next.field-0 c.args.gated.now.file bytes c.next.new.self.at done rest c.next.new.out.items (payload_of c.in-Ok.mutation) c.if-not-branch.false (sym c.deref.ensures.value ∙ c.in-Ok.ensures.bytes)
+  opened_gate c.in_ok-next.field-0 c.args.gated.now.file bytes c.next.new.self.at done rest c.next.new.out.items
+      (payload_of c.in-Ok.mutation) c.if-not-branch.false (sym c.deref.ensures.value ∙ c.in-Ok.ensures.bytes)
       (c.in_ok-next.ensures.gate bytes done rest is gate),
 )
 
 pub returns-in-Ok-clause-mutations : goal.returns-in-Ok-clause-mutations
 returns-in-Ok-clause-mutations g c done left told reading =
-    first_read (g.H.Host.view c.next.new.host) (g.H.Host.view c.args.host.now) c.args.gated.now.file c.args.gated.now.at c.next.new.self.at c.args.tables.now done left c.in_ok-next.field-0 c.next.new.out.items c.in-Ok.mutation c.if-not-branch.false
+    first_read (g.H.Host.view c.next.new.host)
+    (g.H.Host.view c.args.host.now) c.args.gated.now.file c.args.gated.now.at c.next.new.self.at c.args.tables.now done left
+    c.in_ok-next.field-0 c.next.new.out.items c.in-Ok.mutation c.if-not-branch.false
     (sym c.deref.ensures.value ∙ c.in-Ok.ensures.bytes) (subst (λ (t : Tables). IsMutationOf t c.in-Ok.mutation) c.as_slice.ensures c.in-Ok.ensures.of_table) reading
     (c.in_ok-next.ensures.records (map payload_of done) (map payload_of left) told reading.reading)
 
 pub returns-in-Err-clause-damaged : goal.returns-in-Err-clause-damaged
 returns-in-Err-clause-damaged g c =
     let same : c.deref.result.now ≡ c.deref-in-Err.result.now = c.deref.ensures.value ∙ sym c.deref-in-Err.ensures.value in
-    let shown = subst (λ (b : Bytes). IsPayloadFault c.args.tables.now b c.in-Err.fault) same (subst (λ (t : Tables). IsPayloadFault t c.deref.result.now c.in-Err.fault) c.as_slice.ensures c.in-Err.ensures.shown) in
+    let shown = subst (λ (b : Bytes). IsPayloadFault c.args.tables.now b c.in-Err.fault) same
+    (subst (λ (t : Tables). IsPayloadFault t c.deref.result.now c.in-Err.fault) c.as_slice.ensures c.in-Err.ensures.shown) in
     on_damage _ _ c.fault_in_file.result (λ damage record_damage bytes done rest is gate.
-    record_shown c.args.tables.now c.args.gated.now.file c.file-file.result c.args.gated.now.at c.place-gate.result c.next.new.self.at bytes done rest c.next.new.out.items c.deref-in-Err.result.now c.in_ok-next.field-0 damage c.file-file.ensures c.place-gate.ensures.place
+    record_shown c.args.tables.now c.args.gated.now.file c.file-file.result c.args.gated.now.at c.place-gate.result c.next.new.self.at bytes
+    done rest c.next.new.out.items c.deref-in-Err.result.now c.in_ok-next.field-0 damage c.file-file.ensures c.place-gate.ensures.place
     c.deref-in-Err.ensures.value c.if-not-branch.false record_damage (c.in_ok-next.ensures.gate bytes done rest is gate) gate) (c.fault_in_file.ensures.shown c.args.tables.now shown)
 
 pub returns-in-Err-clause-undamaged : goal.returns-in-Err-clause-undamaged
 returns-in-Err-clause-undamaged g c =
     let out = c.next.new.out.items in
-    let shown = subst (λ (b : Bytes). IsPayloadFault c.args.tables.now b c.in-Err.fault) c.deref.ensures.value (subst (λ (t : Tables). IsPayloadFault t c.deref.result.now c.in-Err.fault) c.as_slice.ensures c.in-Err.ensures.shown) in
+    let shown = subst (λ (b : Bytes). IsPayloadFault c.args.tables.now b c.in-Err.fault) c.deref.ensures.value
+    (subst (λ (t : Tables). IsPayloadFault t c.deref.result.now c.in-Err.fault) c.as_slice.ensures c.in-Err.ensures.shown) in
     spared c.fault_in_file.result (λ done left told reading.
-    let first = first_left (g.H.Host.view c.next.new.host) (g.H.Host.view c.args.host.now) c.args.gated.now.file c.args.gated.now.at c.next.new.self.at c.args.tables.now done left c.in_ok-next.field-0 out c.if-not-branch.false reading
+    let first = first_left (g.H.Host.view c.next.new.host)
+    (g.H.Host.view c.args.host.now) c.args.gated.now.file c.args.gated.now.at c.next.new.self.at c.args.tables.now done left
+    c.in_ok-next.field-0 out c.if-not-branch.false reading
     (c.in_ok-next.ensures.records (map payload_of done) (map payload_of left) told reading.reading) in
     c.fault_in_file.ensures.memory (only_memory c.args.tables.now first.0 out c.in-Err.fault first.1 first.2 shown))

@@ -16,13 +16,17 @@ returns-in_err-item c =
 
 pub returns-then-not-has_comma : goal.returns-then-not-has_comma
 returns-then-not-has_comma c =
-    declared_last _ c.items.columns _ c.items.keys _ _ (meant c.in_ok-item.item) _ c.in_ok-item.ensures (no_more _ _ c.has_comma.ensures c.if-not-has_comma.true) c.in_ok-push_item.ensures.columns c.in_ok-push_item.ensures.keys c.items.invariant
+    declared_last _ c.items.columns _ c.items.keys _ _ (meant c.in_ok-item.item) _ c.in_ok-item.ensures
+    (no_more _ _ c.has_comma.ensures c.if-not-has_comma.true) c.in_ok-push_item.ensures.columns c.in_ok-push_item.ensures.keys c.items.invariant
 
 pub items-smaller : goal.items-smaller
 items-smaller c =
     simp length-map at
-    (list_shorter item read_item item_sound (map meaning c.items.left.now) (meant c.in_ok-item.item) (map meaning c.in_ok-item.behind.now) (map meaning c.behind_comma-left.result.now) c.in_ok-item.ensures c.behind_comma-left.ensures)
+    (list_shorter item read_item item_sound (map meaning c.items.left.now) (meant c.in_ok-item.item) (map meaning c.in_ok-item.behind.now)
+    (map meaning c.behind_comma-left.result.now) c.in_ok-item.ensures c.behind_comma-left.ensures)
 
 pub items-preserved : goal.items-preserved
 items-preserved c =
-    declared_more _ c.items.columns _ c.items.keys _ _ (meant c.in_ok-item.item) _ _ c.in_ok-item.ensures c.behind_comma-left.ensures c.in_ok-push_item.ensures.columns c.in_ok-push_item.ensures.keys c.items.invariant
+    declared_more _ c.items.columns _ c.items.keys _ _
+    (meant c.in_ok-item.item) _ _ c.in_ok-item.ensures c.behind_comma-left.ensures c.in_ok-push_item.ensures.columns
+    c.in_ok-push_item.ensures.keys c.items.invariant

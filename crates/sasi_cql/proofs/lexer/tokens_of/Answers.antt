@@ -5,9 +5,12 @@ use Rattle.sasi_cql.proofs.lexer.tokens_of.Goals as goal
 pub tokens-preserved-in-Some-gap : goal.tokens-preserved-in-Some-gap
 tokens-preserved-in-Some-gap c =
     let passes = c.in-Some-gap.ensures.found in
-    rw passes.1 (lexed_gap c.args.text.now c.tokens.found.items c.tokens.left.now c.in-Some.first.now c.in-Some.behind.now c.tokens.unclosed c.gap.new.unclosed (search rules) passes.0 c.gap.ensures.kept c.tokens.invariant)
+    rw passes.1 (lexed_gap c.args.text.now c.tokens.found.items c.tokens.left.now c.in-Some.first.now c.in-Some.behind.now c.tokens.unclosed
+    c.gap.new.unclosed (search rules) passes.0 c.gap.ensures.kept c.tokens.invariant)
 
 pub tokens-preserved : goal.tokens-preserved
 tokens-preserved c =
     rw c.in_ok-push.ensures.items
-    (lexed_token c.args.text.now c.tokens.found.items c.tokens.left.now c.in-Some.first.now c.in-Some.behind.now c.tokens.unclosed c.gap.new.unclosed _ c.first_token.result.1.now (search rules) c.in_default-gap.ensures.found c.gap.ensures.kept c.first_token.ensures c.tokens.invariant)
+    (lexed_token c.args.text.now c.tokens.found.items c.tokens.left.now c.in-Some.first.now c.in-Some.behind.now c.tokens.unclosed
+    c.gap.new.unclosed _ c.first_token.result.1.now
+    (search rules) c.in_default-gap.ensures.found c.gap.ensures.kept c.first_token.ensures c.tokens.invariant)

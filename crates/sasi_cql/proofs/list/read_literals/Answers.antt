@@ -11,8 +11,12 @@ returns-in_err-literal c =
 
 pub returns-then-not-has_comma : goal.returns-then-not-has_comma
 returns-then-not-has_comma c =
-    rw c.in_ok-push.ensures.ok (list_last literal read_literal (one_sound literal_of) _ c.literals.literals _ c.in_ok-literal.literal _ c.in_ok-literal.ensures (no_more _ _ c.has_comma.ensures c.if-not-has_comma.true) c.literals.invariant)
+    rw c.in_ok-push.ensures.ok (list_last literal read_literal
+    (one_sound literal_of) _ c.literals.literals _ c.in_ok-literal.literal _ c.in_ok-literal.ensures
+    (no_more _ _ c.has_comma.ensures c.if-not-has_comma.true) c.literals.invariant)
 
 pub literals-preserved : goal.literals-preserved
 literals-preserved c =
-    rw c.in_ok-push.ensures.ok (list_more literal read_literal (one_sound literal_of) _ c.literals.literals _ c.in_ok-literal.literal _ _ c.in_ok-literal.ensures c.behind_comma-left.ensures c.literals.invariant)
+    rw c.in_ok-push.ensures.ok (list_more literal read_literal
+    (one_sound literal_of) _ c.literals.literals _ c.in_ok-literal.literal _ _ c.in_ok-literal.ensures c.behind_comma-left.ensures
+    c.literals.invariant)

@@ -11,7 +11,8 @@ returns-in_err-name c =
 
 pub returns-then-not-has_comma : goal.returns-then-not-has_comma
 returns-then-not-has_comma c =
-    rw c.in_ok-push.ensures.ok (list_last name read_name (one_sound name_of) _ c.names.names _ c.in_ok-name.name _ c.in_ok-name.ensures (no_more _ _ c.has_comma.ensures c.if-not-has_comma.true) c.names.invariant)
+    rw c.in_ok-push.ensures.ok (list_last name read_name (one_sound name_of) _ c.names.names _ c.in_ok-name.name _ c.in_ok-name.ensures
+    (no_more _ _ c.has_comma.ensures c.if-not-has_comma.true) c.names.invariant)
 
 pub names-preserved : goal.names-preserved
 names-preserved c =

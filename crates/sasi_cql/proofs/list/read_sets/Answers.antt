@@ -11,8 +11,10 @@ returns-in_err-column c =
 
 pub returns-then-not-has_comma : goal.returns-then-not-has_comma
 returns-then-not-has_comma c =
-    rw c.in_ok-push.ensures.ok (list_last equation read_equation equation_sound _ c.sets.sets _ (c.in_ok-column.column, c.in_ok-column.value) _ c.in_ok-column.ensures (no_more _ _ c.has_comma.ensures c.if-not-has_comma.true) c.sets.invariant)
+    rw c.in_ok-push.ensures.ok (list_last equation read_equation equation_sound _ c.sets.sets _
+    (c.in_ok-column.column, c.in_ok-column.value) _ c.in_ok-column.ensures (no_more _ _ c.has_comma.ensures c.if-not-has_comma.true) c.sets.invariant)
 
 pub sets-preserved : goal.sets-preserved
 sets-preserved c =
-    rw c.in_ok-push.ensures.ok (list_more equation read_equation equation_sound _ c.sets.sets _ (c.in_ok-column.column, c.in_ok-column.value) _ _ c.in_ok-column.ensures c.behind_comma-left.ensures c.sets.invariant)
+    rw c.in_ok-push.ensures.ok (list_more equation read_equation equation_sound _ c.sets.sets _
+    (c.in_ok-column.column, c.in_ok-column.value) _ _ c.in_ok-column.ensures c.behind_comma-left.ensures c.sets.invariant)

@@ -1,8 +1,7 @@
 use Rattle.std.proofs.Common.{◌≡◌, ◌⊎◌, ◌+◌, ◌*◌, ◌≤◌, ℕ, length}
 use Rattle.sasi_types.specs.declared.partitioner.Partitioner.{Partitioner}
-use Rattle.sasi_host.specs.declared.name.FileName.{FileName}
 use Rattle.sasi_host.specs.View.{IsThere}
-use Rattle.sasi_host.specs.Disk.{Changes, Same}
+use Rattle.sasi_host.specs.PageReading.{HasRead}
 use Rattle.sasi_host.specs.Held.{IsHeld}
 use Rattle.sasi_tokentree.specs.Heights.{height}
 use Rattle.sasi_tokentree.specs.Walks.{GivesEntry, IsNear}
@@ -19,9 +18,7 @@ invariant-loop-turn g l =
     let pairs = l.opened.tree.pairs in
     record {
       there : IsThere (view l.host) l.opened.file;
-      agrees : g.P.PageReader.agrees l.pages (view l.host).files;
-      covers : (name : FileName) → g.P.PageReader.covers l.pages name → g.P.PageReader.covers l.fn.pages name ⊎ (name ≡ l.opened.file);
-      changes : Changes Same (view l.fn.host) (view l.host);
+      read : HasRead (g.P.PageReader.agrees l.pages) (g.P.PageReader.covers l.fn.pages) (g.P.PageReader.covers l.pages) (view l.fn.host) (view l.host) l.opened.file;
       passes : (most : ℕ) → pairs ≤ most → Passes (2 * height most pairs + 2 + 2051 * l._turn) (view l.fn.host) (view l.host);
       file : l.tree.held.file ≡ l.opened.file;
       named : l.held.file ≡ l.opened.file;
@@ -31,5 +28,6 @@ invariant-loop-turn g l =
       tree : l.tree.tree ≡ l.opened.tree;
       entry : GivesEntry (view l.fn.host) l.opened.file l.opened.tree l.tree.passed l.next;
       searches : (most : ℕ) (partitioner : Partitioner) (content : Content) → pairs ≤ most → IsOpenOn (view l.fn.host) l.opened partitioner content → HaveTokens partitioner content
-          → Searches partitioner content l.token l.key l._turn l.tree.passed l.next (view l.host).reads ((view l.fn.host).reads + (2 * height most pairs + 2 + token_cost partitioner l.token (length header) content));
+          → Searches partitioner content l.token l.key l._turn l.tree.passed l.next (view l.host).reads
+          ((view l.fn.host).reads + (2 * height most pairs + 2 + token_cost partitioner l.token (length header) content));
     }

@@ -13,7 +13,8 @@ returns-in_err-check_part-clause-differs c =
 pub returns-in_err-check_part-2-clause-differs : goal.returns-in_err-check_part-2-clause-differs
 returns-in_err-check_part-2-clause-differs c =
     let p = err_from_is_err_and c.from_residual-in_err-check_part-2.result c.from_residual-in_err-check_part-2.ensures.1 in
-    rw p.1 (λ is. c.in_err-check_part-2.ensures.differs (subst (λ (w : List ℕ). take (length w) (drop 8 c.args.bytes.now) ≡ w) (sym c.to_be_bytes.ensures) (ap (λ (l : List ℕ). take 4 (drop 8 l)) is ∙ header_version)))
+    rw p.1 (λ is. c.in_err-check_part-2.ensures.differs (subst (λ (w : List ℕ). take (length w) (drop 8 c.args.bytes.now) ≡ w)
+    (sym c.to_be_bytes.ensures) (ap (λ (l : List ℕ). take 4 (drop 8 l)) is ∙ header_version)))
 
 pub returns-in_err-check_part-3-clause-differs : goal.returns-in_err-check_part-3-clause-differs
 returns-in_err-check_part-3-clause-differs c =
@@ -28,7 +29,9 @@ returns-in_err-check_part-clause-seen c whole has =
 pub returns-in_err-check_part-2-clause-seen : goal.returns-in_err-check_part-2-clause-seen
 returns-in_err-check_part-2-clause-seen c whole has =
     let p = err_from_is_err_and c.from_residual-in_err-check_part-2.result c.from_residual-in_err-check_part-2.ensures.1 in
-    rw (p.1, p.2) (version_shown c.args.file whole c.args.bytes.now c.in_err-check_part-2.field-0.0 has (subst (λ (w : List ℕ). IsOther c.args.file 0 c.args.bytes.now 8 w Version c.in_err-check_part-2.field-0.0) c.to_be_bytes.ensures c.in_err-check_part-2.ensures.seen))
+    rw (p.1, p.2) (version_shown c.args.file whole c.args.bytes.now c.in_err-check_part-2.field-0.0 has
+    (subst (λ (w : List ℕ). IsOther c.args.file 0 c.args.bytes.now 8 w Version c.in_err-check_part-2.field-0.0) c.to_be_bytes.ensures
+    c.in_err-check_part-2.ensures.seen))
 
 pub returns-in_err-check_part-3-clause-seen : goal.returns-in_err-check_part-3-clause-seen
 returns-in_err-check_part-3-clause-seen c whole has =
@@ -37,4 +40,6 @@ returns-in_err-check_part-3-clause-seen c whole has =
 
 pub returns-clause-ok : goal.returns-clause-ok
 returns-clause-ok c =
-    header_is c.args.bytes.now c.requires c.in_ok-check_part.ensures.ok (subst (λ (w : List ℕ). take (length w) (drop 8 c.args.bytes.now) ≡ w) c.to_be_bytes.ensures c.in_ok-check_part-2.ensures.ok) c.in_ok-check_part-3.ensures.ok
+    header_is c.args.bytes.now c.requires c.in_ok-check_part.ensures.ok
+    (subst (λ (w : List ℕ). take (length w) (drop 8 c.args.bytes.now) ≡ w) c.to_be_bytes.ensures c.in_ok-check_part-2.ensures.ok)
+    c.in_ok-check_part-3.ensures.ok

@@ -4,7 +4,8 @@ use Rattle.sasi_dataread.proofs.frame.footer_in.Goals as goal
 
 pub returns-then-is_wrong_end-clause-seen : goal.returns-then-is_wrong_end-clause-seen
 returns-then-is_wrong_end-clause-seen c whole has sized =
-    end_field_shown c.args.file whole c.args.bytes.now c.args.at c.number_in-end.result c.found.result c.requires.whole sized has c.found.ensures.file c.found.ensures.rule c.found.ensures.at c.found.ensures.seen c.number_in-end.ensures (omega arith)
+    end_field_shown c.args.file whole c.args.bytes.now c.args.at c.number_in-end.result c.found.result c.requires.whole sized has c.found.ensures.file
+    c.found.ensures.rule c.found.ensures.at c.found.ensures.seen c.number_in-end.ensures (omega arith)
     (c.is_wrong_end.ensures.wrong c.if-is_wrong_end.true)
 
 pub returns-then-is_wrong_end-clause-spares : goal.returns-then-is_wrong_end-clause-spares
@@ -14,14 +15,18 @@ returns-then-is_wrong_end-clause-spares c tree latest end is ranges =
 
 pub returns-then-pairs-eq0-clause-seen : goal.returns-then-pairs-eq0-clause-seen
 returns-then-pairs-eq0-clause-seen c whole has sized =
-    count_field_shown c.args.file whole c.args.bytes.now c.args.at c.number_in-pairs.result c.found-then-pairs-eq0.result c.requires.whole sized has c.found-then-pairs-eq0.ensures.file c.found-then-pairs-eq0.ensures.rule c.found-then-pairs-eq0.ensures.at
+    count_field_shown c.args.file whole c.args.bytes.now c.args.at c.number_in-pairs.result c.found-then-pairs-eq0.result c.requires.whole sized has
+    c.found-then-pairs-eq0.ensures.file c.found-then-pairs-eq0.ensures.rule c.found-then-pairs-eq0.ensures.at
     c.found-then-pairs-eq0.ensures.seen c.number_in-pairs.ensures (omega arith)
 
 pub returns-then-pairs-eq0-clause-spares : goal.returns-then-pairs-eq0-clause-spares
 returns-then-pairs-eq0-clause-spares c tree latest end is ranges =
-    let same : c.number_in-pairs.result ≡ tree.pairs = field_same c.args.bytes.now _ 8 c.number_in-pairs.result tree.pairs (omega arith) ranges.pairs c.number_in-pairs.ensures is (footer_pairs tree latest end) in
+    let same : c.number_in-pairs.result ≡ tree.pairs = field_same c.args.bytes.now _ 8 c.number_in-pairs.result tree.pairs (omega arith) ranges.pairs
+    c.number_in-pairs.ensures is (footer_pairs tree latest end) in
     omega (arith, same, ranges.some)
 
 pub returns-clause-ok : goal.returns-clause-ok
 returns-clause-ok c =
-    footer_is c.args.bytes.now (record { root = c.number_in-root.result; pairs = c.number_in-pairs.result }) c.number_in-latest.result c.number_in-end.result c.requires.whole c.number_in-root.ensures c.number_in-pairs.ensures c.number_in-latest.ensures c.number_in-end.ensures c.requires.mark
+    footer_is c.args.bytes.now (record { root = c.number_in-root.result; pairs = c.number_in-pairs.result }) c.number_in-latest.result
+    c.number_in-end.result c.requires.whole c.number_in-root.ensures c.number_in-pairs.ensures c.number_in-latest.ensures c.number_in-end.ensures
+    c.requires.mark

@@ -17,7 +17,8 @@ pub returns-in_err-read_into-clause-damaged : goal.returns-in_err-read_into-clau
 returns-in_err-read_into-clause-damaged g c =
     let p = err_from_is_err_and c.from_residual.result c.from_residual.ensures.1 in
     let file = c.args.held.now.file in
-    rw (p.1, p.2) (shown_as (ShowsEnd (c.args.size - 40 + 40) file) (λ bytes damage. c.args.size ≡ length bytes → ShowsFrame file bytes damage) (g.H.Host.view c.args.host.now) file c.in_err-read_into.field-0.0
+    rw (p.1, p.2) (shown_as (ShowsEnd (c.args.size - 40 + 40) file) (λ bytes damage. c.args.size ≡ length bytes → ShowsFrame file bytes damage)
+    (g.H.Host.view c.args.host.now) file c.in_err-read_into.field-0.0
     (λ bytes damage is ends sized. absurd (omega (arith, ends.short, sized, c.requires.size))) c.in_err-read_into.ensures.damaged)
 
 pub returns-in_err-check_part-clause-damaged : goal.returns-in_err-check_part-clause-damaged
@@ -25,12 +26,16 @@ returns-in_err-check_part-clause-damaged g c =
     let p = err_from_is_err_and c.from_residual-in_err-check_part.result c.from_residual-in_err-check_part.ensures.1 in
     rw (p.1, p.2) (λ bytes is sized.
     subst (λ (n : FileName). ShowsFrame n bytes c.in_err-check_part.field-0.0) c.file-file.ensures
-    (mark_shown c.file-file.result bytes c.read_into.new.out c.args.size c.in_err-check_part.field-0.0 c.requires.size sized (window_at bytes c.read_into.new.out (c.args.size - 40) 40 (c.in_ok-read_into.ensures.ok bytes is) (c.in_ok-read_into.ensures.within bytes is (lit< tt))) c.in_err-check_part.ensures.seen))
+    (mark_shown c.file-file.result bytes c.read_into.new.out c.args.size c.in_err-check_part.field-0.0 c.requires.size sized
+    (window_at bytes c.read_into.new.out (c.args.size - 40) 40 (c.in_ok-read_into.ensures.ok bytes is)
+    (c.in_ok-read_into.ensures.within bytes is (lit< tt))) c.in_err-check_part.ensures.seen))
 
 pub returns-in_err-check_part-clause-undamaged : goal.returns-in_err-check_part-clause-undamaged
 returns-in_err-check_part-clause-undamaged g c =
     let p = err_from_is_err_and c.from_residual-in_err-check_part.result c.from_residual-in_err-check_part.ensures.1 in
-    rw (p.1, p.2) (λ bytes tree latest end is has. c.in_err-check_part.ensures.differs (ap (λ (l : List ℕ). take 8 (drop 32 l)) (footer_read bytes c.read_into.new.out (c.args.size - 40) tree latest end (c.in_ok-read_into.ensures.ok bytes is) has) ∙ footer_mark tree latest end))
+    rw (p.1, p.2) (λ bytes tree latest end is has. c.in_err-check_part.ensures.differs
+    (ap (λ (l : List ℕ). take 8 (drop 32 l)) (footer_read bytes c.read_into.new.out (c.args.size - 40) tree latest end
+    (c.in_ok-read_into.ensures.ok bytes is) has) ∙ footer_mark tree latest end))
 
 pub returns-clause-ok : goal.returns-clause-ok
 returns-clause-ok g c bytes is = window_at bytes c.read_into.new.out (c.args.size - 40) 40 (c.in_ok-read_into.ensures.ok bytes is) (c.in_ok-read_into.ensures.within bytes is (lit< tt))

@@ -12,7 +12,8 @@ pub returns-in_err-read_into-clause-damaged : goal.returns-in_err-read_into-clau
 returns-in_err-read_into-clause-damaged g c =
     let p = err_from_is_err_and c.from_residual.result c.from_residual.ensures.1 in
     let file = c.args.held.now.file in
-    rw (p.1, p.2) (shown_as (ShowsEnd 16 file) (ShowsFrame file) (g.H.Host.view c.args.host.now) file c.in_err-read_into.field-0.0 (λ bytes damage is ends. end_frames 16 file bytes damage (lit≤ tt) ends) c.in_err-read_into.ensures.damaged)
+    rw (p.1, p.2) (shown_as (ShowsEnd 16 file) (ShowsFrame file) (g.H.Host.view c.args.host.now) file c.in_err-read_into.field-0.0
+    (λ bytes damage is ends. end_frames 16 file bytes damage (lit≤ tt) ends) c.in_err-read_into.ensures.damaged)
 
 pub returns-in_err-read_into-clause-undamaged : goal.returns-in_err-read_into-clause-undamaged
 returns-in_err-read_into-clause-undamaged g c =
@@ -33,4 +34,5 @@ returns-in_err-check_header-clause-undamaged g c =
 
 pub returns-clause-ok : goal.returns-clause-ok
 returns-clause-ok g c bytes is =
-    subst (λ (l : List ℕ). HasAt bytes 0 l) c.in_ok-check_header.ensures.ok (window_at bytes c.read_into.new.out 0 16 (c.in_ok-read_into.ensures.ok bytes is) (c.in_ok-read_into.ensures.within bytes is (lit< tt)))
+    subst (λ (l : List ℕ). HasAt bytes 0 l) c.in_ok-check_header.ensures.ok
+    (window_at bytes c.read_into.new.out 0 16 (c.in_ok-read_into.ensures.ok bytes is) (c.in_ok-read_into.ensures.within bytes is (lit< tt)))

@@ -22,12 +22,15 @@ returns-in_err-bytes-clause-undamaged g c =
 pub returns-clause-damaged : goal.returns-clause-damaged
 returns-clause-damaged g c =
     let same : c.deref-in-Err.result.now ≡ c.in_ok-bytes.bytes.items = c.deref-in-Err.ensures.value in
-    fault_shown (g.H.Host.view c.args.host.now) c.args.held.now.file c.args.types.now c.args.end c.args.place c.deref-in-Err.result.now c.fault_in_file.result (λ bytes is. subst (λ (l : Bytes). HasAt bytes c.args.place (sized l)) (sym same) (c.in_ok-bytes.ensures.ok bytes is))
+    fault_shown (g.H.Host.view c.args.host.now) c.args.held.now.file c.args.types.now c.args.end c.args.place c.deref-in-Err.result.now
+    c.fault_in_file.result (λ bytes is. subst (λ (l : Bytes). HasAt bytes c.args.place (sized l)) (sym same) (c.in_ok-bytes.ensures.ok bytes is))
     (λ whole has.
     subst (λ (n : FileName). OnDamage (ShowsPartition c.args.types.now c.args.end c.args.place n whole) c.fault_in_file.result) c.file-file.ensures
-    (c.fault_in_file.ensures.shown c.args.types.now c.args.end whole (subst (λ (l : Bytes). IsFaultOf c.args.types.now l c.in-Err.fault) (c.deref.ensures.value ∙ sym same) c.in-Err.ensures.shown) has))
+    (c.fault_in_file.ensures.shown c.args.types.now c.args.end whole
+    (subst (λ (l : Bytes). IsFaultOf c.args.types.now l c.in-Err.fault) (c.deref.ensures.value ∙ sym same) c.in-Err.ensures.shown) has))
 
 pub returns-clause-undamaged : goal.returns-clause-undamaged
 returns-clause-undamaged g c =
-    fault_spares (g.H.Host.view c.args.host.now) c.args.held.now.file c.args.types.now c.args.end c.args.place c.in_ok-bytes.bytes.items c.in-Err.fault c.fault_in_file.result c.in_ok-bytes.ensures.length.short c.in_ok-bytes.ensures.ok
+    fault_spares (g.H.Host.view c.args.host.now) c.args.held.now.file c.args.types.now c.args.end c.args.place c.in_ok-bytes.bytes.items
+    c.in-Err.fault c.fault_in_file.result c.in_ok-bytes.ensures.length.short c.in_ok-bytes.ensures.ok
     (λ key part of is. c.in-Err.ensures.spares key part of (c.deref.ensures.value ∙ is)) c.fault_in_file.ensures.memory

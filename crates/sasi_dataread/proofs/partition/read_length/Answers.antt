@@ -11,11 +11,13 @@ use Rattle.sasi_dataread.proofs.partition.read_length.Goals as goal
 
 pub returns-then-place-gt-LARGEST_FILE-clause-damaged : goal.returns-then-place-gt-LARGEST_FILE-clause-damaged
 returns-then-place-gt-LARGEST_FILE-clause-damaged g c types =
-    far_shown types (g.H.Host.view c.args.host.now) c.args.held.now.file c.args.end c.args.place c.too_short.result (omega arith) (λ bytes is. (g.met.H.Host.sound c.args.host.now).fits c.args.held.now.file bytes is)
+    far_shown types (g.H.Host.view c.args.host.now) c.args.held.now.file c.args.end c.args.place c.too_short.result (omega arith)
+    (λ bytes is. (g.met.H.Host.sound c.args.host.now).fits c.args.held.now.file bytes is)
     (subst (λ (n : FileName). Shown (g.H.Host.view c.args.host.now) n (TellsSize n) c.too_short.result) c.file-file.ensures c.too_short.ensures.damaged)
 
 pub returns-then-place-gt-LARGEST_FILE-clause-undamaged : goal.returns-then-place-gt-LARGEST_FILE-clause-undamaged
-returns-then-place-gt-LARGEST_FILE-clause-undamaged g c = far_spares (g.H.Host.view c.args.host.now) c.args.held.now.file c.args.end c.args.place c.too_short.result (omega arith) (λ bytes is. (g.met.H.Host.sound c.args.host.now).fits c.args.held.now.file bytes is)
+returns-then-place-gt-LARGEST_FILE-clause-undamaged g c = far_spares (g.H.Host.view c.args.host.now) c.args.held.now.file c.args.end c.args.place
+    c.too_short.result (omega arith) (λ bytes is. (g.met.H.Host.sound c.args.host.now).fits c.args.held.now.file bytes is)
 
 pub returns-in_err-read_into-clause-damaged : goal.returns-in_err-read_into-clause-damaged
 returns-in_err-read_into-clause-damaged g c types =
@@ -46,12 +48,14 @@ returns-then-is_wrong_length-clause-damaged g c types bytes is =
 
 pub returns-then-is_wrong_length-clause-undamaged : goal.returns-then-is_wrong_length-clause-undamaged
 returns-then-is_wrong_length-clause-undamaged g c bytes count is has wanted =
-    let stands : HasAt bytes c.args.place (to_be_bytes w32 c.length_in.result) = window_at bytes (to_be_bytes w32 c.length_in.result) c.args.place 4 (c.length_in.ensures ∙ c.in_ok-read_into.ensures.ok bytes is) (c.in_ok-read_into.ensures.within bytes is (lit< tt)) in
+    let stands : HasAt bytes c.args.place (to_be_bytes w32 c.length_in.result) = window_at bytes (to_be_bytes w32 c.length_in.result) c.args.place 4
+    (c.length_in.ensures ∙ c.in_ok-read_into.ensures.ok bytes is) (c.in_ok-read_into.ensures.within bytes is (lit< tt)) in
     let same : c.length_in.result ≡ count = number_at bytes c.args.place c.length_in.result count (omega arith) (omega (arith, wanted.short)) stands has in
     let over = c.is_wrong_length.ensures.wrong c.if-is_wrong_length.true (omega (arith, same, wanted.some)) (omega (arith, same, wanted.short)) in
     omega (arith, over, same, wanted.within)
 
 pub returns-clause-ok : goal.returns-clause-ok
 returns-clause-ok g c bytes is =
-    let stands : HasAt bytes c.args.place (to_be_bytes w32 c.length_in.result) = window_at bytes (to_be_bytes w32 c.length_in.result) c.args.place 4 (c.length_in.ensures ∙ c.in_ok-read_into.ensures.ok bytes is) (c.in_ok-read_into.ensures.within bytes is (lit< tt)) in
+    let stands : HasAt bytes c.args.place (to_be_bytes w32 c.length_in.result) = window_at bytes (to_be_bytes w32 c.length_in.result) c.args.place 4
+    (c.length_in.ensures ∙ c.in_ok-read_into.ensures.ok bytes is) (c.in_ok-read_into.ensures.within bytes is (lit< tt)) in
     subst (λ (n : ℕ). HasAt bytes c.args.place (to_be_bytes w32 n)) (sym c.from-count.ensures) stands

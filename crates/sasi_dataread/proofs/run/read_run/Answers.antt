@@ -1,5 +1,6 @@
+use Rattle.sasi_host.specs.PageReading.{reads_nothing}
 use Rattle.sasi_host.specs.Moves.{stays}
 use Rattle.sasi_dataread.proofs.run.read_run.Goals as goal
 
-pub returns-in_err-out-clause-changes : goal.returns-in_err-out-clause-changes
-returns-in_err-out-clause-changes g c = stays (g.H.Host.view c.args.host.now)
+pub returns-in_err-out-clause-read : goal.returns-in_err-out-clause-read
+returns-in_err-out-clause-read g c = reads_nothing _ _ _ _ c.requires.read.agrees c.requires.read.held

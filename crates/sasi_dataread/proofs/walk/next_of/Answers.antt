@@ -1,5 +1,6 @@
 use Rattle.std.proofs.Common.{◌≡◌, ◌+◌, refl, IsSome, Option, None, Some, Ok, Err, subst, arith}
 use Rattle.std.proofs.lemmas.Result.{err_from_is_err_and}
+use Rattle.sasi_host.specs.PageReading.{read_of, read_then}
 use Rattle.sasi_types.specs.declared.tree.Pair.{Pair}
 use Rattle.sasi_host.specs.Disk.{Same}
 use Rattle.sasi_host.specs.Held.{held_after}
@@ -16,18 +17,23 @@ use Rattle.sasi_dataread.proofs.walk.next_of.Goals as goal
 pub returns-in_err-next-clause-damaged : goal.returns-in_err-next-clause-damaged
 returns-in_err-next-clause-damaged g c =
     let p = err_from_is_err_and c.from_residual.result c.from_residual.ensures.1 in
-    rw (p.1, p.2) (tree_shown (g.H.Host.view c.args.host.now) c.args.opened.now c.args.tree.now.held.file c.args.tree.now.tree c.in_err-next.field-0.0 c.requires.file c.requires.tree c.in_err-next.ensures.damaged)
+    rw (p.1, p.2) (tree_shown (g.H.Host.view c.args.host.now) c.args.opened.now c.args.tree.now.held.file c.args.tree.now.tree c.in_err-next.field-0.0
+    c.requires.file c.requires.tree c.in_err-next.ensures.damaged)
 
 pub returns-in_err-next-clause-undamaged : goal.returns-in_err-next-clause-undamaged
 returns-in_err-next-clause-undamaged g c =
     let p = err_from_is_err_and c.from_residual.result c.from_residual.ensures.1 in
-    rw (p.1, p.2) (tree_spares (g.H.Host.view c.args.host.now) c.args.opened.now c.args.tree.now.held.file c.args.tree.now.tree c.in_err-next.field-0.0 c.requires.file c.requires.tree (λ bytes is. (g.met.H.Host.sound c.args.host.now).fits c.args.opened.now.file bytes is) c.in_err-next.ensures.undamaged)
+    rw (p.1, p.2) (tree_spares (g.H.Host.view c.args.host.now) c.args.opened.now c.args.tree.now.held.file c.args.tree.now.tree
+    c.in_err-next.field-0.0 c.requires.file c.requires.tree (λ bytes is. (g.met.H.Host.sound c.args.host.now).fits c.args.opened.now.file bytes
+    is) c.in_err-next.ensures.undamaged)
 
 pub returns-in-None-clause-ok : goal.returns-in-None-clause-ok
 returns-in-None-clause-ok g c partitioner content is have =
     let view = g.H.Host.view c.args.host.now in
     let gives = subst (λ (o : Option Pair). GivesNext view c.args.tree.now.held.file c.args.tree.now.tree c.args.tree.now.passed c.next.new.self.passed o) c.in-None.is c.in_ok-next.ensures.ok in
-    let took = next_takes view c.args.opened.now c.args.tree.now.held.file c.args.tree.now.tree c.args.tree.now.passed c.next.new.self.passed None c.requires.file c.requires.tree (λ bytes reads. (g.met.H.Host.sound c.args.host.now).fits c.args.opened.now.file bytes reads) gives partitioner content is have in
+    let took = next_takes view c.args.opened.now c.args.tree.now.held.file c.args.tree.now.tree c.args.tree.now.passed c.next.new.self.passed None
+    c.requires.file c.requires.tree (λ bytes reads. (g.met.H.Host.sound c.args.host.now).fits c.args.opened.now.file bytes reads) gives
+    partitioner content is have in
     (none_left partitioner content c.args.tree.now.passed took.0, took.1)
 
 pub returns-in_err-key-clause-damaged : goal.returns-in_err-key-clause-damaged
@@ -37,7 +43,7 @@ returns-in_err-key-clause-damaged g c =
     let gives = subst (λ (o : Option Pair). GivesEntry (view c.args.host.now) c.args.tree.now.held.file c.args.tree.now.tree c.next.new.self.passed o) c.in-Some.is c.in_ok-next.ensures.stands in
     rw (p.1, p.2) (partition_shown (view c.args.host.now) c.args.opened.now c.next.new.self.passed c.in-Some.pair c.in_err-key.field-0.0
     (entry_of (view c.args.host.now) c.args.opened.now c.args.tree.now.held.file c.args.tree.now.tree c.next.new.self.passed (Some c.in-Some.pair) c.requires.file c.requires.tree gives)
-    (shown_before _ (view c.args.host.now) _ c.args.opened.now.file c.in_err-key.field-0.0 c.next.ensures.changes c.in_err-key.ensures.damaged))
+    (shown_before _ (view c.args.host.now) _ c.args.opened.now.file c.in_err-key.field-0.0 c.next.ensures.read.changes c.in_err-key.ensures.damaged))
 
 pub returns-in_err-key-clause-undamaged : goal.returns-in_err-key-clause-undamaged
 returns-in_err-key-clause-undamaged g c =
@@ -46,52 +52,58 @@ returns-in_err-key-clause-undamaged g c =
     let gives = subst (λ (o : Option Pair). GivesNext view c.args.tree.now.held.file c.args.tree.now.tree c.args.tree.now.passed c.next.new.self.passed o) c.in-Some.is c.in_ok-next.ensures.ok in
     rw (p.1, p.2) (place_spares view _ c.args.opened.now c.args.tree.now.passed c.next.new.self.passed c.in-Some.pair c.in_err-key.field-0.0
     (λ partitioner content is have.
-    next_takes view c.args.opened.now c.args.tree.now.held.file c.args.tree.now.tree c.args.tree.now.passed c.next.new.self.passed (Some c.in-Some.pair) c.requires.file c.requires.tree (λ bytes reads. (g.met.H.Host.sound c.args.host.now).fits c.args.opened.now.file bytes reads) gives partitioner content is have)
-    c.next.ensures.changes c.in_err-key.ensures.undamaged)
-
-pub returns-in_err-key-clause-changes : goal.returns-in_err-key-clause-changes
-returns-in_err-key-clause-changes g c = then_same _ _ _ Same c.next.ensures.changes c.at_held.ensures.changes
-
-pub returns-clause-changes : goal.returns-clause-changes
-returns-clause-changes g c = then_same _ _ _ Same c.next.ensures.changes c.at_held.ensures.changes
+    next_takes view c.args.opened.now c.args.tree.now.held.file c.args.tree.now.tree c.args.tree.now.passed c.next.new.self.passed
+    (Some c.in-Some.pair) c.requires.file c.requires.tree (λ bytes reads. (g.met.H.Host.sound c.args.host.now).fits c.args.opened.now.file bytes
+    reads) gives partitioner content is have)
+    c.next.ensures.read.changes c.in_err-key.ensures.undamaged)
 
 pub returns-in_err-next-clause-held : goal.returns-in_err-next-clause-held
-returns-in_err-next-clause-held g c = held_after c.args.held.now _ _ c.next.ensures.changes c.requires.held
+returns-in_err-next-clause-held g c = held_after c.args.held.now _ _ c.next.ensures.read.changes c.requires.held
 
 pub returns-in_err-next-clause-causes : goal.returns-in_err-next-clause-causes
 returns-in_err-next-clause-causes g c =
     let p = err_from_is_err_and c.from_residual.result c.from_residual.ensures.1 in
-    rw (p.1, p.2) (causes_handed _ _ _ 2052 c.in_err-next.field-0.0 (omega (arith, entry_pages c.args.tree.now.held.page (pair_place c.args.tree.now.tree c.args.tree.now.passed))) c.in_err-next.ensures.causes)
+    rw (p.1, p.2) (causes_handed _ _ _ 2052 c.in_err-next.field-0.0 (omega
+    (arith, entry_pages c.args.tree.now.held.page (pair_place c.args.tree.now.tree c.args.tree.now.passed))) c.in_err-next.ensures.causes)
 
 pub returns-in-None-clause-held : goal.returns-in-None-clause-held
-returns-in-None-clause-held g c = held_after c.args.held.now _ _ c.next.ensures.changes c.requires.held
+returns-in-None-clause-held g c = held_after c.args.held.now _ _ c.next.ensures.read.changes c.requires.held
 
 pub returns-in-None-clause-causes : goal.returns-in-None-clause-causes
-returns-in-None-clause-causes g c = causes_within _ _ _ 2052 (Ok None) (omega (arith, entry_pages c.args.tree.now.held.page (pair_place c.args.tree.now.tree c.args.tree.now.passed))) (causes_done _ _ _ c.next.result None c.next.ensures.causes)
+returns-in-None-clause-causes g c = causes_within _ _ _ 2052 (Ok None)
+    (omega (arith, entry_pages c.args.tree.now.held.page (pair_place c.args.tree.now.tree c.args.tree.now.passed)))
+    (causes_done _ _ _ c.next.result None c.next.ensures.causes)
 
 pub returns-in-None-clause-reads : goal.returns-in-None-clause-reads
 returns-in-None-clause-reads g c partitioner content is have along =
     let view = g.H.Host.view c.args.host.now in
     let gives = subst (λ (o : Option Pair). GivesNext view c.args.tree.now.held.file c.args.tree.now.tree c.args.tree.now.passed c.next.new.self.passed o) c.in-None.is c.in_ok-next.ensures.ok in
-    let took = next_takes view c.args.opened.now c.args.tree.now.held.file c.args.tree.now.tree c.args.tree.now.passed c.next.new.self.passed None c.requires.file c.requires.tree (λ bytes reads. (g.met.H.Host.sound c.args.host.now).fits c.args.opened.now.file bytes reads) gives partitioner content is have in
+    let took = next_takes view c.args.opened.now c.args.tree.now.held.file c.args.tree.now.tree c.args.tree.now.passed c.next.new.self.passed None
+    c.requires.file c.requires.tree (λ bytes reads. (g.met.H.Host.sound c.args.host.now).fits c.args.opened.now.file bytes reads) gives
+    partitioner content is have in
     let same = subst (λ (o : Option Pair). o ≡ None → c.next.new.self ≡ c.args.tree.now) c.in-None.is c.in_ok-next.ensures.none refl in
     let ended = c.next.ensures.ended (all_pairs c.args.opened.now partitioner content c.args.tree.now.tree c.args.tree.now.passed is.of c.requires.tree took.0) in
     goes_nowhere is.bytes content c.args.opened.now c.args.tree.now c.next.new.self c.args.held.now _ _ same (omega (arith, ended)) along
 
 pub returns-in_err-key-clause-pairs_held : goal.returns-in_err-key-clause-pairs_held
-returns-in_err-key-clause-pairs_held g c = held_after c.next.new.self.held _ _ c.at_held.ensures.changes c.next.ensures.held
+returns-in_err-key-clause-pairs_held g c = held_after c.next.new.self.held _ _ c.at_held.ensures.read.changes c.next.ensures.read.held
 
 pub returns-in_err-key-clause-causes : goal.returns-in_err-key-clause-causes
 returns-in_err-key-clause-causes g c =
     let p = err_from_is_err_and c.from_residual-in_err-key.result c.from_residual-in_err-key.ensures.1 in
-    rw (p.1, p.2) (causes_handed _ _ 2052 2052 c.in_err-key.field-0.0 (omega arith) (causes_on _ _ _ _ 2050 2052 c.next.result (Err c.in_err-key.field-0.0) (omega (arith, entry_pages c.args.tree.now.held.page (pair_place c.args.tree.now.tree c.args.tree.now.passed))) c.next.ensures.causes c.in_err-key.ensures.causes))
+    rw (p.1, p.2) (causes_handed _ _ 2052 2052 c.in_err-key.field-0.0 (omega arith)
+    (causes_on _ _ _ _ 2050 2052 c.next.result (Err c.in_err-key.field-0.0)
+    (omega (arith, entry_pages c.args.tree.now.held.page (pair_place c.args.tree.now.tree c.args.tree.now.passed))) c.next.ensures.causes
+    c.in_err-key.ensures.causes))
 
 pub returns-clause-pairs_held : goal.returns-clause-pairs_held
-returns-clause-pairs_held g c = held_after c.next.new.self.held _ _ c.at_held.ensures.changes c.next.ensures.held
+returns-clause-pairs_held g c = held_after c.next.new.self.held _ _ c.at_held.ensures.read.changes c.next.ensures.read.held
 
 pub returns-clause-causes : goal.returns-clause-causes
 returns-clause-causes g c =
-    causes_done _ _ 2052 c.at_held.result _ (causes_on _ _ _ _ 2050 2052 c.next.result c.at_held.result (omega (arith, entry_pages c.args.tree.now.held.page (pair_place c.args.tree.now.tree c.args.tree.now.passed))) c.next.ensures.causes c.at_held.ensures.causes)
+    causes_done _ _ 2052 c.at_held.result _ (causes_on _ _ _ _ 2050 2052 c.next.result c.at_held.result
+    (omega (arith, entry_pages c.args.tree.now.held.page (pair_place c.args.tree.now.tree c.args.tree.now.passed))) c.next.ensures.causes
+    c.at_held.ensures.causes)
 
 pub returns-clause-reads : goal.returns-clause-reads
 returns-clause-reads g c partitioner content is have along =
@@ -100,15 +112,28 @@ returns-clause-reads g c partitioner content is have along =
     let tree = c.args.tree.now in
     let pair = c.in-Some.pair in
     let gives = subst (λ (o : Option Pair). GivesNext v tree.held.file tree.tree tree.passed c.next.new.self.passed o) c.in-Some.is c.in_ok-next.ensures.ok in
-    let took = next_takes v opened tree.held.file tree.tree tree.passed c.next.new.self.passed (Some pair) c.requires.file c.requires.tree (λ bytes reads. (g.met.H.Host.sound c.args.host.now).fits opened.file bytes reads) gives partitioner content is have in
+    let took = next_takes v opened tree.held.file tree.tree tree.passed c.next.new.self.passed (Some pair) c.requires.file c.requires.tree
+    (λ bytes reads. (g.met.H.Host.sound c.args.host.now).fits opened.file bytes reads) gives partitioner content is have in
     let near = subst (λ (o : Option Pair). IsNear c.next.new.self o) c.in-Some.is c.in_ok-next.ensures.near in
-    walk_goes v (g.H.Host.view c.next.new.host) opened tree c.next.new.self c.args.held.now c.at_held.new.held pair c.in_ok-key.key c.in_ok-key.part partitioner content _ _ _ is c.next.ensures.changes took c.in_ok-key.ensures.ok c.requires.tree c.next.ensures.tree
-    (entry_of v opened tree.held.file tree.tree c.next.new.self.passed (Some pair) c.requires.file c.requires.tree (subst (λ (o : Option Pair). GivesEntry v tree.held.file tree.tree c.next.new.self.passed o) c.in-Some.is c.in_ok-next.ensures.stands)) along
-    c.next.ensures.causes.reads c.at_held.ensures.reads (subst (λ (o : Option Pair). IsSome o → c.next.new.self.passed ≡ tree.passed + 1) c.in-Some.is c.in_ok-next.ensures.some refl) near c.in_ok-key.ensures.page
+    walk_goes v (g.H.Host.view c.next.new.host) opened tree c.next.new.self c.args.held.now c.at_held.new.held pair c.in_ok-key.key c.in_ok-key.part
+    partitioner content _ _ _ is c.next.ensures.read.changes took c.in_ok-key.ensures.ok c.requires.tree c.next.ensures.tree
+    (entry_of v opened tree.held.file tree.tree c.next.new.self.passed (Some pair) c.requires.file c.requires.tree
+    (subst (λ (o : Option Pair). GivesEntry v tree.held.file tree.tree c.next.new.self.passed o) c.in-Some.is c.in_ok-next.ensures.stands)) along
+    c.next.ensures.causes.reads c.at_held.ensures.reads (subst (λ (o : Option Pair). IsSome o → c.next.new.self.passed ≡ tree.passed + 1) c.in-Some.is
+    c.in_ok-next.ensures.some refl) near c.in_ok-key.ensures.page
 
 pub returns-clause-ok : goal.returns-clause-ok
 returns-clause-ok g c partitioner content is have =
     let view = g.H.Host.view c.args.host.now in
     let gives = subst (λ (o : Option Pair). GivesNext view c.args.tree.now.held.file c.args.tree.now.tree c.args.tree.now.passed c.next.new.self.passed o) c.in-Some.is c.in_ok-next.ensures.ok in
-    let took = next_takes view c.args.opened.now c.args.tree.now.held.file c.args.tree.now.tree c.args.tree.now.passed c.next.new.self.passed (Some c.in-Some.pair) c.requires.file c.requires.tree (λ bytes reads. (g.met.H.Host.sound c.args.host.now).fits c.args.opened.now.file bytes reads) gives partitioner content is have in
-    took_partition view _ c.args.opened.now c.args.tree.now.passed c.next.new.self.passed c.in-Some.pair c.in_ok-key.key c.in_ok-key.part partitioner content is c.next.ensures.changes took c.in_ok-key.ensures.ok
+    let took = next_takes view c.args.opened.now c.args.tree.now.held.file c.args.tree.now.tree c.args.tree.now.passed c.next.new.self.passed
+    (Some c.in-Some.pair) c.requires.file c.requires.tree (λ bytes reads. (g.met.H.Host.sound c.args.host.now).fits c.args.opened.now.file bytes
+    reads) gives partitioner content is have in
+    took_partition view _ c.args.opened.now c.args.tree.now.passed c.next.new.self.passed c.in-Some.pair c.in_ok-key.key c.in_ok-key.part partitioner
+    content is c.next.ensures.read.changes took c.in_ok-key.ensures.ok
+
+pub returns-in_err-key-clause-read : goal.returns-in_err-key-clause-read
+returns-in_err-key-clause-read g c = read_then _ _ _ _ _ _ _ _ _ (read_of _ _ _ _ _ _ _ _ c.requires.file c.next.ensures.read) c.at_held.ensures.read
+
+pub returns-clause-read : goal.returns-clause-read
+returns-clause-read g c = read_then _ _ _ _ _ _ _ _ _ (read_of _ _ _ _ _ _ _ _ c.requires.file c.next.ensures.read) c.at_held.ensures.read

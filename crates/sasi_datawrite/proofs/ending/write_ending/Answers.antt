@@ -15,7 +15,8 @@ returns-in_err-bytes-clause-changes g c = touches _ _ c.args.file (InPlace (IsPa
 pub returns-clause-ok : goal.returns-clause-ok
 returns-clause-ok g c =
     on_ok_weaker c.append.result
-    (λ appended. ending_written (g.H.Host.view c.args.host.now) (g.H.Host.view c.write.new.host) (g.H.Host.view c.append.new.host) c.args.file c.args.end c.args.pairs.now c.args.latest c.in_ok-tree.tree c.deref.result.now
+    (λ appended. ending_written (g.H.Host.view c.args.host.now) (g.H.Host.view c.write.new.host) (g.H.Host.view c.append.new.host) c.args.file
+    c.args.end c.args.pairs.now c.args.latest c.in_ok-tree.tree c.deref.result.now
     c.in_ok-tree.ensures.ok c.in_ok-tree.ensures.tree (c.deref.ensures.value ∙ c.in_ok-bytes.ensures) appended)
     c.append.ensures.ok
 

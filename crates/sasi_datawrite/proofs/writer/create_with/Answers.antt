@@ -7,4 +7,5 @@ pub returns-in_err-create-clause-changes : goal.returns-in_err-create-clause-cha
 returns-in_err-create-clause-changes g c = touches _ _ c.args.file MaybeCreated c.create.ensures.changes
 
 pub returns-clause-changes : goal.returns-clause-changes
-returns-clause-changes g c = touches_on _ _ _ c.args.file (touches _ _ c.args.file MaybeCreated c.create.ensures.changes) (touches _ _ c.args.file (InPlace (Torn 0 (length c.args.bytes.now))) c.write.ensures.changes)
+returns-clause-changes g c = touches_on _ _ _ c.args.file (touches _ _ c.args.file MaybeCreated c.create.ensures.changes)
+    (touches _ _ c.args.file (InPlace (Torn 0 (length c.args.bytes.now))) c.write.ensures.changes)

@@ -20,7 +20,8 @@ returns-in_ok-number_of-in-Index-3-clause-spelled c =
     let word = split_parts 45 _ (Some (c.in_ok-word.word, c.in_ok-word.numbers)) c.in_ok-word.ensures.cases (lit< tt) in
     let number = split_parts 45 _ (Some (c.in_ok-number-in-Index.number, c.in_ok-number-in-Index.parts)) c.in_ok-number-in-Index.ensures.cases (lit< tt) in
     let index = split_parts 45 _ (Some (c.in_ok-index-in-Index.index, c.in_ok-index-in-Index.part)) c.in_ok-index-in-Index.ensures.cases (lit< tt) in
-    three_shown _ _ _ _ _ _ _ _ c.in-Index.is word.0 number.0 index.0 (c.in_ok-kind.ensures.spelled) (c.in_ok-number_of-in-Index.ensures.spelled.1) (c.in_ok-number_of-in-Index-2.ensures.spelled.1) (c.in_ok-number_of-in-Index-3.ensures.spelled.1)
+    three_shown _ _ _ _ _ _ _ _ c.in-Index.is word.0 number.0 index.0 (c.in_ok-kind.ensures.spelled) (c.in_ok-number_of-in-Index.ensures.spelled.1)
+    (c.in_ok-number_of-in-Index-2.ensures.spelled.1) (c.in_ok-number_of-in-Index-3.ensures.spelled.1)
 
 three_from_one : (name : FileName) (kind : Kind) → IsThree kind → 0 < name.number → 0 < name.index → 0 < name.part → HasNumbers kind name
 three_from_one name kind (inl e) n i p = subst (λ k. HasNumbers k name) (sym e) (n, i, p)
@@ -38,13 +39,15 @@ returns-in_err-number-in-Index-clause-complete c = λ name has fits is.
 pub returns-in_err-index-in-Index-clause-complete : goal.returns-in_err-index-in-Index-clause-complete
 returns-in_err-index-in-Index-clause-complete c = λ name has fits is.
     let at = word_read name _ c.in_ok-word.word c.in_ok-word.numbers _ is c.in_ok-word.ensures.cases (c.in_ok-kind.ensures.complete) in
-    let front = number_split name.number _ (two_numbers name) (Some (c.in_ok-number-in-Index.number, c.in_ok-number-in-Index.parts)) fits.0 (at.1 ∙ behind_three _ name c.in-Index.is) c.in_ok-number-in-Index.ensures.cases in
+    let front = number_split name.number _ (two_numbers name) (Some (c.in_ok-number-in-Index.number, c.in_ok-number-in-Index.parts)) fits.0
+    (at.1 ∙ behind_three _ name c.in-Index.is) c.in_ok-number-in-Index.ensures.cases in
     absurd (number_split name.index _ (decimal name.part) None fits.1 front.1 c.in_err-index-in-Index.ensures.cases)
 
 pub returns-in_err-number_of-in-Index-clause-complete : goal.returns-in_err-number_of-in-Index-clause-complete
 returns-in_err-number_of-in-Index-clause-complete c = λ name has fits is.
     let at = word_read name _ c.in_ok-word.word c.in_ok-word.numbers _ is c.in_ok-word.ensures.cases (c.in_ok-kind.ensures.complete) in
-    let parts = three_read name _ c.in_ok-word.numbers c.in_ok-number-in-Index.number c.in_ok-number-in-Index.parts c.in_ok-index-in-Index.index c.in_ok-index-in-Index.part fits c.in-Index.is at.1 c.in_ok-number-in-Index.ensures.cases c.in_ok-index-in-Index.ensures.cases in
+    let parts = three_read name _ c.in_ok-word.numbers c.in_ok-number-in-Index.number c.in_ok-number-in-Index.parts c.in_ok-index-in-Index.index
+    c.in_ok-index-in-Index.part fits c.in-Index.is at.1 c.in_ok-number-in-Index.ensures.cases c.in_ok-index-in-Index.ensures.cases in
     let some = three_some name _ at.0 c.in-Index.is has in
     let none = c.in_err-number_of-in-Index.ensures.complete name.number some.0 fits.0 parts.0 in
     absurd cc
@@ -52,7 +55,8 @@ returns-in_err-number_of-in-Index-clause-complete c = λ name has fits is.
 pub returns-in_err-number_of-in-Index-2-clause-complete : goal.returns-in_err-number_of-in-Index-2-clause-complete
 returns-in_err-number_of-in-Index-2-clause-complete c = λ name has fits is.
     let at = word_read name _ c.in_ok-word.word c.in_ok-word.numbers _ is c.in_ok-word.ensures.cases (c.in_ok-kind.ensures.complete) in
-    let parts = three_read name _ c.in_ok-word.numbers c.in_ok-number-in-Index.number c.in_ok-number-in-Index.parts c.in_ok-index-in-Index.index c.in_ok-index-in-Index.part fits c.in-Index.is at.1 c.in_ok-number-in-Index.ensures.cases c.in_ok-index-in-Index.ensures.cases in
+    let parts = three_read name _ c.in_ok-word.numbers c.in_ok-number-in-Index.number c.in_ok-number-in-Index.parts c.in_ok-index-in-Index.index
+    c.in_ok-index-in-Index.part fits c.in-Index.is at.1 c.in_ok-number-in-Index.ensures.cases c.in_ok-index-in-Index.ensures.cases in
     let some = three_some name _ at.0 c.in-Index.is has in
     let none = c.in_err-number_of-in-Index-2.ensures.complete name.index some.1 fits.1 parts.1 in
     absurd cc
@@ -60,7 +64,8 @@ returns-in_err-number_of-in-Index-2-clause-complete c = λ name has fits is.
 pub returns-in_err-number_of-in-Index-3-clause-complete : goal.returns-in_err-number_of-in-Index-3-clause-complete
 returns-in_err-number_of-in-Index-3-clause-complete c = λ name has fits is.
     let at = word_read name _ c.in_ok-word.word c.in_ok-word.numbers _ is c.in_ok-word.ensures.cases (c.in_ok-kind.ensures.complete) in
-    let parts = three_read name _ c.in_ok-word.numbers c.in_ok-number-in-Index.number c.in_ok-number-in-Index.parts c.in_ok-index-in-Index.index c.in_ok-index-in-Index.part fits c.in-Index.is at.1 c.in_ok-number-in-Index.ensures.cases c.in_ok-index-in-Index.ensures.cases in
+    let parts = three_read name _ c.in_ok-word.numbers c.in_ok-number-in-Index.number c.in_ok-number-in-Index.parts c.in_ok-index-in-Index.index
+    c.in_ok-index-in-Index.part fits c.in-Index.is at.1 c.in_ok-number-in-Index.ensures.cases c.in_ok-index-in-Index.ensures.cases in
     let some = three_some name _ at.0 c.in-Index.is has in
     let none = c.in_err-number_of-in-Index-3.ensures.complete name.part some.2 fits.2 parts.2 in
     absurd cc
@@ -68,7 +73,8 @@ returns-in_err-number_of-in-Index-3-clause-complete c = λ name has fits is.
 pub returns-in_ok-number_of-in-Index-3-clause-complete : goal.returns-in_ok-number_of-in-Index-3-clause-complete
 returns-in_ok-number_of-in-Index-3-clause-complete c = λ name has fits is.
     let at = word_read name _ c.in_ok-word.word c.in_ok-word.numbers _ is c.in_ok-word.ensures.cases (c.in_ok-kind.ensures.complete) in
-    let parts = three_read name _ c.in_ok-word.numbers c.in_ok-number-in-Index.number c.in_ok-number-in-Index.parts c.in_ok-index-in-Index.index c.in_ok-index-in-Index.part fits c.in-Index.is at.1 c.in_ok-number-in-Index.ensures.cases c.in_ok-index-in-Index.ensures.cases in
+    let parts = three_read name _ c.in_ok-word.numbers c.in_ok-number-in-Index.number c.in_ok-number-in-Index.parts c.in_ok-index-in-Index.index
+    c.in_ok-index-in-Index.part fits c.in-Index.is at.1 c.in_ok-number-in-Index.ensures.cases c.in_ok-index-in-Index.ensures.cases in
     let some = three_some name _ at.0 c.in-Index.is has in
     let number = c.in_ok-number_of-in-Index.ensures.complete name.number some.0 fits.0 parts.0 in
     let index = c.in_ok-number_of-in-Index-2.ensures.complete name.index some.1 fits.1 parts.1 in

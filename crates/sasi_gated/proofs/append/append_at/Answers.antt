@@ -5,31 +5,38 @@ use Rattle.sasi_gated.proofs.Appends.{framed_length, staging, opening, appended,
 use Rattle.sasi_gated.proofs.append.append_at.Goals as goal
 
 pub returns-in_err-write_behind-clause-changes : goal.returns-in_err-write_behind-clause-changes
-returns-in_err-write_behind-clause-changes g c = touches _ _ c.args.file (InPlace (Torn (c.args.at + 1) (length c.bytes-bytes.result.now))) c.write_behind.ensures.changes
+returns-in_err-write_behind-clause-changes g c =
+    touches _ _ c.args.file (InPlace (Torn (c.args.at + 1) (length c.bytes-bytes.result.now))) c.write_behind.ensures.changes
 
 pub returns-in_err-open_gate-clause-changes : goal.returns-in_err-open_gate-clause-changes
-returns-in_err-open_gate-clause-changes g c = touched _ _ _ c.args.file c.args.at (length c.bytes-bytes.result.now) 1 c.write_behind.ensures.changes c.open_gate.ensures.changes
+returns-in_err-open_gate-clause-changes g c =
+    touched _ _ _ c.args.file c.args.at (length c.bytes-bytes.result.now) 1 c.write_behind.ensures.changes c.open_gate.ensures.changes
 
 pub returns-clause-changes : goal.returns-clause-changes
-returns-clause-changes g c = touched _ _ _ c.args.file c.args.at (length c.bytes-bytes.result.now) 1 c.write_behind.ensures.changes c.open_gate.ensures.changes
+returns-clause-changes g c =
+    touched _ _ _ c.args.file c.args.at (length c.bytes-bytes.result.now) 1 c.write_behind.ensures.changes c.open_gate.ensures.changes
 
 pub returns-in_err-write_behind-clause-any_moment : goal.returns-in_err-write_behind-clause-any_moment
 returns-in_err-write_behind-clause-any_moment g c records end =
-    staging _ _ c.args.file c.args.at records c.args.item.now c.bytes-bytes.result.now (g.met.H.Host.sound c.args.host.now) end c.bytes-bytes.ensures.payload c.bytes-bytes.ensures.whole c.write_behind.ensures.changes
+    staging _ _ c.args.file c.args.at records c.args.item.now c.bytes-bytes.result.now
+    (g.met.H.Host.sound c.args.host.now) end c.bytes-bytes.ensures.payload c.bytes-bytes.ensures.whole c.write_behind.ensures.changes
 
 pub returns-in_err-open_gate-clause-any_moment : goal.returns-in_err-open_gate-clause-any_moment
 returns-in_err-open_gate-clause-any_moment g c records end =
-    opening _ _ c.args.file c.args.at records c.args.item.now c.bytes-bytes.result.now (g.met.H.Host.sound c.args.host.now) end c.bytes-bytes.ensures.payload c.bytes-bytes.ensures.whole c.write_behind.ensures.changes
+    opening _ _ c.args.file c.args.at records c.args.item.now c.bytes-bytes.result.now
+    (g.met.H.Host.sound c.args.host.now) end c.bytes-bytes.ensures.payload c.bytes-bytes.ensures.whole c.write_behind.ensures.changes
     c.in_ok-write_behind.ensures.ok _ (g.met.H.Host.sound c.write_behind.new.host) c.open_gate.ensures.changes
 
 pub returns-clause-any_moment : goal.returns-clause-any_moment
 returns-clause-any_moment g c records end =
-    opening _ _ c.args.file c.args.at records c.args.item.now c.bytes-bytes.result.now (g.met.H.Host.sound c.args.host.now) end c.bytes-bytes.ensures.payload c.bytes-bytes.ensures.whole c.write_behind.ensures.changes
+    opening _ _ c.args.file c.args.at records c.args.item.now c.bytes-bytes.result.now
+    (g.met.H.Host.sound c.args.host.now) end c.bytes-bytes.ensures.payload c.bytes-bytes.ensures.whole c.write_behind.ensures.changes
     c.in_ok-write_behind.ensures.ok _ (g.met.H.Host.sound c.write_behind.new.host) c.open_gate.ensures.changes
 
 pub returns-clause-ok : goal.returns-clause-ok
 returns-clause-ok g c records end =
-    appended _ _ c.args.file c.args.at records c.args.item.now c.bytes-bytes.result.now (g.met.H.Host.sound c.args.host.now) end c.bytes-bytes.ensures.payload c.bytes-bytes.ensures.whole c.write_behind.ensures.changes
+    appended _ _ c.args.file c.args.at records c.args.item.now c.bytes-bytes.result.now
+    (g.met.H.Host.sound c.args.host.now) end c.bytes-bytes.ensures.payload c.bytes-bytes.ensures.whole c.write_behind.ensures.changes
     c.in_ok-write_behind.ensures.ok _ (g.met.H.Host.sound c.write_behind.new.host) c.open_gate.ensures.changes c.in_ok-open_gate.ensures.ok
 
 pub returns-clause-room : goal.returns-clause-room

@@ -8,7 +8,9 @@ pub returns-in_err-read_record-clause-undamaged : goal.returns-in_err-read_recor
 returns-in_err-read_record-clause-undamaged g c =
     let p = err_from_is_err_and c.from_residual.result c.from_residual.ensures.1 in
     let a = g.H.Host.view c.args.host.now in
-    rw (p.1, p.2) (on_damage_weaker _ _ c.in_err-read_record.field-0.0 (λ damage shows done left told reading. undamaged a a c.args.file c.args.at done left (g.met.H.Host.sound c.args.host.now) told reading damage shows) c.in_err-read_record.ensures.damaged)
+    rw (p.1, p.2) (on_damage_weaker _ _ c.in_err-read_record.field-0.0
+    (λ damage shows done left told reading. undamaged a a c.args.file c.args.at done left
+    (g.met.H.Host.sound c.args.host.now) told reading damage shows) c.in_err-read_record.ensures.damaged)
 
 pub returns-then-not-branch-clause-gate : goal.returns-then-not-branch-clause-gate
 returns-then-not-branch-clause-gate g c bytes done rest is gate =
@@ -16,22 +18,26 @@ returns-then-not-branch-clause-gate g c bytes done rest is gate =
 
 pub returns-then-not-branch-clause-records : goal.returns-then-not-branch-clause-records
 returns-then-not-branch-clause-records g c done left told reading =
-    goes_on _ (g.H.Host.view c.read_record.new.host) c.args.file c.args.at done left (g.met.H.Host.sound c.args.host.now) told reading c.read_record.ensures.changes false c.args.at c.read_record.new.out.items
+    goes_on _ (g.H.Host.view c.read_record.new.host) c.args.file c.args.at done left
+    (g.met.H.Host.sound c.args.host.now) told reading c.read_record.ensures.changes false c.args.at c.read_record.new.out.items
     (λ bytes before rest is gate. returns-then-not-branch-clause-gate g c bytes before rest is gate)
 
 pub returns-clause-gate : goal.returns-clause-gate
 returns-clause-gate g c bytes done rest is gate =
-    read_opened c.in_ok-read_record.field-0 c.args.file bytes c.args.at c.len.result done rest c.read_record.new.out.items c.if-not-branch.false (c.in_ok-read_record.ensures.ok bytes done rest is gate) gate (omega arith)
+    read_opened c.in_ok-read_record.field-0 c.args.file bytes c.args.at c.len.result done rest c.read_record.new.out.items c.if-not-branch.false
+    (c.in_ok-read_record.ensures.ok bytes done rest is gate) gate (omega arith)
 
 pub returns-clause-records : goal.returns-clause-records
 returns-clause-records g c done left told reading =
-    goes_on _ (g.H.Host.view c.read_record.new.host) c.args.file c.args.at done left (g.met.H.Host.sound c.args.host.now) told reading c.read_record.ensures.changes true (c.args.at + 5 + c.len.result) c.read_record.new.out.items
+    goes_on _ (g.H.Host.view c.read_record.new.host) c.args.file c.args.at done left
+    (g.met.H.Host.sound c.args.host.now) told reading c.read_record.ensures.changes true (c.args.at + 5 + c.len.result) c.read_record.new.out.items
     (λ bytes before rest is gate. returns-clause-gate g c bytes before rest is gate)
 
 pub returns-then-next-gt-LARGEST_FILE-clause-damaged : goal.returns-then-next-gt-LARGEST_FILE-clause-damaged
 returns-then-next-gt-LARGEST_FILE-clause-damaged g c bytes done rest is gate =
     absurd (not_too_long (g.H.Host.view c.args.host.now) c.args.file bytes (c.args.at + 5 + c.len.result) done rest c.read_record.new.out.items (g.met.H.Host.sound c.args.host.now) is
-    (read_opened c.in_ok-read_record.field-0 c.args.file bytes c.args.at c.len.result done rest c.read_record.new.out.items c.if-not-branch.false (c.in_ok-read_record.ensures.ok bytes done rest is gate) gate (omega arith)) (omega arith))
+    (read_opened c.in_ok-read_record.field-0 c.args.file bytes c.args.at c.len.result done rest c.read_record.new.out.items c.if-not-branch.false
+    (c.in_ok-read_record.ensures.ok bytes done rest is gate) gate (omega arith)) (omega arith))
 
 pub returns-then-next-gt-LARGEST_FILE-clause-undamaged : goal.returns-then-next-gt-LARGEST_FILE-clause-undamaged
 returns-then-next-gt-LARGEST_FILE-clause-undamaged g c done left told reading =

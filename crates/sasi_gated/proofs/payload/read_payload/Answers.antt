@@ -41,9 +41,11 @@ loop-done-preserved g c = record {
   within = λ bytes is fits.
       let now = contents_same _ _ c.args.file c.loop-done.invariant.same ∙ is in
       let so_far = c.loop-done.invariant.within bytes is fits in
-      let further = piece_within bytes c.loop-done.out.items c.read_piece.new.out.items (c.args.at + c.loop-done.done) c.min-want.result (c.in_ok-read_piece.ensures.ok bytes now) c.in_ok-read_piece.ensures.len so_far in
+      let further = piece_within bytes c.loop-done.out.items c.read_piece.new.out.items (c.args.at + c.loop-done.done) c.min-want.result
+      (c.in_ok-read_piece.ensures.ok bytes now) c.in_ok-read_piece.ensures.len so_far in
       omega (arith, further);
   taken = λ bytes is begun.
       let now = contents_same _ _ c.args.file c.loop-done.invariant.same ∙ is in
-      piece_joins bytes c.loop-done.out.items c.read_piece.new.out.items c.args.at c.loop-done.done c.min-want.result (c.loop-done.invariant.taken bytes is begun) (c.in_ok-read_piece.ensures.ok bytes now);
+      piece_joins bytes c.loop-done.out.items c.read_piece.new.out.items c.args.at c.loop-done.done c.min-want.result
+      (c.loop-done.invariant.taken bytes is begun) (c.in_ok-read_piece.ensures.ok bytes now);
 }

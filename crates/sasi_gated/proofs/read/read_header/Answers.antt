@@ -9,4 +9,5 @@ returns-in_err-check_header-clause-damaged g c =
     rw (p.1, p.2) (λ bytes is. header_shows c.args.file bytes _ c.read.new.buf c.in_ok-count.count _ (c.in_ok-count.ensures.ok bytes is) refl c.in_err-check_header.ensures.damaged)
 
 pub returns-clause-ok : goal.returns-clause-ok
-returns-clause-ok g c bytes is = header_read c.args.file bytes _ c.read.new.buf c.in_ok-count.count (c.in_ok-count.ensures.ok bytes is) c.in_ok-check_header.ensures.ok
+returns-clause-ok g c bytes is =
+    header_read c.args.file bytes _ c.read.new.buf c.in_ok-count.count (c.in_ok-count.ensures.ok bytes is) c.in_ok-check_header.ensures.ok

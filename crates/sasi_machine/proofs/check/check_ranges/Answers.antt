@@ -1,34 +1,22 @@
-use Rattle.std.proofs.Common.{[], ◌∷◌, ◌++◌}
 use Rattle.sasi_model.specs.Refusals.{each, number_range}
 use Rattle.sasi_machine.specs.Checks.{where_rules}
-use Rattle.sasi_schema.specs.Answers.{told_before, answers_behind, answers_exit}
 use Rattle.sasi_schema.specs.Defined.{definition}
 use Rattle.sasi_machine.specs.Faults.{told}
+use Rattle.sasi_machine.proofs.CheckSteps.{pair_fails, pair_passes}
 use Rattle.sasi_machine.proofs.check.check_ranges.Goals as goal
 
-pub returns-in_err-check_each-clause-answers : goal.returns-in_err-check_each-clause-answers
-returns-in_err-check_each-clause-answers c =
+pub returns-in_err-check_literals-clause-answers : goal.returns-in_err-check_literals-clause-answers
+returns-in_err-check_literals-clause-answers c =
     let d = definition c.args.table.now in
     let sets = c.args.sets.now in
     let target = c.args.target.now in
-    let result = c.from_residual.result in
-    answers_exit told ((each (number_range d) sets) ++ (number_range d target.column target.value ∷ where_rules d c.args.greatest sets target c.args.time)) result c.in_err-check_each.field-0.0 c.from_residual.ensures.1 (told_before _ (each (number_range d) sets) (number_range d target.column target.value ∷ where_rules d c.args.greatest sets target c.args.time) c.in_err-check_each.ensures)
-
-pub returns-in_err-check-clause-answers : goal.returns-in_err-check-clause-answers
-returns-in_err-check-clause-answers c =
-    let d = definition c.args.table.now in
-    let sets = c.args.sets.now in
-    let target = c.args.target.now in
-    let result = c.from_residual-in_err-check.result in
-    answers_behind told (each (number_range d) sets) (number_range d target.column target.value ∷ where_rules d c.args.greatest sets target c.args.time) result c.in_ok-check_each.ensures
-    (answers_exit told ((number_range d target.column target.value ∷ []) ++ (where_rules d c.args.greatest sets target c.args.time)) result c.in_err-check.field-0.0 c.from_residual-in_err-check.ensures.1 (told_before _ (number_range d target.column target.value ∷ []) (where_rules d c.args.greatest sets target c.args.time) c.in_err-check.ensures))
+    pair_fails told (each (number_range d) sets) (number_range d target.column target.value) (where_rules d c.args.greatest sets target c.args.time) c.from_residual.result
+    c.in_err-check_literals.field-0.0 c.from_residual.ensures.1 c.in_err-check_literals.ensures
 
 pub returns-clause-answers : goal.returns-clause-answers
 returns-clause-answers c =
     let d = definition c.args.table.now in
     let sets = c.args.sets.now in
     let target = c.args.target.now in
-    let result = c.check_where.result in
-    answers_behind told (each (number_range d) sets) (number_range d target.column target.value ∷ where_rules d c.args.greatest sets target c.args.time) result c.in_ok-check_each.ensures
-    (answers_behind told (number_range d target.column target.value ∷ []) (where_rules d c.args.greatest sets target c.args.time) result c.in_ok-check.ensures
-    (c.check_where.ensures.answers))
+    pair_passes told (each (number_range d) sets) (number_range d target.column target.value) (where_rules d c.args.greatest sets target c.args.time) c.check_where.result
+    c.in_ok-check_literals.ensures c.check_where.ensures.answers

@@ -10,8 +10,11 @@ returns-in-Err-clause-reads c =
 
 pub returns-in-Ok-parse-clause-reads : goal.returns-in-Ok-parse-clause-reads
 returns-in-Ok-parse-clause-reads c =
-    read_statement c.args.piece.now c.in-Ok-parse.statement (rw c.as_slice.ensures at (sym c.eq.ensures ∙ c.if-eq.false)) c.in-Ok.ensures.cases.1 (rw c.in-Ok.ensures.cases.0 at c.in-Ok-parse.ensures.statement)
+    read_statement c.args.piece.now c.in-Ok-parse.statement
+    (rw c.as_slice.ensures at (sym c.eq.ensures ∙ c.if-eq.false)) c.in-Ok.ensures.cases.1
+    (rw c.in-Ok.ensures.cases.0 at c.in-Ok-parse.ensures.statement)
 
 pub returns-in-Err-Syntax-clause-reads : goal.returns-in-Err-Syntax-clause-reads
 returns-in-Err-Syntax-clause-reads c =
-    read_nothing c.args.piece.now (rw c.as_slice.ensures at (sym c.eq.ensures ∙ c.if-eq.false)) c.in-Ok.ensures.cases.1 (rw c.in-Ok.ensures.cases.0 at (c.in-Err-Syntax.ensures.syntax (ap Err c.in-Err-Syntax.field-0-is)))
+    read_nothing c.args.piece.now (rw c.as_slice.ensures at (sym c.eq.ensures ∙ c.if-eq.false)) c.in-Ok.ensures.cases.1
+    (rw c.in-Ok.ensures.cases.0 at (c.in-Err-Syntax.ensures.syntax (ap Err c.in-Err-Syntax.field-0-is)))

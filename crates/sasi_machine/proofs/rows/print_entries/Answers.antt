@@ -13,7 +13,8 @@ loop-place-init c =
     let kind = c.args.picked.now.key in
     let columns = c.args.picked.now.columns in
     let begun : c.into_iter-place-iterator.result ≡ c.args.partitions.now.entries = c.into_iter-place-iterator.ensures.into_iter_gives.0 in
-    let counted : length (rows_picked kind columns c.into_iter-place-iterator.result) ≡ length (rows_picked kind columns c.args.partitions.now.entries) = ap (λ es. length (rows_picked kind columns es)) begun in
+    let counted : length (rows_picked kind columns c.into_iter-place-iterator.result) ≡ length
+    (rows_picked kind columns c.args.partitions.now.entries) = ap (λ es. length (rows_picked kind columns es)) begun in
     record {
       printed = ap (λ es. c.args.reply.now ++ flat_map row_line (rows_picked kind columns es)) begun;
       counted = omega arith;

@@ -13,14 +13,16 @@ pub returns-in_err-name-clause-misread : goal.returns-in_err-name-clause-misread
 returns-in_err-name-clause-misread c =
     let p = err_from_is_err_and c.from_residual.result c.from_residual.ensures.1 in
     let i = c.loop-turn.invariant in
-    rw (p.1, p.2) (λ next. column_misread c.loop-turn.columns c.args.count c.args.reader.now c.loop-turn.reader c.in_err-name.field-0.0 next (omega (arith, i.count, c.loop-turn-test.true)) i.names i.apart i.passes
+    rw (p.1, p.2) (λ next. column_misread c.loop-turn.columns c.args.count c.args.reader.now c.loop-turn.reader c.in_err-name.field-0.0 next
+    (omega (arith, i.count, c.loop-turn-test.true)) i.names i.apart i.passes
     (subst (λ (l : List Column). (then' : Bytes → Form) → Misreads (name_form (names_in l) then') c.loop-turn.reader c.in_err-name.field-0.0) c.as_slice.ensures c.in_err-name.ensures.misread))
 
 pub returns-in_err-kind-clause-misread : goal.returns-in_err-kind-clause-misread
 returns-in_err-kind-clause-misread c =
     let p = err_from_is_err_and c.from_residual-in_err-kind.result c.from_residual-in_err-kind.ensures.1 in
     let i = c.loop-turn.invariant in
-    rw (p.1, p.2) (λ next. kind_misread c.loop-turn.columns c.args.count c.in_ok-name.name c.args.reader.now c.loop-turn.reader c.read_column_name.new.reader c.in_err-kind.field-0.0 next (omega (arith, i.count, c.loop-turn-test.true)) i.names i.apart i.passes
+    rw (p.1, p.2) (λ next. kind_misread c.loop-turn.columns c.args.count c.in_ok-name.name c.args.reader.now c.loop-turn.reader
+    c.read_column_name.new.reader c.in_err-kind.field-0.0 next (omega (arith, i.count, c.loop-turn-test.true)) i.names i.apart i.passes
     c.in_ok-name.ensures.name (subst (λ (l : List Column). IsFree (names_in l) c.in_ok-name.name) c.as_slice.ensures c.in_ok-name.ensures.free) c.in_ok-name.ensures.ok c.in_err-kind.ensures.misread)
 
 pub loop-turn-preserved : goal.loop-turn-preserved
@@ -30,5 +32,6 @@ loop-turn-preserved c =
       passes = column_passed c.loop-turn.columns c.push.new.self c.in_ok-name.name c.in_ok-kind.kind _ _ _ _ i.passes c.in_ok-name.ensures.ok c.in_ok-kind.ensures.ok c.in_ok-push.ensures.ok;
       count = omega (arith, i.count, ap length c.in_ok-push.ensures.ok, length-append c.loop-turn.columns ((c.in_ok-name.name, c.in_ok-kind.kind) ∷ []));
       names = column_named c.loop-turn.columns c.push.new.self c.in_ok-name.name c.in_ok-kind.kind i.names c.in_ok-name.ensures.name c.in_ok-push.ensures.ok;
-      apart = column_apart c.loop-turn.columns c.push.new.self c.in_ok-name.name c.in_ok-kind.kind i.apart (subst (λ (l : List Column). IsFree (names_in l) c.in_ok-name.name) c.as_slice.ensures c.in_ok-name.ensures.free) c.in_ok-push.ensures.ok;
+      apart = column_apart c.loop-turn.columns c.push.new.self c.in_ok-name.name c.in_ok-kind.kind i.apart
+          (subst (λ (l : List Column). IsFree (names_in l) c.in_ok-name.name) c.as_slice.ensures c.in_ok-name.ensures.free) c.in_ok-push.ensures.ok;
     }

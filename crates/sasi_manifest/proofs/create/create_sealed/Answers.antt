@@ -38,7 +38,10 @@ returns-in_err-make_seal-clause-any_moment g c made is unsealed =
     let end = subst (λ (f : FileName). IsAtEnd (g.H.Host.view c.create.new.host) f c.in_ok-gated.gated.at (payload ∷ [])) c.manifest.ensures c.in_ok-gated.ensures.ok in
     let items = c.deref.ensures.value ∙ c.in_ok-edits.ensures in
     let is_payload = c.in_ok-first.ensures.record ∙ ap encoded items in
-    made_both (g.H.Host.view c.args.host.now) (g.H.Host.view c.create.new.host) (g.H.Host.view c.make_seal.new.host) c.args.number c.in_ok-gated.gated.at made (payload ∷ []) (g.met.H.Host.sound c.args.host.now) (g.met.H.Host.sound c.create.new.host) unsealed first end (new_builds c.args.listing.now made payload c.requires.apply c.requires.short is_payload is) c.make_seal.ensures.changes
+    made_both (g.H.Host.view c.args.host.now) (g.H.Host.view c.create.new.host)
+    (g.H.Host.view c.make_seal.new.host) c.args.number c.in_ok-gated.gated.at made (payload ∷ []) (g.met.H.Host.sound c.args.host.now)
+    (g.met.H.Host.sound c.create.new.host) unsealed first end
+    (new_builds c.args.listing.now made payload c.requires.apply c.requires.short is_payload is) c.make_seal.ensures.changes
 
 pub returns-in_err-make_seal-clause-changes : goal.returns-in_err-make_seal-clause-changes
 returns-in_err-make_seal-clause-changes g c =
@@ -52,7 +55,10 @@ returns-clause-any_moment g c made is unsealed =
     let end = subst (λ (f : FileName). IsAtEnd (g.H.Host.view c.create.new.host) f c.in_ok-gated.gated.at (payload ∷ [])) c.manifest.ensures c.in_ok-gated.ensures.ok in
     let items = c.deref.ensures.value ∙ c.in_ok-edits.ensures in
     let is_payload = c.in_ok-first.ensures.record ∙ ap encoded items in
-    made_both (g.H.Host.view c.args.host.now) (g.H.Host.view c.create.new.host) (g.H.Host.view c.make_seal.new.host) c.args.number c.in_ok-gated.gated.at made (payload ∷ []) (g.met.H.Host.sound c.args.host.now) (g.met.H.Host.sound c.create.new.host) unsealed first end (new_builds c.args.listing.now made payload c.requires.apply c.requires.short is_payload is) c.make_seal.ensures.changes
+    made_both (g.H.Host.view c.args.host.now) (g.H.Host.view c.create.new.host)
+    (g.H.Host.view c.make_seal.new.host) c.args.number c.in_ok-gated.gated.at made (payload ∷ []) (g.met.H.Host.sound c.args.host.now)
+    (g.met.H.Host.sound c.create.new.host) unsealed first end
+    (new_builds c.args.listing.now made payload c.requires.apply c.requires.short is_payload is) c.make_seal.ensures.changes
 
 pub returns-clause-changes : goal.returns-clause-changes
 returns-clause-changes g c =
@@ -66,7 +72,10 @@ returns-clause-ok g c =
     let items = c.deref.ensures.value ∙ c.in_ok-edits.ensures in
     let is_payload = c.in_ok-first.ensures.record ∙ ap encoded items in
     let rewritten = subst (λ (l : List Edit). Some c.in_ok-first.first.listing ≡ counted (encoded l) (after_all None l)) items c.in_ok-first.ensures.listing in
-    stands_made (g.H.Host.view c.create.new.host) (g.H.Host.view c.make_seal.new.host) c.args.number c.in_ok-gated.gated.at c.in_ok-first.first.listing (payload ∷ []) end (new_builds c.args.listing.now c.in_ok-first.first.listing payload c.requires.apply c.requires.short is_payload rewritten) c.make_seal.ensures.changes
+    stands_made (g.H.Host.view c.create.new.host)
+    (g.H.Host.view c.make_seal.new.host) c.args.number c.in_ok-gated.gated.at c.in_ok-first.first.listing (payload ∷ []) end
+    (new_builds c.args.listing.now c.in_ok-first.first.listing payload c.requires.apply c.requires.short is_payload rewritten)
+    c.make_seal.ensures.changes
 
 pub returns-clause-room : goal.returns-clause-room
 returns-clause-room g c =
@@ -78,4 +87,6 @@ returns-clause-in_hand g c =
     let items = c.deref.ensures.value ∙ c.in_ok-edits.ensures in
     let rewritten = subst (λ (l : List Edit). Some c.in_ok-first.first.listing ≡ counted (encoded l) (after_all None l)) items c.in_ok-first.ensures.listing in
     let gated = c.in_ok-gated.ensures in
-    new_in_hand c.args.number c.in_ok-gated.gated c.args.listing.now c.in_ok-first.first.listing c.manifest.result c.in_ok-first.first.record c.requires.apply (c.in_ok-first.ensures.record ∙ ap encoded items) rewritten c.manifest.ensures gated.file gated.place gated.fits gated.usable
+    new_in_hand c.args.number c.in_ok-gated.gated c.args.listing.now c.in_ok-first.first.listing c.manifest.result
+    c.in_ok-first.first.record c.requires.apply (c.in_ok-first.ensures.record ∙ ap encoded items) rewritten c.manifest.ensures gated.file
+    gated.place gated.fits gated.usable

@@ -16,7 +16,9 @@ use Rattle.sasi_manifest.proofs.open.open_manifest.Goals as goal
 pub returns-in_err-next-clause-damaged : goal.returns-in_err-next-clause-damaged
 returns-in_err-next-clause-damaged g c =
     let p = err_from_is_err_and c.from_residual-in_err-next.result c.from_residual-in_err-next.ensures.1 in
-    rw (p.1, p.2) (shown_at_gate (g.H.Host.view c.args.host.now) (g.H.Host.view c.loop-listed.host) c.args.number c.loop-listed.gated c.loop-listed.listed c.in_err-next.field-0.0 c.loop-listed.invariant c.in_err-next.ensures.damaged)
+    rw (p.1, p.2) (shown_at_gate (g.H.Host.view c.args.host.now)
+    (g.H.Host.view c.loop-listed.host) c.args.number c.loop-listed.gated c.loop-listed.listed c.in_err-next.field-0.0
+    c.loop-listed.invariant c.in_err-next.ensures.damaged)
 
 pub returns-in_err-next-clause-changes : goal.returns-in_err-next-clause-changes
 returns-in_err-next-clause-changes g c = then_same _ _ _ Same c.loop-listed.invariant.same c.next.ensures.changes
@@ -24,9 +26,14 @@ returns-in_err-next-clause-changes g c = then_same _ _ _ Same c.loop-listed.inva
 pub returns-in_err-take_record-clause-damaged : goal.returns-in_err-take_record-clause-damaged
 returns-in_err-take_record-clause-damaged g c =
     let p = err_from_is_err_and c.from_residual-in_err-take_record.result c.from_residual-in_err-take_record.ensures.1 in
-    let gate = subst (λ (more : Bool). ReadsGate (g.H.Host.view c.loop-listed.host) c.loop-listed.gated.file c.loop-listed.gated.at c.next.new.self.at more c.next.new.out.items) c.if-branch.true c.in_ok-next.ensures.gate in
-    rw (p.1, p.2) (shown_inside (g.H.Host.view c.args.host.now) (g.H.Host.view c.loop-listed.host) c.args.number c.next.new.self.at c.loop-listed.gated c.loop-listed.listed c.next.new.out.items c.in_err-take_record.field-0.0 c.loop-listed.invariant gate
-    (subst (λ (l : Bytes). OnDamage (IsTelling c.args.number (length_of c.loop-listed.listed - 1) c.loop-listed.listed l) c.in_err-take_record.field-0.0) c.deref.ensures.value c.in_err-take_record.ensures.damaged))
+    let gate = subst (λ (more : Bool). ReadsGate
+    (g.H.Host.view c.loop-listed.host) c.loop-listed.gated.file c.loop-listed.gated.at c.next.new.self.at more c.next.new.out.items)
+    c.if-branch.true c.in_ok-next.ensures.gate in
+    rw (p.1, p.2) (shown_inside (g.H.Host.view c.args.host.now)
+    (g.H.Host.view c.loop-listed.host) c.args.number c.next.new.self.at c.loop-listed.gated c.loop-listed.listed c.next.new.out.items
+    c.in_err-take_record.field-0.0 c.loop-listed.invariant gate
+    (subst (λ (l : Bytes). OnDamage (IsTelling c.args.number (length_of c.loop-listed.listed - 1) c.loop-listed.listed l)
+    c.in_err-take_record.field-0.0) c.deref.ensures.value c.in_err-take_record.ensures.damaged))
 
 pub returns-in_err-take_record-clause-changes : goal.returns-in_err-take_record-clause-changes
 returns-in_err-take_record-clause-changes g c = then_same _ _ _ Same c.loop-listed.invariant.same c.next.ensures.changes
@@ -34,24 +41,36 @@ returns-in_err-take_record-clause-changes g c = then_same _ _ _ Same c.loop-list
 pub loop-listed-preserved : goal.loop-listed-preserved
 loop-listed-preserved g c =
     let next = c.in_ok-next.ensures in
-    let gate = subst (λ (more : Bool). ReadsGate (g.H.Host.view c.loop-listed.host) c.loop-listed.gated.file c.loop-listed.gated.at c.next.new.self.at more c.next.new.out.items) c.if-branch.true next.gate in
+    let gate = subst (λ (more : Bool). ReadsGate
+    (g.H.Host.view c.loop-listed.host) c.loop-listed.gated.file c.loop-listed.gated.at c.next.new.self.at more c.next.new.out.items)
+    c.if-branch.true next.gate in
     let place = subst (λ (more : Bool). c.next.new.self.at ≡ (if more then c.loop-listed.gated.at + (5 + length c.next.new.out.items) else c.loop-listed.gated.at)) c.if-branch.true next.place in
-    let took = subst (λ (l : Bytes). (edits : List Edit) × IsRecord c.loop-listed.listed l edits × (Some c.in_ok-take_record.field-0 ≡ counted l (after_all c.loop-listed.listed edits))) c.deref.ensures.value c.in_ok-take_record.ensures.ok in
-    goes_on_next (g.H.Host.view c.args.host.now) (g.H.Host.view c.loop-listed.host) (g.H.Host.view c.next.new.host) c.args.number c.loop-listed.gated c.next.new.self c.loop-listed.listed c.in_ok-take_record.field-0 c.next.new.out.items took.0 c.loop-listed.invariant gate c.next.ensures.changes place next.fits next.file
+    let took = subst (λ (l : Bytes). (edits : List Edit) × IsRecord c.loop-listed.listed l edits
+    × (Some c.in_ok-take_record.field-0 ≡ counted l (after_all c.loop-listed.listed edits))) c.deref.ensures.value
+    c.in_ok-take_record.ensures.ok in
+    goes_on_next (g.H.Host.view c.args.host.now) (g.H.Host.view c.loop-listed.host)
+    (g.H.Host.view c.next.new.host) c.args.number c.loop-listed.gated c.next.new.self c.loop-listed.listed c.in_ok-take_record.field-0
+    c.next.new.out.items took.0 c.loop-listed.invariant gate c.next.ensures.changes place next.fits next.file
     next.usable next.causes.disk next.causes.out took.1 took.2
 
 pub returns-in-None-clause-damaged : goal.returns-in-None-clause-damaged
 returns-in-None-clause-damaged g c =
-    let gate = subst (λ (more : Bool). ReadsGate (g.H.Host.view c.loop-listed.host) c.loop-listed.gated.file c.loop-listed.gated.at c.next.new.self.at more c.next.new.out.items) c.if-branch.false c.in_ok-next.ensures.gate in
+    let gate = subst (λ (more : Bool). ReadsGate
+    (g.H.Host.view c.loop-listed.host) c.loop-listed.gated.file c.loop-listed.gated.at c.next.new.self.at more c.next.new.out.items)
+    c.if-branch.false c.in_ok-next.ensures.gate in
     shown_empty (g.H.Host.view c.args.host.now) (g.H.Host.view c.loop-listed.host) c.args.number c.next.new.self.at c.loop-listed.gated c.next.new.out.items c.empty.result
-    (subst (λ (l : Option Listing). GoesOn (g.H.Host.view c.args.host.now) (g.H.Host.view c.loop-listed.host) c.args.number c.loop-listed.gated l) c.in-None.is c.loop-listed.invariant) gate c.empty.ensures.file c.empty.ensures.at c.empty.ensures.rule c.empty.ensures.seen
+    (subst (λ (l : Option Listing). GoesOn (g.H.Host.view c.args.host.now)
+    (g.H.Host.view c.loop-listed.host) c.args.number c.loop-listed.gated l) c.in-None.is c.loop-listed.invariant) gate c.empty.ensures.file
+    c.empty.ensures.at c.empty.ensures.rule c.empty.ensures.seen
 
 pub returns-in-None-clause-changes : goal.returns-in-None-clause-changes
 returns-in-None-clause-changes g c = then_same _ _ _ Same c.loop-listed.invariant.same c.next.ensures.changes
 
 pub returns-clause-ok : goal.returns-clause-ok
 returns-clause-ok g c =
-    let gate = subst (λ (more : Bool). ReadsGate (g.H.Host.view c.loop-listed.host) c.loop-listed.gated.file c.loop-listed.gated.at c.next.new.self.at more c.next.new.out.items) c.if-branch.false c.in_ok-next.ensures.gate in
+    let gate = subst (λ (more : Bool). ReadsGate
+    (g.H.Host.view c.loop-listed.host) c.loop-listed.gated.file c.loop-listed.gated.at c.next.new.self.at more c.next.new.out.items)
+    c.if-branch.false c.in_ok-next.ensures.gate in
     read_whole (g.H.Host.view c.args.host.now) (g.H.Host.view c.loop-listed.host) c.args.number c.next.new.self.at c.loop-listed.gated c.in-Some.listing c.next.new.out.items
     (subst (λ (l : Option Listing). GoesOn (g.H.Host.view c.args.host.now) (g.H.Host.view c.loop-listed.host) c.args.number c.loop-listed.gated l) c.in-Some.is c.loop-listed.invariant) gate
 

@@ -11,7 +11,16 @@ pub unreachable-requires : goal.unreachable-requires
 unreachable-requires c = something_listed c.args.from c.args.edits.now c.requires.apply c.requires.some (sym c.in_ok-listing.ensures.listed ∙ c.in_default.is)
 
 pub new-requires-clause-some : goal.new-requires-clause-some
-new-requires-clause-some c = omega (arith, encoded_length c.args.edits.now, ap length c.deref.ensures.value, ap length c.in_ok-listing.ensures.bytes, ap length c.new-payload.ensures.items, length-append c.new-payload.result.items (encoded c.args.edits.now))
+new-requires-clause-some c =
+    omega (
+      arith,
+      encoded_length c.args.edits.now,
+      ap length c.deref.ensures.value,
+      ap length c.in_ok-listing.ensures.bytes,
+      ap length
+          c.new-payload.ensures.items,
+      length-append c.new-payload.result.items (encoded c.args.edits.now),
+    )
 
 pub one_more-listing-requires-clause-records : goal.one_more-listing-requires-clause-records
 one_more-listing-requires-clause-records c =

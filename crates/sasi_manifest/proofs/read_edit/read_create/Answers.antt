@@ -14,14 +14,17 @@ pub returns-in_err-number-clause-misread : goal.returns-in_err-number-clause-mis
 returns-in_err-number-clause-misread c =
     let p = err_from_is_err_and c.from_residual-in_err-number.result c.from_residual-in_err-number.ensures.1 in
     let tag = c.in_ok-ranged_u8.ensures in
-    rw (p.1, p.2) (λ next. over_tag _ c.args.listing.now next _ _ _ tag.fits tag.within tag.ok (table_found _ c.args.listing.now next _ _ _ (ap (λ n. n + 1) c.len.ensures.count) (search rules) c.in_err-number.ensures.misread))
+    rw (p.1, p.2) (λ next. over_tag _ c.args.listing.now next _ _ _ tag.fits tag.within tag.ok
+    (table_found _ c.args.listing.now next _ _ _ (ap (λ n. n + 1) c.len.ensures.count) (search rules) c.in_err-number.ensures.misread))
 
 pub returns-in_err-name-clause-misread : goal.returns-in_err-name-clause-misread
 returns-in_err-name-clause-misread c =
     let p = err_from_is_err_and c.from_residual-in_err-name.result c.from_residual-in_err-name.ensures.1 in
     let tag = c.in_ok-ranged_u8.ensures in
     let number = c.in_ok-number.ensures in
-    rw (p.1, p.2) (λ next. over_tag _ c.args.listing.now next _ _ _ tag.fits tag.within tag.ok (over_table _ c.args.listing.now next _ _ _ _ _ (ap (λ n. n + 1) c.len.ensures.count) (search rules) number.fits number.within number.ok (c.in_err-name.ensures.misread (named c.args.listing.now next c.in_ok-number.number))))
+    rw (p.1, p.2) (λ next. over_tag _ c.args.listing.now next _ _ _ tag.fits tag.within tag.ok
+    (over_table _ c.args.listing.now next _ _ _ _ _ (ap (λ n. n + 1) c.len.ensures.count) (search rules) number.fits number.within number.ok
+    (c.in_err-name.ensures.misread (named c.args.listing.now next c.in_ok-number.number))))
 
 pub returns-in_err-count-clause-misread : goal.returns-in_err-count-clause-misread
 returns-in_err-count-clause-misread c =
@@ -29,7 +32,10 @@ returns-in_err-count-clause-misread c =
     let tag = c.in_ok-ranged_u8.ensures in
     let number = c.in_ok-number.ensures in
     let name = c.in_ok-name.ensures in
-    rw (p.1, p.2) (λ next. over_tag _ c.args.listing.now next _ _ _ tag.fits tag.within tag.ok (over_table _ c.args.listing.now next _ _ _ _ _ (ap (λ n. n + 1) c.len.ensures.count) (search rules) number.fits number.within number.ok (over_table_name _ c.args.listing.now next _ _ _ _ name.name name.free name.ok (c.in_err-count.ensures.misread (counted c.args.listing.now next c.in_ok-number.number c.in_ok-name.name)))))
+    rw (p.1, p.2) (λ next. over_tag _ c.args.listing.now next _ _ _ tag.fits tag.within tag.ok
+    (over_table _ c.args.listing.now next _ _ _ _ _ (ap (λ n. n + 1) c.len.ensures.count) (search rules) number.fits number.within number.ok
+    (over_table_name _ c.args.listing.now next _ _ _ _ name.name name.free name.ok
+    (c.in_err-count.ensures.misread (counted c.args.listing.now next c.in_ok-number.number c.in_ok-name.name)))))
 
 pub returns-in_err-columns-clause-misread : goal.returns-in_err-columns-clause-misread
 returns-in_err-columns-clause-misread c =
@@ -38,7 +44,11 @@ returns-in_err-columns-clause-misread c =
     let number = c.in_ok-number.ensures in
     let name = c.in_ok-name.ensures in
     let count = c.in_ok-count.ensures in
-    rw (p.1, p.2) (λ next. over_tag _ c.args.listing.now next _ _ _ tag.fits tag.within tag.ok (over_table _ c.args.listing.now next _ _ _ _ _ (ap (λ n. n + 1) c.len.ensures.count) (search rules) number.fits number.within number.ok (over_table_name _ c.args.listing.now next _ _ _ _ name.name name.free name.ok (over_count _ c.args.listing.now next _ _ _ _ _ count.fits count.within count.ok (c.in_err-columns.ensures.misread (columned c.args.listing.now next c.in_ok-number.number c.in_ok-name.name c.in_ok-count.count))))))
+    rw (p.1, p.2) (λ next. over_tag _ c.args.listing.now next _ _ _ tag.fits tag.within tag.ok
+    (over_table _ c.args.listing.now next _ _ _ _ _ (ap (λ n. n + 1) c.len.ensures.count) (search rules) number.fits number.within number.ok
+    (over_table_name _ c.args.listing.now next _ _ _ _ name.name name.free name.ok
+    (over_count _ c.args.listing.now next _ _ _ _ _ count.fits count.within count.ok
+    (c.in_err-columns.ensures.misread (columned c.args.listing.now next c.in_ok-number.number c.in_ok-name.name c.in_ok-count.count))))))
 
 pub returns-in_err-key-clause-misread : goal.returns-in_err-key-clause-misread
 returns-in_err-key-clause-misread c =
@@ -48,7 +58,12 @@ returns-in_err-key-clause-misread c =
     let name = c.in_ok-name.ensures in
     let count = c.in_ok-count.ensures in
     let columns = c.in_ok-columns.ensures in
-    rw (p.1, p.2) (λ next. over_tag _ c.args.listing.now next _ _ _ tag.fits tag.within tag.ok (over_table _ c.args.listing.now next _ _ _ _ _ (ap (λ n. n + 1) c.len.ensures.count) (search rules) number.fits number.within number.ok (over_table_name _ c.args.listing.now next _ _ _ _ name.name name.free name.ok (over_count _ c.args.listing.now next _ _ _ _ _ count.fits count.within count.ok (over_all_columns _ c.args.listing.now next _ _ _ _ _ _ columns.count columns.names columns.apart columns.ok (c.in_err-key.ensures.misread (keyed c.args.listing.now next c.in_ok-number.number c.in_ok-name.name c.in_ok-columns.columns)))))))
+    rw (p.1, p.2) (λ next. over_tag _ c.args.listing.now next _ _ _ tag.fits tag.within tag.ok
+    (over_table _ c.args.listing.now next _ _ _ _ _ (ap (λ n. n + 1) c.len.ensures.count) (search rules) number.fits number.within number.ok
+    (over_table_name _ c.args.listing.now next _ _ _ _ name.name name.free name.ok
+    (over_count _ c.args.listing.now next _ _ _ _ _ count.fits count.within count.ok
+    (over_all_columns _ c.args.listing.now next _ _ _ _ _ _ columns.count columns.names columns.apart columns.ok
+    (c.in_err-key.ensures.misread (keyed c.args.listing.now next c.in_ok-number.number c.in_ok-name.name c.in_ok-columns.columns)))))))
 
 pub returns-in_err-since-clause-misread : goal.returns-in_err-since-clause-misread
 returns-in_err-since-clause-misread c =
@@ -59,4 +74,11 @@ returns-in_err-since-clause-misread c =
     let count = c.in_ok-count.ensures in
     let columns = c.in_ok-columns.ensures in
     let key = c.in_ok-key.ensures in
-    rw (p.1, p.2) (λ next. over_tag _ c.args.listing.now next _ _ _ tag.fits tag.within tag.ok (over_table _ c.args.listing.now next _ _ _ _ _ (ap (λ n. n + 1) c.len.ensures.count) (search rules) number.fits number.within number.ok (over_table_name _ c.args.listing.now next _ _ _ _ name.name name.free name.ok (over_count _ c.args.listing.now next _ _ _ _ _ count.fits count.within count.ok (over_all_columns _ c.args.listing.now next _ _ _ _ _ _ columns.count columns.names columns.apart columns.ok (over_key _ c.args.listing.now next _ _ _ _ _ _ _ key.fits key.within key.ok (c.in_err-since.ensures.misread (λ since. next (CreateTable c.in_ok-number.number c.in_ok-name.name c.in_ok-columns.columns c.in_ok-key.key since)))))))))
+    rw (p.1, p.2) (λ next. over_tag _ c.args.listing.now next _ _ _ tag.fits tag.within tag.ok
+    (over_table _ c.args.listing.now next _ _ _ _ _ (ap (λ n. n + 1) c.len.ensures.count) (search rules) number.fits number.within number.ok
+    (over_table_name _ c.args.listing.now next _ _ _ _ name.name name.free name.ok
+    (over_count _ c.args.listing.now next _ _ _ _ _ count.fits count.within count.ok
+    (over_all_columns _ c.args.listing.now next _ _ _ _ _ _ columns.count columns.names columns.apart columns.ok
+    (over_key _ c.args.listing.now next _ _ _ _ _ _ _ key.fits key.within key.ok
+    (c.in_err-since.ensures.misread (λ since. next
+    (CreateTable c.in_ok-number.number c.in_ok-name.name c.in_ok-columns.columns c.in_ok-key.key since)))))))))

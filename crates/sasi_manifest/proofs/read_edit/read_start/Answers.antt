@@ -20,7 +20,8 @@ returns-in_err-floor-clause-misread c =
     let p = err_from_is_err_and c.from_residual-in_err-floor.result c.from_residual-in_err-floor.ensures.1 in
     let tag = c.in_ok-ranged_u8.ensures in
     let code = c.in_ok-code.ensures in
-    rw (p.1, p.2) (λ next. over_start_tag _ next _ _ _ tag.fits tag.within tag.ok (over_code _ next _ _ _ code.fits code.within code.ok (c.in_err-floor.ensures.misread (floored next c.in_ok-code.code))))
+    rw (p.1, p.2) (λ next. over_start_tag _ next _ _ _ tag.fits tag.within tag.ok
+    (over_code _ next _ _ _ code.fits code.within code.ok (c.in_err-floor.ensures.misread (floored next c.in_ok-code.code))))
 
 pub returns-in_err-last-clause-misread : goal.returns-in_err-last-clause-misread
 returns-in_err-last-clause-misread c =
@@ -38,4 +39,6 @@ returns-then-last-floor-clause-misread c next =
     let floor = c.in_ok-floor.ensures in
     let last = c.in_ok-last.ensures in
     over_start_tag _ next _ _ _ tag.fits tag.within tag.ok (over_code _ next _ _ _ code.fits code.within code.ok
-    (over_floor _ next c.in_ok-code.code _ _ _ floor.fits floor.within floor.ok (floor_broken _ next c.in_ok-code.code _ _ _ _ _ _ _ c.if-last-floor.true last.fits last.within floor.ok last.ok c.place-at.ensures (search rules) c.broken.ensures)))
+    (over_floor _ next c.in_ok-code.code _ _ _ floor.fits floor.within floor.ok
+    (floor_broken _ next c.in_ok-code.code _ _ _ _ _ _ _ c.if-last-floor.true last.fits last.within floor.ok last.ok c.place-at.ensures
+    (search rules) c.broken.ensures)))

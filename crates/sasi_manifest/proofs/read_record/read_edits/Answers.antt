@@ -15,4 +15,8 @@ returns-in_err-edit-clause-misread c =
     (subst (λ (l : Option Listing). (next : Edit → Form) → Misreads (edit_form l next) c.loop-turn.reader c.in_err-edit.field-0.0) c.as_ref.ensures.value c.in_err-edit.ensures.misread))
 
 pub loop-turn-preserved : goal.loop-turn-preserved
-loop-turn-preserved c = takes_push c.args.listed c.loop-turn.listed _ c.loop-turn._turn c.args.reader.now c.loop-turn.reader c.read_edit.new.reader c.in_ok-edit.edit c.loop-turn.invariant (subst (λ (l : Option Listing). Applies l c.in_ok-edit.edit) c.as_ref.ensures.value c.in_ok-edit.ensures.applies) c.in_ok-edit.ensures.ok c.in_ok-apply.ensures
+loop-turn-preserved c =
+    takes_push c.args.listed c.loop-turn.listed _ c.loop-turn._turn c.args.reader.now c.loop-turn.reader c.read_edit.new.reader
+    c.in_ok-edit.edit c.loop-turn.invariant (subst
+    (λ (l : Option Listing). Applies l c.in_ok-edit.edit) c.as_ref.ensures.value c.in_ok-edit.ensures.applies) c.in_ok-edit.ensures.ok
+    c.in_ok-apply.ensures

@@ -14,7 +14,8 @@ pub returns-in_err-listing-clause-misread : goal.returns-in_err-listing-clause-m
 returns-in_err-listing-clause-misread c =
     let p = err_from_is_err_and c.from_residual-in_err-listing.result c.from_residual-in_err-listing.ensures.1 in
     let count = c.in_ok-count.ensures in
-    rw (p.1, p.2) (edits_misread c.args.listed c.args.payload.now c.in_ok-count.count c.ranged_u32.new.reader _ count.fits count.within (rw (sym c.new-reader.ensures) count.ok) c.in_err-listing.ensures.misread)
+    rw (p.1, p.2) (edits_misread c.args.listed c.args.payload.now c.in_ok-count.count c.ranged_u32.new.reader _ count.fits count.within
+    (rw (sym c.new-reader.ensures) count.ok) c.in_err-listing.ensures.misread)
 
 pub unreachable-requires : goal.unreachable-requires
 unreachable-requires c =
@@ -25,7 +26,9 @@ unreachable-requires c =
 pub returns-then-not-is_empty-clause-misread : goal.returns-then-not-is_empty-clause-misread
 returns-then-not-is_empty-clause-misread c =
     let count = c.in_ok-count.ensures in
-    end_missed c.args.listed _ c.args.payload.now c.in_ok-count.count c.ranged_u32.new.reader c.read_edits.new.reader count.fits count.within (rw (sym c.new-reader.ensures) count.ok) c.in_ok-listing.ensures.ok (some_left _ c.left.result.now c.is_empty.result c.left.ensures c.is_empty.ensures c.if-not-is_empty.true)
+    end_missed c.args.listed _ c.args.payload.now c.in_ok-count.count c.ranged_u32.new.reader c.read_edits.new.reader count.fits
+    count.within (rw (sym c.new-reader.ensures) count.ok) c.in_ok-listing.ensures.ok
+    (some_left _ c.left.result.now c.is_empty.result c.left.ensures c.is_empty.ensures c.if-not-is_empty.true)
 
 pub one_more-requires-clause-records : goal.one_more-requires-clause-records
 one_more-requires-clause-records c =
@@ -42,6 +45,8 @@ returns-clause-ok c =
     let takes = c.in_ok-listing.ensures.ok in
     let count = c.in_ok-count.ensures in (
       takes.edits,
-      record_read c.args.listed _ c.args.payload.now c.in_ok-count.count c.ranged_u32.new.reader c.read_edits.new.reader count.fits count.within (rw (sym c.new-reader.ensures) count.ok) takes (none_left _ c.left.result.now c.is_empty.result c.left.ensures c.is_empty.ensures c.if-not-is_empty.false),
+      record_read c.args.listed _ c.args.payload.now c.in_ok-count.count c.ranged_u32.new.reader c.read_edits.new.reader count.fits
+          count.within (rw (sym c.new-reader.ensures) count.ok) takes
+          (none_left _ c.left.result.now c.is_empty.result c.left.ensures c.is_empty.ensures c.if-not-is_empty.false),
       record_counts c.args.listed c.args.payload.now c.in-Some.listing c.one_more.result takes.edits (takes.makes ∙ c.in-Some.is) c.one_more.ensures,
     )

@@ -5,7 +5,9 @@ use Rattle.sasi_manifest.proofs.TypesApart.{types_apart}
 use Rattle.sasi_manifest.proofs.table_types.types_of.Goals as goal
 
 pub put_others-requires : goal.put_others-requires
-put_others-requires c = subst (λ (l : List Column). c.args.table.now.key < length l) (sym c.as_slice-columns.ensures) (key_within c.args.table.now.key c.args.table.now.columns c.args.table.now.key_is_there)
+put_others-requires c =
+    subst (λ (l : List Column). c.args.table.now.key < length l) (sym c.as_slice-columns.ensures)
+    (key_within c.args.table.now.key c.args.table.now.columns c.args.table.now.key_is_there)
 
 pub returns : goal.returns
 returns c = search (types_apart c.args.table.now.key c.args.table.now.columns, rules)

@@ -12,5 +12,7 @@ returns-in_err-text-clause-misread c =
 
 pub returns-then-not-is_open_column-clause-misread : goal.returns-then-not-is_open_column-clause-misread
 returns-then-not-is_open_column-clause-misread c next =
-    text_broken c.args.reader.now c.read_text.new.reader c.in_ok-text.text.now (names_in c.args.columns.now) next c.broken.result (c.place.result - length c.in_ok-text.text.now) c.front.result.now c.in_ok-text.ensures.ok c.in_ok-text.ensures.some c.in_ok-text.ensures.short
-    (not_open (IsOpenName (names_in c.args.columns.now) c.in_ok-text.text.now) c.is_open_column.result c.is_open_column.ensures c.if-not-is_open_column.true) c.broken.ensures c.front.ensures.bytes (ap (λ n. n - length c.in_ok-text.text.now) c.place.ensures)
+    text_broken c.args.reader.now c.read_text.new.reader c.in_ok-text.text.now (names_in c.args.columns.now) next c.broken.result
+    (c.place.result - length c.in_ok-text.text.now) c.front.result.now c.in_ok-text.ensures.ok c.in_ok-text.ensures.some c.in_ok-text.ensures.short
+    (not_open (IsOpenName (names_in c.args.columns.now) c.in_ok-text.text.now) c.is_open_column.result c.is_open_column.ensures
+    c.if-not-is_open_column.true) c.broken.ensures c.front.ensures.bytes (ap (λ n. n - length c.in_ok-text.text.now) c.place.ensures)

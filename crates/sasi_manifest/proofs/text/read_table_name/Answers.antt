@@ -12,5 +12,7 @@ returns-in_err-text-clause-misread c =
 
 pub returns-then-not-is_open_table-clause-misread : goal.returns-then-not-is_open_table-clause-misread
 returns-then-not-is_open_table-clause-misread c next =
-    text_broken c.args.reader.now c.read_text.new.reader c.in_ok-text.text.now (listed_names c.args.tables.now) next c.broken.result (c.place.result - length c.in_ok-text.text.now) c.front.result.now c.in_ok-text.ensures.ok c.in_ok-text.ensures.some c.in_ok-text.ensures.short
-    (not_open (IsOpenName (listed_names c.args.tables.now) c.in_ok-text.text.now) c.is_open_table.result c.is_open_table.ensures c.if-not-is_open_table.true) c.broken.ensures c.front.ensures.bytes (ap (λ n. n - length c.in_ok-text.text.now) c.place.ensures)
+    text_broken c.args.reader.now c.read_text.new.reader c.in_ok-text.text.now (listed_names c.args.tables.now) next c.broken.result
+    (c.place.result - length c.in_ok-text.text.now) c.front.result.now c.in_ok-text.ensures.ok c.in_ok-text.ensures.some c.in_ok-text.ensures.short
+    (not_open (IsOpenName (listed_names c.args.tables.now) c.in_ok-text.text.now) c.is_open_table.result c.is_open_table.ensures
+    c.if-not-is_open_table.true) c.broken.ensures c.front.ensures.bytes (ap (λ n. n - length c.in_ok-text.text.now) c.place.ensures)

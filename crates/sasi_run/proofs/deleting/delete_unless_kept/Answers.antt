@@ -4,7 +4,9 @@ use Rattle.sasi_run.proofs.Gone.{deleted_one, kept_one}
 use Rattle.sasi_run.proofs.deleting.delete_unless_kept.Goals as goal
 
 pub returns-then-is_kept-clause-changes : goal.returns-then-is_kept-clause-changes
-returns-then-is_kept-clause-changes g c = kept_one (g.H.Host.view c.args.host.now) c.args.name (keeps c.args.keep c.args.name) (sym c.is_kept.ensures ∙ c.if-is_kept.true)
+returns-then-is_kept-clause-changes g c = kept_one (g.H.Host.view c.args.host.now) c.args.name (keeps c.args.keep c.args.name)
+    (sym c.is_kept.ensures ∙ c.if-is_kept.true)
 
 pub returns-clause-changes : goal.returns-clause-changes
-returns-clause-changes g c = deleted_one (g.H.Host.view c.args.host.now) (g.H.Host.view c.delete.new.self) c.args.name (keeps c.args.keep c.args.name) (sym c.is_kept.ensures ∙ c.if-is_kept.false) c.delete.ensures.changes
+returns-clause-changes g c = deleted_one (g.H.Host.view c.args.host.now) (g.H.Host.view c.delete.new.self) c.args.name
+    (keeps c.args.keep c.args.name) (sym c.is_kept.ensures ∙ c.if-is_kept.false) c.delete.ensures.changes

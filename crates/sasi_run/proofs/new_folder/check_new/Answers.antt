@@ -4,10 +4,12 @@ use Rattle.sasi_run.proofs.new_folder.check_new.Goals as goal
 
 pub returns-then-not-is_first-clause-foreign : goal.returns-then-not-is_first-clause-foreign
 returns-then-not-is_first-clause-foreign c =
-    foreign_at c.args.names.now c.loop-name.name-index _ c.found.result c.loop-name-test.true c.loop-name.invariant (sym c.is_first.ensures ∙ c.if-not-is_first.true) c.found.ensures.file c.found.ensures.rule c.found.ensures.at c.found.ensures.seen
+    foreign_at c.args.names.now c.loop-name.name-index _ c.found.result c.loop-name-test.true c.loop-name.invariant
+    (sym c.is_first.ensures ∙ c.if-not-is_first.true) c.found.ensures.file c.found.ensures.rule c.found.ensures.at c.found.ensures.seen
 
 pub loop-name-preserved : goal.loop-name-preserved
-loop-name-preserved c = firsts_more c.args.names.now c.loop-name.name-index _ c.loop-name-test.true c.loop-name.invariant (sym c.is_first.ensures ∙ c.if-not-is_first.false)
+loop-name-preserved c = firsts_more c.args.names.now c.loop-name.name-index _ c.loop-name-test.true c.loop-name.invariant
+    (sym c.is_first.ensures ∙ c.if-not-is_first.false)
 
 pub returns-clause-firsts : goal.returns-clause-firsts
 returns-clause-firsts c = firsts_all c.args.names.now c.loop-name.name-index c.loop-name-test.false c.loop-name.invariant

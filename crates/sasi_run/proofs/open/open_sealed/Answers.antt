@@ -15,10 +15,13 @@ use Rattle.sasi_run.proofs.Standing.{sealed_stands}
 use Rattle.sasi_run.proofs.open.open_sealed.Goals as goal
 
 pub returns-in_err-manifest-clause-changes : goal.returns-in_err-manifest-clause-changes
-returns-in_err-manifest-clause-changes g c = somehow_deletes (g.H.Host.view c.args.host.now) (g.H.Host.view c.open_listed.new.host) none_kept c.open_listed.ensures.changes
+returns-in_err-manifest-clause-changes g c = somehow_deletes (g.H.Host.view c.args.host.now) (g.H.Host.view c.open_listed.new.host)
+    none_kept c.open_listed.ensures.changes
 
 pub returns-in_err-replayed-clause-any_moment : goal.returns-in_err-replayed-clause-any_moment
-returns-in_err-replayed-clause-any_moment g c listing logs each = holds_then_same (g.H.Host.view c.args.host.now) (g.H.Host.view c.open_listed.new.host) (g.H.Host.view c.replay.new.host) c.args.number listing logs (c.open_listed.ensures.any_moment listing logs each) c.replay.ensures.changes
+returns-in_err-replayed-clause-any_moment g c listing logs each = holds_then_same (g.H.Host.view c.args.host.now)
+    (g.H.Host.view c.open_listed.new.host) (g.H.Host.view c.replay.new.host) c.args.number listing logs
+    (c.open_listed.ensures.any_moment listing logs each) c.replay.ensures.changes
 
 pub returns-in_err-replayed-clause-damaged : goal.returns-in_err-replayed-clause-damaged
 returns-in_err-replayed-clause-damaged g c folder files =
@@ -27,44 +30,72 @@ returns-in_err-replayed-clause-damaged g c folder files =
     let b = g.H.Host.view c.open_listed.new.host in
     let m = c.in_ok-manifest.ensures in
     let shown = subst (λ (l : Listing). IsReplayShown b l c.in_err-replayed.field-0.0) c.listing.ensures.listing c.in_err-replayed.ensures.damaged in
-    rw (p.1, p.2) (segment_shown a b folder c.args.number c.in_ok-manifest.manifest.listing c.in_err-replayed.field-0.0 files m.there m.reads m.deletes m.live shown)
+    rw (p.1, p.2)
+    (segment_shown a b folder c.args.number c.in_ok-manifest.manifest.listing c.in_err-replayed.field-0.0 files m.there m.reads
+    m.deletes m.live shown)
 
 pub returns-in_err-replayed-clause-undamaged : goal.returns-in_err-replayed-clause-undamaged
 returns-in_err-replayed-clause-undamaged g c folder listing logs files holds =
     let p = err_from_is_err_and c.from_residual-in_err-replayed.result c.from_residual-in_err-replayed.ensures.1 in
     let m = c.in_ok-manifest.ensures in
-    let same : c.in_ok-manifest.manifest.listing ≡ listing = listed_same (g.H.Host.view c.args.host.now) folder c.args.number listing c.in_ok-manifest.manifest.listing logs files holds m.reads in
-    let deletes = subst (λ (l : Listing). Changes (Deletes (keeps (KeepStore c.args.number l.floor l.last))) (g.H.Host.view c.args.host.now) (g.H.Host.view c.open_listed.new.host)) same m.deletes in
-    let spares = subst (λ (l : Listing). SparesReplay (g.H.Host.view c.open_listed.new.host) l c.in_err-replayed.field-0.0) (c.listing.ensures.listing ∙ same) c.in_err-replayed.ensures.undamaged in
-    let told = told_after _ (g.H.Host.view c.args.host.now) (g.H.Host.view c.open_listed.new.host) c.open_listed.ensures.changes (told_here (g.H.Host.view c.args.host.now) (g.H.Host.view c.open_listed.new.host) (g.H.Host.view c.replay.new.host) (g.met.H.Host.sound c.args.host.now) c.requires.settled folder files c.args.number listing logs holds) in
-    rw (p.1, p.2) (replay_undamaged (g.H.Host.view c.open_listed.new.host) listing logs c.in_err-replayed.field-0.0 spares told holds.live (live_kept (g.H.Host.view c.args.host.now) (g.H.Host.view c.open_listed.new.host) (g.H.Host.view c.replay.new.host) (g.met.H.Host.sound c.args.host.now) c.requires.settled folder files c.args.number listing logs holds deletes))
+    let same : c.in_ok-manifest.manifest.listing ≡ listing = listed_same (g.H.Host.view c.args.host.now) folder c.args.number listing
+    c.in_ok-manifest.manifest.listing logs files holds m.reads in
+    let deletes = subst
+    (λ (l : Listing). Changes (Deletes (keeps (KeepStore c.args.number l.floor l.last))) (g.H.Host.view c.args.host.now)
+    (g.H.Host.view c.open_listed.new.host)) same m.deletes in
+    let spares = subst (λ (l : Listing). SparesReplay (g.H.Host.view c.open_listed.new.host) l c.in_err-replayed.field-0.0)
+    (c.listing.ensures.listing ∙ same) c.in_err-replayed.ensures.undamaged in
+    let told = told_after _ (g.H.Host.view c.args.host.now) (g.H.Host.view c.open_listed.new.host) c.open_listed.ensures.changes
+    (told_here (g.H.Host.view c.args.host.now) (g.H.Host.view c.open_listed.new.host) (g.H.Host.view c.replay.new.host)
+    (g.met.H.Host.sound c.args.host.now) c.requires.settled folder files c.args.number listing logs holds) in
+    rw (p.1, p.2)
+    (replay_undamaged (g.H.Host.view c.open_listed.new.host) listing logs c.in_err-replayed.field-0.0 spares told holds.live
+    (live_kept (g.H.Host.view c.args.host.now) (g.H.Host.view c.open_listed.new.host) (g.H.Host.view c.replay.new.host)
+    (g.met.H.Host.sound c.args.host.now) c.requires.settled folder files c.args.number listing logs holds deletes))
 
 pub returns-in_err-replayed-clause-changes : goal.returns-in_err-replayed-clause-changes
-returns-in_err-replayed-clause-changes g c = somehow_then_same (g.H.Host.view c.args.host.now) (g.H.Host.view c.open_listed.new.host) (g.H.Host.view c.replay.new.host) none_kept c.open_listed.ensures.changes c.replay.ensures.changes
+returns-in_err-replayed-clause-changes g c = somehow_then_same (g.H.Host.view c.args.host.now) (g.H.Host.view c.open_listed.new.host)
+    (g.H.Host.view c.replay.new.host) none_kept c.open_listed.ensures.changes c.replay.ensures.changes
 
 pub returns-clause-ready : goal.returns-clause-ready
 returns-clause-ready g c =
     let m = c.in_ok-manifest.ensures in
     let r = c.in_ok-replayed.ensures in
-    opened_ready (g.H.Host.view c.open_listed.new.host) (g.H.Host.view c.replay.new.host) c.in_ok-replayed.replayed.machine c.in_ok-manifest.manifest c.in_ok-replayed.replayed.log c.listing.result.now c.args.number c.listing.ensures.listing m.number r.of_listing r.file m.consistent m.room c.replay.ensures.changes r.room m.usable r.usable m.gone
+    opened_ready (g.H.Host.view c.open_listed.new.host) (g.H.Host.view c.replay.new.host) c.in_ok-replayed.replayed.machine
+    c.in_ok-manifest.manifest c.in_ok-replayed.replayed.log c.listing.result.now c.args.number c.listing.ensures.listing m.number
+    r.of_listing r.file m.consistent m.room c.replay.ensures.changes r.room m.usable r.usable m.gone
 
 pub returns-clause-serves : goal.returns-clause-serves
 returns-clause-serves g c folder listing logs files holds =
     let m = c.in_ok-manifest.ensures in
-    let same : c.in_ok-manifest.manifest.listing ≡ listing = listed_same (g.H.Host.view c.args.host.now) folder c.args.number listing c.in_ok-manifest.manifest.listing logs files holds m.reads in
-    let deletes = subst (λ (l : Listing). Changes (Deletes (keeps (KeepStore c.args.number l.floor l.last))) (g.H.Host.view c.args.host.now) (g.H.Host.view c.open_listed.new.host)) same m.deletes in
-    let replays = subst (λ (l : Listing). Replays (g.H.Host.view c.open_listed.new.host) (g.H.Host.view c.replay.new.host) l c.in_ok-replayed.replayed.log.at c.in_ok-replayed.replayed.machine) c.listing.ensures.listing c.in_ok-replayed.ensures.replayed in
-    opened_serves (g.H.Host.view c.args.host.now) (g.H.Host.view c.open_listed.new.host) (g.H.Host.view c.replay.new.host) (g.met.H.Host.sound c.args.host.now) c.requires.settled folder files c.args.number listing logs holds c.in_ok-manifest.manifest c.in_ok-replayed.replayed.log c.in_ok-replayed.replayed.machine m.number same deletes
-    (c.open_listed.ensures.any_moment listing logs (settled_holds (g.H.Host.view c.args.host.now) folder c.args.number listing logs (g.met.H.Host.sound c.args.host.now) c.requires.settled files holds)) m.stands c.replay.ensures.changes replays
+    let same : c.in_ok-manifest.manifest.listing ≡ listing = listed_same (g.H.Host.view c.args.host.now) folder c.args.number listing
+    c.in_ok-manifest.manifest.listing logs files holds m.reads in
+    let deletes = subst
+    (λ (l : Listing). Changes (Deletes (keeps (KeepStore c.args.number l.floor l.last))) (g.H.Host.view c.args.host.now)
+    (g.H.Host.view c.open_listed.new.host)) same m.deletes in
+    let replays = subst
+    (λ (l : Listing). Replays (g.H.Host.view c.open_listed.new.host) (g.H.Host.view c.replay.new.host) l
+    c.in_ok-replayed.replayed.log.at c.in_ok-replayed.replayed.machine) c.listing.ensures.listing c.in_ok-replayed.ensures.replayed in
+    opened_serves (g.H.Host.view c.args.host.now) (g.H.Host.view c.open_listed.new.host) (g.H.Host.view c.replay.new.host)
+    (g.met.H.Host.sound c.args.host.now) c.requires.settled folder files c.args.number listing logs holds c.in_ok-manifest.manifest
+    c.in_ok-replayed.replayed.log c.in_ok-replayed.replayed.machine m.number same deletes
+    (c.open_listed.ensures.any_moment listing logs
+    (settled_holds (g.H.Host.view c.args.host.now) folder c.args.number listing logs (g.met.H.Host.sound c.args.host.now)
+    c.requires.settled files holds)) m.stands c.replay.ensures.changes replays
 
 pub returns-clause-stands : goal.returns-clause-stands
 returns-clause-stands g c folder files sealed =
     let m = c.in_ok-manifest.ensures in
-    let reads = subst (λ (l : Listing). ReadsAll (g.H.Host.view c.open_listed.new.host) l c.in_ok-replayed.replayed.machine) c.listing.ensures.listing c.in_ok-replayed.ensures.reads in
-    sealed_stands (g.H.Host.view c.args.host.now) (g.H.Host.view c.open_listed.new.host) folder c.args.number c.in_ok-manifest.manifest.listing c.in_ok-replayed.replayed.machine files sealed m.there m.reads m.deletes reads
+    let reads = subst (λ (l : Listing). ReadsAll (g.H.Host.view c.open_listed.new.host) l c.in_ok-replayed.replayed.machine)
+    c.listing.ensures.listing c.in_ok-replayed.ensures.reads in
+    sealed_stands (g.H.Host.view c.args.host.now) (g.H.Host.view c.open_listed.new.host) folder c.args.number
+    c.in_ok-manifest.manifest.listing c.in_ok-replayed.replayed.machine files sealed m.there m.reads m.deletes reads
 
 pub returns-clause-any_moment : goal.returns-clause-any_moment
-returns-clause-any_moment g c listing logs each = holds_then_same (g.H.Host.view c.args.host.now) (g.H.Host.view c.open_listed.new.host) (g.H.Host.view c.replay.new.host) c.args.number listing logs (c.open_listed.ensures.any_moment listing logs each) c.replay.ensures.changes
+returns-clause-any_moment g c listing logs each = holds_then_same (g.H.Host.view c.args.host.now) (g.H.Host.view c.open_listed.new.host)
+    (g.H.Host.view c.replay.new.host) c.args.number listing logs (c.open_listed.ensures.any_moment listing logs each)
+    c.replay.ensures.changes
 
 pub returns-clause-changes : goal.returns-clause-changes
-returns-clause-changes g c = somehow_then_same (g.H.Host.view c.args.host.now) (g.H.Host.view c.open_listed.new.host) (g.H.Host.view c.replay.new.host) none_kept c.open_listed.ensures.changes c.replay.ensures.changes
+returns-clause-changes g c = somehow_then_same (g.H.Host.view c.args.host.now) (g.H.Host.view c.open_listed.new.host)
+    (g.H.Host.view c.replay.new.host) none_kept c.open_listed.ensures.changes c.replay.ensures.changes

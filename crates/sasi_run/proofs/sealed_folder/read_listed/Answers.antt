@@ -14,7 +14,9 @@ returns-in_err-check_there-clause-undamaged g c =
     let p = err_from_is_err_and c.from_residual.result c.from_residual.ensures.1 in
     let damage = c.in_err-check_there.field-0.0 in
     let tells = subst (λ (f : FileName). TellsMissing c.args.names.now f damage) c.manifest.ensures c.in_err-check_there.ensures.missing in
-    rw (p.1, p.2) (λ folder listing logs files holds. manifest_listed (g.H.Host.view c.args.host.now) c.args.names.now c.args.number c.requires folder listing logs files holds damage tells)
+    rw (p.1, p.2)
+    (λ folder listing logs files holds. manifest_listed (g.H.Host.view c.args.host.now) c.args.names.now c.args.number c.requires folder
+    listing logs files holds damage tells)
 
 pub returns-in_err-check_there-clause-damaged : goal.returns-in_err-check_there-clause-damaged
 returns-in_err-check_there-clause-damaged g c folder files =
@@ -30,7 +32,8 @@ pub returns-in_err-manifest-clause-damaged : goal.returns-in_err-manifest-clause
 returns-in_err-manifest-clause-damaged g c folder files =
     let p = err_from_is_err_and c.from_residual-in_err-manifest.result c.from_residual-in_err-manifest.ensures.1 in
     let a = g.H.Host.view c.args.host.now in
-    let there = subst (λ (f : FileName). IsThere a f) c.manifest.ensures (listed_is_there a c.args.names.now c.manifest.result c.requires c.in_ok-check_there.ensures.there) in
+    let there = subst (λ (f : FileName). IsThere a f) c.manifest.ensures
+    (listed_is_there a c.args.names.now c.manifest.result c.requires c.in_ok-check_there.ensures.there) in
     rw (p.1, p.2) (manifest_shown a folder files c.args.number c.in_err-manifest.field-0.0 there c.in_err-manifest.ensures.damaged)
 
 pub returns-in_err-manifest-clause-undamaged : goal.returns-in_err-manifest-clause-undamaged
@@ -43,16 +46,24 @@ returns-in_err-check_segments-clause-damaged g c folder files =
     let p = err_from_is_err_and c.from_residual-in_err-check_segments.result c.from_residual-in_err-check_segments.ensures.1 in
     let a = g.H.Host.view c.args.host.now in
     let damage = c.in_err-check_segments.field-0.0 in
-    let tells = subst (λ (l : Listing). TellsSegment c.args.names.now l.floor l.last damage) c.listing-listing.ensures.listing c.in_err-check_segments.ensures.missing in
-    let there = subst (λ (f : FileName). IsThere a f) c.manifest.ensures (listed_is_there a c.args.names.now c.manifest.result c.requires c.in_ok-check_there.ensures.there) in
-    rw (p.1, p.2) (segment_missing a folder files c.args.names.now c.requires c.args.number c.in_ok-manifest.manifest.listing damage there c.in_ok-manifest.ensures.ok tells)
+    let tells = subst (λ (l : Listing). TellsSegment c.args.names.now l.floor l.last damage) c.listing-listing.ensures.listing
+    c.in_err-check_segments.ensures.missing in
+    let there = subst (λ (f : FileName). IsThere a f) c.manifest.ensures
+    (listed_is_there a c.args.names.now c.manifest.result c.requires c.in_ok-check_there.ensures.there) in
+    rw (p.1, p.2)
+    (segment_missing a folder files c.args.names.now c.requires c.args.number c.in_ok-manifest.manifest.listing damage there
+    c.in_ok-manifest.ensures.ok tells)
 
 pub returns-in_err-check_segments-clause-undamaged : goal.returns-in_err-check_segments-clause-undamaged
 returns-in_err-check_segments-clause-undamaged g c =
     let p = err_from_is_err_and c.from_residual-in_err-check_segments.result c.from_residual-in_err-check_segments.ensures.1 in
     let damage = c.in_err-check_segments.field-0.0 in
-    let tells = subst (λ (l : Listing). TellsSegment c.args.names.now l.floor l.last damage) c.listing-listing.ensures.listing c.in_err-check_segments.ensures.missing in
-    rw (p.1, p.2) (λ folder listing logs files holds. segments_listed (g.H.Host.view c.args.host.now) c.args.names.now c.args.number c.requires folder listing logs files holds c.in_ok-manifest.manifest.listing damage c.in_ok-manifest.ensures.ok tells)
+    let tells = subst (λ (l : Listing). TellsSegment c.args.names.now l.floor l.last damage) c.listing-listing.ensures.listing
+    c.in_err-check_segments.ensures.missing in
+    rw (p.1, p.2)
+    (λ folder listing logs files holds. segments_listed (g.H.Host.view c.args.host.now) c.args.names.now c.args.number c.requires folder
+    listing logs files holds c.in_ok-manifest.manifest.listing damage c.in_ok-manifest.ensures.ok tells)
 
 pub returns-clause-there : goal.returns-clause-there
-returns-clause-there g c = subst (λ (f : FileName). IsThere (g.H.Host.view c.args.host.now) f) c.manifest.ensures (listed_is_there (g.H.Host.view c.args.host.now) c.args.names.now c.manifest.result c.requires c.in_ok-check_there.ensures.there)
+returns-clause-there g c = subst (λ (f : FileName). IsThere (g.H.Host.view c.args.host.now) f) c.manifest.ensures
+    (listed_is_there (g.H.Host.view c.args.host.now) c.args.names.now c.manifest.result c.requires c.in_ok-check_there.ensures.there)

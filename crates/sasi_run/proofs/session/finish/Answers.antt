@@ -15,4 +15,5 @@ pub returns-in-Some-clause-ok : goal.returns-in-Some-clause-ok
 returns-in-Some-clause-ok g c =
     let s = c.args.session.now in
     let stand : Session = record { alloc = s.alloc; store = s.store; splitter = c.end.new.self; reply = s.reply; refused = s.refused } in
-    on_ok_weaker c.answer.result (finishes_answer s stand c.answer.new.session _ _ _ (ap (λ (p : Pieces). p.last) c.in-Some.ensures) refl refl) c.answer.ensures.ok
+    on_ok_weaker c.answer.result
+    (finishes_answer s stand c.answer.new.session _ _ _ (ap (λ (p : Pieces). p.last) c.in-Some.ensures) refl refl) c.answer.ensures.ok

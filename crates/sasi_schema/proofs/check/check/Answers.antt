@@ -1,6 +1,6 @@
 use Rattle.std.proofs.Common.{[], ◌++◌}
 use Rattle.sasi_model.specs.Refusals.{repeat_rules, names_in}
-use Rattle.sasi_schema.specs.Answers.{told_before, answers_behind, answers_exit}
+use Rattle.sasi_schema.proofs.RuleLaws.{told_before, answers_behind, answers_exit}
 use Rattle.sasi_schema.specs.Checks.{name_rules, key_rules, count_rules}
 use Rattle.sasi_schema.specs.Defined.{definitions}
 use Rattle.sasi_schema.specs.Faults.{told}

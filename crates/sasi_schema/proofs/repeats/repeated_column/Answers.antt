@@ -26,5 +26,6 @@ loop-column-preserved g c =
     let is = name_at columns i c.column-item.result c.loop-column-test.true c.column-item.is in
     record {
       seen = λ q. seen_more names i name copy q _ _ inside is c.in_ok-copy.ensures (c.loop-column.invariant.seen q) (c.in_ok-insert.ensures.updates.0 q);
-      once = c.loop-column.invariant.once ∙ repeat_past names i name inside is (was_new names i name copy _ _ c.in_ok-copy.ensures (c.loop-column.invariant.seen copy) c.in_ok-insert.ensures.added c.if-not-branch.false);
+      once = c.loop-column.invariant.once ∙ repeat_past names i name inside is
+          (was_new names i name copy _ _ c.in_ok-copy.ensures (c.loop-column.invariant.seen copy) c.in_ok-insert.ensures.added c.if-not-branch.false);
     }

@@ -10,5 +10,6 @@ loop-name-preserved c =
     let copy = c.in_ok-copy.field-0 in
     record {
       seen = λ q. seen_more names i name copy q _ _ c.loop-name-test.true c.name-item.is c.in_ok-copy.ensures (c.loop-name.invariant.seen q) (c.in_ok-insert.ensures.updates.0 q);
-      once = c.loop-name.invariant.once ∙ repeat_past names i name c.loop-name-test.true c.name-item.is (was_new names i name copy _ _ c.in_ok-copy.ensures (c.loop-name.invariant.seen copy) c.in_ok-insert.ensures.added c.if-not-branch.false);
+      once = c.loop-name.invariant.once ∙ repeat_past names i name c.loop-name-test.true c.name-item.is
+          (was_new names i name copy _ _ c.in_ok-copy.ensures (c.loop-name.invariant.seen copy) c.in_ok-insert.ensures.added c.if-not-branch.false);
     }

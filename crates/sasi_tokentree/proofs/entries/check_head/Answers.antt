@@ -17,7 +17,8 @@ returns-in_err-check_part-2-clause-differs c =
 pub returns-in_err-check_part-3-clause-differs : goal.returns-in_err-check_part-3-clause-differs
 returns-in_err-check_part-3-clause-differs c =
     let p = err_from_is_err_and c.from_residual-in_err-check_part-3.result c.from_residual-in_err-check_part-3.ensures.1 in
-    rw p.1 (λ is. c.in_err-check_part-3.ensures.differs (subst (λ (w : List ℕ). take (length w) (drop 2 c.args.bytes.now) ≡ w) (sym c.to_be_bytes.ensures) (head_part c.args.bytes.now c.args.level c.args.count 2 2 (lit≤ tt) is ∙ head_count c.args.level c.args.count)))
+    rw p.1 (λ is. c.in_err-check_part-3.ensures.differs (subst (λ (w : List ℕ). take (length w) (drop 2 c.args.bytes.now) ≡ w)
+    (sym c.to_be_bytes.ensures) (head_part c.args.bytes.now c.args.level c.args.count 2 2 (lit≤ tt) is ∙ head_count c.args.level c.args.count)))
 
 pub returns-in_err-check_part-4-clause-differs : goal.returns-in_err-check_part-4-clause-differs
 returns-in_err-check_part-4-clause-differs c =
@@ -37,7 +38,8 @@ returns-in_err-check_part-2-clause-seen c =
 pub returns-in_err-check_part-3-clause-seen : goal.returns-in_err-check_part-3-clause-seen
 returns-in_err-check_part-3-clause-seen c =
     let p = err_from_is_err_and c.from_residual-in_err-check_part-3.result c.from_residual-in_err-check_part-3.ensures.1 in
-    rw (p.1, p.2) (head_in c.args.file c.args.at c.args.bytes.now c.args.level c.args.count 2 _ c.in_err-check_part-3.field-0.0 (the_count refl c.to_be_bytes.ensures) c.in_err-check_part-3.ensures.seen)
+    rw (p.1, p.2) (head_in c.args.file c.args.at c.args.bytes.now c.args.level c.args.count 2 _ c.in_err-check_part-3.field-0.0
+    (the_count refl c.to_be_bytes.ensures) c.in_err-check_part-3.ensures.seen)
 
 pub returns-in_err-check_part-4-clause-seen : goal.returns-in_err-check_part-4-clause-seen
 returns-in_err-check_part-4-clause-seen c =
@@ -45,4 +47,6 @@ returns-in_err-check_part-4-clause-seen c =
     rw (p.1, p.2) (head_in c.args.file c.args.at c.args.bytes.now c.args.level c.args.count 4 _ c.in_err-check_part-4.field-0.0 (four_zeros refl refl) c.in_err-check_part-4.ensures.seen)
 
 pub returns-clause-ok : goal.returns-clause-ok
-returns-clause-ok c = head_is c.args.bytes.now c.args.level c.args.count c.in_ok-check_part.ensures.ok c.in_ok-check_part-2.ensures.ok (subst (λ (w : List ℕ). take (length w) (drop 2 c.args.bytes.now) ≡ w) c.to_be_bytes.ensures c.in_ok-check_part-3.ensures.ok) c.in_ok-check_part-4.ensures.ok
+returns-clause-ok c = head_is c.args.bytes.now c.args.level c.args.count c.in_ok-check_part.ensures.ok c.in_ok-check_part-2.ensures.ok
+    (subst (λ (w : List ℕ). take (length w) (drop 2 c.args.bytes.now) ≡ w) c.to_be_bytes.ensures c.in_ok-check_part-3.ensures.ok)
+    c.in_ok-check_part-4.ensures.ok

@@ -8,8 +8,10 @@ use Rattle.sasi_tokentree.proofs.nodes.node_below.Goals as goal
 pub returns-in_err-below-clause-damaged : goal.returns-in_err-below-clause-damaged
 returns-in_err-below-clause-damaged g c =
     let p = err_from_is_err_and c.from_residual-in_err-below.result c.from_residual-in_err-below.ensures.1 in
-    let name : c.file.result ≡ c.args.held.now.file = c.file.ensures ∙ c.read_node.ensures.file in
-    rw (p.1, p.2) (λ bytes is. node_shown c.args.held.now.file bytes c.args.at c.read_node.new.out c.args.level c.args.count c.in_err-below.field-0.0 (c.in_ok-read_node.ensures.is bytes is) (subst (λ (f : FileName). IsInNode f c.args.at c.read_node.new.out c.args.level c.args.count c.in_err-below.field-0.0) name (c.in_err-below.ensures.seen c.args.level)))
+    let name : c.file.result ≡ c.args.held.now.file = c.file.ensures ∙ c.read_node.ensures.read.file in
+    rw (p.1, p.2) (λ bytes is. node_shown c.args.held.now.file bytes c.args.at c.read_node.new.out c.args.level c.args.count c.in_err-below.field-0.0
+    (c.in_ok-read_node.ensures.is bytes is) (subst (λ (f : FileName). IsInNode f c.args.at c.read_node.new.out c.args.level c.args.count
+    c.in_err-below.field-0.0) name (c.in_err-below.ensures.seen c.args.level)))
 
 pub returns-in_err-below-clause-undamaged : goal.returns-in_err-below-clause-undamaged
 returns-in_err-below-clause-undamaged g c =

@@ -12,23 +12,29 @@ use Rattle.sasi_tokentree.proofs.nodes.read_node.Goals as goal
 pub returns-in_err-read_into-clause-undamaged : goal.returns-in_err-read_into-clause-undamaged
 returns-in_err-read_into-clause-undamaged g c =
     let p = err_from_is_err_and c.from_residual.result c.from_residual.ensures.1 in
-    rw (p.1, p.2) (early_spares (g.H.Host.view c.args.host.now) c.args.held.now.file c.args.level c.args.at c.args.count _ c.in_err-read_into.field-0.0 c.requires.whole c.in_err-read_into.ensures.damaged)
+    rw (p.1, p.2) (early_spares (g.H.Host.view c.args.host.now) c.args.held.now.file c.args.level c.args.at c.args.count _
+    c.in_err-read_into.field-0.0 c.requires.whole c.in_err-read_into.ensures.damaged)
 
 pub returns-in_err-check_head-clause-damaged : goal.returns-in_err-check_head-clause-damaged
 returns-in_err-check_head-clause-damaged g c =
     let p = err_from_is_err_and c.from_residual-in_err-check_head.result c.from_residual-in_err-check_head.ensures.1 in
     let name : c.file.result ≡ c.args.held.now.file = c.file.ensures ∙ c.read_into.ensures.file in
     rw (p.1, p.2) (λ bytes is. node_shown c.args.held.now.file bytes c.args.at c.read_into.new.out c.args.level c.args.count c.in_err-check_head.field-0.0
-    (window_at bytes c.read_into.new.out c.args.at (length c.args.out.now) (c.in_ok-read_into.ensures.ok bytes is) (c.in_ok-read_into.ensures.within bytes is (omega (arith, c.requires.whole)))) (subst (λ (f : FileName). IsInNode f c.args.at c.read_into.new.out c.args.level c.args.count c.in_err-check_head.field-0.0) name c.in_err-check_head.ensures.seen))
+    (window_at bytes c.read_into.new.out c.args.at (length c.args.out.now) (c.in_ok-read_into.ensures.ok bytes is)
+    (c.in_ok-read_into.ensures.within bytes is (omega (arith, c.requires.whole))))
+    (subst (λ (f : FileName). IsInNode f c.args.at c.read_into.new.out c.args.level c.args.count c.in_err-check_head.field-0.0) name
+    c.in_err-check_head.ensures.seen))
 
 pub returns-in_err-read_into-clause-damaged : goal.returns-in_err-read_into-clause-damaged
 returns-in_err-read_into-clause-damaged g c =
     let p = err_from_is_err_and c.from_residual.result c.from_residual.ensures.1 in
     let node : Node = record { level = c.args.level; at = c.args.at; count = c.args.count } in
-    rw (p.1, p.2) (early_shown (λ n. n ≡ node) (g.H.Host.view c.args.host.now) c.args.held.now.file (c.args.at + length c.args.out.now) node c.in_err-read_into.field-0.0 refl (omega (arith, c.requires.whole)) c.in_err-read_into.ensures.damaged)
+    rw (p.1, p.2) (early_shown (λ n. n ≡ node) (g.H.Host.view c.args.host.now) c.args.held.now.file (c.args.at + length c.args.out.now) node
+    c.in_err-read_into.field-0.0 refl (omega (arith, c.requires.whole)) c.in_err-read_into.ensures.damaged)
 
 pub returns-clause-is : goal.returns-clause-is
-returns-clause-is g c bytes is = window_at bytes c.read_into.new.out c.args.at (length c.args.out.now) (c.in_ok-read_into.ensures.ok bytes is) (c.in_ok-read_into.ensures.within bytes is (omega (arith, c.requires.whole)))
+returns-clause-is g c bytes is = window_at bytes c.read_into.new.out c.args.at (length c.args.out.now) (c.in_ok-read_into.ensures.ok bytes is)
+    (c.in_ok-read_into.ensures.within bytes is (omega (arith, c.requires.whole)))
 
 pub returns-in_err-check_head-clause-undamaged : goal.returns-in_err-check_head-clause-undamaged
 returns-in_err-check_head-clause-undamaged g c =
@@ -43,13 +49,16 @@ returns-clause-ok g c bytes entries is has long =
 pub returns-in_err-read_into-clause-causes : goal.returns-in_err-read_into-clause-causes
 returns-in_err-read_into-clause-causes g c =
     let p = err_from_is_err_and c.from_residual.result c.from_residual.ensures.1 in
-    rw (p.1, p.2) (reads_within _ _ _ 2 (Err c.in_err-read_into.field-0.0) (node_pages c.args.held.now.page c.args.at (length c.args.out.now) (omega (arith, c.requires.whole))) c.in_err-read_into.ensures.causes)
+    rw (p.1, p.2) (reads_within _ _ _ 2 (Err c.in_err-read_into.field-0.0)
+    (node_pages c.args.held.now.page c.args.at (length c.args.out.now) (omega (arith, c.requires.whole))) c.in_err-read_into.ensures.causes)
 
 pub returns-in_err-check_head-clause-causes : goal.returns-in_err-check_head-clause-causes
 returns-in_err-check_head-clause-causes g c =
     let p = err_from_is_err_and c.from_residual-in_err-check_head.result c.from_residual-in_err-check_head.ensures.1 in
-    rw (p.1, p.2) (damage_reads _ _ _ 2 c.read_into.result c.in_err-check_head.field-0.0 (node_pages c.args.held.now.page c.args.at (length c.args.out.now) (omega (arith, c.requires.whole))) c.read_into.ensures.causes)
+    rw (p.1, p.2) (damage_reads _ _ _ 2 c.read_into.result c.in_err-check_head.field-0.0
+    (node_pages c.args.held.now.page c.args.at (length c.args.out.now) (omega (arith, c.requires.whole))) c.read_into.ensures.causes)
 
 pub returns-clause-causes : goal.returns-clause-causes
 returns-clause-causes g c =
-    ok_reads _ _ 2 c.read_into.result _ (reads_within _ _ _ 2 c.read_into.result (node_pages c.args.held.now.page c.args.at (length c.args.out.now) (omega (arith, c.requires.whole))) c.read_into.ensures.causes)
+    ok_reads _ _ 2 c.read_into.result _ (reads_within _ _ _ 2 c.read_into.result
+    (node_pages c.args.held.now.page c.args.at (length c.args.out.now) (omega (arith, c.requires.whole))) c.read_into.ensures.causes)

@@ -1,5 +1,6 @@
 use Rattle.std.proofs.Common.{◌≡◌, ℕ, ◌+◌, ◌-◌, ◌<◌, Ok, Err, ◌∙◌, subst, arith, inr, ⊎_elim}
 use Rattle.std.proofs.lemmas.Result.{err_from_is_err_and}
+use Rattle.sasi_host.specs.PageReading.{reads_then}
 use Rattle.sasi_host.specs.Disk.{Same}
 use Rattle.sasi_host.specs.Moves.{then_same}
 use Rattle.sasi_tokentree.specs.Format.{above}
@@ -44,7 +45,8 @@ returns-then-count-le-FULL-clause-causes g t c most le = reads_within _ _ 2 _ (O
 pub returns-in_err-above-clause-undamaged : goal.returns-in_err-above-clause-undamaged
 returns-in_err-above-clause-undamaged g t c =
     let p = err_from_is_err_and c.from_residual-in_err-above.result c.from_residual-in_err-above.ensures.1 in
-    rw (p.1, p.2) (spares_up (g.H.Host.view c.args.host.now) c.args.held.now.file c.args.level c.args.at c.args.count c.in_err-above.field-0.0 (omega arith) (rw (c.level_size.ensures, c.node_count.ensures) at c.in_err-above.ensures.undamaged))
+    rw (p.1, p.2) (spares_up (g.H.Host.view c.args.host.now) c.args.held.now.file c.args.level c.args.at c.args.count c.in_err-above.field-0.0
+    (omega arith) (rw (c.level_size.ensures, c.node_count.ensures) at c.in_err-above.ensures.undamaged))
 
 pub returns-in_err-above-clause-causes : goal.returns-in_err-above-clause-causes
 returns-in_err-above-clause-causes g t c most le =
@@ -56,7 +58,8 @@ returns-then-above-eq0-clause-ok g t c bytes entries is stands long =
     let many : 255 < c.args.count = omega arith in
     let gives = rw (c.level_size.ensures, c.node_count.ensures) at c.in_ok-above.ensures.ok in
     let found = gives bytes (above c.args.at entries) is (up bytes c.args.level c.args.at c.args.count entries many long stands) (up_length c.args.at c.args.count entries long) in
-    none_below c.args.at entries c.args.token c.in_ok-above.above.place 0 stands.rising stands.some (subst (λ (n : ℕ). FindsBelow (above c.args.at entries) c.args.token n c.in_ok-above.above.place) c.if-above-eq0.true found)
+    none_below c.args.at entries c.args.token c.in_ok-above.above.place 0 stands.rising stands.some
+    (subst (λ (n : ℕ). FindsBelow (above c.args.at entries) c.args.token n c.in_ok-above.above.place) c.if-above-eq0.true found)
 
 pub returns-then-above-eq0-clause-causes : goal.returns-then-above-eq0-clause-causes
 returns-then-above-eq0-clause-causes g t c most le =
@@ -65,40 +68,38 @@ returns-then-above-eq0-clause-causes g t c most le =
 pub returns-in_err-below-2-clause-damaged : goal.returns-in_err-below-2-clause-damaged
 returns-in_err-below-2-clause-damaged g t c =
     let p = err_from_is_err_and c.from_residual-in_err-below-2.result c.from_residual-in_err-below-2.ensures.1 in
-    rw (p.1, p.2) (shown_still (λ n. IsNodeFrom n c.args.level c.args.at c.args.count) _ _ c.args.held.now.file _ c.in_err-below-2.field-0.0 c.count_below.ensures.changes c.count_below.ensures.file c.in_err-below-2.ensures.damaged)
+    rw (p.1, p.2) (shown_still (λ n. IsNodeFrom n c.args.level c.args.at c.args.count) _ _ c.args.held.now.file _ c.in_err-below-2.field-0.0
+    c.count_below.ensures.read.changes c.count_below.ensures.read.file c.in_err-below-2.ensures.damaged)
 
 pub returns-in_err-below-2-clause-undamaged : goal.returns-in_err-below-2-clause-undamaged
 returns-in_err-below-2-clause-undamaged g t c =
     let p = err_from_is_err_and c.from_residual-in_err-below-2.result c.from_residual-in_err-below-2.ensures.1 in
-    rw (p.1, p.2) (spares_before _ _ c.args.held.now.file _ c.args.level c.args.at c.args.count c.in_err-below-2.field-0.0 c.count_below.ensures.changes c.count_below.ensures.file c.in_err-below-2.ensures.undamaged)
-
-pub returns-in_err-below-2-clause-changes : goal.returns-in_err-below-2-clause-changes
-returns-in_err-below-2-clause-changes g t c = then_same _ _ _ Same c.count_below.ensures.changes c.count_in_node.ensures.changes
+    rw (p.1, p.2) (spares_before _ _ c.args.held.now.file _ c.args.level c.args.at c.args.count c.in_err-below-2.field-0.0
+    c.count_below.ensures.read.changes c.count_below.ensures.read.file c.in_err-below-2.ensures.undamaged)
 
 pub returns-in_err-below-2-clause-causes : goal.returns-in_err-below-2-clause-causes
 returns-in_err-below-2-clause-causes g t c most le =
     let p = err_from_is_err_and c.from_residual-in_err-below-2.result c.from_residual-in_err-below-2.ensures.1 in
-    rw (p.1, p.2) (more_level_reads _ _ _ most c.args.count (Ok c.in_ok-above.above) (Err c.in_err-below-2.field-0.0) (omega arith) le (rw c.node_count.ensures at c.in_ok-above.ensures.causes) c.in_err-below-2.ensures.causes)
+    rw (p.1, p.2) (more_level_reads _ _ _ most c.args.count (Ok c.in_ok-above.above) (Err c.in_err-below-2.field-0.0) (omega arith) le
+    (rw c.node_count.ensures at c.in_ok-above.ensures.causes) c.in_err-below-2.ensures.causes)
 
 pub returns-clause-ok : goal.returns-clause-ok
 returns-clause-ok g t c bytes entries is stands long =
     let many : 255 < c.args.count = omega arith in
-    let now = reads_still _ _ c.args.held.now.file _ bytes c.count_below.ensures.changes c.count_below.ensures.file is in
+    let now = reads_still _ _ c.args.held.now.file _ bytes c.count_below.ensures.read.changes c.count_below.ensures.read.file is in
     let gives = rw (c.level_size.ensures, c.node_count.ensures) at c.in_ok-above.ensures.ok in
     let found = gives bytes (above c.args.at entries) is (up bytes c.args.level c.args.at c.args.count entries many long stands) (up_length c.args.at c.args.count entries long) in
     let next : c.in_ok-above.above.count ≡ c.in_ok-above.above.count - 1 + 1 = omega arith in
     below_in c.args.at entries c.args.token c.in_ok-above.above.place (c.in_ok-above.above.count - 1) _ _ stands.rising (omega (arith, long, c.in_ok-above.ensures.within, c.node_count.ensures))
     (subst (λ (n : ℕ). FindsBelow (above c.args.at entries) c.args.token n c.in_ok-above.above.place) next found) (c.in_ok-below-2.ensures.ok bytes entries now stands long)
 
-pub returns-clause-changes : goal.returns-clause-changes
-returns-clause-changes g t c = then_same _ _ _ Same c.count_below.ensures.changes c.count_in_node.ensures.changes
-
 pub returns-clause-causes : goal.returns-clause-causes
 returns-clause-causes g t c most le =
-    ok_reads _ _ _ (Ok c.in_ok-below-2.below) _ (more_level_reads _ _ _ most c.args.count (Ok c.in_ok-above.above) (Ok c.in_ok-below-2.below) (omega arith) le (rw c.node_count.ensures at c.in_ok-above.ensures.causes) c.in_ok-below-2.ensures.causes)
+    ok_reads _ _ _ (Ok c.in_ok-below-2.below) _ (more_level_reads _ _ _ most c.args.count (Ok c.in_ok-above.above) (Ok c.in_ok-below-2.below)
+    (omega arith) le (rw c.node_count.ensures at c.in_ok-above.ensures.causes) c.in_ok-below-2.ensures.causes)
 
-pub returns-in_err-below-2-clause-covers : goal.returns-in_err-below-2-clause-covers
-returns-in_err-below-2-clause-covers g t c name is = ⊎_elim (c.count_below.ensures.covers name) (λ same. inr (same ∙ c.count_below.ensures.file)) (c.count_in_node.ensures.covers name is)
+pub returns-in_err-below-2-clause-read : goal.returns-in_err-below-2-clause-read
+returns-in_err-below-2-clause-read g t c = reads_then _ _ _ _ _ _ _ _ _ _ _ c.count_below.ensures.read c.count_in_node.ensures.read
 
-pub returns-clause-covers : goal.returns-clause-covers
-returns-clause-covers g t c name is = ⊎_elim (c.count_below.ensures.covers name) (λ same. inr (same ∙ c.count_below.ensures.file)) (c.count_in_node.ensures.covers name is)
+pub returns-clause-read : goal.returns-clause-read
+returns-clause-read g t c = reads_then _ _ _ _ _ _ _ _ _ _ _ c.count_below.ensures.read c.count_in_node.ensures.read

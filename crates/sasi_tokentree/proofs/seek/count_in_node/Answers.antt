@@ -10,7 +10,8 @@ use Rattle.sasi_tokentree.proofs.seek.count_in_node.Goals as goal
 pub returns-in_err-below-clause-undamaged : goal.returns-in_err-below-clause-undamaged
 returns-in_err-below-clause-undamaged g c =
     let p = err_from_is_err_and c.from_residual.result c.from_residual.ensures.1 in
-    rw (p.1, p.2) (spares_part (g.H.Host.view c.args.host.now) c.args.held.now.file c.args.level c.args.at c.args.count c.args.node c.min-here.result c.in_err-below.field-0.0 c.requires.node (omega arith) c.in_err-below.ensures.undamaged)
+    rw (p.1, p.2) (spares_part (g.H.Host.view c.args.host.now) c.args.held.now.file c.args.level c.args.at c.args.count c.args.node c.min-here.result
+    c.in_err-below.field-0.0 c.requires.node (omega arith) c.in_err-below.ensures.undamaged)
 
 pub returns-in_err-below-clause-damaged : goal.returns-in_err-below-clause-damaged
 returns-in_err-below-clause-damaged g c =
@@ -20,4 +21,5 @@ returns-in_err-below-clause-damaged g c =
 
 pub returns-clause-ok : goal.returns-clause-ok
 returns-clause-ok g c bytes entries is stands long =
-    c.in_ok-below.ensures.ok bytes (part entries c.args.node) is (stands_node bytes c.args.level c.args.at entries c.args.node stands (omega (arith, long))) (part_size entries c.args.node c.args.count c.min-here.result long (omega arith))
+    c.in_ok-below.ensures.ok bytes (part entries c.args.node) is (stands_node bytes c.args.level c.args.at entries c.args.node stands
+    (omega (arith, long))) (part_size entries c.args.node c.args.count c.min-here.result long (omega arith))

@@ -18,11 +18,13 @@ returns-clause-stands g c bytes is =
     let out = c.read_into.new.out in
     let has : HasAt bytes place out = window_at bytes out place 16 (c.in_ok-read_into.ensures.ok bytes is) (c.in_ok-read_into.ensures.within bytes is (omega arith)) in
     subst (λ (n : ℕ). HasAt bytes n (entry (record { token = c.number_in.result; place = c.number_in-2.result }))) (omega arith)
-    (inner_at bytes place out 0 (entry (record { token = c.number_in.result; place = c.number_in-2.result })) has (entry_at out 0 _ _ _ _ refl refl (omega arith) c.number_in.ensures c.number_in-2.ensures))
+    (inner_at bytes place out 0 (entry (record { token = c.number_in.result; place = c.number_in-2.result })) has
+    (entry_at out 0 _ _ _ _ refl refl (omega arith) c.number_in.ensures c.number_in-2.ensures))
 
 pub returns-clause-ok : goal.returns-clause-ok
 returns-clause-ok g c bytes entries is stands lt =
-    pair_reads bytes c.read_into.new.out c.args.at c.args.index _ _ _ _ entries stands lt (c.in_ok-read_into.ensures.ok bytes is) refl refl c.number_in.type_inv c.number_in-2.type_inv c.number_in.ensures c.number_in-2.ensures
+    pair_reads bytes c.read_into.new.out c.args.at c.args.index _ _ _ _ entries stands lt (c.in_ok-read_into.ensures.ok bytes is) refl refl
+    c.number_in.type_inv c.number_in-2.type_inv c.number_in.ensures c.number_in-2.ensures
 
 pub returns-clause-page : goal.returns-clause-page
 returns-clause-page g c = c.in_ok-read_into.ensures.page (omega arith) ∙ ap (λ (n : ℕ). Some (n / 4096)) (omega arith)

@@ -23,7 +23,8 @@ write_levels-requires g t c κs within =
 
 pub returns-clause-ok : goal.returns-clause-ok
 returns-clause-ok g t c most enough =
-    more_written _ _ _ c.args.file c.args.level c.args.at most c.args.entries.now c.deref.result.now (omega arith) enough (c.deref.ensures.value ∙ c.in_ok-above.ensures.above) c.requires.room c.in_ok-above.ensures.ok
+    more_written _ _ _ c.args.file c.args.level c.args.at most c.args.entries.now c.deref.result.now (omega arith) enough
+    (c.deref.ensures.value ∙ c.in_ok-above.ensures.above) c.requires.room c.in_ok-above.ensures.ok
     (rw c.level_size.ensures at c.in_ok-root.ensures.ok)
 
 pub returns-clause-top : goal.returns-clause-top

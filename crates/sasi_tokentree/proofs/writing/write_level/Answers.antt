@@ -27,8 +27,10 @@ returns-in_err-push_entry-clause-changes g c =
 
 pub loop-index-preserved : goal.loop-index-preserved
 loop-index-preserved g c = record {
-  written = next_written _ _ _ c.args.file c.args.level c.args.at c.args.entries.now _ c.loop-index.index (omega arith) c.node_entries-here.ensures.is c.requires.room c.loop-index.invariant.written c.in_ok-write_node.ensures.ok;
-  entries_above = c.in_ok-push_entry.ensures ∙ next_entry c.args.at c.args.entries.now c.node_entries-here.result.now c.loop-index.above.items c.loop-index.index _ c.node_entries-here.ensures.is refl c.loop-index.invariant.entries_above;
+  written = next_written _ _ _ c.args.file c.args.level c.args.at c.args.entries.now _ c.loop-index.index (omega arith) c.node_entries-here.ensures.is
+      c.requires.room c.loop-index.invariant.written c.in_ok-write_node.ensures.ok;
+  entries_above = c.in_ok-push_entry.ensures ∙ next_entry c.args.at c.args.entries.now c.node_entries-here.result.now c.loop-index.above.items
+      c.loop-index.index _ c.node_entries-here.ensures.is refl c.loop-index.invariant.entries_above;
   fit = node_more c.args.entries.now c.node_entries-here.result.now c.loop-index.index c.node_entries-here.ensures.is c.loop-index.invariant.fit c.in_ok-write_node.ensures.fit;
   fits = λ some. next_fits c.args.level c.args.at c.args.entries.now _ c.loop-index.index (omega arith) c.node_entries-here.ensures.is c.in_ok-write_node.ensures.fits;
 }

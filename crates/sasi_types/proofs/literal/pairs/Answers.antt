@@ -8,5 +8,7 @@ pub returns : goal.returns
 returns c =
     items_from_collect c.collect.result c.collect.ensures.ran
     (YieldsList-from_zip
-    (YieldsList-from_vec c.args.columns.items (ap into_iter_items c.zip.ensures.first ∙ c.into_iter.ensures.rest) (ap into_iter_len c.zip.ensures.first ∙ c.into_iter.ensures.len ∙ c.args.columns.ok.0))
-    (YieldsList-from_vec c.args.values.items (ap into_iter_items c.zip.ensures.second ∙ c.into_iter-2.ensures.rest) (ap into_iter_len c.zip.ensures.second ∙ c.into_iter-2.ensures.len ∙ c.args.values.ok.0)))
+    (YieldsList-from_vec c.args.columns.items (ap into_iter_items c.zip.ensures.first ∙ c.into_iter.ensures.rest)
+    (ap into_iter_len c.zip.ensures.first ∙ c.into_iter.ensures.len ∙ c.args.columns.ok.0))
+    (YieldsList-from_vec c.args.values.items (ap into_iter_items c.zip.ensures.second ∙ c.into_iter-2.ensures.rest)
+    (ap into_iter_len c.zip.ensures.second ∙ c.into_iter-2.ensures.len ∙ c.args.values.ok.0)))

@@ -9,5 +9,6 @@ invariant_of-self c =
 
 pub returns-clause-ok : goal.returns-clause-ok
 returns-clause-ok c =
-    merged_is_merge _ c.self.inside.deleted c.other.inside.deleted c.self.inside.cells.items c.other.inside.cells.items c.replace-cells.result.items _ c.args.self.now c.args.other c.self.invariant c.other.invariant
+    merged_is_merge _ c.self.inside.deleted c.other.inside.deleted c.self.inside.cells.items c.other.inside.cells.items c.replace-cells.result.items
+    _ c.args.self.now c.args.other c.self.invariant c.other.invariant
     c.max-self-inside.ensures (ap (λ v. v.items) c.replace-cells.ensures.value) (c.shrink_to_fit.ensures.items ∙ c.join.ensures) c.self.view_is c.other.view_is

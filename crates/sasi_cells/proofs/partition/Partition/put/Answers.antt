@@ -13,4 +13,6 @@ invariant_of-self c =
 
 pub returns-clause-ok : goal.returns-clause-ok
 returns-clause-ok c =
-    on_ok_weaker c.put_in.result (λ e. ap (partition_of c.self.inside.deleted) e ∙ put_is_insert _ _ c.args.column c.args.cell c.self.invariant.rising ∙ ap (λ p. with_column p c.args.column c.args.cell) c.self.view_is) c.put_in.ensures.ok
+    on_ok_weaker c.put_in.result (λ e. ap (partition_of c.self.inside.deleted) e
+    ∙ put_is_insert _ _ c.args.column c.args.cell c.self.invariant.rising ∙ ap (λ p. with_column p c.args.column c.args.cell) c.self.view_is)
+    c.put_in.ensures.ok

@@ -15,7 +15,8 @@ returns-clause-reads g c =
     let view = g.H.Host.view in
     let bound =
     subst
-    (λ (page : Option ℕ). (partitioner : Partitioner) (content : Content) (key : Bytes) (part : Partition) → IsOpenOn (view c.args.host.now) c.args.self.now partitioner content → StandsAt content c.args.place key part
+    (λ (page : Option ℕ). (partitioner : Partitioner) (content : Content) (key : Bytes) (part : Partition) → IsOpenOn (view c.args.host.now)
+    c.args.self.now partitioner content → StandsAt content c.args.place key part
     → (view c.at_held.new.host).reads ≤ (view c.args.host.now).reads + fresh_cost page c.args.place (length (body key part))) (ap (λ (h : Held). h.page) c.hold-held.ensures) c.at_held.ensures.reads
     in
     λ partitioner content key part is at. omega (arith, bound partitioner content key part is at)

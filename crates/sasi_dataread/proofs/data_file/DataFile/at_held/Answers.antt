@@ -18,7 +18,8 @@ returns-clause-ok g c =
     let file = c.self.inside in
     let named : c.args.held.now.file ≡ file.file = c.requires.named ∙ sym (ap (λ (o : Opened). o.file) c.self.view_is) in
     subst (λ (o : Opened). IfOk c.partition_at.result (λ read. Gives view o c.args.place read.0 read.1)) c.self.view_is
-    (at_ok view (record { file = file.file; types = file.types; tree = file.tree; latest = file.latest; end = file.end }) c.args.held.now.file c.args.place c.partition_at.result named c.partition_at.ensures.in_table c.partition_at.ensures.ok)
+    (at_ok view (record { file = file.file; types = file.types; tree = file.tree; latest = file.latest; end = file.end }) c.args.held.now.file
+    c.args.place c.partition_at.result named c.partition_at.ensures.in_table c.partition_at.ensures.ok)
 
 pub returns-clause-damaged : goal.returns-clause-damaged
 returns-clause-damaged g c =
@@ -26,7 +27,8 @@ returns-clause-damaged g c =
     let file = c.self.inside in
     let named : c.args.held.now.file ≡ file.file = c.requires.named ∙ sym (ap (λ (o : Opened). o.file) c.self.view_is) in
     subst (λ (o : Opened). IfErr c.partition_at.result (Shown view o.file (ShowsPartition o.types o.end c.args.place o.file))) c.self.view_is
-    (at_damaged view (record { file = file.file; types = file.types; tree = file.tree; latest = file.latest; end = file.end }) c.args.held.now.file c.args.place c.partition_at.result named c.partition_at.ensures.damaged)
+    (at_damaged view (record { file = file.file; types = file.types; tree = file.tree; latest = file.latest; end = file.end }) c.args.held.now.file
+    c.args.place c.partition_at.result named c.partition_at.ensures.damaged)
 
 pub returns-clause-undamaged : goal.returns-clause-undamaged
 returns-clause-undamaged g c =
@@ -34,7 +36,8 @@ returns-clause-undamaged g c =
     let file = c.self.inside in
     let named : c.args.held.now.file ≡ file.file = c.requires.named ∙ sym (ap (λ (o : Opened). o.file) c.self.view_is) in
     subst (λ (o : Opened). IfErr c.partition_at.result (SparesPlace view o c.args.place)) c.self.view_is
-    (at_undamaged view (record { file = file.file; types = file.types; tree = file.tree; latest = file.latest; end = file.end }) c.args.held.now.file c.args.place c.partition_at.result named c.partition_at.ensures.undamaged)
+    (at_undamaged view (record { file = file.file; types = file.types; tree = file.tree; latest = file.latest; end = file.end }) c.args.held.now.file
+    c.args.place c.partition_at.result named c.partition_at.ensures.undamaged)
 
 pub returns-clause-reads : goal.returns-clause-reads
 returns-clause-reads g c =
@@ -44,4 +47,5 @@ returns-clause-reads g c =
     subst
     (λ (o : Opened). (partitioner : Partitioner) (content : Content) (key : Bytes) (part : Partition) → IsOpenOn (view c.args.host.now) o partitioner content → StandsAt content c.args.place key part
     → (view c.partition_at.new.host).reads ≤ (view c.args.host.now).reads + fresh_cost c.args.held.now.page c.args.place (length (body key part))) c.self.view_is
-    (at_reads (view c.args.host.now) (record { file = file.file; types = file.types; tree = file.tree; latest = file.latest; end = file.end }) c.args.held.now.file c.args.held.now.page c.args.place (view c.partition_at.new.host).reads named c.partition_at.ensures.reads)
+    (at_reads (view c.args.host.now) (record { file = file.file; types = file.types; tree = file.tree; latest = file.latest; end = file.end })
+    c.args.held.now.file c.args.held.now.page c.args.place (view c.partition_at.new.host).reads named c.partition_at.ensures.reads)

@@ -10,5 +10,6 @@ pub returns-clause-reads : goal.returns-clause-reads
 returns-clause-reads g c =
     let view = g.H.Host.view in
     subst
-    (λ (w : Walking). IfOk c.next_of.result (λ _. (partitioner : Partitioner) (content : Content) (is : IsOpenOn (view c.args.host.now) w.opened partitioner content) → HaveTokens partitioner content → IsAlong is.bytes content w
+    (λ (w : Walking). IfOk c.next_of.result (λ _. (partitioner : Partitioner) (content : Content)
+    (is : IsOpenOn (view c.args.host.now) w.opened partitioner content) → HaveTokens partitioner content → IsAlong is.bytes content w
     → Goes is.bytes content (view c.args.host.now).reads (view c.next_of.new.host).reads w (walk_of c.self.inside.opened c.next_of.new.tree c.next_of.new.held))) c.self.view_is c.next_of.ensures.reads

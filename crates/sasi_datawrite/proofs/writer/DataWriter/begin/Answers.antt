@@ -13,7 +13,15 @@ returns-in_err-put_header-clause-changes g c = untouched (g.H.Host.view c.args.h
 pub returns-clause-ok : goal.returns-clause-ok
 returns-clause-ok g c =
     let is : c.deref.result.now ≡ header = c.deref.ensures.value ∙ c.in_ok-put_header.ensures ∙ ap (λ (l : Bytes). l ++ header) c.new-buffer.ensures.items in
-    writing_none (g.H.Host.view c.create_with.new.host) (record { file = c.data-file.result; partitioner = c.args.partitioner; pairs = c.new.result; place = 16; latest = 0; usable = true }) c.deref.result.now c.new.ensures refl refl is c.in_ok-create_with.ensures.ok
+    writing_none (g.H.Host.view c.create_with.new.host) (record {
+      file = c.data-file.result;
+      partitioner = c.args.partitioner;
+      pairs =
+          c.new.result;
+      place = 16;
+      latest = 0;
+      usable = true;
+    }) c.deref.result.now c.new.ensures refl refl is c.in_ok-create_with.ensures.ok
 
 pub returns-clause-room : goal.returns-clause-room
 returns-clause-room g c =

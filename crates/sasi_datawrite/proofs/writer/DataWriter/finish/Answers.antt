@@ -7,6 +7,14 @@ use Rattle.sasi_datawrite.proofs.writer.DataWriter.finish.Goals as goal
 
 pub returns-clause-ok : goal.returns-clause-ok
 returns-clause-ok g c content =
-    let writer : Writer = record { file = c.self.inside.file; partitioner = c.self.inside.partitioner; pairs = c.self.inside.pairs; place = c.self.inside.place; latest = c.self.inside.latest; usable = c.self.inside.usable } in
+    let writer : Writer = record {
+      file = c.self.inside.file;
+      partitioner = c.self.inside.partitioner;
+      pairs = c.self.inside.pairs;
+      place =
+          c.self.inside.place;
+      latest = c.self.inside.latest;
+      usable = c.self.inside.usable;
+    } in
     subst (λ (w : Writer). IsWriting (g.H.Host.view c.args.host.now) w content → Holds (g.H.Host.view c.write_ending.new.host) w.file (data_bytes w.partitioner content)) c.self.view_is
     (writing_ends (g.H.Host.view c.args.host.now) (g.H.Host.view c.write_ending.new.host) writer c.in_ok-write_ending.ensures.ok content)

@@ -19,9 +19,27 @@ invariant_of-self-2 g c =
 pub returns-clause-ok : goal.returns-clause-ok
 returns-clause-ok g c content =
     let token_is : c.token.result ≡ token_of c.self.inside.partitioner c.args.key.now = c.token.ensures ∙ ap (λ (l : Bytes). token_of c.self.inside.partitioner l) c.bytes.ensures in
-    let old : Writer = record { file = c.self.inside.file; partitioner = c.self.inside.partitioner; pairs = c.self.inside.pairs; place = c.self.inside.place; latest = c.self.inside.latest; usable = c.self.inside.usable } in
-    let new : Writer = record { file = c.self.inside.file; partitioner = c.self.inside.partitioner; pairs = c.push.new.self; place = c.in_ok-next.next; latest = c.max-self-inside.result; usable = true } in
+    let old : Writer = record {
+      file = c.self.inside.file;
+      partitioner = c.self.inside.partitioner;
+      pairs = c.self.inside.pairs;
+      place =
+          c.self.inside.place;
+      latest = c.self.inside.latest;
+      usable = c.self.inside.usable;
+    } in
+    let new : Writer = record {
+      file = c.self.inside.file;
+      partitioner = c.self.inside.partitioner;
+      pairs = c.push.new.self;
+      place =
+          c.in_ok-next.next;
+      latest = c.max-self-inside.result;
+      usable = true;
+    } in
     let pair_of : ℕ → Pair = λ token. record { token = token; place = c.self.inside.place } in
-    subst (λ (w : Writer). IsWriting (g.H.Host.view c.args.host.now) w content → IsWriting (g.H.Host.view c.push_partition.new.host) new (content ++ (c.args.key.now, c.args.part.now) ∷ [])) c.self.view_is
+    subst (λ (w : Writer). IsWriting (g.H.Host.view c.args.host.now) w content → IsWriting (g.H.Host.view c.push_partition.new.host) new
+    (content ++ (c.args.key.now, c.args.part.now) ∷ [])) c.self.view_is
     (writing_push (g.H.Host.view c.args.host.now) (g.H.Host.view c.push_partition.new.host) old new c.args.key.now c.args.part.now refl refl
-    (c.in_ok-push.ensures.ok ∙ ap (λ (t : ℕ). c.self.inside.pairs ++ pair_of t ∷ []) token_is) c.in_ok-next.ensures.next (c.max-self-inside.ensures ∙ ap (λ (t : ℕ). max c.self.inside.latest t) c.greatest.ensures) c.in_ok-next.ensures.ok content)
+    (c.in_ok-push.ensures.ok ∙ ap (λ (t : ℕ). c.self.inside.pairs ++ pair_of t ∷ []) token_is) c.in_ok-next.ensures.next
+    (c.max-self-inside.ensures ∙ ap (λ (t : ℕ). max c.self.inside.latest t) c.greatest.ensures) c.in_ok-next.ensures.ok content)

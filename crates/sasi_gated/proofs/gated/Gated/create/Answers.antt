@@ -9,4 +9,6 @@ returns-in_err-bytes-clause-changes g c = untouched (g.H.Host.view c.args.host.n
 
 pub returns-clause-ok : goal.returns-clause-ok
 returns-clause-ok g c =
-    new_file_end (g.H.Host.view c.make_file.new.host) c.args.file (option_copied c.args.first) c.deref.result.now c.len.result (c.deref.ensures.value ∙ c.in_ok-bytes.ensures.bytes) c.in_ok-bytes.ensures.fits (c.len.ensures ∙ sym c.deref.ensures.len) c.in_ok-make_file.ensures.ok
+    new_file_end (g.H.Host.view c.make_file.new.host) c.args.file (option_copied c.args.first) c.deref.result.now c.len.result
+    (c.deref.ensures.value ∙ c.in_ok-bytes.ensures.bytes) c.in_ok-bytes.ensures.fits
+    (c.len.ensures ∙ sym c.deref.ensures.len) c.in_ok-make_file.ensures.ok

@@ -6,7 +6,9 @@ use Rattle.sasi_gated.proofs.gated.Gated.open.Goals as goal
 pub returns-in_err-read_header-clause-undamaged : goal.returns-in_err-read_header-clause-undamaged
 returns-in_err-read_header-clause-undamaged g c =
     let p = err_from_is_err_and c.from_residual.result c.from_residual.ensures.1 in
-    rw (p.1, p.2) (on_damage_weaker _ _ c.in_err-read_header.field-0.0 (λ damage shows bytes records is gated. gated_undamaged c.args.file bytes damage records gated (shows bytes is)) c.in_err-read_header.ensures.damaged)
+    rw (p.1, p.2) (on_damage_weaker _ _ c.in_err-read_header.field-0.0
+    (λ damage shows bytes records is gated. gated_undamaged c.args.file bytes damage records gated (shows bytes is))
+    c.in_err-read_header.ensures.damaged)
 
 pub returns-clause-header : goal.returns-clause-header
 returns-clause-header g c bytes is = opened_gate c.args.file bytes (c.in_ok-read_header.ensures.ok bytes is)

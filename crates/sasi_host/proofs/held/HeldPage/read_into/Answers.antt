@@ -29,7 +29,8 @@ returns-in_err-read_part-clause-damaged g c =
     let filled = c.loop-filled.filled in
     let wide = part_long c.loop-filled.out filled c.min-part.result (omega arith) in
     let p = err_from_is_err_and c.from_residual.result c.from_residual.ensures.1 in
-    rw (p.1, p.2) (end_before (g.H.Host.view c.args.host.now) _ c.args.self.now.file c.loop-filled.self.file _ _ c.in_err-read_part.field-0.0 here.changes here.file (omega (arith, wide)) c.in_err-read_part.ensures.damaged)
+    rw (p.1, p.2) (end_before (g.H.Host.view c.args.host.now) _ c.args.self.now.file c.loop-filled.self.file _ _ c.in_err-read_part.field-0.0
+    here.changes here.file (omega (arith, wide)) c.in_err-read_part.ensures.damaged)
 
 pub returns-in_err-read_part-clause-changes : goal.returns-in_err-read_part-clause-changes
 returns-in_err-read_part-clause-changes g c = then_same _ _ _ Same c.loop-filled.invariant.changes c.read_part.ensures.changes
@@ -41,7 +42,9 @@ returns-in_err-read_part-clause-causes g c =
     let wide = part_long c.loop-filled.out filled c.min-part.result (omega arith) in
     let first = spend_first c.loop-filled.self.page (c.args.at + filled) c.min-part.result (length c.args.out.now - filled) _ (omega arith) (omega arith) wide in
     let p = err_from_is_err_and c.from_residual.result c.from_residual.ensures.1 in
-    rw (p.1, p.2) (fault_after (g.H.Host.view c.args.host.now) (g.H.Host.view c.loop-filled.host) (g.H.Host.view c.read_part.new.host) _ _ c.in_err-read_part.field-0.0 here.disk here.out (omega (arith, here.reads, first)) c.in_err-read_part.ensures.causes)
+    rw (p.1, p.2) (fault_after (g.H.Host.view c.args.host.now) (g.H.Host.view c.loop-filled.host)
+    (g.H.Host.view c.read_part.new.host) _ _ c.in_err-read_part.field-0.0 here.disk here.out
+    (omega (arith, here.reads, first)) c.in_err-read_part.ensures.causes)
 
 pub loop-filled-preserved : goal.loop-filled-preserved
 loop-filled-preserved g c =
@@ -59,8 +62,12 @@ loop-filled-preserved g c =
       changes = then_same _ _ _ Same here.changes c.read_part.ensures.changes;
       disk = omega (arith, here.disk, c.read_part.ensures.causes.disk);
       out = c.read_part.ensures.causes.out ∙ here.out;
-      reads = spend_on c.loop-filled.self.page _ c.args.at filled part (length c.args.out.now) _ _ _ _ _ c.in_ok-read_part.ensures.page (omega arith) (omega arith) wide here.reads c.read_part.ensures.causes.reads;
-      is = λ bytes is. part_more bytes c.loop-filled.out c.read_part.new.out c.args.at filled _ _ (filled + part) (here.is bytes is) (omega arith) (c.in_ok-read_part.ensures.ok bytes (reads_on _ _ c.args.self.now.file _ bytes here.changes here.file is)) (omega (arith, wide)) (omega (arith, wide));
+      reads =
+          spend_on c.loop-filled.self.page _ c.args.at filled part (length c.args.out.now) _ _ _ _ _ c.in_ok-read_part.ensures.page (omega arith)
+          (omega arith) wide here.reads c.read_part.ensures.causes.reads;
+      is = λ bytes is. part_more bytes c.loop-filled.out c.read_part.new.out c.args.at filled _ _ (filled + part) (here.is bytes is) (omega arith)
+          (c.in_ok-read_part.ensures.ok bytes (reads_on _ _ c.args.self.now.file _ bytes here.changes here.file is)) (omega (arith, wide))
+          (omega (arith, wide));
       within = λ bytes is more. let le = c.in_ok-read_part.ensures.within bytes (reads_on _ _ c.args.self.now.file _ bytes here.changes here.file is) in omega (arith, le, wide);
       filled = omega arith;
     }

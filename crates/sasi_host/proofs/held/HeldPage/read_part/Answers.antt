@@ -16,7 +16,9 @@ returns-in_default-clause-damaged g c =
     let told = shown_before (TellsSize c.self.inside.file) v _ c.self.inside.file c.too_short.result c.take_up.ensures.changes c.too_short.ensures.damaged in
     subst (λ (f : FileName). Shown v f (ShowsEnd end f) c.too_short.result) (file ∙ c.take_up.ensures.file)
     (end_shown v c.self.inside.file end c.too_short.result
-    (λ bytes is. let long = page_long bytes c.take_up.new.self.bytes c.args.at (c.take_up.ensures.held _ bytes c.in_ok-take_up.ensures.page (reads_on v _ c.self.inside.file _ bytes c.take_up.ensures.changes (sym file) is)) in omega (arith, long, c.in_default.ensures.none))
+    (λ bytes is. let long = page_long bytes c.take_up.new.self.bytes c.args.at
+    (c.take_up.ensures.held _ bytes c.in_ok-take_up.ensures.page (reads_on v _ c.self.inside.file _ bytes c.take_up.ensures.changes (sym file) is))
+    in omega (arith, long, c.in_default.ensures.none))
     told)
 
 pub returns-in_default-clause-changes : goal.returns-in_default-clause-changes
@@ -25,9 +27,13 @@ returns-in_default-clause-changes g c = then_same _ _ _ Same c.take_up.ensures.c
 pub returns-clause-ok : goal.returns-clause-ok
 returns-clause-ok g c bytes is =
     c.copy_from_slice.ensures.after ∙ c.in-Some.ensures.some
-    ∙ page_gives bytes c.take_up.new.self.bytes c.args.at (length c.args.out.now) (c.take_up.ensures.held _ bytes c.in_ok-take_up.ensures.page (reads_on _ _ c.args.self.now.file _ bytes c.take_up.ensures.changes c.take_up.ensures.file is)) c.requires.one_page
+    ∙ page_gives bytes c.take_up.new.self.bytes c.args.at (length c.args.out.now)
+    (c.take_up.ensures.held _ bytes c.in_ok-take_up.ensures.page
+    (reads_on _ _ c.args.self.now.file _ bytes c.take_up.ensures.changes c.take_up.ensures.file is)) c.requires.one_page
 
 pub returns-clause-within : goal.returns-clause-within
 returns-clause-within g c bytes is =
-    let long = page_long bytes c.take_up.new.self.bytes c.args.at (c.take_up.ensures.held _ bytes c.in_ok-take_up.ensures.page (reads_on _ _ c.args.self.now.file _ bytes c.take_up.ensures.changes c.take_up.ensures.file is)) in
+    let long = page_long bytes c.take_up.new.self.bytes c.args.at
+    (c.take_up.ensures.held _ bytes c.in_ok-take_up.ensures.page
+    (reads_on _ _ c.args.self.now.file _ bytes c.take_up.ensures.changes c.take_up.ensures.file is)) in
     omega (arith, long, c.in-Some.ensures.within)

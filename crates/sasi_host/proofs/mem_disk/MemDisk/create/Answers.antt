@@ -6,7 +6,11 @@ use Rattle.sasi_host.proofs.mem_disk.MemDisk.create.Goals as goal
 
 pub invariant_of-self : goal.invariant_of-self
 invariant_of-self c = record {
-  folder_is = folder_kept c.args.self.now.start _ _ _ _ (Created c.args.file) c.create.result c.args.self.now.folder_is c.create.ensures.ok c.create.ensures.err;
-  emitted_is = emitted_kept c.args.self.now.start _ _ _ (Created c.args.file) c.create.result refl c.args.self.now.emitted_is (on_ok_weaker c.create.result (λ p. p.0) c.create.ensures.ok) (on_err_weaker c.create.result (λ p. p.0) c.create.ensures.err);
+  folder_is =
+      folder_kept c.args.self.now.start _ _ _ _
+      (Created c.args.file) c.create.result c.args.self.now.folder_is c.create.ensures.ok c.create.ensures.err;
+  emitted_is =
+      emitted_kept c.args.self.now.start _ _ _ (Created c.args.file) c.create.result refl c.args.self.now.emitted_is
+      (on_ok_weaker c.create.result (λ p. p.0) c.create.ensures.ok) (on_err_weaker c.create.result (λ p. p.0) c.create.ensures.err);
   fits = c.create.ensures.fits c.args.self.now.fits;
 }

@@ -6,7 +6,11 @@ use Rattle.sasi_host.proofs.mem_disk.MemDisk.write.Goals as goal
 
 pub invariant_of-self : goal.invariant_of-self
 invariant_of-self c = record {
-  folder_is = folder_kept c.args.self.now.start _ _ _ _ (Wrote c.args.file c.args.at c.args.bytes.now) c.write.result c.args.self.now.folder_is c.write.ensures.ok c.write.ensures.err;
-  emitted_is = emitted_kept c.args.self.now.start _ _ _ (Wrote c.args.file c.args.at c.args.bytes.now) c.write.result refl c.args.self.now.emitted_is (on_ok_weaker c.write.result (λ p. p.0) c.write.ensures.ok) (on_err_weaker c.write.result (λ p. p.0) c.write.ensures.err);
+  folder_is =
+      folder_kept c.args.self.now.start _ _ _ _
+      (Wrote c.args.file c.args.at c.args.bytes.now) c.write.result c.args.self.now.folder_is c.write.ensures.ok c.write.ensures.err;
+  emitted_is =
+      emitted_kept c.args.self.now.start _ _ _ (Wrote c.args.file c.args.at c.args.bytes.now) c.write.result refl c.args.self.now.emitted_is
+      (on_ok_weaker c.write.result (λ p. p.0) c.write.ensures.ok) (on_err_weaker c.write.result (λ p. p.0) c.write.ensures.err);
   fits = c.write.ensures.fits c.args.self.now.fits;
 }

@@ -6,7 +6,8 @@ use Rattle.sasi_host.proofs.mem_folder.MemFolder.get.Goals as goal
 
 pub returns-in-Some-clause-some : goal.returns-in-Some-clause-some
 returns-in-Some-clause-some c =
-    sym (ap (λ (m : Folder). map.get m c.args.name) c.self.view_is) ∙ get_entry c.self.inside.files.entries c.args.name ∙ sym c.in-Some.ensures.value ∙ ap (λ (b : Bytes). Some b) (sym c.as_slice.ensures)
+    sym (ap (λ (m : Folder). map.get m c.args.name) c.self.view_is) ∙ get_entry c.self.inside.files.entries c.args.name
+    ∙ sym c.in-Some.ensures.value ∙ ap (λ (b : Bytes). Some b) (sym c.as_slice.ensures)
 
 pub returns-in-None-clause-none : goal.returns-in-None-clause-none
 returns-in-None-clause-none c =

@@ -11,7 +11,9 @@ invariant_of-self c =
     subst FitsAll (sym (folder_remove es c.remove.new.self.entries c.args.name c.remove.ensures.updates.0)) (fits_remove (folder_of es) c.args.name c.self.invariant)
 
 pub returns-clause-removed : goal.returns-clause-removed
-returns-clause-removed c = folder_remove c.self.inside.files.entries c.remove.new.self.entries c.args.name c.remove.ensures.updates.0 ∙ ap (λ (m : Folder). map.remove m c.args.name) c.self.view_is
+returns-clause-removed c =
+    folder_remove c.self.inside.files.entries c.remove.new.self.entries c.args.name c.remove.ensures.updates.0
+    ∙ ap (λ (m : Folder). map.remove m c.args.name) c.self.view_is
 
 pub returns-clause-fits : goal.returns-clause-fits
 returns-clause-fits c = invariant_of-self c

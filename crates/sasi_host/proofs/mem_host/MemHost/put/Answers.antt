@@ -11,4 +11,6 @@ use Rattle.sasi_host.proofs.mem_host.MemHost.put.Goals as goal
 pub returns-clause-reads : goal.returns-clause-reads
 returns-clause-reads c =
     let old = seen c.args.self.now in
-    on_ok_weaker c.put.result (λ done. ap (λ (f : Folder). get f c.args.file) (done_folder old (record old { start = c.put.new.self.start; calls = c.put.new.self.calls.items }) (Put c.args.file c.args.bytes.now) (record { start = c.put.ensures.start; calls = done })) ∙ insert_here (folder_now old) c.args.file c.args.bytes.now) c.put.ensures.ok
+    on_ok_weaker c.put.result (λ done. ap (λ (f : Folder). get f c.args.file)
+    (done_folder old (record old { start = c.put.new.self.start; calls = c.put.new.self.calls.items }) (Put c.args.file c.args.bytes.now)
+    (record { start = c.put.ensures.start; calls = done })) ∙ insert_here (folder_now old) c.args.file c.args.bytes.now) c.put.ensures.ok

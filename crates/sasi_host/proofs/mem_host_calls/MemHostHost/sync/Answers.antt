@@ -1,53 +1,40 @@
-use Rattle.std.proofs.Common.{rules, true, false, List, ◌≡◌, ◌++◌, ◌∷◌, [], refl, sym, ◌∙◌, ap, is_err}
+use Rattle.std.proofs.Common.{rules, refl, sym, ◌∙◌, ap}
 use Rattle.std.specs.FinMap.{get}
-use Rattle.sasi_host.specs.declared.call.Call.{Call}
 use Rattle.sasi_host.specs.declared.call.Call.TheVariants.{Synced}
 use Rattle.sasi_host.specs.Names.{Folder}
 use Rattle.sasi_host.specs.Disk.{Same}
 use Rattle.sasi_host.specs.Moves.{changes_as}
 use Rattle.sasi_host.specs.Calls.{Effect}
 use Rattle.sasi_host.specs.Memory.{seen}
-use Rattle.sasi_host.proofs.CallChanges.{ok_from, err_from}
-use Rattle.sasi_host.proofs.HostChanges.{IsStill, HasDone, folder_now, still_changes, done_changes, done_moments, done_folder, done_image}
+use Rattle.sasi_host.proofs.CallChanges.{err_from}
+use Rattle.sasi_host.proofs.HostChanges.{folder_now, still_changes, disk_changes, disk_moments, disk_folder, disk_image}
 use Rattle.sasi_host.proofs.mem_host_calls.MemHostHost.sync.Goals as goal
 
 pub returns-in_err-begin_disk-clause-changes : goal.returns-in_err-begin_disk-clause-changes
 returns-in_err-begin_disk-clause-changes c =
-    let is : IsStill (seen c.args.self.now) (seen c.begin_disk.new.self) = record { start = search rules; calls = search rules } in
-    still_changes (seen c.args.self.now) (seen c.begin_disk.new.self) Same (λ x. refl) is
+    still_changes (seen c.args.self.now) (seen c.begin_disk.new.self) Same (λ x. refl) (record { start = search rules; calls = search rules })
 
 pub returns-then-is_err-clause-changes : goal.returns-then-is_err-clause-changes
 returns-then-is_err-clause-changes c =
-    let failed : is_err c.sync.result ≡ true = search rules in
-    let same = err_from c.sync.result failed c.sync.ensures.err in
-    let is : IsStill (seen c.args.self.now) (seen c.refuse_disk.new.self) = record { start = search rules; calls = search rules } in
-    still_changes (seen c.args.self.now) (seen c.refuse_disk.new.self) Same (λ x. refl) is
+    let same = err_from c.sync.result (search rules) c.sync.ensures.err in
+    still_changes (seen c.args.self.now) (seen c.refuse_disk.new.self) Same (λ x. refl) (record { start = search rules; calls = search rules })
 
 pub returns-clause-moments : goal.returns-clause-moments
 returns-clause-moments c =
-    let worked : is_err c.sync.result ≡ false = search rules in
-    let more = ok_from c.sync.result worked c.sync.ensures.ok in
-    let start : c.sync.new.self.start ≡ c.args.self.now.disk.start = search rules in
-    let before : c.begin_disk.new.self.disk.calls.items ≡ c.args.self.now.disk.calls.items = search rules in
-    let is : HasDone (Synced c.args.file) (seen c.args.self.now) (record (seen c.begin_disk.new.self) { start = c.sync.new.self.start; calls = c.sync.new.self.calls.items }) = record { start = start; calls = more ∙ ap (λ (l : List Call). l ++ (Synced c.args.file) ∷ []) before } in
-    done_moments (seen c.args.self.now) (record (seen c.begin_disk.new.self) { start = c.sync.new.self.start; calls = c.sync.new.self.calls.items }) (Synced c.args.file) is
+    disk_moments (Synced c.args.file) (seen c.args.self.now) (seen c.begin_disk.new.self) c.sync.new.self.start c.sync.new.self.calls.items
+    c.sync.result (search rules) c.sync.ensures.ok (search rules) (search rules)
 
 pub returns-clause-changes : goal.returns-clause-changes
 returns-clause-changes c =
-    let worked : is_err c.sync.result ≡ false = search rules in
-    let more = ok_from c.sync.result worked c.sync.ensures.ok in
-    let start : c.sync.new.self.start ≡ c.args.self.now.disk.start = search rules in
-    let before : c.begin_disk.new.self.disk.calls.items ≡ c.args.self.now.disk.calls.items = search rules in
-    let is : HasDone (Synced c.args.file) (seen c.args.self.now) (record (seen c.begin_disk.new.self) { start = c.sync.new.self.start; calls = c.sync.new.self.calls.items }) = record { start = start; calls = more ∙ ap (λ (l : List Call). l ++ (Synced c.args.file) ∷ []) before } in
-    changes_as _ _ (Effect (Synced c.args.file) (folder_now (seen c.args.self.now))) Same (done_changes (seen c.args.self.now) (record (seen c.begin_disk.new.self) { start = c.sync.new.self.start; calls = c.sync.new.self.calls.items }) (Synced c.args.file) refl is) (λ x y effect. effect.0)
+    changes_as _ _ (Effect (Synced c.args.file) (folder_now (seen c.args.self.now))) Same
+    (disk_changes (Synced c.args.file) (seen c.args.self.now) (seen c.begin_disk.new.self) c.sync.new.self.start c.sync.new.self.calls.items
+    c.sync.result (search rules) c.sync.ensures.ok (search rules) (search rules) refl)
+    (λ x y effect. effect.0)
 
 pub returns-clause-ok : goal.returns-clause-ok
-returns-clause-ok c =
-    let worked : is_err c.sync.result ≡ false = search rules in
-    let more = ok_from c.sync.result worked c.sync.ensures.ok in
-    let start : c.sync.new.self.start ≡ c.args.self.now.disk.start = search rules in
-    let before : c.begin_disk.new.self.disk.calls.items ≡ c.args.self.now.disk.calls.items = search rules in
-    let is : HasDone (Synced c.args.file) (seen c.args.self.now) (record (seen c.begin_disk.new.self) { start = c.sync.new.self.start; calls = c.sync.new.self.calls.items }) = record { start = start; calls = more ∙ ap (λ (l : List Call). l ++ (Synced c.args.file) ∷ []) before } in
-    λ folder left read now reads has.
-    let effect = done_image (seen c.args.self.now) (record (seen c.begin_disk.new.self) { start = c.sync.new.self.start; calls = c.sync.new.self.calls.items }) (Synced c.args.file) is folder now in
-    effect.2.1 left read (sym (ap (λ (f : Folder). get f c.args.file) (done_folder (seen c.args.self.now) (record (seen c.begin_disk.new.self) { start = c.sync.new.self.start; calls = c.sync.new.self.calls.items }) (Synced c.args.file) is)) ∙ reads) has
+returns-clause-ok c = λ folder left read now reads has.
+    let effect = disk_image (Synced c.args.file) (seen c.args.self.now) (seen c.begin_disk.new.self) c.sync.new.self.start c.sync.new.self.calls.items
+    c.sync.result (search rules) c.sync.ensures.ok (search rules) (search rules) folder now in
+    effect.2.1 left read (sym (ap (λ (f : Folder). get f c.args.file)
+    (disk_folder (Synced c.args.file) (seen c.args.self.now) (seen c.begin_disk.new.self) c.sync.new.self.start c.sync.new.self.calls.items
+    c.sync.result (search rules) c.sync.ensures.ok (search rules) (search rules))) ∙ reads) has

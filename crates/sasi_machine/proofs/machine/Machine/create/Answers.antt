@@ -22,13 +22,15 @@ pub invariant_of-self-2 : goal.invariant_of-self-2
 invariant_of-self-2 c =
     let s = c.self.inside in
     let d = definition c.args.table in
-    let contents = pushed s.contents.items c.reserve_one.new.contents.items c.add_within.new.contents.items c.new-rows.result _ d c.in_ok-reserve_one.ensures.items c.add_within.ensures c.new-rows.ensures c.key_type.ensures in
+    let contents = pushed s.contents.items c.reserve_one.new.contents.items c.add_within.new.contents.items c.new-rows.result _ d
+    c.in_ok-reserve_one.ensures.items c.add_within.ensures c.new-rows.ensures c.key_type.ensures in
     rw (c.in_ok-restore_table.ensures.ok, contents) (create_kept s.schema s.contents.items s.greatest d (empty_contents d) c.self.invariant refl nothing_held)
 
 pub returns-clause-ok : goal.returns-clause-ok
 returns-clause-ok c =
     let s = c.self.inside in
     let d = definition c.args.table in
-    let contents = pushed s.contents.items c.reserve_one.new.contents.items c.add_within.new.contents.items c.new-rows.result _ d c.in_ok-reserve_one.ensures.items c.add_within.ensures c.new-rows.ensures c.key_type.ensures in
+    let contents = pushed s.contents.items c.reserve_one.new.contents.items c.add_within.new.contents.items c.new-rows.result _ d
+    c.in_ok-reserve_one.ensures.items c.add_within.ensures c.new-rows.ensures c.key_type.ensures in
     subst (λ (old : State). state_of s.partitioner c.restore_table.new.self c.add_within.new.contents.items ≡ with_new_table old d) c.self.view_is
     (rw (c.in_ok-restore_table.ensures.ok, contents) (created_state s.partitioner s.schema s.contents.items s.greatest d c.self.invariant))

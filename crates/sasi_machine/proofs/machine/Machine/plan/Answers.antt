@@ -6,4 +6,7 @@ use Rattle.sasi_machine.proofs.machine.Machine.plan.Goals as goal
 pub returns-in-Says : goal.returns-in-Says
 returns-in-Says c =
     let s = c.self.inside in
-    plans c.args.self.now s.partitioner s.schema s.contents.items s.greatest _ c.in-Says.statement c.clear.new.self c.plan_statement.new.reply c.plan_statement.result c.self.view_is c.self.invariant (sym c.in_ok-read.ensures.reads ∙ ap reading_of c.in-Says.is) (subst IsReadFrom c.in-Says.is c.in_ok-read.ensures.written) c.clear.ensures c.plan_statement.ensures
+    plans c.args.self.now s.partitioner s.schema s.contents.items s.greatest _ c.in-Says.statement c.clear.new.self
+    c.plan_statement.new.reply c.plan_statement.result c.self.view_is c.self.invariant
+    (sym c.in_ok-read.ensures.reads ∙ ap reading_of c.in-Says.is)
+    (subst IsReadFrom c.in-Says.is c.in_ok-read.ensures.written) c.clear.ensures c.plan_statement.ensures

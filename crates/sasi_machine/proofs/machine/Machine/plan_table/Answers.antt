@@ -13,7 +13,8 @@ pub returns-in_ok-ok-in-Ok : goal.returns-in_ok-ok-in-Ok
 returns-in_ok-ok-in-Ok c =
     let s = c.self.inside in
     subst (λ (old : State). Asks old (CreateTable c.args.table.now c.args.columns.now c.args.keys.now) c.args.reply.now c.ok.new.self (Create c.in-Ok.table)) c.self.view_is
-    (create_asks s.partitioner s.schema s.contents.items s.greatest c.args.table.now c.args.columns.now c.args.keys.now c.in-Ok.table c.args.reply.now c.ok.new.self c.self.invariant c.in-Ok.ensures.answers c.in-Ok.ensures.made c.in-Ok.ensures.number c.in_ok-ok-in-Ok.ensures.ok)
+    (create_asks s.partitioner s.schema s.contents.items s.greatest c.args.table.now c.args.columns.now c.args.keys.now c.in-Ok.table
+    c.args.reply.now c.ok.new.self c.self.invariant c.in-Ok.ensures.answers c.in-Ok.ensures.made c.in-Ok.ensures.number c.in_ok-ok-in-Ok.ensures.ok)
 
 pub returns-in_ok-outcome-in-Err : goal.returns-in_ok-outcome-in-Err
 returns-in_ok-outcome-in-Err c =

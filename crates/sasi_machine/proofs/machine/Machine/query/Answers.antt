@@ -29,7 +29,9 @@ pub returns-in_ok-copy-in-None : goal.returns-in_ok-copy-in-None
 returns-in_ok-copy-in-None c =
     let s = c.self.inside in
     subst (λ (old : State). IfOk c.refuse.result (λ o. Takes old (Query c.args.select.now) old c.args.reply.now c.refuse.new.reply o)) c.self.view_is
-    (query_none s.partitioner s.schema s.contents.items s.greatest c.args.select.now c.in_ok-copy-in-None.field-0 c.args.reply.now c.refuse.new.reply c.refuse.result c.self.invariant (sym c.in-None.ensures.definition) c.in_ok-copy-in-None.ensures c.refuse.ensures.reply c.refuse.ensures.outcome)
+    (query_none s.partitioner s.schema s.contents.items s.greatest c.args.select.now c.in_ok-copy-in-None.field-0 c.args.reply.now
+    c.refuse.new.reply c.refuse.result c.self.invariant
+    (sym c.in-None.ensures.definition) c.in_ok-copy-in-None.ensures c.refuse.ensures.reply c.refuse.ensures.outcome)
 
 pub returns-in-Some : goal.returns-in-Some
 returns-in-Some c =
@@ -39,4 +41,5 @@ returns-in-Some c =
     let h = is_held s.schema s.contents.items c.args.select.now.table t.number d c.self.invariant.held (sym c.in-Some.ensures.number) (sym c.in-Some.ensures.definition) in
     let read = read_held s.schema s.contents.items c.args.select.now.table t.number d h c.index-rows.result.now c.index-rows.ensures in
     subst (λ (old : State). IfOk c.query.result (λ o. Takes old (Query c.args.select.now) old c.args.reply.now c.query.new.reply o)) c.self.view_is
-    (query_taken s.partitioner s.schema s.contents.items s.greatest c.args.select.now d c.index-rows.result.now c.args.reply.now c.query.new.reply c.query.result c.self.invariant (sym c.in-Some.ensures.definition) (rw read h.there.table) c.query.ensures)
+    (query_taken s.partitioner s.schema s.contents.items s.greatest c.args.select.now d c.index-rows.result.now c.args.reply.now
+    c.query.new.reply c.query.result c.self.invariant (sym c.in-Some.ensures.definition) (rw read h.there.table) c.query.ensures)

@@ -17,11 +17,13 @@ invariant_of-self-2 c =
     let s = c.self.inside in
     let new = c.merge_into.new.contents.items in
     subst (λ (g : ℕ). IsKept s.schema new g) (sym (c.max-self-inside.ensures ∙ ap (λ (t : ℕ). max s.greatest t) c.in_ok-time.ensures.time))
-    (fit_kept s.partitioner s.schema s.contents.items new s.greatest c.args.mutation c.self.invariant (subst (λ (old : State). IsFit old c.args.mutation) (sym c.self.view_is) c.requires) c.in_ok-time.ensures.ok)
+    (fit_kept s.partitioner s.schema s.contents.items new s.greatest c.args.mutation c.self.invariant
+    (subst (λ (old : State). IsFit old c.args.mutation) (sym c.self.view_is) c.requires) c.in_ok-time.ensures.ok)
 
 pub returns-clause-ok : goal.returns-clause-ok
 returns-clause-ok c =
     let s = c.self.inside in
     let new = c.merge_into.new.contents.items in
     subst (λ (old : State). state_of s.partitioner s.schema new ≡ written_state old c.args.mutation) c.self.view_is
-    (fit_state s.partitioner s.schema s.contents.items new s.greatest c.args.mutation c.self.invariant (subst (λ (old : State). IsFit old c.args.mutation) (sym c.self.view_is) c.requires) c.in_ok-time.ensures.ok)
+    (fit_state s.partitioner s.schema s.contents.items new s.greatest c.args.mutation c.self.invariant
+    (subst (λ (old : State). IsFit old c.args.mutation) (sym c.self.view_is) c.requires) c.in_ok-time.ensures.ok)

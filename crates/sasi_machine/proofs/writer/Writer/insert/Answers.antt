@@ -1,7 +1,7 @@
 use Rattle.std.proofs.Common.{[], ◌++◌, map}
 use Rattle.std.specs.List.{zip}
 use Rattle.sasi_model.specs.Refusals.{no_column, repeat_rules}
-use Rattle.sasi_schema.specs.Answers.{told_before, answers_behind, answers_exit}
+use Rattle.sasi_schema.proofs.RuleLaws.{told_before, answers_behind, answers_exit}
 use Rattle.sasi_schema.specs.Defined.{definition}
 use Rattle.sasi_machine.specs.Checks.{given_rules}
 use Rattle.sasi_machine.specs.Faults.{told}

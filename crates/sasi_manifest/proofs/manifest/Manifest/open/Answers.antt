@@ -12,4 +12,6 @@ returns-clause-ok g c = reads_listing (g.H.Host.view c.args.host.now) c.args.num
 
 pub returns-clause-stands : goal.returns-clause-stands
 returns-clause-stands g c =
-    stands_where_kept (g.H.Host.view c.args.host.now) (g.H.Host.view c.open_manifest.new.host) c.args.number c.in_ok-opened.opened.gated.at c.in_ok-opened.opened.listing (g.met.H.Host.sound c.args.host.now) c.open_manifest.ensures.changes c.in_ok-opened.ensures.ok
+    stands_where_kept (g.H.Host.view c.args.host.now)
+    (g.H.Host.view c.open_manifest.new.host) c.args.number c.in_ok-opened.opened.gated.at c.in_ok-opened.opened.listing
+    (g.met.H.Host.sound c.args.host.now) c.open_manifest.ensures.changes c.in_ok-opened.ensures.ok

@@ -6,4 +6,6 @@ use Rattle.sasi_schema.proofs.schema.Schema.restore_table.Goals as goal
 
 pub invariant_of-self-2 : goal.invariant_of-self-2
 invariant_of-self-2 c =
-    rises_made c.self.inside.tables.items c.push.new.self.items _ c.self.invariant (c.requires.number ∙ ap (λ (ds : List Definition). length ds + 1) (sym c.self.view_is) ∙ ap (λ n. n + 1) (length-map c.self.inside.tables.items _)) c.in_ok-push.ensures.items
+    rises_made c.self.inside.tables.items c.push.new.self.items _ c.self.invariant
+    (c.requires.number ∙ ap (λ (ds : List Definition). length ds + 1) (sym c.self.view_is) ∙ ap (λ n. n + 1)
+    (length-map c.self.inside.tables.items _)) c.in_ok-push.ensures.items

@@ -17,7 +17,9 @@ returns-in_err-found-clause-damaged g c =
     rw (p.1, p.2) (subst (λ (h : Walk). Shown (g.H.Host.view c.args.host.now) h.held.file (ShowsTree h.held.file h.tree) c.in_err-found.field-0.0) c.self.view_is c.in_err-found.ensures.damaged)
 
 pub returns-clause-stands : goal.returns-clause-stands
-returns-clause-stands g c = subst (λ (h : Walk). GivesEntry (g.H.Host.view c.args.host.now) h.held.file h.tree c.in_ok-found.found.passed c.in_ok-found.found.pair) c.self.view_is c.in_ok-found.ensures.stands
+returns-clause-stands g c = subst (λ (h : Walk). GivesEntry (g.H.Host.view c.args.host.now) h.held.file h.tree c.in_ok-found.found.passed
+    c.in_ok-found.found.pair) c.self.view_is c.in_ok-found.ensures.stands
 
 pub returns-clause-ok : goal.returns-clause-ok
-returns-clause-ok g c = subst (λ (h : Walk). GivesFrom (g.H.Host.view c.args.host.now) h.held.file h.tree c.args.token c.in_ok-found.found.passed c.in_ok-found.found.pair) c.self.view_is c.in_ok-found.ensures.ok
+returns-clause-ok g c = subst (λ (h : Walk). GivesFrom (g.H.Host.view c.args.host.now) h.held.file h.tree c.args.token c.in_ok-found.found.passed
+    c.in_ok-found.found.pair) c.self.view_is c.in_ok-found.ensures.ok

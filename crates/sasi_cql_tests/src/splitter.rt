@@ -1,0 +1,112 @@
+//! Which pieces a script is cut into.
+use sasi_cql::Splitter;
+use sasi_types::PieceEnd;
+use std::alloc::Global;
+use std::process::Abort;
+
+/// The most bytes that a piece has.
+const LIMIT: usize = 1 << 20;
+
+/// The line on a piece: its text, or how it is none.
+fn line(end: PieceEnd, text: &[u8]) -> &[u8] {
+    match end {
+        PieceEnd::Whole => text,
+        PieceEnd::TooLong { finished: true } => b"too long",
+        PieceEnd::TooLong { finished: false } => b"too long at the end",
+        PieceEnd::Unfinished => b"unfinished",
+    }
+}
+
+/// Adds the line on the piece that ended.
+fn add(rt: &impl Abort, lines: &mut Vec<u8>, end: PieceEnd, text: &[u8]) {
+    lines
+        .extend_from_slice(line(end, text))
+        .expect(rt, "memory is left");
+    lines.push(b'|').expect(rt, "memory is left");
+}
+
+/// Pushes a byte, and adds the line on the piece that it ends.
+fn push(rt: &impl Abort, splitter: &mut Splitter, lines: &mut Vec<u8>, byte: u8) {
+    if let Some(end) = splitter.push(byte).expect(rt, "memory is left") {
+        add(rt, lines, end, splitter.piece());
+    }
+}
+
+/// The lines on the pieces of `front`, then `count` times `byte`, then `back`.
+fn cut(
+    rt: &impl Abort,
+    alloc: Global,
+    front: &[u8],
+    byte: u8,
+    count: usize,
+    back: &[u8],
+) -> Vec<u8> {
+    let mut splitter = Splitter::new(alloc);
+    let mut lines = Vec::new(alloc);
+    let script = front
+        .iter()
+        .copied()
+        .chain(std::iter::repeat_n(byte, count))
+        .chain(back.iter().copied());
+    for byte in script {
+        push(rt, &mut splitter, &mut lines, byte);
+    }
+    if let Some(end) = splitter.end() {
+        add(rt, &mut lines, end, splitter.piece());
+    }
+    lines
+}
+
+#[test]
+fn scripts_are_cut_at_their_semicolons(rt: HostRuntime) {
+    let table: [(&[u8], &[u8]); 22] = [
+        (b"", b""),
+        (b" \t\r\n", b""),
+        (b"a;b;", b"a;|b;|"),
+        (b"  a ; b", b"a ;|unfinished|"),
+        (b";;", b";|;|"),
+        (b"'a;''b';c;", b"'a;''b';|c;|"),
+        (b"\"a;\"\"b\";", b"\"a;\"\"b\";|"),
+        (b"'\";';\"';\";", b"'\";';|\"';\";|"),
+        (b"a 'b;", b"unfinished|"),
+        (b"-- a;\nb;", b"b;|"),
+        (b"// a;\nb;", b"b;|"),
+        (b"/* a; */b;", b"b;|"),
+        (b"a -- b;\nc;d;", b"a -- b;\nc;|d;|"),
+        (b"a /* ; **/ b;", b"a /* ; **/ b;|"),
+        (b"a /*/ ; */;", b"a /*/ ; */;|"),
+        (b"-a;/b;", b"-a;|/b;|"),
+        (b"- -;/ /;", b"- -;|/ /;|"),
+        (b"-- a", b""),
+        (b"-", b"unfinished|"),
+        (b"/* a;", b"unfinished|"),
+        (b"/*/;", b"unfinished|"),
+        (b"-- 'a\n;'", b";|unfinished|"),
+    ];
+    for (script, want) in table {
+        let lines = cut(&rt, rt.alloc(), script, b' ', 0, b"");
+        assert_eq!(rt; lines.as_slice(), want);
+    }
+}
+
+#[test]
+fn pieces_past_the_limit_are_too_long(rt: HostRuntime) {
+    let table: [(&[u8], usize, &[u8], &[u8]); 6] = [
+        (b"a", LIMIT - 1, b";b;", b"too long|b;|"),
+        (b"", LIMIT, b"", b"unfinished|"),
+        (b"a", LIMIT, b"", b"too long at the end|"),
+        (b"/*", LIMIT - 2, b"", b"unfinished|"),
+        (b"/*", LIMIT - 1, b"", b"too long at the end|"),
+        (b"/*", LIMIT, b"*/b;", b"b;|"),
+    ];
+    for (front, count, back, want) in table {
+        let lines = cut(&rt, rt.alloc(), front, b'a', count, back);
+        assert_eq!(rt; lines.as_slice(), want);
+    }
+}
+
+#[test]
+fn piece_of_the_limit_is_whole(rt: HostRuntime) {
+    let whole = cut(&rt, rt.alloc(), b"", b'a', LIMIT - 1, b";");
+    assert_eq!(rt; whole.len(), LIMIT + 1);
+}

@@ -1,0 +1,19 @@
+//! Tests of bodies, token trees and data files: their bytes, what is read of them, and damaged ones.
+#![tactic(auto)]
+
+#[cfg(test)]
+mod bodies;
+#[cfg(test)]
+mod fixture;
+#[cfg(test)]
+mod reading;
+#[cfg(test)]
+mod reading_damage;
+#[cfg(test)]
+mod scanning;
+#[cfg(test)]
+mod tree_fixture;
+#[cfg(test)]
+mod trees;
+#[cfg(test)]
+mod writing;

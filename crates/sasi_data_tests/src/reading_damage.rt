@@ -1,0 +1,122 @@
+// Data files that were cut, and ones of which a byte changed.
+use crate::fixture::{DATA, ONE, TOKEN};
+use crate::reading::{body_at, find, open, open_whole};
+use sasi_host::{Damage, FormatRule, MemHost, found};
+use std::alloc::Global;
+use std::process::Abort;
+
+// The damage of these bytes by this rule, from an offset up to another.
+fn damage_at(rt: &impl Abort, bytes: &[u8], from: usize, to: usize, rule: FormatRule) -> Damage {
+    if rule == FormatRule::Short {
+        let size = bytes.len() as u64;
+        return found(DATA, size, rule, &size.to_be_bytes());
+    }
+    let seen = bytes.get(from..to).expect(rt, "bytes");
+    assert!(rt; seen.len() <= 8);
+    found(DATA, from as u64, rule, seen)
+}
+
+/// A host with a file of these bytes.
+fn host_of(rt: &impl Abort, alloc: Global, bytes: &[u8]) -> MemHost {
+    let mut host = MemHost::new(alloc);
+    host.put(DATA, bytes).expect(rt, "memory for a file");
+    host
+}
+
+/// Whether a file of these bytes has key k1, or the damage.
+fn find_one(rt: &impl Abort, alloc: Global, bytes: &[u8]) -> Result<bool, Damage> {
+    let mut host = host_of(rt, alloc, bytes);
+    match open(rt, alloc, &mut host) {
+        Err(damage) => Err(damage),
+        Ok(data) => find(rt, alloc, &mut host, &data, TOKEN, b"k1"),
+    }
+}
+
+/// The file of one partition, cut to this size, is damaged.
+fn check_cut(rt: &impl Abort, alloc: Global, size: usize) {
+    let cut = ONE.get(..size).expect(rt, "a front");
+    let damage = if size < 97 {
+        damage_at(rt, cut, 0, 0, FormatRule::Short)
+    } else {
+        damage_at(rt, cut, size - 8, size, FormatRule::Magic)
+    };
+    assert_eq!(rt; find_one(rt, alloc, cut), Err(damage), "at {size}");
+}
+
+#[test]
+fn cut_file_is_damaged(rt: HostRuntime) {
+    for size in 0..ONE.len() {
+        check_cut(&rt, rt.alloc(), size);
+    }
+}
+
+// Where the last bit of a byte from the first of these offsets up to the second is turned: the offsets between which the
+// damage is seen, and its rule.
+const DAMAGES: [(usize, usize, usize, usize, FormatRule); 28] = [
+    (0, 8, 0, 8, FormatRule::Magic),
+    (8, 12, 8, 12, FormatRule::Version),
+    (12, 16, 12, 16, FormatRule::Number),
+    (16, 21, 16, 20, FormatRule::Number),
+    (21, 22, 33, 35, FormatRule::Number),
+    (24, 31, 36, 44, FormatRule::Number),
+    (32, 33, 32, 34, FormatRule::Number),
+    (33, 34, 16, 20, FormatRule::Number),
+    (34, 35, 34, 36, FormatRule::Number),
+    (35, 36, 47, 55, FormatRule::Order),
+    (44, 45, 44, 45, FormatRule::Number),
+    (45, 47, 45, 47, FormatRule::Number),
+    (47, 48, 47, 49, FormatRule::Number),
+    (48, 49, 47, 55, FormatRule::Order),
+    (57, 60, 16, 20, FormatRule::Number),
+    (61, 62, 61, 62, FormatRule::Number),
+    (62, 63, 62, 63, FormatRule::Number),
+    (63, 65, 63, 65, FormatRule::Number),
+    (65, 69, 65, 69, FormatRule::Number),
+    (77, 84, 0, 0, FormatRule::Short),
+    (84, 85, 17, 21, FormatRule::Number),
+    (85, 92, 0, 0, FormatRule::Short),
+    (92, 93, 60, 61, FormatRule::Number),
+    (93, 100, 0, 0, FormatRule::Short),
+    (100, 101, 93, 101, FormatRule::Number),
+    (109, 116, 109, 117, FormatRule::Place),
+    (116, 117, 16, 20, FormatRule::Number),
+    (117, 125, 117, 125, FormatRule::Magic),
+];
+
+/// The damage where this byte of the file was changed.
+fn damage_of(rt: &impl Abort, bytes: &[u8], at: usize) -> Option<Damage> {
+    for (first, last, from, to, rule) in DAMAGES {
+        if first <= at && at < last {
+            return Some(damage_at(rt, bytes, from, to, rule));
+        }
+    }
+    None
+}
+
+/// The body of the one partition in a file of these bytes.
+fn body_of(rt: &impl Abort, alloc: Global, bytes: &[u8]) -> Vec<u8> {
+    let mut host = host_of(rt, alloc, bytes);
+    let data = open_whole(rt, alloc, &mut host);
+    body_at(rt, alloc, &mut host, &data, 16)
+}
+
+/// A file in which the last bit of a byte is turned is damaged there, or has another partition.
+fn check_changed(rt: &impl Abort, alloc: Global, at: usize) {
+    let mut bytes = ONE;
+    *bytes.get_mut(at).expect(rt, "a byte") ^= 1;
+    let found = find_one(rt, alloc, &bytes);
+    if let Some(damage) = damage_of(rt, &bytes, at) {
+        assert_eq!(rt; found, Err(damage), "at {at}");
+    } else {
+        assert_eq!(rt; found, Ok(at != 22 && at != 23), "at {at}");
+        let body = body_of(rt, alloc, &bytes);
+        assert!(rt; body.as_slice() == &bytes[20..61], "at {at}");
+    }
+}
+
+#[test]
+fn changed_byte_is_damage_or_read(rt: HostRuntime) {
+    for at in (0..69).chain(77..125) {
+        check_changed(&rt, rt.alloc(), at);
+    }
+}

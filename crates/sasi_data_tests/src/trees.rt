@@ -1,0 +1,247 @@
+// Trees of many sizes: their bytes, which another writer of the format gave, what is read of them, and damaged ones.
+ghost use Rattle.std.specs.Prelude.{◌≡◌};
+ghost use Rattle.sasi_host.specs.Held.{IsHeld};
+ghost use Rattle.sasi_host.specs.Memory.{host_view, seen as seen_of};
+ghost use Rattle.sasi_data_tests.specs.declared.tree_fixture.TheConstants.{FILE};
+
+use crate::tree_fixture::{FILE, host_of, nth_pair, pairs_of, two_leaves, write_tree};
+use sasi_host::{Damage, Direct, FormatRule, MemHost, ReadFault, Seen};
+use sasi_tokentree::{Pair, Tree, TreeRef};
+use std::alloc::Global;
+use std::process::Abort;
+
+fn has_at(bytes: &[u8], at: usize, part: &[u8]) -> bool {
+    at <= bytes.len() && bytes[at..].starts_with(part)
+}
+
+fn checksum(bytes: &[u8]) -> u64 {
+    let mut sum = 0u64;
+    for byte in bytes {
+        sum = sum.wrapping_mul(31).wrapping_add(u64::from(*byte));
+    }
+    sum
+}
+
+#[test]
+fn two_leaves_lie_below_a_root(rt: HostRuntime) {
+    let (bytes, tree) = two_leaves(&rt, rt.alloc());
+    assert!(rt; (tree.root, bytes.len()) == (4112, 4152));
+    let leaf: [u8; 24] = [
+        0, 0, 0, 255, 0, 0, 0, 0, 0, 0, 0, 0, 0, 0, 0, 7, 0, 0, 0, 0, 0, 0, 3, 232,
+    ];
+    assert!(rt; has_at(&bytes, 0, &leaf));
+    let last: [u8; 24] = [
+        0, 0, 0, 1, 0, 0, 0, 0, 0, 0, 0, 0, 0, 0, 2, 5, 0, 0, 0, 0, 0, 0, 4, 231,
+    ];
+    assert!(rt; has_at(&bytes, 4088, &last));
+    let root: [u8; 40] = [
+        1, 0, 0, 2, 0, 0, 0, 0, 0, 0, 0, 0, 0, 0, 0, 7, 0, 0, 0, 0, 0, 0, 0, 0, 0, 0, 0, 0, 0, 0,
+        2, 5, 0, 0, 0, 0, 0, 0, 15, 248,
+    ];
+    assert!(rt; has_at(&bytes, 4112, &root));
+}
+
+/// The next pair of the tree is this one.
+fn check_next(rt: &impl Abort, host: &mut MemHost, reader: &mut Tree, pair: Option<Pair>)
+    requires file { reader.old.held.file ≡ FILE }
+    requires held { IsHeld reader.old.held (host_view (seen_of host.old)).files }
+    ensures file { reader.new.held.file ≡ FILE }
+    ensures held { IsHeld reader.new.held (host_view (seen_of host.new)).files }
+{
+    assert!(rt; host.bytes(FILE).is_some());
+    assert!(rt; reader.next(host, &mut Direct).expect(rt, "read") == pair);
+}
+
+/// A reader gives the pairs in order, and then none.
+fn check_pairs(rt: &impl Abort, host: &mut MemHost, tree: TreeRef, step: u64) {
+    let mut reader = Tree::new(FILE, tree);
+    for k in 0..tree.pairs {
+        check_next(rt, host, &mut reader, Some(nth_pair(k, step)));
+    }
+    check_next(rt, host, &mut reader, None);
+}
+
+// A tree: its offset, how many pairs it has, and the step of their tokens.
+type Shape = (usize, u64, u64);
+
+/// The tree has so many bytes, this root and this checksum, and a scan of it reads so many pages.
+fn check_tree(
+    rt: &impl Abort,
+    alloc: Global,
+    shape: Shape,
+    size: (usize, u64),
+    sum: u64,
+    pages: u64,
+) {
+    let (at, count, step) = shape;
+    let mut host = MemHost::new(alloc);
+    let tree = write_tree(rt, alloc, &mut host, at, &pairs_of(rt, alloc, count, step));
+    let written = host.bytes(FILE).expect(rt, "a file");
+    let bytes = written.get(at..).expect(rt, "a tree");
+    assert!(rt; (bytes.len(), tree.root, tree.pairs) == (size.0, size.1, count));
+    assert_eq!(rt; checksum(bytes), sum);
+    check_pairs(rt, &mut host, tree, step);
+    assert_eq!(rt; host.reads(), pages);
+}
+
+#[test]
+fn trees_are_written_and_scanned(rt: HostRuntime) {
+    let expected: [(Shape, (usize, u64), u64, u64); 7] = [
+        ((0, 0, 2), (0, 0), 0, 0),
+        ((0, 1, 2), (24, 0), 770_052_108_647_399_373, 1),
+        ((0, 255, 2), (4088, 0), 14_695_913_446_304_080_811, 1),
+        ((0, 256, 2), (4152, 4112), 9_674_888_900_881_014_726, 2),
+        ((100, 511, 2), (8256, 8300), 10_783_442_596_516_953_135, 3),
+        ((0, 300, 0), (4856, 4816), 16_446_355_277_525_647_614, 2),
+        (
+            (0, 65_026, 2),
+            (1_046_616, 1_046_576),
+            6_108_995_159_362_092_637,
+            255,
+        ),
+    ];
+    for (shape, size, sum, pages) in expected {
+        check_tree(&rt, rt.alloc(), shape, size, sum, pages);
+    }
+}
+
+/// The first pair at or after a token, or the damage.
+fn seek(
+    rt: &impl Abort,
+    host: &mut MemHost,
+    tree: TreeRef,
+    token: u64,
+) -> Result<Option<Pair>, Damage> {
+    let mut reader = Tree::new(FILE, tree);
+    assert!(rt; host.bytes(FILE).is_some());
+    match reader.first(host, &mut Direct, token) {
+        Err(ReadFault::Damaged(damage)) => Err(damage),
+        found => Ok(found.expect(rt, "read")),
+    }
+}
+
+/// In a tree of so many pairs, the pair with this index is the first at or after the token.
+fn check_seek(
+    rt: &impl Abort,
+    alloc: Global,
+    count: u64,
+    step: u64,
+    token: u64,
+    index: Option<u64>,
+) {
+    let mut host = MemHost::new(alloc);
+    let tree = write_tree(rt, alloc, &mut host, 0, &pairs_of(rt, alloc, count, step));
+    let found = seek(rt, &mut host, tree, token);
+    assert_eq!(rt; found, Ok(index.map(|k| nth_pair(k, step))));
+}
+
+#[test]
+fn tokens_are_found(rt: HostRuntime) {
+    let expected: [(u64, u64, u64, Option<u64>); 23] = [
+        (0, 2, 0, None),
+        (1, 2, 6, Some(0)),
+        (1, 2, 7, Some(0)),
+        (1, 2, 8, None),
+        (255, 2, 6, Some(0)),
+        (255, 2, 264, Some(129)),
+        (255, 2, 265, Some(129)),
+        (255, 2, 515, Some(254)),
+        (255, 2, 516, None),
+        (256, 2, 0, Some(0)),
+        (256, 2, 8, Some(1)),
+        (256, 2, 515, Some(254)),
+        (256, 2, 516, Some(255)),
+        (256, 2, 517, Some(255)),
+        (256, 2, 518, None),
+        (600, 0, 7, Some(0)),
+        (600, 0, 8, None),
+        (65_026, 2, 6, Some(0)),
+        (65_026, 2, 65_032, Some(32_513)),
+        (65_026, 2, 65_033, Some(32_513)),
+        (65_026, 2, 130_056, Some(65_025)),
+        (65_026, 2, 130_057, Some(65_025)),
+        (65_026, 2, u64::MAX, None),
+    ];
+    for (count, step, token, index) in expected {
+        check_seek(&rt, rt.alloc(), count, step, token, index);
+    }
+}
+
+fn damage(at: u64, rule: FormatRule, bytes: [u8; 8], len: u8) -> Damage {
+    Damage {
+        file: FILE,
+        at,
+        rule,
+        seen: Seen { bytes, len },
+    }
+}
+
+/// With this byte changed, the tree of two leaves has this damage.
+fn check_changed(rt: &impl Abort, alloc: Global, offset: usize, byte: u8, damage: Damage) {
+    let (mut bytes, tree) = two_leaves(rt, alloc);
+    *bytes.get_mut(offset).expect(rt, "a byte") = byte;
+    let mut host = host_of(rt, alloc, &bytes);
+    assert_eq!(rt; seek(rt, &mut host, tree, 400), Err(damage));
+}
+
+#[test]
+fn damage_is_reported(rt: HostRuntime) {
+    let expected: [(usize, u8, u64, FormatRule, [u8; 8], u8); 7] = [
+        (
+            4112,
+            2,
+            4112,
+            FormatRule::Number,
+            [2, 0, 0, 0, 0, 0, 0, 0],
+            1,
+        ),
+        (
+            4113,
+            1,
+            4113,
+            FormatRule::Number,
+            [1, 0, 0, 0, 0, 0, 0, 0],
+            1,
+        ),
+        (
+            4115,
+            3,
+            4114,
+            FormatRule::Number,
+            [0, 3, 0, 0, 0, 0, 0, 0],
+            2,
+        ),
+        (
+            4119,
+            9,
+            4116,
+            FormatRule::Number,
+            [0, 0, 0, 9, 0, 0, 0, 0],
+            4,
+        ),
+        (0, 1, 0, FormatRule::Number, [1, 0, 0, 0, 0, 0, 0, 0], 1),
+        (
+            4142,
+            0,
+            4136,
+            FormatRule::Order,
+            [0, 0, 0, 0, 0, 0, 0, 5],
+            8,
+        ),
+        (31, 200, 40, FormatRule::Order, [0, 0, 0, 0, 0, 0, 0, 11], 8),
+    ];
+    for (offset, byte, at, rule, seen, len) in expected {
+        check_changed(&rt, rt.alloc(), offset, byte, damage(at, rule, seen, len));
+    }
+}
+
+#[test]
+fn cut_tree_is_too_short(rt: HostRuntime) {
+    let alloc = rt.alloc();
+    let (mut bytes, tree) = two_leaves(&rt, alloc);
+    bytes.truncate(4151);
+    let mut cut = host_of(&rt, alloc, &bytes);
+    let short = damage(4151, FormatRule::Short, [0, 0, 0, 0, 0, 0, 16, 55], 8);
+    assert_eq!(rt; seek(&rt, &mut cut, tree, 400), Err(short));
+    assert_eq!(rt; cut.reads(), 1);
+}

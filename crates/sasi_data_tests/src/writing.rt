@@ -1,0 +1,157 @@
+// Data files: their bytes, and the calls that an observer gets.
+use crate::fixture::{DATA, INSERTED, ONE, TOKEN, begin, push};
+use sasi_datawrite::{DataRef, FlushObserver, NoWatch};
+use sasi_host::MemHost;
+use sasi_types::{Cell, KitFault, Token};
+use std::alloc::{AllocError, Global};
+use std::process::Abort;
+
+// Key abcdefgh1, with the same cells.
+const FIRST: [u8; 48] = [
+    0, 9, b'a', b'b', b'c', b'd', b'e', b'f', b'g', b'h', b'1', 0, 0, 0, 0, 0, 0, 0, 0, 0, 2, 0, 0,
+    0, 0, 0, 0, 0, 0, 0, 5, 1, 0, 0, 0, 1, 0, 0, 0, 0, 0, 0, 0, 5, 1, 0, 1, b'x',
+];
+
+// Key abcdefgh2, of the same token, and a deletion alone.
+const SECOND: [u8; 21] = [
+    0, 9, b'a', b'b', b'c', b'd', b'e', b'f', b'g', b'h', b'2', 0, 0, 0, 0, 0, 0, 0, 7, 0, 0,
+];
+
+// Key b, a deletion at time 3, a tombstone at 4, and the int 7 at 9.
+const THIRD: [u8; 41] = [
+    0, 1, b'b', 0, 0, 0, 0, 0, 0, 0, 3, 0, 2, 0, 1, 0, 0, 0, 0, 0, 0, 0, 4, 0, 0, 2, 0, 0, 0, 0, 0,
+    0, 0, 9, 1, 0, 4, 0, 0, 0, 7,
+];
+
+// The data file of these three.
+const THREE: [u8; 234] = [
+    b'S', b'A', b'S', b'I', b'D', b'A', b'T', b'1', 0, 0, 0, 1, 0, 0, 0, 0, 0, 0, 0, b'0', 0, 9,
+    b'a', b'b', b'c', b'd', b'e', b'f', b'g', b'h', b'1', 0, 0, 0, 0, 0, 0, 0, 0, 0, 2, 0, 0, 0, 0,
+    0, 0, 0, 0, 0, 5, 1, 0, 0, 0, 1, 0, 0, 0, 0, 0, 0, 0, 5, 1, 0, 1, b'x', 0, 0, 0, 21, 0, 9,
+    b'a', b'b', b'c', b'd', b'e', b'f', b'g', b'h', b'2', 0, 0, 0, 0, 0, 0, 0, 7, 0, 0, 0, 0, 0,
+    41, 0, 1, b'b', 0, 0, 0, 0, 0, 0, 0, 3, 0, 2, 0, 1, 0, 0, 0, 0, 0, 0, 0, 4, 0, 0, 2, 0, 0, 0,
+    0, 0, 0, 0, 9, 1, 0, 4, 0, 0, 0, 7, 0, 0, 0, 3, 0, 0, 0, 0, b'a', b'b', b'c', b'd', b'e', b'f',
+    b'g', b'h', 0, 0, 0, 0, 0, 0, 0, 16, b'a', b'b', b'c', b'd', b'e', b'f', b'g', b'h', 0, 0, 0,
+    0, 0, 0, 0, b'D', b'b', 0, 0, 0, 0, 0, 0, 0, 0, 0, 0, 0, 0, 0, 0, 93, 0, 0, 0, 0, 0, 0, 0, 138,
+    0, 0, 0, 0, 0, 0, 0, 3, 0, 0, 0, 0, 0, 0, 0, 9, 0, 0, 0, 0, 0, 0, 0, 138, b'S', b'A', b'S',
+    b'I', b'D', b'E', b'N', b'D',
+];
+
+// A call that an observer got.
+#[derive(Clone, Copy, Debug, PartialEq, Eq)]
+enum Observed {
+    Partition { token: Token, place: u64 },
+    Cell { column: u16, time: u64 },
+    End,
+}
+
+// Those of the three.
+const CALLS: [Observed; 8] = [
+    Observed::Partition {
+        token: 0x6162_6364_6566_6768,
+        place: 16,
+    },
+    Observed::Cell { column: 0, time: 5 },
+    Observed::Cell { column: 1, time: 5 },
+    Observed::Partition {
+        token: 0x6162_6364_6566_6768,
+        place: 68,
+    },
+    Observed::Partition {
+        token: 0x6200_0000_0000_0000,
+        place: 93,
+    },
+    Observed::Cell { column: 1, time: 4 },
+    Observed::Cell { column: 2, time: 9 },
+    Observed::End,
+];
+
+// Keeps the calls that it got.
+#[derive(Drop)]
+struct Recorder {
+    calls: Vec<Observed>,
+}
+
+impl Recorder {
+    fn note(&mut self, call: Observed) -> Result<(), AllocError> {
+        self.calls.push(call)?;
+        Ok(())
+    }
+}
+
+impl FlushObserver for Recorder {
+    ghost agrees = { λ _ _. Unit {0} };
+
+    ghost lacks = { λ _ _. ⊥ };
+
+    fn start_partition(&mut self, token: Token, place: u64) -> Result<(), KitFault> {
+        self.note(Observed::Partition { token, place })?;
+        Ok(())
+    }
+
+    fn cell(&mut self, column: u16, cell: &Cell) -> Result<(), KitFault> {
+        self.note(Observed::Cell {
+            column,
+            time: cell.time,
+        })?;
+        Ok(())
+    }
+
+    fn complete(&mut self) -> Result<(), KitFault> {
+        self.note(Observed::End)?;
+        Ok(())
+    }
+}
+
+/// Writes one partition, whose token is known.
+fn write_one(rt: &impl Abort, alloc: Global, host: &mut MemHost) -> DataRef {
+    let mut writer = begin(rt, alloc, host);
+    let last = push(rt, alloc, host, &mut NoWatch, &mut writer, 0, &INSERTED);
+    assert!(rt; last == TOKEN);
+    writer.finish(host).expect(rt, "finished")
+}
+
+#[test]
+fn one_partition_has_these_bytes(rt: HostRuntime) {
+    let mut host = MemHost::new(rt.alloc());
+    let written = DataRef {
+        number: 7,
+        partitions: 1,
+        greatest: 5,
+    };
+    assert_eq!(rt; write_one(&rt, rt.alloc(), &mut host), written);
+    assert_eq!(rt; host.bytes(DATA).expect(&rt, "a file"), ONE.as_slice());
+}
+
+/// Writes the three partitions.
+fn write_three<O: FlushObserver>(
+    rt: &impl Abort,
+    alloc: Global,
+    host: &mut MemHost,
+    watch: &mut O,
+) -> DataRef {
+    let mut writer = begin(rt, alloc, host);
+    let last = push(rt, alloc, host, watch, &mut writer, 0, &FIRST);
+    let last = push(rt, alloc, host, watch, &mut writer, last, &SECOND);
+    push(rt, alloc, host, watch, &mut writer, last, &THIRD);
+    writer.finish(host).expect(rt, "finished")
+}
+
+#[test]
+fn three_partitions_have_these_bytes_and_are_observed(rt: HostRuntime) {
+    let alloc = rt.alloc();
+    let mut host = MemHost::new(alloc);
+    let mut watch = Recorder {
+        calls: Vec::new(alloc),
+    };
+    let data = write_three(&rt, alloc, &mut host, &mut watch);
+    watch.complete().expect(&rt, "completed");
+    let written = DataRef {
+        number: 7,
+        partitions: 3,
+        greatest: 9,
+    };
+    assert_eq!(rt; data, written);
+    assert_eq!(rt; host.bytes(DATA).expect(&rt, "a file"), THREE.as_slice());
+    assert_eq!(rt; watch.calls.as_slice(), CALLS.as_slice());
+}

@@ -1,0 +1,69 @@
+-- What a call that reads a file by pages needs, and what it leaves.
+use Rattle.std.specs.Prelude.{◌≡◌, ◌⊎◌, Option, refl}
+use Rattle.std.proofs.Common.{◌∙◌, inl, inr, ⊎_elim}
+use Rattle.sasi_host.specs.declared.name.FileName.{FileName}
+use Rattle.sasi_host.specs.Names.{Folder}
+use Rattle.sasi_host.specs.View.{View, IsThere}
+use Rattle.sasi_host.specs.Disk.{Changes, Same}
+use Rattle.sasi_host.specs.Held.{Held, IsHeld}
+use Rattle.sasi_host.specs.Moves.{stays, then_same}
+
+-- the file is there, and the pages that the reader keeps are those of the folder
+pub record CanRead (Keeps : Option Folder → Type 0) (v : View) (file : FileName) : Type 0 where
+  pub there : IsThere v file
+  pub agrees : Keeps v.files
+
+-- so are the pages that it keeps afterwards, which are of no further file but this one; and the folder is unchanged
+pub record HasRead (Keeps : Option Folder → Type 0) (Before After : FileName → Type 0) (old new : View) (file : FileName) : Type 0 where
+  pub agrees : Keeps new.files
+  pub covers : (name : FileName) → After name → Before name ⊎ (name ≡ file)
+  pub changes : Changes Same old new
+
+-- through a buffered file, whose page is that of the file
+pub record CanReadOn (Keeps : Option Folder → Type 0) (v : View) (was : Held) : Type 0 where
+  pub there : IsThere v was.file
+  pub agrees : Keeps v.files
+  pub held : IsHeld was v.files
+
+-- and so is the page that it has afterwards, of the same file
+pub record HasReadOn (Keeps : Option Folder → Type 0) (Before After : FileName → Type 0) (old new : View) (before after : Held) : Type 0 where
+  pub agrees : Keeps new.files
+  pub covers : (name : FileName) → After name → Before name ⊎ (name ≡ before.file)
+  pub changes : Changes Same old new
+  pub held : IsHeld after new.files
+  pub file : after.file ≡ before.file
+
+-- ---- laws
+
+-- a call that reads nothing
+pub reads_nothing : (K : Option Folder → Type 0) (A : FileName → Type 0) (v : View) (h : Held) → K v.files → IsHeld h v.files → HasReadOn K A A v v h h
+reads_nothing K A v h agrees held = record { agrees = agrees; covers = λ name at. inl at; changes = stays v; held = held; file = refl }
+
+-- one call after another
+pub read_then : (K L : Option Folder → Type 0) (A B C : FileName → Type 0) (u v w : View) (file : FileName) → HasRead K A B u v file → HasRead L B C v w file → HasRead L A C u w file
+read_then K L A B C u v w file first second = record {
+  agrees = second.agrees;
+  covers = λ name at. ⊎_elim (λ before. first.covers name before) (λ this. inr this) (second.covers name at);
+  changes = then_same u v w Same first.changes second.changes;
+}
+
+pub reads_then : (K L : Option Folder → Type 0) (A B C : FileName → Type 0) (u v w : View) (h i j : Held) → HasReadOn K A B u v h i → HasReadOn L B C v w i j → HasReadOn L A C u w h j
+reads_then K L A B C u v w h i j first second = record {
+  agrees = second.agrees;
+  covers = λ name at. ⊎_elim (λ before. first.covers name before) (λ this. inr (this ∙ first.file)) (second.covers name at);
+  changes = then_same u v w Same first.changes second.changes;
+  held = second.held;
+  file = second.file ∙ first.file;
+}
+
+-- the file of a buffered one, and one whose name is known
+pub read_of : (K : Option Folder → Type 0) (A B : FileName → Type 0) (u v : View) (h i : Held) (file : FileName) → h.file ≡ file → HasReadOn K A B u v h i → HasRead K A B u v file
+read_of K A B u v h i file is read = record {
+  agrees = read.agrees;
+  covers = λ name at. ⊎_elim (λ before. inl before) (λ this. inr (this ∙ is)) (read.covers name at);
+  changes = read.changes;
+}
+
+-- behind a call that reads nothing by pages
+pub read_behind : (K : Option Folder → Type 0) (A B : FileName → Type 0) (t u v : View) (file : FileName) → Changes Same t u → HasRead K A B u v file → HasRead K A B t v file
+read_behind K A B t u v file before read = record { agrees = read.agrees; covers = read.covers; changes = then_same t u v Same before read.changes }

@@ -1,0 +1,13 @@
+//! Tests of the hosts: sasi_host in memory, sasi_filehost on real files, and sasi_gated on the host in memory.
+#![tactic(auto)]
+
+#[cfg(test)]
+mod buffered;
+#[cfg(test)]
+mod crashes;
+#[cfg(test)]
+mod files;
+#[cfg(test)]
+mod gated;
+#[cfg(test)]
+mod memory;
