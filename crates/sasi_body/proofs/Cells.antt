@@ -17,15 +17,15 @@ use Rattle.sasi_types.specs.declared.column.ColumnType.{ColumnType}
 use Rattle.sasi_model.specs.Cells.{Partition}
 use Rattle.sasi_cells.specs.Entries.{Entry}
 use Rattle.sasi_cells.specs.Changes.{deletion, with_column}
-use Rattle.sasi_fields.specs.Reading.{Reading, Passes}
+use Rattle.sasi_fields.specs.Reading.{Reading, ReadsField}
 use Rattle.sasi_body.specs.Format.{cell_bytes, cells_of, IsCell, IsCount}
 use Rattle.sasi_body.specs.Typed.{IsListed}
-use Rattle.sasi_body.specs.Places.{next_column, AreCells, IsAtCell}
+use Rattle.sasi_body.specs.Prefixes.{next_column, AreCells, IsAtCell}
 use Rattle.sasi_body.specs.Reads.{AtCells}
 
 -- ---- fields one after another
 
-pub passes_then : (a b : Bytes) (old between new : Reading) → Passes a old between → Passes b between new → Passes (a ++ b) old new
+pub passes_then : (a b : Bytes) (old between new : Reading) → ReadsField a old between → ReadsField b between new → ReadsField (a ++ b) old new
 passes_then a b old between new first second = record {
   next = first.next ∙ ap (λ (l : Bytes). a ++ l) second.next ∙ sym (append_assoc a b new.left);
   done = second.done ∙ ap (λ (l : Bytes). l ++ b) first.done ∙ append_assoc old.done a b;
@@ -121,7 +121,7 @@ no_cells types deleted cells none = subst (AreCells types deleted) (sym none) (r
 -- ---- where the next one stands
 
 pub at_next : (types : List ColumnType) (start now : Reading) (deleted count : ℕ) (cells : List Entry) → AtCells types start deleted count → IsCount
-    deleted count → Passes (flat_map cell_bytes cells) start now → AreCells types deleted cells → length cells < count
+    deleted count → ReadsField (flat_map cell_bytes cells) start now → AreCells types deleted cells → length cells < count
     → IsAtCell types now.done deleted cells
 at_next types start now deleted count cells at count_is passes are more = record {
   before = at.before;

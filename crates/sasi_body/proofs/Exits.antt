@@ -2,7 +2,7 @@
 use Rattle.std.proofs.Common.{◌≡◌, ◌⊎◌, ℕ, ◌^◌, ◌<◌, List, ◌++◌, length, take, Result, Ok, Err, refl, sym, ◌∙◌, ap, subst, append_assoc}
 use Rattle.std.specs.Result.{IsErrAnd, IfErr}
 use Rattle.std.specs.Int.{to_be_bytes, w64}
-use Rattle.sasi_fields.specs.Reading.{Reading, Passes}
+use Rattle.sasi_fields.specs.Reading.{Reading, ReadsField}
 use Rattle.sasi_fields.specs.Ranges.{RangeCause}
 use Rattle.sasi_fields.specs.declared.fault.FieldFault.{FieldFault}
 use Rattle.sasi_fields.specs.declared.fault.FieldFault.TheVariants.{Short, BadField}
@@ -10,11 +10,11 @@ use Rattle.sasi_host.specs.Names.{Bytes}
 use Rattle.sasi_host.specs.declared.damage.FormatRule.{FormatRule}
 use Rattle.sasi_host.specs.declared.damage.FormatRule.TheVariants.{Number, Order, Text}
 use Rattle.sasi_types.specs.declared.column.ColumnType.{ColumnType}
-use Rattle.sasi_body.specs.declared.fault.Broken.{Broken}
+use Rattle.sasi_body.specs.declared.fault.BodyDamage.{BodyDamage}
 use Rattle.sasi_body.specs.declared.fault.BodyFault.{BodyFault}
 use Rattle.sasi_body.specs.Typed.{IsTypedAt}
 use Rattle.sasi_body.specs.Damages.{IsWrong, IsWrong64, IsNoValue, Lacks, Breaks, IsWrongNumber, IsWrongOrder, IsWrongText, HasOtherLength}
-use Rattle.sasi_body.specs.Seen.{IsFaultOf, IsBrokenNumber}
+use Rattle.sasi_body.specs.Faults.{IsFaultOf, IsBrokenNumber}
 use Rattle.sasi_host.specs.Damages.{seen_bytes}
 use Rattle.sasi_body.specs.Reads.{whole}
 
@@ -34,11 +34,11 @@ told_text types bytes rule at seen is wrong = subst (λ (r : FormatRule). Breaks
 -- a number that stands next isn't right
 pub wrong_next : (limit : ℕ) (put : ℕ → Bytes) (Right : ℕ → Type 0) (reading : Reading) (rest seen : Bytes) (number at : ℕ)
     → reading.left ≡ put number ++ rest → at ≡ length reading.done → seen ≡ put number → number < limit → ¬ Right number → IsWrong limit put Right (whole reading) reading.done at seen
-wrong_next limit put Right reading rest seen number at next place stated fits wrong = record {
+wrong_next limit put Right reading rest seen number at next offset stated fits wrong = record {
   number = number;
   rest = rest;
   is = ap (λ (l : Bytes). reading.done ++ l) (next ∙ ap (λ (l : Bytes). l ++ rest) (sym stated));
-  place = place;
+  offset = offset;
   stated = stated;
   fits = fits;
   wrong = wrong;
@@ -52,29 +52,29 @@ lacks_next size reading short = record { left = reading.left; is = refl; short =
 pub no_value_next : (types : List ColumnType) (column size : ℕ) (reading : Reading) (value rest seen : Bytes) (at : ℕ)
     → reading.left ≡ value ++ rest → at ≡ length reading.done → length value ≡ size → seen ≡ take 8 value → ¬ IsTypedAt types column value → IsNoValue
     types column size (whole reading) reading.done at seen
-no_value_next types column size reading value rest seen at next place sized stated wrong = record {
+no_value_next types column size reading value rest seen at next offset sized stated wrong = record {
   value = value;
   rest = rest;
   is = ap (λ (l : Bytes). reading.done ++ l) next;
-  place = place;
+  offset = offset;
   sized = sized;
   seen_is = stated;
   wrong = wrong;
 }
 
 -- a number that stands next and isn't right is told
-pub number_told : (types : List ColumnType) (limit : ℕ) (put : ℕ → Bytes) (Right : ℕ → Type 0) (reading : Reading) (rest : Bytes) (number at : ℕ) (broken : Broken)
+pub number_told : (types : List ColumnType) (limit : ℕ) (put : ℕ → Bytes) (Right : ℕ → Type 0) (reading : Reading) (rest : Bytes) (number at : ℕ) (broken : BodyDamage)
     → broken.rule ≡ Number → broken.at ≡ at → at ≡ length reading.done → seen_bytes broken.seen ≡ put number → reading.left ≡ put number ++ rest → number < limit → ¬ Right number
     → ((at : ℕ) (seen : Bytes) → IsWrong limit put Right (whole reading) reading.done at seen → IsWrongNumber types (whole reading) at seen)
     → Breaks types (whole reading) broken.rule broken.at (seen_bytes broken.seen)
-number_told types limit put Right reading rest number at broken rule at_is place seen next fits wrong told =
+number_told types limit put Right reading rest number at broken rule at_is offset seen next fits wrong told =
     told_number types (whole reading) broken.rule broken.at (seen_bytes broken.seen) rule
-    (told broken.at (seen_bytes broken.seen) (wrong_next limit put Right reading rest (seen_bytes broken.seen) number broken.at next (at_is ∙ place) seen fits wrong))
+    (told broken.at (seen_bytes broken.seen) (wrong_next limit put Right reading rest (seen_bytes broken.seen) number broken.at next (at_is ∙ offset) seen fits wrong))
 
 -- ---- over one field and the next
 
 -- the bytes stay the same while a reader goes over them
-pub whole_same : (field : Bytes) (old new : Reading) → Passes field old new → whole new ≡ whole old
+pub whole_same : (field : Bytes) (old new : Reading) → ReadsField field old new → whole new ≡ whole old
 whole_same field old new passes =
     ap (λ (l : Bytes). l ++ new.left) passes.done ∙ append_assoc old.done field new.left ∙ sym (ap (λ (l : Bytes). old.done ++ l) passes.next)
 
@@ -97,4 +97,4 @@ exit_ranged (Err g) types reading least greatest Right (BadField at n) is cause 
     subst (IsFaultOf types (whole reading)) (sym is.1)
     (told_number types (whole reading) is.0.rule is.0.at (seen_bytes is.0.seen) is.2.rule
     (wrong is.0.at (seen_bytes is.0.seen)
-    (wrong_next (2 ^ 64) (to_be_bytes w64) Right reading cause.rest (seen_bytes is.0.seen) n is.0.at cause.stands (is.2.place ∙ cause.place) is.2.seen cause.fits (outside n cause.outside))))
+    (wrong_next (2 ^ 64) (to_be_bytes w64) Right reading cause.rest (seen_bytes is.0.seen) n is.0.at cause.stands (is.2.offset ∙ cause.offset_is) is.2.seen cause.fits (outside n cause.outside))))

@@ -9,7 +9,7 @@ use Rattle.sasi_model.specs.Cells.{Partition}
 use Rattle.sasi_cells.specs.Entries.{Entry}
 use Rattle.sasi_body.specs.Format.{body, IsCount}
 use Rattle.sasi_body.specs.Typed.{IsTypedAt, IsBodyOf}
-use Rattle.sasi_body.specs.Places.{IsAtKey, IsAtDeletion, IsAtCount, next_column, IsAtCell, IsAtTime, IsTime, IsAtTag, IsAtSize, IsAtValue}
+use Rattle.sasi_body.specs.Prefixes.{IsAtKey, IsAtDeletion, IsAtCount, next_column, IsAtCell, IsAtTime, IsTime, IsAtTag, IsAtSize, IsAtValue}
 
 -- ---- a number outside its range
 
@@ -18,7 +18,7 @@ pub record IsWrong (limit : ℕ) (put : ℕ → Bytes) (Right : ℕ → Type 0) 
   pub number : ℕ
   pub rest : Bytes
   pub is : bytes ≡ front ++ (seen ++ rest)
-  pub place : at ≡ length front
+  pub offset : at ≡ length front
   pub stated : seen ≡ put number
   pub fits : number < limit
   pub wrong : ¬ Right number
@@ -55,7 +55,7 @@ pub record IsWrongOrder (types : List ColumnType) (bytes : Bytes) (at : ℕ) (se
   pub rest : Bytes
   pub cells_stand : IsAtCell types front deleted cells
   pub is : bytes ≡ front ++ left
-  pub place : at ≡ length front
+  pub offset : at ≡ length front
   pub stated : left ≡ to_be_bytes w16 column ++ rest
   pub fits : column < 2 ^ 16
   pub seen_is : seen ≡ take 8 left
@@ -68,7 +68,7 @@ pub record IsNoValue (types : List ColumnType) (column size : ℕ) (bytes front 
   pub value : Bytes
   pub rest : Bytes
   pub is : bytes ≡ front ++ (value ++ rest)
-  pub place : at ≡ length front
+  pub offset : at ≡ length front
   pub sized : length value ≡ size
   pub seen_is : seen ≡ take 8 value
   pub wrong : ¬ IsTypedAt types column value

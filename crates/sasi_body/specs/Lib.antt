@@ -1,7 +1,7 @@
 pub mod Format
 pub mod Typed
-pub mod Places
+pub mod Prefixes
 pub mod Damages
-pub mod Seen
+pub mod Faults
 pub mod Reads
 pub mod Laws

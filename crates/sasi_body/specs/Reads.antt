@@ -7,10 +7,10 @@ use Rattle.sasi_types.specs.declared.value.Value.{Value}
 use Rattle.sasi_types.specs.Value.{type_of}
 use Rattle.sasi_model.specs.Cells.{Partition}
 use Rattle.sasi_cells.specs.Entries.{Entry}
-use Rattle.sasi_fields.specs.Reading.{Reading, Passes}
+use Rattle.sasi_fields.specs.Reading.{Reading, ReadsField}
 use Rattle.sasi_body.specs.Format.{cell_bytes, cells_of, HasBytes, IsCell, IsCount}
 use Rattle.sasi_body.specs.Typed.{IsListed}
-use Rattle.sasi_body.specs.Places.{IsAtCount, next_column, AreCells}
+use Rattle.sasi_body.specs.Prefixes.{IsAtCount, next_column, AreCells}
 
 -- the bytes that it has read, and those that are left
 abbrev pub whole : Reading → Bytes
@@ -34,9 +34,9 @@ pub record AtCells (types : List ColumnType) (reading : Reading) (deleted count 
   pub deletion : IsAtCount types before deleted
 
 -- the reader consumes one more cell, and the partition has it behind the others; the least column is then one above its own
-pub record Takes (types : List ColumnType) (old new : Reading) (before after : Partition) (least : ℕ) : Type 0 where
+pub record AppendsCell (types : List ColumnType) (old new : Reading) (before after : Partition) (least : ℕ) : Type 0 where
   pub entry : Entry
-  pub passes : Passes (cell_bytes entry) old new
+  pub passes : ReadsField (cell_bytes entry) old new
   pub cell : IsCell before.deleted entry
   pub listed : IsListed types entry
   pub above : next_column (cells_of before) ≤ entry.0

@@ -1,7 +1,7 @@
 // Why bytes can't be decoded as a body.
 ghost use Rattle.std.specs.Prelude.{◌≡◌, take};
 ghost use Rattle.std.specs.Int.{to_be_bytes, w64};
-ghost use Rattle.sasi_body.specs.Seen.{IsBrokenNumber};
+ghost use Rattle.sasi_body.specs.Faults.{IsBrokenNumber};
 ghost use Rattle.sasi_host.specs.Damages.{seen_bytes};
 ghost use Rattle.sasi_body.specs.declared.fault.BodyFault.TheVariants.{OutOfMemory, OtherLength};
 
@@ -11,7 +11,7 @@ use std::alloc::AllocError;
 
 /// A broken rule of the format, its offset, and the bytes there.
 #[derive(Clone, Copy, Debug, PartialEq, Eq)]
-pub struct Broken {
+pub struct BodyDamage {
     pub rule: FormatRule,
     /// The offset in the body.
     pub at: usize,
@@ -24,16 +24,16 @@ pub enum BodyFault {
     OutOfMemory,
     /// The bytes end within the body, or continue after it.
     OtherLength,
-    Broken(Broken),
+    Damaged(BodyDamage),
 }
 
 /// The bytes at this offset break the rule. The first eight of them are reported.
-pub fn found(rule: FormatRule, at: usize, bytes: &[u8]) -> Broken
+pub fn body_damage(rule: FormatRule, at: usize, bytes: &[u8]) -> BodyDamage
     ensures rule { result.rule ≡ rule }
     ensures at { result.at ≡ at }
     ensures seen { seen_bytes result.seen ≡ take 8 bytes.now }
 {
-    Broken {
+    BodyDamage {
         rule,
         at,
         seen: Seen::of(bytes),
@@ -63,7 +63,7 @@ impl From<FieldFault> for BodyFault {
         match fault {
             FieldFault::Short(_) => BodyFault::OtherLength,
             FieldFault::BadField { at, seen } => {
-                BodyFault::Broken(found(FormatRule::Number, at, &seen.to_be_bytes()))
+                BodyFault::Damaged(body_damage(FormatRule::Number, at, &seen.to_be_bytes()))
             }
         }
     }

@@ -4,12 +4,12 @@
 
 mod cell;
 mod fault;
-mod head;
+mod header;
 mod put;
 mod read;
 mod typed;
 mod value;
 
-pub use fault::{BodyFault, Broken, found};
+pub use fault::{BodyFault, BodyDamage, body_damage};
 pub use put::put_body;
 pub use read::read_body;

@@ -4,16 +4,16 @@ ghost use Rattle.std.specs.Int.{to_be_bytes, w16, w64};
 ghost use Rattle.std.specs.List.{flat_map};
 ghost use Rattle.sasi_host.specs.Names.{Bytes};
 ghost use Rattle.sasi_model.specs.Cells.{Partition};
-ghost use Rattle.sasi_fields.specs.Reading.{Passes};
+ghost use Rattle.sasi_fields.specs.Reading.{ReadsField};
 ghost use Rattle.sasi_body.specs.Format.{body, cells_of, cell_bytes, part_bytes, IsCount};
 ghost use Rattle.sasi_body.specs.Typed.{IsBodyOf};
-ghost use Rattle.sasi_body.specs.Places.{next_column, AreCells, IsAtDeletion, IsAtCell};
-ghost use Rattle.sasi_body.specs.Seen.{IsFaultOf, IsForLackOfMemory};
-ghost use Rattle.sasi_body.specs.Reads.{whole, IsPart, Takes, AtCells};
+ghost use Rattle.sasi_body.specs.Prefixes.{next_column, AreCells, IsAtDeletion, IsAtCell};
+ghost use Rattle.sasi_body.specs.Faults.{IsFaultOf, IsOutOfMemory};
+ghost use Rattle.sasi_body.specs.Reads.{whole, IsPart, AppendsCell, AtCells};
 
 use crate::cell::read_cell;
 use crate::fault::BodyFault;
-use crate::head::{read_count, read_deletion, read_key};
+use crate::header::{read_count, read_deletion, read_key};
 use sasi_cells::Partition;
 use sasi_fields::FieldReader;
 use sasi_types::{ColumnType, Key, TypeList};
@@ -29,7 +29,7 @@ pub fn read_body(
     ensures in_table { IfOk result (λ read. IsBodyOf types.now read.0 read.1) }
     // It reads back what was put, unless memory runs out.
     ensures again { (key : Bytes) (part : Partition) → IsBodyOf types.now key part → bytes.now ≡ body key part → IfOk result (λ read. (read.0 ≡ key) × (read.1 ≡ part)) }
-    ensures spares { (key : Bytes) (part : Partition) → IsBodyOf types.now key part → bytes.now ≡ body key part → IfErr result IsForLackOfMemory }
+    ensures no_false_damage { (key : Bytes) (part : Partition) → IsBodyOf types.now key part → bytes.now ≡ body key part → IfErr result IsOutOfMemory }
     // Otherwise the bytes break the format as the fault says.
     ensures shown { IfErr result (IsFaultOf types.now bytes.now) }
 {
@@ -61,7 +61,7 @@ fn read_part(
     reader: &mut FieldReader,
     types: &[ColumnType],
 ) -> Result<Partition, BodyFault>
-    ensures passes { IfOk result (λ part. Passes (part_bytes part) reader.old reader.new) }
+    ensures passes { IfOk result (λ part. ReadsField (part_bytes part) reader.old reader.new) }
     ensures part { IfOk result (IsPart types.now) }
     ensures fault { IsAtDeletion types.now reader.old.done → IfErr result (IsFaultOf types.now (whole reader.old)) }
 {
@@ -83,7 +83,7 @@ fn read_cells(
     requires none { cells_of part.old ≡ [] }
     requires count { IsCount part.old.deleted count }
     requires fits { part.old.deleted ≤ 2 ^ 62 }
-    ensures passes { OnOk result (Passes (flat_map cell_bytes (cells_of part.new)) reader.old reader.new) }
+    ensures passes { OnOk result (ReadsField (flat_map cell_bytes (cells_of part.new)) reader.old reader.new) }
     ensures cells { OnOk result (AreCells types.now part.old.deleted (cells_of part.new)) }
     ensures count { OnOk result (length (cells_of part.new) ≡ count) }
     ensures deleted { OnOk result (part.new.deleted ≡ part.old.deleted) }
@@ -91,13 +91,13 @@ fn read_cells(
 {
     let mut least = 0;
     for _cell in 0..count {
-        least = take_cell(alloc, reader, types, part, least)?;
+        least = append_cell(alloc, reader, types, part, least)?;
     }
     Ok(())
 }
 
 // Reads one more cell into the partition, and gives the least column that may follow.
-fn take_cell(
+fn append_cell(
     alloc: Global,
     reader: &mut FieldReader,
     types: &[ColumnType],
@@ -106,7 +106,7 @@ fn take_cell(
 ) -> Result<u32, BodyFault>
     requires least { least ≡ next_column (cells_of part.old) }
     requires fits { part.old.deleted ≤ 2 ^ 62 }
-    ensures takes { IfOk result (Takes types.now reader.old reader.new part.old part.new) }
+    ensures takes { IfOk result (AppendsCell types.now reader.old reader.new part.old part.new) }
     ensures fault { IsAtCell types.now reader.old.done part.old.deleted (cells_of part.old) → IfErr result (IsFaultOf types.now (whole reader.old)) }
 {
     let (column, cell) = read_cell(alloc, reader, types, part.deleted(), least)?;

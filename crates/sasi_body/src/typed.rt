@@ -4,15 +4,15 @@ ghost use Rattle.sasi_types.specs.Value.{stored, type_of as type_of_value};
 ghost use Rattle.sasi_body.specs.Format.{HasBytes};
 ghost use Rattle.sasi_body.specs.Typed.{IsTypedAt, IsValueOf};
 
-use sasi_cells::stored_value;
+use sasi_cells::decode_value;
 use sasi_types::{ColumnType, Value};
 use std::alloc::{AllocError, Global};
 
 // The type at this position of the list, if there is one and the bytes encode a value of it.
-pub fn type_of(types: &[ColumnType], place: usize, bytes: &[u8]) -> Option<ColumnType>
-    ensures { MatchOption result (¬ IsTypedAt types.now place bytes.now) (λ kind. (slice_get types.now place ≡ Some kind) × IsValueOf kind bytes.now) }
+pub fn type_of(types: &[ColumnType], position: usize, bytes: &[u8]) -> Option<ColumnType>
+    ensures { MatchOption result (¬ IsTypedAt types.now position bytes.now) (λ kind. (slice_get types.now position ≡ Some kind) × IsValueOf kind bytes.now) }
 {
-    let kind = *types.get(place)?;
+    let kind = *types.get(position)?;
     if is_value(kind, bytes) {
         Some(kind)
     } else {
@@ -40,5 +40,5 @@ pub fn value_of(alloc: Global, kind: ColumnType, bytes: &[u8]) -> Result<Value, 
     ensures kind { IfOk result (λ value. type_of_value value ≡ kind) }
     ensures has { IfOk result HasBytes }
 {
-    stored_value(alloc, kind, bytes)
+    decode_value(alloc, kind, bytes)
 }

@@ -1,4 +1,4 @@
-mod Joined
+mod MergedSorted
 mod Merges
-mod Places
+mod Positions
 mod Partitions

@@ -10,7 +10,7 @@ use Rattle.std.specs.FinMap.Entries.{below_all}
 use Rattle.std.specs.FinMap as map
 use Rattle.sasi_types.specs.declared.cell.Cell.{Cell}
 use Rattle.sasi_model.specs.Cells.{newest, newest_of, unshadowed, merge}
-use Rattle.sasi_cells.specs.Entries.{Entry, joined, is_above, unshadowed_entries, partition_of}
+use Rattle.sasi_cells.specs.Entries.{Entry, merged_sorted, is_above, unshadowed_entries, partition_of}
 use Rattle.sasi_cells.specs.Laws.Sorted.{both, first, second, equal_columns, find_below}
 use Rattle.sasi_cells.specs.Laws.Merged.{get_merge, deleted_merge, same_partition}
 
@@ -29,21 +29,21 @@ lower_still : (k m : ℕ) (es : List Entry) → nat_cmp k m ≡ Less → T (belo
 lower_still k m [] low h = tt
 lower_still k m (e ∷ es) low h = both _ _ (less _ (nat_cmp_total.trans k m e.0 low (is_less _ (first _ _ h)))) (lower_still k m es low (second _ _ h))
 
-below_joined : (k : ℕ) (xs ys : List Entry) → T (below_all nat_cmp k xs) → T (below_all nat_cmp k ys) → T (below_all nat_cmp k (joined xs ys))
+below_joined : (k : ℕ) (xs ys : List Entry) → T (below_all nat_cmp k xs) → T (below_all nat_cmp k ys) → T (below_all nat_cmp k (merged_sorted xs ys))
 below_joined k [] ys g h = h
 below_joined k (x ∷ xs) [] g h = g
 below_joined k (x ∷ xs) (y ∷ ys) g h =
-    elim (nat_cmp x.0 y.0) as (λ r. T (below_all nat_cmp k (match_ordering r (x ∷ joined xs (y ∷ ys)) ((x.0, newest x.1 y.1) ∷ joined xs ys) (y ∷ joined (x ∷ xs) ys)))) [
+    elim (nat_cmp x.0 y.0) as (λ r. T (below_all nat_cmp k (match_ordering r (x ∷ merged_sorted xs (y ∷ ys)) ((x.0, newest x.1 y.1) ∷ merged_sorted xs ys) (y ∷ merged_sorted (x ∷ xs) ys)))) [
       | Less ↦ both _ _ (first _ _ g) (below_joined k xs (y ∷ ys) (second _ _ g) h)
       | Equal ↦ both _ _ (first _ _ g) (below_joined k xs ys (second _ _ g) (second _ _ h))
       | Greater ↦ both _ _ (first _ _ h) (below_joined k (x ∷ xs) ys g (second _ _ h))
     ]
 
-sorted_joined : (xs ys : List Entry) → T (is_sorted nat_cmp xs) → T (is_sorted nat_cmp ys) → T (is_sorted nat_cmp (joined xs ys))
+sorted_joined : (xs ys : List Entry) → T (is_sorted nat_cmp xs) → T (is_sorted nat_cmp ys) → T (is_sorted nat_cmp (merged_sorted xs ys))
 sorted_joined [] ys g h = h
 sorted_joined (x ∷ xs) [] g h = g
 sorted_joined (x ∷ xs) (y ∷ ys) g h =
-    elim (nat_cmp x.0 y.0) as (λ r. nat_cmp x.0 y.0 ≡ r → T (is_sorted nat_cmp (match_ordering r (x ∷ joined xs (y ∷ ys)) ((x.0, newest x.1 y.1) ∷ joined xs ys) (y ∷ joined (x ∷ xs) ys)))) [
+    elim (nat_cmp x.0 y.0) as (λ r. nat_cmp x.0 y.0 ≡ r → T (is_sorted nat_cmp (match_ordering r (x ∷ merged_sorted xs (y ∷ ys)) ((x.0, newest x.1 y.1) ∷ merged_sorted xs ys) (y ∷ merged_sorted (x ∷ xs) ys)))) [
       | Less ↦ λ low. both _ _ (below_joined x.0 xs (y ∷ ys) (first _ _ g) (both _ _ (less _ low) (lower_still x.0 y.0 ys low (first _ _ h)))) (sorted_joined xs (y ∷ ys) (second _ _ g) h)
       | Equal ↦ λ same. both _ _ (below_joined x.0 xs ys (first _ _ g)
           (subst (λ k. T (below_all nat_cmp k ys)) (sym (tied x.0 y.0 same)) (first _ _ h))) (sorted_joined xs ys (second _ _ g) (second _ _ h))
@@ -86,18 +86,18 @@ absent_at : (c k : ℕ) (es : List Entry) → eq_by_cmp nat_cmp c k ≡ true →
 absent_at c k es same h = ap (λ n. find nat_cmp n es) (equal_columns c k same) ∙ find_below k es h
 
 find_joined : (c : ℕ) (xs ys : List Entry) → T (is_sorted nat_cmp xs) → T (is_sorted nat_cmp ys)
-    → find nat_cmp c (joined xs ys) ≡ newest_of (find nat_cmp c xs) (find nat_cmp c ys)
+    → find nat_cmp c (merged_sorted xs ys) ≡ newest_of (find nat_cmp c xs) (find nat_cmp c ys)
 find_joined c [] ys g h = refl
 find_joined c (x ∷ xs) [] g h = sym (newest_of_none (find nat_cmp c (x ∷ xs)))
 find_joined c (x ∷ xs) (y ∷ ys) g h =
     elim (nat_cmp x.0 y.0) as (λ r. nat_cmp x.0 y.0 ≡ r → find nat_cmp c
-    (match_ordering r (x ∷ joined xs (y ∷ ys)) ((x.0, newest x.1 y.1) ∷ joined xs ys) (y ∷ joined (x ∷ xs) ys))
+    (match_ordering r (x ∷ merged_sorted xs (y ∷ ys)) ((x.0, newest x.1 y.1) ∷ merged_sorted xs ys) (y ∷ merged_sorted (x ∷ xs) ys))
     ≡ newest_of (find nat_cmp c (x ∷ xs)) (find nat_cmp c (y ∷ ys))) [
       | Less ↦ λ low. front_first c x (find nat_cmp c xs) (find nat_cmp c (y ∷ ys)) _
           (λ same. absent_at c x.0 (y ∷ ys) same (both _ _ (less _ low) (lower_still x.0 y.0 ys low (first _ _ h))))
           (find_joined c xs (y ∷ ys) (second _ _ g) h)
       | Equal ↦ λ same. let k : x.0 ≡ y.0 = equal_columns x.0 y.0 (ap is_eq same) in
-          subst (λ n. cond (eq_by_cmp nat_cmp c x.0) (Some (newest x.1 y.1)) (find nat_cmp c (joined xs ys)) ≡ newest_of (find nat_cmp c (x ∷ xs))
+          subst (λ n. cond (eq_by_cmp nat_cmp c x.0) (Some (newest x.1 y.1)) (find nat_cmp c (merged_sorted xs ys)) ≡ newest_of (find nat_cmp c (x ∷ xs))
           (cond (eq_by_cmp nat_cmp c n) (Some y.1) (find nat_cmp c ys))) k
           (front_both (eq_by_cmp nat_cmp c x.0) x.1 y.1 _ _ _ (find_joined c xs ys (second _ _ g) (second _ _ h)))
       | Greater ↦ λ high. let low : nat_cmp y.0 x.0 ≡ Less = nat_cmp_total.antisymm y.0 x.0 ∙ ap ordering_reverse high in
@@ -151,15 +151,15 @@ find_unshadowed c d (e ∷ es) h =
 
 -- the merged list is sorted, and no deletion shadows an entry of it
 pub sorted_merged : (d : ℕ) (xs ys : List Entry) → T (is_sorted nat_cmp xs) → T (is_sorted nat_cmp ys)
-    → T (is_sorted nat_cmp (unshadowed_entries d (joined xs ys)))
-sorted_merged d xs ys g h = sorted_unshadowed d (joined xs ys) (sorted_joined xs ys g h)
+    → T (is_sorted nat_cmp (unshadowed_entries d (merged_sorted xs ys)))
+sorted_merged d xs ys g h = sorted_unshadowed d (merged_sorted xs ys) (sorted_joined xs ys g h)
 
 -- and is the merge
-pub joined_is_merge : (d e : ℕ) (xs ys : List Entry) → T (is_sorted nat_cmp xs) → T (is_sorted nat_cmp ys)
-    → partition_of (max d e) (unshadowed_entries (max d e) (joined xs ys)) ≡ merge (partition_of d xs) (partition_of e ys)
-joined_is_merge d e xs ys g h =
+pub merged_sorted_is_merge : (d e : ℕ) (xs ys : List Entry) → T (is_sorted nat_cmp xs) → T (is_sorted nat_cmp ys)
+    → partition_of (max d e) (unshadowed_entries (max d e) (merged_sorted xs ys)) ≡ merge (partition_of d xs) (partition_of e ys)
+merged_sorted_is_merge d e xs ys g h =
     same_partition _ _ (sym (deleted_merge (partition_of d xs) (partition_of e ys)))
-    (λ c. map.get-from_sorted nat_cmp _ c (sorted_merged (max d e) xs ys g h) ∙ find_unshadowed c (max d e) (joined xs ys) (sorted_joined xs ys g h)
+    (λ c. map.get-from_sorted nat_cmp _ c (sorted_merged (max d e) xs ys g h) ∙ find_unshadowed c (max d e) (merged_sorted xs ys) (sorted_joined xs ys g h)
     ∙ ap (unshadowed (max d e)) (find_joined c xs ys g h ∙ ap (λ x. newest_of x (find nat_cmp c ys)) (sym (map.get-from_sorted nat_cmp xs c g))
     ∙ ap (newest_of (map.get (map.from_sorted xs) c)) (sym (map.get-from_sorted nat_cmp ys c h)))
     ∙ sym (get_merge (partition_of d xs) (partition_of e ys) c))

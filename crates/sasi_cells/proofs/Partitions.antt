@@ -10,12 +10,12 @@ use Rattle.std.specs.FinMap as map
 use Rattle.std.specs.FinMap.Entries.{by_order}
 use Rattle.std.proofs.lemmas.Bool.Decides.{nat_tests}
 use Rattle.sasi_types.specs.declared.cell.Cell.{Cell}
-use Rattle.sasi_model.specs.Cells.{Cells, Partition, unshadowed, IsNormal, merge, greatest_time, greatest_of, any_live, is_live}
-use Rattle.sasi_cells.specs.Entries.{Entry, is_above, IsOrdered, partition_of, joined, unshadowed_entries}
+use Rattle.sasi_model.specs.Cells.{Cells, Partition, unshadowed, IsNormal, merge, max_timestamp_in, max_timestamp_of, any_live, is_live}
+use Rattle.sasi_cells.specs.Entries.{Entry, is_above, IsOrdered, partition_of, merged_sorted, unshadowed_entries}
 use Rattle.sasi_cells.specs.Changes.{deletion, with_column}
-use Rattle.sasi_cells.specs.Places.{IsColumnAt, IsGapFor}
-use Rattle.sasi_cells.proofs.Places.{find_at, find_gap, set_is_put, insert_is_put}
-use Rattle.sasi_cells.proofs.Merges.{sorted_merged, joined_is_merge, all_above}
+use Rattle.sasi_cells.specs.Positions.{IsColumnAt, IsGapFor}
+use Rattle.sasi_cells.proofs.Positions.{find_at, find_gap, set_is_put, insert_is_put}
+use Rattle.sasi_cells.proofs.Merges.{sorted_merged, merged_sorted_is_merge, all_above}
 
 -- the cells without their columns
 abbrev cells_of : List Entry → List Cell
@@ -128,21 +128,21 @@ ordered_after_put (Err e) d old new k cell h later ok err = subst (IsOrdered d) 
 -- ---- a merge
 
 pub merged_is_ordered : (m d e : ℕ) (xs ys mine zs : List Entry) → IsOrdered d xs → IsOrdered e ys → m ≡ max d e → mine ≡ xs
-    → zs ≡ unshadowed_entries m (joined mine ys) → IsOrdered m zs
+    → zs ≡ unshadowed_entries m (merged_sorted mine ys) → IsOrdered m zs
 merged_is_ordered m d e xs ys mine zs g h greater same is =
     record {
       rising =
-          ap (map.is_sorted nat_cmp) (is ∙ ap (λ l. unshadowed_entries m (joined l ys)) same)
+          ap (map.is_sorted nat_cmp) (is ∙ ap (λ l. unshadowed_entries m (merged_sorted l ys)) same)
           ∙ tested _ (sorted_merged m xs ys (test _ g.rising) (test _ h.rising));
-      above = ap (list_all (is_above m)) is ∙ all_above m (joined mine ys);
+      above = ap (list_all (is_above m)) is ∙ all_above m (merged_sorted mine ys);
     }
 
 pub merged_is_merge : (m d e : ℕ) (xs ys mine zs : List Entry) (p q : Partition) → IsOrdered d xs → IsOrdered e ys → m ≡ max d e → mine ≡ xs
-    → zs ≡ unshadowed_entries m (joined mine ys)
+    → zs ≡ unshadowed_entries m (merged_sorted mine ys)
     → partition_of d xs ≡ p → partition_of e ys ≡ q → partition_of m zs ≡ merge p q
 merged_is_merge m d e xs ys mine zs p q g h greater same is first second =
-    ap (partition_of m) (is ∙ ap (λ l. unshadowed_entries m (joined l ys)) same) ∙ ap (λ n. partition_of n (unshadowed_entries n (joined xs ys))) greater
-    ∙ joined_is_merge d e xs ys (test _ g.rising) (test _ h.rising) ∙ ap (λ o. merge o (partition_of e ys)) first ∙ ap (merge p) second
+    ap (partition_of m) (is ∙ ap (λ l. unshadowed_entries m (merged_sorted l ys)) same) ∙ ap (λ n. partition_of n (unshadowed_entries n (merged_sorted xs ys))) greater
+    ∙ merged_sorted_is_merge d e xs ys (test _ g.rising) (test _ h.rising) ∙ ap (λ o. merge o (partition_of e ys)) first ∙ ap (merge p) second
 
 -- ---- as a partition shows them
 
@@ -169,10 +169,10 @@ pub no_cell_shown : (d : ℕ) (es items : List Entry) (p : Partition) (c at : �
 no_cell_shown d es items p c at h is same gap =
     ap (of_column c) (sym (find_gap es c at (subst (λ l. IsGapFor l c at) same gap)) ∙ get_shown d es p c h is)
 
-pub greatest_shown : (d : ℕ) (es items : List Entry) (p : Partition) (r : ℕ) → IsOrdered d es → partition_of d es ≡ p → items ≡ es
-    → r ≡ max d (greatest_time (cells_of items)) → r ≡ greatest_of p
-greatest_shown d es items p r h is same e =
-    e ∙ ap (λ l. max d (greatest_time (cells_of l))) (same ∙ entries_shown d es p h is) ∙ ap (λ (o : Partition). max o.deleted (greatest_time (map.values p.cells))) is
+pub max_timestamp_shown : (d : ℕ) (es items : List Entry) (p : Partition) (r : ℕ) → IsOrdered d es → partition_of d es ≡ p → items ≡ es
+    → r ≡ max d (max_timestamp_in (cells_of items)) → r ≡ max_timestamp_of p
+max_timestamp_shown d es items p r h is same e =
+    e ∙ ap (λ l. max d (max_timestamp_in (cells_of l))) (same ∙ entries_shown d es p h is) ∙ ap (λ (o : Partition). max o.deleted (max_timestamp_in (map.values p.cells))) is
 
 pub live_shown : (d : ℕ) (es items : List Entry) (p : Partition) (r : Bool) → IsOrdered d es → partition_of d es ≡ p → items ≡ es
     → r ≡ any_live (cells_of items) → r ≡ is_live p

@@ -14,10 +14,10 @@ abbrev pub Entry : Type 0
 Entry = ℕ × Cell
 
 -- of each column the newest cell
-abbrev pub joined : List Entry → List Entry → List Entry
-joined [] ys = ys
-joined (x ∷ xs) [] = x ∷ xs
-joined (x ∷ xs) (y ∷ ys) = match_ordering (nat_cmp x.0 y.0) (x ∷ joined xs (y ∷ ys)) ((x.0, newest x.1 y.1) ∷ joined xs ys) (y ∷ joined (x ∷ xs) ys)
+abbrev pub merged_sorted : List Entry → List Entry → List Entry
+merged_sorted [] ys = ys
+merged_sorted (x ∷ xs) [] = x ∷ xs
+merged_sorted (x ∷ xs) (y ∷ ys) = match_ordering (nat_cmp x.0 y.0) (x ∷ merged_sorted xs (y ∷ ys)) ((x.0, newest x.1 y.1) ∷ merged_sorted xs ys) (y ∷ merged_sorted (x ∷ xs) ys)
 
 -- which of two lists begins with the lower column; none where both are empty
 abbrev pub lower_column : List Entry → List Entry → Option Ordering

@@ -1,6 +1,6 @@
 pub mod Entries
-pub mod Kept
-pub mod Places
+pub mod EntryView
+pub mod Positions
 pub mod Changes
 pub mod Mutations
 pub mod Rows

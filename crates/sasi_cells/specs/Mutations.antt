@@ -1,8 +1,8 @@
 -- What mutations do.
-use Rattle.sasi_model.specs.State.{State, place_of}
+use Rattle.sasi_model.specs.State.{State, decorated}
 use Rattle.sasi_model.specs.Changes.{after_change}
 use Rattle.sasi_cells.specs.declared.mutation.Mutation.{Mutation}
 
 -- the state after the mutation
-abbrev pub written_state : State → Mutation → State
-written_state s m = after_change s m.table (place_of s.partitioner m.key) m.change
+abbrev pub state_with_mutation : State → Mutation → State
+state_with_mutation s m = after_change s m.table (decorated s.partitioner m.key) m.change

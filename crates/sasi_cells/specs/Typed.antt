@@ -15,10 +15,10 @@ IsInRange (BigInt number) = FitsSigned w64 number
 IsInRange (Uuid bytes) = ⊤
 
 -- the value is one of the type
-pub record IsOf (type : ColumnType) (value : Value) : Type 0 where
+pub record IsOfType (type : ColumnType) (value : Value) : Type 0 where
   pub is : type_of value ≡ type
   pub in_range : IsInRange value
 
 -- the value of each live cell is one of its column's type
 abbrev pub IsTyped : (ℕ → ColumnType) → Partition → Type 0
-IsTyped types p = (column : ℕ) (value : Value) → value_at p column ≡ Some value → IsOf (types column) value
+IsTyped types p = (column : ℕ) (value : Value) → value_at p column ≡ Some value → IsOfType (types column) value

@@ -28,13 +28,13 @@ impl Model for Entry {
     ghost use Rattle.std.specs.Prelude.{ℕ};
     ghost use Rattle.sasi_types.specs.declared.cell.Cell.{Cell};
     ghost use Rattle.sasi_model.specs.Codes.{coded_entry};
-    ghost use Rattle.sasi_cells.specs.Kept.{kept_entry};
+    ghost use Rattle.sasi_cells.specs.EntryView.{entry_view};
 
     ghost Value = { ℕ × Cell };
 
     ghost coded = { coded_entry };
 
-    ghost view = { λ e. kept_entry e.column e.time e.state e.value };
+    ghost view = { λ e. entry_view e.column e.time e.state e.value };
 }
 
 impl Entry {

@@ -3,7 +3,7 @@
 #![tactic(auto)]
 
 mod entry;
-mod join;
+mod merge_sorted;
 mod mutation;
 mod order;
 mod partition;
@@ -16,5 +16,5 @@ pub use mutation::Mutation;
 pub use order::newer;
 pub use partition::Partition;
 pub use picked::{Picked, PickedColumn, PickedList};
-pub use row::stored_value;
+pub use row::decode_value;
 pub use sasi_types::Cell;

@@ -3,12 +3,12 @@ ghost use Rattle.std.specs.Prelude.{◌≡◌, ℕ, ◌<◌, true, OnOk, OnErr, 
 ghost use Rattle.std.specs.Option.{option_copied, option_map};
 ghost use Rattle.std.specs.Ordering.{nat_cmp};
 ghost use Rattle.std.specs.FinMap as map;
-ghost use Rattle.sasi_model.specs.Cells.{Partition as Written, empty_partition, IsNormal, merge, is_live, greatest_of};
+ghost use Rattle.sasi_model.specs.Cells.{Partition as Written, empty_partition, IsNormal, merge, is_live, max_timestamp_of};
 ghost use Rattle.sasi_cells.specs.Typed.{IsTyped};
 ghost use Rattle.sasi_types.specs.declared.column.ColumnType.{ColumnType};
 ghost use Rattle.sasi_cells.specs.Changes.{deletion, with_column};
 
-use crate::join::join;
+use crate::merge_sorted::merge_sorted;
 use crate::{Entry, search};
 use sasi_types::Cell;
 use std::alloc::{AllocError, Global};
@@ -124,7 +124,7 @@ impl Partition {
         let room = Vec::with_capacity(alloc, self.cells.len() + other.cells.len())?;
         let cells = mem::replace(&mut self.cells, Vec::new(alloc));
         self.deleted = self.deleted.max(other.deleted);
-        self.cells = join(self.deleted, cells, other.cells, room);
+        self.cells = merge_sorted(self.deleted, cells, other.cells, room);
         self.cells.shrink_to_fit();
         Ok(())
     }
@@ -137,10 +137,10 @@ impl Partition {
     }
 
     /// The maximum of the timestamps of the deletion and the cells, 0 if there is none.
-    pub fn greatest(&self) -> u64
-        ensures { result ≡ greatest_of self.now }
+    pub fn max_timestamp(&self) -> u64
+        ensures { result ≡ max_timestamp_of self.now }
     {
-        search::greatest_time(&self.cells, self.deleted)
+        search::max_timestamp_in(&self.cells, self.deleted)
     }
 }
 

@@ -47,7 +47,7 @@ impl Partition {
     {
         match column {
             PickedColumn::Key => {
-                let value = stored_value(alloc, kind, key)?;
+                let value = decode_value(alloc, kind, key)?;
                 Ok(Some(value))
             }
             PickedColumn::Column(number) => self.value_at(alloc, number),
@@ -70,7 +70,7 @@ impl Partition {
 }
 
 /// Decodes the stored bytes of a value, which have to be as long as a value of the type is.
-pub fn stored_value(alloc: Global, kind: ColumnType, bytes: &[u8]) -> Result<Value, AllocError>
+pub fn decode_value(alloc: Global, kind: ColumnType, bytes: &[u8]) -> Result<Value, AllocError>
     requires { IsStored kind bytes.now }
     ensures { IfOk result (λ value. value ≡ value_stored kind bytes.now) }
 {

@@ -2,8 +2,8 @@
 ghost use Rattle.std.specs.Prelude.{◌≡◌, true, IfOk, IfErr, map, max};
 ghost use Rattle.std.specs.Ordering.{nat_cmp};
 ghost use Rattle.std.specs.FinMap.{is_sorted};
-ghost use Rattle.sasi_model.specs.Cells.{any_live, greatest_time};
-ghost use Rattle.sasi_cells.specs.Places.{IsColumnAt, IsGapFor};
+ghost use Rattle.sasi_model.specs.Cells.{any_live, max_timestamp_in};
+ghost use Rattle.sasi_cells.specs.Positions.{IsColumnAt, IsGapFor};
 
 use crate::Entry;
 
@@ -29,12 +29,12 @@ pub(crate) fn any_live(cells: &[Entry]) -> bool
 }
 
 // The maximum of the timestamps of the cells and another one.
-pub(crate) fn greatest_time(cells: &[Entry], other: u64) -> u64
-    ensures { result ≡ max other (greatest_time (map (λ e. e.1) cells.now)) }
+pub(crate) fn max_timestamp_in(cells: &[Entry], other: u64) -> u64
+    ensures { result ≡ max other (max_timestamp_in (map (λ e. e.1) cells.now)) }
 {
-    let mut greatest = other;
+    let mut max_timestamp = other;
     for entry in cells {
-        greatest = greatest.max(entry.time());
+        max_timestamp = max_timestamp.max(entry.time());
     }
-    greatest
+    max_timestamp
 }

@@ -10,7 +10,7 @@ use Rattle.sasi_model.specs.Cells.{Partition}
 use Rattle.sasi_gated.specs.Laws.{records_same}
 use Rattle.sasi_body.specs.Format.{body}
 use Rattle.sasi_body.specs.Typed.{IsBodyOf}
-use Rattle.sasi_body.specs.Laws.Same.{parts_same, bodies_same}
+use Rattle.sasi_body.specs.Laws.Unique.{parts_same, bodies_same}
 use Rattle.sasi_cells.specs.declared.mutation.Mutation.{Mutation}
 use Rattle.sasi_commitlog.specs.Format.{payload_of, types_in, Tables, IsMutationOf, IsLog}
 

@@ -1,3 +1,3 @@
 pub mod Laws
-pub mod Nexts
+pub mod ReadMutations
 pub mod Payloads

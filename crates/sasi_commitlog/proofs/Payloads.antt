@@ -9,7 +9,7 @@ use Rattle.sasi_body.specs.declared.fault.BodyFault.{BodyFault}
 use Rattle.sasi_body.specs.declared.fault.BodyFault.TheVariants as fault
 use Rattle.sasi_body.specs.Format.{body}
 use Rattle.sasi_body.specs.Typed.{IsBodyOf}
-use Rattle.sasi_body.specs.Seen.{IsFaultOf}
+use Rattle.sasi_body.specs.Faults.{IsFaultOf}
 use Rattle.sasi_body.specs.Laws.Undamaged.{no_break, no_other_length}
 use Rattle.sasi_body.specs.Laws.Lengths.{place_within}
 use Rattle.sasi_cells.specs.declared.mutation.Mutation.{Mutation}
@@ -17,7 +17,7 @@ use Rattle.sasi_commitlog.specs.Format.{payload_of, types_in, Tables, IsMutation
 use Rattle.sasi_commitlog.specs.Damages.{IsOfTable, PayloadBreaks, PayloadHasOtherLength, IsPayloadFault}
 use Rattle.sasi_commitlog.specs.Damages.PayloadBreaks.{no_table, broken_body}
 use Rattle.sasi_commitlog.specs.Damages.PayloadHasOtherLength.{no_number, other_body}
-use Rattle.sasi_commitlog.specs.Faults.{IsWithin, IsFaultBehind}
+use Rattle.sasi_commitlog.specs.Faults.{IsWithin, IsFaultShifted}
 use Rattle.sasi_commitlog.proofs.Laws.{same_32, types_same}
 
 -- ---- the body of a payload
@@ -32,15 +32,15 @@ body_behind tables m is payload types rest stands of =
 
 no_payload_break : (tables : Tables) (m : Mutation) (is : IsMutationOf tables m) (payload : Bytes) (rule : FormatRule) (at : ℕ)
     (seen : Bytes) → payload ≡ payload_of m → PayloadBreaks tables payload rule at seen → ⊥
-no_payload_break tables m is payload rule at seen stands (no_table rule_is place of) =
+no_payload_break tables m is payload rule at seen stands (no_table rule_is offset of) =
     let numbers = same_32 of.table m.table of.rest (body m.key m.change) of.fits is.number (ap (λ (l : Bytes). l ++ of.rest) (sym of.stated) ∙ sym of.is ∙ stands) in
     let between = ap (types_in tables) numbers.0 in
     let unlisted = of.unlisted in
     let listed = is.listed in
     cc
-no_payload_break tables m is payload rule at seen stands (broken_body types rest place of at_is broken) =
+no_payload_break tables m is payload rule at seen stands (broken_body types rest offset of at_is broken) =
     let found = body_behind tables m is payload types rest stands of in
-    no_break types m.key m.change found.0 rest rule place seen found.1 broken
+    no_break types m.key m.change found.0 rest rule offset seen found.1 broken
 
 no_other_payload_length : (tables : Tables) (m : Mutation) (is : IsMutationOf tables m) (payload : Bytes) → payload ≡ payload_of m → PayloadHasOtherLength tables payload → ⊥
 no_other_payload_length tables m is payload stands (no_number few) = omega (arith, few, ap length stands, length-append (to_be_bytes w32 m.table) (body m.key m.change))
@@ -52,7 +52,7 @@ no_other_payload_length tables m is payload stands (other_body types rest of oth
 pub only_memory : (tables : Tables) (m : Mutation) (payload : Bytes) (f : BodyFault) → IsMutationOf tables m → payload ≡ payload_of m → IsPayloadFault tables payload f → f ≡ fault.OutOfMemory
 only_memory tables m payload fault.OutOfMemory is stands shown = refl
 only_memory tables m payload fault.OtherLength is stands shown = absurd (no_other_payload_length tables m is payload stands shown)
-only_memory tables m payload (fault.Broken broken) is stands shown = absurd (no_payload_break tables m is payload broken.rule broken.at (seen_bytes broken.seen) stands shown)
+only_memory tables m payload (fault.Damaged broken) is stands shown = absurd (no_payload_break tables m is payload broken.rule broken.at (seen_bytes broken.seen) stands shown)
 
 -- ---- a fault of the body
 
@@ -60,23 +60,23 @@ only_memory tables m payload (fault.Broken broken) is stands shown = absurd (no_
 pub body_within : (types : List ColumnType) (bytes : Bytes) (limit : ℕ) (f : BodyFault) → IsFaultOf types bytes f → length bytes ≤ limit → IsWithin limit f
 body_within types bytes limit fault.OutOfMemory shown short = tt
 body_within types bytes limit fault.OtherLength shown short = tt
-body_within types bytes limit (fault.Broken broken) shown short = omega (arith, short, place_within types bytes broken.rule broken.at (seen_bytes broken.seen) shown)
+body_within types bytes limit (fault.Damaged broken) shown short = omega (arith, short, place_within types bytes broken.rule broken.at (seen_bytes broken.seen) shown)
 
 breaks_within : (tables : Tables) (payload : Bytes) (rule : FormatRule) (at : ℕ) (seen : Bytes) → PayloadBreaks tables payload rule at seen → at ≤ length payload
-breaks_within tables payload rule at seen (no_table rule_is place of) = omega (arith, place)
-breaks_within tables payload rule at seen (broken_body types rest place of at_is broken) =
-    omega (arith, at_is, ap length of.is, length-append (to_be_bytes w32 of.table) rest, place_within types rest rule place seen broken)
+breaks_within tables payload rule at seen (no_table rule_is offset of) = omega (arith, offset)
+breaks_within tables payload rule at seen (broken_body types rest offset of at_is broken) =
+    omega (arith, at_is, ap length of.is, length-append (to_be_bytes w32 of.table) rest, place_within types rest rule offset seen broken)
 
 pub payload_within : (tables : Tables) (payload : Bytes) (limit : ℕ) (f : BodyFault) → IsPayloadFault tables payload f → length payload ≤ limit → IsWithin limit f
 payload_within tables payload limit fault.OutOfMemory shown short = tt
 payload_within tables payload limit fault.OtherLength shown short = tt
-payload_within tables payload limit (fault.Broken broken) shown short = omega (arith, short, breaks_within tables payload broken.rule broken.at (seen_bytes broken.seen) shown)
+payload_within tables payload limit (fault.Damaged broken) shown short = omega (arith, short, breaks_within tables payload broken.rule broken.at (seen_bytes broken.seen) shown)
 
 -- a fault of the body is one of the payload, four bytes on
 pub fault_behind : (tables : Tables) (payload : Bytes) (types : List ColumnType) (rest : Bytes) (f behind : BodyFault)
-    → IsOfTable tables payload types rest → IsFaultOf types rest f → IsFaultBehind f behind → IsPayloadFault tables payload behind
+    → IsOfTable tables payload types rest → IsFaultOf types rest f → IsFaultShifted f behind → IsPayloadFault tables payload behind
 fault_behind tables payload types rest fault.OutOfMemory behind of shown is = subst (IsPayloadFault tables payload) (sym is) tt
 fault_behind tables payload types rest fault.OtherLength behind of shown is = subst (IsPayloadFault tables payload) (sym is) (other_body types rest of shown)
-fault_behind tables payload types rest (fault.Broken broken) behind of shown is =
-    let place : broken.at + 4 ≡ 4 + broken.at = omega arith in
-    subst (IsPayloadFault tables payload) (sym is) (broken_body types rest broken.at of place shown)
+fault_behind tables payload types rest (fault.Damaged broken) behind of shown is =
+    let offset : broken.at + 4 ≡ 4 + broken.at = omega arith in
+    subst (IsPayloadFault tables payload) (sym is) (broken_body types rest broken.at of offset shown)

@@ -9,7 +9,7 @@ use Rattle.sasi_host.specs.Names.{Bytes}
 use Rattle.sasi_types.specs.declared.column.ColumnType.{ColumnType}
 use Rattle.sasi_gated.specs.Format.{Opens}
 use Rattle.sasi_gated.specs.Gates.{IsAtGate}
-use Rattle.sasi_gated.specs.Damages.{Shows}
+use Rattle.sasi_gated.specs.Damages.{IsGatedDamage}
 use Rattle.sasi_host.specs.Damages.{seen_bytes}
 use Rattle.sasi_body.specs.declared.fault.BodyFault.{BodyFault}
 use Rattle.sasi_body.specs.declared.fault.BodyFault.TheVariants as fault
@@ -35,7 +35,7 @@ pub record IsOfNoTable (tables : Tables) (payload seen : Bytes) : Type 0 where
 -- the payload breaks the rule at this offset, where it has the seen bytes
 pub data PayloadBreaks (tables : Tables) (payload : Bytes) (rule : FormatRule) (at : ℕ) (seen : Bytes) : Type 0 where
   no_table : rule ≡ Number → at ≡ 0 → IsOfNoTable tables payload seen → PayloadBreaks tables payload rule at seen
-  broken_body : (types : List ColumnType) (rest : Bytes) (place : ℕ) → IsOfTable tables payload types rest → at ≡ 4 + place → Breaks types rest rule place seen → PayloadBreaks tables payload rule at seen
+  broken_body : (types : List ColumnType) (rest : Bytes) (offset : ℕ) → IsOfTable tables payload types rest → at ≡ 4 + offset → Breaks types rest rule offset seen → PayloadBreaks tables payload rule at seen
 
 -- the payload has another length than its content: it ends within it, or goes on after it
 pub data PayloadHasOtherLength (tables : Tables) (payload : Bytes) : Type 0 where
@@ -46,14 +46,14 @@ pub data PayloadHasOtherLength (tables : Tables) (payload : Bytes) : Type 0 wher
 abbrev pub IsPayloadFault : Tables → Bytes → BodyFault → Type 0
 IsPayloadFault tables payload fault.OutOfMemory = Unit {0}
 IsPayloadFault tables payload fault.OtherLength = PayloadHasOtherLength tables payload
-IsPayloadFault tables payload (fault.Broken broken) = PayloadBreaks tables payload broken.rule broken.at (seen_bytes broken.seen)
+IsPayloadFault tables payload (fault.Damaged broken) = PayloadBreaks tables payload broken.rule broken.at (seen_bytes broken.seen)
 
 -- the rules that a record after the gate at this offset can break
 pub data RecordBreaks (tables : Tables) (gate : ℕ) (payload : Bytes) (rule : FormatRule) (at : ℕ) (seen : Bytes) : Type 0 where
   -- its length isn't that of its content
   wrong_length : rule ≡ Number → at ≡ gate + 1 → seen ≡ to_be_bytes w32 (length payload) → PayloadHasOtherLength tables payload → RecordBreaks tables gate payload rule at seen
   -- or its content breaks the rule
-  wrong_content : (place : ℕ) → at ≡ gate + (5 + place) → PayloadBreaks tables payload rule place seen → RecordBreaks tables gate payload rule at seen
+  wrong_content : (offset : ℕ) → at ≡ gate + (5 + offset) → PayloadBreaks tables payload rule offset seen → RecordBreaks tables gate payload rule at seen
 
 -- after some records the file has one that breaks a rule so
 pub record ShowsRecord (tables : Tables) (file : FileName) (bytes : Bytes) (damage : Damage) : Type 0 where
@@ -69,4 +69,4 @@ pub record ShowsRecord (tables : Tables) (file : FileName) (bytes : Bytes) (dama
 
 -- the file has the damage: as a gated file, or in a record that is no mutation
 abbrev pub ShowsLog : Tables → FileName → Bytes → Damage → Type 0
-ShowsLog tables file bytes damage = Shows file bytes damage ⊎ ShowsRecord tables file bytes damage
+ShowsLog tables file bytes damage = IsGatedDamage file bytes damage ⊎ ShowsRecord tables file bytes damage

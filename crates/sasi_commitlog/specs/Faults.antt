@@ -15,13 +15,13 @@ use Rattle.sasi_commitlog.specs.Damages.{RecordBreaks}
 abbrev pub IsWithin : ℕ → BodyFault → Type 0
 IsWithin limit fault.OutOfMemory = Unit {0}
 IsWithin limit fault.OtherLength = Unit {0}
-IsWithin limit (fault.Broken broken) = broken.at ≤ limit
+IsWithin limit (fault.Damaged broken) = broken.at ≤ limit
 
 -- the second fault is the first one, four bytes further on
-abbrev pub IsFaultBehind : BodyFault → BodyFault → Type 0
-IsFaultBehind fault.OutOfMemory behind = behind ≡ fault.OutOfMemory
-IsFaultBehind fault.OtherLength behind = behind ≡ fault.OtherLength
-IsFaultBehind (fault.Broken broken) behind = behind ≡ fault.Broken (record { rule = broken.rule; at = broken.at + 4; seen = broken.seen })
+abbrev pub IsFaultShifted : BodyFault → BodyFault → Type 0
+IsFaultShifted fault.OutOfMemory behind = behind ≡ fault.OutOfMemory
+IsFaultShifted fault.OtherLength behind = behind ≡ fault.OtherLength
+IsFaultShifted (fault.Damaged broken) behind = behind ≡ fault.Damaged (record { rule = broken.rule; at = broken.at + 4; seen = broken.seen })
 
 -- damage is that of the record after a gate
 pub record IsRecordDamage (tables : Tables) (file : FileName) (gate : ℕ) (payload : Bytes) (damage : Damage) : Type 0 where

@@ -1,5 +1,5 @@
 pub mod Format
-pub mod Standing
+pub mod LogPosition
 pub mod Damages
 pub mod Reads
 pub mod Faults

@@ -8,7 +8,7 @@ use Rattle.sasi_gated.specs.Gates.{IsAtGate, ReadsAt}
 use Rattle.sasi_host.specs.Damages.{OnDamage}
 use Rattle.sasi_cells.specs.declared.mutation.Mutation.{Mutation}
 use Rattle.sasi_commitlog.specs.Format.{payload_of, Tables, IsMutationOf}
-use Rattle.sasi_commitlog.specs.Standing.{IsAtLogEnd, IsReadingLog}
+use Rattle.sasi_commitlog.specs.LogPosition.{IsAtLogEnd, IsReadingLog}
 use Rattle.sasi_commitlog.specs.Damages.{ShowsLog}
 
 -- a mutation that was read is of one of these tables, whatever the host knows
@@ -45,10 +45,10 @@ GainsMutation old new file at after mutation = (mutations : List Mutation) → I
 -- ---- damage
 
 -- reported damage is in the segment as it reads, where the reader was at a gate
-abbrev pub IsLogShownAt : View → FileName → Tables → ℕ → ReadFault → Type 0
-IsLogShownAt v file tables at = OnDamage (λ damage. (bytes : Bytes) (done : List Bytes) (rest : Bytes) → contents v file ≡ Some bytes → IsAtGate file bytes at done rest
+abbrev pub IsLogDamageAt : View → FileName → Tables → ℕ → ReadFault → Type 0
+IsLogDamageAt v file tables at = OnDamage (λ damage. (bytes : Bytes) (done : List Bytes) (rest : Bytes) → contents v file ≡ Some bytes → IsAtGate file bytes at done rest
     → ShowsLog tables file bytes damage)
 
 -- a segment of mutations of these tables is never reported as damaged
-abbrev pub SparesLog : View → FileName → Tables → ℕ → ReadFault → Type 0
-SparesLog v file tables at = OnDamage (λ _. (done left : List Mutation) → IsTold v → IsReadingLog v file at tables done left → ⊥)
+abbrev pub NoFalseLogDamage : View → FileName → Tables → ℕ → ReadFault → Type 0
+NoFalseLogDamage v file tables at = OnDamage (λ _. (done left : List Mutation) → IsTold v → IsReadingLog v file at tables done left → ⊥)

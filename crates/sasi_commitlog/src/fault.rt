@@ -4,20 +4,20 @@ ghost use Rattle.sasi_host.specs.declared.fault.ReadFault.TheVariants as read_fa
 ghost use Rattle.sasi_body.specs.declared.fault.BodyFault.TheVariants as body_fault;
 ghost use Rattle.sasi_commitlog.specs.Format.{Tables};
 ghost use Rattle.sasi_commitlog.specs.Damages.{IsPayloadFault};
-ghost use Rattle.sasi_commitlog.specs.Faults.{IsFaultBehind, IsWithin, IsRecordFault};
+ghost use Rattle.sasi_commitlog.specs.Faults.{IsFaultShifted, IsWithin, IsRecordFault};
 
-use sasi_body::{BodyFault, Broken, found};
+use sasi_body::{BodyFault, BodyDamage, body_damage};
 use sasi_host::{Damage, FileName, FormatRule, ReadFault};
 
 // Shifts the offset of a fault of the body past the number of the table.
-pub fn behind_number(fault: BodyFault) -> BodyFault
+pub fn shifted_by_number(fault: BodyFault) -> BodyFault
     requires { IsWithin (2 ^ 62) fault }
-    ensures { IsFaultBehind fault result }
+    ensures { IsFaultShifted fault result }
 {
     match fault {
         BodyFault::OutOfMemory => BodyFault::OutOfMemory,
         BodyFault::OtherLength => BodyFault::OtherLength,
-        BodyFault::Broken(broken) => BodyFault::Broken(Broken {
+        BodyFault::Damaged(broken) => BodyFault::Damaged(BodyDamage {
             rule: broken.rule,
             at: broken.at + 4,
             seen: broken.seen,
@@ -27,7 +27,7 @@ pub fn behind_number(fault: BodyFault) -> BodyFault
 
 // The fault of the payload after the gate at this offset, with its offset in the file.
 pub fn fault_in_file(file: FileName, gate: u64, payload: &[u8], fault: BodyFault) -> ReadFault
-    requires place { gate ≤ 2 ^ 62 }
+    requires offset { gate ≤ 2 ^ 62 }
     requires short { length payload.now ≤ 2 ^ 30 }
     requires within { IsWithin (2 ^ 62) fault }
     ensures shown { (tables : Tables) → IsPayloadFault tables payload.now fault → IsRecordFault tables file gate payload.now result }
@@ -38,16 +38,16 @@ pub fn fault_in_file(file: FileName, gate: u64, payload: &[u8], fault: BodyFault
         BodyFault::OutOfMemory => ReadFault::OutOfMemory,
         BodyFault::OtherLength => {
             let bytes = (payload.len() as u32).to_be_bytes();
-            ReadFault::Damaged(damage_at(file, gate + 1, found(FormatRule::Number, 0, &bytes)))
+            ReadFault::Damaged(damage_at(file, gate + 1, body_damage(FormatRule::Number, 0, &bytes)))
         }
-        BodyFault::Broken(broken) => {
+        BodyFault::Damaged(broken) => {
             ReadFault::Damaged(damage_at(file, gate + 5 + broken.at as u64, broken))
         }
     }
 }
 
 // The damage of a file that breaks the rule at this offset.
-fn damage_at(file: FileName, at: u64, broken: Broken) -> Damage
+fn damage_at(file: FileName, at: u64, broken: BodyDamage) -> Damage
     ensures file { result.file ≡ file }
     ensures at { result.at ≡ at }
     ensures rule { result.rule ≡ broken.rule }

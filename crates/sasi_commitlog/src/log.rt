@@ -1,15 +1,15 @@
 // An open segment of the commit log.
 ghost use Rattle.std.specs.Prelude.{◌≡◌, ◌+◌, ◌<◌, ◌≤◌, ◌^◌, [], ℕ, List, IfErr, IfOk, IsSome, IsTrue, OnOk, None, is_ok};
 ghost use Rattle.sasi_host.specs.View.{IsAbsent, IsThere, ListCauses, Reaches};
-ghost use Rattle.sasi_host.specs.Disk.{Anyhow, Changes, IsKept, LeftWith, Same, Step};
+ghost use Rattle.sasi_host.specs.Disk.{AnyChange, Changes, IsFileDurable, LeftWith, Same, FileChange};
 ghost use Rattle.sasi_host.specs.Names.{Bytes, log_name};
 ghost use Rattle.sasi_gated.specs.Causes.{ReadingCauses};
-ghost use Rattle.sasi_gated.specs.Reads.{Begins, IsShown, SparesGated};
+ghost use Rattle.sasi_gated.specs.Reads.{HasHeader, GatedDamageShown, NoFalseGatedDamage};
 ghost use Rattle.sasi_body.specs.Format.{HasBody};
 ghost use Rattle.sasi_cells.specs.declared.mutation.Mutation.{Mutation};
 ghost use Rattle.sasi_commitlog.specs.Format.{IsLog, Tables};
-ghost use Rattle.sasi_commitlog.specs.Standing.{IsAtLogEnd, IsLogBeforeOrAfter, IsReadingLog};
-ghost use Rattle.sasi_commitlog.specs.Reads.{GainsMutation, IsLogShownAt, IsReadOf, ReadsLogGate, ReadsMutations, SparesLog};
+ghost use Rattle.sasi_commitlog.specs.LogPosition.{IsAtLogEnd, IsLogBeforeOrAfter, IsReadingLog};
+ghost use Rattle.sasi_commitlog.specs.Reads.{GainsMutation, IsLogDamageAt, IsReadOf, ReadsLogGate, ReadsMutations, NoFalseLogDamage};
 
 use crate::Mutation;
 use crate::segment::{append, read_next};
@@ -31,7 +31,7 @@ pub struct Log {
 
 impl Model for Log {
     ghost use Rattle.std.specs.Prelude.{◌&&◌};
-    ghost use Rattle.sasi_gated.specs.Standing.{Handle};
+    ghost use Rattle.sasi_gated.specs.Handles.{Handle};
 
     ghost Value = { Handle };
 
@@ -50,7 +50,7 @@ impl Log {
     pub fn create<H: Host>(alloc: Global, host: &mut H, number: u32) -> Result<Log, HostFault>
         requires { IsAbsent (H.view host.old) (log_name number) }
         ensures ok { IfOk result (λ log. IsAtLogEnd (H.view host.new) (log_name number) log.at []) }
-        ensures changes { Changes (Step (log_name number) Anyhow) (H.view host.old) (H.view host.new) }
+        ensures changes { Changes (FileChange (log_name number) AnyChange) (H.view host.old) (H.view host.new) }
         ensures room { IfOk result (λ log. Reaches (H.view host.new) (log_name number) (log.at + 1)) }
         ensures usable { IfOk result (λ log. IsTrue log.usable) }
         ensures file { IfOk result (λ log. log.file ≡ log_name number) }
@@ -67,11 +67,11 @@ impl Log {
     /// Opens the segment with this number. The first mutation is next.
     pub fn open<H: Host>(alloc: Global, host: &mut H, number: u32) -> Result<Log, ReadFault>
         requires { IsThere (H.view host.old) (log_name number) }
-        ensures header { IfOk result (λ log. Begins (H.view host.old) (log_name number) log.at) }
-        ensures mutations { IfOk result (λ log. (tables : Tables) (bytes : Bytes) (mutations : List Mutation) → IsKept (H.view host.old) (log_name number) bytes → IsLog number tables bytes mutations
+        ensures header { IfOk result (λ log. HasHeader (H.view host.old) (log_name number) log.at) }
+        ensures mutations { IfOk result (λ log. (tables : Tables) (bytes : Bytes) (mutations : List Mutation) → IsFileDurable (H.view host.old) (log_name number) bytes → IsLog number tables bytes mutations
             → IsReadingLog (H.view host.new) (log_name number) log.at tables [] mutations) }
-        ensures damaged { IfErr result (IsShown (H.view host.old) (log_name number)) }
-        ensures undamaged { IfErr result (SparesGated (H.view host.old) (log_name number)) }
+        ensures damaged { IfErr result (GatedDamageShown (H.view host.old) (log_name number)) }
+        ensures undamaged { IfErr result (NoFalseGatedDamage (H.view host.old) (log_name number)) }
         ensures changes { Changes Same (H.view host.old) (H.view host.new) }
         ensures usable { IfOk result (λ log. IsTrue log.usable) }
         ensures file { IfOk result (λ log. log.file ≡ log_name number) }
@@ -99,8 +99,8 @@ impl Log {
         ensures goes_on { IfOk result (λ read. IsSome read → self.old.at < self.new.at) }
         ensures fits { OnOk result (self.new.at ≤ 2 ^ 62) }
         ensures room { IfOk result (λ read. read ≡ None → Reaches (H.view host.new) self.new.file (self.new.at + 1)) }
-        ensures damaged { IfErr result (IsLogShownAt (H.view host.old) self.old.file tables.now self.old.at) }
-        ensures undamaged { IfErr result (SparesLog (H.view host.old) self.old.file tables.now self.old.at) }
+        ensures damaged { IfErr result (IsLogDamageAt (H.view host.old) self.old.file tables.now self.old.at) }
+        ensures undamaged { IfErr result (NoFalseLogDamage (H.view host.old) self.old.file tables.now self.old.at) }
         ensures changes { Changes Same (H.view host.old) (H.view host.new) }
         ensures usable { self.new.usable ≡ is_ok result }
         ensures file { self.new.file ≡ self.old.file }
@@ -120,8 +120,8 @@ impl Log {
         requires usable { IsTrue self.old.usable }
         ensures ok { OnOk result (GainsMutation (H.view host.old) (H.view host.new) self.old.file self.old.at self.new.at mutation.now) }
         ensures any_moment { (mutations : List Mutation) → IsAtLogEnd (H.view host.old) self.old.file self.old.at mutations
-            → Changes (Step self.old.file (LeftWith (IsLogBeforeOrAfter self.old.file mutations mutation.now))) (H.view host.old) (H.view host.new) }
-        ensures changes { Changes (Step self.old.file Anyhow) (H.view host.old) (H.view host.new) }
+            → Changes (FileChange self.old.file (LeftWith (IsLogBeforeOrAfter self.old.file mutations mutation.now))) (H.view host.old) (H.view host.new) }
+        ensures changes { Changes (FileChange self.old.file AnyChange) (H.view host.old) (H.view host.new) }
         ensures room { OnOk result (Reaches (H.view host.new) self.new.file (self.new.at + 1)) }
         ensures usable { self.new.usable ≡ is_ok result }
         ensures file { self.new.file ≡ self.old.file }

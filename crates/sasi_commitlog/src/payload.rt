@@ -1,14 +1,14 @@
 // Mutations as the payloads of records.
 ghost use Rattle.std.specs.Prelude.{◌≡◌, ◌≤◌, ◌^◌, ◌++◌, length, IfErr, IfOk, OnOk};
 ghost use Rattle.sasi_body.specs.Format.{HasBody};
-ghost use Rattle.sasi_body.specs.Seen.{IsForLackOfMemory};
+ghost use Rattle.sasi_body.specs.Faults.{IsOutOfMemory};
 ghost use Rattle.sasi_commitlog.specs.Format.{payload_of, IsMutationOf};
 ghost use Rattle.sasi_commitlog.specs.Damages.{IsPayloadFault};
 
 use crate::Mutation;
-use crate::fault::behind_number;
+use crate::fault::shifted_by_number;
 use crate::tables::types_of;
-use sasi_body::{BodyFault, found, put_body, read_body};
+use sasi_body::{BodyFault, body_damage, put_body, read_body};
 use sasi_fields::{FieldReader, put_u32};
 use sasi_host::FormatRule;
 use sasi_types::TypeList;
@@ -38,10 +38,10 @@ pub fn read_mutation(
     let table = reader.u32()?;
     let Some(types) = types_of(tables, table) else {
         let bytes = table.to_be_bytes();
-        return Err(BodyFault::Broken(found(FormatRule::Number, 0, &bytes)));
+        return Err(BodyFault::Damaged(body_damage(FormatRule::Number, 0, &bytes)));
     };
     match read_body(alloc, reader.left(), types) {
         Ok((key, change)) => Ok(Mutation { table, key, change }),
-        Err(fault) => Err(behind_number(fault)),
+        Err(fault) => Err(shifted_by_number(fault)),
     }
 }

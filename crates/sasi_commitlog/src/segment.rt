@@ -1,12 +1,12 @@
 // Reads and appends at the gates of a segment.
 ghost use Rattle.std.specs.Prelude.{◌≡◌, ◌+◌, ◌<◌, ◌≤◌, ◌^◌, List, IfErr, IfOk, IsSome, IsTrue, OnOk, None, map};
 ghost use Rattle.sasi_host.specs.View.{IsThere, ListCauses, Reaches};
-ghost use Rattle.sasi_host.specs.Disk.{Anyhow, Changes, LeftWith, Same, Step};
+ghost use Rattle.sasi_host.specs.Disk.{AnyChange, Changes, LeftWith, Same, FileChange};
 ghost use Rattle.sasi_gated.specs.Causes.{ReadingCauses};
 ghost use Rattle.sasi_body.specs.Format.{HasBody};
 ghost use Rattle.sasi_cells.specs.declared.mutation.Mutation.{Mutation};
-ghost use Rattle.sasi_commitlog.specs.Standing.{IsAtLogEnd, IsLogBeforeOrAfter};
-ghost use Rattle.sasi_commitlog.specs.Reads.{GainsMutation, IsLogShownAt, IsReadOf, ReadsLogGate, ReadsMutations, SparesLog};
+ghost use Rattle.sasi_commitlog.specs.LogPosition.{IsAtLogEnd, IsLogBeforeOrAfter};
+ghost use Rattle.sasi_commitlog.specs.Reads.{GainsMutation, IsLogDamageAt, IsReadOf, ReadsLogGate, ReadsMutations, NoFalseLogDamage};
 
 use crate::Mutation;
 use crate::fault::fault_in_file;
@@ -32,15 +32,15 @@ pub fn read_next<H: Host>(
     ensures goes_on { IfOk result (λ read. IsSome read → gated.old.at < gated.new.at) }
     ensures fits { OnOk result (gated.new.at ≤ 2 ^ 62) }
     ensures room { IfOk result (λ read. read ≡ None → Reaches (H.view host.new) gated.new.file (gated.new.at + 1)) }
-    ensures damaged { IfErr result (IsLogShownAt (H.view host.old) gated.old.file tables.now gated.old.at) }
-    ensures undamaged { IfErr result (SparesLog (H.view host.old) gated.old.file tables.now gated.old.at) }
+    ensures damaged { IfErr result (IsLogDamageAt (H.view host.old) gated.old.file tables.now gated.old.at) }
+    ensures undamaged { IfErr result (NoFalseLogDamage (H.view host.old) gated.old.file tables.now gated.old.at) }
     ensures changes { Changes Same (H.view host.old) (H.view host.new) }
     ensures usable { OnOk result (IsTrue gated.new.usable) }
     ensures file { gated.new.file ≡ gated.old.file }
     ensures causes { ReadingCauses (H.view host.old) (H.view host.new) result }
 {
     let file = gated.file();
-    let gate = gated.place();
+    let gate = gated.offset();
     if !gated.next(host, payload)? {
         return Ok(None);
     }
@@ -63,8 +63,8 @@ pub fn append<H: Host>(
     requires usable { IsTrue gated.old.usable }
     ensures ok { OnOk result (GainsMutation (H.view host.old) (H.view host.new) gated.old.file gated.old.at gated.new.at mutation.now) }
     ensures any_moment { (mutations : List Mutation) → IsAtLogEnd (H.view host.old) gated.old.file gated.old.at mutations
-        → Changes (Step gated.old.file (LeftWith (IsLogBeforeOrAfter gated.old.file mutations mutation.now))) (H.view host.old) (H.view host.new) }
-    ensures changes { Changes (Step gated.old.file Anyhow) (H.view host.old) (H.view host.new) }
+        → Changes (FileChange gated.old.file (LeftWith (IsLogBeforeOrAfter gated.old.file mutations mutation.now))) (H.view host.old) (H.view host.new) }
+    ensures changes { Changes (FileChange gated.old.file AnyChange) (H.view host.old) (H.view host.new) }
     ensures room { OnOk result (Reaches (H.view host.new) gated.new.file (gated.new.at + 1)) }
     ensures usable { OnOk result (IsTrue gated.new.usable) }
     ensures file { gated.new.file ≡ gated.old.file }

@@ -4,9 +4,9 @@ use Rattle.std.proofs.lemmas.List.{drop_all}
 use Rattle.uuid.specs.Text.{parsed, parsed_hyphenated}
 use Rattle.sasi_model.specs.Pieces.{behind_first, closes, opened_by, starts}
 use Rattle.sasi_model.specs.Tokens as model
-use Rattle.sasi_model.specs.Tokens.{is_gap, lexeme, QuotedText, quoted_text, string_lexeme, starts_word, uuid_in_front, decimal, decimal_on, tokens_from, tokens}
+use Rattle.sasi_model.specs.Tokens.{is_separator, lexeme, QuotedText, quoted_text, string_lexeme, starts_word, uuid_in_front, decimal, decimal_on, tokens_from, tokens}
 use Rattle.sasi_cql.specs.declared.token.Token.{Token}
-use Rattle.sasi_cql.specs.Meaning.{at_most, meaning, IsLexeme, size_of, undoubled}
+use Rattle.sasi_cql.specs.ModelTokens.{at_most, model_token, IsLexeme, quoted_size, undoubled}
 use Rattle.sasi_cql.proofs.Comments.{not_closed_behind}
 use Rattle.sasi_cql.proofs.Strings.{closed}
 
@@ -19,37 +19,37 @@ skipped (suc n) (b ∷ bs) = skipped n bs
 
 -- tokens that were found, and what is left; and whether no `*/` is after the byte in front
 pub record Lexed (text : List ℕ) (found : List Token) (left : List ℕ) (unclosed : Bool) : Type 0 where
-  pub so_far : tokens text ≡ map meaning found ++ tokens left
+  pub so_far : tokens text ≡ map model_token found ++ tokens left
   pub no_close : unclosed ≡ true → closes (behind_first left) ≡ false
 
 pub lexed_begun : (text : List ℕ) → Lexed text [] text false
 lexed_begun text = record { so_far = refl; no_close = λ h. absurd cc }
 
-pub lexed_gap : (text : List ℕ) (found : List Token) (left : List ℕ) (first : ℕ) (behind : List ℕ) (before unclosed : Bool) → left ≡ first ∷ behind → is_gap first behind ≡ true
+pub lexed_gap : (text : List ℕ) (found : List Token) (left : List ℕ) (first : ℕ) (behind : List ℕ) (before unclosed : Bool) → left ≡ first ∷ behind → is_separator first behind ≡ true
     → (unclosed ≡ true → closes (behind_first behind) ≡ false) → Lexed text found left before → Lexed text found (drop (opened_by first behind) behind) unclosed
-lexed_gap text found left first behind before unclosed is gap kept l = record {
-  so_far = l.so_far ∙ ap (λ (ts : List model.Token). map meaning found ++ ts) (rw (is, gap) (skipped (opened_by first behind) behind));
+lexed_gap text found left first behind before unclosed is separator kept l = record {
+  so_far = l.so_far ∙ ap (λ (ts : List model.Token). map model_token found ++ ts) (rw (is, separator) (skipped (opened_by first behind) behind));
   no_close = λ h. not_closed_behind (opened_by first behind) behind (kept h);
 }
 
-one_more : (found : List Token) (token : Token) (behind : List model.Token) → map meaning found ++ meaning token ∷ behind ≡ map meaning (found ++ token ∷ []) ++ behind
+one_more : (found : List Token) (token : Token) (behind : List model.Token) → map model_token found ++ model_token token ∷ behind ≡ map model_token (found ++ token ∷ []) ++ behind
 one_more [] token behind = refl
-one_more (t ∷ found) token behind = ap (λ (ts : List model.Token). meaning t ∷ ts) (one_more found token behind)
+one_more (t ∷ found) token behind = ap (λ (ts : List model.Token). model_token t ∷ ts) (one_more found token behind)
 
 pub lexed_token : (text : List ℕ) (found : List Token) (left : List ℕ) (first : ℕ) (behind : List ℕ) (before unclosed : Bool)
-    (token : Token) (rest : List ℕ) → left ≡ first ∷ behind → is_gap first behind ≡ false
+    (token : Token) (rest : List ℕ) → left ≡ first ∷ behind → is_separator first behind ≡ false
     → (unclosed ≡ true → closes (behind_first behind) ≡ false) → IsLexeme (lexeme first behind) behind token rest → Lexed text found left before → Lexed text (found ++ token ∷ []) rest unclosed
-lexed_token text found left first behind before unclosed token rest is gap kept x l = record {
-  so_far = l.so_far ∙ rw (is, gap, x.left_is, skipped (lexeme first behind).inside behind, ← x.token_is) (one_more found token (tokens (drop (lexeme first behind).inside behind)));
+lexed_token text found left first behind before unclosed token rest is separator kept x l = record {
+  so_far = l.so_far ∙ rw (is, separator, x.left_is, skipped (lexeme first behind).inside behind, ← x.token_is) (one_more found token (tokens (drop (lexeme first behind).inside behind)));
   no_close = λ h. rw x.left_is (not_closed_behind (lexeme first behind).inside behind (kept h));
 }
 
 -- ---- strings
 
-pub string_first : (bs : List ℕ) (size : ℕ) → Some size ≡ size_of (quoted_text bs)
+pub string_first : (bs : List ℕ) (size : ℕ) → Some size ≡ quoted_size (quoted_text bs)
     → string_lexeme (quoted_text bs) ≡ record { token = model.Quoted (undoubled (take (size - 1) bs)); inside = size }
 string_first bs size h = sized (quoted_text bs) refl h where
-  sized : (q : Option QuotedText) → quoted_text bs ≡ q → Some size ≡ size_of q → string_lexeme q ≡ record { token = model.Quoted (undoubled (take (size - 1) bs)); inside = size }
+  sized : (q : Option QuotedText) → quoted_text bs ≡ q → Some size ≡ quoted_size q → string_lexeme q ≡ record { token = model.Quoted (undoubled (take (size - 1) bs)); inside = size }
   sized None p h = absurd cc
   sized (Some q) p h =
       let k = closed bs q p in
@@ -58,9 +58,9 @@ string_first bs size h = sized (quoted_text bs) refl h where
       let front : size - 1 ≡ k.before = omega arith in
       rw (front, same_size, k.text_is) refl
 
-pub string_size : (bs : List ℕ) (size : ℕ) → Some size ≡ size_of (quoted_text bs) → (0 < size) × (size ≤ length bs)
+pub string_size : (bs : List ℕ) (size : ℕ) → Some size ≡ quoted_size (quoted_text bs) → (0 < size) × (size ≤ length bs)
 string_size bs size h = sized (quoted_text bs) refl h where
-  sized : (q : Option QuotedText) → quoted_text bs ≡ q → Some size ≡ size_of q → (0 < size) × (size ≤ length bs)
+  sized : (q : Option QuotedText) → quoted_text bs ≡ q → Some size ≡ quoted_size q → (0 < size) × (size ≤ length bs)
   sized None p h = absurd cc
   sized (Some q) p h =
       let k = closed bs q p in

@@ -8,7 +8,7 @@ use Rattle.sasi_cql.specs.declared.fault.ParseFault.{ParseFault}
 use Rattle.sasi_cql.specs.declared.fault.ParseFault.TheVariants.{Syntax, OutOfMemory}
 use Rattle.sasi_cql.specs.Finds.{Finds}
 use Rattle.sasi_model.specs.Tokens.{tokens}
-use Rattle.sasi_model.specs.Written.{IsWritten}
+use Rattle.sasi_model.specs.WellFormed.{IsWellFormed}
 use Rattle.std.specs.Str.{IsUtf8}
 use Rattle.sasi_cql.proofs.Agreement.{spelled, found}
 use Rattle.sasi_cql.proofs.Written.{statement_written, tokens_written}
@@ -23,6 +23,6 @@ refuses tokens (Err Syntax) h is s read = let there = found tokens s read in abs
 refuses tokens (Err OutOfMemory) h is s read = absurd cc
 
 -- what the text holds
-pub written : (text : List ℕ) (result : Result Statement ParseFault) → IsUtf8 text → Finds (statement_of (tokens text)) result → IfOk result (λ s. IsWritten s)
+pub written : (text : List ℕ) (result : Result Statement ParseFault) → IsUtf8 text → Finds (statement_of (tokens text)) result → IfOk result (λ s. IsWellFormed s)
 written text (Ok s) utf8 h = statement_written (tokens text) s (spelled (tokens text) s h) (tokens_written text utf8)
 written text (Err fault) utf8 h = tt

@@ -1,11 +1,11 @@
 -- One more byte: the pieces of what is left, begun before the byte and after it.
 use Rattle.std.proofs.Common.{◌≡◌, ℕ, suc, ◌+◌, Bool, true, false, ◌&&◌, cond, nat_eq, nat_lt, List, [], ◌∷◌, ◌++◌, length, map, refl, sym, ap, ◌∙◌, arith, append_assoc, length-append}
-use Rattle.sasi_model.specs.Pieces.{starts, behind_first, to_close, closes, opened_by, scan, PIECE_LIMIT, is_space, Cut, in_front, joined, Piece, Whole, TooLong, Unfinished, whole_piece, last_piece, Pieces}
-use Rattle.sasi_cql.specs.Standing.{inside, whole_with, last_sized, pieces_with, plain_pieces, begun_pieces, open_pieces, front_pieces, pieces_at, opens, mode_after, ends_at, leads, size_after, kept, stage_after, tentative, front_size, front_fits, reported, end_at, behind, resume, Standing, IsStanding}
-use Rattle.sasi_cql.specs.declared.mode.Mode.{Mode}
-use Rattle.sasi_cql.specs.declared.mode.Mode.TheVariants.{Plain, Dash, Slash, Quote, QuotedName, Line, Block, Star}
-use Rattle.sasi_cql.specs.declared.stage.Stage.{Stage}
-use Rattle.sasi_cql.specs.declared.stage.Stage.TheVariants.{Front, Begun, Ended}
+use Rattle.sasi_model.specs.Pieces.{starts, behind_first, to_close, closes, opened_by, scan, PIECE_LIMIT, is_space, Cut, in_front, byte_in_front, Piece, Whole, TooLong, Unfinished, whole_piece, last_piece, Pieces}
+use Rattle.sasi_cql.specs.SplitterState.{inside, whole_with, last_sized, pieces_with, plain_pieces, continued_pieces, open_pieces, front_pieces, pieces_at, opens, mode_after, ends_at, leads, size_after, kept, stage_after, tentative, front_size, front_fits, reported, end_at, behind, resume, SplitterState, IsSplitterState}
+use Rattle.sasi_cql.specs.declared.mode.ScanMode.{ScanMode}
+use Rattle.sasi_cql.specs.declared.mode.ScanMode.TheVariants.{Plain, Dash, Slash, Quote, QuotedName, Line, Block, Star}
+use Rattle.sasi_cql.specs.declared.stage.PieceStage.{PieceStage}
+use Rattle.sasi_cql.specs.declared.stage.PieceStage.TheVariants.{Front, Begun, Ended}
 
 -- ---- a byte of a piece, in the cut
 
@@ -14,7 +14,7 @@ opened_is : (b : ℕ) (left : List ℕ) → opened_by b left ≡ inside (opens b
 opened_is b left = grind arith
 
 -- a byte of a piece that ends no piece goes before what is cut after it
-body_step : (m : Mode) (b : ℕ) (left : List ℕ) → ends_at m b ≡ false
+body_step : (m : ScanMode) (b : ℕ) (left : List ℕ) → ends_at m b ≡ false
     → scan true (inside m (b ∷ left)) (b ∷ left) ≡ in_front b (scan true (inside (mode_after m b) left) left)
 body_step Plain b left e = rw (e, opened_is b left) refl
 body_step Dash b left e = grind (arith, opened_is)
@@ -66,7 +66,7 @@ one_more : (n : ℕ) → 1 + n ≡ suc n
 one_more n = omega arith
 
 front : (text : List ℕ) (size b : ℕ) (whole : List (List ℕ)) (rest : List ℕ)
-    → pieces_with text size (joined b whole rest).whole (joined b whole rest).rest ≡ pieces_with (kept text size b) (size_after size) whole rest
+    → pieces_with text size (byte_in_front b whole rest).whole (byte_in_front b whole rest).rest ≡ pieces_with (kept text size b) (size_after size) whole rest
 front text size b [] rest = ap only (last_front size (length rest))
 front text size b (p ∷ ps) rest = ap (λ w. record { whole = w ∷ map whole_piece ps; last = last_piece rest }) (whole_front text size b p)
 
@@ -86,7 +86,7 @@ plain_with c = plain_list c.whole c.rest where
 first_byte : (b : ℕ) (c : Cut) → plain_pieces (in_front b c) ≡ pieces_with (b ∷ []) 1 c.whole c.rest
 first_byte b c = first_list c.whole c.rest where
   first_list : (whole : List (List ℕ)) (rest : List ℕ)
-      → plain_pieces (joined b whole rest) ≡ pieces_with (b ∷ []) 1 whole rest
+      → plain_pieces (byte_in_front b whole rest) ≡ pieces_with (b ∷ []) 1 whole rest
   first_list [] rest = ap only (sym (last_is (b ∷ rest)) ∙ ap last_sized (sym (one_more (length rest))))
   first_list (p ∷ ps) rest = ap (λ n. first_of n (b ∷ p) ps rest) (sym (one_more (length p)))
 
@@ -170,7 +170,7 @@ star_lead size b left = star _ refl where
   star false e = rw e (block_lead size b left)
 
 -- a byte that leaves it open whether a piece begins
-lead_step : (size : ℕ) (m : Mode) (b : ℕ) (left : List ℕ) → leads m b ≡ true → front_fits m size ≡ true
+lead_step : (size : ℕ) (m : ScanMode) (b : ℕ) (left : List ℕ) → leads m b ≡ true → front_fits m size ≡ true
     → front_pieces size m (b ∷ left) ≡ front_pieces (front_size (mode_after m b) size) (mode_after m b) left
 lead_step size Plain b left h fits = plain_lead size b left _ _ refl refl h
 lead_step size Dash b left h fits = let is : b ≡ 45 = grind arith in rw is refl
@@ -182,16 +182,16 @@ lead_step size Quote b left h fits = cc fits
 lead_step size QuotedName b left h fits = cc fits
 
 dash_other : (b : ℕ) (left : List ℕ) → nat_eq b 45 ≡ false
-    → front_pieces 1 Dash (b ∷ left) ≡ begun_pieces (45 ∷ []) 1 Plain (b ∷ left)
+    → front_pieces 1 Dash (b ∷ left) ≡ continued_pieces (45 ∷ []) 1 Plain (b ∷ left)
 dash_other b left e = rw e refl
 
 slash_other : (b : ℕ) (left : List ℕ) → nat_eq b 47 ≡ false → nat_eq b 42 ≡ false
-    → front_pieces 1 Slash (b ∷ left) ≡ begun_pieces (47 ∷ []) 1 Plain (b ∷ left)
+    → front_pieces 1 Slash (b ∷ left) ≡ continued_pieces (47 ∷ []) 1 Plain (b ∷ left)
 slash_other b left e f = rw (e, f) refl
 
 -- a byte that begins a piece
-begin_step : (size : ℕ) (m : Mode) (b : ℕ) (left : List ℕ) → leads m b ≡ false → front_fits m size ≡ true
-    → front_pieces size m (b ∷ left) ≡ begun_pieces (tentative m) size Plain (b ∷ left)
+begin_step : (size : ℕ) (m : ScanMode) (b : ℕ) (left : List ℕ) → leads m b ≡ false → front_fits m size ≡ true
+    → front_pieces size m (b ∷ left) ≡ continued_pieces (tentative m) size Plain (b ∷ left)
 begin_step size Plain b left h fits =
     let s : is_space b ≡ false = grind arith in
     let d : nat_eq b 45 ≡ false = grind arith in
@@ -209,10 +209,10 @@ begin_step size QuotedName b left h fits = cc h
 
 -- ---- what the splitter's calls say
 
-abbrev standing : List ℕ → ℕ → Stage → Mode → Standing
+abbrev standing : List ℕ → ℕ → PieceStage → ScanMode → SplitterState
 standing text size stage mode = record { text = text; size = size; stage = stage; mode = mode }
 
-pub begin_law : (text : List ℕ) (size : ℕ) (stage : Stage) (mode : Mode) (b : ℕ) (left : List ℕ) → IsStanding text size stage mode → stage ≡ Front
+pub begin_law : (text : List ℕ) (size : ℕ) (stage : PieceStage) (mode : ScanMode) (b : ℕ) (left : List ℕ) → IsSplitterState text size stage mode → stage ≡ Front
     → leads mode b ≡ false
     → resume (standing text size Begun Plain) (b ∷ left) ≡ resume (standing text size stage mode) (b ∷ left)
 unfolding resume
@@ -220,15 +220,15 @@ begin_law text size stage mode b left ok is h =
     let facts = ok.front is in
     rw (is, facts.0) (sym (begin_step size mode b left h facts.1))
 
-pub lead_law : (text new : List ℕ) (size : ℕ) (stage : Stage) (mode : Mode) (b : ℕ) (left : List ℕ) → IsStanding text size stage mode → stage ≡ Front
+pub lead_law : (text new : List ℕ) (size : ℕ) (stage : PieceStage) (mode : ScanMode) (b : ℕ) (left : List ℕ) → IsSplitterState text size stage mode → stage ≡ Front
     → leads mode b ≡ true
     → resume (standing text size stage mode) (b ∷ left) ≡ resume (standing new (front_size (mode_after mode b) size) stage (mode_after mode b)) left
 unfolding resume
 lead_law text new size stage mode b left ok is h = rw is (lead_step size mode b left h (ok.front is).1)
 
 -- a byte of a piece, which ends it or does not
-body_law : (text : List ℕ) (size : ℕ) (mode : Mode) (b : ℕ) (left : List ℕ) (ends : Bool) → ends_at mode b ≡ ends
-    → begun_pieces text size mode (b ∷ left) ≡ behind (reported (end_at (cond ends Ended Begun) (size_after size)) (kept text size b))
+body_law : (text : List ℕ) (size : ℕ) (mode : ScanMode) (b : ℕ) (left : List ℕ) (ends : Bool) → ends_at mode b ≡ ends
+    → continued_pieces text size mode (b ∷ left) ≡ behind (reported (end_at (cond ends Ended Begun) (size_after size)) (kept text size b))
     (pieces_at (cond ends Ended Begun) (kept text size b) (size_after size) (mode_after mode b) left)
 body_law text size mode b left false e =
     ap (λ (c : Cut). pieces_with text size c.whole c.rest) (body_step mode b left e)
@@ -238,8 +238,8 @@ body_law text size mode b left true e = ends mode e where
       → pieces_with text size ((59 ∷ []) ∷ (scan false 0 left).whole) (scan false 0 left).rest ≡ behind (reported (end_at Ended (size_after size)) (kept text size 59)) (front_pieces 0 Plain left)
   here left = ap (λ f. record { whole = f ++ map whole_piece (scan false 0 left).whole; last = last_piece (scan false 0 left).rest }) (end_front text size)
 
-  ends : (m : Mode) → ends_at m b ≡ true
-      → begun_pieces text size m (b ∷ left) ≡ behind (reported (end_at Ended (size_after size)) (kept text size b)) (front_pieces 0 Plain left)
+  ends : (m : ScanMode) → ends_at m b ≡ true
+      → continued_pieces text size m (b ∷ left) ≡ behind (reported (end_at Ended (size_after size)) (kept text size b)) (front_pieces 0 Plain left)
   ends Plain e = let is : b ≡ 59 = grind arith in rw is (here left)
   ends Dash e = let is : b ≡ 59 = grind arith in rw is (here left)
   ends Slash e = let is : b ≡ 59 = grind arith in rw is (here left)
@@ -249,7 +249,7 @@ body_law text size mode b left true e = ends mode e where
   ends Block e = cc e
   ends Star e = cc e
 
-pub push_law : (text : List ℕ) (size : ℕ) (stage : Stage) (mode : Mode) (b : ℕ) (left : List ℕ) → stage ≡ Begun
+pub push_law : (text : List ℕ) (size : ℕ) (stage : PieceStage) (mode : ScanMode) (b : ℕ) (left : List ℕ) → stage ≡ Begun
     → resume (standing text size stage mode) (b ∷ left) ≡ behind
     (reported (end_at (stage_after mode b) (size_after size)) (kept text size b))
     (resume (standing (kept text size b) (size_after size) (stage_after mode b) (mode_after mode b)) left)

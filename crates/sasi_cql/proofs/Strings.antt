@@ -4,7 +4,7 @@ use Rattle.std.proofs.Math.Seq.{drop-cons}
 use Rattle.std.proofs.lemmas.List.{drop_all}
 use Rattle.std.specs.Bool.{then_some}
 use Rattle.sasi_model.specs.Tokens.{QuotedText, quoted_on, quoted_text}
-use Rattle.sasi_cql.specs.Meaning.{size_of, undoubled, closes, is_first_quote}
+use Rattle.sasi_cql.specs.ModelTokens.{quoted_size, undoubled, closes_string, is_first_quote}
 
 -- a size with the bytes before it
 abbrev pub size_behind : ℕ → Option ℕ → Option ℕ
@@ -19,7 +19,7 @@ size_behind-twice : (m n : ℕ) (o : Option ℕ) → size_behind m (size_behind 
 size_behind-twice m n None = refl
 size_behind-twice m n (Some size) = ap (λ (n : ℕ). Some n) (omega arith)
 
-size-quoted_on : (b n : ℕ) (q : Option QuotedText) → size_of (quoted_on b n q) ≡ size_behind n (size_of q)
+size-quoted_on : (b n : ℕ) (q : Option QuotedText) → quoted_size (quoted_on b n q) ≡ size_behind n (quoted_size q)
 size-quoted_on b n None = refl
 size-quoted_on b n (Some q) = refl
 
@@ -30,20 +30,20 @@ closing true [] = Some 0
 closing false (b ∷ bs) = size_behind 1 (closing (b == 39) bs)
 closing true (b ∷ bs) = cond (b == 39) (size_behind 1 (closing false bs)) (Some 0)
 
-pub size_is : (bs : List ℕ) → size_of (quoted_text bs) ≡ closing false bs
+pub size_is : (bs : List ℕ) → quoted_size (quoted_text bs) ≡ closing false bs
 size_is [] = refl
 size_is (b ∷ []) = last (b == 39) where
-  last : (e : Bool) → size_of (cond e (Some (record { text = []; size = 1 })) None) ≡ size_behind 1 (closing e [])
+  last : (e : Bool) → quoted_size (cond e (Some (record { text = []; size = 1 })) None) ≡ size_behind 1 (closing e [])
   last true = refl
   last false = refl
 size_is (b ∷ c ∷ bs) = first (b == 39) (size_is bs) (size_is (c ∷ bs)) where
-  second : (e : Bool) → size_of (quoted_text bs) ≡ closing false bs
-      → size_of (cond e (quoted_on 39 2 (quoted_text bs)) (Some (record { text = []; size = 1 }))) ≡ size_behind 1 (cond e (size_behind 1 (closing false bs)) (Some 0))
+  second : (e : Bool) → quoted_size (quoted_text bs) ≡ closing false bs
+      → quoted_size (cond e (quoted_on 39 2 (quoted_text bs)) (Some (record { text = []; size = 1 }))) ≡ size_behind 1 (cond e (size_behind 1 (closing false bs)) (Some 0))
   second true p = rw (size-quoted_on 39 2 (quoted_text bs), p, size_behind-twice 1 1 (closing false bs)) refl
   second false p = refl
 
-  first : (e : Bool) → size_of (quoted_text bs) ≡ closing false bs → size_of (quoted_text (c ∷ bs)) ≡ closing false (c ∷ bs)
-      → size_of (cond e (cond (c == 39) (quoted_on 39 2 (quoted_text bs)) (Some (record { text = []; size = 1 }))) (quoted_on b 1 (quoted_text (c ∷ bs))))
+  first : (e : Bool) → quoted_size (quoted_text bs) ≡ closing false bs → quoted_size (quoted_text (c ∷ bs)) ≡ closing false (c ∷ bs)
+      → quoted_size (cond e (cond (c == 39) (quoted_on 39 2 (quoted_text bs)) (Some (record { text = []; size = 1 }))) (quoted_on b 1 (quoted_text (c ∷ bs))))
       ≡ size_behind 1 (closing e (c ∷ bs))
   first true p q = second (c == 39) p
   first false p q = rw (size-quoted_on b 1 (quoted_text (c ∷ bs)), q) refl
@@ -61,7 +61,7 @@ is_false true h = absurd cc
 
 -- one more byte
 pub closing_more : (bs : List ℕ) (i : ℕ) (quote : Bool) → i < length bs → closing false bs ≡ size_behind i (closing quote (drop i bs))
-    → closes quote (get_or bs i 0) ≡ false
+    → closes_string quote (get_or bs i 0) ≡ false
     → closing false bs ≡ size_behind (i + 1) (closing (is_first_quote quote (get_or bs i 0)) (drop (i + 1) bs))
 closing_more bs i true h so_far goes_on =
     so_far ∙ rw (add-one, drop-cons bs i 0 h, is_true (get_or bs i 0 == 39) goes_on) (size_behind-twice i 1 _ ∙ rw add-one refl)
@@ -70,7 +70,7 @@ closing_more bs i false h so_far goes_on =
 
 -- a byte that is no quote after one that is
 pub closing_here : (bs : List ℕ) (i : ℕ) (quote : Bool) → i < length bs → closing false bs ≡ size_behind i (closing quote (drop i bs))
-    → closes quote (get_or bs i 0) ≡ true → closing false bs ≡ Some i
+    → closes_string quote (get_or bs i 0) ≡ true → closing false bs ≡ Some i
 closing_here bs i true h so_far here =
     so_far ∙ rw (drop-cons bs i 0 h, is_false (get_or bs i 0 == 39) here) (ap (λ (n : ℕ). Some n) (omega arith))
 closing_here bs i false h so_far here = absurd cc

@@ -16,10 +16,10 @@ use Rattle.sasi_types.specs.declared.column.ColumnType.{ColumnType}
 use Rattle.sasi_types.specs.declared.literal.Number.{Number}
 use Rattle.sasi_types.specs.declared.statement.Select.{Select}
 use Rattle.sasi_model.specs.Pieces.{opened_by, starts}
-use Rattle.sasi_model.specs.Tokens.{Token, Word, QuotedName, Quoted, Integer, Uuid, Open, Close, Comma, Star, Equal, Semicolon, Unknown, QuotedText, Lexeme, is_gap, is_word_byte, is_letter, is_digit, lexeme, lexeme_or, lower, lower_byte, name_lexeme, negative_lexeme, other_lexeme, positive_lexeme, quoted_on, quoted_text, sign, starts_digit, starts_word, string_lexeme, tokens, tokens_from, uuid_in_front, word_lexeme, word_on}
+use Rattle.sasi_model.specs.Tokens.{Token, Word, QuotedName, Quoted, Integer, Uuid, Open, Close, Comma, Star, Equal, Semicolon, Unknown, QuotedText, Lexeme, is_separator, is_word_byte, is_letter, is_digit, lexeme, lexeme_or, lower, lower_byte, name_lexeme, negative_lexeme, other_lexeme, positive_lexeme, quoted_on, quoted_text, sign, starts_digit, starts_word, string_lexeme, tokens, tokens_from, uuid_in_front, word_lexeme, word_on}
 use Rattle.sasi_model.specs.Statements.{Column, Item, Joined, Key, KeyColumn, Phrase, Reads, ReadsCreate, ReadsInsert, columns_of, delete, equation, item, keys_of, listed, literal, literal_of, name, name_of, names_or_none, query, reserved, same, update}
 use Rattle.sasi_model.specs.Naming.{IsName, IsWord}
-use Rattle.sasi_model.specs.Written.{IsWrittenToken, IsWrittenLiteral, IsWrittenColumn, IsWrittenSet, IsWritten}
+use Rattle.sasi_model.specs.WellFormed.{IsWellFormedToken, IsWellFormedLiteral, IsWellFormedColumn, IsWellFormedSet, IsWellFormed}
 
 -- ---- texts in strings
 
@@ -147,10 +147,10 @@ uuid_size text bytes is =
 
 -- ---- tokens
 
-sign_written : (b : ℕ) → IsWrittenToken (sign b)
+sign_written : (b : ℕ) → IsWellFormedToken (sign b)
 sign_written b = by (b == 40) (b == 41) (b == 44) (b == 42) (b == 61) (b == 59)
   where
-    by : (c d e f g h : Bool) → IsWrittenToken (cond c Open (cond d Close (cond e Comma (cond f Star (cond g Equal (cond h Semicolon Unknown))))))
+    by : (c d e f g h : Bool) → IsWellFormedToken (cond c Open (cond d Close (cond e Comma (cond f Star (cond g Equal (cond h Semicolon Unknown))))))
     by true d e f g h = tt
     by false true e f g h = tt
     by false false true f g h = tt
@@ -166,14 +166,14 @@ letter_is_word b is = by (is_letter b) (is_digit b) (b == 95) is
     by true y z e = refl
     by false y z e = cc
 
-word_written : (b : ℕ) (behind : List ℕ) → is_letter b ≡ true → IsWrittenToken (word_lexeme b behind).token
+word_written : (b : ℕ) (behind : List ℕ) → is_letter b ≡ true → IsWellFormedToken (word_lexeme b behind).token
 word_written b behind is = (omega arith, lower_word (b ∷ take (word_on behind) behind) (rw (letter_is_word b is) (prefix_passes is_word_byte behind)))
 
-string_written : (behind : List ℕ) (o : Option QuotedText) → IsUtf8 behind → quoted_text behind ≡ o → IsWrittenToken (string_lexeme o).token
+string_written : (behind : List ℕ) (o : Option QuotedText) → IsUtf8 behind → quoted_text behind ≡ o → IsWellFormedToken (string_lexeme o).token
 string_written behind None text is = tt
 string_written behind (Some q) text is = string_is_utf8 behind q text is
 
-name_written_here : (behind : List ℕ) → IsWrittenToken (name_lexeme behind).token
+name_written_here : (behind : List ℕ) → IsWellFormedToken (name_lexeme behind).token
 name_written_here behind = by (nat_le 1 (word_on behind)) (nat_le (word_on behind) 48) (starts 34 (drop (word_on behind) behind)) refl refl
   where
     named : nat_le 1 (word_on behind) ≡ true → nat_le (word_on behind) 48 ≡ true → IsName (take (word_on behind) behind)
@@ -183,7 +183,7 @@ name_written_here behind = by (nat_le 1 (word_on behind)) (nat_le (word_on behin
       word = prefix_passes is_word_byte behind;
     }
 
-    by : (x y z : Bool) → nat_le 1 (word_on behind) ≡ x → nat_le (word_on behind) 48 ≡ y → IsWrittenToken
+    by : (x y z : Bool) → nat_le 1 (word_on behind) ≡ x → nat_le (word_on behind) 48 ≡ y → IsWellFormedToken
         (cond {A = Lexeme} (x && y && z) (record { token = QuotedName (take (word_on behind) behind); inside = suc (word_on behind) })
         (record { token = Unknown; inside = 0 })).token
     by true true true some short = named some short
@@ -191,12 +191,12 @@ name_written_here behind = by (nat_le 1 (word_on behind)) (nat_le (word_on behin
     by true false z some short = tt
     by false y z some short = tt
 
-other_written : (front : List ℕ) (b : ℕ) (behind : List ℕ) → IsUtf8 (front ++ b ∷ behind) → IsWrittenToken (other_lexeme b behind).token
+other_written : (front : List ℕ) (b : ℕ) (behind : List ℕ) → IsUtf8 (front ++ b ∷ behind) → IsWellFormedToken (other_lexeme b behind).token
 unfolding other_lexeme
 other_written front b behind text = by (is_letter b) (is_digit b) (b == 45 && starts_digit behind) (b == 39) (b == 34) refl refl
   where
     by : (x y z u v : Bool) → is_letter b ≡ x → (b == 39) ≡ u
-        → IsWrittenToken (cond x (word_lexeme b behind)
+        → IsWellFormedToken (cond x (word_lexeme b behind)
         (cond y (positive_lexeme b behind) (cond z (negative_lexeme behind)
         (cond u (string_lexeme (quoted_text behind)) (cond v (name_lexeme behind) (record { token = sign b; inside = 0 })))))).token
     by true y z u v letter quote = word_written b behind letter
@@ -206,27 +206,27 @@ other_written front b behind text = by (is_letter b) (is_digit b) (b == 45 && st
     by false false false false true letter quote = name_written_here behind
     by false false false false false letter quote = sign_written b
 
-lexeme_written : (front : List ℕ) (b : ℕ) (behind : List ℕ) → IsUtf8 (front ++ b ∷ behind) → IsWrittenToken (lexeme b behind).token
+lexeme_written : (front : List ℕ) (b : ℕ) (behind : List ℕ) → IsUtf8 (front ++ b ∷ behind) → IsWellFormedToken (lexeme b behind).token
 unfolding lexeme
 lexeme_written front b behind text = by (uuid_in_front (b ∷ behind)) refl
   where
-    by : (o : Option (List ℕ)) → uuid_in_front (b ∷ behind) ≡ o → IsWrittenToken (lexeme_or o (other_lexeme b behind)).token
+    by : (o : Option (List ℕ)) → uuid_in_front (b ∷ behind) ≡ o → IsWellFormedToken (lexeme_or o (other_lexeme b behind)).token
     by None is = other_written front b behind text
     by (Some bytes) is = uuid_size (b ∷ behind) bytes is
 
-tokens_on : (inside : ℕ) (front bs : List ℕ) → IsUtf8 (front ++ bs) → AllByRecursion IsWrittenToken (tokens_from inside bs)
+tokens_on : (inside : ℕ) (front bs : List ℕ) → IsUtf8 (front ++ bs) → AllByRecursion IsWellFormedToken (tokens_from inside bs)
 tokens_on zero front [] text = tt
 tokens_on (suc inside) front [] text = tt
 tokens_on (suc inside) front (b ∷ bs) text = tokens_on inside (front ++ b ∷ []) bs (subst IsUtf8 (sym (append_assoc front (b ∷ []) bs)) text)
 tokens_on zero front (b ∷ bs) text =
     let behind : IsUtf8 ((front ++ b ∷ []) ++ bs) = subst IsUtf8 (sym (append_assoc front (b ∷ []) bs)) text in
-    elim (is_gap b bs) as (λ v. AllByRecursion IsWrittenToken (cond v (tokens_from (opened_by b bs) bs) ((lexeme b bs).token ∷ tokens_from (lexeme b bs).inside bs))) [
+    elim (is_separator b bs) as (λ v. AllByRecursion IsWellFormedToken (cond v (tokens_from (opened_by b bs) bs) ((lexeme b bs).token ∷ tokens_from (lexeme b bs).inside bs))) [
       | true ↦ tokens_on (opened_by b bs) (front ++ b ∷ []) bs behind
       | false ↦ (lexeme_written front b bs text, tokens_on (lexeme b bs).inside (front ++ b ∷ []) bs behind)
     ]
 
 -- the tokens of a text
-pub tokens_written : (text : List ℕ) → IsUtf8 text → AllByRecursion IsWrittenToken (tokens text)
+pub tokens_written : (text : List ℕ) → IsUtf8 text → AllByRecursion IsWellFormedToken (tokens text)
 tokens_written text utf8 = tokens_on 0 [] text utf8
 
 -- ---- what one token stands for
@@ -238,26 +238,26 @@ fits w true true name le is some word =
 fits w true false name le is some word = cc
 fits w false other name le is some word = cc
 
-token_name : (token : Token) (name : List ℕ) → name_of token ≡ Some name → IsWrittenToken token → IsName name
+token_name : (token : Token) (name : List ℕ) → name_of token ≡ Some name → IsWellFormedToken token → IsName name
 token_name (Word w) name is written = fits w (nat_le (length w) 48) (not (list_any (same w) reserved)) name refl is written.0 written.1
 token_name (QuotedName n) name is written = let same_name : n ≡ name = (let e : Some n ≡ Some name = is in cc) in subst IsName same_name written
 token_name _ name is written = cc
 
-token_literal : (token : Token) (literal : Literal) → literal_of token ≡ Some literal → IsWrittenToken token → IsWrittenLiteral literal
-token_literal (Quoted text) literal is written = let e : literals.Text text ≡ literal = cc in subst IsWrittenLiteral e written
-token_literal (Uuid bytes) literal is written = let e : literals.Uuid bytes ≡ literal = cc in subst IsWrittenLiteral e written
-token_literal (Integer number) literal is written = let e : literals.Number number ≡ literal = cc in subst IsWrittenLiteral e tt
+token_literal : (token : Token) (literal : Literal) → literal_of token ≡ Some literal → IsWellFormedToken token → IsWellFormedLiteral literal
+token_literal (Quoted text) literal is written = let e : literals.Text text ≡ literal = cc in subst IsWellFormedLiteral e written
+token_literal (Uuid bytes) literal is written = let e : literals.Uuid bytes ≡ literal = cc in subst IsWellFormedLiteral e written
+token_literal (Integer number) literal is written = let e : literals.Number number ≡ literal = cc in subst IsWellFormedLiteral e tt
 token_literal (Word w) literal is written = by (same w (codes "null")) is
   where
-    by : (b : Bool) → cond b (Some literals.Null) None ≡ Some literal → IsWrittenLiteral literal
-    by true e = let null : literals.Null ≡ literal = cc in subst IsWrittenLiteral null tt
+    by : (b : Bool) → cond b (Some literals.Null) None ≡ Some literal → IsWellFormedLiteral literal
+    by true e = let null : literals.Null ≡ literal = cc in subst IsWellFormedLiteral null tt
     by false e = cc
 token_literal _ literal is written = cc
 
 -- ---- phrases
 
 abbrev Written : List Token → Type 0
-Written ts = AllByRecursion IsWrittenToken ts
+Written ts = AllByRecursion IsWellFormedToken ts
 
 split : (xs ys : List Token) → Written (xs ++ ys) → Written xs × Written ys
 split [] ys all = (tt, all)
@@ -269,7 +269,7 @@ parts first second ts r all = split r.front r.behind (subst Written r.whole all)
 name_written : (n : List ℕ) (ts : List Token) → name n ts → Written ts → IsName n
 name_written n ts one all = let alone : Written (one.token ∷ []) = subst Written one.alone all in token_name one.token n one.stands alone.0
 
-literal_written : (value : Literal) (ts : List Token) → literal value ts → Written ts → IsWrittenLiteral value
+literal_written : (value : Literal) (ts : List Token) → literal value ts → Written ts → IsWellFormedLiteral value
 literal_written value ts one all = let alone : Written (one.token ∷ []) = subst Written one.alone all in token_literal one.token value one.stands alone.0
 
 list_written : {A : Type 0} (phrase : A → Phrase) (P : A → Type 0) → ((a : A) (ts : List Token) → phrase a ts → Written ts → P a)
@@ -286,7 +286,7 @@ list_some : {A : Type 0} (phrase : A → Phrase) (items : List A) (ts : List Tok
 list_some phrase [] ts reads = absurd reads
 list_some phrase (a ∷ items) ts reads = omega arith
 
-equation_written : (given : List ℕ × Literal) (ts : List Token) → equation given ts → Written ts → IsWrittenSet given
+equation_written : (given : List ℕ × Literal) (ts : List Token) → equation given ts → Written ts → IsWellFormedSet given
 equation_written given ts reads all =
     let first = parts _ _ ts reads all in
     let second = parts _ _ reads.behind reads.ends first.1 in
@@ -294,25 +294,25 @@ equation_written given ts reads all =
 
 -- ---- the items of a CREATE TABLE
 
-abbrev IsWrittenItem : Item → Type 0
-IsWrittenItem (Column column type) = IsName column
-IsWrittenItem (KeyColumn column type) = IsName column
-IsWrittenItem (Key key) = IsName key
+abbrev IsWellFormedItem : Item → Type 0
+IsWellFormedItem (Column column type) = IsName column
+IsWellFormedItem (KeyColumn column type) = IsName column
+IsWellFormedItem (Key key) = IsName key
 
-item_written : (i : Item) (ts : List Token) → item i ts → Written ts → IsWrittenItem i
+item_written : (i : Item) (ts : List Token) → item i ts → Written ts → IsWellFormedItem i
 item_written (Column column type) ts reads all = name_written column reads.front reads.starts (parts _ _ ts reads all).0
 item_written (KeyColumn column type) ts reads all = name_written column reads.front reads.starts (parts _ _ ts reads all).0
 item_written (Key key) ts reads all =
     let first = parts _ _ ts reads all in
     name_written key reads.ends.front reads.ends.starts (parts _ _ reads.behind reads.ends first.1).0
 
-columns_written : (items : List Item) → AllByRecursion IsWrittenItem items → AllByRecursion IsWrittenColumn (flat_map columns_of items)
+columns_written : (items : List Item) → AllByRecursion IsWellFormedItem items → AllByRecursion IsWellFormedColumn (flat_map columns_of items)
 columns_written [] all = tt
 columns_written (Column column type ∷ items) all = (all.0, columns_written items all.1)
 columns_written (KeyColumn column type ∷ items) all = (all.0, columns_written items all.1)
 columns_written (Key key ∷ items) all = columns_written items all.1
 
-keys_written : (items : List Item) → AllByRecursion IsWrittenItem items → AllByRecursion IsName (flat_map keys_of items)
+keys_written : (items : List Item) → AllByRecursion IsWellFormedItem items → AllByRecursion IsName (flat_map keys_of items)
 keys_written [] all = tt
 keys_written (Column column type ∷ items) all = keys_written items all.1
 keys_written (KeyColumn column type ∷ items) all = (all.0, keys_written items all.1)
@@ -321,21 +321,21 @@ keys_written (Key key ∷ items) all = (all.0, keys_written items all.1)
 -- ---- statements
 
 create_written : (ts : List Token) (table : List ℕ) (columns : List (List ℕ × ColumnType)) (keys : List (List ℕ))
-    → ReadsCreate ts table columns keys → Written ts → IsWritten (CreateTable table columns keys)
+    → ReadsCreate ts table columns keys → Written ts → IsWellFormed (CreateTable table columns keys)
 create_written ts table columns keys reads all =
     let s = reads.spelled in
     let a = parts _ _ ts s all in
     let b = parts _ _ s.behind s.ends a.1 in
     let c = parts _ _ s.ends.behind s.ends.ends b.1 in
     let d = parts _ _ s.ends.ends.behind s.ends.ends.ends c.1 in
-    let items = list_written item IsWrittenItem item_written reads.items s.ends.ends.ends.front s.ends.ends.ends.starts d.0 in (
+    let items = list_written item IsWellFormedItem item_written reads.items s.ends.ends.ends.front s.ends.ends.ends.starts d.0 in (
       name_written table s.ends.front s.ends.starts b.0,
       rw reads.columns_are (columns_written reads.items items),
       rw reads.keys_are (keys_written reads.items items),
     )
 
 insert_written : (ts : List Token) (table : List ℕ) (columns : List (List ℕ)) (values : List Literal) (time : Option Number)
-    → ReadsInsert ts table columns values time → Written ts → IsWritten (Insert table columns values time)
+    → ReadsInsert ts table columns values time → Written ts → IsWellFormed (Insert table columns values time)
 insert_written ts table columns values time reads all =
     let s = reads.spelled in
     let a = parts _ _ ts s all in
@@ -348,11 +348,11 @@ insert_written ts table columns values time reads all =
     let f = parts _ _ names.ends.behind given e.1 in (
       name_written table s.ends.front s.ends.starts b.0,
       list_written name IsName name_written columns names.front names.starts d.0,
-      list_written literal IsWrittenLiteral literal_written values given.front given.starts f.0,
+      list_written literal IsWellFormedLiteral literal_written values given.front given.starts f.0,
     )
 
 update_written : (ts : List Token) (table : List ℕ) (time : Option Number) (sets : List (List ℕ × Literal)) (key : List ℕ × Literal)
-    → update table time sets key ts → Written ts → IsName table × AllByRecursion IsWrittenSet sets × IsWrittenSet key × (1 ≤ length sets)
+    → update table time sets key ts → Written ts → IsName table × AllByRecursion IsWellFormedSet sets × IsWellFormedSet key × (1 ≤ length sets)
 update_written ts table time sets key s all =
     let a = parts _ _ ts s all in
     let b = parts _ _ s.behind s.ends a.1 in
@@ -365,7 +365,7 @@ update_written ts table time sets key s all =
     let f = parts _ _ list.behind place e.1 in
     let g = parts _ _ place.behind place.ends f.1 in (
       name_written table s.ends.front s.ends.starts b.0,
-      list_written equation IsWrittenSet equation_written sets list.front list.starts e.0,
+      list_written equation IsWellFormedSet equation_written sets list.front list.starts e.0,
       equation_written key place.ends.front place.ends.starts g.0,
       list_some equation sets list.front list.starts,
     )
@@ -375,7 +375,7 @@ columns_named [] ts reads all = tt
 columns_named (column ∷ columns) ts reads all = list_written name IsName name_written (column ∷ columns) ts reads all
 
 delete_written : (ts : List Token) (columns : List (List ℕ)) (table : List ℕ) (time : Option Number) (key : List ℕ × Literal)
-    → delete columns table time key ts → Written ts → IsName table × AllByRecursion IsName columns × IsWrittenSet key
+    → delete columns table time key ts → Written ts → IsName table × AllByRecursion IsName columns × IsWellFormedSet key
 delete_written ts columns table time key s all =
     let a = parts _ _ ts s all in
     let names = s.ends in
@@ -403,7 +403,7 @@ query_written ts select s all =
     let d = parts _ _ s.ends.ends.behind named c.1 in
     name_written select.table named.front named.starts d.0
 
-pub statement_written : (ts : List Token) (statement : Statement) → Reads ts statement → Written ts → IsWritten statement
+pub statement_written : (ts : List Token) (statement : Statement) → Reads ts statement → Written ts → IsWellFormed statement
 statement_written ts (CreateTable table columns keys) reads all = create_written ts table columns keys reads all
 statement_written ts (Insert table columns values time) reads all = insert_written ts table columns values time reads all
 statement_written ts (Update table time sets key value) reads all = update_written ts table time sets (key, value) reads all

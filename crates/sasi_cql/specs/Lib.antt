@@ -1,4 +1,4 @@
 pub mod Finds
 pub mod Items
-pub mod Meaning
-pub mod Standing
+pub mod ModelTokens
+pub mod SplitterState

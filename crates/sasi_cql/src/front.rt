@@ -2,7 +2,7 @@
 ghost use Rattle.std.specs.Prelude.{◌≡◌, map};
 ghost use Rattle.sasi_model.specs.Statements.{expect, number_of, read_literal, read_name, read_one, same_token, type_of};
 ghost use Rattle.sasi_cql.specs.Finds.{FindsBehind, FindsRead, IsBehind};
-ghost use Rattle.sasi_cql.specs.Meaning.{meaning};
+ghost use Rattle.sasi_cql.specs.ModelTokens.{model_token};
 
 use crate::fault::ParseFault;
 use crate::literal::{literal_of, name_of, number_of, type_of};
@@ -13,7 +13,7 @@ use std::alloc::Global;
 
 // The token is the expected word, in any case, or the expected sign.
 fn same_token(wanted: &Token, token: &Token) -> bool
-    ensures { result ≡ same_token (meaning wanted.now) (meaning token.now) }
+    ensures { result ≡ same_token (model_token wanted.now) (model_token token.now) }
 {
     match (*wanted, *token) {
         (Token::Word(wanted), Token::Word(word)) => spells(word, wanted),
@@ -29,7 +29,7 @@ fn same_token(wanted: &Token, token: &Token) -> bool
 
 /// The rest after these words and signs, if the tokens begin with them. The recursion is as deep as they are many.
 pub fn after<'t, 'a>(wanted: &[Token], tokens: &'t [Token<'a>]) -> Option<&'t [Token<'a>]>
-    ensures { IsBehind (expect (map meaning wanted.now) (map meaning tokens.now)) result }
+    ensures { IsBehind (expect (map model_token wanted.now) (map model_token tokens.now)) result }
 {
     let [first, others @ ..] = wanted else {
         return Some(tokens);
@@ -45,7 +45,7 @@ pub fn expect<'t, 'a>(
     wanted: &[Token],
     tokens: &'t [Token<'a>],
 ) -> Result<&'t [Token<'a>], ParseFault>
-    ensures { FindsBehind (expect (map meaning wanted.now) (map meaning tokens.now)) result }
+    ensures { FindsBehind (expect (map model_token wanted.now) (map model_token tokens.now)) result }
 {
     after(wanted, tokens).ok_or(ParseFault::Syntax)
 }
@@ -55,7 +55,7 @@ pub fn read_name<'t, 'a>(
     alloc: Global,
     tokens: &'t [Token<'a>],
 ) -> Result<(Name, &'t [Token<'a>]), ParseFault>
-    ensures { FindsRead (read_name (map meaning tokens.now)) result }
+    ensures { FindsRead (read_name (map model_token tokens.now)) result }
 {
     match tokens {
         [token, behind @ ..] => Ok((name_of(alloc, token)?, behind)),
@@ -68,7 +68,7 @@ pub fn read_literal<'t, 'a>(
     alloc: Global,
     tokens: &'t [Token<'a>],
 ) -> Result<(Literal, &'t [Token<'a>]), ParseFault>
-    ensures { FindsRead (read_literal (map meaning tokens.now)) result }
+    ensures { FindsRead (read_literal (map model_token tokens.now)) result }
 {
     match tokens {
         [token, behind @ ..] => Ok((literal_of(alloc, token)?, behind)),
@@ -78,7 +78,7 @@ pub fn read_literal<'t, 'a>(
 
 /// integer
 pub fn read_number<'t, 'a>(tokens: &'t [Token<'a>]) -> Result<(Number, &'t [Token<'a>]), ParseFault>
-    ensures { FindsRead (read_one number_of (map meaning tokens.now)) result }
+    ensures { FindsRead (read_one number_of (map model_token tokens.now)) result }
 {
     match tokens {
         [token, behind @ ..] => Ok((number_of(token)?, behind)),
@@ -90,7 +90,7 @@ pub fn read_number<'t, 'a>(tokens: &'t [Token<'a>]) -> Result<(Number, &'t [Toke
 pub fn read_type<'t, 'a>(
     tokens: &'t [Token<'a>],
 ) -> Result<(ColumnType, &'t [Token<'a>]), ParseFault>
-    ensures { FindsRead (read_one type_of (map meaning tokens.now)) result }
+    ensures { FindsRead (read_one type_of (map model_token tokens.now)) result }
 {
     match tokens {
         [token, behind @ ..] => Ok((type_of(token)?, behind)),

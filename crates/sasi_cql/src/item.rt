@@ -2,8 +2,8 @@
 ghost use Rattle.std.specs.Prelude.{◌≡◌, ◌++◌, ◌∷◌, [], IfOk, map, OnOk};
 ghost use Rattle.sasi_model.specs.Statements.{column_or_key, columns_of, keys_of, read_column, read_item, read_key, read_list};
 ghost use Rattle.sasi_cql.specs.Finds.{FindsRead};
-ghost use Rattle.sasi_cql.specs.Items.{FindsItem, FindsItems, meant};
-ghost use Rattle.sasi_cql.specs.Meaning.{meaning};
+ghost use Rattle.sasi_cql.specs.Items.{FindsItem, FindsItems, model_item};
+ghost use Rattle.sasi_cql.specs.ModelTokens.{model_token};
 
 use crate::fault::ParseFault;
 use crate::front::{after, expect, read_name, read_type};
@@ -26,7 +26,7 @@ fn read_key<'t, 'a>(
     alloc: Global,
     tokens: &'t [Token<'a>],
 ) -> Result<(Item, &'t [Token<'a>]), ParseFault>
-    ensures { FindsItem (read_key (map meaning tokens.now)) result }
+    ensures { FindsItem (read_key (map model_token tokens.now)) result }
 {
     let (key, behind) = read_name(alloc, tokens)?;
     let behind = expect(&[Token::Close], behind)?;
@@ -38,7 +38,7 @@ fn read_column<'t, 'a>(
     alloc: Global,
     tokens: &'t [Token<'a>],
 ) -> Result<(Item, &'t [Token<'a>]), ParseFault>
-    ensures { FindsItem (read_column (map meaning tokens.now)) result }
+    ensures { FindsItem (read_column (map model_token tokens.now)) result }
 {
     let (column, behind) = read_name(alloc, tokens)?;
     let (kind, behind) = read_type(behind)?;
@@ -53,7 +53,7 @@ fn read_item<'t, 'a>(
     alloc: Global,
     tokens: &'t [Token<'a>],
 ) -> Result<(Item, &'t [Token<'a>]), ParseFault>
-    ensures { FindsItem (read_item (map meaning tokens.now)) result }
+    ensures { FindsItem (read_item (map model_token tokens.now)) result }
 {
     let primary = [Token::Word(b"primary"), Token::Word(b"key"), Token::Open];
     match after(&primary, tokens) {
@@ -93,8 +93,8 @@ fn push_item(
     keys: &mut Names,
     item: Item,
 ) -> Result<(), AllocError>
-    ensures columns { OnOk result (columns.new ≡ columns.old ++ columns_of (meant item)) }
-    ensures keys { OnOk result (keys.new ≡ keys.old ++ keys_of (meant item)) }
+    ensures columns { OnOk result (columns.new ≡ columns.old ++ columns_of (model_item item)) }
+    ensures keys { OnOk result (keys.new ≡ keys.old ++ keys_of (model_item item)) }
 {
     match item {
         Item::Column(column, kind) => {
@@ -115,7 +115,7 @@ pub fn read_items<'t, 'a>(
     alloc: Global,
     tokens: &'t [Token<'a>],
 ) -> Result<(Columns, Names, &'t [Token<'a>]), ParseFault>
-    ensures { FindsItems (read_list read_item (map meaning tokens.now)) result }
+    ensures { FindsItems (read_list read_item (map model_token tokens.now)) result }
 {
     let mut columns = Columns::new(alloc);
     let mut keys = Names::new(alloc);

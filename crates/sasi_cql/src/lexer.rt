@@ -1,10 +1,10 @@
 // From the bytes of a text to its tokens.
 ghost use Rattle.std.specs.Prelude.{◌≡◌, ◌≤◌, ◌∷◌, length, map, false, Some, IfOk};
 ghost use Rattle.sasi_model.specs.Tokens.{lexeme, name_lexeme, other_lexeme, quoted_text, sign, string_lexeme, tokens, uuid_in_front, word_lexeme, word_on};
-ghost use Rattle.sasi_cql.specs.Meaning.{IsLexeme, meaning, size_of};
+ghost use Rattle.sasi_cql.specs.ModelTokens.{IsLexeme, model_token, quoted_size};
 
 use crate::byte::{is_digit, is_letter, is_word_byte, starts, starts_digit, starts_word};
-use crate::gap::gap;
+use crate::separator::separator;
 use crate::integer::{negative_integer, positive_integer};
 use crate::quoted::string_size;
 use crate::token::Token;
@@ -18,7 +18,7 @@ const UUID_SIZE: usize = 36;
 const NAME_LIMIT: usize = 48;
 
 fn sign(byte: u8) -> Token<'static>
-    ensures { meaning result ≡ sign byte }
+    ensures { model_token result ≡ sign byte }
 {
     match byte {
         b'(' => Token::Open,
@@ -66,7 +66,7 @@ fn quoted_name<'a>(behind: &'a [u8]) -> (Token<'a>, &'a [u8])
 
 // The string with this size after its opening quote.
 fn sized_string<'a>(behind: &'a [u8], size: usize) -> (Token<'a>, &'a [u8])
-    requires { Some size ≡ size_of (quoted_text behind.now) }
+    requires { Some size ≡ quoted_size (quoted_text behind.now) }
     ensures { IsLexeme (string_lexeme (quoted_text behind.now)) behind.now result.0 result.1.now }
 {
     let (text, _) = behind.split_at(size - 1);
@@ -123,7 +123,7 @@ fn other_token<'a>(first: u8, bytes: &'a [u8], behind: &'a [u8]) -> (Token<'a>, 
     }
 }
 
-// The first token of bytes that begin with no gap.
+// The first token of bytes that begin with no separator.
 #[tactic(auto, unfolding(sasi_model::specs::Tokens::lexeme))]
 fn first_token<'a>(first: u8, bytes: &'a [u8], behind: &'a [u8]) -> (Token<'a>, &'a [u8])
     requires { bytes.now ≡ first ∷ behind.now }
@@ -140,13 +140,13 @@ fn first_token<'a>(first: u8, bytes: &'a [u8], behind: &'a [u8]) -> (Token<'a>, 
 
 /// The tokens of a text.
 pub fn tokens_of<'a>(alloc: Global, text: &'a [u8]) -> Result<Vec<Token<'a>>, AllocError>
-    ensures { IfOk result (λ found. map meaning found.items ≡ tokens text.now) }
+    ensures { IfOk result (λ found. map model_token found.items ≡ tokens text.now) }
 {
     let mut found = Vec::new(alloc);
     let mut left = text;
     let mut unclosed = false;
     'tokens: while let Some((first, behind)) = left.split_first() {
-        if let Some(rest) = gap(*first, behind, &mut unclosed) {
+        if let Some(rest) = separator(*first, behind, &mut unclosed) {
             left = rest;
         } else {
             let (token, rest) = first_token(*first, left, behind);

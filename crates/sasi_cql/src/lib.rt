@@ -5,7 +5,7 @@
 mod byte;
 mod fault;
 mod front;
-mod gap;
+mod separator;
 mod grammar;
 mod integer;
 mod item;

@@ -3,7 +3,7 @@ ghost use Rattle.std.specs.Prelude.{◌≡◌, ◌∷◌, [], is_some, map, Some
 ghost use Rattle.sasi_model.specs.Tokens.{Comma};
 ghost use Rattle.sasi_model.specs.Statements.{expect, read_equation, read_list, read_literal, read_name};
 ghost use Rattle.sasi_cql.specs.Finds.{FindsRead};
-ghost use Rattle.sasi_cql.specs.Meaning.{meaning};
+ghost use Rattle.sasi_cql.specs.ModelTokens.{model_token};
 
 use crate::fault::ParseFault;
 use crate::front::{read_literal, read_name};
@@ -14,15 +14,15 @@ use std::alloc::Global;
 
 /// The first token is a `,`.
 pub fn has_comma(tokens: &[Token]) -> bool
-    ensures { result ≡ is_some (expect (Comma ∷ []) (map meaning tokens.now)) }
+    ensures { result ≡ is_some (expect (Comma ∷ []) (map model_token tokens.now)) }
 {
     matches!(tokens, [Token::Comma, ..])
 }
 
 /// The rest after the `,`. A loop that goes on there needs this call: with an assignment from a pattern it gets no proof.
 pub fn behind_comma<'t, 'a>(tokens: &'t [Token<'a>]) -> &'t [Token<'a>]
-    requires { is_some (expect (Comma ∷ []) (map meaning tokens.now)) ≡ true }
-    ensures { expect (Comma ∷ []) (map meaning tokens.now) ≡ Some (map meaning result.now) }
+    requires { is_some (expect (Comma ∷ []) (map model_token tokens.now)) ≡ true }
+    ensures { expect (Comma ∷ []) (map model_token tokens.now) ≡ Some (map model_token result.now) }
 {
     let (_, behind) = tokens.split_at(1);
     behind
@@ -33,7 +33,7 @@ pub fn read_names<'t, 'a>(
     alloc: Global,
     tokens: &'t [Token<'a>],
 ) -> Result<(Names, &'t [Token<'a>]), ParseFault>
-    ensures { FindsRead (read_list read_name (map meaning tokens.now)) result }
+    ensures { FindsRead (read_list read_name (map model_token tokens.now)) result }
 {
     let mut names = Names::new(alloc);
     let mut left = tokens;
@@ -52,7 +52,7 @@ pub fn read_literals<'t, 'a>(
     alloc: Global,
     tokens: &'t [Token<'a>],
 ) -> Result<(Literals, &'t [Token<'a>]), ParseFault>
-    ensures { FindsRead (read_list read_literal (map meaning tokens.now)) result }
+    ensures { FindsRead (read_list read_literal (map model_token tokens.now)) result }
 {
     let mut literals = Literals::new(alloc);
     let mut left = tokens;
@@ -71,7 +71,7 @@ pub fn read_sets<'t, 'a>(
     alloc: Global,
     tokens: &'t [Token<'a>],
 ) -> Result<(Sets, &'t [Token<'a>]), ParseFault>
-    ensures { FindsRead (read_list read_equation (map meaning tokens.now)) result }
+    ensures { FindsRead (read_list read_equation (map model_token tokens.now)) result }
 {
     let mut sets = Sets::new(alloc);
     let mut left = tokens;

@@ -3,7 +3,7 @@ ghost use Rattle.std.specs.Prelude.{◌≡◌, IfOk};
 ghost use Rattle.sasi_model.specs.Tokens.{lower};
 ghost use Rattle.sasi_model.specs.Statements.{literal_of, name_of, number_of, type_named, type_of};
 ghost use Rattle.sasi_cql.specs.Finds.{Finds};
-ghost use Rattle.sasi_cql.specs.Meaning.{meaning};
+ghost use Rattle.sasi_cql.specs.ModelTokens.{model_token};
 
 use crate::fault::ParseFault;
 use crate::quoted::text_of;
@@ -21,7 +21,7 @@ fn quoted_name(alloc: Global, bytes: &[u8]) -> Result<Name, AllocError>
 
 /// The name that a token is.
 pub fn name_of(alloc: Global, token: &Token) -> Result<Name, ParseFault>
-    ensures { Finds (name_of (meaning token.now)) result }
+    ensures { Finds (name_of (model_token token.now)) result }
 {
     match *token {
         Token::Word(word) if is_name(word) => Ok(lower_name(alloc, word)?),
@@ -32,7 +32,7 @@ pub fn name_of(alloc: Global, token: &Token) -> Result<Name, ParseFault>
 
 /// The literal that a token is.
 pub fn literal_of(alloc: Global, token: &Token) -> Result<Literal, ParseFault>
-    ensures { Finds (literal_of (meaning token.now)) result }
+    ensures { Finds (literal_of (model_token token.now)) result }
 {
     match *token {
         Token::Quoted(text) => Ok(Literal::Text(text_of(alloc, text)?)),
@@ -45,7 +45,7 @@ pub fn literal_of(alloc: Global, token: &Token) -> Result<Literal, ParseFault>
 
 /// The number that a token is.
 pub fn number_of(token: &Token) -> Result<Number, ParseFault>
-    ensures { Finds (number_of (meaning token.now)) result }
+    ensures { Finds (number_of (model_token token.now)) result }
 {
     match *token {
         Token::Integer(number) => Ok(number),
@@ -71,7 +71,7 @@ fn type_named(word: &[u8]) -> Option<ColumnType>
 
 /// The type that a token is.
 pub fn type_of(token: &Token) -> Result<ColumnType, ParseFault>
-    ensures { Finds (type_of (meaning token.now)) result }
+    ensures { Finds (type_of (model_token token.now)) result }
 {
     match *token {
         Token::Word(word) => type_named(word).ok_or(ParseFault::Syntax),

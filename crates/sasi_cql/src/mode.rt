@@ -2,7 +2,7 @@
 
 /// What a byte of a script leaves open.
 #[derive(Clone, Copy, Debug, PartialEq, Eq)]
-pub enum Mode {
+pub enum ScanMode {
     /// Nothing.
     Plain,
     /// Nothing, but the byte is a `-` that the next may make a comment.

@@ -3,9 +3,9 @@ ghost use Rattle.std.specs.Prelude.{◌≡◌, if◌then◌else◌, length, map,
 ghost use Rattle.sasi_types.specs.declared.statement.Statement.{Statement};
 ghost use Rattle.sasi_model.specs.Tokens.{tokens};
 ghost use Rattle.sasi_model.specs.Statements.{create_of, delete_of, ended, insert_of, insert_values, query_of, read_asked, read_names_or_none, Reads, statement_of, update_of};
-ghost use Rattle.sasi_model.specs.Written.{IsWritten};
+ghost use Rattle.sasi_model.specs.WellFormed.{IsWellFormed};
 ghost use Rattle.sasi_cql.specs.Finds.{Finds, FindsRead};
-ghost use Rattle.sasi_cql.specs.Meaning.{meaning};
+ghost use Rattle.sasi_cql.specs.ModelTokens.{model_token};
 
 use crate::fault::ParseFault;
 use crate::front::{after, expect, read_name};
@@ -19,7 +19,7 @@ use std::alloc::Global;
 
 // The statement, if nothing comes after it.
 fn ended(statement: Statement, tokens: &[Token]) -> Result<Statement, ParseFault>
-    ensures { Finds (ended statement (map meaning tokens.now)) result }
+    ensures { Finds (ended statement (map model_token tokens.now)) result }
 {
     match tokens {
         [] => Ok(statement),
@@ -46,7 +46,7 @@ fn created(table: Name, columns: Columns, keys: Names) -> Result<Statement, Pars
 // name ( item {, item} ) ;
 #[tactic(auto, unfolding(sasi_model::specs::Statements::create_of))]
 fn create_table(alloc: Global, tokens: &[Token]) -> Result<Statement, ParseFault>
-    ensures { Finds (create_of (map meaning tokens.now)) result }
+    ensures { Finds (create_of (map model_token tokens.now)) result }
 {
     let (table, behind) = read_name(alloc, tokens)?;
     let behind = expect(&[Token::Open], behind)?;
@@ -65,7 +65,7 @@ fn insert_values(
     columns: Names,
     tokens: &[Token],
 ) -> Result<Statement, ParseFault>
-    ensures { Finds (insert_values table columns (map meaning tokens.now)) result }
+    ensures { Finds (insert_values table columns (map model_token tokens.now)) result }
 {
     let (values, behind) = read_literals(alloc, tokens)?;
     let behind = expect(&[Token::Close], behind)?;
@@ -86,7 +86,7 @@ fn insert_values(
 // name ( name {, name} ) VALUES ( literal {, literal} ) [USING TIMESTAMP integer] ;
 #[tactic(auto, unfolding(sasi_model::specs::Statements::insert_of))]
 fn insert(alloc: Global, tokens: &[Token]) -> Result<Statement, ParseFault>
-    ensures { Finds (insert_of (map meaning tokens.now)) result }
+    ensures { Finds (insert_of (map model_token tokens.now)) result }
 {
     let (table, behind) = read_name(alloc, tokens)?;
     let behind = expect(&[Token::Open], behind)?;
@@ -100,7 +100,7 @@ fn insert(alloc: Global, tokens: &[Token]) -> Result<Statement, ParseFault>
 // name [USING TIMESTAMP integer] SET name = literal {, name = literal} WHERE name = literal ;
 #[tactic(auto, unfolding(sasi_model::specs::Statements::update_of))]
 fn update(alloc: Global, tokens: &[Token]) -> Result<Statement, ParseFault>
-    ensures { Finds (update_of (map meaning tokens.now)) result }
+    ensures { Finds (update_of (map model_token tokens.now)) result }
 {
     let (table, behind) = read_name(alloc, tokens)?;
     let (time, behind) = read_time(behind)?;
@@ -124,7 +124,7 @@ fn read_names_or_none<'t, 'a>(
     alloc: Global,
     tokens: &'t [Token<'a>],
 ) -> Result<(Names, &'t [Token<'a>]), ParseFault>
-    ensures { FindsRead (read_names_or_none (map meaning tokens.now)) result }
+    ensures { FindsRead (read_names_or_none (map model_token tokens.now)) result }
 {
     match after(&[Token::Word(b"from")], tokens) {
         Some(_) => Ok((Names::new(alloc), tokens)),
@@ -135,7 +135,7 @@ fn read_names_or_none<'t, 'a>(
 // [name {, name}] FROM name [USING TIMESTAMP integer] WHERE name = literal ;
 #[tactic(auto, unfolding(sasi_model::specs::Statements::delete_of))]
 fn delete(alloc: Global, tokens: &[Token]) -> Result<Statement, ParseFault>
-    ensures { Finds (delete_of (map meaning tokens.now)) result }
+    ensures { Finds (delete_of (map model_token tokens.now)) result }
 {
     let (columns, behind) = read_names_or_none(alloc, tokens)?;
     let behind = expect(&[Token::Word(b"from")], behind)?;
@@ -159,7 +159,7 @@ fn read_asked<'t, 'a>(
     alloc: Global,
     tokens: &'t [Token<'a>],
 ) -> Result<(Option<Names>, &'t [Token<'a>]), ParseFault>
-    ensures { FindsRead (read_asked (map meaning tokens.now)) result }
+    ensures { FindsRead (read_asked (map model_token tokens.now)) result }
 {
     if let Some(behind) = after(&[Token::Star], tokens) {
         return Ok((None, behind));
@@ -171,7 +171,7 @@ fn read_asked<'t, 'a>(
 // (* | name {, name}) FROM name ;
 #[tactic(auto, unfolding(sasi_model::specs::Statements::query_of))]
 fn query(alloc: Global, tokens: &[Token]) -> Result<Statement, ParseFault>
-    ensures { Finds (query_of (map meaning tokens.now)) result }
+    ensures { Finds (query_of (map model_token tokens.now)) result }
 {
     let (columns, behind) = read_asked(alloc, tokens)?;
     let behind = expect(&[Token::Word(b"from")], behind)?;
@@ -185,7 +185,7 @@ fn query(alloc: Global, tokens: &[Token]) -> Result<Statement, ParseFault>
 
 #[tactic(auto, unfolding(sasi_model::specs::Statements::statement_of))]
 fn statement(alloc: Global, tokens: &[Token]) -> Result<Statement, ParseFault>
-    ensures { Finds (statement_of (map meaning tokens.now)) result }
+    ensures { Finds (statement_of (map model_token tokens.now)) result }
 {
     if let Some(behind) = after(&[Token::Word(b"create"), Token::Word(b"table")], tokens) {
         return create_table(alloc, behind);
@@ -207,7 +207,7 @@ fn statement(alloc: Global, tokens: &[Token]) -> Result<Statement, ParseFault>
 pub fn parse(alloc: Global, text: &str) -> Result<Statement, ParseFault>
     ensures statement { IfOk result (λ s. statement_of (tokens text.now) ≡ Some s) }
     ensures reads { IfOk result (λ s. Reads (tokens text.now) s) }
-    ensures written { IfOk result (λ s. IsWritten s) }
+    ensures written { IfOk result (λ s. IsWellFormed s) }
     ensures syntax { result ≡ Err ParseFault.Syntax → statement_of (tokens text.now) ≡ None }
     ensures refuses { result ≡ Err ParseFault.Syntax → (s : Statement) → ¬ (Reads (tokens text.now) s) }
 {

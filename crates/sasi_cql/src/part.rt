@@ -2,7 +2,7 @@
 ghost use Rattle.std.specs.Prelude.{map};
 ghost use Rattle.sasi_model.specs.Statements.{read_equation, read_time, read_where};
 ghost use Rattle.sasi_cql.specs.Finds.{FindsRead};
-ghost use Rattle.sasi_cql.specs.Meaning.{meaning};
+ghost use Rattle.sasi_cql.specs.ModelTokens.{model_token};
 
 use crate::fault::ParseFault;
 use crate::front::{after, expect, read_literal, read_name, read_number};
@@ -14,7 +14,7 @@ use std::alloc::Global;
 pub fn read_time<'t, 'a>(
     tokens: &'t [Token<'a>],
 ) -> Result<(Option<Number>, &'t [Token<'a>]), ParseFault>
-    ensures { FindsRead (read_time (map meaning tokens.now)) result }
+    ensures { FindsRead (read_time (map model_token tokens.now)) result }
 {
     let Some(behind) = after(&[Token::Word(b"using"), Token::Word(b"timestamp")], tokens) else {
         return Ok((None, tokens));
@@ -28,7 +28,7 @@ pub fn read_equation<'t, 'a>(
     alloc: Global,
     tokens: &'t [Token<'a>],
 ) -> Result<((Name, Literal), &'t [Token<'a>]), ParseFault>
-    ensures { FindsRead (read_equation (map meaning tokens.now)) result }
+    ensures { FindsRead (read_equation (map model_token tokens.now)) result }
 {
     let (column, behind) = read_name(alloc, tokens)?;
     let behind = expect(&[Token::Equal], behind)?;
@@ -41,7 +41,7 @@ pub fn read_where<'t, 'a>(
     alloc: Global,
     tokens: &'t [Token<'a>],
 ) -> Result<((Name, Literal), &'t [Token<'a>]), ParseFault>
-    ensures { FindsRead (read_where (map meaning tokens.now)) result }
+    ensures { FindsRead (read_where (map model_token tokens.now)) result }
 {
     let behind = expect(&[Token::Word(b"where")], tokens)?;
     let (key, behind) = read_equation(alloc, behind)?;

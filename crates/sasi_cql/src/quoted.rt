@@ -1,14 +1,14 @@
 // Strings between quotes.
 ghost use Rattle.std.specs.Prelude.{◌≡◌, IfOk};
 ghost use Rattle.sasi_model.specs.Tokens.{quoted_text};
-ghost use Rattle.sasi_cql.specs.Meaning.{closes, is_first_quote, size_of, undoubled};
+ghost use Rattle.sasi_cql.specs.ModelTokens.{closes_string, is_first_quote, quoted_size, undoubled};
 
 use sasi_types::Text;
 use std::alloc::{AllocError, Global};
 
 // The byte closes a string. `quote` says that the byte before it is a quote, and may be the first of two.
-fn closes(quote: bool, byte: u8) -> bool
-    ensures { result ≡ closes quote byte }
+fn closes_string(quote: bool, byte: u8) -> bool
+    ensures { result ≡ closes_string quote byte }
 {
     quote && byte != b'\''
 }
@@ -22,11 +22,11 @@ fn is_first_quote(quote: bool, byte: u8) -> bool
 
 /// The number of bytes of a string after its opening quote, the closing one included.
 pub fn string_size(bytes: &[u8]) -> Option<usize>
-    ensures { result ≡ size_of (quoted_text bytes.now) }
+    ensures { result ≡ quoted_size (quoted_text bytes.now) }
 {
     let mut quote = false;
     'bytes: for (i, byte) in bytes.iter().enumerate() {
-        if closes(quote, *byte) {
+        if closes_string(quote, *byte) {
             return Some(i);
         }
         quote = is_first_quote(quote, *byte);

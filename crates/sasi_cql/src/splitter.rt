@@ -1,11 +1,11 @@
 // Cuts a script into its pieces, a byte at a time.
 ghost use Rattle.std.specs.Prelude.{◌≡◌, List, ℕ, [], ◌∷◌, ◌++◌, IfOk, OnOk, OnErr, true, false};
 ghost use Rattle.sasi_model.specs.Pieces.{pieces};
-ghost use Rattle.sasi_cql.specs.Standing.{resume, reported, behind, size_after, kept, mode_after, stage_after, leads, tentative, front_size, end_at, last_end_of, opens};
-ghost use Rattle.sasi_cql.specs.declared.stage.Stage.TheVariants.{Front, Begun, Ended};
+ghost use Rattle.sasi_cql.specs.SplitterState.{resume, reported, behind, size_after, kept, mode_after, stage_after, leads, tentative, front_size, end_at, last_end_of, opens};
+ghost use Rattle.sasi_cql.specs.declared.stage.PieceStage.TheVariants.{Front, Begun, Ended};
 
-use crate::mode::Mode;
-use crate::stage::Stage;
+use crate::mode::ScanMode;
+use crate::stage::PieceStage;
 use sasi_types::PieceEnd;
 use std::alloc::{AllocError, Global};
 use std::marker::Model;
@@ -20,68 +20,68 @@ pub struct Splitter {
     text: Vec<u8>,
     // The number of bytes of the piece so far, or of the open comment before it: at most LIMIT + 1, where it stops.
     size: usize,
-    stage: Stage,
-    mode: Mode,
+    stage: PieceStage,
+    mode: ScanMode,
 }
 
 impl Model for Splitter {
-    ghost use Rattle.sasi_cql.specs.Standing.{Standing, IsStanding};
+    ghost use Rattle.sasi_cql.specs.SplitterState.{SplitterState, IsSplitterState};
 
-    ghost Value = { Standing };
+    ghost Value = { SplitterState };
 
     ghost view = { λ a. record { text = a.text.items; size = a.size; stage = a.stage; mode = a.mode } };
 
-    ghost invariant = { λ a. IsStanding a.text.items a.size a.stage a.mode };
+    ghost invariant = { λ a. IsSplitterState a.text.items a.size a.stage a.mode };
 }
 
-fn opened(byte: u8) -> Mode
+fn opened(byte: u8) -> ScanMode
     ensures { result ≡ opens byte }
 {
     match byte {
-        b'\'' => Mode::Quote,
-        b'"' => Mode::QuotedName,
-        b'-' => Mode::Dash,
-        b'/' => Mode::Slash,
-        _ => Mode::Plain,
+        b'\'' => ScanMode::Quote,
+        b'"' => ScanMode::QuotedName,
+        b'-' => ScanMode::Dash,
+        b'/' => ScanMode::Slash,
+        _ => ScanMode::Plain,
     }
 }
 
 // The mode after the byte.
-fn next_mode(mode: Mode, byte: u8) -> Mode
+fn next_mode(mode: ScanMode, byte: u8) -> ScanMode
     ensures { result ≡ mode_after mode byte }
 {
     match (mode, byte) {
-        (Mode::Dash, b'-') | (Mode::Slash, b'/') => Mode::Line,
-        (Mode::Slash, b'*') => Mode::Block,
-        (Mode::Plain | Mode::Dash | Mode::Slash, _) => opened(byte),
-        (Mode::Quote, b'\'')
-        | (Mode::QuotedName, b'"')
-        | (Mode::Line, b'\n')
-        | (Mode::Star, b'/') => Mode::Plain,
-        (Mode::Block | Mode::Star, b'*') => Mode::Star,
-        (Mode::Star, _) => Mode::Block,
+        (ScanMode::Dash, b'-') | (ScanMode::Slash, b'/') => ScanMode::Line,
+        (ScanMode::Slash, b'*') => ScanMode::Block,
+        (ScanMode::Plain | ScanMode::Dash | ScanMode::Slash, _) => opened(byte),
+        (ScanMode::Quote, b'\'')
+        | (ScanMode::QuotedName, b'"')
+        | (ScanMode::Line, b'\n')
+        | (ScanMode::Star, b'/') => ScanMode::Plain,
+        (ScanMode::Block | ScanMode::Star, b'*') => ScanMode::Star,
+        (ScanMode::Star, _) => ScanMode::Block,
         (mode, _) => mode,
     }
 }
 
 // The stage after a byte of a piece.
-fn next_stage(mode: Mode, byte: u8) -> Stage
+fn next_stage(mode: ScanMode, byte: u8) -> PieceStage
     ensures { result ≡ stage_after mode byte }
 {
     match mode {
-        Mode::Plain | Mode::Dash | Mode::Slash if byte == b';' => Stage::Ended,
-        _ => Stage::Begun,
+        ScanMode::Plain | ScanMode::Dash | ScanMode::Slash if byte == b';' => PieceStage::Ended,
+        _ => PieceStage::Begun,
     }
 }
 
 // Whether the byte begins no piece, where none has begun before it.
-fn is_lead(mode: Mode, byte: u8) -> bool
+fn is_lead(mode: ScanMode, byte: u8) -> bool
     ensures { result ≡ leads mode byte }
 {
     match mode {
-        Mode::Plain => matches!(byte, b' ' | b'\t' | b'\r' | b'\n' | b'-' | b'/'),
-        Mode::Dash => byte == b'-',
-        Mode::Slash => byte == b'/' || byte == b'*',
+        ScanMode::Plain => matches!(byte, b' ' | b'\t' | b'\r' | b'\n' | b'-' | b'/'),
+        ScanMode::Dash => byte == b'-',
+        ScanMode::Slash => byte == b'/' || byte == b'*',
         _ => true,
     }
 }
@@ -94,12 +94,12 @@ fn next_size(size: usize) -> usize
 }
 
 // The size after a byte before a piece, which left this mode.
-fn next_front_size(mode: Mode, size: usize) -> usize
+fn next_front_size(mode: ScanMode, size: usize) -> usize
     ensures { result ≡ front_size mode size }
 {
     match mode {
-        Mode::Dash | Mode::Slash => 1,
-        Mode::Block | Mode::Star => next_size(size),
+        ScanMode::Dash | ScanMode::Slash => 1,
+        ScanMode::Block | ScanMode::Star => next_size(size),
         _ => 0,
     }
 }
@@ -116,24 +116,24 @@ fn keep(text: &mut Vec<u8>, size: usize, byte: u8) -> Result<(), AllocError>
 }
 
 // Keeps the byte that may begin a piece or a comment, and nothing else.
-fn set_tentative(text: &mut Vec<u8>, mode: Mode) -> Result<(), AllocError>
+fn set_tentative(text: &mut Vec<u8>, mode: ScanMode) -> Result<(), AllocError>
     ensures ok { OnOk result (text.new.items ≡ tentative mode) }
     ensures err { OnErr result (text.new.items ≡ []) }
 {
     text.clear();
     match mode {
-        Mode::Dash => text.push(b'-')?,
-        Mode::Slash => text.push(b'/')?,
+        ScanMode::Dash => text.push(b'-')?,
+        ScanMode::Slash => text.push(b'/')?,
         _ => {}
     }
     Ok(())
 }
 
 // The end of a piece of this size at its own last byte, if it has ended.
-fn end_of(stage: Stage, size: usize) -> Option<PieceEnd>
+fn end_of(stage: PieceStage, size: usize) -> Option<PieceEnd>
     ensures { result ≡ end_at stage size }
 {
-    if stage != Stage::Ended {
+    if stage != PieceStage::Ended {
         None
     } else if size > LIMIT {
         Some(PieceEnd::TooLong { finished: true })
@@ -143,10 +143,10 @@ fn end_of(stage: Stage, size: usize) -> Option<PieceEnd>
 }
 
 // The end of a piece of this size at the end of the script, if there is one.
-fn last_end(stage: Stage, size: usize) -> Option<PieceEnd>
+fn last_end(stage: PieceStage, size: usize) -> Option<PieceEnd>
     ensures { result ≡ last_end_of stage size }
 {
-    if stage == Stage::Ended || size == 0 {
+    if stage == PieceStage::Ended || size == 0 {
         None
     } else if size > LIMIT {
         Some(PieceEnd::TooLong { finished: false })
@@ -157,34 +157,34 @@ fn last_end(stage: Stage, size: usize) -> Option<PieceEnd>
 
 impl Splitter {
     /// A splitter at a script's start.
-    #[tactic(auto, unfolding(crate::specs::Standing::resume))]
+    #[tactic(auto, unfolding(crate::specs::SplitterState::resume))]
     pub fn new(alloc: Global) -> Splitter
         ensures { (left : List ℕ) → resume result left ≡ pieces left }
     {
         Splitter {
             text: Vec::new(alloc),
             size: 0,
-            stage: Stage::Front,
-            mode: Mode::Plain,
+            stage: PieceStage::Front,
+            mode: ScanMode::Plain,
         }
     }
 
     // Forgets a piece that has ended.
-    #[tactic(auto, unfolding(crate::specs::Standing::resume))]
+    #[tactic(auto, unfolding(crate::specs::SplitterState::resume))]
     fn restart(&mut self)
         ensures same { (left : List ℕ) → resume self.new left ≡ resume self.old left }
         ensures stage { self.new.stage ≡ Ended → ⊥ }
     {
-        if self.stage == Stage::Ended {
+        if self.stage == PieceStage::Ended {
             self.text.clear();
             self.size = 0;
-            self.stage = Stage::Front;
-            self.mode = Mode::Plain;
+            self.stage = PieceStage::Front;
+            self.mode = ScanMode::Plain;
         }
     }
 
     // Pushes a byte that may be before the piece or its first.
-    #[tactic(auto, unfolding(crate::specs::Standing::resume))]
+    #[tactic(auto, unfolding(crate::specs::SplitterState::resume))]
     fn take_lead(&mut self, byte: u8) -> Result<(), AllocError>
         requires stage { self.old.stage ≡ Front }
         requires leads { leads self.old.mode byte ≡ true }
@@ -192,7 +192,7 @@ impl Splitter {
     {
         let mode = next_mode(self.mode, byte);
         let size = next_front_size(mode, self.size);
-        self.mode = Mode::Plain;
+        self.mode = ScanMode::Plain;
         self.size = 0;
         set_tentative(&mut self.text, mode)?;
         self.mode = mode;
@@ -201,21 +201,21 @@ impl Splitter {
     }
 
     // Begins a piece with the byte that is to come, unless it has begun.
-    #[tactic(auto, unfolding(crate::specs::Standing::resume))]
+    #[tactic(auto, unfolding(crate::specs::SplitterState::resume))]
     fn begin(&mut self, byte: u8)
         requires open { self.old.stage ≡ Ended → ⊥ }
         requires begins { self.old.stage ≡ Front → leads self.old.mode byte ≡ false }
         ensures same { (left : List ℕ) → resume self.new (byte ∷ left) ≡ resume self.old (byte ∷ left) }
         ensures stage { self.new.stage ≡ Begun }
     {
-        if self.stage == Stage::Front {
-            self.stage = Stage::Begun;
-            self.mode = Mode::Plain;
+        if self.stage == PieceStage::Front {
+            self.stage = PieceStage::Begun;
+            self.mode = ScanMode::Plain;
         }
     }
 
     // Pushes a byte of a piece.
-    #[tactic(auto, unfolding(crate::specs::Standing::resume))]
+    #[tactic(auto, unfolding(crate::specs::SplitterState::resume))]
     fn take_body(&mut self, byte: u8) -> Result<Option<PieceEnd>, AllocError>
         requires stage { self.old.stage ≡ Begun }
         ensures { IfOk result (λ end. (left : List ℕ) →
@@ -234,7 +234,7 @@ impl Splitter {
             resume self.old (byte ∷ left) ≡ behind (reported end self.new.text) (resume self.new left)) }
     {
         self.restart();
-        if self.stage == Stage::Front && is_lead(self.mode, byte) {
+        if self.stage == PieceStage::Front && is_lead(self.mode, byte) {
             self.take_lead(byte)?;
             return Ok(None);
         }
@@ -243,7 +243,7 @@ impl Splitter {
     }
 
     /// Ends the script. Returns the end of the last piece, if there is one after the last `;`.
-    #[tactic(auto, unfolding(crate::specs::Standing::resume))]
+    #[tactic(auto, unfolding(crate::specs::SplitterState::resume))]
     pub fn end(&mut self) -> Option<PieceEnd>
         ensures { resume self.old [] ≡ record { whole = []; last = reported result self.new.text } }
     {

@@ -1,5 +1,5 @@
 // Bodies: their bytes, what is read of each front of one, and where others break the format.
-use sasi_body::{BodyFault, Broken, put_body, read_body};
+use sasi_body::{BodyFault, BodyDamage, put_body, read_body};
 use sasi_cells::Partition;
 use sasi_host::FormatRule;
 use sasi_types::{ColumnType, TypeList};
@@ -104,9 +104,9 @@ fn other_lengths_are_refused(rt: HostRuntime) {
 }
 
 /// The rule that these bytes break, as bodies of these types.
-fn broken_in(rt: &impl Abort, alloc: Global, bytes: &[u8], types: &[ColumnType]) -> Broken {
+fn broken_in(rt: &impl Abort, alloc: Global, bytes: &[u8], types: &[ColumnType]) -> BodyDamage {
     match read_body(alloc, bytes, &list_of(rt, alloc, types)) {
-        Err(BodyFault::Broken(broken)) => broken,
+        Err(BodyFault::Damaged(broken)) => broken,
         _ => panic!(rt; "no broken rule"),
     }
 }

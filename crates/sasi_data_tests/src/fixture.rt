@@ -59,11 +59,11 @@ pub fn push<O: FlushObserver>(
 ) -> Token
     requires last { (last_pair writer.old.pairs).token ≤ last }
     requires partitioner { writer.old.partitioner ≡ Lead8 }
-    requires room { Reaches (host_view (seen host.old)) writer.old.file writer.old.place }
+    requires room { Reaches (host_view (seen host.old)) writer.old.file writer.old.offset }
     requires usable { IsTrue writer.old.usable }
     ensures last { (last_pair writer.new.pairs).token ≤ result }
     ensures partitioner { writer.new.partitioner ≡ Lead8 }
-    ensures room { Reaches (host_view (seen host.new)) writer.new.file writer.new.place }
+    ensures room { Reaches (host_view (seen host.new)) writer.new.file writer.new.offset }
     ensures usable { IsTrue writer.new.usable }
     ensures some { 1 ≤ length writer.new.pairs }
 {

@@ -90,7 +90,7 @@ fn written_file_is_opened(rt: HostRuntime) {
     let mut host = written(&rt, rt.alloc());
     assert_eq!(rt; host.bytes(DATA).expect(&rt, "a file"), ONE.as_slice());
     let data = open_whole(&rt, rt.alloc(), &mut host);
-    assert_eq!(rt; (data.partitions(), data.greatest()), (1, 5));
+    assert_eq!(rt; (data.partitions(), data.max_timestamp()), (1, 5));
 }
 
 #[test]

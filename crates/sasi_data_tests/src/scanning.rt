@@ -1,12 +1,12 @@
 // A data file of many partitions, seven of a token, that is scanned and searched.
 ghost use Rattle.std.specs.Prelude.{◌≡◌};
-ghost use Rattle.sasi_host.specs.Held.{IsHeld};
+ghost use Rattle.sasi_host.specs.Buffered.{IsBuffered};
 ghost use Rattle.sasi_host.specs.Memory.{host_view, seen};
 ghost use Rattle.sasi_data_tests.specs.declared.fixture.TheConstants.{DATA};
 
 use crate::fixture::{DATA, begin, push};
 use crate::reading::{find, open_whole};
-use sasi_dataread::{DataFile, DataWalk};
+use sasi_dataread::{DataFile, Walk};
 use sasi_datawrite::NoWatch;
 use sasi_host::{Direct, MemHost};
 use sasi_types::Token;
@@ -61,13 +61,13 @@ fn write_all(rt: &impl Abort, alloc: Global, host: &mut MemHost) {
 }
 
 /// The next partition of a scan is this one.
-fn check_next(rt: &impl Abort, alloc: Global, host: &mut MemHost, scan: &mut DataWalk, k: u16)
+fn check_next(rt: &impl Abort, alloc: Global, host: &mut MemHost, scan: &mut Walk, k: u16)
     requires file { scan.old.opened.file ≡ DATA }
-    requires pairs_held { IsHeld scan.old.pairs_held (host_view (seen host.old)).files }
-    requires held { IsHeld scan.old.held (host_view (seen host.old)).files }
+    requires pairs_buffered { IsBuffered scan.old.pairs_buffered (host_view (seen host.old)).files }
+    requires buffered { IsBuffered scan.old.buffered (host_view (seen host.old)).files }
     ensures file { scan.new.opened.file ≡ DATA }
-    ensures pairs_held { IsHeld scan.new.pairs_held (host_view (seen host.new)).files }
-    ensures held { IsHeld scan.new.held (host_view (seen host.new)).files }
+    ensures pairs_buffered { IsBuffered scan.new.pairs_buffered (host_view (seen host.new)).files }
+    ensures buffered { IsBuffered scan.new.buffered (host_view (seen host.new)).files }
 {
     assert!(rt; host.bytes(DATA).is_some());
     let next = scan.next(alloc, host, &mut Direct).expect(rt, "read");
@@ -94,7 +94,7 @@ fn scan_reads_each_page_once(rt: HostRuntime) {
     let alloc = rt.alloc();
     let mut host = written(&rt, alloc);
     let data = open_whole(&rt, alloc, &mut host);
-    assert_eq!(rt; (data.partitions(), data.greatest()), (300, 300));
+    assert_eq!(rt; (data.partitions(), data.max_timestamp()), (300, 300));
     // The header and the footer lie on two pages, the partitions on two, and the leaves of the key tree on three.
     assert_eq!(rt; host.reads(), 2);
     check_scan(&rt, alloc, &mut host, &data);

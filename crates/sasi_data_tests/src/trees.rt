@@ -1,6 +1,6 @@
 // Trees of many sizes: their bytes, which another writer of the format gave, what is read of them, and damaged ones.
 ghost use Rattle.std.specs.Prelude.{◌≡◌};
-ghost use Rattle.sasi_host.specs.Held.{IsHeld};
+ghost use Rattle.sasi_host.specs.Buffered.{IsBuffered};
 ghost use Rattle.sasi_host.specs.Memory.{host_view, seen as seen_of};
 ghost use Rattle.sasi_data_tests.specs.declared.tree_fixture.TheConstants.{FILE};
 
@@ -43,10 +43,10 @@ fn two_leaves_lie_below_a_root(rt: HostRuntime) {
 
 /// The next pair of the tree is this one.
 fn check_next(rt: &impl Abort, host: &mut MemHost, reader: &mut Tree, pair: Option<Pair>)
-    requires file { reader.old.held.file ≡ FILE }
-    requires held { IsHeld reader.old.held (host_view (seen_of host.old)).files }
-    ensures file { reader.new.held.file ≡ FILE }
-    ensures held { IsHeld reader.new.held (host_view (seen_of host.new)).files }
+    requires file { reader.old.buffered.file ≡ FILE }
+    requires buffered { IsBuffered reader.old.buffered (host_view (seen_of host.old)).files }
+    ensures file { reader.new.buffered.file ≡ FILE }
+    ensures buffered { IsBuffered reader.new.buffered (host_view (seen_of host.new)).files }
 {
     assert!(rt; host.bytes(FILE).is_some());
     assert!(rt; reader.next(host, &mut Direct).expect(rt, "read") == pair);

@@ -4,10 +4,10 @@
 #![tactic(auto)]
 
 mod content;
-mod counted;
+mod counting_reader;
 mod measured;
 
-use counted::Counted;
+use counting_reader::CountingReader;
 use measured::{NUMBER, find_all, walk_all, write_all};
 use sasi_dataread::DataFile;
 use sasi_datawrite::PairFault;
@@ -21,7 +21,7 @@ fn run(rt: HostRuntime, folder: &str, count: u64, what: &str) -> Result<(u64, u6
     let alloc = rt.alloc();
     let mut host = FileHost::at(rt, folder)?;
     write_all(alloc, &mut host, count)?;
-    let mut pages = Counted { pages: 0 };
+    let mut pages = CountingReader { pages: 0 };
     let opened = DataFile::open(
         alloc,
         &mut host,

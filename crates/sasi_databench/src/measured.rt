@@ -4,7 +4,7 @@ ghost use Rattle.sasi_types.specs.declared.partitioner.Partitioner.TheVariants.{
 ghost use Rattle.sasi_datawrite.specs.Writing.{last_pair};
 
 use crate::content::{body, types};
-use crate::counted::Counted;
+use crate::counting_reader::CountingReader;
 use sasi_body::read_body;
 use sasi_dataread::DataFile;
 use sasi_datawrite::{DataRef, DataWriter, NoWatch, PairFault};
@@ -59,7 +59,7 @@ pub fn write_all(alloc: Global, host: &mut FileHost, count: u64) -> Result<DataR
 pub fn walk_all(
     alloc: Global,
     host: &mut FileHost,
-    pages: &mut Counted,
+    pages: &mut CountingReader,
     opened: &DataFile,
 ) -> Result<u64, ReadFault> {
     let mut walk = opened.walk(alloc)?;
@@ -77,7 +77,7 @@ pub fn walk_all(
 pub fn find_all(
     alloc: Global,
     host: &mut FileHost,
-    pages: &mut Counted,
+    pages: &mut CountingReader,
     opened: &DataFile,
 ) -> Result<u64, ReadFault> {
     let mut count = 0u64;

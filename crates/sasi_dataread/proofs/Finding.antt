@@ -14,30 +14,30 @@ use Rattle.sasi_host.specs.declared.fault.ReadFault.TheVariants as fault
 use Rattle.sasi_host.specs.Names.{Bytes}
 use Rattle.sasi_host.specs.View.{View, ReadsAtMost, contents}
 use Rattle.sasi_host.specs.Disk.{Changes, Same}
-use Rattle.sasi_host.specs.Held.{fresh_pages}
+use Rattle.sasi_host.specs.Buffered.{unbuffered_pages}
 use Rattle.sasi_types.specs.declared.partitioner.Partitioner.{Partitioner}
 use Rattle.sasi_types.specs.declared.tree.Pair.{Pair}
 use Rattle.sasi_types.specs.declared.tree.TreeRef.{TreeRef}
 use Rattle.sasi_types.specs.Key.{key_eq}
-use Rattle.sasi_types.specs.Place.{place_cmp}
+use Rattle.sasi_types.specs.DecoratedKey.{decorated_cmp}
 use Rattle.sasi_types.specs.Token.{token_of}
 use Rattle.sasi_model.specs.Cells.{Partition}
 use Rattle.sasi_body.specs.Format.{body}
 use Rattle.sasi_tokentree.specs.Format.{pair_at}
 use Rattle.sasi_tokentree.specs.Heights.{height}
 use Rattle.sasi_tokentree.specs.Reads.{CountsBelow}
-use Rattle.sasi_tokentree.specs.Walks.{GivesEntry, GivesFrom, IsNear, TakesNext, Walk, pair_place}
-use Rattle.sasi_tokentree.specs.Nearness.{near_next}
-use Rattle.sasi_datawrite.specs.Format.{Content, header, key_pairs, pairs_from, partition_bytes, partitions, place_of}
+use Rattle.sasi_tokentree.specs.Scans.{ReadsEntry, ReadsFirstPair, IsEntryBuffered, StepsToPair, PairScan, pair_place}
+use Rattle.sasi_tokentree.specs.EntryPages.{next_entry_cost}
+use Rattle.sasi_datawrite.specs.Format.{Content, header, key_pairs, pairs_from, partition_bytes, partitions, decorated_key}
 use Rattle.sasi_datawrite.specs.Laws.{pairs_length}
 use Rattle.sasi_dataread.specs.Opened.{Opened, StandsAt}
-use Rattle.sasi_dataread.specs.Reads.{IsOpenOn, Passes, SparesPlace}
-use Rattle.sasi_dataread.specs.Bodies.{cost}
-use Rattle.sasi_dataread.specs.Walks.{HaveTokens, SparesOpened}
-use Rattle.sasi_dataread.specs.Finds.{partition_of, token_cost, LeadsTo, GivesWith}
+use Rattle.sasi_dataread.specs.Reads.{IsOpenOn, ReadsWithin, NoFalsePartitionDamage}
+use Rattle.sasi_dataread.specs.Bodies.{partition_pages}
+use Rattle.sasi_dataread.specs.Scans.{TokensFit, NoFalseOpenedDamage}
+use Rattle.sasi_dataread.specs.Finds.{partition_of, token_reads, LeadsTo, ReadsPartitionOfKey}
 use Rattle.sasi_dataread.specs.Pairs.{nth, nth_stands, as_many_left, left_behind, none_left, less_token}
-use Rattle.sasi_dataread.proofs.Runs.{causes_within, passes_none, passes_on}
-use Rattle.sasi_dataread.proofs.Walking.{IsShort, open_same, tree_there}
+use Rattle.sasi_dataread.proofs.ReadChains.{causes_within, passes_none, passes_on}
+use Rattle.sasi_dataread.proofs.DataScan.{IsShort, open_same, tree_there}
 
 -- ---- keys and tokens
 
@@ -84,32 +84,32 @@ above_none partitioner key [] all = refl
 above_none partitioner key (one ∷ others) all = lookup_tail (key_eq key) one others
     (key_differs partitioner key one.0 (λ same. absurd (omega (arith, same, all.0)))) ∙ above_none partitioner key others all.1
 
-tokens_behind : (partitioner : Partitioner) (token : ℕ) (one : Bytes × Partition) (others : Content) → IsStrictlySortedBy place_cmp
-    (map (place_of partitioner) (one ∷ others)) → token < token_of partitioner one.0 → AllByRecursion (λ o. token < token_of partitioner o.0)
+tokens_behind : (partitioner : Partitioner) (token : ℕ) (one : Bytes × Partition) (others : Content) → IsStrictlySortedBy decorated_cmp
+    (map (decorated_key partitioner) (one ∷ others)) → token < token_of partitioner one.0 → AllByRecursion (λ o. token < token_of partitioner o.0)
     (one ∷ others)
 unfolding IsStrictlySortedBy
 tokens_behind partitioner token one [] sorted less = (less, tt)
 tokens_behind partitioner token one (two ∷ others) sorted less = (
   less,
   tokens_behind partitioner token two others sorted.1
-      (omega (arith, less, less_token (place_of partitioner one) (place_of partitioner two) sorted.0.0)),
+      (omega (arith, less, less_token (decorated_key partitioner one) (decorated_key partitioner two) sorted.0.0)),
 )
 
-sorted_behind : (partitioner : Partitioner) (content : Content) (index : ℕ) → IsStrictlySortedBy place_cmp (map (place_of partitioner) content) →
-    IsStrictlySortedBy place_cmp (map (place_of partitioner) (drop index content))
+sorted_behind : (partitioner : Partitioner) (content : Content) (index : ℕ) → IsStrictlySortedBy decorated_cmp (map (decorated_key partitioner) content) →
+    IsStrictlySortedBy decorated_cmp (map (decorated_key partitioner) (drop index content))
 unfolding IsStrictlySortedBy
 sorted_behind partitioner content zero sorted = sorted
 sorted_behind partitioner [] (suc index) sorted = sorted
 sorted_behind partitioner (one ∷ others) (suc index) sorted = sorted_behind partitioner others index sorted.1
 
--- ---- what the partitions from an index on cost
+-- ---- what the partitions from an index on partition_pages
 
 abbrev pub left_cost : Partitioner → ℕ → ℕ → Content → ℕ → ℕ
-left_cost partitioner token at content zero = token_cost partitioner token at content
+left_cost partitioner token at content zero = token_reads partitioner token at content
 left_cost partitioner token at [] (suc index) = 0
 left_cost partitioner token at (one ∷ others) (suc index) = left_cost partitioner token (at + length (partition_bytes one.0 one.1)) others index
 
-left_less : (partitioner : Partitioner) (token at : ℕ) (content : Content) (index : ℕ) → left_cost partitioner token at content index ≤ token_cost partitioner token at content
+left_less : (partitioner : Partitioner) (token at : ℕ) (content : Content) (index : ℕ) → left_cost partitioner token at content index ≤ token_reads partitioner token at content
 left_less partitioner token at content zero = omega arith
 left_less partitioner token at [] (suc index) = omega arith
 left_less partitioner token at (one ∷ others) (suc index) = omega (arith, left_less partitioner token (at + length (partition_bytes one.0 one.1)) others index)
@@ -127,39 +127,39 @@ left_same partitioner token at (one ∷ others) (suc n) (suc m) is = left_same p
 
 -- one with the token
 left_one : (partitioner : Partitioner) (token at : ℕ) (content : Content) (index : ℕ) (one : Bytes × Partition) (rest : Content) → drop index content ≡ one ∷ rest → token_of partitioner one.0 ≡ token
-    → left_cost partitioner token at content index ≡ cost (at + length (partitions (take index content))) (length (body one.0 one.1)) + 1 + left_cost partitioner token at content (suc index)
+    → left_cost partitioner token at content index ≡ partition_pages (at + length (partitions (take index content))) (length (body one.0 one.1)) + 1 + left_cost partitioner token at content (suc index)
 left_one partitioner token at [] zero one rest is same = absurd (cc)
 left_one partitioner token at [] (suc index) one rest is same = absurd (cc)
 left_one partitioner token at (first ∷ others) zero one rest is same =
     let this : first ≡ one = cc in
     let eq : nat_eq (token_of partitioner first.0) token ≡ true = eq-eqb (token_of partitioner first.0) token (ap (λ (o : Bytes × Partition). token_of partitioner o.0) this ∙ same) in
     let place : at + length (partitions (take 0 (first ∷ others))) ≡ at = omega arith in
-    ap (λ (b : Bool). (if b then cost at (length (body first.0 first.1)) + 1 else 0) + behind) eq
-    ∙ ap (λ (o : Bytes × Partition). cost at (length (body o.0 o.1)) + 1 + behind) this
-    ∙ ap (λ (n : ℕ). cost n (length (body one.0 one.1)) + 1 + behind) (sym place)
+    ap (λ (b : Bool). (if b then partition_pages at (length (body first.0 first.1)) + 1 else 0) + behind) eq
+    ∙ ap (λ (o : Bytes × Partition). partition_pages at (length (body o.0 o.1)) + 1 + behind) this
+    ∙ ap (λ (n : ℕ). partition_pages n (length (body one.0 one.1)) + 1 + behind) (sym place)
   where
     behind : ℕ
-    behind = token_cost partitioner token (at + length (partition_bytes first.0 first.1)) others
+    behind = token_reads partitioner token (at + length (partition_bytes first.0 first.1)) others
 left_one partitioner token at (first ∷ others) (suc index) one rest is same =
     left_one partitioner token (at + length (partition_bytes first.0 first.1)) others index one rest is same
-    ∙ ap (λ (n : ℕ). cost n (length (body one.0 one.1)) + 1 + left_cost partitioner token (at + length (partition_bytes first.0 first.1)) others
+    ∙ ap (λ (n : ℕ). partition_pages n (length (body one.0 one.1)) + 1 + left_cost partitioner token (at + length (partition_bytes first.0 first.1)) others
     (suc index)) (omega (arith, length-append (partition_bytes first.0 first.1) (partitions (take index others))))
 
 -- ---- a search
 
 -- The search has come to an index: this is the pair there. None of the partitions before it has the key, and no pair from
--- it on has a lower token. What the reads have cost and what is left cost no more than so much.
+-- it on has a lower token. What the reads have partition_pages and what is left partition_pages no more than so much.
 pub record Searches (partitioner : Partitioner) (content : Content) (token : ℕ) (key : Bytes) (turns passed : ℕ) (next : Option Pair) (reads most : ℕ) : Type 0 where
   pub index : ℕ
   pub far : turns ≤ index
-  pub takes : TakesNext (key_pairs partitioner content) index passed next
+  pub takes : StepsToPair (key_pairs partitioner content) index passed next
   pub above : (other : ℕ) → index ≤ other → other < length content → token ≤ (pair_at (key_pairs partitioner content) other).token
   pub same : token ≡ token_of partitioner key → partition_of content key ≡ partition_of (drop index content) key
   pub costs : reads + left_cost partitioner token (length header) content index ≤ most
 
 pub begins : (partitioner : Partitioner) (content : Content) (token : ℕ) (key : Bytes) (passed : ℕ) (next : Option Pair) (reads most : ℕ) (count : ℕ)
-    → CountsBelow (key_pairs partitioner content) token count → TakesNext (key_pairs partitioner content) count passed next
-    → reads + token_cost partitioner token (length header) content ≤ most → Searches partitioner content token key 0 passed next reads most
+    → CountsBelow (key_pairs partitioner content) token count → StepsToPair (key_pairs partitioner content) count passed next
+    → reads + token_reads partitioner token (length header) content ≤ most → Searches partitioner content token key 0 passed next reads most
 begins partitioner content token key passed next reads most count counts takes costs = record {
   index = count;
   far = omega arith;
@@ -170,30 +170,30 @@ begins partitioner content token key passed next reads most count counts takes c
 }
 
 -- the tree before its first pair
-abbrev pub begun : Opened → Walk
-begun opened = record { held = record { file = opened.file; page = None; bytes = [] }; tree = opened.tree; passed = 0 }
+abbrev pub begun : Opened → PairScan
+begun opened = record { buffered = record { file = opened.file; page = None; bytes = [] }; tree = opened.tree; passed = 0 }
 
-pub first_causes : {T : Type 0} (v w : View) (opened : Opened) (tree : Walk) (result : Result T ReadFault) → tree ≡ begun opened →
+pub first_causes : {T : Type 0} (v w : View) (opened : Opened) (tree : PairScan) (result : Result T ReadFault) → tree ≡ begun opened →
     ((most : ℕ) → tree.tree.pairs ≤ most → ReadsAtMost (2 * height most tree.tree.pairs + 2) v w result)
     → (most : ℕ) → opened.tree.pairs ≤ most → ReadsAtMost (2 * height most opened.tree.pairs + 2) v w result
 first_causes v w opened tree result tree_is causes = subst (λ (t : TreeRef). (most : ℕ) → t.pairs ≤ most → ReadsAtMost (2 * height most t.pairs + 2) v
-    w result) (ap (λ (t : Walk). t.tree) tree_is) causes
+    w result) (ap (λ (t : PairScan). t.tree) tree_is) causes
 
 -- where it stands after the first pair at or after the token
-pub starts : {T : Type 0} (v w : View) (opened : Opened) (tree : Walk) (token : ℕ) (key : Bytes) (passed : ℕ) (next : Option Pair)
-    (result : Result T ReadFault) → tree ≡ begun opened → IsShort v opened.file → GivesFrom v tree.held.file tree.tree token passed next
+pub starts : {T : Type 0} (v w : View) (opened : Opened) (tree : PairScan) (token : ℕ) (key : Bytes) (passed : ℕ) (next : Option Pair)
+    (result : Result T ReadFault) → tree ≡ begun opened → IsShort v opened.file → ReadsFirstPair v tree.buffered.file tree.tree token passed next
     → ((most : ℕ) → tree.tree.pairs ≤ most → ReadsAtMost (2 * height most tree.tree.pairs + 2) v w result)
-    → (most : ℕ) (partitioner : Partitioner) (content : Content) → opened.tree.pairs ≤ most → IsOpenOn v opened partitioner content → HaveTokens partitioner content
-    → Searches partitioner content token key 0 passed next w.reads (v.reads + (2 * height most opened.tree.pairs + 2 + token_cost partitioner token (length header) content))
+    → (most : ℕ) (partitioner : Partitioner) (content : Content) → opened.tree.pairs ≤ most → IsOpenOn v opened partitioner content → TokensFit partitioner content
+    → Searches partitioner content token key 0 passed next w.reads (v.reads + (2 * height most opened.tree.pairs + 2 + token_reads partitioner token (length header) content))
 starts v w opened tree token key passed next result tree_is short gives causes most partitioner content le is have =
-    let file_is : tree.held.file ≡ opened.file = ap (λ (t : Walk). t.held.file) tree_is in
-    let ref_is : tree.tree ≡ opened.tree = ap (λ (t : Walk). t.tree) tree_is in
+    let file_is : tree.buffered.file ≡ opened.file = ap (λ (t : PairScan). t.buffered.file) tree_is in
+    let ref_is : tree.tree ≡ opened.tree = ap (λ (t : PairScan). t.tree) tree_is in
     let from = gives is.bytes (key_pairs partitioner content) (ap (λ (f : FileName). contents v f) file_is ∙ is.reads) (tree_there v opened tree.tree ref_is short partitioner content is have) in
     let first = (first_causes v w opened tree result tree_is causes most le).reads in
     begins partitioner content token key passed next w.reads (v.reads +
-    (2 * height most opened.tree.pairs + 2 + token_cost partitioner token (length header) content)) from.0 from.1 from.2 (omega (arith, first))
+    (2 * height most opened.tree.pairs + 2 + token_reads partitioner token (length header) content)) from.0 from.1 from.2 (omega (arith, first))
 
-pub first_passes : {T : Type 0} (v w : View) (n m : ℕ) (result : Result T ReadFault) → Changes Same v w → ReadsAtMost n v w result → n ≤ m → Passes m v w
+pub first_passes : {T : Type 0} (v w : View) (n m : ℕ) (result : Result T ReadFault) → Changes Same v w → ReadsAtMost n v w result → n ≤ m → ReadsWithin m v w
 first_passes v w n m result change causes le = passes_on v v w 0 n m result (passes_none v) causes change (omega (arith, le))
 
 -- ---- the partition to which the pair leads
@@ -202,10 +202,10 @@ pub record IsHere (partitioner : Partitioner) (content : Content) (token place i
   pub one : Bytes × Partition
   pub stands : StandsAt content place one.0 one.1
   pub left : drop index content ≡ one ∷ drop passed content
-  pub cost_is : left_cost partitioner token (length header) content index ≡ cost place (length (body one.0 one.1)) + 1 + left_cost partitioner token (length header) content passed
+  pub cost_is : left_cost partitioner token (length header) content index ≡ partition_pages place (length (body one.0 one.1)) + 1 + left_cost partitioner token (length header) content passed
   pub on : suc index ≤ passed
 
-pub is_here : (partitioner : Partitioner) (content : Content) (token place index passed : ℕ) → TakesNext (key_pairs partitioner content) index passed
+pub is_here : (partitioner : Partitioner) (content : Content) (token place index passed : ℕ) → StepsToPair (key_pairs partitioner content) index passed
     (Some (record { token = token; place = place })) → IsHere partitioner content token place index passed
 is_here partitioner content token place index passed takes =
     let pair : Pair = record { token = token; place = place } in
@@ -219,15 +219,15 @@ is_here partitioner content token place index passed takes =
       left = n.left ∙ ap (λ (l : Content). n.one ∷ l) (left_behind partitioner content index passed pair takes);
       cost_is =
           left_one partitioner token (length header) content index n.one (drop (suc index) content) n.left (sym token_is)
-          ∙ ap (λ (k : ℕ). cost k (length (body n.one.0 n.one.1)) + 1 + left_cost partitioner token (length header) content (suc index)) (sym place_is)
-          ∙ ap (λ (k : ℕ). cost place (length (body n.one.0 n.one.1)) + 1 + k) (left_same partitioner token (length header) content (suc index) passed left.1);
+          ∙ ap (λ (k : ℕ). partition_pages k (length (body n.one.0 n.one.1)) + 1 + left_cost partitioner token (length header) content (suc index)) (sym place_is)
+          ∙ ap (λ (k : ℕ). partition_pages place (length (body n.one.0 n.one.1)) + 1 + k) (left_same partitioner token (length header) content (suc index) passed left.1);
       on = omega (arith, left.0, left.1);
     }
 
 takes_it : (partitioner : Partitioner) (content : Content) (token place index passed : ℕ) (next : Option Pair) → LeadsTo token next (Some place) →
-    TakesNext (key_pairs partitioner content) index passed next → TakesNext (key_pairs partitioner content) index passed
+    StepsToPair (key_pairs partitioner content) index passed next → StepsToPair (key_pairs partitioner content) index passed
     (Some (record { token = token; place = place }))
-takes_it partitioner content token place index passed next leads takes = subst (λ (o : Option Pair). TakesNext (key_pairs partitioner content) index passed o) leads takes
+takes_it partitioner content token place index passed next leads takes = subst (λ (o : Option Pair). StepsToPair (key_pairs partitioner content) index passed o) leads takes
 
 is_none : (found : Option Partition) → is_some found ≡ false → None ≡ found
 is_none None none = refl
@@ -245,7 +245,7 @@ stands_here partitioner content token key turns passed place reads most next s l
 pub here_costs : (v w : View) (opened : Opened) (partitioner : Partitioner) (content : Content) (token : ℕ) (key : Bytes)
     (turns passed place reads most now : ℕ) (next : Option Pair) → IsOpenOn v opened partitioner content → Changes Same v w
     → Searches partitioner content token key turns passed next reads most → LeadsTo token next (Some place)
-    → ((key : Bytes) (part : Partition) → IsOpenOn w opened partitioner content → StandsAt content place key part → now ≤ reads + cost place (length (body key part))) → now + 1 ≤ most
+    → ((key : Bytes) (part : Partition) → IsOpenOn w opened partitioner content → StandsAt content place key part → now ≤ reads + partition_pages place (length (body key part))) → now + 1 ≤ most
 here_costs v w opened partitioner content token key turns passed place reads most now next is change s leads bound =
     let here = is_here partitioner content token place s.index passed (takes_it partitioner content token place s.index passed next leads s.takes) in
     omega (arith, s.costs, here.cost_is, bound here.one.0 here.one.1 (open_same v w opened partitioner content change is) here.stands)
@@ -253,7 +253,7 @@ here_costs v w opened partitioner content token key turns passed place reads mos
 -- it has the key
 pub found_here : (v w : View) (opened : Opened) (partitioner : Partitioner) (content : Content) (token : ℕ) (key : Bytes)
     (turns passed place reads most : ℕ) (next : Option Pair) (found : Option Partition) → IsOpenOn v opened partitioner content → Changes Same v w
-    → Searches partitioner content token key turns passed next reads most → LeadsTo token next (Some place) → GivesWith w opened place key found →
+    → Searches partitioner content token key turns passed next reads most → LeadsTo token next (Some place) → ReadsPartitionOfKey w opened place key found →
     is_some found ≡ true → token ≡ token_of partitioner key → found ≡ partition_of content key
 found_here v w opened partitioner content token key turns passed place reads most next found is change s leads gives some same =
     let here = is_here partitioner content token place s.index passed (takes_it partitioner content token place s.index passed next leads s.takes) in
@@ -264,9 +264,9 @@ found_here v w opened partitioner content token key turns passed place reads mos
 pub searches_on : (v w : View) (opened : Opened) (partitioner : Partitioner) (content : Content) (token : ℕ) (key : Bytes)
     (turns passed place reads most after now : ℕ) (last next : Option Pair) (found : Option Partition) → IsOpenOn v opened partitioner content →
     Changes Same v w
-    → Searches partitioner content token key turns passed last reads most → LeadsTo token last (Some place) → GivesWith w opened place key found → is_some found ≡ false
+    → Searches partitioner content token key turns passed last reads most → LeadsTo token last (Some place) → ReadsPartitionOfKey w opened place key found → is_some found ≡ false
     → ((key : Bytes) (part : Partition) → IsOpenOn w opened partitioner content → StandsAt content place key part → now ≤ reads +
-    (cost place (length (body key part)) + 1)) → TakesNext (key_pairs partitioner content) passed after next
+    (partition_pages place (length (body key part)) + 1)) → StepsToPair (key_pairs partitioner content) passed after next
     → Searches partitioner content token key (turns + 1) after next now most
 searches_on v w opened partitioner content token key turns passed place reads most after now last next found is change s leads gives none bound takes =
     let here = is_here partitioner content token place s.index passed (takes_it partitioner content token place s.index passed last leads s.takes) in
@@ -282,14 +282,14 @@ searches_on v w opened partitioner content token key turns passed place reads mo
     }
 
 -- the pair behind one that was found takes at most one page more
-pub one_more : {T : Type 0} (view a b : View) (file : FileName) (ref : TreeRef) (tree : Walk) (token place : ℕ) (next : Option Pair)
-    (result : Result T ReadFault) → LeadsTo token next (Some place) → GivesEntry view file ref tree.passed next → IsNear tree next
-    → ReadsAtMost (fresh_pages tree.held.page (pair_place tree.tree tree.passed) 16) a b result → ReadsAtMost 1 a b result
-one_more view a b file ref tree token place next result leads gives near causes =
+pub one_more : {T : Type 0} (view a b : View) (file : FileName) (ref : TreeRef) (tree : PairScan) (token place : ℕ) (next : Option Pair)
+    (result : Result T ReadFault) → LeadsTo token next (Some place) → ReadsEntry view file ref tree.passed next → IsEntryBuffered tree next
+    → ReadsAtMost (unbuffered_pages tree.buffered.page (pair_place tree.tree tree.passed) 16) a b result → ReadsAtMost 1 a b result
+one_more view a b file ref tree token place next result leads gives entry_buffered causes =
     let pair : Pair = record { token = token; place = place } in
-    let entry = subst (λ (o : Option Pair). GivesEntry view file ref tree.passed o) leads gives in
-    causes_within a b (fresh_pages tree.held.page (pair_place tree.tree tree.passed) 16) 1 result
-    (near_next tree pair (omega (arith, entry.1)) (subst (λ (o : Option Pair). IsNear tree o) leads near)) causes
+    let entry = subst (λ (o : Option Pair). ReadsEntry view file ref tree.passed o) leads gives in
+    causes_within a b (unbuffered_pages tree.buffered.page (pair_place tree.tree tree.passed) 16) 1 result
+    (next_entry_cost tree pair (omega (arith, entry.1)) (subst (λ (o : Option Pair). IsEntryBuffered tree o) leads entry_buffered)) causes
 
 -- ---- none is left
 
@@ -308,7 +308,7 @@ none_here v opened partitioner content token key turns passed (Some pair) reads 
     let token_is : pair.token ≡ token_of partitioner n.one.0 = ap (λ (p : Pair). p.token) n.pair_is in
     let least = s.above s.index (omega arith) left.0 in
     let less : token < pair.token = ⊎_elim (λ lt. lt) (λ eq. absurd (other pair refl (sym eq))) (below_or_same token pair.token (omega (arith, least, ap (λ (p : Pair). p.token) at))) in
-    let sorted = subst (λ (l : Content). IsStrictlySortedBy place_cmp (map (place_of partitioner) l)) n.left (sorted_behind partitioner content s.index is.data_file.content_is.rising) in
+    let sorted = subst (λ (l : Content). IsStrictlySortedBy decorated_cmp (map (decorated_key partitioner) l)) n.left (sorted_behind partitioner content s.index is.data_file.content_is.rising) in
     sym (
     s.same same ∙ ap (λ (l : Content). partition_of l key) n.left
     ∙ above_none partitioner key (n.one ∷ drop (suc s.index) content)
@@ -326,16 +326,16 @@ all_passed partitioner content token key turns passed next reads most s le same 
 -- ---- damage
 
 pub here_spares : (v w : View) (opened : Opened) (place : ℕ) (f : ReadFault) →
-    ((partitioner : Partitioner) (content : Content) → IsOpenOn v opened partitioner content → HaveTokens partitioner content →
+    ((partitioner : Partitioner) (content : Content) → IsOpenOn v opened partitioner content → TokensFit partitioner content →
     (one : Bytes × Partition) × StandsAt content place one.0 one.1)
-    → Changes Same v w → SparesPlace w opened place f → SparesOpened v opened f
-here_spares v w opened place fault.Failed stands change spares = tt
-here_spares v w opened place fault.OutOfMemory stands change spares = tt
-here_spares v w opened place (fault.Damaged damage) stands change spares = λ partitioner content is have.
+    → Changes Same v w → NoFalsePartitionDamage w opened place f → NoFalseOpenedDamage v opened f
+here_spares v w opened place fault.Failed stands change no_false_damage = tt
+here_spares v w opened place fault.OutOfMemory stands change no_false_damage = tt
+here_spares v w opened place (fault.Damaged damage) stands change no_false_damage = λ partitioner content is have.
     let at = stands partitioner content is have in
-    spares partitioner content at.0.0 at.0.1 (open_same v w opened partitioner content change is) at.1
+    no_false_damage partitioner content at.0.0 at.0.1 (open_same v w opened partitioner content change is) at.1
 
-pub spares_before : (v w : View) (opened : Opened) (f : ReadFault) → Changes Same v w → SparesOpened w opened f → SparesOpened v opened f
-spares_before v w opened fault.Failed change spares = tt
-spares_before v w opened fault.OutOfMemory change spares = tt
-spares_before v w opened (fault.Damaged damage) change spares = λ partitioner content is. spares partitioner content (open_same v w opened partitioner content change is)
+pub spares_before : (v w : View) (opened : Opened) (f : ReadFault) → Changes Same v w → NoFalseOpenedDamage w opened f → NoFalseOpenedDamage v opened f
+spares_before v w opened fault.Failed change no_false_damage = tt
+spares_before v w opened fault.OutOfMemory change no_false_damage = tt
+spares_before v w opened (fault.Damaged damage) change no_false_damage = λ partitioner content is. no_false_damage partitioner content (open_same v w opened partitioner content change is)

@@ -1,8 +1,8 @@
-pub mod Runs
+pub mod ReadChains
 pub mod Numbers
 pub mod Pages
 pub mod Bodies
-pub mod Framing
+pub mod Footers
 pub mod Opening
-pub mod Walking
+pub mod DataScan
 pub mod Finding

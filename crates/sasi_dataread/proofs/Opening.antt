@@ -12,22 +12,22 @@ use Rattle.sasi_types.specs.declared.tree.TreeRef.{TreeRef}
 use Rattle.sasi_model.specs.Cells.{Partition}
 use Rattle.sasi_body.specs.Format.{body}
 use Rattle.sasi_body.specs.Typed.{IsBodyOf}
-use Rattle.sasi_body.specs.Laws.Same.{bodies_same}
+use Rattle.sasi_body.specs.Laws.Unique.{bodies_same}
 use Rattle.sasi_body.specs.Laws.Lengths.{body_short}
 use Rattle.sasi_host.specs.declared.name.FileName.{FileName}
-use Rattle.sasi_host.specs.Damages.{HasAt, Shown}
+use Rattle.sasi_host.specs.Damages.{HasAt, DamageShown}
 use Rattle.sasi_dataread.specs.Damages.{ShowsPartition}
-use Rattle.sasi_host.specs.Places.{same_at}
-use Rattle.sasi_datawrite.specs.Format.{Content, footer, front, greatest}
+use Rattle.sasi_host.specs.Offsets.{same_at}
+use Rattle.sasi_datawrite.specs.Format.{Content, footer, front, content_max_timestamp}
 use Rattle.sasi_datawrite.specs.Files.{IsDataFile}
 use Rattle.sasi_dataread.specs.Opened.{Opened, StandsAt}
-use Rattle.sasi_dataread.specs.Reads.{Gives, IsOpenOn, SparesPlace}
-use Rattle.sasi_dataread.specs.Bodies.{sized, fresh_cost, SparesBody}
+use Rattle.sasi_dataread.specs.Reads.{ReadsPartition, IsOpenOn, NoFalsePartitionDamage}
+use Rattle.sasi_dataread.specs.Bodies.{length_prefixed, partition_reads, NoFalseBodyDamage}
 use Rattle.sasi_dataread.specs.Laws.{AreInRange, in_range, tree_of, footer_of, footer_length, footer_stands, partition_stands, partition_typed, partition_within}
-use Rattle.sasi_dataread.specs.Frames.{IsFramed}
+use Rattle.sasi_dataread.specs.HeaderAndFooter.{HasHeaderAndFooter}
 use Rattle.sasi_dataread.proofs.Numbers.{same_64}
 use Rattle.sasi_dataread.proofs.Bodies.{sized_same}
-use Rattle.sasi_dataread.proofs.Framing.{footer_root, footer_pairs, footer_latest, footer_end}
+use Rattle.sasi_dataread.proofs.Footers.{footer_root, footer_pairs, footer_latest, footer_end}
 
 -- ---- the footer
 
@@ -43,22 +43,22 @@ footers_same a b x y d e a_root a_pairs x_fits d_fits b_root b_pairs y_fits e_fi
     )
 
 -- what the footer of a data file tells
-pub frame_tells : (partitioner : Partitioner) (types : List ColumnType) (bytes : Bytes) (content : Content) (tree : TreeRef) (latest end : ℕ) →
-    IsDataFile partitioner types bytes content → IsFramed bytes tree latest end → AreInRange (length bytes) tree latest end → length bytes ≤ 2 ^ 62
-    → (tree ≡ tree_of partitioner content) × (latest ≡ greatest content) × (end ≡ length (front content))
-frame_tells partitioner types bytes content tree latest end of framed read short =
+pub footer_tells : (partitioner : Partitioner) (types : List ColumnType) (bytes : Bytes) (content : Content) (tree : TreeRef) (max_timestamp end : ℕ) →
+    IsDataFile partitioner types bytes content → HasHeaderAndFooter bytes tree max_timestamp end → AreInRange (length bytes) tree max_timestamp end → length bytes ≤ 2 ^ 62
+    → (tree ≡ tree_of partitioner content) × (max_timestamp ≡ content_max_timestamp content) × (end ≡ length (front content))
+footer_tells partitioner types bytes content tree max_timestamp end of header_and_footer read short =
     let ranges = in_range partitioner types bytes content of short in
-    footers_same tree (tree_of partitioner content) latest (greatest content) end (length (front content)) read.root read.pairs read.latest_fits
+    footers_same tree (tree_of partitioner content) max_timestamp (content_max_timestamp content) end (length (front content)) read.root read.pairs read.latest_fits
     read.end_fits ranges.root ranges.pairs ranges.latest_fits ranges.end_fits
-    (same_at bytes (length bytes - 40) (footer tree latest end) (footer_of partitioner content) framed.ends
-    (footer_stands partitioner types bytes content of) (footer_length tree latest end ∙ sym
-    (footer_length (tree_of partitioner content) (greatest content) (length (front content)))))
+    (same_at bytes (length bytes - 40) (footer tree max_timestamp end) (footer_of partitioner content) header_and_footer.ends
+    (footer_stands partitioner types bytes content of) (footer_length tree max_timestamp end ∙ sym
+    (footer_length (tree_of partitioner content) (content_max_timestamp content) (length (front content)))))
 
 -- ---- a partition
 
 -- what was read is what stands there
 pub gives_at : (v : View) (opened : Opened) (place : ℕ) (key : Bytes) (part : Partition) → IsBodyOf opened.types key part →
-    ((bytes : Bytes) → contents v opened.file ≡ Some bytes → HasAt bytes place (sized (body key part))) → Gives v opened place key part
+    ((bytes : Bytes) → contents v opened.file ≡ Some bytes → HasAt bytes place (length_prefixed (body key part))) → ReadsPartition v opened place key part
 gives_at v opened place key part of stands partitioner content k p is at =
     let typed = partition_typed partitioner opened.types is.bytes content place k p is.data_file at in
     let same : body key part ≡ body k p =
@@ -68,19 +68,19 @@ gives_at v opened place key part of stands partitioner content k p is at =
     let both = bodies_same opened.types key k part p [] [] of typed (ap (λ (l : Bytes). l ++ []) same) in
     (both.0, both.1)
 
-pub spares_at : (v : View) (opened : Opened) (place : ℕ) (f : ReadFault) → SparesBody v opened.file opened.types opened.end place f → SparesPlace v opened place f
-spares_at v opened place fault.Failed spares = tt
-spares_at v opened place fault.OutOfMemory spares = tt
-spares_at v opened place (fault.Damaged damage) spares = λ partitioner content key part is at.
-    spares is.bytes key part is.reads (partition_stands partitioner opened.types is.bytes content place key part is.data_file at)
+pub spares_at : (v : View) (opened : Opened) (place : ℕ) (f : ReadFault) → NoFalseBodyDamage v opened.file opened.types opened.end place f → NoFalsePartitionDamage v opened place f
+spares_at v opened place fault.Failed no_false_damage = tt
+spares_at v opened place fault.OutOfMemory no_false_damage = tt
+spares_at v opened place (fault.Damaged damage) no_false_damage = λ partitioner content key part is at.
+    no_false_damage is.bytes key part is.reads (partition_stands partitioner opened.types is.bytes content place key part is.data_file at)
     (partition_typed partitioner opened.types is.bytes content place key part is.data_file at)
     (omega (arith, partition_within content place key part at, is.of.end))
 
 reads_at : (v : View) (opened : Opened) (page : Option ℕ) (place reads : ℕ) →
-    ((bytes part : Bytes) → contents v opened.file ≡ Some bytes → HasAt bytes place (sized part) → length part < 2 ^ 32 → reads ≤ v.reads + fresh_cost
+    ((bytes part : Bytes) → contents v opened.file ≡ Some bytes → HasAt bytes place (length_prefixed part) → length part < 2 ^ 32 → reads ≤ v.reads + partition_reads
     page place (length part))
     → (partitioner : Partitioner) (content : Content) (key : Bytes) (part : Partition) → IsOpenOn v opened partitioner content → StandsAt content
-    place key part → reads ≤ v.reads + fresh_cost page place (length (body key part))
+    place key part → reads ≤ v.reads + partition_reads page place (length (body key part))
 reads_at v opened page place reads bound partitioner content key part is at =
     bound is.bytes (body key part) is.reads (partition_stands partitioner opened.types is.bytes content place key part is.data_file at)
     (omega (arith, body_short key part (partition_typed partitioner opened.types is.bytes content place key part is.data_file at).has))
@@ -89,23 +89,23 @@ reads_at v opened page place reads bound partitioner content key part is at =
 
 pub at_ok : (v : View) (opened : Opened) (other : FileName) (place : ℕ) (result : Result (Bytes × Partition) ReadFault) → other ≡ opened.file → IfOk
     result (λ read. IsBodyOf opened.types read.0 read.1)
-    → IfOk result (λ read. (bytes : Bytes) → contents v other ≡ Some bytes → HasAt bytes place (sized (body read.0 read.1))) → IfOk result (λ read. Gives v opened place read.0 read.1)
+    → IfOk result (λ read. (bytes : Bytes) → contents v other ≡ Some bytes → HasAt bytes place (length_prefixed (body read.0 read.1))) → IfOk result (λ read. ReadsPartition v opened place read.0 read.1)
 at_ok v opened other place (Ok read) same of stands = gives_at v opened place read.0 read.1 of (λ bytes is. stands bytes (ap (λ (n : FileName). contents v n) same ∙ is))
 at_ok v opened other place (Err f) same of stands = tt
 
 pub at_undamaged : (v : View) (opened : Opened) (other : FileName) (place : ℕ) (result : Result (Bytes × Partition) ReadFault) → other ≡ opened.file →
-    IfErr result (SparesBody v other opened.types opened.end place) → IfErr result (SparesPlace v opened place)
-at_undamaged v opened other place (Ok read) same spares = tt
-at_undamaged v opened other place (Err f) same spares = spares_at v opened place f (subst (λ (n : FileName). SparesBody v n opened.types opened.end place f) same spares)
+    IfErr result (NoFalseBodyDamage v other opened.types opened.end place) → IfErr result (NoFalsePartitionDamage v opened place)
+at_undamaged v opened other place (Ok read) same no_false_damage = tt
+at_undamaged v opened other place (Err f) same no_false_damage = spares_at v opened place f (subst (λ (n : FileName). NoFalseBodyDamage v n opened.types opened.end place f) same no_false_damage)
 
 pub at_damaged : (v : View) (opened : Opened) (other : FileName) (place : ℕ) (result : Result (Bytes × Partition) ReadFault) → other ≡ opened.file →
-    IfErr result (Shown v other (ShowsPartition opened.types opened.end place other)) → IfErr result
-    (Shown v opened.file (ShowsPartition opened.types opened.end place opened.file))
-at_damaged v opened other place result same shown = subst (λ (n : FileName). IfErr result (Shown v n (ShowsPartition opened.types opened.end place n))) same shown
+    IfErr result (DamageShown v other (ShowsPartition opened.types opened.end place other)) → IfErr result
+    (DamageShown v opened.file (ShowsPartition opened.types opened.end place opened.file))
+at_damaged v opened other place result same shown = subst (λ (n : FileName). IfErr result (DamageShown v n (ShowsPartition opened.types opened.end place n))) same shown
 
 pub at_reads : (v : View) (opened : Opened) (other : FileName) (page : Option ℕ) (place reads : ℕ) → other ≡ opened.file →
-    ((bytes part : Bytes) → contents v other ≡ Some bytes → HasAt bytes place (sized part) → length part < 2 ^ 32 → reads ≤ v.reads + fresh_cost page
+    ((bytes part : Bytes) → contents v other ≡ Some bytes → HasAt bytes place (length_prefixed part) → length part < 2 ^ 32 → reads ≤ v.reads + partition_reads page
     place (length part))
     → (partitioner : Partitioner) (content : Content) (key : Bytes) (part : Partition) → IsOpenOn v opened partitioner content → StandsAt content
-    place key part → reads ≤ v.reads + fresh_cost page place (length (body key part))
+    place key part → reads ≤ v.reads + partition_reads page place (length (body key part))
 at_reads v opened other page place reads same bound = reads_at v opened page place reads (λ bytes part is. bound bytes part (ap (λ (n : FileName). contents v n) same ∙ is))

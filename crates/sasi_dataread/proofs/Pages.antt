@@ -2,42 +2,42 @@
 use Rattle.std.proofs.Common.{◌≡◌, ◌≢◌, ◌⊎◌, ℕ, zero, suc, add-one, [], ◌∷◌, ◌++◌, length, take, drop, sym, ◌∙◌, subst, lit<, length-append, ◌+◌, ◌-◌, ◌*◌, ◌/◌, ◌^◌, ◌<◌, ◌≤◌, Bool, Option, None, Some, refl, inl, inr, ap, arith, ⊎_elim}
 use Rattle.std.specs.Prelude.{if◌then◌else◌}
 use Rattle.std.proofs.lemmas.Bool.Decides.{eqb_tells}
-use Rattle.sasi_host.specs.Held.{Held, in_hand, fresh_pages}
+use Rattle.sasi_host.specs.Buffered.{Buffered, buffered_at, unbuffered_pages}
 use Rattle.sasi_types.specs.declared.tree.TreeRef.{TreeRef}
 use Rattle.sasi_model.specs.Cells.{Partition}
 use Rattle.sasi_host.specs.Names.{Bytes}
 use Rattle.sasi_body.specs.Format.{body}
-use Rattle.sasi_tokentree.specs.Walks.{Walk, pair_place}
+use Rattle.sasi_tokentree.specs.Scans.{PairScan, pair_place}
 use Rattle.sasi_datawrite.specs.Format.{Content, front, header, partition_bytes, partitions}
 use Rattle.sasi_datawrite.specs.Laws.{partition_length}
 use Rattle.sasi_dataread.specs.Opened.{Opened}
-use Rattle.sasi_dataread.specs.Bodies.{fresh_cost}
-use Rattle.sasi_dataread.specs.Paces.{reached, walk_of, IsAlong, Goes}
+use Rattle.sasi_dataread.specs.Bodies.{partition_reads}
+use Rattle.sasi_dataread.specs.ReadCosts.{reached, scan_of, IsSequential, ReadsEachPageOnce}
 
 -- a page is that of a place, or another
-hand : (page at : ℕ) → ((page ≡ at / 4096) × (in_hand (Some page) at ≡ 1)) ⊎ ((page ≢ at / 4096) × (in_hand (Some page) at ≡ 0))
+hand : (page at : ℕ) → ((page ≡ at / 4096) × (buffered_at (Some page) at ≡ 1)) ⊎ ((page ≢ at / 4096) × (buffered_at (Some page) at ≡ 0))
 hand page at = ⊎_elim (λ yes. inl (yes.1, ap (λ (b : Bool). if b then 1 else 0) yes.0)) (λ no. inr (no.1, ap (λ (b : Bool). if b then 1 else 0) no.0)) (eqb_tells page (at / 4096))
 
-at_most_one : (held : Option ℕ) (at : ℕ) → in_hand held at ≤ 1
+at_most_one : (buffered : Option ℕ) (at : ℕ) → buffered_at buffered at ≤ 1
 at_most_one None at = omega arith
 at_most_one (Some page) at = ⊎_elim (λ yes. omega (arith, yes.1)) (λ no. omega (arith, no.1)) (hand page at)
 
--- some bytes, and then those behind them, cost no more than all at once
-pub fresh_on : (held : Option ℕ) (at n m : ℕ) → 0 < n → fresh_pages held at n + fresh_pages (Some ((at + n - 1) / 4096)) (at + n) m ≤ fresh_pages held at (n + m)
-fresh_on held at n m some = ⊎_elim
-    (λ yes. omega (arith, yes.0, yes.1, at_most_one held at))
-    (λ no. omega (arith, no.0, no.1, at_most_one held at))
+-- some bytes, and then those behind them, partition_pages no more than all at once
+pub fresh_on : (buffered : Option ℕ) (at n m : ℕ) → 0 < n → unbuffered_pages buffered at n + unbuffered_pages (Some ((at + n - 1) / 4096)) (at + n) m ≤ unbuffered_pages buffered at (n + m)
+fresh_on buffered at n m some = ⊎_elim
+    (λ yes. omega (arith, yes.0, yes.1, at_most_one buffered at))
+    (λ no. omega (arith, no.0, no.1, at_most_one buffered at))
     (hand ((at + n - 1) / 4096) (at + n))
 
 -- and who goes on reads no more than the pages that it comes to
-pub fresh_reaches : (held : Option ℕ) (at n : ℕ) → 0 < n → ((page : ℕ) → held ≡ Some page → 4096 * page < at) → fresh_pages held at n + reached held ≤ (at + n - 1) / 4096 + 1
+pub fresh_reaches : (buffered : Option ℕ) (at n : ℕ) → 0 < n → ((page : ℕ) → buffered ≡ Some page → 4096 * page < at) → unbuffered_pages buffered at n + reached buffered ≤ (at + n - 1) / 4096 + 1
 fresh_reaches None at n some behind = omega arith
 fresh_reaches (Some page) at n some behind =
     let before = behind page refl in
     ⊎_elim (λ yes. omega (arith, before, yes.0, yes.1)) (λ no. omega (arith, before, no.0, no.1)) (hand page at)
 
-pub few_pages : (held : Option ℕ) (at n : ℕ) → n ≤ 2 ^ 23 + 4 → fresh_pages held at n ≤ 2050
-few_pages held at n le = omega (arith, le)
+pub few_pages : (buffered : Option ℕ) (at n : ℕ) → n ≤ 2 ^ 23 + 4 → unbuffered_pages buffered at n ≤ 2050
+few_pages buffered at n le = omega (arith, le)
 
 -- ---- a walk
 
@@ -79,24 +79,24 @@ front_more content rest passed key part left = rw add-one (from content passed l
         )
 
 -- a partition further
-pub goes_on : (bytes : Bytes) (content rest : Content) (opened : Opened) (tree after : Walk) (held now : Held) (place : ℕ) (key : Bytes)
+pub goes_on : (bytes : Bytes) (content rest : Content) (opened : Opened) (tree after : PairScan) (buffered now : Buffered) (place : ℕ) (key : Bytes)
     (part : Partition) (r0 r1 r2 : ℕ) → tree.tree ≡ opened.tree → after.passed ≡ tree.passed + 1 → drop tree.passed content ≡ (key, part) ∷ rest
     → place ≡ length (front (take tree.passed content)) → pair_place tree.tree tree.passed + 16 ≤ length bytes → place + (4 + length (body key part))
-    ≤ length bytes → IsAlong bytes content (walk_of opened tree held)
-    → r1 ≤ r0 + fresh_pages tree.held.page (pair_place tree.tree tree.passed) 16 → r2 ≤ r1 + fresh_cost held.page place (length (body key part))
-    → after.held.page ≡ Some ((pair_place tree.tree tree.passed + 15) / 4096) → now.page ≡ Some ((place + 3 + length (body key part)) / 4096)
-    → Goes bytes content r0 r2 (walk_of opened tree held) (walk_of opened after now)
-goes_on bytes content rest opened tree after held now place key part r0 r1 r2 tree_is passed left place_is pair_within part_within along first second pairs_page page =
+    ≤ length bytes → IsSequential bytes content (scan_of opened tree buffered)
+    → r1 ≤ r0 + unbuffered_pages tree.buffered.page (pair_place tree.tree tree.passed) 16 → r2 ≤ r1 + partition_reads buffered.page place (length (body key part))
+    → after.buffered.page ≡ Some ((pair_place tree.tree tree.passed + 15) / 4096) → now.page ≡ Some ((place + 3 + length (body key part)) / 4096)
+    → ReadsEachPageOnce bytes content r0 r2 (scan_of opened tree buffered) (scan_of opened after now)
+goes_on bytes content rest opened tree after buffered now place key part r0 r1 r2 tree_is passed left place_is pair_within part_within sequential first second pairs_page page =
     let pp = pair_place opened.tree tree.passed in
     let size = length (body key part) in
     let same : pair_place tree.tree tree.passed ≡ pp = ap (λ (t : TreeRef). pair_place t tree.passed) tree_is in
-    let one = fresh_reaches tree.held.page pp 16 (lit< tt) along.pairs in
-    let two = fresh_reaches held.page place (4 + size) (omega arith) (λ p is. omega (arith, place_is, along.partitions p is)) in
-    let fresh_same : fresh_pages tree.held.page (pair_place tree.tree tree.passed) 16 ≡ fresh_pages tree.held.page pp 16 = ap (λ (n : ℕ). fresh_pages tree.held.page n 16) same in
-    let reached_one : reached after.held.page ≡ suc ((pp + 15) / 4096) = ap reached pairs_page ∙ ap (λ (n : ℕ). suc ((n + 15) / 4096)) same in
+    let one = fresh_reaches tree.buffered.page pp 16 (lit< tt) sequential.pairs in
+    let two = fresh_reaches buffered.page place (4 + size) (omega arith) (λ p is. omega (arith, place_is, sequential.partitions p is)) in
+    let fresh_same : unbuffered_pages tree.buffered.page (pair_place tree.tree tree.passed) 16 ≡ unbuffered_pages tree.buffered.page pp 16 = ap (λ (n : ℕ). unbuffered_pages tree.buffered.page n 16) same in
+    let reached_one : reached after.buffered.page ≡ suc ((pp + 15) / 4096) = ap reached pairs_page ∙ ap (λ (n : ℕ). suc ((n + 15) / 4096)) same in
     let reached_two : reached now.page ≡ suc ((place + 3 + size) / 4096) = ap reached page in
     record {
-      along = record {
+      sequential = record {
         pairs = λ p is.
             let this : p ≡ (pair_place tree.tree tree.passed + 15) / 4096 = some_same p ((pair_place tree.tree tree.passed + 15) / 4096) (sym is ∙ pairs_page) in
             let next : pair_place opened.tree after.passed ≡ pair_place opened.tree (tree.passed + 1) = ap (λ (n : ℕ). pair_place opened.tree n) passed in
@@ -115,8 +115,8 @@ goes_on bytes content rest opened tree after held now place key part r0 r1 r2 tr
     some_same a b is = cc
 
 -- nothing further
-pub goes_nowhere : (bytes : Bytes) (content : Content) (opened : Opened) (tree after : Walk) (held : Held) (r0 r1 : ℕ) → after ≡ tree → r1 ≤ r0 →
-    IsAlong bytes content (walk_of opened tree held) → Goes bytes content r0 r1 (walk_of opened tree held) (walk_of opened after held)
-goes_nowhere bytes content opened tree after held r0 r1 same few along = subst
-    (λ (w : Walk). Goes bytes content r0 r1 (walk_of opened tree held) (walk_of opened w held)) (sym same)
-    (record { along = along; pages = omega (arith, few) })
+pub goes_nowhere : (bytes : Bytes) (content : Content) (opened : Opened) (tree after : PairScan) (buffered : Buffered) (r0 r1 : ℕ) → after ≡ tree → r1 ≤ r0 →
+    IsSequential bytes content (scan_of opened tree buffered) → ReadsEachPageOnce bytes content r0 r1 (scan_of opened tree buffered) (scan_of opened after buffered)
+goes_nowhere bytes content opened tree after buffered r0 r1 same few sequential = subst
+    (λ (w : PairScan). ReadsEachPageOnce bytes content r0 r1 (scan_of opened tree buffered) (scan_of opened w buffered)) (sym same)
+    (record { sequential = sequential; pages = omega (arith, few) })

@@ -11,9 +11,9 @@ use Rattle.sasi_host.specs.Names.{Bytes}
 use Rattle.sasi_host.specs.Damages.{HasAt, Differs, ShowsEnd, seen_bytes}
 use Rattle.sasi_body.specs.Damages.{Breaks, HasOtherLength}
 use Rattle.sasi_tokentree.specs.Damages.{ShowsTree}
-use Rattle.sasi_tokentree.specs.Walks.{HasEntry}
+use Rattle.sasi_tokentree.specs.Scans.{HasEntry}
 use Rattle.sasi_dataread.specs.Opened.{Opened}
-use Rattle.sasi_dataread.specs.Bodies.{sized, IsLength}
+use Rattle.sasi_dataread.specs.Bodies.{length_prefixed, IsLength}
 
 -- ---- the header and the footer
 
@@ -26,7 +26,7 @@ end_mark = 83 ∷ 65 ∷ 83 ∷ 73 ∷ 68 ∷ 69 ∷ 78 ∷ 68 ∷ []
 
 -- the offset where the partitions end is within the header, or behind the start of the footer
 pub record IsWrongEnd (bytes : Bytes) (at : ℕ) (seen : Bytes) : Type 0 where
-  pub place : at + 16 ≡ length bytes
+  pub offset_is : at + 16 ≡ length bytes
   pub stands : HasAt bytes at seen
   pub end : ℕ
   pub told : seen ≡ to_be_bytes w64 end
@@ -34,24 +34,24 @@ pub record IsWrongEnd (bytes : Bytes) (at : ℕ) (seen : Bytes) : Type 0 where
   pub wrong : (end < 33) ⊎ (length bytes < end + 40)
 
 -- the number of partitions is 0
-pub record IsNoNumber (bytes : Bytes) (at : ℕ) (seen : Bytes) : Type 0 where
-  pub place : at + 32 ≡ length bytes
+pub record HasNoPartitions (bytes : Bytes) (at : ℕ) (seen : Bytes) : Type 0 where
+  pub offset_is : at + 32 ≡ length bytes
   pub stands : HasAt bytes at seen
   pub none : seen ≡ to_be_bytes w64 0
 
 -- the header or the footer breaks the rule at the offset, and the seen bytes are there
-abbrev pub FrameBreaks : Bytes → FormatRule → ℕ → Bytes → Type 0
-FrameBreaks bytes Short at seen = (length bytes < 97) × (at ≡ length bytes) × (seen ≡ to_be_bytes w64 (length bytes))
-FrameBreaks bytes Magic at seen = ((at ≡ 0) × Differs bytes at seen magic) ⊎ ((at + 8 ≡ length bytes) × Differs bytes at seen end_mark)
-FrameBreaks bytes Version at seen = (at ≡ 8) × Differs bytes at seen (to_be_bytes w32 1)
-FrameBreaks bytes Number at seen = ((at ≡ 12) × Differs bytes at seen (to_be_bytes w32 0)) ⊎ IsNoNumber bytes at seen
-FrameBreaks bytes Place at seen = IsWrongEnd bytes at seen
-FrameBreaks bytes _ at seen = ⊥
+abbrev pub HeaderOrFooterBreaks : Bytes → FormatRule → ℕ → Bytes → Type 0
+HeaderOrFooterBreaks bytes Short at seen = (length bytes < 97) × (at ≡ length bytes) × (seen ≡ to_be_bytes w64 (length bytes))
+HeaderOrFooterBreaks bytes Magic at seen = ((at ≡ 0) × Differs bytes at seen magic) ⊎ ((at + 8 ≡ length bytes) × Differs bytes at seen end_mark)
+HeaderOrFooterBreaks bytes Version at seen = (at ≡ 8) × Differs bytes at seen (to_be_bytes w32 1)
+HeaderOrFooterBreaks bytes Number at seen = ((at ≡ 12) × Differs bytes at seen (to_be_bytes w32 0)) ⊎ HasNoPartitions bytes at seen
+HeaderOrFooterBreaks bytes Place at seen = IsWrongEnd bytes at seen
+HeaderOrFooterBreaks bytes _ at seen = ⊥
 
 -- the damage is that of this file, whose header or footer breaks the rule
-pub record ShowsFrame (file : FileName) (bytes : Bytes) (damage : Damage) : Type 0 where
+pub record ShowsHeaderOrFooter (file : FileName) (bytes : Bytes) (damage : Damage) : Type 0 where
   pub named : damage.file ≡ file
-  pub breaks : FrameBreaks bytes damage.rule damage.at (seen_bytes damage.seen)
+  pub breaks : HeaderOrFooterBreaks bytes damage.rule damage.at (seen_bytes damage.seen)
 
 -- ---- a partition at an offset, which has to end before the end
 
@@ -72,7 +72,7 @@ pub record IsOfOtherLength (types : List ColumnType) (place : ℕ) (file : FileN
   pub rule : damage.rule ≡ Number
   pub at : damage.at ≡ place
   pub body : Bytes
-  pub stands : HasAt bytes place (sized body)
+  pub stands : HasAt bytes place (length_prefixed body)
   pub fits : length body < 2 ^ 32
   pub told : seen_bytes damage.seen ≡ to_be_bytes w32 (length body)
   pub other : HasOtherLength types body
@@ -81,7 +81,7 @@ pub record IsOfOtherLength (types : List ColumnType) (place : ℕ) (file : FileN
 pub record HasBrokenBody (types : List ColumnType) (place : ℕ) (file : FileName) (bytes : Bytes) (damage : Damage) : Type 0 where
   pub named : damage.file ≡ file
   pub body : Bytes
-  pub stands : HasAt bytes place (sized body)
+  pub stands : HasAt bytes place (length_prefixed body)
   pub fits : length body < 2 ^ 32
   pub offset : ℕ
   pub at : damage.at ≡ place + 4 + offset

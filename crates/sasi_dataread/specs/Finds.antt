@@ -12,8 +12,8 @@ use Rattle.sasi_body.specs.Format.{body}
 use Rattle.sasi_datawrite.specs.Format.{Content, partition_bytes}
 use Rattle.sasi_dataread.specs.Opened.{Opened, StandsAt}
 use Rattle.sasi_dataread.specs.Reads.{IsOpenOn}
-use Rattle.sasi_dataread.specs.Bodies.{cost}
-use Rattle.sasi_dataread.specs.Walks.{HaveTokens}
+use Rattle.sasi_dataread.specs.Bodies.{partition_pages}
+use Rattle.sasi_dataread.specs.Scans.{TokensFit}
 
 -- the partition of a key
 abbrev pub partition_of : Content → Bytes → Option Partition
@@ -22,13 +22,13 @@ partition_of content key = lookup (key_eq key) content
 -- where the file is the data file of a content, and this the token of the key, it is the partition of the key
 abbrev pub FindsKey : View → Opened → ℕ → Bytes → Option Partition → Type 0
 FindsKey v opened token key found =
-    (partitioner : Partitioner) (content : Content) → IsOpenOn v opened partitioner content → HaveTokens partitioner content → token ≡ token_of partitioner key → found ≡ partition_of content key
+    (partitioner : Partitioner) (content : Content) → IsOpenOn v opened partitioner content → TokensFit partitioner content → token ≡ token_of partitioner key → found ≡ partition_of content key
 
 -- the pages of the partitions with a token, and one for the pair behind each, where the first partition is at this offset
-abbrev pub token_cost : Partitioner → ℕ → ℕ → Content → ℕ
-token_cost partitioner token at [] = 0
-token_cost partitioner token at (one ∷ others) =
-    (if nat_eq (token_of partitioner one.0) token then cost at (length (body one.0 one.1)) + 1 else 0) + token_cost partitioner token (at + length (partition_bytes one.0 one.1)) others
+abbrev pub token_reads : Partitioner → ℕ → ℕ → Content → ℕ
+token_reads partitioner token at [] = 0
+token_reads partitioner token at (one ∷ others) =
+    (if nat_eq (token_of partitioner one.0) token then partition_pages at (length (body one.0 one.1)) + 1 else 0) + token_reads partitioner token (at + length (partition_bytes one.0 one.1)) others
 
 -- ---- steps of a look-up
 
@@ -38,6 +38,6 @@ LeadsTo token next None = (pair : Pair) → next ≡ Some pair → pair.token �
 LeadsTo token next (Some place) = next ≡ Some (record { token = token; place = place })
 
 -- the partition read is the one at an offset, where it has the key
-abbrev pub GivesWith : View → Opened → ℕ → Bytes → Option Partition → Type 0
-GivesWith v opened place key found = (partitioner : Partitioner) (content : Content) (k : Bytes) (p : Partition) → IsOpenOn v opened partitioner
+abbrev pub ReadsPartitionOfKey : View → Opened → ℕ → Bytes → Option Partition → Type 0
+ReadsPartitionOfKey v opened place key found = (partitioner : Partitioner) (content : Content) (k : Bytes) (p : Partition) → IsOpenOn v opened partitioner
     content → StandsAt content place k p → found ≡ partition_of ((k, p) ∷ []) key

@@ -9,7 +9,7 @@ use Rattle.sasi_types.specs.declared.column.ColumnType.{ColumnType}
 use Rattle.sasi_types.specs.declared.partitioner.Partitioner.{Partitioner}
 use Rattle.sasi_types.specs.declared.tree.Pair.{Pair}
 use Rattle.sasi_types.specs.declared.tree.TreeRef.{TreeRef}
-use Rattle.sasi_model.specs.Cells.{Partition, greatest_of, greatest_time}
+use Rattle.sasi_model.specs.Cells.{Partition, max_timestamp_of, max_timestamp_in}
 use Rattle.sasi_host.specs.Names.{Bytes}
 use Rattle.sasi_body.specs.Format.{body, key_bytes, part_bytes, cells_of, cell_bytes, IsCell, HasBody}
 use Rattle.sasi_body.specs.Typed.{IsBodyOf}
@@ -18,11 +18,11 @@ use Rattle.sasi_tokentree.specs.Format.{tree_bytes, tree_ref, levels, level_byte
 use Rattle.sasi_tokentree.specs.Sizes.{level_length, one_level, more_levels}
 use Rattle.sasi_tokentree.specs.Heights.{top_is, lead_short}
 use Rattle.sasi_host.specs.Damages.{HasAt}
-use Rattle.sasi_datawrite.specs.Format.{Content, IsContent, header, footer, front, ending, greatest, key_pairs, partition_bytes, partitions, data_bytes}
+use Rattle.sasi_datawrite.specs.Format.{Content, IsContent, header, footer, front, trailer, content_max_timestamp, key_pairs, partition_bytes, partitions, data_bytes}
 use Rattle.sasi_datawrite.specs.Files.{IsDataFile}
 use Rattle.sasi_datawrite.specs.Laws.{header_length, partition_length, pairs_length}
 use Rattle.sasi_dataread.specs.Opened.{StandsAt}
-use Rattle.sasi_dataread.specs.Bodies.{sized}
+use Rattle.sasi_dataread.specs.Bodies.{length_prefixed}
 
 -- ---- partitions
 
@@ -36,25 +36,25 @@ pub front_parts : (before behind : Content) (key : Bytes) (part : Partition) →
 front_parts before behind key part = ap (λ (l : Bytes). header ++ l) (partitions_on before ((key, part) ∷ behind)) ∙ sym
     (append_assoc header (partitions before) (partition_bytes key part ++ partitions behind))
 
-partition_is : (key : Bytes) (part : Partition) → partition_bytes key part ≡ sized (body key part)
+partition_is : (key : Bytes) (part : Partition) → partition_bytes key part ≡ length_prefixed (body key part)
 unfolding partition_bytes
 partition_is key part = refl
 
-pub file_is : (partitioner : Partitioner) (content : Content) → data_bytes partitioner content ≡ front content ++ ending (key_pairs partitioner content) (greatest content) (length (front content))
+pub file_is : (partitioner : Partitioner) (content : Content) → data_bytes partitioner content ≡ front content ++ trailer (key_pairs partitioner content) (content_max_timestamp content) (length (front content))
 unfolding data_bytes
 file_is partitioner content = refl
 
 -- the file has a partition at its offset
 pub partition_stands : (partitioner : Partitioner) (types : List ColumnType) (bytes : Bytes) (content : Content) (place : ℕ) (key : Bytes)
-    (part : Partition) → IsDataFile partitioner types bytes content → StandsAt content place key part → HasAt bytes place (sized (body key part))
+    (part : Partition) → IsDataFile partitioner types bytes content → StandsAt content place key part → HasAt bytes place (length_prefixed (body key part))
 partition_stands partitioner types bytes content place key part is at =
-    let end = ending (key_pairs partitioner content) (greatest content) (length (front content)) in
+    let end = trailer (key_pairs partitioner content) (content_max_timestamp content) (length (front content)) in
     record {
       front = front at.before;
       rest = partitions at.behind ++ end;
       is = is.is ∙ file_is partitioner content ∙ ap (λ (l : Bytes). l ++ end) (ap (λ (l : Content). front l) at.is ∙ front_parts at.before at.behind key part)
           ∙ regroup (front at.before) (partition_bytes key part) (partitions at.behind) end ∙ ap (λ (l : Bytes). front at.before ++ l ++ (partitions at.behind ++ end)) (partition_is key part);
-      place = sym at.begins;
+      offset_is = sym at.begins;
     }
   where
     regroup : (a b c d : Bytes) → (a ++ (b ++ c)) ++ d ≡ a ++ b ++ (c ++ d)
@@ -87,19 +87,19 @@ partition_typed partitioner types bytes content place key part is at =
 
 pub header_stands : (partitioner : Partitioner) (types : List ColumnType) (bytes : Bytes) (content : Content) → IsDataFile partitioner types bytes content → HasAt bytes 0 header
 header_stands partitioner types bytes content is =
-    let end = ending (key_pairs partitioner content) (greatest content) (length (front content)) in
-    record { front = []; rest = partitions content ++ end; is = is.is ∙ file_is partitioner content ∙ append_assoc header (partitions content) end; place = refl }
+    let end = trailer (key_pairs partitioner content) (content_max_timestamp content) (length (front content)) in
+    record { front = []; rest = partitions content ++ end; is = is.is ∙ file_is partitioner content ∙ append_assoc header (partitions content) end; offset_is = refl }
 
 -- what the footer tells
 abbrev pub tree_of : Partitioner → Content → TreeRef
 tree_of partitioner content = tree_ref (length (front content)) (key_pairs partitioner content)
 
 abbrev pub footer_of : Partitioner → Content → Bytes
-footer_of partitioner content = footer (tree_of partitioner content) (greatest content) (length (front content))
+footer_of partitioner content = footer (tree_of partitioner content) (content_max_timestamp content) (length (front content))
 
-pub footer_length : (tree : TreeRef) (latest end : ℕ) → length (footer tree latest end) ≡ 40
+pub footer_length : (tree : TreeRef) (max_timestamp end : ℕ) → length (footer tree max_timestamp end) ≡ 40
 unfolding footer
-footer_length tree latest end = refl
+footer_length tree max_timestamp end = refl
 
 abbrev tree_part : Partitioner → Content → Bytes
 tree_part partitioner content = tree_bytes (length (front content)) (key_pairs partitioner content)
@@ -112,7 +112,7 @@ whole_length partitioner types bytes content is =
       ap (λ (l : Bytes). length l) (is.is ∙ file_is partitioner content),
       length-append (front content) (tree_part partitioner content ++ footer_of partitioner content),
       length-append (tree_part partitioner content) (footer_of partitioner content),
-      footer_length (tree_of partitioner content) (greatest content) (length (front content)),
+      footer_length (tree_of partitioner content) (content_max_timestamp content) (length (front content)),
     )
 
 pub footer_stands : (partitioner : Partitioner) (types : List ColumnType) (bytes : Bytes) (content : Content) → IsDataFile partitioner types bytes
@@ -122,7 +122,7 @@ footer_stands partitioner types bytes content is = record {
   rest = [];
   is = is.is ∙ file_is partitioner content ∙ regroup (front content) (tree_part partitioner content) (footer_of partitioner content) ∙ sym
       (append-nil ((front content ++ tree_part partitioner content) ++ footer_of partitioner content));
-  place = omega (arith, whole_length partitioner types bytes content is, length-append (front content) (tree_part partitioner content));
+  offset_is = omega (arith, whole_length partitioner types bytes content is, length-append (front content) (tree_part partitioner content));
 }
   where
     regroup : (a b c : Bytes) → a ++ (b ++ c) ≡ (a ++ b) ++ c
@@ -188,29 +188,29 @@ pairs_are partitioner content = count_is partitioner content
 root_is : (at n : ℕ) → 0 < n → top n at n ≤ at + 17 * n
 root_is at n some = omega (arith, top_is n at n some (omega arith), lead_short n n (omega arith))
 
-times_fit : (deleted : ℕ) (entries : List Entry) → AllByRecursion (IsCell deleted) entries → greatest_time (map (λ e. e.1) entries) ≤ 2 ^ 62
+times_fit : (deleted : ℕ) (entries : List Entry) → AllByRecursion (IsCell deleted) entries → max_timestamp_in (map (λ e. e.1) entries) ≤ 2 ^ 62
 times_fit deleted [] all = omega arith
 times_fit deleted (entry ∷ entries) all = omega (arith, all.0.time, times_fit deleted entries all.1)
 
-part_fits : (key : Bytes) (part : Partition) → HasBody key part → greatest_of part ≤ 2 ^ 62
+part_fits : (key : Bytes) (part : Partition) → HasBody key part → max_timestamp_of part ≤ 2 ^ 62
 part_fits key part has = omega (arith, has.deleted, times_fit part.deleted (cells_of part) has.cells)
 
-greatest_fits : (content : Content) → AllByRecursion (λ one. HasBody one.0 one.1) content → greatest content ≤ 2 ^ 62
+greatest_fits : (content : Content) → AllByRecursion (λ one. HasBody one.0 one.1) content → content_max_timestamp content ≤ 2 ^ 62
 greatest_fits [] all = omega arith
 greatest_fits (one ∷ others) all = omega (arith, part_fits one.0 one.1 all.0, greatest_fits others all.1)
 
 -- the numbers of a footer fit their fields, and lie in their ranges
-pub record AreInRange (size : ℕ) (tree : TreeRef) (latest end : ℕ) : Type 0 where
+pub record AreInRange (size : ℕ) (tree : TreeRef) (max_timestamp end : ℕ) : Type 0 where
   pub root : tree.root < 2 ^ 64
   pub pairs : tree.pairs < 2 ^ 64
-  pub latest_fits : latest < 2 ^ 64
+  pub latest_fits : max_timestamp < 2 ^ 64
   pub end_fits : end < 2 ^ 64
   pub some : 0 < tree.pairs
   pub behind : 33 ≤ end
   pub within : end ≤ size - 40
 
 pub in_range : (partitioner : Partitioner) (types : List ColumnType) (bytes : Bytes) (content : Content) → IsDataFile partitioner types bytes content
-    → length bytes ≤ 2 ^ 62 → AreInRange (length bytes) (tree_of partitioner content) (greatest content) (length (front content))
+    → length bytes ≤ 2 ^ 62 → AreInRange (length bytes) (tree_of partitioner content) (content_max_timestamp content) (length (front content))
 in_range partitioner types bytes content is short =
     let count = count_is partitioner content in
     let first = front_least partitioner content is.content_is in

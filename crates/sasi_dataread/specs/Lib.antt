@@ -3,8 +3,8 @@ pub mod Reads
 pub mod Bodies
 pub mod Damages
 pub mod Laws
-pub mod Frames
-pub mod Walks
-pub mod Paces
+pub mod HeaderAndFooter
+pub mod Scans
+pub mod ReadCosts
 pub mod Pairs
 pub mod Finds

@@ -7,7 +7,7 @@ use Rattle.sasi_model.specs.Cells.{Partition}
 use Rattle.sasi_host.specs.declared.name.FileName.{FileName}
 use Rattle.sasi_host.specs.Names.{Bytes}
 use Rattle.sasi_tokentree.specs.Format.{tree_ref}
-use Rattle.sasi_datawrite.specs.Format.{Content, front, greatest, key_pairs}
+use Rattle.sasi_datawrite.specs.Format.{Content, front, content_max_timestamp, key_pairs}
 
 -- what one knows of a data file in hand
 pub record Opened : Type 0 where
@@ -16,15 +16,15 @@ pub record Opened : Type 0 where
   pub types : List ColumnType
   -- what refers to the key tree, which has a pair for each partition
   pub tree : TreeRef
-  -- the greatest time
-  pub latest : ℕ
+  -- the content_max_timestamp time
+  pub max_timestamp : ℕ
   -- where the partitions end
   pub end : ℕ
 
 -- it was opened as the data file of this content
-pub record IsOf (opened : Opened) (partitioner : Partitioner) (content : Content) : Type 0 where
+pub record IsOpenedAs (opened : Opened) (partitioner : Partitioner) (content : Content) : Type 0 where
   pub tree : opened.tree ≡ tree_ref (length (front content)) (key_pairs partitioner content)
-  pub latest : opened.latest ≡ greatest content
+  pub max_timestamp : opened.max_timestamp ≡ content_max_timestamp content
   pub end : opened.end ≡ length (front content)
 
 -- in the data file of the content this partition begins at this place

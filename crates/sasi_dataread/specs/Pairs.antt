@@ -9,28 +9,28 @@ use Rattle.std.specs.Ordering.{ordering_then}
 use Rattle.std.specs.declared.cmp.Ordering.{Ordering}
 use Rattle.std.specs.declared.cmp.Ordering.TheVariants.{Less, Greater}
 use Rattle.sasi_types.specs.declared.partitioner.Partitioner.{Partitioner}
-use Rattle.sasi_types.specs.declared.place.Place.{Place}
+use Rattle.sasi_types.specs.declared.decorated_key.DecoratedKey.{DecoratedKey}
 use Rattle.sasi_types.specs.declared.tree.Pair.{Pair}
 use Rattle.sasi_types.specs.Key.{key_cmp}
-use Rattle.sasi_types.specs.Place.{place_cmp}
+use Rattle.sasi_types.specs.DecoratedKey.{decorated_cmp}
 use Rattle.sasi_types.specs.Token.{token_of}
 use Rattle.sasi_model.specs.Cells.{Partition}
 use Rattle.sasi_host.specs.Names.{Bytes}
 use Rattle.sasi_host.specs.View.{View}
 use Rattle.sasi_tokentree.specs.Format.{pair_at, IsBefore, HasTree, tree_bytes}
-use Rattle.sasi_datawrite.specs.Format.{Content, header, front, place_of, key_pairs, pairs_from, partition_bytes, partitions}
+use Rattle.sasi_datawrite.specs.Format.{Content, header, front, decorated_key, key_pairs, pairs_from, partition_bytes, partitions}
 use Rattle.sasi_datawrite.specs.Laws.{partition_length, pairs_length}
 use Rattle.sasi_dataread.specs.Opened.{Opened, StandsAt}
 use Rattle.sasi_dataread.specs.Reads.{IsOpenOn}
 use Rattle.sasi_dataread.specs.Laws.{file_is, end_within, footer_of}
-use Rattle.sasi_dataread.specs.Walks.{HaveTokens}
+use Rattle.sasi_dataread.specs.Scans.{TokensFit}
 
 -- ---- they rise
 
-pub less_token : (a b : Place) → place_cmp a b ≡ Less → a.token ≤ b.token
+pub less_token : (a b : DecoratedKey) → decorated_cmp a b ≡ Less → a.token ≤ b.token
 less_token a b less = ⊎_elim
     (λ le. le.1)
-    (λ gt. let is : Greater ≡ place_cmp a b = ap (λ (o : Ordering). ordering_then o (key_cmp a.key b.key)) (nat_cmp_is a.token b.token Greater gt.1) in absurd (cc))
+    (λ gt. let is : Greater ≡ decorated_cmp a b = ap (λ (o : Ordering). ordering_then o (key_cmp a.key b.key)) (nat_cmp_is a.token b.token Greater gt.1) in absurd (cc))
     (leb_tells a.token b.token)
 
 less_or_equal : (m n : ℕ) → m ≤ n → (m < n) ⊎ (m ≡ n)
@@ -39,7 +39,7 @@ less_or_equal m n le = grind arith
 before : (a b : Pair) → a.token ≤ b.token → a.place < b.place → IsBefore a b
 before a b le lt = ⊎_elim (λ less. inl less) (λ same. inr (same, lt)) (less_or_equal a.token b.token le)
 
-rising_from : (partitioner : Partitioner) (at : ℕ) (content : Content) → IsStrictlySortedBy place_cmp (map (place_of partitioner) content) →
+rising_from : (partitioner : Partitioner) (at : ℕ) (content : Content) → IsStrictlySortedBy decorated_cmp (map (decorated_key partitioner) content) →
     (index next : ℕ) → next ≡ suc index → next < length (pairs_from partitioner at content)
     → IsBefore (pair_at (pairs_from partitioner at content) index) (pair_at (pairs_from partitioner at content) next)
 unfolding IsStrictlySortedBy
@@ -50,7 +50,7 @@ rising_from partitioner at (one ∷ two ∷ others) sorted zero next is lt =
     subst (λ (n : ℕ). IsBefore (pair_at P 0) (pair_at P n)) (sym is)
     (before (record { token = token_of partitioner one.0; place = at })
     (record { token = token_of partitioner two.0; place = at + length (partition_bytes one.0 one.1) })
-    (less_token (place_of partitioner one) (place_of partitioner two) sorted.0.0)
+    (less_token (decorated_key partitioner one) (decorated_key partitioner two) sorted.0.0)
     (omega (arith, partition_length one.0 one.1)))
 rising_from partitioner at (one ∷ two ∷ others) sorted (suc index) next is lt =
     let P = pairs_from partitioner at (one ∷ two ∷ others) in
@@ -59,7 +59,7 @@ rising_from partitioner at (one ∷ two ∷ others) sorted (suc index) next is l
 
 -- ---- their numbers fit
 
-fits_from : (partitioner : Partitioner) (at : ℕ) (content : Content) → HaveTokens partitioner content → at + length (partitions content) < 2 ^ 64 → (index : ℕ)
+fits_from : (partitioner : Partitioner) (at : ℕ) (content : Content) → TokensFit partitioner content → at + length (partitions content) < 2 ^ 64 → (index : ℕ)
     → ((pair_at (pairs_from partitioner at content) index).token < 2 ^ 64) × ((pair_at (pairs_from partitioner at content) index).place < 2 ^ 64)
 fits_from partitioner at [] have lt zero = (lit< tt, lit< tt)
 fits_from partitioner at [] have lt (suc index) = (lit< tt, lit< tt)
@@ -68,7 +68,7 @@ fits_from partitioner at (one ∷ others) have lt (suc index) =
     fits_from partitioner (at + length (partition_bytes one.0 one.1)) others have.1 (omega (arith, lt, length-append (partition_bytes one.0 one.1) (partitions others))) index
 
 -- the file has the key tree
-pub has_tree : (v : View) (opened : Opened) (partitioner : Partitioner) (content : Content) (is : IsOpenOn v opened partitioner content) → HaveTokens
+pub has_tree : (v : View) (opened : Opened) (partitioner : Partitioner) (content : Content) (is : IsOpenOn v opened partitioner content) → TokensFit
     partitioner content → length is.bytes ≤ 2 ^ 62 → HasTree is.bytes opened.tree (key_pairs partitioner content)
 has_tree v opened partitioner content is have short = record {
   front = front content;

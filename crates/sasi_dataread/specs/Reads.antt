@@ -10,11 +10,11 @@ use Rattle.sasi_host.specs.Damages.{OnDamage}
 use Rattle.sasi_host.specs.View.{View, contents}
 use Rattle.sasi_datawrite.specs.Format.{Content}
 use Rattle.sasi_datawrite.specs.Files.{IsDataFile}
-use Rattle.sasi_dataread.specs.Opened.{Opened, IsOf, StandsAt}
+use Rattle.sasi_dataread.specs.Opened.{Opened, IsOpenedAs, StandsAt}
 use Rattle.sasi_host.specs.Disk.{Changes, Same}
 
 -- the folder is unchanged, no count of faults falls, and at most so many reads were made
-pub record Passes (most : ℕ) (old new : View) : Type 0 where
+pub record ReadsWithin (most : ℕ) (old new : View) : Type 0 where
   pub changes : Changes Same old new
   pub disk : old.disk_faults ≤ new.disk_faults
   pub out : new.out_faults ≡ old.out_faults
@@ -27,23 +27,23 @@ pub record IsOpenOn (v : View) (opened : Opened) (partitioner : Partitioner) (co
   pub bytes : Bytes
   pub reads : contents v opened.file ≡ Some bytes
   pub data_file : IsDataFile partitioner opened.types bytes content
-  pub of : IsOf opened partitioner content
+  pub of : IsOpenedAs opened partitioner content
 
 -- damage is reported only where the file isn't a data file
-abbrev pub SparesData : View → FileName → ReadFault → Type 0
-SparesData v file = OnDamage (λ _. (bytes : Bytes) (partitioner : Partitioner) (types : List ColumnType) (content : Content) → contents v file ≡ Some
+abbrev pub NoFalseDataDamage : View → FileName → ReadFault → Type 0
+NoFalseDataDamage v file = OnDamage (λ _. (bytes : Bytes) (partitioner : Partitioner) (types : List ColumnType) (content : Content) → contents v file ≡ Some
     bytes → IsDataFile partitioner types bytes content → ⊥)
 
 -- the partition read is the one at the offset
-abbrev pub Gives : View → Opened → ℕ → Bytes → Partition → Type 0
-Gives v opened place key part = (partitioner : Partitioner) (content : Content) (k : Bytes) (p : Partition) → IsOpenOn v opened partitioner content →
+abbrev pub ReadsPartition : View → Opened → ℕ → Bytes → Partition → Type 0
+ReadsPartition v opened place key part = (partitioner : Partitioner) (content : Content) (k : Bytes) (p : Partition) → IsOpenOn v opened partitioner content →
     StandsAt content place k p → (key ≡ k) × (part ≡ p)
 
 -- damage is reported only where no partition of a data file is at the offset
-abbrev pub SparesPlace : View → Opened → ℕ → ReadFault → Type 0
-SparesPlace v opened place = OnDamage (λ _. (partitioner : Partitioner) (content : Content) (key : Bytes) (part : Partition) → IsOpenOn v opened
+abbrev pub NoFalsePartitionDamage : View → Opened → ℕ → ReadFault → Type 0
+NoFalsePartitionDamage v opened place = OnDamage (λ _. (partitioner : Partitioner) (content : Content) (key : Bytes) (part : Partition) → IsOpenOn v opened
     partitioner content → StandsAt content place key part → ⊥)
 
 -- the key read is that of the one at the offset
-abbrev pub GivesKey : View → Opened → ℕ → Bytes → Type 0
-GivesKey v opened place key = (partitioner : Partitioner) (content : Content) (k : Bytes) (p : Partition) → IsOpenOn v opened partitioner content → StandsAt content place k p → key ≡ k
+abbrev pub ReadsKey : View → Opened → ℕ → Bytes → Type 0
+ReadsKey v opened place key = (partitioner : Partitioner) (content : Content) (k : Bytes) (p : Partition) → IsOpenOn v opened partitioner content → StandsAt content place k p → key ≡ k

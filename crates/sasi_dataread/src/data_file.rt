@@ -8,26 +8,26 @@ ghost use Rattle.sasi_host.specs.View.{ReadsAtMost, contents};
 ghost use Rattle.sasi_body.specs.Format.{body};
 ghost use Rattle.sasi_body.specs.Typed.{IsBodyOf};
 ghost use Rattle.sasi_tokentree.specs.Heights.{height};
-ghost use Rattle.sasi_host.specs.Damages.{Shown};
-ghost use Rattle.sasi_host.specs.Held.{IsHeld};
+ghost use Rattle.sasi_host.specs.Damages.{DamageShown};
+ghost use Rattle.sasi_host.specs.Buffered.{IsBuffered};
 ghost use Rattle.sasi_host.specs.PageReading.{CanRead, HasRead};
 ghost use Rattle.sasi_datawrite.specs.Format.{Content, header};
 ghost use Rattle.sasi_datawrite.specs.Files.{IsDataFile};
-ghost use Rattle.sasi_dataread.specs.Opened.{IsOf, StandsAt};
-ghost use Rattle.sasi_dataread.specs.Reads.{Gives, GivesKey, IsOpenOn, SparesData, SparesPlace};
-ghost use Rattle.sasi_dataread.specs.Bodies.{cost, fresh_cost};
-ghost use Rattle.sasi_dataread.specs.Damages.{ShowsData, ShowsFrame, ShowsPartition};
-ghost use Rattle.sasi_dataread.specs.Frames.{IsFramed};
-ghost use Rattle.sasi_dataread.specs.Walks.{HaveTokens, SparesOpened};
-ghost use Rattle.sasi_dataread.specs.Finds.{FindsKey, token_cost};
+ghost use Rattle.sasi_dataread.specs.Opened.{IsOpenedAs, StandsAt};
+ghost use Rattle.sasi_dataread.specs.Reads.{ReadsPartition, ReadsKey, IsOpenOn, NoFalseDataDamage, NoFalsePartitionDamage};
+ghost use Rattle.sasi_dataread.specs.Bodies.{partition_pages, partition_reads};
+ghost use Rattle.sasi_dataread.specs.Damages.{ShowsData, ShowsHeaderOrFooter, ShowsPartition};
+ghost use Rattle.sasi_dataread.specs.HeaderAndFooter.{HasHeaderAndFooter};
+ghost use Rattle.sasi_dataread.specs.Scans.{TokensFit, NoFalseOpenedDamage};
+ghost use Rattle.sasi_dataread.specs.Finds.{FindsKey, token_reads};
 
-use crate::DataWalk;
+use crate::Walk;
 use crate::find::find_partition;
-use crate::frame::read_frame;
+use crate::footer::read_footer;
 use crate::partition::partition_at;
 use crate::types::copy_types;
 use sasi_cells::Partition;
-use sasi_host::{FileName, HeldPage, Host, PageReader, ReadFault};
+use sasi_host::{FileName, BufferedFile, Host, PageReader, ReadFault};
 use sasi_tokentree::Tree;
 use sasi_types::{Key, Token, TreeRef, TypeList};
 use std::alloc::{AllocError, Global};
@@ -39,7 +39,7 @@ pub struct DataFile {
     file: FileName,
     types: TypeList,
     tree: TreeRef,
-    latest: u64,
+    max_timestamp: u64,
     end: u64,
 }
 
@@ -48,7 +48,7 @@ impl Model for DataFile {
 
     ghost Value = { Opened };
 
-    ghost view = { λ a. record { file = a.file; types = a.types; tree = a.tree; latest = a.latest; end = a.end } };
+    ghost view = { λ a. record { file = a.file; types = a.types; tree = a.tree; max_timestamp = a.max_timestamp; end = a.end } };
 }
 
 impl DataFile {
@@ -61,32 +61,32 @@ impl DataFile {
         types: &TypeList,
     ) -> Result<DataFile, ReadFault>
         requires read { CanRead (P.agrees pages.old) (H.view host.old) file }
-        ensures ok { IfOk result (λ opened. (bytes : Bytes) (partitioner : Partitioner) (content : Content) → contents (H.view host.old) file ≡ Some bytes → IsDataFile partitioner types.now bytes content → IsOf opened partitioner content) }
-        ensures framed { IfOk result (λ opened. (bytes : Bytes) → contents (H.view host.old) file ≡ Some bytes → IsFramed bytes opened.tree opened.latest opened.end) }
+        ensures ok { IfOk result (λ opened. (bytes : Bytes) (partitioner : Partitioner) (content : Content) → contents (H.view host.old) file ≡ Some bytes → IsDataFile partitioner types.now bytes content → IsOpenedAs opened partitioner content) }
+        ensures header_and_footer { IfOk result (λ opened. (bytes : Bytes) → contents (H.view host.old) file ≡ Some bytes → HasHeaderAndFooter bytes opened.tree opened.max_timestamp opened.end) }
         ensures file { IfOk result (λ opened. opened.file ≡ file) }
         ensures types { IfOk result (λ opened. opened.types ≡ types.now) }
-        ensures damaged { IfErr result (Shown (H.view host.old) file (ShowsFrame file)) }
-        ensures undamaged { IfErr result (SparesData (H.view host.old) file) }
+        ensures damaged { IfErr result (DamageShown (H.view host.old) file (ShowsHeaderOrFooter file)) }
+        ensures undamaged { IfErr result (NoFalseDataDamage (H.view host.old) file) }
         ensures read { HasRead (P.agrees pages.new) (P.covers pages.old) (P.covers pages.new) (H.view host.old) (H.view host.new) file }
         ensures causes { ReadsAtMost 3 (H.view host.old) (H.view host.new) result }
     {
-        let footer = read_frame(host, pages, file)?;
+        let footer = read_footer(host, pages, file)?;
         let types = copy_types(alloc, types)?;
         Ok(DataFile {
             file,
             types,
             tree: footer.tree,
-            latest: footer.latest,
+            max_timestamp: footer.max_timestamp,
             end: footer.end,
         })
     }
 
     /// A scan of the partitions, from the first one on. It reads nothing yet.
-    pub fn walk(&self, alloc: Global) -> Result<DataWalk, AllocError>
-        ensures { IfOk result (λ walk. walk ≡ record { opened = self.now; passed = 0; pairs_held = record { file = self.now.file; page = None; bytes = [] }; held = record { file = self.now.file; page = None; bytes = [] } }) }
+    pub fn walk(&self, alloc: Global) -> Result<Walk, AllocError>
+        ensures { IfOk result (λ walk. walk ≡ record { opened = self.now; passed = 0; pairs_buffered = record { file = self.now.file; page = None; bytes = [] }; buffered = record { file = self.now.file; page = None; bytes = [] } }) }
     {
         let copy = self.copy(alloc)?;
-        Ok(DataWalk::new(copy))
+        Ok(Walk::new(copy))
     }
 
     fn copy(&self, alloc: Global) -> Result<DataFile, AllocError>
@@ -97,7 +97,7 @@ impl DataFile {
             file: self.file,
             types,
             tree: self.tree,
-            latest: self.latest,
+            max_timestamp: self.max_timestamp,
             end: self.end,
         })
     }
@@ -110,50 +110,50 @@ impl DataFile {
     }
 
     /// The largest timestamp of a deletion or a cell in it.
-    pub fn greatest(&self) -> u64
-        ensures { result ≡ self.now.latest }
+    pub fn max_timestamp(&self) -> u64
+        ensures { result ≡ self.now.max_timestamp }
     {
-        self.latest
+        self.max_timestamp
     }
 
     /// A scan of the key tree, from tokens to offsets of partitions, before its first pair.
     pub fn tree(&self) -> Tree
-        ensures { result ≡ record { held = record { file = self.now.file; page = None; bytes = [] }; tree = self.now.tree; passed = 0 } }
+        ensures { result ≡ record { buffered = record { file = self.now.file; page = None; bytes = [] }; tree = self.now.tree; passed = 0 } }
     {
         Tree::new(self.file, self.tree)
     }
 
     // The file, with no page buffered yet.
-    pub(crate) fn hold(&self) -> HeldPage
+    pub(crate) fn buffered_file(&self) -> BufferedFile
         ensures { result ≡ record { file = self.now.file; page = None; bytes = [] } }
     {
-        HeldPage::new(self.file)
+        BufferedFile::new(self.file)
     }
 
     // Reads the partition at this offset, through the buffered page.
-    pub(crate) fn at_held<H: Host, P: PageReader>(
+    pub(crate) fn at_buffered<H: Host, P: PageReader>(
         &self,
         alloc: Global,
         host: &mut H,
         pages: &mut P,
-        held: &mut HeldPage,
+        buffered: &mut BufferedFile,
         place: u64,
     ) -> Result<(Key, Partition), ReadFault>
         requires read { CanRead (P.agrees pages.old) (H.view host.old) self.now.file }
-        requires held { IsHeld held.old (H.view host.old).files }
-        requires named { held.old.file ≡ self.now.file }
-        ensures ok { IfOk result (λ read. Gives (H.view host.old) self.now place read.0 read.1) }
+        requires buffered { IsBuffered buffered.old (H.view host.old).files }
+        requires named { buffered.old.file ≡ self.now.file }
+        ensures ok { IfOk result (λ read. ReadsPartition (H.view host.old) self.now place read.0 read.1) }
         ensures in_table { IfOk result (λ read. IsBodyOf self.now.types read.0 read.1) }
-        ensures damaged { IfErr result (Shown (H.view host.old) self.now.file (ShowsPartition self.now.types self.now.end place self.now.file)) }
-        ensures undamaged { IfErr result (SparesPlace (H.view host.old) self.now place) }
-        ensures named { held.new.file ≡ self.now.file }
-        ensures held { IsHeld held.new (H.view host.new).files }
-        ensures page { IfOk result (λ read. held.new.page ≡ Some ((place + 3 + length (body read.0 read.1)) / 4096)) }
+        ensures damaged { IfErr result (DamageShown (H.view host.old) self.now.file (ShowsPartition self.now.types self.now.end place self.now.file)) }
+        ensures undamaged { IfErr result (NoFalsePartitionDamage (H.view host.old) self.now place) }
+        ensures named { buffered.new.file ≡ self.now.file }
+        ensures buffered { IsBuffered buffered.new (H.view host.new).files }
+        ensures page { IfOk result (λ read. buffered.new.page ≡ Some ((place + 3 + length (body read.0 read.1)) / 4096)) }
         ensures read { HasRead (P.agrees pages.new) (P.covers pages.old) (P.covers pages.new) (H.view host.old) (H.view host.new) self.now.file }
         ensures causes { ReadsAtMost 2050 (H.view host.old) (H.view host.new) result }
-        ensures reads { (partitioner : Partitioner) (content : Content) (key : Bytes) (part : Part) → IsOpenOn (H.view host.old) self.now partitioner content → StandsAt content place key part → (H.view host.new).reads ≤ (H.view host.old).reads + fresh_cost held.old.page place (length (body key part)) }
+        ensures reads { (partitioner : Partitioner) (content : Content) (key : Bytes) (part : Part) → IsOpenOn (H.view host.old) self.now partitioner content → StandsAt content place key part → (H.view host.new).reads ≤ (H.view host.old).reads + partition_reads buffered.old.page place (length (body key part)) }
     {
-        partition_at(alloc, host, pages, held, &self.types, self.end, place)
+        partition_at(alloc, host, pages, buffered, &self.types, self.end, place)
     }
 
     /// Reads the partition at this offset, which is that of a pair of the key tree.
@@ -165,17 +165,17 @@ impl DataFile {
         place: u64,
     ) -> Result<(Key, Partition), ReadFault>
         requires read { CanRead (P.agrees pages.old) (H.view host.old) self.now.file }
-        ensures ok { IfOk result (λ read. Gives (H.view host.old) self.now place read.0 read.1) }
+        ensures ok { IfOk result (λ read. ReadsPartition (H.view host.old) self.now place read.0 read.1) }
         ensures in_table { IfOk result (λ read. IsBodyOf self.now.types read.0 read.1) }
-        ensures damaged { IfErr result (Shown (H.view host.old) self.now.file (ShowsPartition self.now.types self.now.end place self.now.file)) }
-        ensures undamaged { IfErr result (SparesPlace (H.view host.old) self.now place) }
+        ensures damaged { IfErr result (DamageShown (H.view host.old) self.now.file (ShowsPartition self.now.types self.now.end place self.now.file)) }
+        ensures undamaged { IfErr result (NoFalsePartitionDamage (H.view host.old) self.now place) }
         ensures read { HasRead (P.agrees pages.new) (P.covers pages.old) (P.covers pages.new) (H.view host.old) (H.view host.new) self.now.file }
         ensures causes { ReadsAtMost 2050 (H.view host.old) (H.view host.new) result }
         // It reads only the pages on which the partition lies, where the file is a data file.
-        ensures reads { (partitioner : Partitioner) (content : Content) (key : Bytes) (part : Part) → IsOpenOn (H.view host.old) self.now partitioner content → StandsAt content place key part → (H.view host.new).reads ≤ (H.view host.old).reads + cost place (length (body key part)) }
+        ensures reads { (partitioner : Partitioner) (content : Content) (key : Bytes) (part : Part) → IsOpenOn (H.view host.old) self.now partitioner content → StandsAt content place key part → (H.view host.new).reads ≤ (H.view host.old).reads + partition_pages place (length (body key part)) }
     {
-        let mut held = self.hold();
-        self.at_held(alloc, host, pages, &mut held, place)
+        let mut buffered = self.buffered_file();
+        self.at_buffered(alloc, host, pages, &mut buffered, place)
     }
 
     /// Reads the key of the partition at this offset, which is that of a pair of the key tree.
@@ -187,12 +187,12 @@ impl DataFile {
         place: u64,
     ) -> Result<Key, ReadFault>
         requires read { CanRead (P.agrees pages.old) (H.view host.old) self.now.file }
-        ensures ok { IfOk result (λ key. GivesKey (H.view host.old) self.now place key) }
-        ensures damaged { IfErr result (Shown (H.view host.old) self.now.file (ShowsPartition self.now.types self.now.end place self.now.file)) }
-        ensures undamaged { IfErr result (SparesPlace (H.view host.old) self.now place) }
+        ensures ok { IfOk result (λ key. ReadsKey (H.view host.old) self.now place key) }
+        ensures damaged { IfErr result (DamageShown (H.view host.old) self.now.file (ShowsPartition self.now.types self.now.end place self.now.file)) }
+        ensures undamaged { IfErr result (NoFalsePartitionDamage (H.view host.old) self.now place) }
         ensures read { HasRead (P.agrees pages.new) (P.covers pages.old) (P.covers pages.new) (H.view host.old) (H.view host.new) self.now.file }
         ensures causes { ReadsAtMost 2050 (H.view host.old) (H.view host.new) result }
-        ensures reads { (partitioner : Partitioner) (content : Content) (key : Bytes) (part : Part) → IsOpenOn (H.view host.old) self.now partitioner content → StandsAt content place key part → (H.view host.new).reads ≤ (H.view host.old).reads + cost place (length (body key part)) }
+        ensures reads { (partitioner : Partitioner) (content : Content) (key : Bytes) (part : Part) → IsOpenOn (H.view host.old) self.now partitioner content → StandsAt content place key part → (H.view host.new).reads ≤ (H.view host.old).reads + partition_pages place (length (body key part)) }
     {
         let (key, _part) = self.at(alloc, host, pages, place)?;
         Ok(key)
@@ -210,14 +210,14 @@ impl DataFile {
     ) -> Result<Option<Partition>, ReadFault>
         requires read { CanRead (P.agrees pages.old) (H.view host.old) self.now.file }
         ensures ok { IfOk result (λ found. FindsKey (H.view host.old) self.now token key.now found) }
-        ensures damaged { IfErr result (Shown (H.view host.old) self.now.file (ShowsData self.now)) }
-        ensures undamaged { IfErr result (SparesOpened (H.view host.old) self.now) }
+        ensures damaged { IfErr result (DamageShown (H.view host.old) self.now.file (ShowsData self.now)) }
+        ensures undamaged { IfErr result (NoFalseOpenedDamage (H.view host.old) self.now) }
         ensures read { HasRead (P.agrees pages.new) (P.covers pages.old) (P.covers pages.new) (H.view host.old) (H.view host.new) self.now.file }
         ensures causes { (most : ℕ) → self.now.tree.pairs ≤ most → ReadsAtMost (2 * height most self.now.tree.pairs + 2 + 2051 * self.now.tree.pairs) (H.view host.old) (H.view host.new) result }
         // It reads at most two pages a level and two more, and the pages of the partitions with the token and one for each,
         // where the file is a data file.
-        ensures reads { (most : ℕ) (partitioner : Partitioner) (content : Content) → self.now.tree.pairs ≤ most → IsOpenOn (H.view host.old) self.now partitioner content → HaveTokens partitioner content
-            → (H.view host.new).reads ≤ (H.view host.old).reads + (2 * height most self.now.tree.pairs + 2 + token_cost partitioner token (length header) content) }
+        ensures reads { (most : ℕ) (partitioner : Partitioner) (content : Content) → self.now.tree.pairs ≤ most → IsOpenOn (H.view host.old) self.now partitioner content → TokensFit partitioner content
+            → (H.view host.new).reads ≤ (H.view host.old).reads + (2 * height most self.now.tree.pairs + 2 + token_reads partitioner token (length header) content) }
     {
         find_partition(alloc, host, pages, self, token, key)
     }

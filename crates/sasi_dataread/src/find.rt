@@ -6,25 +6,25 @@ ghost use Rattle.sasi_host.specs.Names.{Bytes};
 ghost use Rattle.sasi_host.specs.View.{ReadsAtMost};
 ghost use Rattle.sasi_body.specs.Format.{body};
 ghost use Rattle.sasi_tokentree.specs.Heights.{height};
-ghost use Rattle.sasi_host.specs.Damages.{Shown};
-ghost use Rattle.sasi_host.specs.Held.{IsHeld};
+ghost use Rattle.sasi_host.specs.Damages.{DamageShown};
+ghost use Rattle.sasi_host.specs.Buffered.{IsBuffered};
 ghost use Rattle.sasi_host.specs.PageReading.{CanRead, HasRead};
 ghost use Rattle.sasi_datawrite.specs.Format.{Content, header};
 ghost use Rattle.sasi_dataread.specs.Opened.{StandsAt};
-ghost use Rattle.sasi_dataread.specs.Reads.{IsOpenOn, SparesPlace};
-ghost use Rattle.sasi_dataread.specs.Bodies.{fresh_cost};
+ghost use Rattle.sasi_dataread.specs.Reads.{IsOpenOn, NoFalsePartitionDamage};
+ghost use Rattle.sasi_dataread.specs.Bodies.{partition_reads};
 ghost use Rattle.sasi_dataread.specs.Damages.{ShowsData, ShowsPartition};
-ghost use Rattle.sasi_dataread.specs.Walks.{HaveTokens, SparesOpened};
-ghost use Rattle.sasi_dataread.specs.Finds.{FindsKey, GivesWith, LeadsTo, token_cost};
+ghost use Rattle.sasi_dataread.specs.Scans.{TokensFit, NoFalseOpenedDamage};
+ghost use Rattle.sasi_dataread.specs.Finds.{FindsKey, ReadsPartitionOfKey, LeadsTo, token_reads};
 
 use crate::DataFile;
 use sasi_cells::Partition;
-use sasi_host::{HeldPage, Host, PageReader, ReadFault};
+use sasi_host::{BufferedFile, Host, PageReader, ReadFault};
 use sasi_types::{Key, Pair, Token};
 use std::alloc::Global;
 
 // The offset of the pair, if it has this token.
-fn place_for(next: Option<Pair>, token: Token) -> Option<u64>
+fn offset_for(next: Option<Pair>, token: Token) -> Option<u64>
     ensures { LeadsTo token next result }
 {
     let pair = next?;
@@ -35,28 +35,28 @@ fn place_for(next: Option<Pair>, token: Token) -> Option<u64>
 }
 
 // Reads the partition at this offset, if it has this key.
-fn part_with<H: Host, P: PageReader>(
+fn partition_with_key<H: Host, P: PageReader>(
     alloc: Global,
     host: &mut H,
     pages: &mut P,
     opened: &DataFile,
-    held: &mut HeldPage,
+    buffered: &mut BufferedFile,
     place: u64,
     key: &Key,
 ) -> Result<Option<Partition>, ReadFault>
     requires read { CanRead (P.agrees pages.old) (H.view host.old) opened.now.file }
-    requires held { IsHeld held.old (H.view host.old).files }
-    requires named { held.old.file ≡ opened.now.file }
-    ensures ok { IfOk result (λ found. GivesWith (H.view host.old) opened.now place key.now found) }
-    ensures damaged { IfErr result (Shown (H.view host.old) opened.now.file (ShowsPartition opened.now.types opened.now.end place opened.now.file)) }
-    ensures undamaged { IfErr result (SparesPlace (H.view host.old) opened.now place) }
-    ensures named { held.new.file ≡ opened.now.file }
-    ensures held { IsHeld held.new (H.view host.new).files }
+    requires buffered { IsBuffered buffered.old (H.view host.old).files }
+    requires named { buffered.old.file ≡ opened.now.file }
+    ensures ok { IfOk result (λ found. ReadsPartitionOfKey (H.view host.old) opened.now place key.now found) }
+    ensures damaged { IfErr result (DamageShown (H.view host.old) opened.now.file (ShowsPartition opened.now.types opened.now.end place opened.now.file)) }
+    ensures undamaged { IfErr result (NoFalsePartitionDamage (H.view host.old) opened.now place) }
+    ensures named { buffered.new.file ≡ opened.now.file }
+    ensures buffered { IsBuffered buffered.new (H.view host.new).files }
     ensures read { HasRead (P.agrees pages.new) (P.covers pages.old) (P.covers pages.new) (H.view host.old) (H.view host.new) opened.now.file }
     ensures causes { ReadsAtMost 2050 (H.view host.old) (H.view host.new) result }
-    ensures reads { (partitioner : Partitioner) (content : Content) (key : Bytes) (part : Part) → IsOpenOn (H.view host.old) opened.now partitioner content → StandsAt content place key part → (H.view host.new).reads ≤ (H.view host.old).reads + fresh_cost held.old.page place (length (body key part)) }
+    ensures reads { (partitioner : Partitioner) (content : Content) (key : Bytes) (part : Part) → IsOpenOn (H.view host.old) opened.now partitioner content → StandsAt content place key part → (H.view host.new).reads ≤ (H.view host.old).reads + partition_reads buffered.old.page place (length (body key part)) }
 {
-    let (other, part) = opened.at_held(alloc, host, pages, held, place)?;
+    let (other, part) = opened.at_buffered(alloc, host, pages, buffered, place)?;
     if *key != other {
         return Ok(None);
     }
@@ -74,21 +74,21 @@ pub fn find_partition<H: Host, P: PageReader>(
 ) -> Result<Option<Partition>, ReadFault>
     requires read { CanRead (P.agrees pages.old) (H.view host.old) opened.now.file }
     ensures ok { IfOk result (λ found. FindsKey (H.view host.old) opened.now token key.now found) }
-    ensures damaged { IfErr result (Shown (H.view host.old) opened.now.file (ShowsData opened.now)) }
-    ensures undamaged { IfErr result (SparesOpened (H.view host.old) opened.now) }
+    ensures damaged { IfErr result (DamageShown (H.view host.old) opened.now.file (ShowsData opened.now)) }
+    ensures undamaged { IfErr result (NoFalseOpenedDamage (H.view host.old) opened.now) }
     ensures read { HasRead (P.agrees pages.new) (P.covers pages.old) (P.covers pages.new) (H.view host.old) (H.view host.new) opened.now.file }
     ensures causes { (most : ℕ) → opened.now.tree.pairs ≤ most → ReadsAtMost (2 * height most opened.now.tree.pairs + 2 + 2051 * opened.now.tree.pairs) (H.view host.old) (H.view host.new) result }
-    ensures reads { (most : ℕ) (partitioner : Partitioner) (content : Content) → opened.now.tree.pairs ≤ most → IsOpenOn (H.view host.old) opened.now partitioner content → HaveTokens partitioner content
-        → (H.view host.new).reads ≤ (H.view host.old).reads + (2 * height most opened.now.tree.pairs + 2 + token_cost partitioner token (length header) content) }
+    ensures reads { (most : ℕ) (partitioner : Partitioner) (content : Content) → opened.now.tree.pairs ≤ most → IsOpenOn (H.view host.old) opened.now partitioner content → TokensFit partitioner content
+        → (H.view host.new).reads ≤ (H.view host.old).reads + (2 * height most opened.now.tree.pairs + 2 + token_reads partitioner token (length header) content) }
 {
     let mut tree = opened.tree();
-    let mut held = opened.hold();
+    let mut buffered = opened.buffered_file();
     let mut next = tree.first(host, pages, token)?;
     for _turn in 0..opened.partitions() {
-        let Some(place) = place_for(next, token) else {
+        let Some(place) = offset_for(next, token) else {
             return Ok(None);
         };
-        let found = part_with(alloc, host, pages, opened, &mut held, place, key)?;
+        let found = partition_with_key(alloc, host, pages, opened, &mut buffered, place, key)?;
         if found.is_some() {
             return Ok(found);
         }

@@ -4,11 +4,11 @@
 
 mod data_file;
 mod find;
-mod frame;
+mod footer;
 mod partition;
-mod run;
+mod file_bytes;
 mod types;
 mod walk;
 
 pub use data_file::DataFile;
-pub use walk::DataWalk;
+pub use walk::Walk;

@@ -7,22 +7,22 @@ ghost use Rattle.sasi_host.specs.declared.name.FileName.{FileName};
 ghost use Rattle.sasi_host.specs.declared.fault.ReadFault.TheVariants as read_fault;
 ghost use Rattle.sasi_host.specs.Names.{Bytes};
 ghost use Rattle.sasi_host.specs.View.{ReadsAtMost, contents};
-ghost use Rattle.sasi_host.specs.Damages.{HasAt, OnDamage, Shown};
-ghost use Rattle.sasi_host.specs.Held.{fresh_pages};
+ghost use Rattle.sasi_host.specs.Damages.{HasAt, OnDamage, DamageShown};
+ghost use Rattle.sasi_host.specs.Buffered.{unbuffered_pages};
 ghost use Rattle.sasi_host.specs.PageReading.{CanReadOn, HasReadOn};
 ghost use Rattle.sasi_body.specs.declared.fault.BodyFault.TheVariants as body_fault;
 ghost use Rattle.sasi_body.specs.Format.{body};
-ghost use Rattle.sasi_body.specs.Seen.{IsFaultOf};
+ghost use Rattle.sasi_body.specs.Faults.{IsFaultOf};
 ghost use Rattle.sasi_body.specs.Typed.{IsBodyOf};
 ghost use Rattle.sasi_dataread.specs.Damages.{ShowsPartition};
-ghost use Rattle.sasi_dataread.specs.Bodies.{sized, fresh_cost, IsLength, IsPlacedIn, SparesLength, SparesSized, SparesBody};
+ghost use Rattle.sasi_dataread.specs.Bodies.{length_prefixed, partition_reads, IsLength, IsWithinBody, NoFalseLengthDamage, NoFalseBytesDamage, NoFalseBodyDamage};
 
-use crate::run::read_run;
+use crate::file_bytes::read_bytes;
 use sasi_body::{BodyFault, read_body};
 use sasi_cells::Partition;
 use sasi_fields::FieldReader;
 use sasi_host::{
-    Damage, FileName, FormatRule, HeldPage, Host, PageReader, ReadFault, found, too_short,
+    Damage, FileName, FormatRule, BufferedFile, Host, PageReader, ReadFault, found, unexpected_end,
 };
 use sasi_types::{Key, TypeList};
 use std::alloc::Global;
@@ -31,7 +31,7 @@ use std::alloc::Global;
 const LENGTH: u64 = 4;
 
 // No file is longer.
-const LARGEST_FILE: u64 = 1 << 62;
+const MAX_FILE_SIZE: u64 = 1 << 62;
 
 // No body has so many bytes.
 const BODY_LIMIT: u64 = 1 << 23;
@@ -58,25 +58,25 @@ fn is_wrong_length(count: u64, room: u64) -> bool
 fn read_length<H: Host, P: PageReader>(
     host: &mut H,
     pages: &mut P,
-    held: &mut HeldPage,
+    buffered: &mut BufferedFile,
     end: u64,
     place: u64,
 ) -> Result<u64, ReadFault>
-    requires read { CanReadOn (P.agrees pages.old) (H.view host.old) held.old }
-    ensures ok { IfOk result (λ count. (bytes : Bytes) → contents (H.view host.old) held.old.file ≡ Some bytes → HasAt bytes place (to_be_bytes w32 count)) }
+    requires read { CanReadOn (P.agrees pages.old) (H.view host.old) buffered.old }
+    ensures ok { IfOk result (λ count. (bytes : Bytes) → contents (H.view host.old) buffered.old.file ≡ Some bytes → HasAt bytes place (to_be_bytes w32 count)) }
     ensures length { IfOk result (IsLength end place) }
-    ensures damaged { (types : List ColumnType) → IfErr result (Shown (H.view host.old) held.old.file (ShowsPartition types end place held.old.file)) }
-    ensures undamaged { IfErr result (SparesLength (H.view host.old) held.old.file end place) }
-    ensures read { HasReadOn (P.agrees pages.new) (P.covers pages.old) (P.covers pages.new) (H.view host.old) (H.view host.new) held.old held.new }
-    ensures page { OnOk result (held.new.page ≡ Some ((place + 3) / 4096)) }
-    ensures causes { ReadsAtMost (fresh_pages held.old.page place 4) (H.view host.old) (H.view host.new) result }
+    ensures damaged { (types : List ColumnType) → IfErr result (DamageShown (H.view host.old) buffered.old.file (ShowsPartition types end place buffered.old.file)) }
+    ensures undamaged { IfErr result (NoFalseLengthDamage (H.view host.old) buffered.old.file end place) }
+    ensures read { HasReadOn (P.agrees pages.new) (P.covers pages.old) (P.covers pages.new) (H.view host.old) (H.view host.new) buffered.old buffered.new }
+    ensures page { OnOk result (buffered.new.page ≡ Some ((place + 3) / 4096)) }
+    ensures causes { ReadsAtMost (unbuffered_pages buffered.old.page place 4) (H.view host.old) (H.view host.new) result }
 {
-    let file = held.file();
-    if place > LARGEST_FILE {
-        return Err(too_short(host, file));
+    let file = buffered.file();
+    if place > MAX_FILE_SIZE {
+        return Err(unexpected_end(host, file));
     }
     let mut field = [0; LENGTH as usize];
-    held.read_into(host, pages, place, &mut field)?;
+    buffered.read_into(host, pages, place, &mut field)?;
     let count = u64::from(length_in(&field));
     if is_wrong_length(count, end.saturating_sub(place + LENGTH)) {
         let damage = found(file, place, FormatRule::Number, &field);
@@ -86,26 +86,26 @@ fn read_length<H: Host, P: PageReader>(
 }
 
 // Reads the bytes of the body at this offset.
-fn read_sized<H: Host, P: PageReader>(
+fn read_body_bytes<H: Host, P: PageReader>(
     alloc: Global,
     host: &mut H,
     pages: &mut P,
-    held: &mut HeldPage,
+    buffered: &mut BufferedFile,
     end: u64,
     place: u64,
 ) -> Result<Vec<u8>, ReadFault>
-    requires read { CanReadOn (P.agrees pages.old) (H.view host.old) held.old }
-    ensures ok { IfOk result (λ read. (bytes : Bytes) → contents (H.view host.old) held.old.file ≡ Some bytes → HasAt bytes place (sized read.items)) }
+    requires read { CanReadOn (P.agrees pages.old) (H.view host.old) buffered.old }
+    ensures ok { IfOk result (λ read. (bytes : Bytes) → contents (H.view host.old) buffered.old.file ≡ Some bytes → HasAt bytes place (length_prefixed read.items)) }
     ensures length { IfOk result (λ read. IsLength end place (length read.items)) }
-    ensures damaged { (types : List ColumnType) → IfErr result (Shown (H.view host.old) held.old.file (ShowsPartition types end place held.old.file)) }
-    ensures undamaged { IfErr result (SparesSized (H.view host.old) held.old.file end place) }
-    ensures read { HasReadOn (P.agrees pages.new) (P.covers pages.old) (P.covers pages.new) (H.view host.old) (H.view host.new) held.old held.new }
-    ensures page { IfOk result (λ read. held.new.page ≡ Some ((place + 3 + length read.items) / 4096)) }
+    ensures damaged { (types : List ColumnType) → IfErr result (DamageShown (H.view host.old) buffered.old.file (ShowsPartition types end place buffered.old.file)) }
+    ensures undamaged { IfErr result (NoFalseBytesDamage (H.view host.old) buffered.old.file end place) }
+    ensures read { HasReadOn (P.agrees pages.new) (P.covers pages.old) (P.covers pages.new) (H.view host.old) (H.view host.new) buffered.old buffered.new }
+    ensures page { IfOk result (λ read. buffered.new.page ≡ Some ((place + 3 + length read.items) / 4096)) }
     ensures causes { ReadsAtMost 2050 (H.view host.old) (H.view host.new) result }
-    ensures reads { (bytes body : Bytes) → contents (H.view host.old) held.old.file ≡ Some bytes → HasAt bytes place (sized body) → length body < 2 ^ 32 → (H.view host.new).reads ≤ (H.view host.old).reads + fresh_cost held.old.page place (length body) }
+    ensures reads { (bytes body : Bytes) → contents (H.view host.old) buffered.old.file ≡ Some bytes → HasAt bytes place (length_prefixed body) → length body < 2 ^ 32 → (H.view host.new).reads ≤ (H.view host.old).reads + partition_reads buffered.old.page place (length body) }
 {
-    let count = read_length(host, pages, held, end, place)?;
-    let body = read_run(alloc, host, pages, held, place + LENGTH, count as usize)?;
+    let count = read_length(host, pages, buffered, end, place)?;
+    let body = read_bytes(alloc, host, pages, buffered, place + LENGTH, count as usize)?;
     Ok(body)
 }
 
@@ -113,8 +113,8 @@ fn read_sized<H: Host, P: PageReader>(
 fn fault_in_file(file: FileName, place: u64, bytes: &[u8], fault: BodyFault) -> ReadFault
     requires short { length bytes.now < 2 ^ 23 }
     requires place { place + 4 + length bytes.now < 2 ^ 64 }
-    requires within { IsPlacedIn (length bytes.now) fault }
-    ensures shown { (types : List ColumnType) (end : ℕ) (whole : Bytes) → IsFaultOf types bytes.now fault → HasAt whole place (sized bytes.now) → OnDamage (ShowsPartition types end place file whole) result }
+    requires within { IsWithinBody (length bytes.now) fault }
+    ensures shown { (types : List ColumnType) (end : ℕ) (whole : Bytes) → IsFaultOf types bytes.now fault → HasAt whole place (length_prefixed bytes.now) → OnDamage (ShowsPartition types end place file whole) result }
     ensures memory { fault ≡ body_fault.OutOfMemory → result ≡ read_fault.OutOfMemory }
     ensures works { result ≡ read_fault.Failed → ⊥ }
 {
@@ -125,7 +125,7 @@ fn fault_in_file(file: FileName, place: u64, bytes: &[u8], fault: BodyFault) -> 
             let field = length.to_be_bytes();
             ReadFault::Damaged(found(file, place, FormatRule::Number, &field))
         }
-        BodyFault::Broken(broken) => ReadFault::Damaged(Damage {
+        BodyFault::Damaged(broken) => ReadFault::Damaged(Damage {
             file,
             at: place + LENGTH + broken.at as u64,
             rule: broken.rule,
@@ -139,23 +139,23 @@ pub fn partition_at<H: Host, P: PageReader>(
     alloc: Global,
     host: &mut H,
     pages: &mut P,
-    held: &mut HeldPage,
+    buffered: &mut BufferedFile,
     types: &TypeList,
     end: u64,
     place: u64,
 ) -> Result<(Key, Partition), ReadFault>
-    requires read { CanReadOn (P.agrees pages.old) (H.view host.old) held.old }
-    ensures ok { IfOk result (λ read. (bytes : Bytes) → contents (H.view host.old) held.old.file ≡ Some bytes → HasAt bytes place (sized (body read.0 read.1))) }
+    requires read { CanReadOn (P.agrees pages.old) (H.view host.old) buffered.old }
+    ensures ok { IfOk result (λ read. (bytes : Bytes) → contents (H.view host.old) buffered.old.file ≡ Some bytes → HasAt bytes place (length_prefixed (body read.0 read.1))) }
     ensures in_table { IfOk result (λ read. IsBodyOf types.now read.0 read.1) }
-    ensures damaged { IfErr result (Shown (H.view host.old) held.old.file (ShowsPartition types.now end place held.old.file)) }
-    ensures undamaged { IfErr result (SparesBody (H.view host.old) held.old.file types.now end place) }
-    ensures read { HasReadOn (P.agrees pages.new) (P.covers pages.old) (P.covers pages.new) (H.view host.old) (H.view host.new) held.old held.new }
-    ensures page { IfOk result (λ read. held.new.page ≡ Some ((place + 3 + length (body read.0 read.1)) / 4096)) }
+    ensures damaged { IfErr result (DamageShown (H.view host.old) buffered.old.file (ShowsPartition types.now end place buffered.old.file)) }
+    ensures undamaged { IfErr result (NoFalseBodyDamage (H.view host.old) buffered.old.file types.now end place) }
+    ensures read { HasReadOn (P.agrees pages.new) (P.covers pages.old) (P.covers pages.new) (H.view host.old) (H.view host.new) buffered.old buffered.new }
+    ensures page { IfOk result (λ read. buffered.new.page ≡ Some ((place + 3 + length (body read.0 read.1)) / 4096)) }
     ensures causes { ReadsAtMost 2050 (H.view host.old) (H.view host.new) result }
-    ensures reads { (bytes part : Bytes) → contents (H.view host.old) held.old.file ≡ Some bytes → HasAt bytes place (sized part) → length part < 2 ^ 32 → (H.view host.new).reads ≤ (H.view host.old).reads + fresh_cost held.old.page place (length part) }
+    ensures reads { (bytes part : Bytes) → contents (H.view host.old) buffered.old.file ≡ Some bytes → HasAt bytes place (length_prefixed part) → length part < 2 ^ 32 → (H.view host.new).reads ≤ (H.view host.old).reads + partition_reads buffered.old.page place (length part) }
 {
-    let file = held.file();
-    let bytes = read_sized(alloc, host, pages, held, end, place)?;
+    let file = buffered.file();
+    let bytes = read_body_bytes(alloc, host, pages, buffered, end, place)?;
     match read_body(alloc, &bytes, types) {
         Ok(read) => Ok(read),
         Err(fault) => Err(fault_in_file(file, place, &bytes, fault)),

@@ -2,19 +2,19 @@
 ghost use Rattle.std.specs.Prelude.{◌≡◌, [], IfErr, IfOk, None};
 ghost use Rattle.sasi_host.specs.declared.name.FileName.{FileName};
 ghost use Rattle.sasi_host.specs.View.{ReadsAtMost};
-ghost use Rattle.sasi_host.specs.Damages.{Shown};
-ghost use Rattle.sasi_host.specs.Held.{IsHeld};
+ghost use Rattle.sasi_host.specs.Damages.{DamageShown};
+ghost use Rattle.sasi_host.specs.Buffered.{IsBuffered};
 ghost use Rattle.sasi_host.specs.PageReading.{CanRead, HasRead};
 ghost use Rattle.sasi_types.specs.declared.partitioner.Partitioner.{Partitioner};
 ghost use Rattle.sasi_datawrite.specs.Format.{Content};
 ghost use Rattle.sasi_dataread.specs.Reads.{IsOpenOn};
-ghost use Rattle.sasi_dataread.specs.Paces.{Goes, IsAlong, walk_of};
+ghost use Rattle.sasi_dataread.specs.ReadCosts.{ReadsEachPageOnce, IsSequential, scan_of};
 ghost use Rattle.sasi_dataread.specs.Damages.{ShowsData};
-ghost use Rattle.sasi_dataread.specs.Walks.{GivesPartition, HaveTokens, SparesOpened};
+ghost use Rattle.sasi_dataread.specs.Scans.{ReadsNextPartition, TokensFit, NoFalseOpenedDamage};
 
 use crate::DataFile;
 use sasi_cells::Partition;
-use sasi_host::{FileName, HeldPage, Host, PageReader, ReadFault};
+use sasi_host::{FileName, BufferedFile, Host, PageReader, ReadFault};
 use sasi_tokentree::Tree;
 use sasi_types::{Key, Token};
 use std::alloc::Global;
@@ -23,31 +23,31 @@ use std::marker::Model;
 /// A scan of a data file, from its first partition on. Its view is the file, how many partitions it has passed, and its
 /// buffered pages.
 #[derive(Drop)]
-pub struct DataWalk {
+pub struct Walk {
     opened: DataFile,
     tree: Tree,
-    held: HeldPage,
+    buffered: BufferedFile,
 }
 
-impl Model for DataWalk {
+impl Model for Walk {
     ghost use Rattle.std.specs.Prelude.{◌≡◌};
-    ghost use Rattle.sasi_dataread.specs.Walks.{Walking};
+    ghost use Rattle.sasi_dataread.specs.Scans.{DataScan};
 
-    ghost Value = { Walking };
+    ghost Value = { DataScan };
 
-    ghost view = { λ a. record { opened = a.opened; passed = a.tree.passed; pairs_held = a.tree.held; held = a.held } };
+    ghost view = { λ a. record { opened = a.opened; passed = a.tree.passed; pairs_buffered = a.tree.buffered; buffered = a.buffered } };
 
-    ghost invariant = { λ a. (a.tree.held.file ≡ a.opened.file) × (a.tree.tree ≡ a.opened.tree) × (a.held.file ≡ a.opened.file) };
+    ghost invariant = { λ a. (a.tree.buffered.file ≡ a.opened.file) × (a.tree.tree ≡ a.opened.tree) × (a.buffered.file ≡ a.opened.file) };
 }
 
-impl DataWalk {
+impl Walk {
     // A scan of this file, before its first partition.
-    pub(crate) fn new(opened: DataFile) -> DataWalk
-        ensures { result ≡ record { opened = opened; passed = 0; pairs_held = record { file = opened.file; page = None; bytes = [] }; held = record { file = opened.file; page = None; bytes = [] } } }
+    pub(crate) fn new(opened: DataFile) -> Walk
+        ensures { result ≡ record { opened = opened; passed = 0; pairs_buffered = record { file = opened.file; page = None; bytes = [] }; buffered = record { file = opened.file; page = None; bytes = [] } } }
     {
         let tree = opened.tree();
-        let held = opened.hold();
-        DataWalk { opened, tree, held }
+        let buffered = opened.buffered_file();
+        Walk { opened, tree, buffered }
     }
 
     /// The next partition, with the token of its key; None exactly at the end. After a fault its position is before that
@@ -59,62 +59,62 @@ impl DataWalk {
         pages: &mut P,
     ) -> Result<Option<(Token, Key, Partition)>, ReadFault>
         requires read { CanRead (P.agrees pages.old) (H.view host.old) self.old.opened.file }
-        requires pairs_held { IsHeld self.old.pairs_held (H.view host.old).files }
-        requires held { IsHeld self.old.held (H.view host.old).files }
-        ensures ok { IfOk result (λ found. GivesPartition (H.view host.old) self.old.opened self.old.passed self.new.passed found) }
-        ensures damaged { IfErr result (Shown (H.view host.old) self.old.opened.file (ShowsData self.old.opened)) }
-        ensures undamaged { IfErr result (SparesOpened (H.view host.old) self.old.opened) }
+        requires pairs_buffered { IsBuffered self.old.pairs_buffered (H.view host.old).files }
+        requires buffered { IsBuffered self.old.buffered (H.view host.old).files }
+        ensures ok { IfOk result (λ found. ReadsNextPartition (H.view host.old) self.old.opened self.old.passed self.new.passed found) }
+        ensures damaged { IfErr result (DamageShown (H.view host.old) self.old.opened.file (ShowsData self.old.opened)) }
+        ensures undamaged { IfErr result (NoFalseOpenedDamage (H.view host.old) self.old.opened) }
         ensures read { HasRead (P.agrees pages.new) (P.covers pages.old) (P.covers pages.new) (H.view host.old) (H.view host.new) self.old.opened.file }
-        ensures pairs_held { IsHeld self.new.pairs_held (H.view host.new).files }
-        ensures held { IsHeld self.new.held (H.view host.new).files }
+        ensures pairs_buffered { IsBuffered self.new.pairs_buffered (H.view host.new).files }
+        ensures buffered { IsBuffered self.new.buffered (H.view host.new).files }
         ensures causes { ReadsAtMost 2052 (H.view host.old) (H.view host.new) result }
         // A sequential scan reads each page once.
-        ensures reads { IfOk result (λ _. (partitioner : Partitioner) (content : Content) (is : IsOpenOn (H.view host.old) self.old.opened partitioner content) → HaveTokens partitioner content → IsAlong is.bytes content self.old → Goes is.bytes content (H.view host.old).reads (H.view host.new).reads self.old self.new) }
+        ensures reads { IfOk result (λ _. (partitioner : Partitioner) (content : Content) (is : IsOpenOn (H.view host.old) self.old.opened partitioner content) → TokensFit partitioner content → IsSequential is.bytes content self.old → ReadsEachPageOnce is.bytes content (H.view host.old).reads (H.view host.new).reads self.old self.new) }
         ensures opened { self.new.opened ≡ self.old.opened }
     {
-        next_of(
+        next_partition(
             alloc,
             host,
             pages,
             &self.opened,
             &mut self.tree,
-            &mut self.held,
+            &mut self.buffered,
         )
     }
 }
 
 // Reads the next partition of the file, by its key tree.
-fn next_of<H: Host, P: PageReader>(
+fn next_partition<H: Host, P: PageReader>(
     alloc: Global,
     host: &mut H,
     pages: &mut P,
     opened: &DataFile,
     tree: &mut Tree,
-    held: &mut HeldPage,
+    buffered: &mut BufferedFile,
 ) -> Result<Option<(Token, Key, Partition)>, ReadFault>
     requires read { CanRead (P.agrees pages.old) (H.view host.old) opened.now.file }
-    requires file { tree.old.held.file ≡ opened.now.file }
+    requires file { tree.old.buffered.file ≡ opened.now.file }
     requires tree { tree.old.tree ≡ opened.now.tree }
-    requires named { held.old.file ≡ opened.now.file }
-    requires pairs_held { IsHeld tree.old.held (H.view host.old).files }
-    requires held { IsHeld held.old (H.view host.old).files }
-    ensures ok { IfOk result (λ found. GivesPartition (H.view host.old) opened.now tree.old.passed tree.new.passed found) }
-    ensures damaged { IfErr result (Shown (H.view host.old) opened.now.file (ShowsData opened.now)) }
-    ensures undamaged { IfErr result (SparesOpened (H.view host.old) opened.now) }
+    requires named { buffered.old.file ≡ opened.now.file }
+    requires pairs_buffered { IsBuffered tree.old.buffered (H.view host.old).files }
+    requires buffered { IsBuffered buffered.old (H.view host.old).files }
+    ensures ok { IfOk result (λ found. ReadsNextPartition (H.view host.old) opened.now tree.old.passed tree.new.passed found) }
+    ensures damaged { IfErr result (DamageShown (H.view host.old) opened.now.file (ShowsData opened.now)) }
+    ensures undamaged { IfErr result (NoFalseOpenedDamage (H.view host.old) opened.now) }
     ensures read { HasRead (P.agrees pages.new) (P.covers pages.old) (P.covers pages.new) (H.view host.old) (H.view host.new) opened.now.file }
-    ensures pairs_held { IsHeld tree.new.held (H.view host.new).files }
-    ensures held { IsHeld held.new (H.view host.new).files }
+    ensures pairs_buffered { IsBuffered tree.new.buffered (H.view host.new).files }
+    ensures buffered { IsBuffered buffered.new (H.view host.new).files }
     ensures causes { ReadsAtMost 2052 (H.view host.old) (H.view host.new) result }
-    ensures reads { IfOk result (λ _. (partitioner : Partitioner) (content : Content) (is : IsOpenOn (H.view host.old) opened.now partitioner content) → HaveTokens partitioner content → IsAlong is.bytes content (walk_of opened.now tree.old held.old)
-        → Goes is.bytes content (H.view host.old).reads (H.view host.new).reads (walk_of opened.now tree.old held.old) (walk_of opened.now tree.new held.new)) }
-    ensures file { tree.new.held.file ≡ tree.old.held.file }
-    ensures named { held.new.file ≡ held.old.file }
+    ensures reads { IfOk result (λ _. (partitioner : Partitioner) (content : Content) (is : IsOpenOn (H.view host.old) opened.now partitioner content) → TokensFit partitioner content → IsSequential is.bytes content (scan_of opened.now tree.old buffered.old)
+        → ReadsEachPageOnce is.bytes content (H.view host.old).reads (H.view host.new).reads (scan_of opened.now tree.old buffered.old) (scan_of opened.now tree.new buffered.new)) }
+    ensures file { tree.new.buffered.file ≡ tree.old.buffered.file }
+    ensures named { buffered.new.file ≡ buffered.old.file }
     ensures tree { tree.new.tree ≡ tree.old.tree }
 {
     let pair = match tree.next(host, pages)? {
         None => return Ok(None),
         Some(pair) => pair,
     };
-    let (key, part) = opened.at_held(alloc, host, pages, held, pair.place)?;
+    let (key, part) = opened.at_buffered(alloc, host, pages, buffered, pair.place)?;
     Ok(Some((pair.token, key, part)))
 }

@@ -5,14 +5,14 @@ use Rattle.std.specs.FinMap.{get}
 use Rattle.sasi_host.specs.declared.name.FileName.{FileName}
 use Rattle.sasi_host.specs.Names.{Bytes}
 use Rattle.sasi_host.specs.View.{View, Holds}
-use Rattle.sasi_host.specs.Disk.{Relation, Same, Changes, Step, InPlace, Anyhow, Becomes, overlay}
+use Rattle.sasi_host.specs.Disk.{Relation, Same, Changes, FileChange, InPlace, AnyChange, Becomes, overlay}
 use Rattle.sasi_host.specs.Contents.{told_before}
-use Rattle.sasi_host.specs.Moves.{changes_as}
+use Rattle.sasi_host.specs.ChangeLaws.{changes_as}
 use Rattle.sasi_types.specs.declared.tree.Pair.{Pair}
 use Rattle.sasi_types.specs.declared.tree.TreeRef.{TreeRef}
 use Rattle.sasi_tokentree.specs.Format.{tree_bytes, tree_ref}
-use Rattle.sasi_tokentree.specs.Writes.{Writes, IsPast}
-use Rattle.sasi_datawrite.specs.Format.{footer, ending}
+use Rattle.sasi_tokentree.specs.Writes.{Writes, KeepsBefore}
+use Rattle.sasi_datawrite.specs.Format.{footer, trailer}
 
 -- bytes over no bytes are behind the others
 pub overlay_behind : (old more : Bytes) → overlay old (length old) more ≡ old ++ more
@@ -27,14 +27,14 @@ holds_behind a b S file at bytes more change becomes is holds told =
     becomes bytes (holds (told_before S a b change told)) ∙ ap (λ (l : Bytes). Some l) (ap (λ (n : ℕ). overlay bytes n more) (sym is) ∙ overlay_behind bytes more)
 
 -- a call that leaves the folder as it is
-pub touches_same : (a b : View) (file : FileName) → Changes Same a b → Changes (Step file Anyhow) a b
-touches_same a b file same = changes_as a b Same (Step file Anyhow) same (λ x y is. record { others = λ name other. ap (λ d. get d name) is; this = tt })
+pub touches_same : (a b : View) (file : FileName) → Changes Same a b → Changes (FileChange file AnyChange) a b
+touches_same a b file same = changes_as a b Same (FileChange file AnyChange) same (λ x y is. record { others = λ name other. ap (λ d. get d name) is; this = tt })
 
 -- the key tree and the footer are behind what the file held
-pub ending_written : (a b c : View) (file : FileName) (end : ℕ) (pairs : List Pair) (latest : ℕ) (tree : TreeRef) (more : Bytes) → Writes a b file end
-    (tree_bytes end pairs) → tree ≡ tree_ref end pairs → more ≡ footer tree latest end
-    → ((bytes : Bytes) → Holds b file bytes → Holds c file (bytes ++ more)) → (bytes : Bytes) → length bytes ≡ end → Holds a file bytes → Holds c file (bytes ++ ending pairs latest end)
-ending_written a b c file end pairs latest tree more written referred is appended bytes at holds =
-    subst (λ (l : Bytes). Holds c file l) (append_assoc bytes (tree_bytes end pairs) (footer (tree_ref end pairs) latest end))
-    (subst (λ (l : Bytes). Holds c file (bytes ++ tree_bytes end pairs ++ l)) (is ∙ ap (λ (t : TreeRef). footer t latest end) referred)
-    (appended (bytes ++ tree_bytes end pairs) (holds_behind a b (Step file (InPlace (IsPast end))) file end bytes (tree_bytes end pairs) written.changes written.becomes at holds)))
+pub trailer_written : (a b c : View) (file : FileName) (end : ℕ) (pairs : List Pair) (max_timestamp : ℕ) (tree : TreeRef) (more : Bytes) → Writes a b file end
+    (tree_bytes end pairs) → tree ≡ tree_ref end pairs → more ≡ footer tree max_timestamp end
+    → ((bytes : Bytes) → Holds b file bytes → Holds c file (bytes ++ more)) → (bytes : Bytes) → length bytes ≡ end → Holds a file bytes → Holds c file (bytes ++ trailer pairs max_timestamp end)
+trailer_written a b c file end pairs max_timestamp tree more written referred is appended bytes at holds =
+    subst (λ (l : Bytes). Holds c file l) (append_assoc bytes (tree_bytes end pairs) (footer (tree_ref end pairs) max_timestamp end))
+    (subst (λ (l : Bytes). Holds c file (bytes ++ tree_bytes end pairs ++ l)) (is ∙ ap (λ (t : TreeRef). footer t max_timestamp end) referred)
+    (appended (bytes ++ tree_bytes end pairs) (holds_behind a b (FileChange file (InPlace (KeepsBefore end))) file end bytes (tree_bytes end pairs) written.changes written.becomes at holds)))

@@ -5,13 +5,13 @@ use Rattle.std.specs.Int.{to_be_bytes, w32}
 use Rattle.std.proofs.lemmas.List.{get_or_append_left, get_or_at, length_push, drop_at, drop_all, take_all, append-nil}
 use Rattle.sasi_types.specs.declared.tree.Pair.{Pair}
 use Rattle.sasi_types.specs.Token.{token_of}
-use Rattle.sasi_model.specs.Cells.{Partition, greatest_of}
+use Rattle.sasi_model.specs.Cells.{Partition, max_timestamp_of}
 use Rattle.sasi_host.specs.Names.{Bytes}
 use Rattle.sasi_host.specs.View.{View, Holds}
 use Rattle.sasi_tokentree.specs.Format.{pair_at, IsBefore, IsRising}
-use Rattle.sasi_datawrite.specs.Format.{Content, partition_bytes, front, header, partitions, key_pairs, greatest, ending, data_bytes}
-use Rattle.sasi_datawrite.specs.Writing.{Writer, IsWriting, IsUpTo, last_pair}
-use Rattle.sasi_datawrite.specs.Laws.{front_push, pairs_push, greatest_push}
+use Rattle.sasi_datawrite.specs.Format.{Content, partition_bytes, front, header, partitions, key_pairs, content_max_timestamp, trailer, data_bytes}
+use Rattle.sasi_datawrite.specs.Writing.{Writer, IsWriting, RiseBelow, last_pair}
+use Rattle.sasi_datawrite.specs.Laws.{front_push, pairs_push, content_max_timestamp_push}
 
 -- ---- its bytes
 
@@ -67,8 +67,8 @@ others_before pairs pair rising index lt =
     subst (λ (p : Pair). IsBefore p (pair_at (pairs ++ pair ∷ []) (index + 1))) (sym left) (subst (λ (p : Pair). IsBefore (pair_at pairs index) p) (sym right) (rising index lt))
 
 -- pairs rise with one more behind them
-pub up_to_push : (pairs : List Pair) (pair : Pair) (place next : ℕ) → IsUpTo pairs place → (last_pair pairs).token ≤ pair.token → pair.place ≡ place →
-    place < next → next ≤ 2 ^ 62 → IsUpTo (pairs ++ pair ∷ []) next
+pub up_to_push : (pairs : List Pair) (pair : Pair) (place next : ℕ) → RiseBelow pairs place → (last_pair pairs).token ≤ pair.token → pair.place ≡ place →
+    place < next → next ≤ 2 ^ 62 → RiseBelow (pairs ++ pair ∷ []) next
 up_to_push pairs pair place next up le at lt fits = record {
   rising = λ index within.
       ⊎_elim (λ less. others_before pairs pair up.rising index less) (λ same. last_before pairs pair (before (last_pair pairs) pair le (omega (arith, at, up.below))) index same)
@@ -78,8 +78,8 @@ up_to_push pairs pair place next up le at lt fits = record {
 }
 
 -- no pair rises up to the first partition
-pub up_to_none : (pairs : List Pair) → pairs ≡ [] → IsUpTo pairs 16
-up_to_none pairs none = subst (λ (l : List Pair). IsUpTo l 16) (sym none) (record {
+pub up_to_none : (pairs : List Pair) → pairs ≡ [] → RiseBelow pairs 16
+up_to_none pairs none = subst (λ (l : List Pair). RiseBelow l 16) (sym none) (record {
   rising = λ index within. absurd (omega (arith, within));
   below = omega arith;
   fits = omega arith;
@@ -89,41 +89,41 @@ up_to_none pairs none = subst (λ (l : List Pair). IsUpTo l 16) (sym none) (reco
 
 -- the content has one more partition, where the file has its bytes behind the others
 pub writing_push : (v w : View) (old new : Writer) (key : Bytes) (part : Partition) → new.file ≡ old.file → new.partitioner ≡ old.partitioner →
-    new.pairs ≡ old.pairs ++ record { token = token_of old.partitioner key; place = old.place } ∷ []
-    → new.place ≡ old.place + length (partition_bytes key part) → new.latest ≡ max old.latest (greatest_of part) →
-    ((bytes : Bytes) → length bytes ≡ old.place → Holds v old.file bytes → Holds w old.file (bytes ++ partition_bytes key part))
+    new.pairs ≡ old.pairs ++ record { token = token_of old.partitioner key; place = old.offset } ∷ []
+    → new.offset ≡ old.offset + length (partition_bytes key part) → new.max_timestamp ≡ max old.max_timestamp (max_timestamp_of part) →
+    ((bytes : Bytes) → length bytes ≡ old.offset → Holds v old.file bytes → Holds w old.file (bytes ++ partition_bytes key part))
     → (content : Content) → IsWriting v old content → IsWriting w new (content ++ (key, part) ∷ [])
 writing_push v w old new key part same_file same_partitioner pushed moved later written content is = record {
-  pairs = pushed ∙ ap (λ (n : ℕ). old.pairs ++ pair_of n ∷ []) (is.place ∙ length-append header (partitions content)) ∙ ap
+  pairs = pushed ∙ ap (λ (n : ℕ). old.pairs ++ pair_of n ∷ []) (is.offset_is ∙ length-append header (partitions content)) ∙ ap
       (λ (l : List Pair). l ++ pair_of (length header + length (partitions content)) ∷ []) is.pairs
       ∙ sym (pairs_push old.partitioner (length header) content key part) ∙ ap (λ p. key_pairs p (content ++ (key, part) ∷ [])) (sym same_partitioner);
-  place = moved ∙ ap (λ (n : ℕ). n + length (partition_bytes key part)) is.place ∙ sym (length-append (front content) (partition_bytes key part)) ∙ ap
+  offset_is = moved ∙ ap (λ (n : ℕ). n + length (partition_bytes key part)) is.offset_is ∙ sym (length-append (front content) (partition_bytes key part)) ∙ ap
       (λ (l : Bytes). length l) (sym (front_push content key part));
-  latest = later ∙ ap (λ (n : ℕ). max n (greatest_of part)) is.latest ∙ sym (greatest_push content key part);
+  max_timestamp = later ∙ ap (λ (n : ℕ). max n (max_timestamp_of part)) is.max_timestamp ∙ sym (content_max_timestamp_push content key part);
   holds = subst (λ file. Holds w file (front (content ++ (key, part) ∷ []))) (sym same_file)
-      (subst (λ (l : Bytes). Holds w old.file l) (sym (front_push content key part)) (written (front content) (sym is.place) is.holds));
+      (subst (λ (l : Bytes). Holds w old.file l) (sym (front_push content key part)) (written (front content) (sym is.offset_is) is.holds));
 }
   where
     pair_of : ℕ → Pair
     pair_of n = record { token = token_of old.partitioner key; place = n }
 
 -- a file in which nothing stands but the header
-pub writing_none : (w : View) (writer : Writer) (bytes : Bytes) → writer.pairs ≡ [] → writer.place ≡ 16 → writer.latest ≡ 0 → bytes ≡ header → Holds w writer.file bytes → IsWriting w writer []
+pub writing_none : (w : View) (writer : Writer) (bytes : Bytes) → writer.pairs ≡ [] → writer.offset ≡ 16 → writer.max_timestamp ≡ 0 → bytes ≡ header → Holds w writer.file bytes → IsWriting w writer []
 unfolding header
 writing_none w writer bytes none at first is holds = record {
   pairs = none;
-  place = at;
-  latest = first;
+  offset_is = at;
+  max_timestamp = first;
   holds = subst (λ (l : Bytes). Holds w writer.file l) is holds;
 }
 
 -- and the key tree and the footer make it a data file
-pub writing_ends : (v w : View) (writer : Writer) → ((bytes : Bytes) → length bytes ≡ writer.place → Holds v writer.file bytes → Holds w writer.file
-    (bytes ++ ending writer.pairs writer.latest writer.place))
+pub writing_ends : (v w : View) (writer : Writer) → ((bytes : Bytes) → length bytes ≡ writer.offset → Holds v writer.file bytes → Holds w writer.file
+    (bytes ++ trailer writer.pairs writer.max_timestamp writer.offset))
     → (content : Content) → IsWriting v writer content → Holds w writer.file (data_bytes writer.partitioner content)
 unfolding data_bytes
 writing_ends v w writer written content is =
-    subst (λ (l : Bytes). Holds w writer.file (front content ++ l)) (ap (λ (l : List Pair). ending l writer.latest writer.place) is.pairs ∙ ap
-    (λ (n : ℕ). ending (key_pairs writer.partitioner content) n writer.place) is.latest ∙ ap
-    (λ (n : ℕ). ending (key_pairs writer.partitioner content) (greatest content) n) is.place)
-    (written (front content) (sym is.place) is.holds)
+    subst (λ (l : Bytes). Holds w writer.file (front content ++ l)) (ap (λ (l : List Pair). trailer l writer.max_timestamp writer.offset) is.pairs ∙ ap
+    (λ (n : ℕ). trailer (key_pairs writer.partitioner content) n writer.offset) is.max_timestamp ∙ ap
+    (λ (n : ℕ). trailer (key_pairs writer.partitioner content) (content_max_timestamp content) n) is.offset_is)
+    (written (front content) (sym is.offset_is) is.holds)

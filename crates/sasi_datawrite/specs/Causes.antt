@@ -31,8 +31,8 @@ of_kit kit.OutOfMemory = pair.OutOfMemory
 -- ---- causes
 
 -- an observer reports a missing class only where it lacks it
-abbrev pub MissesLacking : {T : Type 0} → (Class → Type 0) → Result T KitFault → Type 0
-MissesLacking Lacks result = IfErr result (λ f. (class : Class) → f ≡ kit.Missing class → Lacks class)
+abbrev pub MissingOnlyIfLacking : {T : Type 0} → (Class → Type 0) → Result T KitFault → Type 0
+MissingOnlyIfLacking Lacks result = IfErr result (λ f. (class : Class) → f ≡ kit.Missing class → Lacks class)
 
 -- the counts don't fall; a failed call raises that of the disk, nothing is damaged, and a class is missing only where the observer lacks it
 pub record PushCauses {T : Type 0} (Lacks : Class → Type 0) (old new : View) (result : Result T PairFault) : Type 0 where

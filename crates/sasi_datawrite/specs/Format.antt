@@ -4,12 +4,12 @@ use Rattle.std.specs.Int.{to_be_bytes, w32, w64}
 use Rattle.std.specs.List.{flat_map, AllByRecursion}
 use Rattle.std.specs.List.Sorted.{IsStrictlySortedBy}
 use Rattle.sasi_types.specs.declared.partitioner.Partitioner.{Partitioner}
-use Rattle.sasi_types.specs.declared.place.Place.{Place}
+use Rattle.sasi_types.specs.declared.decorated_key.DecoratedKey.{DecoratedKey}
 use Rattle.sasi_types.specs.declared.tree.Pair.{Pair}
 use Rattle.sasi_types.specs.declared.tree.TreeRef.{TreeRef}
-use Rattle.sasi_types.specs.Place.{place_cmp}
+use Rattle.sasi_types.specs.DecoratedKey.{decorated_cmp}
 use Rattle.sasi_types.specs.Token.{token_of}
-use Rattle.sasi_model.specs.Cells.{Partition, greatest_of}
+use Rattle.sasi_model.specs.Cells.{Partition, max_timestamp_of}
 use Rattle.sasi_host.specs.Names.{Bytes}
 use Rattle.sasi_body.specs.Format.{body, HasBody}
 use Rattle.sasi_tokentree.specs.Format.{tree_bytes, tree_ref}
@@ -21,19 +21,19 @@ abbrev pub Content : Type 0
 Content = List (Bytes × Partition)
 
 -- the decorated key of a partition: its token and key
-abbrev pub place_of : Partitioner → Bytes × Partition → Place
-place_of partitioner one = record { token = token_of partitioner one.0; key = one.0 }
+abbrev pub decorated_key : Partitioner → Bytes × Partition → DecoratedKey
+decorated_key partitioner one = record { token = token_of partitioner one.0; key = one.0 }
 
 -- one partition at least, each with a body, rising by token and then by key
 pub record IsContent (partitioner : Partitioner) (content : Content) : Type 0 where
   pub some : 1 ≤ length content
-  pub rising : IsStrictlySortedBy place_cmp (map (place_of partitioner) content)
+  pub rising : IsStrictlySortedBy decorated_cmp (map (decorated_key partitioner) content)
   pub bodies : AllByRecursion (λ one. HasBody one.0 one.1) content
 
 -- the largest timestamp of a deletion or a cell
-abbrev pub greatest : Content → ℕ
-greatest [] = 0
-greatest (one ∷ others) = max (greatest_of one.1) (greatest others)
+abbrev pub content_max_timestamp : Content → ℕ
+content_max_timestamp [] = 0
+content_max_timestamp (one ∷ others) = max (max_timestamp_of one.1) (content_max_timestamp others)
 
 -- ---- the parts of a file
 
@@ -64,14 +64,14 @@ key_pairs partitioner content = pairs_from partitioner (length header) content
 
 -- the root of the key tree, the number of partitions, the largest timestamp, the offset where the partitions end, and "SASIDEND"
 unfoldable pub footer : TreeRef → ℕ → ℕ → Bytes
-footer tree latest end = to_be_bytes w64 tree.root ++ to_be_bytes w64 tree.pairs ++ to_be_bytes w64 latest ++ to_be_bytes w64 end ++ (83 ∷ 65 ∷ 83 ∷ 73 ∷ 68 ∷ 69 ∷ 78 ∷ 68 ∷ [])
+footer tree max_timestamp end = to_be_bytes w64 tree.root ++ to_be_bytes w64 tree.pairs ++ to_be_bytes w64 max_timestamp ++ to_be_bytes w64 end ++ (83 ∷ 65 ∷ 83 ∷ 73 ∷ 68 ∷ 69 ∷ 78 ∷ 68 ∷ [])
 
 -- the key tree of these pairs behind so many bytes, and the footer
-abbrev pub ending : List Pair → ℕ → ℕ → Bytes
-ending pairs latest end = tree_bytes end pairs ++ footer (tree_ref end pairs) latest end
+abbrev pub trailer : List Pair → ℕ → ℕ → Bytes
+trailer pairs max_timestamp end = tree_bytes end pairs ++ footer (tree_ref end pairs) max_timestamp end
 
 -- ---- the file
 
 -- the one encoding of this content
 unfoldable pub data_bytes : Partitioner → Content → Bytes
-data_bytes partitioner content = front content ++ ending (key_pairs partitioner content) (greatest content) (length (front content))
+data_bytes partitioner content = front content ++ trailer (key_pairs partitioner content) (content_max_timestamp content) (length (front content))

@@ -6,10 +6,10 @@ use Rattle.std.specs.Int.{to_be_bytes, w32}
 use Rattle.sasi_types.specs.declared.partitioner.Partitioner.{Partitioner}
 use Rattle.sasi_types.specs.declared.tree.Pair.{Pair}
 use Rattle.sasi_types.specs.Token.{token_of}
-use Rattle.sasi_model.specs.Cells.{Partition, greatest_of}
+use Rattle.sasi_model.specs.Cells.{Partition, max_timestamp_of}
 use Rattle.sasi_host.specs.Names.{Bytes}
 use Rattle.sasi_body.specs.Format.{body}
-use Rattle.sasi_datawrite.specs.Format.{Content, partition_bytes, partitions, front, header, pairs_from, greatest}
+use Rattle.sasi_datawrite.specs.Format.{Content, partition_bytes, partitions, front, header, pairs_from, content_max_timestamp}
 use Rattle.sasi_datawrite.specs.Calls.{Call, partition_calls, calls_from}
 
 -- the header has 16 bytes
@@ -69,9 +69,9 @@ calls_push partitioner at (one ∷ others) key part =
     mine = partition_calls (token_of partitioner one.0) at one.1
 
 -- the largest timestamp is the old one or its own
-pub greatest_push : (content : Content) (key : Bytes) (part : Partition) → greatest (content ++ (key, part) ∷ []) ≡ max (greatest content) (greatest_of part)
-greatest_push [] key part = omega arith
-greatest_push (one ∷ others) key part = omega (arith, greatest_push others key part)
+pub content_max_timestamp_push : (content : Content) (key : Bytes) (part : Partition) → content_max_timestamp (content ++ (key, part) ∷ []) ≡ max (content_max_timestamp content) (max_timestamp_of part)
+content_max_timestamp_push [] key part = omega arith
+content_max_timestamp_push (one ∷ others) key part = omega (arith, content_max_timestamp_push others key part)
 
 -- there is a pair for each partition
 pub pairs_length : (partitioner : Partitioner) (at : ℕ) (content : Content) → length (pairs_from partitioner at content) ≡ length content

@@ -7,7 +7,7 @@ use Rattle.sasi_host.specs.View.{View, Holds, contents}
 use Rattle.sasi_host.specs.Disk.{Relation, Changes}
 use Rattle.sasi_host.specs.Contents.{holds_where}
 use Rattle.sasi_tokentree.specs.Format.{pair_at, IsRising}
-use Rattle.sasi_datawrite.specs.Format.{Content, front, greatest, key_pairs}
+use Rattle.sasi_datawrite.specs.Format.{Content, front, content_max_timestamp, key_pairs}
 
 -- the view of a writer
 pub record Writer : Type 0 where
@@ -16,9 +16,9 @@ pub record Writer : Type 0 where
   -- the pairs of the key tree so far
   pub pairs : List Pair
   -- the offset of the next partition
-  pub place : ℕ
+  pub offset : ℕ
   -- the largest timestamp so far
-  pub latest : ℕ
+  pub max_timestamp : ℕ
   -- no call on it has failed
   pub usable : Bool
 
@@ -27,16 +27,16 @@ abbrev pub last_pair : List Pair → Pair
 last_pair pairs = pair_at pairs (length pairs - 1)
 
 -- the pairs rise, and their offsets are below this one
-pub record IsUpTo (pairs : List Pair) (place : ℕ) : Type 0 where
+pub record RiseBelow (pairs : List Pair) (offset : ℕ) : Type 0 where
   pub rising : IsRising pairs
-  pub below : (last_pair pairs).place < place
-  pub fits : place ≤ 2 ^ 62
+  pub below : (last_pair pairs).place < offset
+  pub fits : offset ≤ 2 ^ 62
 
 -- the writer has written this content to its file
 pub record IsWriting (v : View) (writer : Writer) (content : Content) : Type 0 where
   pub pairs : writer.pairs ≡ key_pairs writer.partitioner content
-  pub place : writer.place ≡ length (front content)
-  pub latest : writer.latest ≡ greatest content
+  pub offset_is : writer.offset ≡ length (front content)
+  pub max_timestamp : writer.max_timestamp ≡ content_max_timestamp content
   pub holds : Holds v writer.file (front content)
 
 -- a writer has written what it had, where its file reads as before
@@ -44,7 +44,7 @@ pub writing_where : (a b : View) (S : Relation) (writer : Writer) (content : Con
     writer.file → IsWriting a writer content → IsWriting b writer content
 writing_where a b S writer content change same is = record {
   pairs = is.pairs;
-  place = is.place;
-  latest = is.latest;
+  offset_is = is.offset_is;
+  max_timestamp = is.max_timestamp;
   holds = holds_where a b S writer.file (front content) change same is.holds;
 }

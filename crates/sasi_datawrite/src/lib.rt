@@ -3,13 +3,13 @@
 #![tactic(auto)]
 
 mod data_ref;
-mod ending;
+mod trailer;
 mod fault;
 mod header;
 mod observer;
 mod partition;
 mod push;
-mod show;
+mod notify;
 mod writer;
 
 pub use data_ref::DataRef;

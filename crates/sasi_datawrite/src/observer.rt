@@ -2,8 +2,8 @@
 ghost use Rattle.std.specs.Prelude.{◌∷◌, ◌++◌, [], List, OnOk};
 ghost use Rattle.sasi_types.specs.declared.class.Class.{Class};
 ghost use Rattle.sasi_datawrite.specs.Calls.{Call};
-ghost use Rattle.sasi_datawrite.specs.Calls.Call.{start_partition as started, cell as shown, complete as completed};
-ghost use Rattle.sasi_datawrite.specs.Causes.{MissesLacking};
+ghost use Rattle.sasi_datawrite.specs.Calls.Call.{start_partition as started, cell as observed, complete as completed};
+ghost use Rattle.sasi_datawrite.specs.Causes.{MissingOnlyIfLacking};
 
 use sasi_types::{Cell, KitFault, Token};
 
@@ -19,19 +19,19 @@ pub trait FlushObserver {
     fn start_partition(&mut self, token: Token, place: u64) -> Result<(), KitFault>
         ensures agrees { OnOk result ((calls : List Call) → agrees self.old calls → agrees self.new (calls ++ started token place ∷ [])) }
         ensures lacks { (class : Class) → lacks self.new class → lacks self.old class }
-        ensures missing { MissesLacking (lacks self.old) result };
+        ensures missing { MissingOnlyIfLacking (lacks self.old) result };
 
     /// The partition has this cell. Its cells come in the order of their columns.
     fn cell(&mut self, column: u16, cell: &Cell) -> Result<(), KitFault>
-        ensures agrees { OnOk result ((calls : List Call) → agrees self.old calls → agrees self.new (calls ++ shown column cell.now ∷ [])) }
+        ensures agrees { OnOk result ((calls : List Call) → agrees self.old calls → agrees self.new (calls ++ observed column cell.now ∷ [])) }
         ensures lacks { (class : Class) → lacks self.new class → lacks self.old class }
-        ensures missing { MissesLacking (lacks self.old) result };
+        ensures missing { MissingOnlyIfLacking (lacks self.old) result };
 
     /// No partition follows. The owner of the observer calls it, once; a writer doesn't.
     fn complete(&mut self) -> Result<(), KitFault>
         ensures agrees { OnOk result ((calls : List Call) → agrees self.old calls → agrees self.new (calls ++ completed ∷ [])) }
         ensures lacks { (class : Class) → lacks self.new class → lacks self.old class }
-        ensures missing { MissesLacking (lacks self.old) result };
+        ensures missing { MissingOnlyIfLacking (lacks self.old) result };
 }
 
 /// The observer that does nothing.

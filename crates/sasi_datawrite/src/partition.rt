@@ -3,7 +3,7 @@ ghost use Rattle.std.specs.Prelude.{◌≡◌, ◌+◌, ◌-◌, ◌^◌, ◌<�
 ghost use Rattle.std.specs.Int.{to_be_bytes, w32};
 ghost use Rattle.sasi_host.specs.Names.{Bytes};
 ghost use Rattle.sasi_host.specs.View.{Holds, ListCauses, Reaches};
-ghost use Rattle.sasi_host.specs.Disk.{Anyhow, Changes, Step};
+ghost use Rattle.sasi_host.specs.Disk.{AnyChange, Changes, FileChange};
 ghost use Rattle.sasi_body.specs.Format.{HasBody};
 ghost use Rattle.sasi_datawrite.specs.Format.{partition_bytes};
 
@@ -29,7 +29,7 @@ pub fn write_partition<H: Host>(
     ensures next { IfOk result (λ next. next ≡ at + length (partition_bytes key.now part.now)) }
     ensures fits { IfOk result (λ next. next ≤ 2 ^ 62) }
     ensures room { IfOk result (λ next. Reaches (H.view host.new) file next) }
-    ensures changes { Changes (Step file Anyhow) (H.view host.old) (H.view host.new) }
+    ensures changes { Changes (FileChange file AnyChange) (H.view host.old) (H.view host.new) }
     ensures causes { ListCauses (H.view host.old) (H.view host.new) result }
 {
     put_partition(buffer, key, part)?;

@@ -3,7 +3,7 @@ ghost use Rattle.std.specs.Prelude.{◌≡◌, ◌≤◌, ◌∷◌, ◌++◌, [
 ghost use Rattle.sasi_types.specs.declared.class.Class.{Class};
 ghost use Rattle.sasi_types.specs.Token.{token_of};
 ghost use Rattle.sasi_host.specs.View.{DiskCauses, Holds, IsAbsent, ListCauses, Reaches};
-ghost use Rattle.sasi_host.specs.Disk.{Anyhow, Changes, IsSynced, Step};
+ghost use Rattle.sasi_host.specs.Disk.{AnyChange, Changes, IsSynced, FileChange};
 ghost use Rattle.sasi_host.specs.Names.{data_name};
 ghost use Rattle.sasi_body.specs.Format.{HasBody};
 ghost use Rattle.sasi_datawrite.specs.Format.{Content, data_bytes};
@@ -11,7 +11,7 @@ ghost use Rattle.sasi_datawrite.specs.Calls.{Call, partition_calls};
 ghost use Rattle.sasi_datawrite.specs.Causes.{PushCauses};
 ghost use Rattle.sasi_datawrite.specs.Writing.{IsWriting, last_pair};
 
-use crate::ending::write_ending;
+use crate::trailer::write_trailer;
 use crate::header::{HEADER_LENGTH, put_header};
 use crate::push::push_partition;
 use crate::{DataRef, FlushObserver, PairFault};
@@ -27,20 +27,20 @@ pub struct DataWriter {
     file: FileName,
     partitioner: Partitioner,
     pairs: PairList,
-    place: u64,
-    latest: u64,
+    offset: u64,
+    max_timestamp: u64,
     usable: bool,
     buffer: Vec<u8>,
 }
 
 impl Model for DataWriter {
-    ghost use Rattle.sasi_datawrite.specs.Writing.{Writer, IsUpTo};
+    ghost use Rattle.sasi_datawrite.specs.Writing.{Writer, RiseBelow};
 
     ghost Value = { Writer };
 
-    ghost view = { λ a. record { file = a.file; partitioner = a.partitioner; pairs = a.pairs; place = a.place; latest = a.latest; usable = a.usable } };
+    ghost view = { λ a. record { file = a.file; partitioner = a.partitioner; pairs = a.pairs; offset = a.offset; max_timestamp = a.max_timestamp; usable = a.usable } };
 
-    ghost invariant = { λ a. IsUpTo a.pairs a.place };
+    ghost invariant = { λ a. RiseBelow a.pairs a.offset };
 }
 
 impl DataWriter {
@@ -55,9 +55,9 @@ impl DataWriter {
         ensures ok { IfOk result (λ writer. IsWriting (H.view host.new) writer []) }
         ensures file { IfOk result (λ writer. writer.file ≡ data_name number) }
         ensures partitioner { IfOk result (λ writer. writer.partitioner ≡ partitioner) }
-        ensures room { IfOk result (λ writer. Reaches (H.view host.new) writer.file writer.place) }
+        ensures room { IfOk result (λ writer. Reaches (H.view host.new) writer.file writer.offset) }
         ensures usable { IfOk result (λ writer. IsTrue writer.usable) }
-        ensures changes { Changes (Step (data_name number) Anyhow) (H.view host.old) (H.view host.new) }
+        ensures changes { Changes (FileChange (data_name number) AnyChange) (H.view host.old) (H.view host.new) }
         ensures causes { ListCauses (H.view host.old) (H.view host.new) result }
     {
         let file = FileName::data(number);
@@ -68,8 +68,8 @@ impl DataWriter {
             file,
             partitioner,
             pairs: PairList::new(alloc),
-            place: HEADER_LENGTH,
-            latest: 0,
+            offset: HEADER_LENGTH,
+            max_timestamp: 0,
             usable: true,
             buffer,
         })
@@ -85,29 +85,29 @@ impl DataWriter {
     ) -> Result<(), PairFault>
         requires body { HasBody key.now part.now }
         requires rising { (last_pair self.old.pairs).token ≤ token_of self.old.partitioner key.now }
-        requires room { Reaches (H.view host.old) self.old.file self.old.place }
+        requires room { Reaches (H.view host.old) self.old.file self.old.offset }
         requires usable { IsTrue self.old.usable }
         ensures ok { OnOk result ((content : Content) → IsWriting (H.view host.old) self.old content → IsWriting (H.view host.new) self.new (content ++ (key.now, part.now) ∷ [])) }
-        ensures shown { OnOk result ((calls : List Call) → O.agrees watch.old calls → O.agrees watch.new (calls ++ partition_calls (token_of self.old.partitioner key.now) self.old.place part.now)) }
-        ensures pairs { OnOk result (self.new.pairs ≡ self.old.pairs ++ record { token = token_of self.old.partitioner key.now; place = self.old.place } ∷ []) }
+        ensures observed { OnOk result ((calls : List Call) → O.agrees watch.old calls → O.agrees watch.new (calls ++ partition_calls (token_of self.old.partitioner key.now) self.old.offset part.now)) }
+        ensures pairs { OnOk result (self.new.pairs ≡ self.old.pairs ++ record { token = token_of self.old.partitioner key.now; place = self.old.offset } ∷ []) }
         ensures last { OnOk result ((last_pair self.new.pairs).token ≡ token_of self.old.partitioner key.now) }
-        ensures room { OnOk result (Reaches (H.view host.new) self.new.file self.new.place) }
+        ensures room { OnOk result (Reaches (H.view host.new) self.new.file self.new.offset) }
         ensures usable { self.new.usable ≡ is_ok result }
         ensures file { self.new.file ≡ self.old.file }
         ensures partitioner { self.new.partitioner ≡ self.old.partitioner }
-        ensures changes { Changes (Step self.old.file Anyhow) (H.view host.old) (H.view host.new) }
+        ensures changes { Changes (FileChange self.old.file AnyChange) (H.view host.old) (H.view host.new) }
         ensures causes { PushCauses (O.lacks watch.old) (H.view host.old) (H.view host.new) result }
         ensures lacks { (class : Class) → O.lacks watch.new class → O.lacks watch.old class }
     {
         self.usable = false;
         let pair = Pair {
             token: self.partitioner.token(key.bytes()),
-            place: self.place,
+            place: self.offset,
         };
         let next = push_partition(host, watch, self.file, pair, &mut self.buffer, key, part)?;
         self.pairs.push(pair)?;
-        self.place = next;
-        self.latest = self.latest.max(part.greatest());
+        self.offset = next;
+        self.max_timestamp = self.max_timestamp.max(part.max_timestamp());
         self.usable = true;
         Ok(())
     }
@@ -115,22 +115,22 @@ impl DataWriter {
     /// Writes the key tree and the footer, and syncs the file. Its name becomes durable when the folder is synced.
     pub fn finish<H: Host>(self, host: &mut H) -> Result<DataRef, HostFault>
         requires some { 1 ≤ length self.pairs }
-        requires room { Reaches (H.view host.old) self.file self.place }
+        requires room { Reaches (H.view host.old) self.file self.offset }
         requires usable { IsTrue self.usable }
         ensures ok { OnOk result ((content : Content) → IsWriting (H.view host.old) self content → Holds (H.view host.new) self.file (data_bytes self.partitioner content)) }
         ensures synced { OnOk result (IsSynced (H.view host.new) self.file) }
         ensures number { IfOk result (λ written. written.number ≡ self.file.number) }
         ensures partitions { IfOk result (λ written. written.partitions ≡ length self.pairs) }
-        ensures greatest { IfOk result (λ written. written.greatest ≡ self.latest) }
-        ensures changes { Changes (Step self.file Anyhow) (H.view host.old) (H.view host.new) }
+        ensures greatest { IfOk result (λ written. written.greatest ≡ self.max_timestamp) }
+        ensures changes { Changes (FileChange self.file AnyChange) (H.view host.old) (H.view host.new) }
         ensures causes { ListCauses (H.view host.old) (H.view host.new) result }
     {
         let alloc = *self.buffer.allocator();
-        write_ending(alloc, host, self.file, self.place, &self.pairs, self.latest)?;
+        write_trailer(alloc, host, self.file, self.offset, &self.pairs, self.max_timestamp)?;
         Ok(DataRef {
             number: self.file.number,
             partitions: self.pairs.as_slice().len() as u64,
-            greatest: self.latest,
+            greatest: self.max_timestamp,
         })
     }
 }
@@ -139,7 +139,7 @@ impl DataWriter {
 fn create_with<H: Host>(host: &mut H, file: FileName, bytes: &[u8]) -> Result<(), Failed>
     requires { IsAbsent (H.view host.old) file }
     ensures ok { OnOk result (Holds (H.view host.new) file bytes.now) }
-    ensures changes { Changes (Step file Anyhow) (H.view host.old) (H.view host.new) }
+    ensures changes { Changes (FileChange file AnyChange) (H.view host.old) (H.view host.new) }
     ensures causes { DiskCauses (H.view host.old) (H.view host.new) result }
 {
     host.create(file)?;

@@ -11,7 +11,7 @@ pub record IsWithin (least greatest number : ℕ) : Type 0 where
 
 -- the number stands next, at this offset, and is outside the range
 pub record IsOutside (reading : Reading) (least greatest at number : ℕ) : Type 0 where
-  pub place : at ≡ length reading.done
+  pub offset_is : at ≡ length reading.done
   pub fits : number < 2 ^ 64
   pub rest : List ℕ
   pub stands : reading.left ≡ to_be_bytes w64 number ++ rest

@@ -8,10 +8,10 @@ pub record Reading : Type 0 where
   pub left : List ℕ
 
 -- the reader has read these bytes, which stood next, and no others
-pub record Passes (field : List ℕ) (old new : Reading) : Type 0 where
+pub record ReadsField (field : List ℕ) (old new : Reading) : Type 0 where
   pub next : old.left ≡ field ++ new.left
   pub done : new.done ≡ old.done ++ field
 
 -- a number below this limit that was put next is read back, and what was put behind it is left
-abbrev pub GivesBack : ℕ → (ℕ → List ℕ) → ℕ → Reading → Reading → Type 0
-GivesBack limit put number old new = (n : ℕ) (rest : List ℕ) → n < limit → old.left ≡ put n ++ rest → (number ≡ n) × (new.left ≡ rest)
+abbrev pub RoundTrips : ℕ → (ℕ → List ℕ) → ℕ → Reading → Reading → Type 0
+RoundTrips limit put number old new = (n : ℕ) (rest : List ℕ) → n < limit → old.left ≡ put n ++ rest → (number ≡ n) × (new.left ≡ rest)

@@ -1,7 +1,7 @@
 // A reader of fields over borrowed bytes.
 ghost use Rattle.std.specs.Prelude.{◌≡◌, ◌<◌, ◌≤◌, ◌^◌, ◌↔◌, ◌∷◌, ◌++◌, [], ℕ, List, take, length, IfOk, IfErr, OnErr, IsErr};
 ghost use Rattle.std.specs.Int.{to_be_bytes, w16, w32, w64};
-ghost use Rattle.sasi_fields.specs.Reading.{Passes, GivesBack};
+ghost use Rattle.sasi_fields.specs.Reading.{ReadsField, RoundTrips};
 ghost use Rattle.sasi_fields.specs.Ranges.{IsWithin, RangeCause};
 
 use crate::fault::{FieldFault, ShortField};
@@ -36,7 +36,7 @@ impl<'a> FieldReader<'a> {
     }
 
     /// How many bytes it has read.
-    pub fn place(&self) -> usize
+    pub fn offset(&self) -> usize
         ensures { result ≡ length self.now.done }
     {
         self.at
@@ -51,10 +51,10 @@ impl<'a> FieldReader<'a> {
 
     /// The next bytes, so many of them.
     pub fn bytes(&mut self, count: usize) -> Result<&'a [u8], ShortField>
-        ensures ok { IfOk result (λ field. Passes field.now self.old self.new) }
+        ensures ok { IfOk result (λ field. ReadsField field.now self.old self.new) }
         ensures count { IfOk result (λ field. length field.now ≡ count) }
         ensures short { IsErr result ↔ (length self.old.left < count) }
-        ensures place { IfErr result (λ fault. fault.at ≡ length self.old.done) }
+        ensures offset { IfErr result (λ fault. fault.at ≡ length self.old.done) }
         ensures err { OnErr result (self.new ≡ self.old) }
     {
         let field = self.peek(count)?;
@@ -67,7 +67,7 @@ impl<'a> FieldReader<'a> {
         ensures ok { IfOk result (λ field. field.now ≡ take count self.now.left) }
         ensures count { IfOk result (λ field. length field.now ≡ count) }
         ensures short { IsErr result ↔ (length self.now.left < count) }
-        ensures place { IfErr result (λ fault. fault.at ≡ length self.now.done) }
+        ensures offset { IfErr result (λ fault. fault.at ≡ length self.now.done) }
     {
         if self.bytes.len() - self.at < count {
             return Err(ShortField { at: self.at });
@@ -78,17 +78,17 @@ impl<'a> FieldReader<'a> {
     // Moves over the next bytes.
     fn pass(&mut self, count: usize)
         requires { count ≤ length self.old.left }
-        ensures { Passes (take count self.old.left) self.old self.new }
+        ensures { ReadsField (take count self.old.left) self.old self.new }
     {
         self.at += count;
     }
     /// The next byte.
     pub fn u8(&mut self) -> Result<u8, ShortField>
-        ensures ok { IfOk result (λ n. Passes (n ∷ []) self.old self.new) }
-        ensures gives_back { IfOk result (λ n. GivesBack (2 ^ 8) (λ m. m ∷ []) n self.old self.new) }
+        ensures ok { IfOk result (λ n. ReadsField (n ∷ []) self.old self.new) }
+        ensures round_trips { IfOk result (λ n. RoundTrips (2 ^ 8) (λ m. m ∷ []) n self.old self.new) }
         ensures fits { IfOk result (λ n. n < 2 ^ 8) }
         ensures short { IsErr result ↔ (length self.old.left < 1) }
-        ensures place { IfErr result (λ fault. fault.at ≡ length self.old.done) }
+        ensures offset { IfErr result (λ fault. fault.at ≡ length self.old.done) }
         ensures err { OnErr result (self.new ≡ self.old) }
     {
         Ok(number_8(self.bytes(1)?))
@@ -96,11 +96,11 @@ impl<'a> FieldReader<'a> {
 
     /// The next number of two bytes.
     pub fn u16(&mut self) -> Result<u16, ShortField>
-        ensures ok { IfOk result (λ n. Passes (to_be_bytes w16 n) self.old self.new) }
-        ensures gives_back { IfOk result (λ n. GivesBack (2 ^ 16) (to_be_bytes w16) n self.old self.new) }
+        ensures ok { IfOk result (λ n. ReadsField (to_be_bytes w16 n) self.old self.new) }
+        ensures round_trips { IfOk result (λ n. RoundTrips (2 ^ 16) (to_be_bytes w16) n self.old self.new) }
         ensures fits { IfOk result (λ n. n < 2 ^ 16) }
         ensures short { IsErr result ↔ (length self.old.left < 2) }
-        ensures place { IfErr result (λ fault. fault.at ≡ length self.old.done) }
+        ensures offset { IfErr result (λ fault. fault.at ≡ length self.old.done) }
         ensures err { OnErr result (self.new ≡ self.old) }
     {
         Ok(number_16(self.bytes(2)?))
@@ -108,11 +108,11 @@ impl<'a> FieldReader<'a> {
 
     /// The next number of four bytes.
     pub fn u32(&mut self) -> Result<u32, ShortField>
-        ensures ok { IfOk result (λ n. Passes (to_be_bytes w32 n) self.old self.new) }
-        ensures gives_back { IfOk result (λ n. GivesBack (2 ^ 32) (to_be_bytes w32) n self.old self.new) }
+        ensures ok { IfOk result (λ n. ReadsField (to_be_bytes w32 n) self.old self.new) }
+        ensures round_trips { IfOk result (λ n. RoundTrips (2 ^ 32) (to_be_bytes w32) n self.old self.new) }
         ensures fits { IfOk result (λ n. n < 2 ^ 32) }
         ensures short { IsErr result ↔ (length self.old.left < 4) }
-        ensures place { IfErr result (λ fault. fault.at ≡ length self.old.done) }
+        ensures offset { IfErr result (λ fault. fault.at ≡ length self.old.done) }
         ensures err { OnErr result (self.new ≡ self.old) }
     {
         Ok(number_32(self.bytes(4)?))
@@ -120,19 +120,19 @@ impl<'a> FieldReader<'a> {
 
     /// The next number of eight bytes.
     pub fn u64(&mut self) -> Result<u64, ShortField>
-        ensures ok { IfOk result (λ n. Passes (to_be_bytes w64 n) self.old self.new) }
-        ensures gives_back { IfOk result (λ n. GivesBack (2 ^ 64) (to_be_bytes w64) n self.old self.new) }
+        ensures ok { IfOk result (λ n. ReadsField (to_be_bytes w64 n) self.old self.new) }
+        ensures round_trips { IfOk result (λ n. RoundTrips (2 ^ 64) (to_be_bytes w64) n self.old self.new) }
         ensures fits { IfOk result (λ n. n < 2 ^ 64) }
         ensures short { IsErr result ↔ (length self.old.left < 8) }
-        ensures place { IfErr result (λ fault. fault.at ≡ length self.old.done) }
+        ensures offset { IfErr result (λ fault. fault.at ≡ length self.old.done) }
         ensures err { OnErr result (self.new ≡ self.old) }
     {
         Ok(number_64(self.bytes(8)?))
     }
     /// The next number of eight bytes, which has to lie from `least` to `greatest`. After an error the reader is unchanged.
     pub fn ranged_u64(&mut self, least: u64, greatest: u64) -> Result<u64, FieldFault>
-        ensures ok { IfOk result (λ n. Passes (to_be_bytes w64 n) self.old self.new) }
-        ensures gives_back { IfOk result (λ n. GivesBack (2 ^ 64) (to_be_bytes w64) n self.old self.new) }
+        ensures ok { IfOk result (λ n. ReadsField (to_be_bytes w64 n) self.old self.new) }
+        ensures round_trips { IfOk result (λ n. RoundTrips (2 ^ 64) (to_be_bytes w64) n self.old self.new) }
         ensures within { IfOk result (IsWithin least greatest) }
         ensures cause { IfErr result (RangeCause self.old least greatest) }
         ensures err { OnErr result (self.new ≡ self.old) }

@@ -47,11 +47,11 @@ fn counted<T, E: Drop>(faults: &mut u64, answer: Result<T, E>) -> Result<T, Fail
 }
 
 impl Host for FileHost {
-    ghost use Rattle.sasi_host.specs.Silent.{silent_view, silent_sound};
+    ghost use Rattle.sasi_host.specs.Opaque.{opaque_view, opaque_sound};
 
-    ghost view = { λ h. silent_view None h.disk_faults h.out_faults h.reads };
+    ghost view = { λ h. opaque_view None h.disk_faults h.out_faults h.reads };
 
-    ghost sound = { λ h. silent_sound None h.disk_faults h.out_faults h.reads };
+    ghost sound = { λ h. opaque_sound None h.disk_faults h.out_faults h.reads };
 
     fn list(&mut self, alloc: Global) -> Result<Vec<FileName>, HostFault> {
         match self.folder.list(alloc) {

@@ -3,7 +3,7 @@ ghost use Rattle.std.specs.Prelude.{◌+◌, ◌^◌, ◌≤◌, length, IfOk, O
 ghost use Rattle.std.specs.List.Sorted.{IsStrictlySortedBy};
 ghost use Rattle.sasi_host.specs.Names.{name_cmp};
 
-use crate::name_text::LONGEST_NAME;
+use crate::name_text::MAX_NAME_LENGTH;
 use crate::open_files::OpenFiles;
 use crate::{NameText, parse_name};
 use sasi_host::{FileName, HostFault};
@@ -15,7 +15,7 @@ use std::path::Path;
 use std::{fs, io};
 
 // No file has more bytes.
-const LONGEST_FILE: u64 = 1 << 62;
+const MAX_FILE_SIZE: u64 = 1 << 62;
 
 /// A folder with the files of it that are open.
 #[derive(Drop)]
@@ -69,7 +69,7 @@ impl Folder {
         let alloc = rt.alloc();
         let mut folder = String::from_str(alloc, path)?;
         folder.push('/')?;
-        let room = folder.len().saturating_add(LONGEST_NAME);
+        let room = folder.len().saturating_add(MAX_NAME_LENGTH);
         let path = String::with_capacity(alloc, room)?;
         let opened = open_folder(&rt, folder.as_str()).ok();
         Ok(Folder {
@@ -84,7 +84,7 @@ impl Folder {
     }
 
     // Writes the path of a file into its buffer.
-    fn spell(&mut self, file: FileName) -> io::Result<()> {
+    fn set_path(&mut self, file: FileName) -> io::Result<()> {
         self.path.clear();
         self.path.push_str(self.folder.as_str())?;
         let name = NameText(file);
@@ -95,34 +95,34 @@ impl Folder {
     }
 
     // Opens a file of the folder.
-    fn open(&mut self, file: FileName, how: OpenOptions) -> io::Result<fs::File> {
+    fn open(&mut self, file: FileName, options: OpenOptions) -> io::Result<fs::File> {
         if self.opened.is_none() {
             return Err(io::ErrorKind::NotFound.into());
         }
-        self.spell(file)?;
-        how.open(&self.rt, self.path.as_str())
+        self.set_path(file)?;
+        options.open(&self.rt, self.path.as_str())
     }
 
     // The file, opened to be written or synced, and kept open.
-    fn to_write(&mut self, name: FileName) -> io::Result<&fs::File> {
+    fn open_to_write(&mut self, name: FileName) -> io::Result<&fs::File> {
         if self.written.get(name).is_none() {
-            let mut how = OpenOptions::new();
-            how.read(true).write(true);
-            let file = self.open(name, how)?;
+            let mut options = OpenOptions::new();
+            options.read(true).write(true);
+            let file = self.open(name, options)?;
             self.written.keep(name, file);
         }
         self.written.get(name).ok_or(io::ErrorKind::NotFound.into())
     }
 
     // The file, opened to be read, and kept open.
-    fn to_read(&mut self, name: FileName) -> io::Result<&fs::File> {
+    fn open_to_read(&mut self, name: FileName) -> io::Result<&fs::File> {
         if self.written.get(name).is_some() {
-            return self.to_write(name);
+            return self.open_to_write(name);
         }
         if self.read.get(name).is_none() {
-            let mut how = OpenOptions::new();
-            how.read(true);
-            let file = self.open(name, how)?;
+            let mut options = OpenOptions::new();
+            options.read(true);
+            let file = self.open(name, options)?;
             self.read.keep(name, file);
         }
         self.read.get(name).ok_or(io::ErrorKind::NotFound.into())
@@ -153,22 +153,22 @@ impl Folder {
 
     /// How many bytes a file has.
     pub fn size(&mut self, name: FileName) -> io::Result<u64> {
-        Ok(self.to_read(name)?.metadata()?.len())
+        Ok(self.open_to_read(name)?.metadata()?.len())
     }
 
     /// Fills the buffer from this offset on, as far as the file reaches.
     pub fn read(&mut self, name: FileName, at: u64, buf: &mut [u8]) -> io::Result<usize>
         ensures { IfOk result (λ count. count ≤ length buf.old) }
     {
-        fill(self.to_read(name)?, at, buf)
+        fill(self.open_to_read(name)?, at, buf)
     }
 
     /// Makes an empty file.
     pub fn create(&mut self, name: FileName) -> io::Result<()> {
         self.close(name);
-        let mut how = OpenOptions::new();
-        how.read(true).write(true).create_new(true);
-        let file = self.open(name, how)?;
+        let mut options = OpenOptions::new();
+        options.read(true).write(true).create_new(true);
+        let file = self.open(name, options)?;
         self.written.keep(name, file);
         Ok(())
     }
@@ -178,22 +178,22 @@ impl Folder {
         ensures { OnOk result (at + length bytes.now ≤ 2 ^ 62) }
     {
         let count = bytes.len() as u64;
-        if count > LONGEST_FILE || at > LONGEST_FILE - count {
+        if count > MAX_FILE_SIZE || at > MAX_FILE_SIZE - count {
             return Err(io::ErrorKind::FileTooLarge.into());
         }
-        self.to_write(name)?.write_all_at(bytes, at)
+        self.open_to_write(name)?.write_all_at(bytes, at)
     }
 
     /// Syncs a file's bytes and its length.
     pub fn sync(&mut self, name: FileName) -> io::Result<()> {
-        let answer = self.to_write(name)?.sync_data();
-        self.settle(answer)
+        let answer = self.open_to_write(name)?.sync_data();
+        self.after_sync(answer)
     }
 
     /// Removes a file from the folder.
     pub fn delete(&mut self, name: FileName) -> io::Result<()> {
         self.close(name);
-        self.spell(name)?;
+        self.set_path(name)?;
         fs::remove_file(&self.rt, self.path.as_str())
     }
 
@@ -203,11 +203,11 @@ impl Folder {
             Some(folder) => folder.sync_all(),
             None => Err(io::ErrorKind::NotFound.into()),
         };
-        self.settle(answer)
+        self.after_sync(answer)
     }
 
     // The result of a sync; after one that failed, each later one fails too.
-    fn settle(&mut self, answer: io::Result<()>) -> io::Result<()> {
+    fn after_sync(&mut self, answer: io::Result<()>) -> io::Result<()> {
         if answer.is_err() {
             self.durability = Durability::Lost;
         }

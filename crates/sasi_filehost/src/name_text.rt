@@ -7,7 +7,7 @@ use sasi_host::{FileName, Kind};
 use std::fmt;
 
 /// How many bytes the longest name has.
-pub(crate) const LONGEST_NAME: usize = 40;
+pub(crate) const MAX_NAME_LENGTH: usize = 40;
 
 /// A file name, printed as in the folder.
 #[derive(Clone, Copy, Debug)]

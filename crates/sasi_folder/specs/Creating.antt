@@ -6,13 +6,13 @@ use Rattle.std.proofs.lemmas.List.{length-map}
 use Rattle.std.specs.List.{AllByRecursion, list_any}
 use Rattle.sasi_types.specs.declared.statement.Statement.TheVariants.{CreateTable}
 use Rattle.sasi_model.specs.Statements.{same}
-use Rattle.sasi_model.specs.State.{Column, Definition, State, definition_of, definitions, one_more, place_in}
+use Rattle.sasi_model.specs.State.{Column, Definition, State, definition_of, definitions, one_more, position_in}
 use Rattle.sasi_model.specs.Refusals.{Rule, create_rules, first_of, names_in, refusal, repeat_rules, NoColumn}
-use Rattle.sasi_model.specs.Step.{key_place}
-use Rattle.sasi_model.specs.Written.{IsWritten, IsWrittenColumn}
+use Rattle.sasi_model.specs.Step.{key_position}
+use Rattle.sasi_model.specs.WellFormed.{IsWellFormed, IsWellFormedColumn}
 use Rattle.sasi_manifest.specs.declared.listing.Listing.{Listing}
 use Rattle.sasi_manifest.specs.Consistent.{IsConsistent}
-use Rattle.sasi_manifest.specs.Listed.{Listed}
+use Rattle.sasi_manifest.specs.ListedDefinition.{ListedDefinition}
 use Rattle.sasi_manifest.specs.Listings.{CanCreate, listed_definitions, listed_names}
 use Rattle.sasi_manifest.specs.Naming.{AreApart, AreNames}
 
@@ -57,7 +57,7 @@ free_of name (d ∷ ds) none =
       | false ↦ λ e is. (let other : same name d.name ≡ false = same_sym name d.name ∙ e in let rest = free_of name ds is in rw (other, rest) refl)
     ] refl none
 
-names_listed : (tables : List Listed) → map (λ (d : Definition). d.name) (listed_definitions tables) ≡ listed_names tables
+names_listed : (tables : List ListedDefinition) → map (λ (d : Definition). d.name) (listed_definitions tables) ≡ listed_names tables
 names_listed [] = refl
 names_listed (t ∷ tables) = ap (λ (l : List (List ℕ)). t.definition.name ∷ l) (names_listed tables)
 
@@ -65,7 +65,7 @@ apart_of : (before names : List (List ℕ)) → AllByRecursion IsOut (repeat_rul
 apart_of before [] all = tt
 apart_of before (name ∷ names) all = (all.0, apart_of (before ++ name ∷ []) names all.1)
 
-names_of : (columns : List Column) → AllByRecursion IsWrittenColumn columns → AreNames (names_in columns)
+names_of : (columns : List Column) → AllByRecursion IsWellFormedColumn columns → AreNames (names_in columns)
 names_of [] all = tt
 names_of (c ∷ columns) all = (all.0, names_of columns all.1)
 
@@ -73,22 +73,22 @@ names_of (c ∷ columns) all = (all.0, names_of columns all.1)
 
 one_more_below : (found : Option ℕ) (bound : ℕ) → unwrap_or found 0 < bound → unwrap_or (one_more found) 0 < suc bound
 one_more_below None bound below = omega arith
-one_more_below (Some place) bound below = omega (arith, below)
+one_more_below (Some position) bound below = omega (arith, below)
 
--- a name that stands in the list has a place in it
-placed : (name : List ℕ) (columns : List Column) → list_any (same name) (names_in columns) ≡ true → unwrap_or (place_in name columns) 0 < length columns
+-- a name that stands in the list has a position in it
+placed : (name : List ℕ) (columns : List Column) → list_any (same name) (names_in columns) ≡ true → unwrap_or (position_in name columns) 0 < length columns
 placed name [] there = cc
 placed name (c ∷ columns) there =
-    elim (same name c.0) as (λ b. (b || list_any (same name) (names_in columns)) ≡ true → unwrap_or (if b then Some 0 else one_more (place_in name columns)) 0 < suc (length columns)) [
+    elim (same name c.0) as (λ b. (b || list_any (same name) (names_in columns)) ≡ true → unwrap_or (if b then Some 0 else one_more (position_in name columns)) 0 < suc (length columns)) [
       | true ↦ λ is. omega arith
-      | false ↦ λ is. one_more_below (place_in name columns) (length columns) (placed name columns is)
+      | false ↦ λ is. one_more_below (position_in name columns) (length columns) (placed name columns is)
     ] there
 
 not_false : (b : Bool) → not b ≡ false → b ≡ true
 not_false true is = refl
 not_false false is = cc
 
-key_inside : (columns : List Column) (keys : List (List ℕ)) → (length keys == 0) ≡ false → AllByRecursion IsOut (map (λ key. (not (list_any (same key) (names_in columns)), NoColumn key)) keys) → key_place columns keys < length columns
+key_inside : (columns : List Column) (keys : List (List ℕ)) → (length keys == 0) ≡ false → AllByRecursion IsOut (map (λ key. (not (list_any (same key) (names_in columns)), NoColumn key)) keys) → key_position columns keys < length columns
 key_inside columns [] some all = cc
 key_inside columns (key ∷ keys) some all = placed key columns (not_false (list_any (same key) (names_in columns)) all.0)
 
@@ -101,15 +101,15 @@ within_limit n limit is = grind (arith, nat_tests)
 -- ---- the table
 
 -- **A table that a statement makes can be listed**, where what is listed are the tables of the state.
-pub can_create : (listing : Listing) (s : State) (table : List ℕ) (columns : List Column) (keys : List (List ℕ)) → IsConsistent listing → definitions s.tables ≡ listed_definitions listing.tables → IsWritten (CreateTable table columns keys)
-    → refusal s (CreateTable table columns keys) ≡ None → CanCreate listing (suc (length listing.tables)) table columns (key_place columns keys) listing.last
+pub can_create : (listing : Listing) (s : State) (table : List ℕ) (columns : List Column) (keys : List (List ℕ)) → IsConsistent listing → definitions s.tables ≡ listed_definitions listing.tables → IsWellFormed (CreateTable table columns keys)
+    → refusal s (CreateTable table columns keys) ≡ None → CanCreate listing (suc (length listing.tables)) table columns (key_position columns keys) listing.last
 unfolding refusal
 can_create listing s table columns keys known same_tables written taken =
     let all = none_applies (create_rules (definitions s.tables) table columns keys) taken in
     let missing = apart_at IsOut (map (λ key. (not (list_any (same key) (names_in columns)), NoColumn key)) keys) _ all.1 in
     let repeated = apart_at IsOut (repeat_rules [] (names_in columns)) _ missing.1 in
     let key = key_inside columns keys repeated.1.0 missing.0 in
-    let count : length (definitions s.tables) ≡ length listing.tables = ap length same_tables ∙ length-map listing.tables (λ (t : Listed). t.definition) in
+    let count : length (definitions s.tables) ≡ length listing.tables = ap length same_tables ∙ length-map listing.tables (λ (t : ListedDefinition). t.definition) in
     let few = below_limit (length (definitions s.tables)) 256 repeated.1.1.0 in
     let free = free_of table (definitions s.tables) all.0 in
     record {

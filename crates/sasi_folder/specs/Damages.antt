@@ -19,7 +19,7 @@ pub record ShowsNoSeal (folder : Folder) (damage : Damage) : Type 0 where
   pub no_manifest : damage.file ≢ manifest_name 1
   pub no_log : damage.file ≢ log_name 1
   pub rule : damage.rule ≡ NoSeal
-  pub place : damage.at ≡ 0
+  pub offset_is : damage.at ≡ 0
   pub seen : seen_bytes damage.seen ≡ []
 
 -- the file isn't there
@@ -27,7 +27,7 @@ pub record ShowsMissing (folder : Folder) (file : FileName) (damage : Damage) : 
   pub absent : get folder file ≡ None
   pub named : damage.file ≡ file
   pub rule : damage.rule ≡ Missing
-  pub place : damage.at ≡ 0
+  pub offset_is : damage.at ≡ 0
   pub seen : seen_bytes damage.seen ≡ []
 
 -- a live segment of the log isn't there, or breaks its format

@@ -12,7 +12,7 @@ use Rattle.sasi_commitlog.proofs.Laws.{logs_same}
 use Rattle.sasi_manifest.specs.declared.listing.Listing.{Listing}
 use Rattle.sasi_manifest.specs.Format.{IsManifest}
 use Rattle.sasi_manifest.proofs.Laws.{manifest_same}
-use Rattle.sasi_folder.specs.Replay.{state_made}
+use Rattle.sasi_folder.specs.Replay.{replayed_state}
 use Rattle.sasi_folder.specs.Stands.{HasSegments, Holds, IsFresh, IsSealed, StandsSealed, Stands, types_listed}
 
 -- ---- names
@@ -109,7 +109,7 @@ holds_same x n m first second a b one other =
 pub sealed_same : (x : Folder) (s t : State) → StandsSealed x s → StandsSealed x t → s ≡ t
 sealed_same x s t first second =
     let same = holds_same x first.number second.number first.listing second.listing first.logs second.logs first.holds second.holds in
-    first.makes ∙ ap (λ (l : Listing). state_made l first.logs) same.listings ∙ ap (state_made second.listing) same.logs ∙ sym second.makes
+    first.makes ∙ ap (λ (l : Listing). replayed_state l first.logs) same.listings ∙ ap (replayed_state second.listing) same.logs ∙ sym second.makes
 
 -- a sealed folder isn't fresh
 pub sealed_not_fresh : (x : Folder) (number : ℕ) → IsSealed x number → IsFresh x → ⊥

@@ -3,7 +3,7 @@ pub mod Stands
 pub mod Damages
 pub mod ReplayLaws
 pub mod FolderLaws
-pub mod FolderMoves
+pub mod FolderChanges
 pub mod Creating
-pub mod Serving
+pub mod DurableStore
 pub mod Recording

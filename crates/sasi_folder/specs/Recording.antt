@@ -4,49 +4,49 @@ use Rattle.std.proofs.Common.{sym, ap, subst, ◌∙◌, arith, length-append}
 use Rattle.std.proofs.lemmas.Bool.Decides.{nat_tests}
 use Rattle.std.proofs.lemmas.List.{map-append}
 use Rattle.std.specs.Int.{to_be_bytes, w16, w32}
-use Rattle.sasi_types.specs.declared.place.Place.{Place}
+use Rattle.sasi_types.specs.declared.decorated_key.DecoratedKey.{DecoratedKey}
 use Rattle.sasi_model.specs.Cells.{Partition}
 use Rattle.sasi_model.specs.State.{Column, Definition, State, Table, definitions}
 use Rattle.sasi_model.specs.Changes.{after_change, changed_behind, changed_tables, with_new_table}
 use Rattle.sasi_model.specs.Refusals.{names_in}
 use Rattle.sasi_model.specs.Stored.{IsBodyOf, types_of}
-use Rattle.sasi_gated.specs.Standing.{Handle}
+use Rattle.sasi_gated.specs.Handles.{Handle}
 use Rattle.sasi_cells.specs.declared.mutation.Mutation.{Mutation}
 use Rattle.sasi_commitlog.specs.Format.{IsMutationOf, types_in}
 use Rattle.sasi_manifest.specs.declared.edit.Edit.TheVariants.{CreateTable}
 use Rattle.sasi_manifest.specs.declared.listing.Listing.{Listing}
 use Rattle.sasi_manifest.specs.Edits.{column_bytes, edits_bytes, encoded, encoded_length, name_bytes, type_code}
 use Rattle.sasi_manifest.specs.Format.{IsNext}
-use Rattle.sasi_manifest.specs.Listed.{Listed}
-use Rattle.sasi_manifest.specs.Listings.{CanCreate, created, listed_definitions}
+use Rattle.sasi_manifest.specs.ListedDefinition.{ListedDefinition}
+use Rattle.sasi_manifest.specs.Listings.{CanCreate, created_table, listed_definitions}
 use Rattle.sasi_manifest.specs.Naming.{AreNames}
-use Rattle.sasi_manifest.specs.Standing.{Held}
+use Rattle.sasi_manifest.specs.OpenManifest.{ManifestState}
 use Rattle.sasi_manifest.specs.Types.{numbered_types}
-use Rattle.sasi_folder.specs.FolderMoves.{AddsTable}
-use Rattle.sasi_folder.specs.Serving.{BelongTogether}
+use Rattle.sasi_folder.specs.FolderChanges.{AddsTable}
+use Rattle.sasi_folder.specs.DurableStore.{BelongTogether}
 use Rattle.sasi_folder.specs.Stands.{types_listed}
 
 -- ---- mutations
 
-same_definition : (tables : List Table) (listed : List Listed) (place : ℕ) (t : Table) → definitions tables ≡ listed_definitions listed → slice_get tables place ≡ Some t → (l : Listed) × (slice_get listed place ≡ Some l) × (l.definition ≡ t.definition)
-same_definition [] listed place t same there = cc
-same_definition (u ∷ tables) [] place t same there = cc
+same_definition : (tables : List Table) (listed : List ListedDefinition) (index : ℕ) (t : Table) → definitions tables ≡ listed_definitions listed → slice_get tables index ≡ Some t → (l : ListedDefinition) × (slice_get listed index ≡ Some l) × (l.definition ≡ t.definition)
+same_definition [] listed index t same there = cc
+same_definition (u ∷ tables) [] index t same there = cc
 same_definition (u ∷ tables) (l ∷ listed) zero t same there =
     let first : u.definition ≡ l.definition = cc in
     let is : u ≡ t = cc in
     (l, refl, sym first ∙ ap (λ (x : Table). x.definition) is)
-same_definition (u ∷ tables) (l ∷ listed) (suc place) t same there = let rest : definitions tables ≡ listed_definitions listed = cc in same_definition tables listed place t rest there
+same_definition (u ∷ tables) (l ∷ listed) (suc index) t same there = let rest : definitions tables ≡ listed_definitions listed = cc in same_definition tables listed index t rest there
 
-types_at : (first place : ℕ) (listed : List Listed) (l : Listed) → slice_get listed place ≡ Some l → types_in (numbered_types first listed) (first + place) ≡ Some (types_of l.definition)
-types_at first place [] l there = cc
+types_at : (first index : ℕ) (listed : List ListedDefinition) (l : ListedDefinition) → slice_get listed index ≡ Some l → types_in (numbered_types first listed) (first + index) ≡ Some (types_of l.definition)
+types_at first index [] l there = cc
 types_at first zero (x ∷ listed) l there =
     let is : x ≡ l = cc in
     let here : nat_eq first (first + 0) ≡ true = grind (arith, nat_tests) in
-    rw here (ap (λ (x : Listed). Some (types_of x.definition)) is)
-types_at first (suc place) (x ∷ listed) l there =
-    let other : nat_eq first (first + suc place) ≡ false = grind (arith, nat_tests) in
-    let number : suc first + place ≡ first + suc place = omega arith in
-    rw other (subst (λ n. types_in (numbered_types (suc first) listed) n ≡ Some (types_of l.definition)) number (types_at (suc first) place listed l there))
+    rw here (ap (λ (x : ListedDefinition). Some (types_of x.definition)) is)
+types_at first (suc index) (x ∷ listed) l there =
+    let other : nat_eq first (first + suc index) ≡ false = grind (arith, nat_tests) in
+    let number : suc first + index ≡ first + suc index = omega arith in
+    rw other (subst (λ n. types_in (numbered_types (suc first) listed) n ≡ Some (types_of l.definition)) number (types_at (suc first) index listed l there))
 
 -- a change that can be stored in a table is a mutation of the listed tables
 pub mutation_fits : (listing : Listing) (s : State) (m : Mutation) (t : Table) → definitions s.tables ≡ listed_definitions listing.tables → 0 < m.table → m.table < 2 ^ 32 → slice_get s.tables (m.table - 1) ≡ Some t → IsBodyOf (types_of t.definition) m.key m.change → IsMutationOf (types_listed listing) m
@@ -64,7 +64,7 @@ mutation_fits listing s m t same some small there body =
 -- ---- tables
 
 -- the record of one more table adds it
-pub adds_table : (listing next : Listing) (number : ℕ) (name : List ℕ) (columns : List Column) (key since : ℕ) → IsNext listing (CreateTable number name columns key since ∷ []) next → AddsTable listing next (created name columns key since)
+pub adds_table : (listing next : Listing) (number : ℕ) (name : List ℕ) (columns : List Column) (key since : ℕ) → IsNext listing (CreateTable number name columns key since ∷ []) next → AddsTable listing next (created_table name columns key since)
 adds_table listing next number name columns key since is = record {
   partitioner = cc;
   floor = cc;
@@ -104,22 +104,22 @@ create_short listing number name columns key since can =
 
 -- ---- what belongs together afterwards
 
-changed_definitions_behind : (before : ℕ) (place : Place) (change : Partition) (ts : List Table) → definitions (changed_behind before place change ts) ≡ definitions ts
-changed_definitions_behind before place change [] = refl
-changed_definitions_behind zero place change (t ∷ ts) = refl
-changed_definitions_behind (suc before) place change (t ∷ ts) = ap (λ (ds : List Definition). t.definition ∷ ds) (changed_definitions_behind before place change ts)
+changed_definitions_behind : (before : ℕ) (key : DecoratedKey) (change : Partition) (ts : List Table) → definitions (changed_behind before key change ts) ≡ definitions ts
+changed_definitions_behind before key change [] = refl
+changed_definitions_behind zero key change (t ∷ ts) = refl
+changed_definitions_behind (suc before) key change (t ∷ ts) = ap (λ (ds : List Definition). t.definition ∷ ds) (changed_definitions_behind before key change ts)
 
 -- a change leaves the definitions
-pub changed_definitions : (number : ℕ) (place : Place) (change : Partition) (ts : List Table) → definitions (changed_tables number place change ts) ≡ definitions ts
-changed_definitions zero place change ts = refl
-changed_definitions (suc before) place change ts = changed_definitions_behind before place change ts
+pub changed_definitions : (number : ℕ) (key : DecoratedKey) (change : Partition) (ts : List Table) → definitions (changed_tables number key change ts) ≡ definitions ts
+changed_definitions zero key change ts = refl
+changed_definitions (suc before) key change ts = changed_definitions_behind before key change ts
 
-pub together_written : (s : State) (manifest : Held) (log new : Handle) (number : ℕ) (place : Place) (change : Partition) → BelongTogether s manifest log → new.file ≡ log.file → BelongTogether (after_change s number place change) manifest new
-together_written s manifest log new number place change is file = record { file = file ∙ is.file; partitioner = is.partitioner; tables = changed_definitions number place change s.tables ∙ is.tables }
+pub together_written : (s : State) (manifest : ManifestState) (log new : Handle) (number : ℕ) (key : DecoratedKey) (change : Partition) → BelongTogether s manifest log → new.file ≡ log.file → BelongTogether (after_change s number key change) manifest new
+together_written s manifest log new number key change is file = record { file = file ∙ is.file; partitioner = is.partitioner; tables = changed_definitions number key change s.tables ∙ is.tables }
 
-pub together_created : (s : State) (manifest new : Held) (log : Handle) (t : Listed) → BelongTogether s manifest log → AddsTable manifest.listing new.listing t → BelongTogether (with_new_table s t.definition) new log
+pub together_created : (s : State) (manifest new : ManifestState) (log : Handle) (t : ListedDefinition) → BelongTogether s manifest log → AddsTable manifest.listing new.listing t → BelongTogether (with_new_table s t.definition) new log
 together_created s manifest new log t is adds = record {
   file = rw adds.last is.file;
   partitioner = is.partitioner ∙ sym adds.partitioner;
-  tables = map-append (λ (x : Table). x.definition) s.tables _ ∙ ap (λ (ds : List Definition). ds ++ t.definition ∷ []) is.tables ∙ sym (rw adds.tables (map-append (λ (x : Listed). x.definition) manifest.listing.tables (t ∷ [])));
+  tables = map-append (λ (x : Table). x.definition) s.tables _ ∙ ap (λ (ds : List Definition). ds ++ t.definition ∷ []) is.tables ∙ sym (rw adds.tables (map-append (λ (x : ListedDefinition). x.definition) manifest.listing.tables (t ∷ [])));
 }

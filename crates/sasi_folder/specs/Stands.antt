@@ -11,7 +11,7 @@ use Rattle.sasi_commitlog.specs.Format.{IsLog, Tables}
 use Rattle.sasi_manifest.specs.declared.listing.Listing.{Listing}
 use Rattle.sasi_manifest.specs.Format.{IsManifest}
 use Rattle.sasi_manifest.specs.Types.{numbered_types}
-use Rattle.sasi_folder.specs.Replay.{state_made}
+use Rattle.sasi_folder.specs.Replay.{replayed_state}
 
 -- ---- a new folder
 
@@ -54,7 +54,7 @@ pub record StandsSealed (folder : Folder) (s : State) : Type 0 where
   pub listing : Listing
   pub logs : List (List Mutation)
   pub holds : Holds folder number listing logs
-  pub makes : s ≡ state_made listing logs
+  pub makes : s ≡ replayed_state listing logs
 
 -- The folder stands for the state. A new one stands for the state without tables, under the partitioner that it will have.
 abbrev pub Stands : Partitioner → Folder → State → Type 0

@@ -4,10 +4,10 @@ use Rattle.std.specs.Option.{option_to_list}
 use Rattle.sasi_host.specs.declared.name.FileName.{FileName}
 use Rattle.sasi_host.specs.Names.{Bytes}
 use Rattle.sasi_host.specs.View.{View}
-use Rattle.sasi_host.specs.Disk.{IsKept}
+use Rattle.sasi_host.specs.Disk.{IsFileDurable}
 use Rattle.sasi_gated.specs.Format.{header, frame, new_file, IsPayload}
 use Rattle.sasi_gated.specs.Gates.{IsAtGate}
-use Rattle.sasi_gated.specs.Standing.{IsAtEnd}
+use Rattle.sasi_gated.specs.Handles.{IsAtEnd}
 use Rattle.sasi_gated.specs.Laws.{at_first_gate, at_next_gate, header_length, frame_length}
 
 -- the closed gate is the last byte
@@ -30,11 +30,11 @@ new_file_gate file (Some payload) fits =
         (arith, header_length file, frame_length payload, length-append (header file) (1 ∷ (frame payload ++ 0 ∷ [])), length-append (frame payload) (0 ∷ []))
 
 pub new_file_end : (v : View) (file : FileName) (first : Option Bytes) (bytes : Bytes) (count : ℕ) → bytes ≡ new_file file first
-    → IfSome first IsPayload → count ≡ length bytes → IsKept v file bytes → IsAtEnd v file (count - 1) (option_to_list first)
+    → IfSome first IsPayload → count ≡ length bytes → IsFileDurable v file bytes → IsAtEnd v file (count - 1) (option_to_list first)
 new_file_end v file first bytes count is fits size kept = record {
   bytes = new_file file first;
   rest = 0 ∷ [];
-  kept = subst (λ (l : Bytes). IsKept v file l) is kept;
+  kept = subst (λ (l : Bytes). IsFileDurable v file l) is kept;
   at_gate =
       subst (λ (n : ℕ). IsAtGate file (new_file file first) (n - 1) (option_to_list first) (0 ∷ [])) (sym (size ∙ ap length is))
       (new_file_gate file first fits);

@@ -4,42 +4,42 @@ use Rattle.sasi_host.specs.declared.name.FileName.{FileName}
 use Rattle.sasi_host.specs.declared.damage.Damage.{Damage}
 use Rattle.sasi_host.specs.Names.{Bytes}
 use Rattle.sasi_host.specs.View.{View, IsSound, IsTold, contents}
-use Rattle.sasi_host.specs.Disk.{Changes, IsKept, Same}
-use Rattle.sasi_host.specs.Durability.{kept_contents, kept_same}
+use Rattle.sasi_host.specs.Disk.{Changes, IsFileDurable, Same}
+use Rattle.sasi_host.specs.Durability.{file_durable_contents, file_durable_same}
 use Rattle.sasi_gated.specs.Format.{header, FromGate}
-use Rattle.sasi_gated.specs.Gates.{Gives, IsAtGate, ReadsAt}
-use Rattle.sasi_gated.specs.Damages.{Shows}
-use Rattle.sasi_gated.specs.Standing.{IsReading, ReadsOn}
+use Rattle.sasi_gated.specs.Gates.{ReadsFrom, IsAtGate, ReadsAt}
+use Rattle.sasi_gated.specs.Damages.{IsGatedDamage}
+use Rattle.sasi_gated.specs.Handles.{IsReading, ReadsOn}
 use Rattle.sasi_gated.specs.Laws.{at_next_gate, gated_at, opens_same, opens_not_closes}
 use Rattle.sasi_gated.specs.Undamaged.{gated_undamaged}
 
 -- a closed gate, where the reader stays
-pub read_closed : (more : Bool) (file : FileName) (bytes : Bytes) (at : ℕ) (done : List Bytes) (rest out : Bytes) → more ≡ false → Gives more rest out
+pub read_closed : (more : Bool) (file : FileName) (bytes : Bytes) (at : ℕ) (done : List Bytes) (rest out : Bytes) → more ≡ false → ReadsFrom more rest out
     → IsAtGate file bytes at done rest → ReadsAt false file bytes at done rest out
-read_closed more file bytes at done rest out is gives gate = let g = subst (λ (m : Bool). Gives m rest out) is gives in (g.0, g.1, gate)
+read_closed more file bytes at done rest out is gives gate = let g = subst (λ (m : Bool). ReadsFrom m rest out) is gives in (g.0, g.1, gate)
 
 -- a record, behind which it then stands
 pub read_opened : (more : Bool) (file : FileName) (bytes : Bytes) (at count : ℕ) (done : List Bytes) (rest out : Bytes) → more ≡ true
-    → Gives more rest out → IsAtGate file bytes at done rest → count ≡ length out → ReadsAt true file bytes (at + 5 + count) done rest out
+    → ReadsFrom more rest out → IsAtGate file bytes at done rest → count ≡ length out → ReadsAt true file bytes (at + 5 + count) done rest out
 read_opened more file bytes at count done rest out is gives gate size =
-    let g = subst (λ (m : Bool). Gives m rest out) is gives in
-    let place : at + (5 + length out) ≡ at + 5 + count = omega arith in
-    (g.0, g.1, subst (λ (n : ℕ). IsAtGate file bytes n (done ++ out ∷ []) g.0) place (at_next_gate file bytes at done rest out g.0 gate g.1))
+    let g = subst (λ (m : Bool). ReadsFrom m rest out) is gives in
+    let offset : at + (5 + length out) ≡ at + 5 + count = omega arith in
+    (g.0, g.1, subst (λ (n : ℕ). IsAtGate file bytes n (done ++ out ∷ []) g.0) offset (at_next_gate file bytes at done rest out g.0 gate g.1))
 
 -- a gate stands within the file
 pub not_too_long : (a : View) (file : FileName) (bytes : Bytes) (at : ℕ) (done : List Bytes) (rest out : Bytes) → IsSound a
     → contents a file ≡ Some bytes → ReadsAt true file bytes at done rest out → 2 ^ 62 < at → ⊥
 not_too_long a file bytes at done rest out sound is (tail, opens, gate) long =
     let fits = sound.fits file bytes is in
-    omega (arith, fits, long, gate.place, ap length gate.is, length-append (header file ++ gate.front) tail)
+    omega (arith, fits, long, gate.offset_is, ap length gate.is, length-append (header file ++ gate.front) tail)
 
 module _ (a b : View) (file : FileName) (at : ℕ) (done left : List Bytes) (sound : IsSound a) (told : IsTold a) (reading : IsReading a file at done left) where
   pub reads : contents a file ≡ Some reading.bytes
-  reads = kept_contents a file reading.bytes sound told reading.kept
+  reads = file_durable_contents a file reading.bytes sound told reading.kept
 
   -- a file with these records shows no damage
   pub undamaged : (damage : Damage)
-      → ((bytes : Bytes) (before : List Bytes) (rest : Bytes) → contents a file ≡ Some bytes → IsAtGate file bytes at before rest → Shows file bytes damage)
+      → ((bytes : Bytes) (before : List Bytes) (rest : Bytes) → contents a file ≡ Some bytes → IsAtGate file bytes at before rest → IsGatedDamage file bytes damage)
       → ⊥
   undamaged damage shows =
       gated_undamaged file reading.bytes damage (done ++ left)
@@ -52,8 +52,8 @@ module _ (a b : View) (file : FileName) (at : ℕ) (done left : List Bytes) (sou
       → ReadsOn more b file after done left out
   goes_on same more after out read = from more left reading.records_left (read reading.bytes done reading.rest reads reading.at_gate)
     where
-      kept : IsKept b file reading.bytes
-      kept = kept_same a b file reading.bytes same reading.kept
+      kept : IsFileDurable b file reading.bytes
+      kept = file_durable_same a b file reading.bytes same reading.kept
 
       from : (m : Bool) (records : List Bytes) → FromGate reading.rest records → ReadsAt m file reading.bytes after done reading.rest out
           → ReadsOn m b file after done records out

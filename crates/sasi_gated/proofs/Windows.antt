@@ -6,7 +6,7 @@ use Rattle.sasi_host.specs.declared.damage.Damage.{Damage}
 use Rattle.sasi_host.specs.Names.{Bytes}
 use Rattle.sasi_host.specs.Disk.{Fills}
 use Rattle.sasi_gated.specs.Format.{header}
-use Rattle.sasi_gated.specs.Damages.{Shows}
+use Rattle.sasi_gated.specs.Damages.{IsGatedDamage}
 
 -- a read from an offset within the file gives the next bytes, and all of them if it isn't full
 module _ (file : Bytes) (at : ℕ) (old new : Bytes) (count : ℕ) (fills : Fills file at old new count) where
@@ -29,6 +29,6 @@ header_read file bytes old new count fills (rest, is) = (
 
 -- or they show a damage
 pub header_shows : (file : FileName) (bytes old new : Bytes) (count : ℕ) (damage : Damage) → Fills bytes 0 old new count → length old ≡ 16
-    → ((more : Bytes) → (length (take count new) < 16 → more ≡ []) → Shows file (take count new ++ more) damage) → Shows file bytes damage
+    → ((more : Bytes) → (length (take count new) < 16 → more ≡ []) → IsGatedDamage file (take count new ++ more) damage) → IsGatedDamage file bytes damage
 header_shows file bytes old new count damage fills size shows =
-    subst (λ (l : Bytes). Shows file l damage) (sym (window bytes 0 old new count fills)) (shows (drop count bytes) (λ short. nothing_more bytes 0 old new count fills 16 size short))
+    subst (λ (l : Bytes). IsGatedDamage file l damage) (sym (window bytes 0 old new count fills)) (shows (drop count bytes) (λ short. nothing_more bytes 0 old new count fills 16 size short))

@@ -3,12 +3,12 @@ use Rattle.std.specs.Prelude.{◌≡◌, ◌≢◌, ℕ, ◌^◌, ◌<◌, ◌�
 use Rattle.std.specs.Int.{to_be_bytes, w32}
 use Rattle.sasi_host.specs.Names.{Bytes}
 use Rattle.sasi_gated.specs.declared.gate.Gate.{Gate}
-use Rattle.sasi_gated.specs.declared.gate.Gate.TheVariants.{Closed, Opened, CutOff, NoLength}
+use Rattle.sasi_gated.specs.declared.gate.Gate.TheVariants.{Closed, Opened, Truncated, BadLength}
 use Rattle.sasi_gated.specs.Format.{IsLength, Closes}
 use Rattle.sasi_gated.specs.Damages.{EndsEarly}
 
 -- an open gate, a length, and then the rest
-pub record States (bytes : Bytes) (count : ℕ) (rest : Bytes) : Type 0 where
+pub record BeginsRecord (bytes : Bytes) (count : ℕ) (rest : Bytes) : Type 0 where
   pub gate : ℕ
   pub is_open : gate ≢ 0
   pub count_fits : count < 2 ^ 32
@@ -17,6 +17,6 @@ pub record States (bytes : Bytes) (count : ℕ) (rest : Bytes) : Type 0 where
 -- the gate is what was found
 abbrev pub GateIs : Bytes → Gate → Type 0
 GateIs bytes Closed = Closes bytes
-GateIs bytes (Opened count begun) = States bytes count begun.now × IsLength count
-GateIs bytes CutOff = (length bytes < 5) × EndsEarly bytes
-GateIs bytes (NoLength count) = (rest : Bytes) × States bytes count rest × (¬ IsLength count)
+GateIs bytes (Opened count prefix) = BeginsRecord bytes count prefix.now × IsLength count
+GateIs bytes Truncated = (length bytes < 5) × EndsEarly bytes
+GateIs bytes (BadLength count) = (rest : Bytes) × BeginsRecord bytes count rest × (¬ IsLength count)

@@ -16,11 +16,11 @@ EndsEarly [] = Unit {0}
 EndsEarly (gate ∷ rest) = (gate ≢ 0) × (length rest < 4 + from_be_bytes w32 (take 4 rest))
 
 -- the file ends within its header, or too early at a gate
-abbrev pub IsCutOff : FileName → Bytes → Type 0
-IsCutOff file bytes = (length bytes < 16) ⊎ ((at : ℕ) × (done : List Bytes) × (rest : Bytes) × IsAtGate file bytes at done rest × EndsEarly rest)
+abbrev pub IsTruncated : FileName → Bytes → Type 0
+IsTruncated file bytes = (length bytes < 16) ⊎ ((at : ℕ) × (done : List Bytes) × (rest : Bytes) × IsAtGate file bytes at done rest × EndsEarly rest)
 
 -- behind an open gate stands a length, at this offset, that no record has
-pub record IsNoLength (file : FileName) (bytes : Bytes) (at : ℕ) (seen : Bytes) : Type 0 where
+pub record IsBadLength (file : FileName) (bytes : Bytes) (at : ℕ) (seen : Bytes) : Type 0 where
   pub before : ℕ
   pub done : List Bytes
   pub gate : ℕ
@@ -28,20 +28,20 @@ pub record IsNoLength (file : FileName) (bytes : Bytes) (at : ℕ) (seen : Bytes
   pub rest : Bytes
   pub gate_stands : IsAtGate file bytes before done (gate ∷ (seen ++ rest))
   pub is_open : gate ≢ 0
-  pub place : at ≡ before + 1
+  pub offset_is : at ≡ before + 1
   pub stated : seen ≡ to_be_bytes w32 count
   pub stated_fits : count < 2 ^ 32
   pub no_length : ¬ IsLength count
 
 -- the file breaks the rule at this offset, and has the seen bytes there
 abbrev pub Breaks : FileName → Bytes → FormatRule → ℕ → Bytes → Type 0
-Breaks file bytes Short at seen = IsCutOff file bytes × (at ≡ length bytes) × (seen ≡ to_be_bytes w64 (length bytes))
+Breaks file bytes Short at seen = IsTruncated file bytes × (at ≡ length bytes) × (seen ≡ to_be_bytes w64 (length bytes))
 Breaks file bytes Magic at seen = (at ≡ 0) × Differs bytes at seen (magic file.kind)
 Breaks file bytes Version at seen = (at ≡ 8) × Differs bytes at seen (to_be_bytes w32 1)
-Breaks file bytes Number at seen = ((at ≡ 12) × Differs bytes at seen (to_be_bytes w32 file.number)) ⊎ IsNoLength file bytes at seen
+Breaks file bytes Number at seen = ((at ≡ 12) × Differs bytes at seen (to_be_bytes w32 file.number)) ⊎ IsBadLength file bytes at seen
 Breaks file bytes _ at seen = ⊥
 
 -- the damage is that of this file, which shows it
-pub record Shows (file : FileName) (bytes : Bytes) (damage : Damage) : Type 0 where
+pub record IsGatedDamage (file : FileName) (bytes : Bytes) (damage : Damage) : Type 0 where
   pub named : damage.file ≡ file
   pub breaks : Breaks file bytes damage.rule damage.at (seen_bytes damage.seen)

@@ -9,12 +9,12 @@ pub record IsAtGate (file : FileName) (bytes : Bytes) (at : ℕ) (done : List By
   pub front : Bytes
   pub is : bytes ≡ header file ++ front ++ rest
   pub records_stand : OpenRecords front done
-  pub place : at ≡ length (header file ++ front)
+  pub offset_is : at ≡ length (header file ++ front)
 
 -- What a read gives where these bytes stand from a gate on: true and the record behind an open one, false and nothing at a closed one.
-abbrev pub Gives : Bool → Bytes → Bytes → Type 0
-Gives true rest out = (tail : Bytes) × Opens rest out tail
-Gives false rest out = (out ≡ []) × Closes rest
+abbrev pub ReadsFrom : Bool → Bytes → Bytes → Type 0
+ReadsFrom true rest out = (tail : Bytes) × Opens rest out tail
+ReadsFrom false rest out = (out ≡ []) × Closes rest
 
 -- What a read at a gate gives: true and the record behind an open one, and it goes on to the next gate; false and nothing at a closed one, where it stays.
 abbrev pub ReadsAt : Bool → FileName → Bytes → ℕ → List Bytes → Bytes → Bytes → Type 0

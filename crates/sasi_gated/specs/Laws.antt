@@ -11,7 +11,7 @@ use Rattle.sasi_host.specs.Names.{Bytes}
 use Rattle.sasi_host.specs.View.{View}
 use Rattle.sasi_gated.specs.Format.{magic, header, frame, IsPayload, Opens, Closes, OpenRecords, FromGate, IsGated}
 use Rattle.sasi_gated.specs.Gates.{IsAtGate}
-use Rattle.sasi_gated.specs.Standing.{IsAtEnd}
+use Rattle.sasi_gated.specs.Handles.{IsAtEnd}
 
 -- ---- one record
 
@@ -170,7 +170,7 @@ at_first_gate file bytes rest is = record {
   front = [];
   is = is ∙ ap (λ (l : Bytes). l ++ rest) (sym (append-nil (header file)));
   records_stand = refl;
-  place = sym (header_length file) ∙ ap length (sym (append-nil (header file)));
+  offset_is = sym (header_length file) ∙ ap length (sym (append-nil (header file)));
 }
 
 -- behind an open record stands the next gate
@@ -182,9 +182,9 @@ at_next_gate file bytes at done rest payload tail gate next = record {
       gate.is ∙ ap (λ (l : Bytes). header file ++ gate.front ++ l) next.is ∙ sym (append_assoc (header file ++ gate.front) (next.gate ∷ frame payload) tail)
       ∙ ap (λ (l : Bytes). l ++ tail) (append_assoc (header file) gate.front (next.gate ∷ frame payload));
   records_stand = open_records_push gate.front done rest payload tail gate.records_stand next;
-  place = omega (
+  offset_is = omega (
     arith,
-    gate.place,
+    gate.offset_is,
     frame_length payload,
     length-append (header file) gate.front,
     length-append (header file)

@@ -4,8 +4,8 @@ pub mod Gates
 pub mod Damages
 pub mod Causes
 pub mod AtGate
-pub mod Standing
+pub mod Handles
 pub mod Reads
 pub mod Laws
-pub mod StandingLaws
+pub mod HandleLaws
 pub mod Undamaged

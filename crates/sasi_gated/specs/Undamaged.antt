@@ -10,7 +10,7 @@ use Rattle.sasi_host.specs.declared.damage.FormatRule.{FormatRule}
 use Rattle.sasi_host.specs.declared.damage.FormatRule.TheVariants.{Short, Missing, NoSeal, Magic, Version, Number, Order, Place, Text}
 use Rattle.sasi_host.specs.Names.{Bytes}
 use Rattle.sasi_gated.specs.Format.{magic, header, frame, IsLength, FromGate, IsGated}
-use Rattle.sasi_gated.specs.Damages.{Differs, EndsEarly, Breaks, Shows}
+use Rattle.sasi_gated.specs.Damages.{Differs, EndsEarly, Breaks, IsGatedDamage}
 use Rattle.sasi_host.specs.Damages.{seen_bytes}
 use Rattle.sasi_gated.specs.Laws.{frame_states, frame_length, magic_length, header_length, left_at}
 
@@ -23,8 +23,8 @@ parts_same front seen rest a wanted b same fronts sizes =
     sym (drop_at front seen (length front) refl) ∙ ap (λ (l : Bytes). drop (length front) l) first ∙ drop_at a wanted (length front) (sym fronts)
 
 as_wanted : (bytes a wanted b seen : Bytes) (at : ℕ) → bytes ≡ a ++ wanted ++ b → at ≡ length a → Differs bytes at seen wanted → ⊥
-as_wanted bytes a wanted b seen at is place d =
-    d.differs (parts_same d.stands.front seen d.stands.rest a wanted b (sym d.stands.is ∙ is) (d.stands.place ∙ place) d.long)
+as_wanted bytes a wanted b seen at is offset d =
+    d.differs (parts_same d.stands.front seen d.stands.rest a wanted b (sym d.stands.is ∙ is) (d.stands.offset_is ∙ offset) d.long)
 
 header_parts : (file : FileName) (rest : Bytes) → header file ++ rest ≡ magic file.kind ++ to_be_bytes w32 1 ++ to_be_bytes w32 file.number ++ rest
 unfolding header
@@ -61,14 +61,14 @@ no_break file bytes Short at seen records gated (cut, size, shown) =
     ⊎_elim (λ few. omega (arith, few, ap length gated.is, length-append (header file) gated.rest, header_length file))
     (λ early. let left = left_at file bytes early.0 early.1 early.2 records early.3 gated in not_early early.2 left.0 left.2 early.4)
     cut
-no_break file bytes Magic at seen records gated (place, differs) =
+no_break file bytes Magic at seen records gated (offset, differs) =
     as_wanted bytes [] (magic file.kind) (to_be_bytes w32 1 ++ (to_be_bytes w32 file.number ++ gated.rest)) seen at
     (gated.is ∙ header_parts file gated.rest ∙ append_assoc (magic file.kind ++ to_be_bytes w32 1) (to_be_bytes w32 file.number) gated.rest
     ∙ append_assoc (magic file.kind) (to_be_bytes w32 1) (to_be_bytes w32 file.number ++ gated.rest))
-    place differs
-no_break file bytes Version at seen records gated (place, differs) =
+    offset differs
+no_break file bytes Version at seen records gated (offset, differs) =
     as_wanted bytes (magic file.kind) (to_be_bytes w32 1) (to_be_bytes w32 file.number ++ gated.rest) seen at
-    (gated.is ∙ header_parts file gated.rest ∙ append_assoc (magic file.kind ++ to_be_bytes w32 1) (to_be_bytes w32 file.number) gated.rest) (omega (arith, place, magic_length file.kind)) differs
+    (gated.is ∙ header_parts file gated.rest ∙ append_assoc (magic file.kind ++ to_be_bytes w32 1) (to_be_bytes w32 file.number) gated.rest) (omega (arith, offset, magic_length file.kind)) differs
 no_break file bytes Number at seen records gated broken =
     ⊎_elim (λ header. as_wanted bytes (magic file.kind ++ to_be_bytes w32 1) (to_be_bytes w32 file.number) gated.rest seen at
     (gated.is ∙ header_parts file gated.rest) (omega (arith, header.0, magic_length file.kind, length-append (magic file.kind) (to_be_bytes w32 1)))
@@ -84,5 +84,5 @@ no_break file bytes Text at seen records gated broken = broken
 
 -- no damage is true of a gated file
 pub gated_undamaged : (file : FileName) (bytes : Bytes) (damage : Damage) (records : List Bytes) → IsGated file bytes records
-    → Shows file bytes damage → ⊥
+    → IsGatedDamage file bytes damage → ⊥
 gated_undamaged file bytes damage records gated shows = no_break file bytes damage.rule damage.at (seen_bytes damage.seen) records gated shows.breaks

@@ -2,14 +2,14 @@
 ghost use Rattle.std.specs.Prelude.{◌≡◌, ◌+◌, ◌≤◌, ◌^◌, ◌∷◌, ◌++◌, [], ℕ, List, length, if◌then◌else◌, IfErr, IfOk, OnOk, IsTrue, is_ok, false, Some};
 ghost use Rattle.std.specs.Option.{option_copied, option_to_list};
 ghost use Rattle.sasi_host.specs.View.{DiskCauses, ListCauses, Reaches, IsAbsent, IsThere, IsTold, contents};
-ghost use Rattle.sasi_host.specs.Disk.{Anyhow, Changes, IsKept, LeftWith, Same, Step};
+ghost use Rattle.sasi_host.specs.Disk.{AnyChange, Changes, IsFileDurable, LeftWith, Same, FileChange};
 ghost use Rattle.sasi_gated.specs.Format.{IsBeforeOrAfter, IsGated, new_file};
 ghost use Rattle.sasi_gated.specs.Gates.{IsAtGate, ReadsAt};
-ghost use Rattle.sasi_gated.specs.Damages.{Shows};
+ghost use Rattle.sasi_gated.specs.Damages.{IsGatedDamage};
 ghost use Rattle.sasi_gated.specs.Causes.{ReadingCauses};
-ghost use Rattle.sasi_gated.specs.Reads.{IsShown, IsShownAt, SparesGated, SparesReading, ReadsGate, ReadsRecords, Begins, Gains};
+ghost use Rattle.sasi_gated.specs.Reads.{GatedDamageShown, GatedDamageShownAt, NoFalseGatedDamage, NoFalseRecordDamage, ReadsGate, ReadsRecords, HasHeader, AppendsRecord};
 ghost use Rattle.sasi_host.specs.Damages.{OnDamage};
-ghost use Rattle.sasi_gated.specs.Standing.{IsAtEnd, IsReading, ReadsOn};
+ghost use Rattle.sasi_gated.specs.Handles.{IsAtEnd, IsReading, ReadsOn};
 
 use crate::Record;
 use crate::append::append_at;
@@ -32,7 +32,7 @@ pub struct Gated {
 
 impl Model for Gated {
     ghost use Rattle.std.specs.Prelude.{◌≤◌, ◌^◌};
-    ghost use Rattle.sasi_gated.specs.Standing.{Handle};
+    ghost use Rattle.sasi_gated.specs.Handles.{Handle};
 
     ghost Value = { Handle };
 
@@ -57,8 +57,8 @@ impl Gated {
     }
 
     /// The offset of the gate before which it stands.
-    pub fn place(&self) -> u64
-        ensures place { result ≡ self.now.at }
+    pub fn offset(&self) -> u64
+        ensures offset { result ≡ self.now.at }
         ensures fits { result ≤ 2 ^ 62 }
     {
         self.at
@@ -73,9 +73,9 @@ impl Gated {
     ) -> Result<Gated, HostFault>
         requires { IsAbsent (H.view host.old) file }
         ensures ok { IfOk result (λ gated. IsAtEnd (H.view host.new) file gated.at (option_to_list (option_copied first.entry))) }
-        ensures changes { Changes (Step file Anyhow) (H.view host.old) (H.view host.new) }
+        ensures changes { Changes (FileChange file AnyChange) (H.view host.old) (H.view host.new) }
         ensures room { IfOk result (λ gated. Reaches (H.view host.new) gated.file (gated.at + 1)) }
-        ensures place { IfOk result (λ gated. gated.at + 1 ≡ length (new_file file (option_copied first.entry))) }
+        ensures offset { IfOk result (λ gated. gated.at + 1 ≡ length (new_file file (option_copied first.entry))) }
         ensures fits { IfOk result (λ gated. gated.at ≤ 2 ^ 62) }
         ensures usable { IfOk result (λ gated. IsTrue gated.usable) }
         ensures file { IfOk result (λ gated. gated.file ≡ file) }
@@ -93,13 +93,13 @@ impl Gated {
     /// Opens a gated file, and stands at its first gate.
     pub fn open<H: Host>(host: &mut H, file: FileName) -> Result<Gated, ReadFault>
         requires { IsThere (H.view host.old) file }
-        ensures header { IfOk result (λ gated. Begins (H.view host.old) file gated.at) }
-        ensures records { IfOk result (λ gated. (bytes : List ℕ) (records : List (List ℕ)) → IsKept (H.view host.old) file bytes → IsGated file bytes records
+        ensures header { IfOk result (λ gated. HasHeader (H.view host.old) file gated.at) }
+        ensures records { IfOk result (λ gated. (bytes : List ℕ) (records : List (List ℕ)) → IsFileDurable (H.view host.old) file bytes → IsGated file bytes records
             → IsReading (H.view host.new) file gated.at [] records) }
-        ensures damaged { IfErr result (IsShown (H.view host.old) file) }
-        ensures undamaged { IfErr result (SparesGated (H.view host.old) file) }
+        ensures damaged { IfErr result (GatedDamageShown (H.view host.old) file) }
+        ensures undamaged { IfErr result (NoFalseGatedDamage (H.view host.old) file) }
         ensures changes { Changes Same (H.view host.old) (H.view host.new) }
-        ensures place { IfOk result (λ gated. gated.at ≡ 16) }
+        ensures offset { IfOk result (λ gated. gated.at ≡ 16) }
         ensures usable { IfOk result (λ gated. IsTrue gated.usable) }
         ensures file { IfOk result (λ gated. gated.file ≡ file) }
         ensures causes { ReadingCauses (H.view host.old) (H.view host.new) result }
@@ -121,10 +121,10 @@ impl Gated {
         ensures records { IfOk result (λ more. ReadsRecords (H.view host.old) (H.view host.new) self.old.file self.old.at self.new.at more out.new.items) }
         ensures room { IfOk result (λ more. more ≡ false → Reaches (H.view host.new) self.new.file (self.new.at + 1)) }
         ensures short { OnOk result (length out.new.items ≤ 2 ^ 30) }
-        ensures damaged { IfErr result (IsShownAt (H.view host.old) self.old.file self.old.at) }
-        ensures undamaged { IfErr result (SparesReading (H.view host.old) self.old.file self.old.at) }
+        ensures damaged { IfErr result (GatedDamageShownAt (H.view host.old) self.old.file self.old.at) }
+        ensures undamaged { IfErr result (NoFalseRecordDamage (H.view host.old) self.old.file self.old.at) }
         ensures changes { Changes Same (H.view host.old) (H.view host.new) }
-        ensures place { IfOk result (λ more. self.new.at ≡ (if more then self.old.at + (5 + length out.new.items) else self.old.at)) }
+        ensures offset { IfOk result (λ more. self.new.at ≡ (if more then self.old.at + (5 + length out.new.items) else self.old.at)) }
         ensures fits { OnOk result (self.new.at ≤ 2 ^ 62) }
         ensures usable { self.new.usable ≡ is_ok result }
         ensures file { self.new.file ≡ self.old.file }
@@ -142,11 +142,11 @@ impl Gated {
     pub fn append<H: Host>(&mut self, host: &mut H, item: &Record) -> Result<(), Failed>
         requires room { Reaches (H.view host.old) self.old.file (self.old.at + 1) }
         requires usable { IsTrue self.old.usable }
-        ensures ok { OnOk result (Gains (H.view host.old) (H.view host.new) self.old.file self.old.at self.new.at item.now) }
+        ensures ok { OnOk result (AppendsRecord (H.view host.old) (H.view host.new) self.old.file self.old.at self.new.at item.now) }
         ensures any_moment { (records : List (List ℕ)) → IsAtEnd (H.view host.old) self.old.file self.old.at records
-            → Changes (Step self.old.file (LeftWith (IsBeforeOrAfter self.old.file records item.now))) (H.view host.old) (H.view host.new) }
-        ensures changes { Changes (Step self.old.file Anyhow) (H.view host.old) (H.view host.new) }
-        ensures place { OnOk result (self.new.at ≡ self.old.at + (5 + length item.now)) }
+            → Changes (FileChange self.old.file (LeftWith (IsBeforeOrAfter self.old.file records item.now))) (H.view host.old) (H.view host.new) }
+        ensures changes { Changes (FileChange self.old.file AnyChange) (H.view host.old) (H.view host.new) }
+        ensures offset { OnOk result (self.new.at ≡ self.old.at + (5 + length item.now)) }
         ensures room { OnOk result (Reaches (H.view host.new) self.new.file (self.new.at + 1)) }
         ensures fits { OnOk result (self.new.at ≤ 2 ^ 62) }
         ensures usable { self.new.usable ≡ is_ok result }

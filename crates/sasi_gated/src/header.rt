@@ -2,9 +2,9 @@
 ghost use Rattle.std.specs.Prelude.{◌≡◌, ◌<◌, ◌↔◌, ◌++◌, [], List, ℕ, length, IfErr, IfOk, IsErr, OnOk};
 ghost use Rattle.std.specs.Int.{to_be_bytes, w32};
 ghost use Rattle.sasi_gated.specs.Format.{header, magic};
-ghost use Rattle.sasi_gated.specs.Damages.{Shows};
+ghost use Rattle.sasi_gated.specs.Damages.{IsGatedDamage};
 
-use crate::damage::cut_off;
+use crate::damage::truncated;
 use sasi_fields::{FieldReader, ShortField, put_bytes, put_u32};
 use sasi_host::{Damage, FileName, FormatRule, Kind, found};
 use std::alloc::AllocError;
@@ -58,10 +58,10 @@ fn header_in<'a>(bytes: &'a [u8]) -> Result<Header<'a>, ShortField>
 // Whether the first 16 bytes of the file, or all that it has, are its header.
 pub fn check_header(file: FileName, bytes: &[u8]) -> Result<(), Damage>
     ensures ok { OnOk result ((rest : List ℕ) × (bytes.now ≡ header file ++ rest)) }
-    ensures damaged { IfErr result (λ damage. (more : List ℕ) → (length bytes.now < 16 → more ≡ []) → Shows file (bytes.now ++ more) damage) }
+    ensures damaged { IfErr result (λ damage. (more : List ℕ) → (length bytes.now < 16 → more ≡ []) → IsGatedDamage file (bytes.now ++ more) damage) }
 {
     let Ok(header) = header_in(bytes) else {
-        return Err(cut_off(file, bytes.len() as u64));
+        return Err(truncated(file, bytes.len() as u64));
     };
     if header.magic != magic_of(file.kind) {
         return Err(found(file, 0, FormatRule::Magic, header.magic));

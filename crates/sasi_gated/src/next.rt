@@ -3,18 +3,18 @@ ghost use Rattle.std.specs.Prelude.{false, ◌≡◌, ◌+◌, ◌≤◌, ◌^�
 ghost use Rattle.sasi_host.specs.View.{IsThere, IsTold, Reaches, contents};
 ghost use Rattle.sasi_host.specs.Disk.{Changes, Same};
 ghost use Rattle.sasi_gated.specs.Gates.{IsAtGate, ReadsAt};
-ghost use Rattle.sasi_gated.specs.Damages.{Shows};
+ghost use Rattle.sasi_gated.specs.Damages.{IsGatedDamage};
 ghost use Rattle.sasi_gated.specs.Causes.{ReadingCauses};
-ghost use Rattle.sasi_gated.specs.Reads.{IsShown, IsShownAt, SparesGated, SparesReading, ReadsGate, ReadsRecords, Begins, Gains};
+ghost use Rattle.sasi_gated.specs.Reads.{GatedDamageShown, GatedDamageShownAt, NoFalseGatedDamage, NoFalseRecordDamage, ReadsGate, ReadsRecords, HasHeader, AppendsRecord};
 ghost use Rattle.sasi_host.specs.Damages.{OnDamage};
-ghost use Rattle.sasi_gated.specs.Standing.{IsReading, ReadsOn};
+ghost use Rattle.sasi_gated.specs.Handles.{IsReading, ReadsOn};
 
-use crate::damage::cut_off;
+use crate::damage::truncated;
 use crate::read::read_record;
 use sasi_host::{FileName, Host, ReadFault};
 
 // The most bytes that a file has.
-const LARGEST_FILE: u64 = 1 << 62;
+const MAX_FILE_SIZE: u64 = 1 << 62;
 
 // Whether a record was read, and the offset of the gate before which the reader then stands.
 #[derive(Clone, Copy)]
@@ -30,15 +30,15 @@ pub fn read_next<H: Host>(
     out: &mut Vec<u8>,
 ) -> Result<Next, ReadFault>
     requires there { IsThere (H.view host.old) file }
-    requires place { at ≤ 2 ^ 62 }
+    requires offset { at ≤ 2 ^ 62 }
     ensures gate { IfOk result (λ next. ReadsGate (H.view host.old) file at next.at next.more out.new.items) }
     ensures records { IfOk result (λ next. ReadsRecords (H.view host.old) (H.view host.new) file at next.at next.more out.new.items) }
     ensures room { IfOk result (λ next. next.more ≡ false → Reaches (H.view host.new) file (next.at + 1)) }
-    ensures place { IfOk result (λ next. next.at ≡ (if next.more then at + (5 + length out.new.items) else at)) }
+    ensures offset { IfOk result (λ next. next.at ≡ (if next.more then at + (5 + length out.new.items) else at)) }
     ensures fits { IfOk result (λ next. next.at ≤ 2 ^ 62) }
     ensures short { OnOk result (length out.new.items ≤ 2 ^ 30) }
-    ensures damaged { IfErr result (IsShownAt (H.view host.old) file at) }
-    ensures undamaged { IfErr result (SparesReading (H.view host.old) file at) }
+    ensures damaged { IfErr result (GatedDamageShownAt (H.view host.old) file at) }
+    ensures undamaged { IfErr result (NoFalseRecordDamage (H.view host.old) file at) }
     ensures changes { Changes Same (H.view host.old) (H.view host.new) }
     ensures causes { ReadingCauses (H.view host.old) (H.view host.new) result }
 {
@@ -47,8 +47,8 @@ pub fn read_next<H: Host>(
         return Ok(Next { more: false, at });
     }
     let next = at + 5 + out.len() as u64;
-    if next > LARGEST_FILE {
-        return Err(ReadFault::Damaged(cut_off(file, next)));
+    if next > MAX_FILE_SIZE {
+        return Err(ReadFault::Damaged(truncated(file, next)));
     }
     Ok(Next {
         more: true,

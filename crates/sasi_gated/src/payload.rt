@@ -4,10 +4,10 @@ ghost use Rattle.sasi_host.specs.View.{IsThere, contents};
 ghost use Rattle.sasi_host.specs.Disk.{Changes, Same};
 ghost use Rattle.sasi_gated.specs.Damages.{TellsSize};
 ghost use Rattle.sasi_gated.specs.Causes.{ReadingCauses};
-ghost use Rattle.sasi_gated.specs.Reads.{IsShown, IsShownAt, SparesGated, SparesReading, ReadsGate, ReadsRecords, Begins, Gains};
+ghost use Rattle.sasi_gated.specs.Reads.{GatedDamageShown, GatedDamageShownAt, NoFalseGatedDamage, NoFalseRecordDamage, ReadsGate, ReadsRecords, HasHeader, AppendsRecord};
 ghost use Rattle.sasi_host.specs.Damages.{OnDamage};
 
-use crate::damage::cut_off;
+use crate::damage::truncated;
 use sasi_host::{FileName, Host, ReadFault};
 
 // Appends so many bytes of the file from this offset on, at most as many as one read of the host gives.
@@ -19,7 +19,7 @@ fn read_piece<H: Host>(
     out: &mut Vec<u8>,
 ) -> Result<(), ReadFault>
     requires there { IsThere (H.view host.old) file }
-    requires place { at ≤ 2 ^ 63 }
+    requires offset { at ≤ 2 ^ 63 }
     requires some { 0 < want }
     requires page { want ≤ 4096 }
     ensures ok { OnOk result ((bytes : _) → contents (H.view host.old) file ≡ Some bytes → out.new.items ≡ out.old.items ++ take want (drop at bytes)) }
@@ -32,7 +32,7 @@ fn read_piece<H: Host>(
     let mut page = [0; 4096];
     let count = host.read(file, at, &mut page[..want])?;
     if count < want {
-        return Err(ReadFault::Damaged(cut_off(file, at + count as u64)));
+        return Err(ReadFault::Damaged(truncated(file, at + count as u64)));
     }
     out.extend_from_slice(&page[..want])?;
     Ok(())
@@ -47,9 +47,9 @@ pub fn read_payload<H: Host>(
     out: &mut Vec<u8>,
 ) -> Result<(), ReadFault>
     requires there { IsThere (H.view host.old) file }
-    requires place { at ≤ 2 ^ 62 + 5 }
+    requires offset { at ≤ 2 ^ 62 + 5 }
     requires count { count ≤ 2 ^ 30 }
-    requires begun { length out.old.items ≤ count }
+    requires prefix { length out.old.items ≤ count }
     ensures ok { OnOk result ((bytes : _) → contents (H.view host.old) file ≡ Some bytes → out.old.items ≡ take (length out.old.items) (drop at bytes) → out.new.items ≡ take count (drop at bytes)) }
     ensures len { OnOk result (length out.new.items ≡ count) }
     ensures damaged { IfErr result (OnDamage (λ damage. (bytes : _) → contents (H.view host.old) file ≡ Some bytes → at + length out.old.items ≤ length bytes

@@ -3,13 +3,13 @@ ghost use Rattle.std.specs.Prelude.{◌≡◌, ◌+◌, ◌<◌, ◌≤◌, ◌^
 ghost use Rattle.sasi_host.specs.View.{IsThere, contents};
 ghost use Rattle.sasi_host.specs.Disk.{Changes, Same};
 ghost use Rattle.sasi_gated.specs.Format.{header};
-ghost use Rattle.sasi_gated.specs.Damages.{Shows, TellsSize};
-ghost use Rattle.sasi_gated.specs.Gates.{Gives, IsAtGate};
+ghost use Rattle.sasi_gated.specs.Damages.{IsGatedDamage, TellsSize};
+ghost use Rattle.sasi_gated.specs.Gates.{ReadsFrom, IsAtGate};
 ghost use Rattle.sasi_gated.specs.Causes.{ReadingCauses};
-ghost use Rattle.sasi_gated.specs.Reads.{IsShown, IsShownAt, SparesGated, SparesReading, ReadsGate, ReadsRecords, Begins, Gains};
+ghost use Rattle.sasi_gated.specs.Reads.{GatedDamageShown, GatedDamageShownAt, NoFalseGatedDamage, NoFalseRecordDamage, ReadsGate, ReadsRecords, HasHeader, AppendsRecord};
 ghost use Rattle.sasi_host.specs.Damages.{OnDamage};
 
-use crate::damage::cut_off;
+use crate::damage::truncated;
 use crate::gate::{Gate, gate_in};
 use crate::header::check_header;
 use crate::payload::read_payload;
@@ -19,7 +19,7 @@ use sasi_host::{FileName, FormatRule, Host, ReadFault, found};
 pub fn read_header<H: Host>(host: &mut H, file: FileName) -> Result<(), ReadFault>
     requires { IsThere (H.view host.old) file }
     ensures ok { OnOk result ((bytes : _) → contents (H.view host.old) file ≡ Some bytes → (rest : List ℕ) × (bytes ≡ header file ++ rest)) }
-    ensures damaged { IfErr result (IsShown (H.view host.old) file) }
+    ensures damaged { IfErr result (GatedDamageShown (H.view host.old) file) }
     ensures changes { Changes Same (H.view host.old) (H.view host.new) }
     ensures causes { ReadingCauses (H.view host.old) (H.view host.new) result }
 {
@@ -37,13 +37,13 @@ pub fn read_record<H: Host>(
     out: &mut Vec<u8>,
 ) -> Result<bool, ReadFault>
     requires there { IsThere (H.view host.old) file }
-    requires place { at ≤ 2 ^ 62 }
+    requires offset { at ≤ 2 ^ 62 }
     requires empty { out.old.items ≡ [] }
     ensures ok { IfOk result (λ more. (bytes : List ℕ) (done : List (List ℕ)) (rest : List ℕ) → contents (H.view host.old) file ≡ Some bytes → IsAtGate file bytes at done rest
-        → Gives more rest out.new.items) }
+        → ReadsFrom more rest out.new.items) }
     ensures short { OnOk result (length out.new.items ≤ 2 ^ 30) }
     ensures within { OnOk result ((bytes : List ℕ) → contents (H.view host.old) file ≡ Some bytes → at < length bytes) }
-    ensures damaged { IfErr result (IsShownAt (H.view host.old) file at) }
+    ensures damaged { IfErr result (GatedDamageShownAt (H.view host.old) file at) }
     ensures changes { Changes Same (H.view host.old) (H.view host.new) }
     ensures causes { ReadingCauses (H.view host.old) (H.view host.new) result }
 {
@@ -51,40 +51,40 @@ pub fn read_record<H: Host>(
     let count = host.read(file, at, &mut page)?;
     match gate_in(&page[..count]) {
         Gate::Closed => Ok(false),
-        Gate::CutOff => Err(ReadFault::Damaged(cut_off(file, at + count as u64))),
-        Gate::NoLength(length) => {
+        Gate::Truncated => Err(ReadFault::Damaged(truncated(file, at + count as u64))),
+        Gate::BadLength(length) => {
             let bytes = length.to_be_bytes();
             Err(ReadFault::Damaged(found(file, at + 1, FormatRule::Number, &bytes)))
         }
-        Gate::Opened { length, begun } => {
-            read_begun(host, file, at + 5, length as usize, begun, out)?;
+        Gate::Opened { length, prefix } => {
+            complete_payload(host, file, at + 5, length as usize, prefix, out)?;
             Ok(true)
         }
     }
 }
 
 // Reads a payload of which the first bytes were read with the gate.
-fn read_begun<H: Host>(
+fn complete_payload<H: Host>(
     host: &mut H,
     file: FileName,
     at: u64,
     count: usize,
-    begun: &[u8],
+    prefix: &[u8],
     out: &mut Vec<u8>,
 ) -> Result<(), ReadFault>
     requires there { IsThere (H.view host.old) file }
-    requires place { at ≤ 2 ^ 62 + 5 }
+    requires offset { at ≤ 2 ^ 62 + 5 }
     requires count { count ≤ 2 ^ 30 }
     requires empty { out.old.items ≡ [] }
-    ensures ok { OnOk result ((bytes : List ℕ) (more : List ℕ) → contents (H.view host.old) file ≡ Some bytes → drop at bytes ≡ begun.now ++ more
+    ensures ok { OnOk result ((bytes : List ℕ) (more : List ℕ) → contents (H.view host.old) file ≡ Some bytes → drop at bytes ≡ prefix.now ++ more
         → out.new.items ≡ take count (drop at bytes)) }
     ensures len { OnOk result (length out.new.items ≡ count) }
-    ensures damaged { IfErr result (OnDamage (λ damage. (bytes : List ℕ) (more : List ℕ) → contents (H.view host.old) file ≡ Some bytes → drop at bytes ≡ begun.now ++ more
+    ensures damaged { IfErr result (OnDamage (λ damage. (bytes : List ℕ) (more : List ℕ) → contents (H.view host.old) file ≡ Some bytes → drop at bytes ≡ prefix.now ++ more
         → at ≤ length bytes → TellsSize file bytes damage × (length (drop at bytes) < count))) }
     ensures changes { Changes Same (H.view host.old) (H.view host.new) }
     ensures causes { ReadingCauses (H.view host.old) (H.view host.new) result }
 {
-    let first = begun.len().min(count);
-    out.extend_from_slice(&begun[..first])?;
+    let first = prefix.len().min(count);
+    out.extend_from_slice(&prefix[..first])?;
     read_payload(host, file, at, count, out)
 }

@@ -7,7 +7,7 @@ use Rattle.sasi_host.specs.declared.call.Call.{Call}
 use Rattle.sasi_host.specs.declared.call.Call.TheVariants.{Emitted}
 use Rattle.sasi_host.specs.Names.{Bytes, Folder}
 use Rattle.sasi_host.specs.View.{KeepsMoments, TellsPrefixes, Emits}
-use Rattle.sasi_host.specs.Disk.{Changes, Step}
+use Rattle.sasi_host.specs.Disk.{Changes, FileChange}
 use Rattle.sasi_host.specs.Calls.{Medium, apply, Effect, output, step, replay, opened, view_after, LeftSince}
 use Rattle.sasi_host.specs.CallLaws.{since_keeps, fronts_since, some_same, pushed, replay_push, since_push}
 
@@ -33,7 +33,7 @@ unmoved start S same old new is d o r d2 o2 r2 = subst (λ (calls : List Call). 
 })
 
 -- a file that stays as it was, and all others
-pub step_same : (file : FileName) (R : Option Bytes → Option Bytes → Type 0) → ((o : Option Bytes) → R o o) → (f : Folder) → Step file R f f
+pub step_same : (file : FileName) (R : Option Bytes → Option Bytes → Type 0) → ((o : Option Bytes) → R o o) → (f : Folder) → FileChange file R f f
 step_same file R same f = record { others = λ name apart. refl; this = same (get f file) }
 
 -- a call that is in the log

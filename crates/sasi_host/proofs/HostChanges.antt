@@ -5,7 +5,7 @@ use Rattle.sasi_host.specs.declared.call.Call.{Call}
 use Rattle.sasi_host.specs.declared.call.Call.TheVariants.{Emitted}
 use Rattle.sasi_host.specs.Names.{Bytes, Folder}
 use Rattle.sasi_host.specs.View.{KeepsMoments, TellsPrefixes, Emits, AllOut}
-use Rattle.sasi_host.specs.Disk.{Relation, Changes, Step}
+use Rattle.sasi_host.specs.Disk.{Relation, Changes, FileChange}
 use Rattle.sasi_host.specs.Calls.{replay, opened, apply, output, Effect, view_after}
 use Rattle.sasi_host.specs.Memory.{MemoryHost, host_view}
 use Rattle.sasi_host.proofs.CallChanges.{ok_from, step_same, unmoved, noted, keeps, emits_all, tells_prefixes, folder_on, emitted_on, image_on}
@@ -37,8 +37,8 @@ still_folder a b is =
 
 -- as a change of one file
 pub still_step : (a b : MemoryHost) (file : FileName) (R : Option Bytes → Option Bytes → Type 0) → ((o : Option Bytes) → R o o)
-    → b.start ≡ a.start → b.calls ≡ a.calls → Changes (Step file R) (host_view a) (host_view b)
-still_step a b file R same start calls = still_changes a b (Step file R) (step_same file R same) (record { start = start; calls = calls })
+    → b.start ≡ a.start → b.calls ≡ a.calls → Changes (FileChange file R) (host_view a) (host_view b)
+still_step a b file R same start calls = still_changes a b (FileChange file R) (step_same file R same) (record { start = start; calls = calls })
 
 -- ---- a call that was done
 

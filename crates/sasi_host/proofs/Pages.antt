@@ -13,9 +13,9 @@ use Rattle.sasi_host.specs.Names.{Bytes}
 use Rattle.sasi_host.specs.View.{View, IsThere, contents, Rose, ReadsAtMost}
 use Rattle.sasi_host.specs.Disk.{Changes, Same, Fills}
 use Rattle.sasi_host.specs.Contents.{contents_same, there_where}
-use Rattle.sasi_host.specs.Damages.{Shown, ShowsEnd}
-use Rattle.sasi_host.specs.Showing.{shown_before, end_later}
-use Rattle.sasi_host.specs.Held.{pages_of, in_hand, fresh_pages}
+use Rattle.sasi_host.specs.Damages.{DamageShown, ShowsEnd}
+use Rattle.sasi_host.specs.DamageLaws.{shown_before, end_later}
+use Rattle.sasi_host.specs.Buffered.{pages_of, buffered_at, unbuffered_pages}
 
 -- what was read of a page is all that the file has there
 pub page_read : (bytes old new : Bytes) (page count : ℕ) → length old ≡ 4096 → Fills bytes (page * 4096) old new count
@@ -64,60 +64,60 @@ part_more bytes out part at filled n k m is le read long all =
 -- ---- how many pages are read
 
 -- at most one page of a run is buffered
-in_hand_most : (held : Option ℕ) (at : ℕ) → in_hand held at ≤ 1
-in_hand_most None at = omega arith
-in_hand_most (Some page) at = case (nat_eq page (at / 4096))
+buffered_at_most_one : (buffered : Option ℕ) (at : ℕ) → buffered_at buffered at ≤ 1
+buffered_at_most_one None at = omega arith
+buffered_at_most_one (Some page) at = case (nat_eq page (at / 4096))
   where
     case : (b : Bool) → (if b then 1 else 0) ≤ 1
     case true = omega arith
     case false = omega arith
 
 -- and is that where it is the first
-in_hand_first : (page at : ℕ) → page ≡ at / 4096 → in_hand (Some page) at ≡ 1
-in_hand_first page at is = grind (arith, nat_tests)
+buffered_at_first : (page at : ℕ) → page ≡ at / 4096 → buffered_at (Some page) at ≡ 1
+buffered_at_first page at is = grind (arith, nat_tests)
 
 -- a part on one page and what is left behind it take no more pages than both in one
-pub spend : (held : Option ℕ) (here part left : ℕ) → 0 < part → part ≡ min (4096 - here % 4096) left
-    → fresh_pages held here part + fresh_pages (Some (here / 4096)) (here + part) (left - part) ≤ fresh_pages held here left
-spend held here part left some is =
-    over (in_hand held here) (in_hand (Some (here / 4096)) (here + part)) (in_hand_most held here) (in_hand_first (here / 4096) (here + part))
+pub spend : (buffered : Option ℕ) (here part left : ℕ) → 0 < part → part ≡ min (4096 - here % 4096) left
+    → unbuffered_pages buffered here part + unbuffered_pages (Some (here / 4096)) (here + part) (left - part) ≤ unbuffered_pages buffered here left
+spend buffered here part left some is =
+    over (buffered_at buffered here) (buffered_at (Some (here / 4096)) (here + part)) (buffered_at_most_one buffered here) (buffered_at_first (here / 4096) (here + part))
   where
     over : (h k : ℕ) → h ≤ 1 → (here / 4096 ≡ (here + part) / 4096 → k ≡ 1)
         → (pages_of here part - h) + (pages_of (here + part) (left - part) - k) ≤ pages_of here left - h
     over h k most same = grind (arith, some, is, most, same)
 
 -- so no more are read than the whole run takes
-pub spend_on : (held next : Option ℕ) (at filled part whole n start before after most : ℕ) → next ≡ Some ((at + filled) / 4096) → 0 < part
+pub spend_on : (buffered next : Option ℕ) (at filled part whole n start before after most : ℕ) → next ≡ Some ((at + filled) / 4096) → 0 < part
     → part ≡ min (4096 - (at + filled) % 4096) (whole - filled) → n ≡ part
-    → before + fresh_pages held (at + filled) (whole - filled) ≤ start + most → after ≤ before + fresh_pages held (at + filled) n
-    → after + fresh_pages next (at + (filled + part)) (whole - (filled + part)) ≤ start + most
-spend_on held next at filled part whole n start before after most page some is long credit spent =
-    let behind : fresh_pages next (at + (filled + part)) (whole - (filled + part)) ≡ fresh_pages (Some ((at + filled) / 4096)) (at + filled + part) (whole - filled - part) =
-    ap (λ (p : Option ℕ). fresh_pages p (at + (filled + part)) (whole - (filled + part))) page
-    ∙ ap (λ (i : ℕ). fresh_pages (Some ((at + filled) / 4096)) i (whole - (filled + part))) (omega arith)
-    ∙ ap (λ (i : ℕ). fresh_pages (Some ((at + filled) / 4096)) (at + filled + part) i) (omega arith)
+    → before + unbuffered_pages buffered (at + filled) (whole - filled) ≤ start + most → after ≤ before + unbuffered_pages buffered (at + filled) n
+    → after + unbuffered_pages next (at + (filled + part)) (whole - (filled + part)) ≤ start + most
+spend_on buffered next at filled part whole n start before after most page some is long credit spent =
+    let behind : unbuffered_pages next (at + (filled + part)) (whole - (filled + part)) ≡ unbuffered_pages (Some ((at + filled) / 4096)) (at + filled + part) (whole - filled - part) =
+    ap (λ (p : Option ℕ). unbuffered_pages p (at + (filled + part)) (whole - (filled + part))) page
+    ∙ ap (λ (i : ℕ). unbuffered_pages (Some ((at + filled) / 4096)) i (whole - (filled + part))) (omega arith)
+    ∙ ap (λ (i : ℕ). unbuffered_pages (Some ((at + filled) / 4096)) (at + filled + part) i) (omega arith)
     in
-    let here : fresh_pages held (at + filled) n ≡ fresh_pages held (at + filled) part = ap (λ (i : ℕ). fresh_pages held (at + filled) i) long in
-    over (fresh_pages held (at + filled) part) (fresh_pages held (at + filled) n) _ _ _ (spend held (at + filled) part (whole - filled) some is) here behind credit spent
+    let here : unbuffered_pages buffered (at + filled) n ≡ unbuffered_pages buffered (at + filled) part = ap (λ (i : ℕ). unbuffered_pages buffered (at + filled) i) long in
+    over (unbuffered_pages buffered (at + filled) part) (unbuffered_pages buffered (at + filled) n) _ _ _ (spend buffered (at + filled) part (whole - filled) some is) here behind credit spent
   where
     over : (part_cost read_cost rest_cost next_cost left_cost : ℕ) → part_cost + rest_cost ≤ left_cost → read_cost ≡ part_cost → next_cost ≡ rest_cost
         → before + left_cost ≤ start + most → after ≤ before + read_cost → after + next_cost ≤ start + most
     over part_cost read_cost rest_cost next_cost left_cost all here behind credit spent = omega arith
 
 -- the first of them takes no more
-pub spend_first : (held : Option ℕ) (here part left n : ℕ) → 0 < part → part ≡ min (4096 - here % 4096) left → n ≡ part
-    → fresh_pages held here n ≤ fresh_pages held here left
-spend_first held here part left n some is long =
-    let all : fresh_pages held here part + fresh_pages (Some (here / 4096)) (here + part) (left - part) ≤ fresh_pages held here left = spend held here part left some is in
-    let this : fresh_pages held here n ≡ fresh_pages held here part = ap (λ (i : ℕ). fresh_pages held here i) long in
+pub spend_first : (buffered : Option ℕ) (here part left n : ℕ) → 0 < part → part ≡ min (4096 - here % 4096) left → n ≡ part
+    → unbuffered_pages buffered here n ≤ unbuffered_pages buffered here left
+spend_first buffered here part left n some is long =
+    let all : unbuffered_pages buffered here part + unbuffered_pages (Some (here / 4096)) (here + part) (left - part) ≤ unbuffered_pages buffered here left = spend buffered here part left some is in
+    let this : unbuffered_pages buffered here n ≡ unbuffered_pages buffered here part = ap (λ (i : ℕ). unbuffered_pages buffered here i) long in
     over _ _ _ _ all this
   where
     over : (part_cost read_cost rest_cost left_cost : ℕ) → part_cost + rest_cost ≤ left_cost → read_cost ≡ part_cost → read_cost ≤ left_cost
     over part_cost read_cost rest_cost left_cost all this = omega arith
 
 -- at the start all is left
-pub spend_none : (held : Option ℕ) (at whole : ℕ) → fresh_pages held (at + 0) (whole - 0) ≡ fresh_pages held at whole
-spend_none held at whole = ap (λ (i : ℕ). fresh_pages held i (whole - 0)) (omega arith) ∙ ap (λ (i : ℕ). fresh_pages held at i) (omega arith)
+pub spend_none : (buffered : Option ℕ) (at whole : ℕ) → unbuffered_pages buffered (at + 0) (whole - 0) ≡ unbuffered_pages buffered at whole
+spend_none buffered at whole = ap (λ (i : ℕ). unbuffered_pages buffered i (whole - 0)) (omega arith) ∙ ap (λ (i : ℕ). unbuffered_pages buffered at i) (omega arith)
 
 -- ---- one read after another
 
@@ -133,9 +133,9 @@ there_on a b was now change same there =
 
 -- what a file shows at its end it showed before
 pub end_before : (a b : View) (was now : FileName) (near far : ℕ) (f : ReadFault) → Changes Same a b → now ≡ was → near ≤ far
-    → Shown b now (ShowsEnd near now) f → Shown a was (ShowsEnd far was) f
+    → DamageShown b now (ShowsEnd near now) f → DamageShown a was (ShowsEnd far was) f
 end_before a b was now near far f change same le shown =
-    subst (λ (name : FileName). Shown a name (ShowsEnd far name) f) same (end_later a now near far f le (shown_before (ShowsEnd near now) a b now f change shown))
+    subst (λ (name : FileName). DamageShown a name (ShowsEnd far name) f) same (end_later a now near far f le (shown_before (ShowsEnd near now) a b now f change shown))
 
 -- what made a call fail made a longer one fail
 pub fault_after : {S T : Type 0} (a b c : View) (n most : ℕ) (f : ReadFault) → a.disk_faults ≤ b.disk_faults → b.out_faults ≡ a.out_faults

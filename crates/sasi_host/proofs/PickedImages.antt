@@ -11,7 +11,7 @@ use Rattle.sasi_host.specs.declared.pick.BytePick.{BytePick}
 use Rattle.sasi_host.specs.declared.pick.BytePick.TheVariants as bytes
 use Rattle.sasi_host.specs.Names.{Bytes, Folder, name_cmp}
 use Rattle.sasi_host.specs.NameLaws.{insert_here, insert_apart, remove_here, remove_apart, name_cases, test_here}
-use Rattle.sasi_host.specs.Disk.{IsCrashOf, Step, InPlace, Torn, MaybeCreated, MaybeDeleted}
+use Rattle.sasi_host.specs.Disk.{IsCrashOf, FileChange, InPlace, Torn, MaybeCreated, MaybeDeleted}
 use Rattle.sasi_host.specs.Calls.{opened, view_after, Medium, apply, Effect, step, replay}
 use Rattle.sasi_host.specs.Files.{overwritten, written}
 use Rattle.sasi_host.specs.CallLaws.{writes_well, stays_on, some_same}
@@ -22,15 +22,15 @@ pub record Agrees (now left : Folder) (rest : List Call) : Type 0 where
   pub contents : (file : FileName) (a b : Bytes) → synced_later file rest ≡ true → get now file ≡ Some b → get left file ≡ Some a → a ≡ b
   pub listed : (file : FileName) → folder_later rest ≡ true → is_some (get left file) ≡ is_some (get now file)
 
-step_none : (file : FileName) (R : Option Bytes → Option Bytes → Type 0) (f : Folder) → R (get f file) (get f file) → Step file R f f
+step_none : (file : FileName) (R : Option Bytes → Option Bytes → Type 0) (f : Folder) → R (get f file) (get f file) → FileChange file R f f
 step_none file R f same = record { others = λ name apart. refl; this = same }
 
-torn_length : (file : FileName) (at m n : ℕ) (f g : Folder) → m ≡ n → Step file (InPlace (Torn at m)) f g → Step file (InPlace (Torn at n)) f g
-torn_length file at m n f g is s = subst (λ (k : ℕ). Step file (InPlace (Torn at k)) f g) is s
+torn_length : (file : FileName) (at m n : ℕ) (f g : Folder) → m ≡ n → FileChange file (InPlace (Torn at m)) f g → FileChange file (InPlace (Torn at n)) f g
+torn_length file at m n f g is s = subst (λ (k : ℕ). FileChange file (InPlace (Torn at k)) f g) is s
 
 -- each pick of a pending write is what a crash may make of it
 pending_well : (pick : BytePick) (file : FileName) (at : ℕ) (b : Bytes) (left : Folder)
-    → Step file (InPlace (Torn at (length b))) left (pending pick file at b left)
+    → FileChange file (InPlace (Torn at (length b))) left (pending pick file at b left)
 pending_well bytes.AsNow file at b left = writes_well file at b left (get left file) refl
 pending_well bytes.AsSynced file at b left = step_none file (InPlace (Torn at (length b))) left (stays_on at (length b) (get left file))
 pending_well bytes.Zeros file at b left =
@@ -48,17 +48,17 @@ itself_first file rest = ap (λ (t : Bool). t || synced_later file rest) (test_h
 effect : (pick : Pick) (call : Call) (rest : List Call) (now left : Folder) → Agrees now left (call ∷ rest)
     → Effect call now left (pick_step pick call rest left)
 effect pick (Created file) rest now left agrees =
-    chosen (folder_later rest || is_now pick.names || is_some (get left file)) (Step file MaybeCreated) left (insert left file []) left
+    chosen (folder_later rest || is_now pick.names || is_some (get left file)) (FileChange file MaybeCreated) left (insert left file []) left
     (record { others = λ name apart. insert_apart left file name [] apart; this = inr (insert_here left file []) })
     (step_none file MaybeCreated left (inl refl))
 effect pick (Wrote file at b) rest now left agrees =
-    chosen (synced_later file rest) (Step file (InPlace (Torn at (length b)))) left (written (get left file) file at b left)
+    chosen (synced_later file rest) (FileChange file (InPlace (Torn at (length b)))) left (written (get left file) file at b left)
     (pending pick.bytes file at b left)
     (writes_well file at b left (get left file) refl)
     (pending_well pick.bytes file at b left)
 effect pick (Synced file) rest now left agrees = (refl, λ a b is has. agrees.contents file a b (itself_first file rest) is has)
 effect pick (Deleted file) rest now left agrees =
-    chosen (folder_later rest || is_now pick.names) (Step file MaybeDeleted) left (remove left file) left
+    chosen (folder_later rest || is_now pick.names) (FileChange file MaybeDeleted) left (remove left file) left
     (record { others = λ name apart. remove_apart left file name apart; this = inr (remove_here left file) })
     (step_none file MaybeDeleted left (inl refl))
 effect pick FolderSynced rest now left agrees = (refl, λ name. agrees.listed name refl)

@@ -8,7 +8,7 @@ use Rattle.sasi_host.specs.declared.call.Call.{Call}
 use Rattle.sasi_host.specs.declared.call.Call.TheVariants.{Created, Wrote, Synced, Deleted, FolderSynced, Emitted, Put}
 use Rattle.sasi_host.specs.Names.{Bytes, Folder}
 use Rattle.sasi_host.specs.View.{View, IsSound}
-use Rattle.sasi_host.specs.Disk.{Changes, Step, InPlace, Torn, overlay}
+use Rattle.sasi_host.specs.Disk.{Changes, FileChange, InPlace, Torn, overlay}
 use Rattle.sasi_host.specs.Files.{FitsAll, overwritten, written}
 use Rattle.sasi_host.specs.NameLaws.{insert_here, insert_apart, remove_here, remove_apart}
 use Rattle.std.proofs.lemmas.Bool.{leb-true}
@@ -115,7 +115,7 @@ overwrites_well old at bytes = from (nat_le at (length old)) refl
 
 -- a write does to the folder what a crash may leave of it
 pub writes_well : (file : FileName) (at : ℕ) (bytes : Bytes) (f : Folder) (o : Option Bytes) → get f file ≡ o
-    → Step file (InPlace (Torn at (length bytes))) f (written o file at bytes f)
+    → FileChange file (InPlace (Torn at (length bytes))) f (written o file at bytes f)
 writes_well file at bytes f None is = record { others = λ name apart. refl; this = stays_on at (length bytes) (get f file) }
 writes_well file at bytes f (Some old) is = record {
   others = λ name apart. insert_apart f file name (overwritten old at bytes) apart;

@@ -6,7 +6,7 @@ use Rattle.sasi_host.specs.declared.call.Call.{Call}
 use Rattle.sasi_host.specs.declared.call.Call.TheVariants.{Created, Wrote, Synced, Deleted, FolderSynced, Emitted, Put}
 use Rattle.sasi_host.specs.Names.{Bytes, Folder}
 use Rattle.sasi_host.specs.View.{View}
-use Rattle.sasi_host.specs.Disk.{Step, InPlace, Torn, MaybeCreated, MaybeDeleted}
+use Rattle.sasi_host.specs.Disk.{FileChange, InPlace, Torn, MaybeCreated, MaybeDeleted}
 use Rattle.sasi_host.specs.Files.{written}
 
 -- what the folder reads, the bytes that were emitted, and what a crash now may leave
@@ -27,10 +27,10 @@ apply (Put file bytes) folder = insert folder file bytes
 
 -- what a call may make of an image, where the folder reads so as it comes
 abbrev pub Effect : Call → Folder → Folder → Folder → Type 0
-Effect (Created file) folder was image = Step file MaybeCreated was image
-Effect (Wrote file at bytes) folder was image = Step file (InPlace (Torn at (length bytes))) was image
+Effect (Created file) folder was image = FileChange file MaybeCreated was image
+Effect (Wrote file at bytes) folder was image = FileChange file (InPlace (Torn at (length bytes))) was image
 Effect (Synced file) folder was image = (image ≡ was) × ((left read : Bytes) → get folder file ≡ Some read → get image file ≡ Some left → left ≡ read)
-Effect (Deleted file) folder was image = Step file MaybeDeleted was image
+Effect (Deleted file) folder was image = FileChange file MaybeDeleted was image
 Effect FolderSynced folder was image = (image ≡ was) × ((name : FileName) → is_some (get image name) ≡ is_some (get folder name))
 Effect (Emitted bytes) folder was image = image ≡ was
 Effect (Put file bytes) folder was image = image ≡ insert was file bytes

@@ -6,7 +6,7 @@ use Rattle.std.specs.FinMap.{get}
 use Rattle.sasi_host.specs.declared.name.FileName.{FileName}
 use Rattle.sasi_host.specs.Names.{Bytes, Folder}
 use Rattle.sasi_host.specs.View.{View, IsTold, contents, contents_in, IsThere, IsAbsent, Holds, Reaches}
-use Rattle.sasi_host.specs.Disk.{Relation, Same, Changes, Step, InPlace, overlay, Becomes}
+use Rattle.sasi_host.specs.Disk.{Relation, Same, Changes, FileChange, InPlace, overlay, Becomes}
 
 -- the folder that is told
 pub told_files : (v : View) → IsTold v → (f : Folder) × (v.files ≡ Some f)
@@ -31,7 +31,7 @@ told_after S a b change told =
     let g = change.seen f.0 f.1 in
     ap (λ (o : Option Folder). is_some o) g.1
 
--- a file that was there, and changed in place, is there
+-- a file that was there, and changed in offset, is there
 pub went : (R : Bytes → Bytes → Type 0) (x y : Option Bytes) (a : Bytes) → x ≡ Some a → InPlace R x y → (b : Bytes) × (y ≡ Some b) × R a b
 went R None y a is on = absurd (cc)
 went R (Some x) None a is on = absurd on
@@ -55,9 +55,9 @@ pub contents_same : (a b : View) (file : FileName) → Changes Same a b → cont
 contents_same a b file change = contents_kept a b Same file (λ x y same. ap (λ (f : Folder). get f file) same) change
 
 -- and where another file changes
-pub contents_other : (a b : View) (file name : FileName) (R : Option Bytes → Option Bytes → Type 0) → name ≢ file → Changes (Step file R) a b
+pub contents_other : (a b : View) (file name : FileName) (R : Option Bytes → Option Bytes → Type 0) → name ≢ file → Changes (FileChange file R) a b
     → contents b name ≡ contents a name
-contents_other a b file name R apart change = contents_kept a b (Step file R) name (λ x y step. step.others name apart) change
+contents_other a b file name R apart change = contents_kept a b (FileChange file R) name (λ x y step. step.others name apart) change
 
 -- a file that reads as before, where the folder is told as before, is there, absent, reaches and holds as before
 pub there_where : (a b : View) (S : Relation) (file : FileName) → Changes S a b → contents b file ≡ contents a file → IsThere a file → IsThere b file
@@ -87,7 +87,7 @@ pub becomes_on : (a b c : View) (file : FileName) (f : Bytes → Bytes) → Beco
 becomes_on a b c file f becomes same old is = contents_same b c file same ∙ becomes old is
 
 -- a file that does not shrink reaches as far as before
-pub reaches_on : (a b : View) (file : FileName) (R : Bytes → Bytes → Type 0) (at : ℕ) → Changes (Step file (InPlace R)) a b
+pub reaches_on : (a b : View) (file : FileName) (R : Bytes → Bytes → Type 0) (at : ℕ) → Changes (FileChange file (InPlace R)) a b
     → ((x y : Bytes) → R x y → length x ≤ length y) → Reaches a file at → Reaches b file at
 reaches_on a b file R at change grows reaches told =
     let told_a = told_before _ a b change told in

@@ -26,7 +26,7 @@ abbrev pub Same : Relation
 Same was now = now ≡ was
 
 -- one file changes by R, and each other file stays
-pub record Step (file : FileName) (R : Option Bytes → Option Bytes → Type 0) (old new : Folder) : Type 0 where
+pub record FileChange (file : FileName) (R : Option Bytes → Option Bytes → Type 0) (old new : Folder) : Type 0 where
   pub others : (name : FileName) → name ≢ file → get new name ≡ get old name
   pub this : R (get old file) (get new file)
 
@@ -48,8 +48,8 @@ abbrev pub LeftWith : (Bytes → Type 0) → Option Bytes → Option Bytes → T
 LeftWith P a b = (bytes : Bytes) × (b ≡ Some bytes) × P bytes
 
 -- any change of the file
-abbrev pub Anyhow : Option Bytes → Option Bytes → Type 0
-Anyhow a b = Unit {0}
+abbrev pub AnyChange : Option Bytes → Option Bytes → Type 0
+AnyChange a b = Unit {0}
 
 -- the file is as before, or there and empty
 abbrev pub MaybeCreated : Option Bytes → Option Bytes → Type 0
@@ -77,8 +77,8 @@ abbrev pub Becomes : FileName → (Bytes → Bytes) → View → View → Type 0
 Becomes file f old new = (bytes : Bytes) → contents old file ≡ Some bytes → contents new file ≡ Some (f bytes)
 
 -- the file is durable: each image has it with these bytes
-abbrev pub IsKept : View → FileName → Bytes → Type 0
-IsKept v file bytes = (folder : Folder) → v.image folder → get folder file ≡ Some bytes
+abbrev pub IsFileDurable : View → FileName → Bytes → Type 0
+IsFileDurable v file bytes = (folder : Folder) → v.image folder → get folder file ≡ Some bytes
 
 -- a crash leaves of the file what it reads, or the name isn't there
 abbrev pub IsSynced : View → FileName → Type 0

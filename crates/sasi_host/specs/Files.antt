@@ -6,7 +6,7 @@ use Rattle.std.specs.Coded.{Coded, code_by, coded×, coded_ℕ, coded_list}
 use Rattle.std.specs.FinMap.{from_entries, get, insert, code}
 use Rattle.sasi_host.specs.declared.name.FileName.{FileName}
 use Rattle.sasi_host.specs.Names.{Bytes, Folder, name_cmp}
-use Rattle.sasi_host.specs.NameLaws.{places, named, named_back}
+use Rattle.sasi_host.specs.NameLaws.{name_numbers, named, named_back}
 use Rattle.sasi_host.specs.Disk.{overlay}
 
 -- the names of a tree, each with its bytes
@@ -23,7 +23,7 @@ folder_of files = from_entries {R = name_cmp} files
 
 -- a name is stored as its four numbers
 abbrev pub name_code : Coded FileName
-name_code = code_by (ℕ × (ℕ × (ℕ × ℕ))) (coded× coded_ℕ (coded× coded_ℕ (coded× coded_ℕ coded_ℕ))) places named named_back
+name_code = code_by (ℕ × (ℕ × (ℕ × ℕ))) (coded× coded_ℕ (coded× coded_ℕ (coded× coded_ℕ coded_ℕ))) name_numbers named named_back
 
 -- and a folder as its files
 abbrev pub folder_code : Coded Folder

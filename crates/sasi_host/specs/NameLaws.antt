@@ -40,22 +40,22 @@ names_total =
     (then_total (on_total (λ (n : FileName). n.number) nat_cmp_total) (then_total (on_total (λ (n : FileName). n.index) nat_cmp_total) (on_total (λ (n : FileName). n.part) nat_cmp_total)))
 
 -- the numbers that order a name
-abbrev pub places : FileName → ℕ × (ℕ × (ℕ × ℕ))
-places n = (rank n.kind, (n.number, (n.index, n.part)))
+abbrev pub name_numbers : FileName → ℕ × (ℕ × (ℕ × ℕ))
+name_numbers n = (rank n.kind, (n.number, (n.index, n.part)))
 
 -- the name with these numbers
 abbrev pub named : ℕ × (ℕ × (ℕ × ℕ)) → FileName
 named p = record { kind = kind_of p.0; number = p.1.0; index = p.1.1.0; part = p.1.1.1 }
 
 -- a name is the one with its numbers
-pub named_back : (n : FileName) → named (places n) ≡ n
+pub named_back : (n : FileName) → named (name_numbers n) ≡ n
 named_back n = ap (λ (k : Kind). record { kind = k; number = n.number; index = n.index; part = n.part }) (ranked_back n.kind)
 
 -- names that compare alike are one
 pub names_exact : CmpEqualImpliesEq name_cmp
 names_exact a b alike =
     sym (named_back a)
-    ∙ ap named (exact_pairs nat_cmp _ exact_unsigned (exact_pairs nat_cmp _ exact_unsigned (exact_pairs nat_cmp nat_cmp exact_unsigned exact_unsigned)) (places a) (places b) alike)
+    ∙ ap named (exact_pairs nat_cmp _ exact_unsigned (exact_pairs nat_cmp _ exact_unsigned (exact_pairs nat_cmp nat_cmp exact_unsigned exact_unsigned)) (name_numbers a) (name_numbers b) alike)
     ∙ named_back b
 
 from_is_eq : (r : Ordering) → is_eq r ≡ true → r ≡ Equal

@@ -5,8 +5,8 @@ use Rattle.sasi_host.specs.declared.name.FileName.{FileName}
 use Rattle.sasi_host.specs.Names.{Folder}
 use Rattle.sasi_host.specs.View.{View, IsThere}
 use Rattle.sasi_host.specs.Disk.{Changes, Same}
-use Rattle.sasi_host.specs.Held.{Held, IsHeld}
-use Rattle.sasi_host.specs.Moves.{stays, then_same}
+use Rattle.sasi_host.specs.Buffered.{Buffered, IsBuffered}
+use Rattle.sasi_host.specs.ChangeLaws.{stays, then_same}
 
 -- the file is there, and the pages that the reader keeps are those of the folder
 pub record CanRead (Keeps : Option Folder → Type 0) (v : View) (file : FileName) : Type 0 where
@@ -20,24 +20,24 @@ pub record HasRead (Keeps : Option Folder → Type 0) (Before After : FileName �
   pub changes : Changes Same old new
 
 -- through a buffered file, whose page is that of the file
-pub record CanReadOn (Keeps : Option Folder → Type 0) (v : View) (was : Held) : Type 0 where
+pub record CanReadOn (Keeps : Option Folder → Type 0) (v : View) (was : Buffered) : Type 0 where
   pub there : IsThere v was.file
   pub agrees : Keeps v.files
-  pub held : IsHeld was v.files
+  pub buffered : IsBuffered was v.files
 
 -- and so is the page that it has afterwards, of the same file
-pub record HasReadOn (Keeps : Option Folder → Type 0) (Before After : FileName → Type 0) (old new : View) (before after : Held) : Type 0 where
+pub record HasReadOn (Keeps : Option Folder → Type 0) (Before After : FileName → Type 0) (old new : View) (before after : Buffered) : Type 0 where
   pub agrees : Keeps new.files
   pub covers : (name : FileName) → After name → Before name ⊎ (name ≡ before.file)
   pub changes : Changes Same old new
-  pub held : IsHeld after new.files
+  pub buffered : IsBuffered after new.files
   pub file : after.file ≡ before.file
 
 -- ---- laws
 
 -- a call that reads nothing
-pub reads_nothing : (K : Option Folder → Type 0) (A : FileName → Type 0) (v : View) (h : Held) → K v.files → IsHeld h v.files → HasReadOn K A A v v h h
-reads_nothing K A v h agrees held = record { agrees = agrees; covers = λ name at. inl at; changes = stays v; held = held; file = refl }
+pub reads_nothing : (K : Option Folder → Type 0) (A : FileName → Type 0) (v : View) (h : Buffered) → K v.files → IsBuffered h v.files → HasReadOn K A A v v h h
+reads_nothing K A v h agrees buffered = record { agrees = agrees; covers = λ name at. inl at; changes = stays v; buffered = buffered; file = refl }
 
 -- one call after another
 pub read_then : (K L : Option Folder → Type 0) (A B C : FileName → Type 0) (u v w : View) (file : FileName) → HasRead K A B u v file → HasRead L B C v w file → HasRead L A C u w file
@@ -47,17 +47,17 @@ read_then K L A B C u v w file first second = record {
   changes = then_same u v w Same first.changes second.changes;
 }
 
-pub reads_then : (K L : Option Folder → Type 0) (A B C : FileName → Type 0) (u v w : View) (h i j : Held) → HasReadOn K A B u v h i → HasReadOn L B C v w i j → HasReadOn L A C u w h j
+pub reads_then : (K L : Option Folder → Type 0) (A B C : FileName → Type 0) (u v w : View) (h i j : Buffered) → HasReadOn K A B u v h i → HasReadOn L B C v w i j → HasReadOn L A C u w h j
 reads_then K L A B C u v w h i j first second = record {
   agrees = second.agrees;
   covers = λ name at. ⊎_elim (λ before. first.covers name before) (λ this. inr (this ∙ first.file)) (second.covers name at);
   changes = then_same u v w Same first.changes second.changes;
-  held = second.held;
+  buffered = second.buffered;
   file = second.file ∙ first.file;
 }
 
 -- the file of a buffered one, and one whose name is known
-pub read_of : (K : Option Folder → Type 0) (A B : FileName → Type 0) (u v : View) (h i : Held) (file : FileName) → h.file ≡ file → HasReadOn K A B u v h i → HasRead K A B u v file
+pub read_of : (K : Option Folder → Type 0) (A B : FileName → Type 0) (u v : View) (h i : Buffered) (file : FileName) → h.file ≡ file → HasReadOn K A B u v h i → HasRead K A B u v file
 read_of K A B u v h i file is read = record {
   agrees = read.agrees;
   covers = λ name at. ⊎_elim (λ before. inl before) (λ this. inr (this ∙ is)) (read.covers name at);

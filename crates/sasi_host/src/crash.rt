@@ -3,9 +3,9 @@ ghost use Rattle.std.specs.Prelude.{◌≡◌, length, replicate, IfOk, OnOk};
 ghost use Rattle.std.specs.FinMap as map;
 ghost use Rattle.sasi_host.specs.Picks.{picked, pick_step, synced_later, folder_later, pending};
 
-use crate::blob::Blob;
+use crate::byte_buffer::ByteBuffer;
 use crate::call::Call;
-use crate::mem_folder::{LONGEST, MemFolder};
+use crate::mem_folder::{MAX_FILE_SIZE, MemFolder};
 use crate::{BytePick, FileName, NamePick, Pick};
 use std::alloc::{AllocError, Global};
 
@@ -63,7 +63,7 @@ fn write_pending(
 }
 
 // Applies one call to the picked image, where these calls come after it.
-fn step_left(
+fn apply_call(
     alloc: Global,
     left: &mut MemFolder,
     pick: Pick,
@@ -78,7 +78,7 @@ fn step_left(
                 || matches!(pick.names, NamePick::AsNow)
                 || left.get(*file).is_some();
             if is_there {
-                left.insert(*file, Blob::new(alloc))?;
+                left.insert(*file, ByteBuffer::new(alloc))?;
             }
             Ok(())
         }
@@ -95,13 +95,13 @@ fn step_left(
             }
             Ok(())
         }
-        Call::Put(file, bytes) => put_left(alloc, left, *file, bytes.as_slice()),
+        Call::Put(file, bytes) => put_file(alloc, left, *file, bytes.as_slice()),
         Call::Synced(_) | Call::FolderSynced | Call::Emitted(_) => Ok(()),
     }
 }
 
 // The image that the pick names: a folder with nothing pending, with these calls applied.
-pub fn left_by(
+pub fn crash_image(
     alloc: Global,
     start: MemFolder,
     calls: &[Call],
@@ -111,13 +111,13 @@ pub fn left_by(
 {
     let mut left = start;
     for i in 0..calls.len() {
-        step_left(alloc, &mut left, pick, &calls[i], &calls[i + 1..])?;
+        apply_call(alloc, &mut left, pick, &calls[i], &calls[i + 1..])?;
     }
     Ok(left)
 }
 
 // Puts a file into the image, unless it is longer than a file may be.
-fn put_left(
+fn put_file(
     alloc: Global,
     left: &mut MemFolder,
     file: FileName,
@@ -125,8 +125,8 @@ fn put_left(
 ) -> Result<(), AllocError>
     ensures { OnOk result (left.new ≡ map.insert left.old file bytes.now) }
 {
-    if bytes.len() as u64 > LONGEST {
+    if bytes.len() as u64 > MAX_FILE_SIZE {
         return Err(AllocError);
     }
-    left.insert(file, Blob::from_slice(alloc, bytes)?)
+    left.insert(file, ByteBuffer::from_slice(alloc, bytes)?)
 }

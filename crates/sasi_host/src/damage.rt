@@ -21,7 +21,7 @@ pub enum FormatRule {
     Number,
     /// An item doesn't follow the one before it.
     Order,
-    /// An offset field leads outside the file, or to a wrong part of it.
+    /// An start field leads outside the file, or to a wrong part of it.
     Place,
     /// Bytes that must be UTF-8, a value of a type or a free name aren't.
     Text,
@@ -53,13 +53,13 @@ impl Seen {
 #[derive(Clone, Copy, Debug, PartialEq, Eq)]
 pub struct Damage {
     pub file: FileName,
-    /// The offset from the file's start.
+    /// The start from the file's start.
     pub at: u64,
     pub rule: FormatRule,
     pub seen: Seen,
 }
 
-/// The damage of a file that breaks the rule at this offset, where it has these bytes.
+/// The damage of a file that breaks the rule at this start, where it has these bytes.
 pub fn found(file: FileName, at: u64, rule: FormatRule, bytes: &[u8]) -> Damage
     requires { length bytes.now ≤ 8 }
     ensures file { result.file ≡ file }
@@ -75,25 +75,25 @@ pub fn found(file: FileName, at: u64, rule: FormatRule, bytes: &[u8]) -> Damage
     }
 }
 
-/// Checks that the wanted bytes stand at this offset of `bytes`, which stand at `at` of the file.
+/// Checks that the wanted bytes stand at this start of `bytes`, which stand at `at` of the file.
 pub fn check_part(
     file: FileName,
     at: u64,
     bytes: &[u8],
-    offset: usize,
+    start: usize,
     wanted: &[u8],
     rule: FormatRule,
 ) -> Result<(), Damage>
-    requires whole { offset + length wanted.now ≤ length bytes.now }
+    requires whole { start + length wanted.now ≤ length bytes.now }
     requires most { length wanted.now ≤ 8 }
-    requires place { at + offset < 2 ^ 64 }
-    ensures ok { OnOk result (take (length wanted.now) (drop offset bytes.now) ≡ wanted.now) }
-    ensures seen { IfErr result (IsOther file at bytes.now offset wanted.now rule) }
-    ensures differs { IfErr result (λ _. take (length wanted.now) (drop offset bytes.now) ≢ wanted.now) }
+    requires start { at + start < 2 ^ 64 }
+    ensures ok { OnOk result (take (length wanted.now) (drop start bytes.now) ≡ wanted.now) }
+    ensures seen { IfErr result (IsOther file at bytes.now start wanted.now rule) }
+    ensures differs { IfErr result (λ _. take (length wanted.now) (drop start bytes.now) ≢ wanted.now) }
 {
-    let seen = &bytes[offset..offset + wanted.len()];
+    let seen = &bytes[start..start + wanted.len()];
     if seen != wanted {
-        return Err(found(file, at + offset as u64, rule, seen));
+        return Err(found(file, at + start as u64, rule, seen));
     }
     Ok(())
 }

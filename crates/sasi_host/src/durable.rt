@@ -1,7 +1,7 @@
 // Writes that are durable when they return.
 ghost use Rattle.std.specs.Prelude.{◌≡◌, ◌+◌, ◌≤◌, ◌^◌, length, OnOk};
 ghost use Rattle.sasi_host.specs.View.{IsAbsent, Holds, Reaches, DiskCauses};
-ghost use Rattle.sasi_host.specs.Disk.{Changes, Step, InPlace, Torn, Anyhow, Becomes, overlay, IsKept, IsSynced};
+ghost use Rattle.sasi_host.specs.Disk.{Changes, FileChange, InPlace, Torn, AnyChange, Becomes, overlay, IsFileDurable, IsSynced};
 
 use crate::{Failed, FileName, Host};
 
@@ -13,11 +13,11 @@ pub fn write_durably<H: Host>(
     bytes: &[u8],
 ) -> Result<(), Failed>
     requires { Reaches (H.view host.old) file at }
-    ensures ok { OnOk result ((old : _) → IsKept (H.view host.old) file old → IsKept (H.view host.new) file (overlay old at bytes.now)) }
+    ensures ok { OnOk result ((old : _) → IsFileDurable (H.view host.old) file old → IsFileDurable (H.view host.new) file (overlay old at bytes.now)) }
     ensures reads { OnOk result (Becomes file (λ old. overlay old at bytes.now) (H.view host.old) (H.view host.new)) }
     ensures synced { OnOk result (IsSynced (H.view host.new) file) }
     ensures fits { OnOk result (at + length bytes.now ≤ 2 ^ 62) }
-    ensures changes { Changes (Step file (InPlace (Torn at (length bytes.now)))) (H.view host.old) (H.view host.new) }
+    ensures changes { Changes (FileChange file (InPlace (Torn at (length bytes.now)))) (H.view host.old) (H.view host.new) }
     ensures causes { DiskCauses (H.view host.old) (H.view host.new) result }
 {
     host.write(file, at, bytes)?;
@@ -27,10 +27,10 @@ pub fn write_durably<H: Host>(
 /// Makes a file of these bytes, and syncs it and the folder. Then it is durable.
 pub fn make_file<H: Host>(host: &mut H, file: FileName, bytes: &[u8]) -> Result<(), Failed>
     requires { IsAbsent (H.view host.old) file }
-    ensures ok { OnOk result (IsKept (H.view host.new) file bytes.now) }
+    ensures ok { OnOk result (IsFileDurable (H.view host.new) file bytes.now) }
     ensures reads { OnOk result (Holds (H.view host.new) file bytes.now) }
     ensures fits { OnOk result (length bytes.now ≤ 2 ^ 62) }
-    ensures changes { Changes (Step file Anyhow) (H.view host.old) (H.view host.new) }
+    ensures changes { Changes (FileChange file AnyChange) (H.view host.old) (H.view host.new) }
     ensures causes { DiskCauses (H.view host.old) (H.view host.new) result }
 {
     host.create(file)?;

@@ -3,7 +3,7 @@ ghost use Rattle.std.specs.Prelude.{◌≡◌, ◌+◌, ◌^◌, ◌<◌, ◌≤
 ghost use Rattle.std.specs.List.Sorted.{IsStrictlySortedBy};
 ghost use Rattle.sasi_host.specs.Names.{name_cmp};
 ghost use Rattle.sasi_host.specs.View.{View, IsThere, IsAbsent, Holds, Reaches, contents, KeepsMoments, IsSound, DiskCauses, ReadCauses, ListCauses, OutCauses, AllOut, Emits, TellsPrefixes};
-ghost use Rattle.sasi_host.specs.Disk.{Changes, Same, Step, InPlace, Torn, MaybeCreated, MaybeDeleted, Becomes, overlay, IsSynced, IsFolderSynced, Lists, Fills};
+ghost use Rattle.sasi_host.specs.Disk.{Changes, Same, FileChange, InPlace, Torn, MaybeCreated, MaybeDeleted, Becomes, overlay, IsSynced, IsFolderSynced, Lists, Fills};
 
 use crate::{Failed, FileName, HostFault};
 use std::alloc::Global;
@@ -44,7 +44,7 @@ pub trait Host {
     fn create(&mut self, file: FileName) -> Result<(), Failed>
         requires { IsAbsent (view self.old) file }
         ensures ok { OnOk result (Holds (view self.new) file []) }
-        ensures changes { Changes (Step file MaybeCreated) (view self.old) (view self.new) }
+        ensures changes { Changes (FileChange file MaybeCreated) (view self.old) (view self.new) }
         ensures moments { KeepsMoments (view self.old) (view self.new) }
         ensures causes { DiskCauses (view self.old) (view self.new) result };
 
@@ -53,7 +53,7 @@ pub trait Host {
         requires { Reaches (view self.old) file at }
         ensures ok { OnOk result (Becomes file (λ old. overlay old at bytes.now) (view self.old) (view self.new)) }
         ensures fits { OnOk result (at + length bytes.now ≤ 2 ^ 62) }
-        ensures changes { Changes (Step file (InPlace (Torn at (length bytes.now)))) (view self.old) (view self.new) }
+        ensures changes { Changes (FileChange file (InPlace (Torn at (length bytes.now)))) (view self.old) (view self.new) }
         ensures moments { KeepsMoments (view self.old) (view self.new) }
         ensures causes { DiskCauses (view self.old) (view self.new) result };
 
@@ -69,7 +69,7 @@ pub trait Host {
     fn delete(&mut self, file: FileName) -> Result<(), Failed>
         requires { IsThere (view self.old) file }
         ensures ok { OnOk result (IsAbsent (view self.new) file) }
-        ensures changes { Changes (Step file MaybeDeleted) (view self.old) (view self.new) }
+        ensures changes { Changes (FileChange file MaybeDeleted) (view self.old) (view self.new) }
         ensures moments { KeepsMoments (view self.old) (view self.new) }
         ensures causes { DiskCauses (view self.old) (view self.new) result };
 

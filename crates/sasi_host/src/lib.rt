@@ -3,7 +3,7 @@
 //! what a crash in between may leave. Each trait has an implementation in memory, which fails at the calls that are listed.
 #![tactic(auto)]
 
-mod blob;
+mod byte_buffer;
 mod call;
 mod crash;
 mod damage;
@@ -11,7 +11,7 @@ mod direct;
 mod durable;
 mod failed;
 mod fault;
-mod held;
+mod buffered;
 mod host;
 mod mem_disk;
 mod mem_folder;
@@ -19,10 +19,10 @@ mod mem_host;
 mod mem_host_calls;
 mod mem_source;
 mod name;
-mod noting;
+mod call_log;
 mod page;
 mod pick;
-mod short;
+mod end_of_file;
 mod source;
 
 pub use damage::{Damage, FormatRule, Seen, check_part, found};
@@ -30,12 +30,12 @@ pub use direct::Direct;
 pub use durable::{make_file, write_durably};
 pub use failed::Failed;
 pub use fault::{HostFault, ReadFault};
-pub use held::HeldPage;
+pub use buffered::BufferedFile;
 pub use host::Host;
 pub use mem_host::MemHost;
 pub use mem_source::MemSource;
 pub use name::{FileName, Kind};
 pub use page::PageReader;
 pub use pick::{BytePick, NamePick, Pick};
-pub use short::too_short;
+pub use end_of_file::unexpected_end;
 pub use source::Source;

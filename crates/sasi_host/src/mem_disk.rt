@@ -9,9 +9,9 @@ ghost use Rattle.sasi_host.specs.Calls.{replay, opened};
 ghost use Rattle.sasi_host.specs.Picks.{picked};
 
 use crate::call::Call;
-use crate::crash::left_by;
+use crate::crash::crash_image;
 use crate::mem_folder::MemFolder;
-use crate::{FileName, Pick, noting};
+use crate::{FileName, Pick, call_log};
 use std::alloc::{AllocError, Global};
 
 // The folder at the start, the calls since then, and the folder that they lead to.
@@ -49,7 +49,7 @@ impl MemDisk {
         ensures ok { OnOk result (self.new.calls.items ≡ self.old.calls.items ++ Call.Put file bytes.now ∷ []) }
         ensures err { OnErr result (self.new.calls.items ≡ self.old.calls.items) }
     {
-        noting::put(self.alloc, &mut self.folder, &mut self.calls, file, bytes)
+        call_log::put(self.alloc, &mut self.folder, &mut self.calls, file, bytes)
     }
 
     pub fn create(&mut self, file: FileName) -> Result<(), AllocError>
@@ -57,7 +57,7 @@ impl MemDisk {
         ensures ok { OnOk result (self.new.calls.items ≡ self.old.calls.items ++ Call.Created file ∷ []) }
         ensures err { OnErr result (self.new.calls.items ≡ self.old.calls.items) }
     {
-        noting::create(self.alloc, &mut self.folder, &mut self.calls, file)
+        call_log::create(self.alloc, &mut self.folder, &mut self.calls, file)
     }
 
     pub fn write(&mut self, file: FileName, at: u64, bytes: &[u8]) -> Result<(), AllocError>
@@ -66,7 +66,7 @@ impl MemDisk {
         ensures err { OnErr result (self.new.calls.items ≡ self.old.calls.items) }
         ensures room { OnOk result (at + length bytes.now ≤ 2 ^ 62) }
     {
-        noting::write(
+        call_log::write(
             self.alloc,
             &mut self.folder,
             &mut self.calls,
@@ -81,7 +81,7 @@ impl MemDisk {
         ensures ok { OnOk result (self.new.calls.items ≡ self.old.calls.items ++ Call.Synced file ∷ []) }
         ensures err { OnErr result (self.new.calls.items ≡ self.old.calls.items) }
     {
-        noting::note(&mut self.calls, Call::Synced(file))
+        call_log::log_call(&mut self.calls, Call::Synced(file))
     }
 
     pub fn delete(&mut self, file: FileName) -> Result<(), AllocError>
@@ -89,7 +89,7 @@ impl MemDisk {
         ensures ok { OnOk result (self.new.calls.items ≡ self.old.calls.items ++ Call.Deleted file ∷ []) }
         ensures err { OnErr result (self.new.calls.items ≡ self.old.calls.items) }
     {
-        noting::delete(&mut self.folder, &mut self.calls, file)
+        call_log::delete(&mut self.folder, &mut self.calls, file)
     }
 
     pub fn sync_folder(&mut self) -> Result<(), AllocError>
@@ -97,7 +97,7 @@ impl MemDisk {
         ensures ok { OnOk result (self.new.calls.items ≡ self.old.calls.items ++ Call.FolderSynced ∷ []) }
         ensures err { OnErr result (self.new.calls.items ≡ self.old.calls.items) }
     {
-        noting::note(&mut self.calls, Call::FolderSynced)
+        call_log::log_call(&mut self.calls, Call::FolderSynced)
     }
 
     pub fn emit(&mut self, bytes: &[u8]) -> Result<(), AllocError>
@@ -105,7 +105,7 @@ impl MemDisk {
         ensures ok { OnOk result (self.new.calls.items ≡ self.old.calls.items ++ Call.Emitted bytes.now ∷ []) }
         ensures err { OnErr result (self.new.calls.items ≡ self.old.calls.items) }
     {
-        noting::emit(self.alloc, &mut self.emitted, &mut self.calls, bytes)
+        call_log::emit(self.alloc, &mut self.emitted, &mut self.calls, bytes)
     }
 
     pub fn bytes(&self, file: FileName) -> Option<&[u8]>
@@ -149,7 +149,7 @@ impl MemDisk {
         ensures start { IfOk result (λ d. d.start ≡ picked pick self.now.calls.items self.now.start) }
         ensures calls { IfOk result (λ d. d.calls.items ≡ []) }
     {
-        let start = left_by(self.alloc, self.start.copy()?, &self.calls, pick)?;
+        let start = crash_image(self.alloc, self.start.copy()?, &self.calls, pick)?;
         let folder = start.copy()?;
         Ok(MemDisk::new(self.alloc, start, folder))
     }

@@ -8,18 +8,18 @@ ghost use Rattle.sasi_host.specs.Names.{name_cmp};
 ghost use Rattle.sasi_host.specs.Files.{FitsAll, look_up, written};
 
 use crate::FileName;
-use crate::blob::Blob;
+use crate::byte_buffer::ByteBuffer;
 use std::alloc::{AllocError, Global};
 use std::collections::BTreeMap;
 use std::marker::Model;
 
 // The most bytes that a file has.
-pub const LONGEST: u64 = 1 << 62;
+pub const MAX_FILE_SIZE: u64 = 1 << 62;
 
 // The files of a folder by their names.
 #[derive(Drop)]
 pub struct MemFolder {
-    files: BTreeMap<FileName, Blob>,
+    files: BTreeMap<FileName, ByteBuffer>,
 }
 
 impl Model for MemFolder {
@@ -50,12 +50,12 @@ impl MemFolder {
         ensures none { IfNone result (map.get self.now name ≡ None) }
     {
         match self.files.get(&name) {
-            Some(blob) => Some(blob.as_slice()),
+            Some(byte_buffer) => Some(byte_buffer.as_slice()),
             None => None,
         }
     }
 
-    pub fn insert(&mut self, name: FileName, bytes: Blob) -> Result<(), AllocError>
+    pub fn insert(&mut self, name: FileName, bytes: ByteBuffer) -> Result<(), AllocError>
         requires { length bytes ≤ 2 ^ 62 }
         ensures ok { OnOk result (self.new ≡ map.insert self.old name bytes) }
         ensures err { OnErr result (self.new ≡ self.old) }
@@ -80,13 +80,13 @@ impl MemFolder {
         ensures fits { FitsAll self.new }
     {
         let _ = &self.files;
-        if bytes.len() as u64 > LONGEST || at > LONGEST - bytes.len() as u64 {
+        if bytes.len() as u64 > MAX_FILE_SIZE || at > MAX_FILE_SIZE - bytes.len() as u64 {
             return Err(AllocError);
         }
-        let Some(blob) = self.files.get_mut(&name) else {
+        let Some(byte_buffer) = self.files.get_mut(&name) else {
             return Ok(());
         };
-        blob.write(at, bytes)
+        byte_buffer.write(at, bytes)
     }
 
     // The names in their order.
@@ -108,7 +108,7 @@ impl MemFolder {
 }
 
 // The tree's names in their order.
-fn keys_of(files: &BTreeMap<FileName, Blob>, alloc: Global) -> Result<Vec<FileName>, AllocError>
+fn keys_of(files: &BTreeMap<FileName, ByteBuffer>, alloc: Global) -> Result<Vec<FileName>, AllocError>
     ensures sorted { IfOk result (λ names. IsStrictlySortedBy name_cmp names.items) }
     ensures has { IfOk result (λ names. (name : _) → is_some (look_up files.now.entries name) ≡ is_member (eq_by_cmp name_cmp) names.items name) }
 {

@@ -4,9 +4,9 @@ ghost use Rattle.std.specs.List.Sorted.{IsStrictlySortedBy};
 ghost use Rattle.sasi_host.specs.declared.call.Call.{Call};
 ghost use Rattle.sasi_host.specs.Names.{name_cmp};
 ghost use Rattle.sasi_host.specs.View.{IsThere, IsAbsent, Holds, Reaches, contents, KeepsMoments, DiskCauses, ReadCauses, ListCauses, OutCauses, AllOut, Emits, TellsPrefixes};
-ghost use Rattle.sasi_host.specs.Disk.{Changes, Same, Step, InPlace, Torn, MaybeCreated, MaybeDeleted, Becomes, overlay, IsSynced, IsFolderSynced, Lists, Fills};
+ghost use Rattle.sasi_host.specs.Disk.{Changes, Same, FileChange, InPlace, Torn, MaybeCreated, MaybeDeleted, Becomes, overlay, IsSynced, IsFolderSynced, Lists, Fills};
 ghost use Rattle.sasi_host.specs.Memory.{seen, host_view, done, begun_disk, begun_read, IsDiskToFail, disk_failed, disk_refused, begun_emit, IsEmitToFail, emit_failed, emit_refused};
-ghost use Rattle.sasi_host.specs.Sound.{host_sound};
+ghost use Rattle.sasi_host.specs.MemoryLaws.{host_sound};
 
 use crate::{Failed, FileName, Host, HostFault, MemHost};
 use std::alloc::Global;
@@ -66,7 +66,7 @@ impl Host for MemHost {
     fn create(&mut self, file: FileName) -> Result<(), Failed>
         requires { IsAbsent (host_view (seen self.old)) file }
         ensures ok { OnOk result (Holds (host_view (seen self.new)) file []) }
-        ensures changes { Changes (Step file MaybeCreated) (host_view (seen self.old)) (host_view (seen self.new)) }
+        ensures changes { Changes (FileChange file MaybeCreated) (host_view (seen self.old)) (host_view (seen self.new)) }
         ensures moments { KeepsMoments (host_view (seen self.old)) (host_view (seen self.new)) }
         ensures causes { DiskCauses (host_view (seen self.old)) (host_view (seen self.new)) result }
         ensures done { OnOk result (seen self.new ≡ done (Call.Created file) (begun_disk (seen self.old))) }
@@ -84,7 +84,7 @@ impl Host for MemHost {
         requires { Reaches (host_view (seen self.old)) file at }
         ensures ok { OnOk result (Becomes file (λ old. overlay old at bytes.now) (host_view (seen self.old)) (host_view (seen self.new))) }
         ensures fits { OnOk result (at + length bytes.now ≤ 2 ^ 62) }
-        ensures changes { Changes (Step file (InPlace (Torn at (length bytes.now)))) (host_view (seen self.old)) (host_view (seen self.new)) }
+        ensures changes { Changes (FileChange file (InPlace (Torn at (length bytes.now)))) (host_view (seen self.old)) (host_view (seen self.new)) }
         ensures moments { KeepsMoments (host_view (seen self.old)) (host_view (seen self.new)) }
         ensures causes { DiskCauses (host_view (seen self.old)) (host_view (seen self.new)) result }
         ensures done { OnOk result (seen self.new ≡ done (Call.Wrote file at bytes.now) (begun_disk (seen self.old))) }
@@ -118,7 +118,7 @@ impl Host for MemHost {
     fn delete(&mut self, file: FileName) -> Result<(), Failed>
         requires { IsThere (host_view (seen self.old)) file }
         ensures ok { OnOk result (IsAbsent (host_view (seen self.new)) file) }
-        ensures changes { Changes (Step file MaybeDeleted) (host_view (seen self.old)) (host_view (seen self.new)) }
+        ensures changes { Changes (FileChange file MaybeDeleted) (host_view (seen self.old)) (host_view (seen self.new)) }
         ensures moments { KeepsMoments (host_view (seen self.old)) (host_view (seen self.new)) }
         ensures causes { DiskCauses (host_view (seen self.old)) (host_view (seen self.new)) result }
         ensures done { OnOk result (seen self.new ≡ done (Call.Deleted file) (begun_disk (seen self.old))) }

@@ -1,5 +1,5 @@
 // A buffered file: a page that was read is not read again.
-use sasi_host::{Direct, FileName, FormatRule, HeldPage, Kind, MemHost, ReadFault, found};
+use sasi_host::{Direct, FileName, FormatRule, BufferedFile, Kind, MemHost, ReadFault, found};
 
 const DATA: FileName = FileName {
     kind: Kind::Data,
@@ -21,7 +21,7 @@ fn buffered_page_is_not_read_again(rt: HostRuntime) {
     fill(&mut bytes);
     let mut host = MemHost::new(rt.alloc());
     host.put(DATA, &bytes).expect(&rt, "memory");
-    let mut file = HeldPage::new(DATA);
+    let mut file = BufferedFile::new(DATA);
     let mut out = [0; 5000];
     assert!(rt; file.read_into(&mut host, &mut Direct, 0, &mut out) == Ok(()));
     assert!(rt; &out[..] == &bytes[..5000] && host.reads() == 2);

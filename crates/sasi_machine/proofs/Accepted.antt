@@ -9,7 +9,7 @@ use Rattle.sasi_model.specs.Refusals.{delete_rules, each, first_of, gives_key, i
 use Rattle.sasi_model.specs.Step.{key_literal}
 use Rattle.sasi_schema.proofs.RuleLaws.{none_first, none_parts}
 use Rattle.sasi_schema.specs.Numbers.{IsKeyAt}
-use Rattle.sasi_machine.specs.declared.target.Target.{Target}
+use Rattle.sasi_machine.specs.declared.relation.KeyRelation.{KeyRelation}
 use Rattle.sasi_machine.specs.Checks.{given_key_rules, given_rules, kind_rules, length_rules, missing_rule, range_rules, where_rules}
 use Rattle.sasi_machine.specs.KeyLiteral.{IsKeyLiteral}
 
@@ -82,14 +82,14 @@ pub record IsAccepted (d : Definition) (sets : List (List ℕ × Literal)) (lite
   pub ranges : first_of (each (number_range d) sets) ≡ None
   pub key : IsKeyLiteral (key_type d) literal
 
-pub insert_accepted : (d : Definition) (greatest : ℕ) (given : List (List ℕ × Literal)) (time : Option Number) → IsKeyAt d.key d.columns
-    → first_of (given_rules d greatest given time) ≡ None → IsAccepted d given (key_literal d given)
-insert_accepted d greatest given time at none =
-    let wrong = none_parts (each (wrong_type d) given) (each (number_range d) given ++ given_key_rules d greatest given time) none in
-    let range = none_parts (each (number_range d) given) (given_key_rules d greatest given time) wrong.1 in
-    let missing = none_first (missing_rule d given) (each (key_empty d) given ++ (each (value_too_long d) given ++ time_rules greatest time)) range.1 in
-    let empty = none_parts (each (key_empty d) given) (each (value_too_long d) given ++ time_rules greatest time) missing.1 in
-    let long = none_parts (each (value_too_long d) given) (time_rules greatest time) empty.1 in
+pub insert_accepted : (d : Definition) (max_timestamp : ℕ) (given : List (List ℕ × Literal)) (time : Option Number) → IsKeyAt d.key d.columns
+    → first_of (given_rules d max_timestamp given time) ≡ None → IsAccepted d given (key_literal d given)
+insert_accepted d max_timestamp given time at none =
+    let wrong = none_parts (each (wrong_type d) given) (each (number_range d) given ++ given_key_rules d max_timestamp given time) none in
+    let range = none_parts (each (number_range d) given) (given_key_rules d max_timestamp given time) wrong.1 in
+    let missing = none_first (missing_rule d given) (each (key_empty d) given ++ (each (value_too_long d) given ++ time_rules max_timestamp time)) range.1 in
+    let empty = none_parts (each (key_empty d) given) (each (value_too_long d) given ++ time_rules max_timestamp time) missing.1 in
+    let long = none_parts (each (value_too_long d) given) (time_rules max_timestamp time) empty.1 in
     record { ranges = range.0; key = key_accepted d given at (not_false (gives_key d given) missing.0) wrong.0 range.0 empty.0 long.0 }
 
 -- ---- UPDATE and DELETE
@@ -101,40 +101,40 @@ where_tests d name literal at is wrong =
     let parts = or_parts (not (is_of (key_type d) literal)) (is_null literal) (rw typed at wrong) in
     (rw typed parts.0, parts.1)
 
-pub where_accepted : (d : Definition) (greatest : ℕ) (sets : List (List ℕ × Literal)) (target : Target) (time : Option Number)
-    → IsKeyAt d.key d.columns → is_column d target.column ≡ true → first_of (kind_rules d greatest sets target time) ≡ None
-    → IsAccepted d sets target.value
-where_accepted d greatest sets target time at column none =
-    let wrong = none_parts (each (wrong_type d) sets) (wrong_where d target.column target.value ∷ range_rules d greatest sets target time) none in
-    let wrong_key = none_first (wrong_where d target.column target.value) (range_rules d greatest sets target time) wrong.1 in
-    let range = none_parts (each (number_range d) sets) (number_range d target.column target.value ∷ where_rules d greatest sets target time) wrong_key.1 in
-    let range_key = none_first (number_range d target.column target.value) (where_rules d greatest sets target time) range.1 in
-    let other = none_first (other_key d target.column) (key_empty d target.column target.value ∷ length_rules d greatest sets target time) range_key.1 in
-    let empty = none_first (key_empty d target.column target.value) (length_rules d greatest sets target time) other.1 in
-    let long = none_parts (each (value_too_long d) sets) (value_too_long d target.column target.value ∷ time_rules greatest time) empty.1 in
-    let long_key = none_first (value_too_long d target.column target.value) (time_rules greatest time) long.1 in
-    let is : is_key d target.column ≡ true = not_false (is_key d target.column) (other_true (is_column d target.column) (not (is_key d target.column)) other.0 column) in
-    let tested = where_tests d target.column target.value at is wrong_key.0 in
-    record { ranges = range.0; key = key_passes d target.column target.value at is tested.1 tested.0 range_key.0 empty.0 long_key.0 }
+pub where_accepted : (d : Definition) (max_timestamp : ℕ) (sets : List (List ℕ × Literal)) (relation : KeyRelation) (time : Option Number)
+    → IsKeyAt d.key d.columns → is_column d relation.column ≡ true → first_of (kind_rules d max_timestamp sets relation time) ≡ None
+    → IsAccepted d sets relation.value
+where_accepted d max_timestamp sets relation time at column none =
+    let wrong = none_parts (each (wrong_type d) sets) (wrong_where d relation.column relation.value ∷ range_rules d max_timestamp sets relation time) none in
+    let wrong_key = none_first (wrong_where d relation.column relation.value) (range_rules d max_timestamp sets relation time) wrong.1 in
+    let range = none_parts (each (number_range d) sets) (number_range d relation.column relation.value ∷ where_rules d max_timestamp sets relation time) wrong_key.1 in
+    let range_key = none_first (number_range d relation.column relation.value) (where_rules d max_timestamp sets relation time) range.1 in
+    let other = none_first (other_key d relation.column) (key_empty d relation.column relation.value ∷ length_rules d max_timestamp sets relation time) range_key.1 in
+    let empty = none_first (key_empty d relation.column relation.value) (length_rules d max_timestamp sets relation time) other.1 in
+    let long = none_parts (each (value_too_long d) sets) (value_too_long d relation.column relation.value ∷ time_rules max_timestamp time) empty.1 in
+    let long_key = none_first (value_too_long d relation.column relation.value) (time_rules max_timestamp time) long.1 in
+    let is : is_key d relation.column ≡ true = not_false (is_key d relation.column) (other_true (is_column d relation.column) (not (is_key d relation.column)) other.0 column) in
+    let tested = where_tests d relation.column relation.value at is wrong_key.0 in
+    record { ranges = range.0; key = key_passes d relation.column relation.value at is tested.1 tested.0 range_key.0 empty.0 long_key.0 }
 
-pub update_accepted : (d : Definition) (greatest : ℕ) (table : List ℕ) (sets : List (List ℕ × Literal)) (target : Target)
+pub update_accepted : (d : Definition) (max_timestamp : ℕ) (table : List ℕ) (sets : List (List ℕ × Literal)) (relation : KeyRelation)
     (time : Option Number) → IsKeyAt d.key d.columns → first_of
-    (update_rules greatest table sets target.column target.value time (Some d)) ≡ None → IsAccepted d sets target.value
-update_accepted d greatest table sets target time at none =
-    let kinds = kind_rules d greatest sets target time in
+    (update_rules max_timestamp table sets relation.column relation.value time (Some d)) ≡ None → IsAccepted d sets relation.value
+update_accepted d max_timestamp table sets relation time at none =
+    let kinds = kind_rules d max_timestamp sets relation time in
     let repeats = repeat_rules [] (map (λ set. set.0) sets) in
-    let regular = none_parts (map (λ set. no_regular_column d set.0) sets) (no_column d target.column ∷ (repeats ++ kinds)) none in
-    let column = none_first (no_column d target.column) (repeats ++ kinds) regular.1 in
+    let regular = none_parts (map (λ set. no_regular_column d set.0) sets) (no_column d relation.column ∷ (repeats ++ kinds)) none in
+    let column = none_first (no_column d relation.column) (repeats ++ kinds) regular.1 in
     let once = none_parts repeats kinds column.1 in
-    where_accepted d greatest sets target time at (not_false (is_column d target.column) column.0) once.1
+    where_accepted d max_timestamp sets relation time at (not_false (is_column d relation.column) column.0) once.1
 
-pub delete_accepted : (d : Definition) (greatest : ℕ) (table : List ℕ) (columns : List (List ℕ)) (target : Target) (time : Option Number)
-    → IsKeyAt d.key d.columns → first_of (delete_rules greatest table columns target.column target.value time (Some d)) ≡ None
-    → IsAccepted d [] target.value
-delete_accepted d greatest table columns target time at none =
-    let kinds = kind_rules d greatest [] target time in
+pub delete_accepted : (d : Definition) (max_timestamp : ℕ) (table : List ℕ) (columns : List (List ℕ)) (relation : KeyRelation) (time : Option Number)
+    → IsKeyAt d.key d.columns → first_of (delete_rules max_timestamp table columns relation.column relation.value time (Some d)) ≡ None
+    → IsAccepted d [] relation.value
+delete_accepted d max_timestamp table columns relation time at none =
+    let kinds = kind_rules d max_timestamp [] relation time in
     let repeats = repeat_rules [] columns in
-    let regular = none_parts (map (no_regular_column d) columns) (no_column d target.column ∷ (repeats ++ kinds)) none in
-    let column = none_first (no_column d target.column) (repeats ++ kinds) regular.1 in
+    let regular = none_parts (map (no_regular_column d) columns) (no_column d relation.column ∷ (repeats ++ kinds)) none in
+    let column = none_first (no_column d relation.column) (repeats ++ kinds) regular.1 in
     let once = none_parts repeats kinds column.1 in
-    where_accepted d greatest [] target time at (not_false (is_column d target.column) column.0) once.1
+    where_accepted d max_timestamp [] relation time at (not_false (is_column d relation.column) column.0) once.1

@@ -4,22 +4,22 @@ use Rattle.std.specs.Prelude.{Result}
 use Rattle.std.specs.Result.{IsErrAnd}
 use Rattle.std.proofs.lemmas.List.{append_assoc}
 use Rattle.sasi_model.specs.Refusals.{Refusal, Rule, first_of}
-use Rattle.sasi_schema.specs.Answers.{Answers, IsTold}
+use Rattle.sasi_schema.specs.Answers.{Answers, IsFirstRefusal}
 use Rattle.sasi_schema.proofs.RuleLaws.{told_before, answers_behind, answers_exit}
 
 -- the first check fails
-pub fails : {A F : Type 0} (told : F → Option Refusal) (a b : List Rule) (result : Result A F) (fault : F) → IsErrAnd result (λ e. e ≡ fault) → IsTold (told fault) a → Answers told (a ++ b) result
-fails told a b result fault is failed = answers_exit told (a ++ b) result fault is (told_before (told fault) a b failed)
+pub fails : {A F : Type 0} (refusal_of_fault : F → Option Refusal) (a b : List Rule) (result : Result A F) (fault : F) → IsErrAnd result (λ e. e ≡ fault) → IsFirstRefusal (refusal_of_fault fault) a → Answers refusal_of_fault (a ++ b) result
+fails refusal_of_fault a b result fault is failed = answers_exit refusal_of_fault (a ++ b) result fault is (told_before (refusal_of_fault fault) a b failed)
 
 -- the first check is of the rules `a` and one more, and fails
-pub pair_fails : {A F : Type 0} (told : F → Option Refusal) (a : List Rule) (rule : Rule) (b : List Rule) (result : Result A F) (fault : F)
-    → IsErrAnd result (λ e. e ≡ fault) → IsTold (told fault) (a ++ rule ∷ [])
-    → Answers told (a ++ rule ∷ b) result
-pair_fails told a rule b result fault is failed =
-    subst (λ rules. Answers told rules result) (append_assoc a (rule ∷ []) b) (fails told (a ++ rule ∷ []) b result fault is failed)
+pub pair_fails : {A F : Type 0} (refusal_of_fault : F → Option Refusal) (a : List Rule) (rule : Rule) (b : List Rule) (result : Result A F) (fault : F)
+    → IsErrAnd result (λ e. e ≡ fault) → IsFirstRefusal (refusal_of_fault fault) (a ++ rule ∷ [])
+    → Answers refusal_of_fault (a ++ rule ∷ b) result
+pair_fails refusal_of_fault a rule b result fault is failed =
+    subst (λ rules. Answers refusal_of_fault rules result) (append_assoc a (rule ∷ []) b) (fails refusal_of_fault (a ++ rule ∷ []) b result fault is failed)
 
 -- and it passes
-pub pair_passes : {A F : Type 0} (told : F → Option Refusal) (a : List Rule) (rule : Rule) (b : List Rule) (result : Result A F) → first_of
-    (a ++ rule ∷ []) ≡ None → Answers told b result → Answers told (a ++ rule ∷ b) result
-pair_passes told a rule b result passed rest =
-    subst (λ rules. Answers told rules result) (append_assoc a (rule ∷ []) b) (answers_behind told (a ++ rule ∷ []) b result passed rest)
+pub pair_passes : {A F : Type 0} (refusal_of_fault : F → Option Refusal) (a : List Rule) (rule : Rule) (b : List Rule) (result : Result A F) → first_of
+    (a ++ rule ∷ []) ≡ None → Answers refusal_of_fault b result → Answers refusal_of_fault (a ++ rule ∷ b) result
+pair_passes refusal_of_fault a rule b result passed rest =
+    subst (λ rules. Answers refusal_of_fault rules result) (append_assoc a (rule ∷ []) b) (answers_behind refusal_of_fault (a ++ rule ∷ []) b result passed rest)

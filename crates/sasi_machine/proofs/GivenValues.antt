@@ -15,7 +15,7 @@ use Rattle.sasi_types.specs.Value.{type_of}
 use Rattle.sasi_model.specs.Refusals.{TEXT_LIMIT, is_long_text, is_of, is_out_of_range, is_within}
 use Rattle.sasi_model.specs.Step.{value_given}
 use Rattle.sasi_model.specs.Stored.{HasBytes}
-use Rattle.sasi_model.specs.Written.{IsWrittenLiteral}
+use Rattle.sasi_model.specs.WellFormed.{IsWellFormedLiteral}
 
 pub short_text : (text : List ℕ) → nat_lt TEXT_LIMIT (length text) ≡ false → length text < 2 ^ 16
 short_text text short = grind (arith, nat_tests)
@@ -34,7 +34,7 @@ not_out false e = cc
 
 -- what a literal gives has bytes, and is of the type
 pub given_fits : (type : ColumnType) (literal : Literal) (value : Value) → is_of type literal ≡ true → is_out_of_range type literal ≡ false
-    → is_long_text type literal ≡ false → IsWrittenLiteral literal → value_given type literal ≡ Some value
+    → is_long_text type literal ≡ false → IsWellFormedLiteral literal → value_given type literal ≡ Some value
     → HasBytes value × (type_of value ≡ type)
 given_fits types.Text (literals.Text text) value of within short written is =
     let e : Text text ≡ value = cc in subst (λ v. HasBytes v × (type_of v ≡ types.Text)) e ((written, short_text text short), refl)

@@ -11,7 +11,7 @@ use Rattle.sasi_types.specs.declared.value.Value.TheVariants.{Text, Int, BigInt,
 use Rattle.sasi_model.specs.State.{Definition, key_type}
 use Rattle.sasi_model.specs.Step.{stored_of, value_given}
 use Rattle.sasi_model.specs.Stored.{IsTypedAt, IsValueOf, types_of}
-use Rattle.sasi_model.specs.Written.{IsWrittenLiteral}
+use Rattle.sasi_model.specs.WellFormed.{IsWellFormedLiteral}
 use Rattle.sasi_machine.proofs.GivenValues.{short_text}
 
 pub record IsKeyBytes (d : Definition) (bytes : List ℕ) : Type 0 where
@@ -23,7 +23,7 @@ some_text : (text : List ℕ) → (length text == 0) ≡ false → 1 ≤ length 
 some_text [] e = cc
 some_text (x ∷ text) e = omega arith
 
-bytes_fit : (type : ColumnType) (literal : Literal) → IsKeyLiteral type literal → IsWrittenLiteral literal → IsValueOf type
+bytes_fit : (type : ColumnType) (literal : Literal) → IsKeyLiteral type literal → IsWellFormedLiteral literal → IsValueOf type
     (stored_of (value_given type literal)) × (1 ≤ length (stored_of (value_given type literal)))
     × (length (stored_of (value_given type literal)) < 2 ^ 16)
 bytes_fit types.Text (literals.Text text) is written = (written, some_text text is.some, short_text text is.short)
@@ -45,7 +45,7 @@ bytes_fit types.Uuid (literals.Text text) is written = let e = is.typed in cc
 bytes_fit types.Uuid (literals.Number number) is written = let e = is.typed in cc
 bytes_fit types.Uuid literals.Null is written = let e = is.there in cc
 
-pub key_fits : (d : Definition) (literal : Literal) → IsKeyLiteral (key_type d) literal → IsWrittenLiteral literal → IsKeyBytes d (stored_of (value_given (key_type d) literal))
+pub key_fits : (d : Definition) (literal : Literal) → IsKeyLiteral (key_type d) literal → IsWellFormedLiteral literal → IsKeyBytes d (stored_of (value_given (key_type d) literal))
 key_fits d literal is written =
     let f = bytes_fit (key_type d) literal is written in
     record { typed = record { type = key_type d; listed = refl; value = f.0 }; some = f.1; short = f.2 }

@@ -1,13 +1,13 @@
 pub mod CheckSteps
 pub mod Accepted
-pub mod Collecting
-pub mod GreatestTimes
+pub mod Assigning
+pub mod MaxTimestamps
 pub mod KeyLiterals
 pub mod Merged
 pub mod Ordered
 pub mod Passed
 pub mod Picked
-pub mod Asking
+pub mod StatementPreparing
 pub mod Printed
 pub mod Stored
 pub mod CellEntries
@@ -19,7 +19,7 @@ pub mod ChangeBodies
 pub mod KeyBytes
 pub mod TableColumns
 pub mod StatementBodies
-pub mod Tabled
-pub mod Taking
+pub mod TablesOfMemtables
+pub mod StatementStepping
 pub mod WholePieces
 pub mod WriteTimes

@@ -1,13 +1,13 @@
 -- Columns that are picked by their numbers.
 use Rattle.std.proofs.Common.{◌≡◌, ℕ, zero, suc, ◌+◌, List, [], ◌∷◌, ◌++◌, map, refl, sym, ap, ◌∙◌, add-one, arith}
 use Rattle.std.proofs.lemmas.List.{map-append}
-use Rattle.sasi_types.specs.declared.place.Place.{Place}
+use Rattle.sasi_types.specs.declared.decorated_key.DecoratedKey.{DecoratedKey}
 use Rattle.sasi_cells.specs.declared.picked.PickedColumn.{PickedColumn}
 use Rattle.sasi_cells.specs.Rows.{picked_value}
 use Rattle.sasi_model.specs.Cells.{Partition}
 use Rattle.sasi_model.specs.State.{Definition, key_type}
-use Rattle.sasi_model.specs.Step.{count_up, rows_among, value_numbered}
-use Rattle.sasi_machine.specs.Contents.{rows_picked}
+use Rattle.sasi_model.specs.Step.{count_up, live_rows, value_numbered}
+use Rattle.sasi_machine.specs.MemtableView.{rows_picked}
 use Rattle.sasi_machine.specs.Picks.{pick}
 
 count_push : (from n : ℕ) → count_up from (suc n) ≡ count_up from n ++ (from + n) ∷ []
@@ -25,15 +25,15 @@ picked_more list new n column so_far is pushed =
     pushed ∙ ap (λ l. l ++ column ∷ []) so_far ∙ ap (λ c. map pick (count_up 0 n) ++ c ∷ []) is ∙ sym (pick_push n)
 
 -- the value that is picked is that of the number
-value_picked : (d : Definition) (place : Place) (p : Partition) (n : ℕ) → picked_value (key_type d) place.key p (pick n) ≡ value_numbered d place p n
-value_picked d place p zero = refl
-value_picked d place p (suc n) = refl
+value_picked : (d : Definition) (decorated_key : DecoratedKey) (p : Partition) (n : ℕ) → picked_value (key_type d) decorated_key.key p (pick n) ≡ value_numbered d decorated_key p n
+value_picked d decorated_key p zero = refl
+value_picked d decorated_key p (suc n) = refl
 
-values_picked : (d : Definition) (place : Place) (p : Partition) (numbers : List ℕ) → map (picked_value (key_type d) place.key p) (map pick numbers) ≡ map (value_numbered d place p) numbers
-values_picked d place p [] = refl
-values_picked d place p (n ∷ numbers) = rw (value_picked d place p n, values_picked d place p numbers) refl
+values_picked : (d : Definition) (decorated_key : DecoratedKey) (p : Partition) (numbers : List ℕ) → map (picked_value (key_type d) decorated_key.key p) (map pick numbers) ≡ map (value_numbered d decorated_key p) numbers
+values_picked d decorated_key p [] = refl
+values_picked d decorated_key p (n ∷ numbers) = rw (value_picked d decorated_key p n, values_picked d decorated_key p numbers) refl
 
 -- the rows with the values that are picked are those of the numbers
-pub rows_by_numbers : (d : Definition) (numbers : List ℕ) (entries : List (Place × Partition)) → rows_picked (key_type d) (map pick numbers) entries ≡ rows_among d numbers entries
+pub rows_by_numbers : (d : Definition) (numbers : List ℕ) (entries : List (DecoratedKey × Partition)) → rows_picked (key_type d) (map pick numbers) entries ≡ live_rows d numbers entries
 rows_by_numbers d numbers [] = refl
 rows_by_numbers d numbers (entry ∷ entries) = rw (values_picked d entry.0 entry.1 numbers, rows_by_numbers d numbers entries) refl

@@ -5,7 +5,7 @@ use Rattle.std.specs.FinMap as fin
 use Rattle.sasi_types.specs.declared.literal.Number.{Number}
 use Rattle.sasi_types.specs.declared.statement.Statement.{Statement}
 use Rattle.sasi_types.specs.declared.statement.Statement.TheVariants.{CreateTable, Insert, Update, Delete, Query}
-use Rattle.sasi_machine.specs.declared.target.Target.{Target}
+use Rattle.sasi_machine.specs.declared.relation.KeyRelation.{KeyRelation}
 use Rattle.sasi_machine.specs.Checks.{given_key_rules, given_rules, kind_rules, length_rules, missing_rule, range_rules, where_rules}
 use Rattle.sasi_machine.specs.Writes.{IsWriting, change_in, key_in}
 use Rattle.sasi_machine.proofs.Accepted.{delete_accepted, insert_accepted, update_accepted}
@@ -20,7 +20,7 @@ use Rattle.sasi_model.specs.State.{Definition, key_type}
 use Rattle.sasi_model.specs.Refusals.{Rule, TIME_LIMIT, delete_rules, each, first_of, insert_rules, is_key_value, is_long_text, is_of, is_out_of_range, key_empty, no_column, no_regular_column, number_range, other_key, repeat_rules, time_rules, type_of_column, update_rules, value_too_long, wrong_type, wrong_where}
 use Rattle.sasi_model.specs.Step.{cells_set, delete_change, insert_change, key_literal, marker, stored_of, update_change, value_given}
 use Rattle.sasi_model.specs.Stored.{IsBodyOf, types_of}
-use Rattle.sasi_model.specs.Written.{IsWritten, IsWrittenLiteral, IsWrittenSet}
+use Rattle.sasi_model.specs.WellFormed.{IsWellFormed, IsWellFormedLiteral, IsWellFormedSet}
 use Rattle.sasi_schema.proofs.RuleLaws.{none_first, none_parts}
 use Rattle.sasi_machine.proofs.WriteCells.{IsGood, goods}
 use Rattle.sasi_machine.proofs.CellCounts.{some_cell}
@@ -29,23 +29,23 @@ use Rattle.sasi_machine.proofs.KeyBytes.{key_fits}
 use Rattle.sasi_machine.proofs.TableColumns.{first_cell, small}
 
 -- the literals that are given
-zip_written : (columns : List (List ℕ)) (values : List Literal) → AllByRecursion IsWrittenLiteral values → AllByRecursion (λ (s : List ℕ × Literal). IsWrittenLiteral s.1) (zip columns values)
+zip_written : (columns : List (List ℕ)) (values : List Literal) → AllByRecursion IsWellFormedLiteral values → AllByRecursion (λ (s : List ℕ × Literal). IsWellFormedLiteral s.1) (zip columns values)
 zip_written [] values all = tt
 zip_written (c ∷ columns) [] all = tt
 zip_written (c ∷ columns) (v ∷ values) all = (all.0, zip_written columns values all.1)
 
-sets_written : (sets : List (List ℕ × Literal)) → AllByRecursion IsWrittenSet sets → AllByRecursion (λ (s : List ℕ × Literal). IsWrittenLiteral s.1) sets
+sets_written : (sets : List (List ℕ × Literal)) → AllByRecursion IsWellFormedSet sets → AllByRecursion (λ (s : List ℕ × Literal). IsWellFormedLiteral s.1) sets
 sets_written [] all = tt
 sets_written (s ∷ sets) all = (all.0.1, sets_written sets all.1)
 
-key_literal_written : (d : Definition) (given : List (List ℕ × Literal)) → AllByRecursion (λ (s : List ℕ × Literal). IsWrittenLiteral s.1) given → IsWrittenLiteral (key_literal d given)
+key_literal_written : (d : Definition) (given : List (List ℕ × Literal)) → AllByRecursion (λ (s : List ℕ × Literal). IsWellFormedLiteral s.1) given → IsWellFormedLiteral (key_literal d given)
 key_literal_written d [] all = tt
 key_literal_written d (g ∷ given) all =
-    elim (is_key_value d g.0 g.1) as (λ b. IsWrittenLiteral (cond b g.1 (key_literal d given))) [ true ↦ all.0 | false ↦ key_literal_written d given all.1 ]
+    elim (is_key_value d g.0 g.1) as (λ b. IsWellFormedLiteral (cond b g.1 (key_literal d given))) [ true ↦ all.0 | false ↦ key_literal_written d given all.1 ]
 
 -- what an INSERT writes
 pub insert_fits : (d : Definition) (g : ℕ) (table : List ℕ) (columns : List (List ℕ)) (values : List Literal) (time : Option Number) (t : ℕ)
-    → IsKeyAt d.key d.columns → length d.columns ≤ 64 → 0 < t → t ≤ TIME_LIMIT → AllByRecursion IsWrittenLiteral values
+    → IsKeyAt d.key d.columns → length d.columns ≤ 64 → 0 < t → t ≤ TIME_LIMIT → AllByRecursion IsWellFormedLiteral values
     → first_of (insert_rules g table columns (zip columns values) time (Some d)) ≡ None → IsBodyOf (types_of d)
     (stored_of (value_given (key_type d) (key_literal d (zip columns values)))) (insert_change d t (zip columns values))
 insert_fits d g table columns values time t at few above limit written none =
@@ -66,27 +66,27 @@ insert_fits d g table columns values time t at few above limit written none =
     (marked_cells d t given s above limit good)
 
 -- what an UPDATE writes
-pub update_fits : (d : Definition) (g : ℕ) (table : List ℕ) (sets : List (List ℕ × Literal)) (target : Target) (time : Option Number)
-    (t : ℕ) → IsKeyAt d.key d.columns → length d.columns ≤ 64 → 0 < t → t ≤ TIME_LIMIT → AllByRecursion IsWrittenSet sets
-    → IsWrittenLiteral target.value → 1 ≤ length sets
-    → first_of (update_rules g table sets target.column target.value time (Some d)) ≡ None → IsBodyOf (types_of d) (stored_of (value_given (key_type d) target.value)) (update_change d t sets)
-update_fits d g table [] target time t at few above limit written key_written some none = absurd (omega arith)
-update_fits d g table (set ∷ others) target time t at few above limit written key_written some none =
+pub update_fits : (d : Definition) (g : ℕ) (table : List ℕ) (sets : List (List ℕ × Literal)) (relation : KeyRelation) (time : Option Number)
+    (t : ℕ) → IsKeyAt d.key d.columns → length d.columns ≤ 64 → 0 < t → t ≤ TIME_LIMIT → AllByRecursion IsWellFormedSet sets
+    → IsWellFormedLiteral relation.value → 1 ≤ length sets
+    → first_of (update_rules g table sets relation.column relation.value time (Some d)) ≡ None → IsBodyOf (types_of d) (stored_of (value_given (key_type d) relation.value)) (update_change d t sets)
+update_fits d g table [] relation time t at few above limit written key_written some none = absurd (omega arith)
+update_fits d g table (set ∷ others) relation time t at few above limit written key_written some none =
     let sets = set ∷ others in
-    let kinds = kind_rules d g sets target time in
+    let kinds = kind_rules d g sets relation time in
     let repeats = repeat_rules [] (map (λ set. set.0) sets) in
-    let named = none_parts (map (λ set. no_regular_column d set.0) sets) (no_column d target.column ∷ (repeats ++ kinds)) none in
-    let column = none_first (no_column d target.column) (repeats ++ kinds) named.1 in
+    let named = none_parts (map (λ set. no_regular_column d set.0) sets) (no_column d relation.column ∷ (repeats ++ kinds)) none in
+    let column = none_first (no_column d relation.column) (repeats ++ kinds) named.1 in
     let once = none_parts repeats kinds column.1 in
-    let wrong = none_parts (each (wrong_type d) sets) (wrong_where d target.column target.value ∷ range_rules d g sets target time) once.1 in
-    let wrong_key = none_first (wrong_where d target.column target.value) (range_rules d g sets target time) wrong.1 in
-    let range = none_parts (each (number_range d) sets) (number_range d target.column target.value ∷ where_rules d g sets target time) wrong_key.1 in
-    let range_key = none_first (number_range d target.column target.value) (where_rules d g sets target time) range.1 in
-    let other = none_first (other_key d target.column) (key_empty d target.column target.value ∷ length_rules d g sets target time) range_key.1 in
-    let empty = none_first (key_empty d target.column target.value) (length_rules d g sets target time) other.1 in
-    let long = none_parts (each (value_too_long d) sets) (value_too_long d target.column target.value ∷ time_rules g time) empty.1 in
+    let wrong = none_parts (each (wrong_type d) sets) (wrong_where d relation.column relation.value ∷ range_rules d g sets relation time) once.1 in
+    let wrong_key = none_first (wrong_where d relation.column relation.value) (range_rules d g sets relation time) wrong.1 in
+    let range = none_parts (each (number_range d) sets) (number_range d relation.column relation.value ∷ where_rules d g sets relation time) wrong_key.1 in
+    let range_key = none_first (number_range d relation.column relation.value) (where_rules d g sets relation time) range.1 in
+    let other = none_first (other_key d relation.column) (key_empty d relation.column relation.value ∷ length_rules d g sets relation time) range_key.1 in
+    let empty = none_first (key_empty d relation.column relation.value) (length_rules d g sets relation time) other.1 in
+    let long = none_parts (each (value_too_long d) sets) (value_too_long d relation.column relation.value ∷ time_rules g time) empty.1 in
     let first_named = none_first (no_regular_column d set.0) (map (λ set. no_regular_column d set.0) others) named.0 in
-    let key = key_fits d target.value (update_accepted d g table sets target time at none).key key_written in
+    let key = key_fits d relation.value (update_accepted d g table sets relation time at none).key key_written in
     let good = goods d sets wrong.0 range.0 long.0 (sets_written sets written) in
     let s = small d at few in
     part_fits d _ (cells_set d t sets) s key.typed key.some key.short (first_cell d t set others first_named.0) (set_cells d t sets s above limit good)
@@ -110,17 +110,17 @@ nulls_good d [] = tt
 nulls_good d (name ∷ names) = (null_good d name, nulls_good d names)
 
 -- what a DELETE writes
-pub delete_fits : (d : Definition) (g : ℕ) (table : List ℕ) (columns : List (List ℕ)) (target : Target) (time : Option Number) (t : ℕ)
-    → IsKeyAt d.key d.columns → length d.columns ≤ 64 → 0 < t → t ≤ TIME_LIMIT → IsWrittenLiteral target.value
-    → first_of (delete_rules g table columns target.column target.value time (Some d)) ≡ None → IsBodyOf (types_of d) (stored_of (value_given (key_type d) target.value)) (delete_change d t columns)
-delete_fits d g table [] target time t at few above limit key_written none =
-    let key = key_fits d target.value (delete_accepted d g table [] target time at none).key key_written in
+pub delete_fits : (d : Definition) (g : ℕ) (table : List ℕ) (columns : List (List ℕ)) (relation : KeyRelation) (time : Option Number) (t : ℕ)
+    → IsKeyAt d.key d.columns → length d.columns ≤ 64 → 0 < t → t ≤ TIME_LIMIT → IsWellFormedLiteral relation.value
+    → first_of (delete_rules g table columns relation.column relation.value time (Some d)) ≡ None → IsBodyOf (types_of d) (stored_of (value_given (key_type d) relation.value)) (delete_change d t columns)
+delete_fits d g table [] relation time t at few above limit key_written none =
+    let key = key_fits d relation.value (delete_accepted d g table [] relation time at none).key key_written in
     deletion_fits d _ t key.typed key.some key.short above limit
-delete_fits d g table (column ∷ others) target time t at few above limit key_written none =
+delete_fits d g table (column ∷ others) relation time t at few above limit key_written none =
     let columns = column ∷ others in
     let sets : List (List ℕ × Literal) = map (λ name. (name, literals.Null)) columns in
-    let key = key_fits d target.value (delete_accepted d g table columns target time at none).key key_written in
-    let first_named = none_first (no_regular_column d column) (drop 1 (delete_rules g table columns target.column target.value time (Some d))) none in
+    let key = key_fits d relation.value (delete_accepted d g table columns relation time at none).key key_written in
+    let first_named = none_first (no_regular_column d column) (drop 1 (delete_rules g table columns relation.column relation.value time (Some d))) none in
     let s = small d at few in
     part_fits d _ (cells_set d t sets) s key.typed key.some key.short
     (first_cell d t (column, literals.Null) (map (λ name. (name, literals.Null)) others) first_named.0)
@@ -135,7 +135,7 @@ write_rules g (Delete table columns time key value) d = delete_rules g table col
 write_rules g (Query select) d = []
 
 -- what a write holds
-pub change_fits : (d : Definition) (g : ℕ) (statement : Statement) (t : ℕ) → IsWriting statement → IsWritten statement
+pub change_fits : (d : Definition) (g : ℕ) (statement : Statement) (t : ℕ) → IsWriting statement → IsWellFormed statement
     → IsKeyAt d.key d.columns → length d.columns ≤ 64 → 0 < t → t ≤ TIME_LIMIT → first_of (write_rules g statement d) ≡ None
     → IsBodyOf (types_of d) (stored_of (value_given (key_type d) (key_in d statement))) (change_in d t statement)
 change_fits d g (CreateTable table columns keys) t writing written at few above limit none = absurd writing

@@ -9,12 +9,12 @@ use Rattle.std.specs.Ordering.{nat_cmp, eq_by_cmp}
 use Rattle.sasi_types.specs.declared.cell.Cell.{Cell}
 use Rattle.sasi_types.specs.declared.literal.Literal.{Literal}
 use Rattle.sasi_model.specs.Cells.{Cells}
-use Rattle.sasi_model.specs.State.{Column, Definition, column_at, number_at, number_of_column, name_or_none, one_more, place_in, key_name}
+use Rattle.sasi_model.specs.State.{Column, Definition, column_at, number_at, number_of_column, name_or_none, one_more, position_in, key_name}
 use Rattle.sasi_model.specs.Statements.{same}
 use Rattle.sasi_model.specs.Refusals.{is_column, is_key, no_regular_column}
-use Rattle.sasi_model.specs.Step.{cells_set, column_type, value_given, with_cell}
+use Rattle.sasi_model.specs.Step.{cells_set, column_type, value_given, with_column_cell}
 use Rattle.sasi_model.specs.Stored.{regular_types}
-use Rattle.sasi_machine.proofs.ColumnTypes.{placed_inside}
+use Rattle.sasi_machine.proofs.ColumnTypes.{position_inside}
 use Rattle.sasi_machine.proofs.CellCounts.{some_cell}
 use Rattle.sasi_machine.proofs.ChangeBodies.{IsSmall}
 
@@ -23,40 +23,40 @@ regular_length key [] inside = absurd (omega arith)
 regular_length zero (x ∷ columns) inside = omega (arith, length-map columns (λ (c : Column). c.1))
 regular_length (suc key) (x ∷ columns) inside = omega (arith, regular_length key columns (omega arith))
 
-column_inside : (columns : List Column) (place : ℕ) (c : Column) → slice_get columns place ≡ Some c → place < length columns
-column_inside [] place c got = cc
+column_inside : (columns : List Column) (position : ℕ) (c : Column) → slice_get columns position ≡ Some c → position < length columns
+column_inside [] position c got = cc
 column_inside (x ∷ columns) zero c got = omega arith
-column_inside (x ∷ columns) (suc place) c got = omega (arith, column_inside columns place c got)
+column_inside (x ∷ columns) (suc position) c got = omega (arith, column_inside columns position c got)
 
 pub small : (d : Definition) → IsKeyAt d.key d.columns → length d.columns ≤ 64 → IsSmall d
 small d at few =
-    let there = placed_inside _ d.columns d.key at in
+    let there = position_inside _ d.columns d.key at in
     let inside = column_inside d.columns d.key there.0 there.1 in
     record { types = omega (arith, regular_length d.key d.columns inside) }
 
 -- the column at a position has its name
-named_by : (here : Bool) (o : Option ℕ) (name : List ℕ) (x : Column) (columns : List Column) (place : ℕ) → same name x.0 ≡ here
-    → ((n : ℕ) → o ≡ Some n → same name (name_or_none (column_at n columns)) ≡ true) → cond here (Some 0) (one_more o) ≡ Some place
-    → same name (name_or_none (column_at place (x ∷ columns))) ≡ true
-named_by true o name x columns place is later e = let zero_is : 0 ≡ place = cc in subst (λ n. same name (name_or_none (column_at n (x ∷ columns))) ≡ true) zero_is is
-named_by false None name x columns place is later e = cc
-named_by false (Some n) name x columns place is later e = let suc_is : suc n ≡ place = cc in subst (λ n. same name (name_or_none (column_at n (x ∷ columns))) ≡ true) suc_is (later n refl)
+named_by : (here : Bool) (o : Option ℕ) (name : List ℕ) (x : Column) (columns : List Column) (position : ℕ) → same name x.0 ≡ here
+    → ((n : ℕ) → o ≡ Some n → same name (name_or_none (column_at n columns)) ≡ true) → cond here (Some 0) (one_more o) ≡ Some position
+    → same name (name_or_none (column_at position (x ∷ columns))) ≡ true
+named_by true o name x columns position is later e = let zero_is : 0 ≡ position = cc in subst (λ n. same name (name_or_none (column_at n (x ∷ columns))) ≡ true) zero_is is
+named_by false None name x columns position is later e = cc
+named_by false (Some n) name x columns position is later e = let suc_is : suc n ≡ position = cc in subst (λ n. same name (name_or_none (column_at n (x ∷ columns))) ≡ true) suc_is (later n refl)
 
-placed_named : (name : List ℕ) (columns : List Column) (place : ℕ) → place_in name columns ≡ Some place → same name (name_or_none (column_at place columns)) ≡ true
-placed_named name [] place is = cc
-placed_named name (x ∷ columns) place is = named_by (same name x.0) (place_in name columns) name x columns place refl (λ n found. placed_named name columns n found) is
+position_named : (name : List ℕ) (columns : List Column) (position : ℕ) → position_in name columns ≡ Some position → same name (name_or_none (column_at position columns)) ≡ true
+position_named name [] position is = cc
+position_named name (x ∷ columns) position is = named_by (same name x.0) (position_in name columns) name x columns position refl (λ n found. position_named name columns n found) is
 
-number_of_key : (key place : ℕ) → number_at key place ≡ 0 → place ≡ key
-number_of_key key place is = by (nat_eq place key) (nat_lt place key) refl refl is
+number_of_key : (key position : ℕ) → number_at key position ≡ 0 → position ≡ key
+number_of_key key position is = by (nat_eq position key) (nat_lt position key) refl refl is
   where
-    by : (x y : Bool) → nat_eq place key ≡ x → nat_lt place key ≡ y → cond x 0 (cond y (suc place) place) ≡ 0 → place ≡ key
+    by : (x y : Bool) → nat_eq position key ≡ x → nat_lt position key ≡ y → cond x 0 (cond y (suc position) position) ≡ 0 → position ≡ key
     by true y here before e = grind (arith, nat_tests)
     by false true here before e = absurd (omega arith)
     by false false here before e = grind (arith, nat_tests)
 
 -- a name that is a regular column's
 pub regular_number : (d : Definition) (name : List ℕ) → (no_regular_column d name).0 ≡ false → (n : ℕ) × (number_of_column d name ≡ Some (suc n))
-regular_number d name passes = by (place_in name d.columns) refl
+regular_number d name passes = by (position_in name d.columns) refl
   where
     parts : (x y : Bool) → (not x || y) ≡ false → (x ≡ true) × (y ≡ false)
     parts true false e = (refl, refl)
@@ -66,26 +66,26 @@ regular_number d name passes = by (place_in name d.columns) refl
     key_is : (number : Option ℕ) → number ≡ Some 0 → (is_some number && same name (key_name d)) ≡ false → same name (key_name d) ≡ true → ⊥
     key_is number is key same_name = let e : (is_some number && same name (key_name d)) ≡ true = rw (is, same_name) refl in cc
 
-    regular_of : (number : ℕ) (place : ℕ) → place_in name d.columns ≡ Some place → number_at d.key place ≡ number → (n : ℕ) × (number_of_column d name ≡ Some (suc n))
-    regular_of zero place found at =
-        let key : place ≡ d.key = number_of_key d.key place at in
-        let named : same name (key_name d) ≡ true = subst (λ p. same name (name_or_none (column_at p d.columns)) ≡ true) key (placed_named name d.columns place found) in
+    regular_of : (number : ℕ) (position : ℕ) → position_in name d.columns ≡ Some position → number_at d.key position ≡ number → (n : ℕ) × (number_of_column d name ≡ Some (suc n))
+    regular_of zero position found at =
+        let key : position ≡ d.key = number_of_key d.key position at in
+        let named : same name (key_name d) ≡ true = subst (λ p. same name (name_or_none (column_at p d.columns)) ≡ true) key (position_named name d.columns position found) in
         absurd (key_is (number_of_column d name) (rw found (ap (λ n. Some n) at)) (parts (is_column d name) (is_key d name) passes).1 named)
-    regular_of (suc n) place found at = (n, rw found (ap (λ m. Some m) at))
+    regular_of (suc n) position found at = (n, rw found (ap (λ m. Some m) at))
 
-    by : (o : Option ℕ) → place_in name d.columns ≡ o → (n : ℕ) × (number_of_column d name ≡ Some (suc n))
+    by : (o : Option ℕ) → position_in name d.columns ≡ o → (n : ℕ) × (number_of_column d name ≡ Some (suc n))
     by None found =
         let there : is_column d name ≡ true = (parts (is_column d name) (is_key d name) passes).0 in
         let not_there : is_column d name ≡ false = rw found refl in
         cc
-    by (Some place) found = regular_of (number_at d.key place) place found refl
+    by (Some position) found = regular_of (number_at d.key position) position found refl
 
 -- there is a cell of the first column that is set
 pub first_cell : (d : Definition) (t : ℕ) (set : List ℕ × Literal) (sets : List (List ℕ × Literal)) → (no_regular_column d set.0).0 ≡ false → 1 ≤ length (fin.entries (cells_set d t (set ∷ sets)))
 first_cell d t set sets passes =
     let n = regular_number d set.0 passes in
     let cell : Cell = record { time = t; value = value_given (column_type d set.0) set.1 } in
-    let at : cells_set d t (set ∷ sets) ≡ fin.insert (cells_set d t sets) (suc n.0) cell = ap (λ (o : Option ℕ). with_cell o cell (cells_set d t sets)) n.1 in
+    let at : cells_set d t (set ∷ sets) ≡ fin.insert (cells_set d t sets) (suc n.0) cell = ap (λ (o : Option ℕ). with_column_cell o cell (cells_set d t sets)) n.1 in
     let got : fin.get (fin.insert (cells_set d t sets) (suc n.0) cell) (suc n.0) ≡ Some cell = fin.get-insert nat_cmp_total
     (cells_set d t sets) (suc n.0) cell (suc n.0) ∙ ap (λ b. cond b (Some cell) (fin.get (cells_set d t sets) (suc n.0))) (itself (suc n.0)) in
     some_cell (cells_set d t (set ∷ sets)) (suc n.0) cell (ap (λ (c : Cells). fin.get c (suc n.0)) at ∙ got)

@@ -13,9 +13,9 @@ use Rattle.sasi_cells.specs.Laws.Sorted.{equal_columns}
 use Rattle.sasi_model.specs.Cells.{Cells}
 use Rattle.sasi_model.specs.State.{Definition, number_of_column}
 use Rattle.sasi_model.specs.Refusals.{each, first_of, is_of, number_range, value_too_long, wrong_type}
-use Rattle.sasi_model.specs.Step.{cells_set, column_type, value_given, with_cell}
+use Rattle.sasi_model.specs.Step.{cells_set, column_type, value_given, with_column_cell}
 use Rattle.sasi_model.specs.Stored.{HasBytes, types_of}
-use Rattle.sasi_model.specs.Written.{IsWrittenLiteral}
+use Rattle.sasi_model.specs.WellFormed.{IsWellFormedLiteral}
 use Rattle.sasi_schema.proofs.RuleLaws.{none_first}
 use Rattle.sasi_machine.proofs.ColumnTypes.{regular}
 use Rattle.sasi_machine.proofs.GivenValues.{given_fits}
@@ -25,7 +25,7 @@ pub record IsGood (d : Definition) (set : List ℕ × Literal) : Type 0 where
   pub typed : (wrong_type d set.0 set.1).0 ≡ false
   pub within : (number_range d set.0 set.1).0 ≡ false
   pub short : (value_too_long d set.0 set.1).0 ≡ false
-  pub written : IsWrittenLiteral set.1
+  pub written : IsWellFormedLiteral set.1
 
 -- a cell of this time, of a regular column, and with a value of its type if it is live
 pub record IsGoodCell (d : Definition) (t column : ℕ) (cell : Cell) : Type 0 where
@@ -56,7 +56,7 @@ set_good d t set number good is =
     }
 
 with_good : (d : Definition) (t : ℕ) (set : List ℕ × Literal) (o : Option ℕ) (cells : Cells) → number_of_column d set.0 ≡ o → IsGood d set
-    → AreGoodCells d t cells → AreGoodCells d t (with_cell o (record { time = t; value = value_given (column_type d set.0) set.1 }) cells)
+    → AreGoodCells d t cells → AreGoodCells d t (with_column_cell o (record { time = t; value = value_given (column_type d set.0) set.1 }) cells)
 with_good d t set None cells is good goods = goods
 with_good d t set (Some zero) cells is good goods = goods
 with_good d t set (Some (suc n)) cells is good goods = λ column cell got.
@@ -76,7 +76,7 @@ cells_good d t (set ∷ sets) goods = with_good d t set (number_of_column d set.
 -- the sets of which no rule refuses one
 pub goods : (d : Definition) (sets : List (List ℕ × Literal)) → first_of (each (wrong_type d) sets) ≡ None → first_of
     (each (number_range d) sets) ≡ None → first_of (each (value_too_long d) sets) ≡ None → AllByRecursion
-    (λ (s : List ℕ × Literal). IsWrittenLiteral s.1) sets
+    (λ (s : List ℕ × Literal). IsWellFormedLiteral s.1) sets
     → AllByRecursion (IsGood d) sets
 goods d [] wrong range long written = tt
 goods d (set ∷ sets) wrong range long written =

@@ -10,9 +10,9 @@ use Rattle.sasi_types.specs.declared.literal.Literal.{Literal}
 use Rattle.sasi_types.specs.declared.statement.Statement.{Statement}
 use Rattle.sasi_types.specs.declared.statement.Statement.TheVariants.{CreateTable, Insert, Update, Delete, Query}
 use Rattle.sasi_cells.specs.Laws.Times.{values_below}
-use Rattle.sasi_model.specs.Cells.{Cells, empty_partition, greatest_of}
+use Rattle.sasi_model.specs.Cells.{Cells, empty_partition, max_timestamp_of}
 use Rattle.sasi_model.specs.State.{Definition, number_of_column}
-use Rattle.sasi_model.specs.Step.{cells_set, column_type, marker, value_given, with_cell}
+use Rattle.sasi_model.specs.Step.{cells_set, column_type, marker, value_given, with_column_cell}
 use Rattle.sasi_machine.specs.Writes.{change_in}
 
 -- no cell is later
@@ -29,7 +29,7 @@ insert_within t n cells new within new_within column cell got =
       | false ↦ λ is. within column cell is
     ] (sym (fin.get-insert nat_cmp_total cells n new column) ∙ got)
 
-with_within : (t : ℕ) (number : Option ℕ) (cells : Cells) (new : Cell) → AreWithin t cells → new.time ≤ t → AreWithin t (with_cell number new cells)
+with_within : (t : ℕ) (number : Option ℕ) (cells : Cells) (new : Cell) → AreWithin t cells → new.time ≤ t → AreWithin t (with_column_cell number new cells)
 with_within t None cells new within new_within = within
 with_within t (Some zero) cells new within new_within = within
 with_within t (Some (suc n)) cells new within new_within = insert_within t (suc n) cells new within new_within
@@ -42,11 +42,11 @@ cells_within d t (set ∷ sets) =
     with_within t (number_of_column d set.0) (cells_set d t sets) cell (cells_within d t sets) soon
 
 -- nothing has no time
-pub empty_time : greatest_of empty_partition ≡ 0
+pub empty_time : max_timestamp_of empty_partition ≡ 0
 empty_time = omega (arith, values_below 0 fin.empty (none_within 0))
 
 -- no write is later than its time
-pub change_within : (d : Definition) (t : ℕ) (statement : Statement) → greatest_of (change_in d t statement) ≤ t
+pub change_within : (d : Definition) (t : ℕ) (statement : Statement) → max_timestamp_of (change_in d t statement) ≤ t
 change_within d t (CreateTable table columns keys) = omega (arith, values_below t fin.empty (none_within t))
 change_within d t (Insert table columns values time) =
     let cells = cells_set d t (zip columns values) in

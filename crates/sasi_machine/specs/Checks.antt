@@ -5,11 +5,11 @@ use Rattle.sasi_types.specs.declared.literal.Number.{Number}
 use Rattle.sasi_model.specs.State.{Definition, key_name}
 use Rattle.sasi_model.specs.Refusals.{Rule, KeyMissing, TIME_LIMIT, each, gives_key, key_empty, number_range, other_key, time_rules, value_too_long, wrong_type, wrong_where}
 use Rattle.sasi_model.specs.Step.{time_of}
-use Rattle.sasi_machine.specs.declared.target.Target.{Target}
+use Rattle.sasi_machine.specs.declared.relation.KeyRelation.{KeyRelation}
 
 -- the timestamp of a write, where this is the largest of the state
-pub record IsTimeOf (greatest : ℕ) (given : Option Number) (time : ℕ) : Type 0 where
-  pub is : time ≡ time_of greatest given
+pub record IsTimeOf (max_timestamp : ℕ) (given : Option Number) (time : ℕ) : Type 0 where
+  pub is : time ≡ time_of max_timestamp given
   pub above : 0 < time
   pub limit : time ≤ TIME_LIMIT
 
@@ -19,21 +19,21 @@ abbrev pub missing_rule : Definition → List (List ℕ × Literal) → Rule
 missing_rule d given = (not (gives_key d given), KeyMissing (key_name d))
 
 abbrev pub given_key_rules : Definition → ℕ → List (List ℕ × Literal) → Option Number → List Rule
-given_key_rules d greatest given time = missing_rule d given ∷ (each (key_empty d) given ++ (each (value_too_long d) given ++ time_rules greatest time))
+given_key_rules d max_timestamp given time = missing_rule d given ∷ (each (key_empty d) given ++ (each (value_too_long d) given ++ time_rules max_timestamp time))
 
 abbrev pub given_rules : Definition → ℕ → List (List ℕ × Literal) → Option Number → List Rule
-given_rules d greatest given time = each (wrong_type d) given ++ (each (number_range d) given ++ given_key_rules d greatest given time)
+given_rules d max_timestamp given time = each (wrong_type d) given ++ (each (number_range d) given ++ given_key_rules d max_timestamp given time)
 
 -- ---- UPDATE and DELETE
 
-abbrev pub length_rules : Definition → ℕ → List (List ℕ × Literal) → Target → Option Number → List Rule
-length_rules d greatest sets target time = each (value_too_long d) sets ++ value_too_long d target.column target.value ∷ time_rules greatest time
+abbrev pub length_rules : Definition → ℕ → List (List ℕ × Literal) → KeyRelation → Option Number → List Rule
+length_rules d max_timestamp sets relation time = each (value_too_long d) sets ++ value_too_long d relation.column relation.value ∷ time_rules max_timestamp time
 
-abbrev pub where_rules : Definition → ℕ → List (List ℕ × Literal) → Target → Option Number → List Rule
-where_rules d greatest sets target time = other_key d target.column ∷ key_empty d target.column target.value ∷ length_rules d greatest sets target time
+abbrev pub where_rules : Definition → ℕ → List (List ℕ × Literal) → KeyRelation → Option Number → List Rule
+where_rules d max_timestamp sets relation time = other_key d relation.column ∷ key_empty d relation.column relation.value ∷ length_rules d max_timestamp sets relation time
 
-abbrev pub range_rules : Definition → ℕ → List (List ℕ × Literal) → Target → Option Number → List Rule
-range_rules d greatest sets target time = each (number_range d) sets ++ number_range d target.column target.value ∷ where_rules d greatest sets target time
+abbrev pub range_rules : Definition → ℕ → List (List ℕ × Literal) → KeyRelation → Option Number → List Rule
+range_rules d max_timestamp sets relation time = each (number_range d) sets ++ number_range d relation.column relation.value ∷ where_rules d max_timestamp sets relation time
 
-abbrev pub kind_rules : Definition → ℕ → List (List ℕ × Literal) → Target → Option Number → List Rule
-kind_rules d greatest sets target time = each (wrong_type d) sets ++ wrong_where d target.column target.value ∷ range_rules d greatest sets target time
+abbrev pub kind_rules : Definition → ℕ → List (List ℕ × Literal) → KeyRelation → Option Number → List Rule
+kind_rules d max_timestamp sets relation time = each (wrong_type d) sets ++ wrong_where d relation.column relation.value ∷ range_rules d max_timestamp sets relation time

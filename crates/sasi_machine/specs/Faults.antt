@@ -6,6 +6,6 @@ use Rattle.sasi_machine.specs.declared.fault.Fault.{Fault}
 use Rattle.sasi_machine.specs.declared.fault.Fault.TheVariants.{OutOfMemory, Refused}
 
 -- the refusal that a fault is; out of memory is none
-abbrev pub told : Fault → Option model.Refusal
-told OutOfMemory = None
-told (Refused refusal) = Some (refusal_of refusal)
+abbrev pub refusal_of_fault : Fault → Option model.Refusal
+refusal_of_fault OutOfMemory = None
+refusal_of_fault (Refused refusal) = Some (refusal_of refusal)

@@ -1,5 +1,5 @@
 -- Refusals, as the model's.
-use Rattle.sasi_schema.specs.Faults.{limit_of}
+use Rattle.sasi_schema.specs.Faults.{limit_refusal}
 use Rattle.sasi_model.specs.Refusals as model
 use Rattle.sasi_machine.specs.declared.refusal.Refusal.{Refusal}
 use Rattle.sasi_machine.specs.declared.refusal.Refusal.TheVariants.{StatementTooLong, NotUtf8, NoTable, TableExists, NoColumn, ColumnRepeated, WrongType, NumberRange, KeyMissing, KeyEmpty, ValueTooLong, TimestampRange, ClockSpent, TooMany, ScriptEnds, NotBuilt}
@@ -7,7 +7,7 @@ use Rattle.sasi_machine.specs.declared.refusal.Refusal.TheVariants.{StatementToo
 -- the model's refusal of that name
 abbrev pub refusal_of : Refusal → model.Refusal
 refusal_of StatementTooLong = model.StatementTooLong
-refusal_of (NotUtf8 place) = model.NotUtf8 place
+refusal_of (NotUtf8 offset) = model.NotUtf8 offset
 refusal_of (NoTable name) = model.NoTable name
 refusal_of (TableExists name) = model.TableExists name
 refusal_of (NoColumn name) = model.NoColumn name
@@ -19,6 +19,6 @@ refusal_of (KeyEmpty column) = model.KeyEmpty column
 refusal_of (ValueTooLong column) = model.ValueTooLong column
 refusal_of TimestampRange = model.TimestampRange
 refusal_of ClockSpent = model.ClockSpent
-refusal_of (TooMany limit) = limit_of limit
+refusal_of (TooMany limit) = limit_refusal limit
 refusal_of ScriptEnds = model.ScriptEnds
 refusal_of NotBuilt = model.NotBuilt

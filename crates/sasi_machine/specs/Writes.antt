@@ -59,22 +59,22 @@ pub record IsChange (d : Definition) (key : Literal) (change : Partition) (mutat
   pub change_is : mutation.change ≡ change
 
 -- what an INSERT of these literals writes to the table of this definition
-pub record IsInsertTo (greatest : ℕ) (d : Definition) (given : List (List ℕ × Literal)) (time_given : Option Number) (mutation : Mutation) : Type 0 where
+pub record IsInsertTo (max_timestamp : ℕ) (d : Definition) (given : List (List ℕ × Literal)) (time_given : Option Number) (mutation : Mutation) : Type 0 where
   pub time : ℕ
-  pub time_is : IsTimeOf greatest time_given time
+  pub time_is : IsTimeOf max_timestamp time_given time
   pub change : IsChange d (key_literal d given) (insert_change d time given) mutation
 
 -- what the statement writes to the table of this definition
-pub record IsWriteTo (greatest : ℕ) (d : Definition) (statement : Statement) (mutation : Mutation) : Type 0 where
+pub record IsWriteTo (max_timestamp : ℕ) (d : Definition) (statement : Statement) (mutation : Mutation) : Type 0 where
   pub time : ℕ
-  pub time_is : IsTimeOf greatest (time_in statement) time
+  pub time_is : IsTimeOf max_timestamp (time_in statement) time
   pub change : IsChange d (key_in d statement) (change_in d time statement) mutation
 
 -- what the statement writes, to the table that it names
-pub record IsWrite (tables : List Definition) (greatest : ℕ) (statement : Statement) (w : Mutation) : Type 0 where
+pub record IsWrite (tables : List Definition) (max_timestamp : ℕ) (statement : Statement) (w : Mutation) : Type 0 where
   pub definition : Definition
   pub found : definition_of (table_named statement) tables ≡ Some definition
   pub key_is_there : IsKeyAt definition.key definition.columns
   pub few : length definition.columns ≤ COLUMN_LIMIT
   pub number : number_of_table (table_named statement) tables ≡ Some w.table
-  pub written : IsWriteTo greatest definition statement w
+  pub written : IsWriteTo max_timestamp definition statement w

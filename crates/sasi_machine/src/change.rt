@@ -8,7 +8,7 @@ ghost use Rattle.sasi_schema.specs.Defined.{definition};
 ghost use Rattle.sasi_machine.specs.KeyLiteral.{IsKeyLiteral};
 ghost use Rattle.sasi_machine.specs.Writes.{IsChange};
 
-use crate::collect::{collect, nulls};
+use crate::assign::{assign, nulls};
 use crate::key::key_given;
 use sasi_cells::{Mutation, Partition};
 use sasi_schema::Table;
@@ -16,7 +16,7 @@ use sasi_types::{Cell, Literal, Names, Sets, Text, Value};
 use std::alloc::{AllocError, Global};
 
 /// The mutation of a key with this change.
-fn write_of(
+fn mutation_of(
     alloc: Global,
     table: &Table,
     key: Literal,
@@ -35,7 +35,7 @@ fn write_of(
 }
 
 /// The mutation of an INSERT: a marker, and a cell for each regular column that it names.
-pub fn write_of_insert(
+pub fn mutation_of_insert(
     alloc: Global,
     table: &Table,
     time: u64,
@@ -47,9 +47,9 @@ pub fn write_of_insert(
     ensures change { IfOk result (IsChange (definition table.now) (key_literal (definition table.now) given) (insert_change (definition table.now) time given)) }
     ensures table { IfOk result (λ mutation. mutation.table ≡ table.now.number) }
 {
-    let collected = collect(alloc, table, time, given)?;
-    let change = marked(alloc, collected.change, time)?;
-    write_of(alloc, table, collected.key, change)
+    let assignment = assign(alloc, table, time, given)?;
+    let change = marked(alloc, assignment.change, time)?;
+    mutation_of(alloc, table, assignment.key, change)
 }
 
 // The change with a live marker.
@@ -64,7 +64,7 @@ fn marked(alloc: Global, change: Partition, time: u64) -> Result<Partition, Allo
 }
 
 /// The mutation of an UPDATE: the cells alone.
-pub fn write_of_update(
+pub fn mutation_of_update(
     alloc: Global,
     table: &Table,
     time: u64,
@@ -77,12 +77,12 @@ pub fn write_of_update(
     ensures change { IfOk result (IsChange (definition table.now) key (update_change (definition table.now) time sets)) }
     ensures table { IfOk result (λ mutation. mutation.table ≡ table.now.number) }
 {
-    let collected = collect(alloc, table, time, sets)?;
-    write_of(alloc, table, key, collected.change)
+    let assignment = assign(alloc, table, time, sets)?;
+    mutation_of(alloc, table, key, assignment.change)
 }
 
 /// The mutation of a DELETE: tombstones, or a deletion of the whole row.
-pub fn write_of_delete(
+pub fn mutation_of_delete(
     alloc: Global,
     table: &Table,
     time: u64,
@@ -95,7 +95,7 @@ pub fn write_of_delete(
     ensures table { IfOk result (λ mutation. mutation.table ≡ table.now.number) }
 {
     let change = deletion(alloc, table, time, columns)?;
-    write_of(alloc, table, key, change)
+    mutation_of(alloc, table, key, change)
 }
 
 // Tombstones of the columns, or a deletion where there are none.
@@ -112,5 +112,5 @@ fn deletion(
         return Ok(Partition::deletion(alloc, time));
     }
     let sets = nulls(alloc, columns)?;
-    Ok(collect(alloc, table, time, sets)?.change)
+    Ok(assign(alloc, table, time, sets)?.change)
 }

@@ -1,7 +1,7 @@
 // Why a check does not pass.
 ghost use Rattle.std.specs.Prelude.{◌≡◌};
 ghost use Rattle.sasi_machine.specs.declared.fault.Fault.TheVariants.{OutOfMemory};
-ghost use Rattle.sasi_schema.specs.Faults.{told as schema_told};
+ghost use Rattle.sasi_schema.specs.Faults.{refusal_of_fault as refusal_of_schema_fault};
 
 use crate::Refusal;
 use sasi_schema::SchemaFault;
@@ -23,11 +23,11 @@ impl From<AllocError> for Fault {
 }
 
 impl Fault {
-    ghost use Rattle.sasi_machine.specs.Faults.{told};
+    ghost use Rattle.sasi_machine.specs.Faults.{refusal_of_fault};
 
     /// The fault of the schema, as one of the machine.
     pub fn of_schema(fault: SchemaFault) -> Fault
-        ensures { told result ≡ schema_told fault }
+        ensures { refusal_of_fault result ≡ refusal_of_schema_fault fault }
     {
         match fault {
             SchemaFault::OutOfMemory => Fault::OutOfMemory,

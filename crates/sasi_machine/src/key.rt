@@ -2,20 +2,20 @@
 ghost use Rattle.std.specs.Prelude.{◌≡◌, ◌≢◌, ◌≤◌, [], IfOk, length};
 ghost use Rattle.sasi_types.specs.Value.{stored, type_of};
 ghost use Rattle.sasi_cells.specs.Rows.{IsStored};
-ghost use Rattle.sasi_model.specs.State.{place_of};
+ghost use Rattle.sasi_model.specs.State.{decorated};
 ghost use Rattle.sasi_model.specs.Step.{stored_of, value_given};
 ghost use Rattle.sasi_machine.specs.KeyLiteral.{IsKeyLiteral, IsKeyValue};
 
 use crate::literals::{TEXT_LIMIT, value_given};
-use sasi_types::{ColumnType, Key, KeyFault, Literal, Partitioner, Place, Value};
+use sasi_types::{ColumnType, Key, KeyFault, Literal, Partitioner, DecoratedKey, Value};
 use std::alloc::{AllocError, Global};
 
 /// The decorated key of a key.
-pub fn place_of(partitioner: Partitioner, key: Key) -> Place
-    ensures { result ≡ place_of partitioner key }
+pub fn decorated(partitioner: Partitioner, key: Key) -> DecoratedKey
+    ensures { result ≡ decorated partitioner key }
 {
     let token = partitioner.token(key.bytes());
-    Place { token, key }
+    DecoratedKey { token, key }
 }
 
 /// The key of a literal.

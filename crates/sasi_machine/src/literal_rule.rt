@@ -25,7 +25,7 @@ pub enum LiteralRule {
 }
 
 impl LiteralRule {
-    ghost use Rattle.sasi_machine.specs.Faults.{told};
+    ghost use Rattle.sasi_machine.specs.Faults.{refusal_of_fault};
     ghost use Rattle.sasi_machine.specs.Refusal.{refusal_of};
     ghost use Rattle.sasi_machine.specs.Rules.{literal_rule};
 
@@ -66,7 +66,7 @@ impl LiteralRule {
         column: &Name,
         literal: &Literal,
     ) -> Result<(), Fault>
-        ensures { Answers told (literal_rule self (definition table.now) column.now literal.now ∷ []) result }
+        ensures { Answers refusal_of_fault (literal_rule self (definition table.now) column.now literal.now ∷ []) result }
     {
         if self.applies(table, column, literal) {
             return Err(Fault::Refused(self.refusal(column.copy(alloc)?)));
@@ -81,7 +81,7 @@ impl LiteralRule {
         table: &Table,
         given: &[(Name, Literal)],
     ) -> Result<(), Fault>
-        ensures { Answers told (each (literal_rule self (definition table.now)) given.now) result }
+        ensures { Answers refusal_of_fault (each (literal_rule self (definition table.now)) given.now) result }
     {
         for (column, literal) in given {
             self.check(alloc, table, column, literal)?;

@@ -6,12 +6,12 @@ ghost use Rattle.sasi_model.specs.Changes.{with_new_table};
 ghost use Rattle.sasi_model.specs.Step.{step};
 ghost use Rattle.sasi_schema.specs.Defined.{definition};
 ghost use Rattle.sasi_machine.specs.Outcome.{outcome_of};
-ghost use Rattle.sasi_cells.specs.Mutations.{written_state};
-ghost use Rattle.sasi_machine.specs.Plans.{IsFit, IsNext};
+ghost use Rattle.sasi_cells.specs.Mutations.{state_with_mutation};
+ghost use Rattle.sasi_machine.specs.Prepares.{IsApplicable, IsNewTable};
 
-use crate::holding::{add_within, merge_into, reserve_one};
-use crate::planned::Planned;
-use crate::rows::Rows;
+use crate::memtables::{add_within, merge_into, reserve_one};
+use crate::prepared::Prepared;
+use crate::memtable::Memtable;
 use crate::{Outcome, Reply};
 use sasi_cells::Mutation;
 use sasi_schema::{Schema, Table};
@@ -25,8 +25,8 @@ pub struct Machine {
     pub(crate) alloc: Global,
     pub(crate) partitioner: Partitioner,
     pub(crate) schema: Schema,
-    pub(crate) contents: Vec<Rows>,
-    pub(crate) greatest: u64,
+    pub(crate) memtables: Vec<Memtable>,
+    pub(crate) max_timestamp: u64,
 }
 
 impl Model for Machine {
@@ -37,11 +37,11 @@ impl Model for Machine {
 
     ghost coded = { coded_state };
 
-    ghost use Rattle.sasi_machine.specs.Tables.{IsKept, state_of};
+    ghost use Rattle.sasi_machine.specs.Tables.{IsMachineState, state_of};
 
-    ghost view = { λ a. state_of a.partitioner a.schema a.contents.items };
+    ghost view = { λ a. state_of a.partitioner a.schema a.memtables.items };
 
-    ghost invariant = { λ a. IsKept a.schema a.contents.items a.greatest };
+    ghost invariant = { λ a. IsMachineState a.schema a.memtables.items a.max_timestamp };
 }
 
 impl Machine {
@@ -53,8 +53,8 @@ impl Machine {
             alloc,
             partitioner,
             schema: Schema::new(alloc),
-            contents: Vec::new(alloc),
-            greatest: 0,
+            memtables: Vec::new(alloc),
+            max_timestamp: 0,
         }
     }
 
@@ -77,40 +77,40 @@ impl Machine {
         ensures outcome { IfOk result (λ o. o ≡ outcome_of (step self.old (piece_of end piece.now)).refused) }
         ensures err { OnErr result (self.new ≡ self.old) }
     {
-        match self.plan(piece, end, reply)? {
-            Planned::Answered(outcome) => Ok(outcome),
-            Planned::Create(table) => {
-                self.create(table)?;
+        match self.prepare(piece, end, reply)? {
+            Prepared::Answered(outcome) => Ok(outcome),
+            Prepared::Create(table) => {
+                self.create_table(table)?;
                 Ok(Outcome::Done)
             }
-            Planned::Write(mutation) => {
-                self.write(mutation)?;
+            Prepared::Write(mutation) => {
+                self.apply(mutation)?;
                 Ok(Outcome::Done)
             }
         }
     }
 
     /// Creates a table that was prepared, or that a manifest lists.
-    pub fn create(&mut self, table: Table) -> Result<(), AllocError>
-        requires { IsNext self.old table }
+    pub fn create_table(&mut self, table: Table) -> Result<(), AllocError>
+        requires { IsNewTable self.old table }
         ensures ok { OnOk result (self.new ≡ with_new_table self.old (definition table)) }
         ensures err { OnErr result (self.new ≡ self.old) }
     {
-        reserve_one(&mut self.contents)?;
-        let rows = Rows::new(self.alloc, table.key_type());
+        reserve_one(&mut self.memtables)?;
+        let memtable = Memtable::new(self.alloc, table.key_type());
         self.schema.restore_table(table)?;
-        add_within(&mut self.contents, rows);
+        add_within(&mut self.memtables, memtable);
         Ok(())
     }
 
     /// Applies a mutation that was prepared, or that the commit log has.
-    pub fn write(&mut self, mutation: Mutation) -> Result<(), AllocError>
-        requires { IsFit self.old mutation }
-        ensures ok { OnOk result (self.new ≡ written_state self.old mutation) }
+    pub fn apply(&mut self, mutation: Mutation) -> Result<(), AllocError>
+        requires { IsApplicable self.old mutation }
+        ensures ok { OnOk result (self.new ≡ state_with_mutation self.old mutation) }
         ensures err { OnErr result (self.new ≡ self.old) }
     {
-        let time = merge_into(&mut self.contents, self.partitioner, mutation)?;
-        self.greatest = self.greatest.max(time);
+        let time = merge_into(&mut self.memtables, self.partitioner, mutation)?;
+        self.max_timestamp = self.max_timestamp.max(time);
         Ok(())
     }
 }

@@ -18,7 +18,7 @@ pub enum NameRule {
 }
 
 impl NameRule {
-    ghost use Rattle.sasi_machine.specs.Faults.{told};
+    ghost use Rattle.sasi_machine.specs.Faults.{refusal_of_fault};
     ghost use Rattle.sasi_machine.specs.Rules.{name_rule};
 
     /// Whether the rule refuses the name.
@@ -33,7 +33,7 @@ impl NameRule {
 
     /// Tries the rule on a name.
     pub fn check(self, alloc: Global, table: &Table, name: &Name) -> Result<(), Fault>
-        ensures { Answers told (name_rule self (definition table.now) name.now ∷ []) result }
+        ensures { Answers refusal_of_fault (name_rule self (definition table.now) name.now ∷ []) result }
     {
         if self.applies(table, name) {
             return Err(Fault::Refused(Refusal::NoColumn(name.copy(alloc)?)));
@@ -43,7 +43,7 @@ impl NameRule {
 
     /// Tries the rule on each name.
     pub fn check_names(self, alloc: Global, table: &Table, names: &[Name]) -> Result<(), Fault>
-        ensures { Answers told (map (name_rule self (definition table.now)) names.now) result }
+        ensures { Answers refusal_of_fault (map (name_rule self (definition table.now)) names.now) result }
     {
         for name in names {
             self.check(alloc, table, name)?;
@@ -58,7 +58,7 @@ impl NameRule {
         table: &Table,
         sets: &[(Name, Literal)],
     ) -> Result<(), Fault>
-        ensures { Answers told (map (λ set. name_rule self (definition table.now) set.0) sets.now) result }
+        ensures { Answers refusal_of_fault (map (λ set. name_rule self (definition table.now) set.0) sets.now) result }
     {
         for set in sets {
             self.check(alloc, table, &set.0)?;

@@ -2,7 +2,7 @@
 ghost use Rattle.std.specs.Prelude.{◌≡◌, ◌≤◌, map, IfOk};
 ghost use Rattle.sasi_model.specs.Refusals.{COLUMN_LIMIT as column_limit};
 ghost use Rattle.sasi_model.specs.State.{key_type};
-ghost use Rattle.sasi_model.specs.Step.{columns_asked, count_up, numbers_of};
+ghost use Rattle.sasi_model.specs.Step.{selected_columns, count_up, numbers_of};
 ghost use Rattle.sasi_schema.specs.Defined.{definition};
 ghost use Rattle.sasi_machine.specs.Picks.{pick};
 
@@ -14,11 +14,11 @@ use std::alloc::{AllocError, Global};
 /// The selected columns: those named, or the key and then the others in declared order.
 pub fn picked(alloc: Global, table: &Table, columns: &Option<Names>) -> Result<Picked, AllocError>
     ensures key { IfOk result (λ picked. picked.key ≡ key_type (definition table.now)) }
-    ensures columns { IfOk result (λ picked. picked.columns ≡ map pick (columns_asked (definition table.now) columns.now)) }
+    ensures columns { IfOk result (λ picked. picked.columns ≡ map pick (selected_columns (definition table.now) columns.now)) }
 {
     let list = match columns {
         None => all(alloc, table.columns.as_slice().len())?,
-        Some(names) => named(alloc, table, names.as_slice())?,
+        Some(names) => named_columns(alloc, table, names.as_slice())?,
     };
     Ok(Picked {
         key: table.key_type(),
@@ -48,7 +48,7 @@ fn all(alloc: Global, count: usize) -> Result<PickedList, AllocError>
 }
 
 // The columns of these names.
-fn named(alloc: Global, table: &Table, names: &[Name]) -> Result<PickedList, AllocError>
+fn named_columns(alloc: Global, table: &Table, names: &[Name]) -> Result<PickedList, AllocError>
     ensures { IfOk result (λ list. list ≡ map pick (numbers_of (definition table.now) names.now)) }
 {
     let mut list = PickedList::new(alloc);

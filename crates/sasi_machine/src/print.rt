@@ -3,7 +3,7 @@ ghost use Rattle.std.specs.Prelude.{◌≡◌, ◌≢◌, ◌++◌, ℕ, [], cod
 ghost use Rattle.std.specs.List.{flat_map};
 ghost use Rattle.std.specs.Fmt.{decimal, signed_decimal};
 ghost use Rattle.uuid.specs.Text.{hyphenated_text, lower};
-ghost use Rattle.sasi_model.specs.Lines.{ok_line, row_line, count_line, joined, printed, refusal_line, refusal_text, text_printed, value_printed};
+ghost use Rattle.sasi_model.specs.Lines.{ok_line, row_line, count_line, row_text, printed, refusal_line, refusal_text, text_printed, value_printed};
 ghost use Rattle.sasi_machine.specs.Refusal.{refusal_of};
 ghost use Rattle.sasi_machine.specs.declared.refusal.Refusal.TheVariants.{NotUtf8};
 
@@ -106,9 +106,9 @@ fn push_number<I: Integer>(reply: &mut Vec<u8>, number: I) -> Result<(), AllocEr
 fn push_reason(reply: &mut Vec<u8>, refusal: &Refusal) -> Result<(), AllocError>
     ensures ok { OnOk result (reply.new.items ≡ reply.old.items ++ refusal_text (refusal_of refusal.now)) }
 {
-    if let Refusal::NotUtf8(place) = refusal {
+    if let Refusal::NotUtf8(offset) = refusal {
         reply.extend_from_slice(b"NotUtf8 at ")?;
-        return push_number(reply, *place);
+        return push_number(reply, *offset);
     }
     let (reason, name) = reason_of(refusal);
     reply.extend_from_slice(reason)?;
@@ -118,7 +118,7 @@ fn push_reason(reply: &mut Vec<u8>, refusal: &Refusal) -> Result<(), AllocError>
 
 // The name of a refusal, and the name that it is about.
 fn reason_of(refusal: &Refusal) -> (&[u8], &[u8])
-    ensures { ((place : ℕ) → refusal.now ≢ NotUtf8 place) → result.0.now ++ result.1.now ≡ refusal_text (refusal_of refusal.now) }
+    ensures { ((offset : ℕ) → refusal.now ≢ NotUtf8 offset) → result.0.now ++ result.1.now ≡ refusal_text (refusal_of refusal.now) }
 {
     match refusal {
         Refusal::StatementTooLong => (b"StatementTooLong 1048576", b""),
@@ -185,7 +185,7 @@ fn push_value(reply: &mut Vec<u8>, value: &Option<Value>) -> Result<(), AllocErr
 
 // Adds the values of a row.
 fn push_values(reply: &mut Vec<u8>, values: &[Option<Value>]) -> Result<(), AllocError>
-    ensures ok { OnOk result (reply.new.items ≡ reply.old.items ++ joined values.now) }
+    ensures ok { OnOk result (reply.new.items ≡ reply.old.items ++ row_text values.now) }
 {
     let [first, others @ ..] = values else {
         return Ok(());

@@ -4,17 +4,17 @@ ghost use Rattle.std.specs.FinMap as map;
 ghost use Rattle.sasi_model.specs.State.{key_type};
 ghost use Rattle.sasi_model.specs.Refusals.{first_of, select_rules};
 ghost use Rattle.sasi_model.specs.Lines.{rows_lines};
-ghost use Rattle.sasi_model.specs.Step.{columns_asked, rows_among};
+ghost use Rattle.sasi_model.specs.Step.{selected_columns, live_rows};
 ghost use Rattle.sasi_schema.specs.Answers.{Answers};
 ghost use Rattle.sasi_schema.specs.Defined.{definition};
-ghost use Rattle.sasi_machine.specs.Faults.{told};
-ghost use Rattle.sasi_machine.specs.Taken.{IsAnswered};
+ghost use Rattle.sasi_machine.specs.Faults.{refusal_of_fault};
+ghost use Rattle.sasi_machine.specs.StatementSteps.{IsAnswered};
 
 use crate::fault::Fault;
 use crate::name_rule::NameRule;
 use crate::picking::picked;
-use crate::refuse::refuse_fault;
-use crate::rows::Rows;
+use crate::reply_refusal::reply_fault;
+use crate::memtable::Memtable;
 use crate::{Outcome, Reply};
 use sasi_schema::Table;
 use sasi_types::Names;
@@ -24,18 +24,18 @@ use std::alloc::{AllocError, Global};
 pub fn query(
     alloc: Global,
     table: &Table,
-    rows: &Rows,
+    memtable: &Memtable,
     columns: &Option<Names>,
     reply: &mut Reply,
 ) -> Result<Outcome, AllocError>
-    requires { rows.now.kind ≡ key_type (definition table.now) }
-    ensures { IfOk result (λ outcome. IsAnswered (first_of (select_rules table.now.name columns.now (Some (definition table.now)))) (rows_lines (rows_among (definition table.now) (columns_asked (definition table.now) columns.now) (map.entries rows.now.partitions))) reply.old reply.new outcome) }
+    requires { memtable.now.kind ≡ key_type (definition table.now) }
+    ensures { IfOk result (λ outcome. IsAnswered (first_of (select_rules table.now.name columns.now (Some (definition table.now)))) (rows_lines (live_rows (definition table.now) (selected_columns (definition table.now) columns.now) (map.entries memtable.now.partitions))) reply.old reply.new outcome) }
 {
     match check(alloc, table, columns) {
-        Err(fault) => refuse_fault(reply, fault),
+        Err(fault) => reply_fault(reply, fault),
         Ok(()) => {
             let picked = picked(alloc, table, columns)?;
-            rows.print(&picked, reply)?;
+            memtable.print(&picked, reply)?;
             Ok(Outcome::Done)
         }
     }
@@ -43,7 +43,7 @@ pub fn query(
 
 // Checks that the selected names are columns of the table.
 fn check(alloc: Global, table: &Table, columns: &Option<Names>) -> Result<(), Fault>
-    ensures { Answers told (select_rules table.now.name columns.now (Some (definition table.now))) result }
+    ensures { Answers refusal_of_fault (select_rules table.now.name columns.now (Some (definition table.now))) result }
 {
     match columns {
         None => Ok(()),

@@ -2,7 +2,7 @@
 ghost use Rattle.std.specs.Prelude.{◌≡◌, IfOk};
 ghost use Rattle.sasi_model.specs.Pieces.{Whole, piece_of};
 ghost use Rattle.sasi_model.specs.Refusals.{read};
-ghost use Rattle.sasi_machine.specs.Reading.{IsReadFrom, reading_of};
+ghost use Rattle.sasi_machine.specs.ParsedPiece.{IsReadFrom, model_piece};
 
 use crate::Refusal;
 use sasi_cql::{ParseFault, parse};
@@ -11,7 +11,7 @@ use std::alloc::{AllocError, Global};
 
 /// The content of a piece.
 #[derive(Drop)]
-pub enum Reading {
+pub enum ParsedPiece {
     /// A `;` alone.
     Nothing,
     Says(Statement),
@@ -20,32 +20,32 @@ pub enum Reading {
 
 /// Parses a piece, without a look at the tables.
 #[tactic(auto, unfolding(sasi_model::specs::Refusals::read))]
-pub fn read(alloc: Global, piece: &[u8], end: PieceEnd) -> Result<Reading, AllocError>
-    ensures reads { IfOk result (λ reading. reading_of reading ≡ read (piece_of end piece.now)) }
+pub fn read(alloc: Global, piece: &[u8], end: PieceEnd) -> Result<ParsedPiece, AllocError>
+    ensures reads { IfOk result (λ parsed. model_piece parsed ≡ read (piece_of end piece.now)) }
     ensures written { IfOk result IsReadFrom }
 {
     match end {
         PieceEnd::Whole => read_whole(alloc, piece),
-        PieceEnd::TooLong { .. } => Ok(Reading::Bad(Refusal::StatementTooLong)),
-        PieceEnd::Unfinished => Ok(Reading::Bad(Refusal::ScriptEnds)),
+        PieceEnd::TooLong { .. } => Ok(ParsedPiece::Bad(Refusal::StatementTooLong)),
+        PieceEnd::Unfinished => Ok(ParsedPiece::Bad(Refusal::ScriptEnds)),
     }
 }
 
 #[tactic(auto, unfolding(sasi_model::specs::Refusals::read))]
-fn read_whole(alloc: Global, piece: &[u8]) -> Result<Reading, AllocError>
-    ensures reads { IfOk result (λ reading. reading_of reading ≡ read (Whole piece.now)) }
+fn read_whole(alloc: Global, piece: &[u8]) -> Result<ParsedPiece, AllocError>
+    ensures reads { IfOk result (λ parsed. model_piece parsed ≡ read (Whole piece.now)) }
     ensures written { IfOk result IsReadFrom }
 {
     if piece == b";".as_slice() {
-        return Ok(Reading::Nothing);
+        return Ok(ParsedPiece::Nothing);
     }
     let text = match str::from_utf8(piece) {
         Ok(text) => text,
-        Err(error) => return Ok(Reading::Bad(Refusal::NotUtf8(error.valid_up_to()))),
+        Err(error) => return Ok(ParsedPiece::Bad(Refusal::NotUtf8(error.valid_up_to()))),
     };
     match parse(alloc, text) {
-        Ok(statement) => Ok(Reading::Says(statement)),
-        Err(ParseFault::Syntax) => Ok(Reading::Bad(Refusal::NotBuilt)),
+        Ok(statement) => Ok(ParsedPiece::Says(statement)),
+        Err(ParseFault::Syntax) => Ok(ParsedPiece::Bad(Refusal::NotBuilt)),
         Err(ParseFault::OutOfMemory) => Err(AllocError),
     }
 }

@@ -1,6 +1,6 @@
 // Why pieces are refused.
 ghost use Rattle.std.specs.Prelude.{◌≡◌};
-ghost use Rattle.sasi_model.specs.Lines.{number_of};
+ghost use Rattle.sasi_model.specs.Lines.{refusal_number};
 
 use sasi_schema::Limit;
 use sasi_types::Name;
@@ -32,7 +32,7 @@ impl Refusal {
 
     /// The number that its line begins with.
     pub fn number(&self) -> u32
-        ensures { result ≡ number_of (refusal_of self.now) }
+        ensures { result ≡ refusal_number (refusal_of self.now) }
     {
         match self {
             Refusal::StatementTooLong => 2,

@@ -6,9 +6,9 @@ use Rattle.sasi_host.specs.Names.{Bytes}
 use Rattle.sasi_manifest.specs.declared.edit.Edit.{Edit}
 use Rattle.sasi_manifest.specs.declared.edit.Edit.TheVariants.{Start, CreateTable}
 use Rattle.sasi_manifest.specs.declared.listing.Listing.{Listing}
-use Rattle.sasi_manifest.specs.Format.{IsManifest, LeadsTo}
-use Rattle.sasi_manifest.specs.Listed.{Listed}
-use Rattle.sasi_manifest.specs.Listings.{AllApply, Applies, after, after_all, counted}
+use Rattle.sasi_manifest.specs.Format.{IsManifest, RecordsLeadTo}
+use Rattle.sasi_manifest.specs.ListedDefinition.{ListedDefinition}
+use Rattle.sasi_manifest.specs.Listings.{AllApply, Applies, after, after_all, with_record_counted}
 use Rattle.sasi_manifest.specs.Consistent.{ConsistentIf, IsConsistent}
 
 all_both : {A : Type 0} (P : A → Type 0) (xs ys : List A) → AllByRecursion P xs → AllByRecursion P ys → AllByRecursion P (xs ++ ys)
@@ -20,25 +20,25 @@ edit_consistent None (Start partitioner floor last) applies known = record { sta
 edit_consistent None (CreateTable number name columns key since) applies known = absurd applies
 edit_consistent (Some listing) (Start partitioner floor last) applies known = absurd applies
 edit_consistent (Some listing) (CreateTable number name columns key since) applies known =
-    record { start = known.start; since = all_both (λ (t : Listed). t.since ≤ listing.last) listing.tables _ known.since (applies.since_within, tt) }
+    record { start = known.start; since = all_both (λ (t : ListedDefinition). t.since ≤ listing.last) listing.tables _ known.since (applies.since_within, tt) }
 
 edits_consistent : (from : Option Listing) (edits : List Edit) → AllApply from edits → ConsistentIf from → ConsistentIf (after_all from edits)
 edits_consistent from [] apply known = known
 edits_consistent from (edit ∷ edits) apply known = edits_consistent (after from edit) edits apply.1 (edit_consistent from edit apply.0 known)
 
-counted_consistent : (payload : Bytes) (listed : Option Listing) → ConsistentIf listed → ConsistentIf (counted payload listed)
+counted_consistent : (payload : Bytes) (listed : Option Listing) → ConsistentIf listed → ConsistentIf (with_record_counted payload listed)
 counted_consistent payload None known = tt
 counted_consistent payload (Some listing) known = record { start = known.start; since = known.since }
 
 -- a record that applies keeps a listing consistent
 pub record_consistent : (from : Option Listing) (payload : Bytes) (edits : List Edit) (next : Listing) → AllApply from edits
-    → Some next ≡ counted payload (after_all from edits) → ConsistentIf from → IsConsistent next
+    → Some next ≡ with_record_counted payload (after_all from edits) → ConsistentIf from → IsConsistent next
 record_consistent from payload edits next apply made known = subst ConsistentIf (sym made) (counted_consistent payload (after_all from edits) (edits_consistent from edits apply known))
 
-leads_consistent : (from : Option Listing) (records : List Bytes) (to : Option Listing) → LeadsTo from records to → ConsistentIf from → ConsistentIf to
+leads_consistent : (from : Option Listing) (records : List Bytes) (to : Option Listing) → RecordsLeadTo from records to → ConsistentIf from → ConsistentIf to
 leads_consistent from [] to leads known = subst ConsistentIf leads known
 leads_consistent from (payload ∷ payloads) to (edits, is, more) known =
-    leads_consistent (counted payload (after_all from edits)) payloads to more
+    leads_consistent (with_record_counted payload (after_all from edits)) payloads to more
     (counted_consistent payload (after_all from edits) (edits_consistent from edits is.apply known))
 
 -- the listing of a manifest is consistent

@@ -1,12 +1,12 @@
 pub mod Consistency
 pub mod Carried
 pub mod Laws
-pub mod TextSpots
-pub mod Growing
-pub mod Exits
-pub mod KeyPlaces
+pub mod TextFaults
+pub mod Additions
+pub mod EditFaults
+pub mod KeyPositions
 pub mod Records
-pub mod Moments
+pub mod CrashMoments
 pub mod Opening
 pub mod KeyWithin
 pub mod TypesApart

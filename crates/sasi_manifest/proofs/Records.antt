@@ -3,20 +3,20 @@ use Rattle.std.proofs.lemmas.Bool.Decides.{nat_tests}
 use Rattle.std.proofs.Common.{Bool, true, false, ◌==◌, ◌≡◌, ◌≢◌, ◌<◌, ◌≤◌, ◌-◌, ◌+◌, ◌^◌, ℕ, suc, List, [], ◌∷◌, ◌++◌, length, Option, Some, None, refl, sym, ◌∙◌, ap, subst, arith, append_assoc, length-append}
 use Rattle.std.proofs.lemmas.List.{append-nil}
 use Rattle.std.specs.Int.{to_be_bytes, w32}
-use Rattle.sasi_fields.specs.Reading.{Reading, Passes}
+use Rattle.sasi_fields.specs.Reading.{Reading, ReadsField}
 use Rattle.sasi_host.specs.Names.{Bytes}
 use Rattle.sasi_manifest.specs.declared.edit.Edit.{Edit}
 use Rattle.sasi_manifest.specs.declared.edit.Edit.TheVariants.{Start, CreateTable}
 use Rattle.sasi_manifest.specs.declared.listing.Listing.{Listing}
-use Rattle.sasi_manifest.specs.declared.misread.Misread.{Misread}
+use Rattle.sasi_manifest.specs.declared.record_fault.RecordFault.{RecordFault}
 use Rattle.sasi_manifest.specs.Edits.{edit_bytes, edits_bytes, encoded, encoded_is, encoded_length}
-use Rattle.sasi_manifest.specs.Listings.{Applies, AllApply, after, after_all, counted, records_of, length_of}
+use Rattle.sasi_manifest.specs.Listings.{Applies, AllApply, after, after_all, with_record_counted, records_of, length_of}
 use Rattle.sasi_manifest.specs.Format.{IsRecord}
-use Rattle.sasi_manifest.specs.Forms.{Form, Four, IsBetween, edit_form, edits_form, record_form, NoEnd, Lacks}
-use Rattle.sasi_manifest.specs.Misreads.{Misreads}
-use Rattle.sasi_manifest.specs.Taken.{TakesEdits}
-use Rattle.sasi_manifest.proofs.Carried.{misreads_carries, lacks_carries, over_edits}
-use Rattle.sasi_manifest.proofs.Growing.{passes_on}
+use Rattle.sasi_manifest.specs.Forms.{Form, Four, IsBetween, edit_form, edits_form, record_form, NoEnd, BreaksForm}
+use Rattle.sasi_manifest.specs.IsFormFault.{IsFormFault}
+use Rattle.sasi_manifest.specs.ReadEdits.{ReadsEdits}
+use Rattle.sasi_manifest.proofs.Carried.{form_fault_carries, lacks_carries, over_edits}
+use Rattle.sasi_manifest.proofs.Additions.{passes_on}
 
 -- ---- one edit more
 
@@ -32,26 +32,26 @@ after_push : (from : Option Listing) (edits : List Edit) (edit : Edit) → after
 after_push from [] edit = refl
 after_push from (e ∷ es) edit = after_push (after from e) es edit
 
-pub takes_none : (from : Option Listing) (reading : Reading) → TakesEdits from from 0 reading reading
+pub takes_none : (from : Option Listing) (reading : Reading) → ReadsEdits from from 0 reading reading
 takes_none from reading = record { edits = []; many = refl; apply = tt; passes = record { next = refl; done = sym (append-nil reading.done) }; makes = refl }
 
 pub takes_push : (from listed to : Option Listing) (count : ℕ) (old new behind : Reading) (edit : Edit)
-    → TakesEdits from listed count old new → Applies listed edit → Passes (edit_bytes edit) new behind → to ≡ after listed edit
-    → TakesEdits from to (count + 1) old behind
+    → ReadsEdits from listed count old new → Applies listed edit → ReadsField (edit_bytes edit) new behind → to ≡ after listed edit
+    → ReadsEdits from to (count + 1) old behind
 takes_push from listed to count old new behind edit takes applies passes is = record {
   edits = takes.edits ++ edit ∷ [];
   many = omega (arith, takes.many, length-append takes.edits (edit ∷ []));
   apply = apply_push from takes.edits edit takes.apply (subst (λ (l : Option Listing). Applies l edit) (sym takes.makes) applies);
-  passes = subst (λ (l : Bytes). Passes l old behind) (sym (edits_push takes.edits edit)) (passes_on (edits_bytes takes.edits) (edit_bytes edit) old new behind takes.passes passes);
+  passes = subst (λ (l : Bytes). ReadsField l old behind) (sym (edits_push takes.edits edit)) (passes_on (edits_bytes takes.edits) (edit_bytes edit) old new behind takes.passes passes);
   makes = after_push from takes.edits edit ∙ ap (λ (l : Option Listing). after l edit) takes.makes ∙ sym is;
 }
 
 -- the next edit isn't read
-pub edit_misread : (from listed : Option Listing) (count turn : ℕ) (old new : Reading) (m : Misread) → turn < count
-    → TakesEdits from listed turn old new → ((next : Edit → Form) → Misreads (edit_form listed next) new m) → Misreads (edits_form count from) old m
-edit_misread from listed count turn old new m more takes found =
-    over_edits (λ form reading. Misreads form reading m) (misreads_carries m) takes.edits (suc (count - suc turn)) count from old new (omega (arith, more, takes.many)) takes.apply takes.passes
-    (subst (λ (l : Option Listing). Misreads (edits_form (suc (count - suc turn)) l) new m) (sym takes.makes) (found (λ edit. edits_form (count - suc turn) (after listed edit))))
+pub edit_fault : (from listed : Option Listing) (count turn : ℕ) (old new : Reading) (m : RecordFault) → turn < count
+    → ReadsEdits from listed turn old new → ((next : Edit → Form) → IsFormFault (edit_form listed next) new m) → IsFormFault (edits_form count from) old m
+edit_fault from listed count turn old new m more takes found =
+    over_edits (λ form reading. IsFormFault form reading m) (form_fault_carries m) takes.edits (suc (count - suc turn)) count from old new (omega (arith, more, takes.many)) takes.apply takes.passes
+    (subst (λ (l : Option Listing). IsFormFault (edits_form (suc (count - suc turn)) l) new m) (sym takes.makes) (found (λ edit. edits_form (count - suc turn) (after listed edit))))
 
 -- ---- a record
 
@@ -78,8 +78,8 @@ sizes_stay (Some listing) (CreateTable n name columns key since ∷ es) all = si
 
 -- the bytes of a record that was read
 pub record_read : (from to : Option Listing) (payload : Bytes) (count : ℕ) (mid new : Reading) → count < 2 ^ 32 → IsBetween 1
-    (2 ^ 32 - 1) count → Passes (to_be_bytes w32 count) (record { done = []; left = payload }) mid
-    → (takes : TakesEdits from to count mid new) → new.left ≡ []
+    (2 ^ 32 - 1) count → ReadsField (to_be_bytes w32 count) (record { done = []; left = payload }) mid
+    → (takes : ReadsEdits from to count mid new) → new.left ≡ []
     → IsRecord from payload takes.edits
 record_read from to payload count mid new fits between first takes ended = record {
   is =
@@ -91,27 +91,27 @@ record_read from to payload count mid new fits between first takes ended = recor
 }
 
 -- edits that aren't read
-pub edits_misread : (from : Option Listing) (payload : Bytes) (count : ℕ) (mid : Reading) (m : Misread) → count < 2 ^ 32 → IsBetween 1
-    (2 ^ 32 - 1) count → Passes (to_be_bytes w32 count) (record { done = []; left = payload }) mid → Misreads (edits_form count from) mid m
-    → Misreads (record_form from) (record { done = []; left = payload }) m
-edits_misread from payload count mid m fits between first found =
-    (misreads_carries m).over_number Four 1 (2 ^ 32 - 1) (λ count. edits_form count from) count
+pub edits_fault : (from : Option Listing) (payload : Bytes) (count : ℕ) (mid : Reading) (m : RecordFault) → count < 2 ^ 32 → IsBetween 1
+    (2 ^ 32 - 1) count → ReadsField (to_be_bytes w32 count) (record { done = []; left = payload }) mid → IsFormFault (edits_form count from) mid m
+    → IsFormFault (record_form from) (record { done = []; left = payload }) m
+edits_fault from payload count mid m fits between first found =
+    (form_fault_carries m).over_number Four 1 (2 ^ 32 - 1) (λ count. edits_form count from) count
     (record { done = []; left = payload }) mid fits between first found
 
 -- bytes after the last edit
 pub end_missed : (from to : Option Listing) (payload : Bytes) (count : ℕ) (mid new : Reading) → count < 2 ^ 32 → IsBetween 1
-    (2 ^ 32 - 1) count → Passes (to_be_bytes w32 count) (record { done = []; left = payload }) mid → TakesEdits from to count mid new → new.left ≢ []
-    → Lacks (record_form from) 0 payload NoEnd
+    (2 ^ 32 - 1) count → ReadsField (to_be_bytes w32 count) (record { done = []; left = payload }) mid → ReadsEdits from to count mid new → new.left ≢ []
+    → BreaksForm (record_form from) 0 payload NoEnd
 end_missed from to payload count mid new fits between first takes more =
     (lacks_carries NoEnd).over_number Four 1 (2 ^ 32 - 1) (λ count. edits_form count from) count (record { done = []; left = payload }) mid fits between first
-    (over_edits (λ form reading. Lacks form (length reading.done) reading.left NoEnd) (lacks_carries NoEnd) takes.edits 0 count from mid new
+    (over_edits (λ form reading. BreaksForm form (length reading.done) reading.left NoEnd) (lacks_carries NoEnd) takes.edits 0 count from mid new
     (omega (arith, takes.many)) takes.apply takes.passes (more, refl))
 
 -- what is listed then
 pub record_counts : (from : Option Listing) (payload : Bytes) (listing made : Listing) (edits : List Edit)
     → after_all from edits ≡ Some listing → made ≡ record listing
-    { records = listing.records + 1; length = listing.length + (5 + length payload) } → Some made ≡ counted payload (after_all from edits)
-record_counts from payload listing made edits listed is = ap Some is ∙ sym (ap (counted payload) listed)
+    { records = listing.records + 1; length = listing.length + (5 + length payload) } → Some made ≡ with_record_counted payload (after_all from edits)
+record_counts from payload listing made edits listed is = ap Some is ∙ sym (ap (with_record_counted payload) listed)
 
 -- what a test for no bytes told
 pub some_left : (left shown : Bytes) (test : Bool) → shown ≡ left → test ≡ (length shown == 0) → test ≡ false → left ≢ []

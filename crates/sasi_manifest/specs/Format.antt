@@ -5,7 +5,7 @@ use Rattle.sasi_gated.specs.Format.{IsGated}
 use Rattle.sasi_manifest.specs.declared.edit.Edit.{Edit}
 use Rattle.sasi_manifest.specs.declared.listing.Listing.{Listing}
 use Rattle.sasi_manifest.specs.Edits.{encoded}
-use Rattle.sasi_manifest.specs.Listings.{AllApply, after_all, counted, edits_of}
+use Rattle.sasi_manifest.specs.Listings.{AllApply, after_all, with_record_counted, edits_of}
 
 -- the record has these edits, at least one, and they apply
 pub record IsRecord (from : Option Listing) (payload : Bytes) (edits : List Edit) : Type 0 where
@@ -15,13 +15,13 @@ pub record IsRecord (from : Option Listing) (payload : Bytes) (edits : List Edit
   pub apply : AllApply from edits
 
 -- the records build the second listing from the first
-abbrev pub LeadsTo : Option Listing → List Bytes → Option Listing → Type 0
-LeadsTo from [] to = from ≡ to
-LeadsTo from (payload ∷ payloads) to = (edits : List Edit) × IsRecord from payload edits × LeadsTo (counted payload (after_all from edits)) payloads to
+abbrev pub RecordsLeadTo : Option Listing → List Bytes → Option Listing → Type 0
+RecordsLeadTo from [] to = from ≡ to
+RecordsLeadTo from (payload ∷ payloads) to = (edits : List Edit) × IsRecord from payload edits × RecordsLeadTo (with_record_counted payload (after_all from edits)) payloads to
 
 -- the records build up the listing
 abbrev pub Builds : List Bytes → Listing → Type 0
-Builds records listing = LeadsTo None records (Some listing)
+Builds records listing = RecordsLeadTo None records (Some listing)
 
 -- the bytes are the manifest of this number, with this listing
 abbrev pub IsManifest : ℕ → Bytes → Listing → Type 0
@@ -29,8 +29,8 @@ IsManifest number bytes listing = (records : List Bytes) × IsGated (manifest_na
 
 -- the listing of a manifest that was written anew: the same tables, in one record
 abbrev pub IsRewritten : Listing → Listing → Type 0
-IsRewritten listing rewritten = Some rewritten ≡ counted (encoded (edits_of listing)) (after_all None (edits_of listing))
+IsRewritten listing rewritten = Some rewritten ≡ with_record_counted (encoded (edits_of listing)) (after_all None (edits_of listing))
 
 -- the listing after one more record of these edits
 abbrev pub IsNext : Listing → List Edit → Listing → Type 0
-IsNext listing edits next = Some next ≡ counted (encoded edits) (after_all (Some listing) edits)
+IsNext listing edits next = Some next ≡ with_record_counted (encoded edits) (after_all (Some listing) edits)

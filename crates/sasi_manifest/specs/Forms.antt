@@ -21,10 +21,10 @@ pub data Width : Type 0 where
   Two : Width
   Four : Width
 
-abbrev pub size_of : Width → ℕ
-size_of One = 1
-size_of Two = 2
-size_of Four = 4
+abbrev pub width_size : Width → ℕ
+width_size One = 1
+width_size Two = 2
+width_size Four = 4
 
 abbrev pub field_of : Width → ℕ → Bytes
 field_of One number = number ∷ []
@@ -32,10 +32,10 @@ field_of Two number = to_be_bytes w16 number
 field_of Four number = to_be_bytes w32 number
 
 -- its numbers are below this
-abbrev pub limit_of : Width → ℕ
-limit_of One = 2 ^ 8
-limit_of Two = 2 ^ 16
-limit_of Four = 2 ^ 32
+abbrev pub width_limit : Width → ℕ
+width_limit One = 2 ^ 8
+width_limit Two = 2 ^ 16
+width_limit Four = 2 ^ 32
 
 -- the fields that are left of a record
 pub data Form : Type 0 where
@@ -50,18 +50,18 @@ pub data Form : Type 0 where
 
 -- ---- the form of a record
 
-abbrev pub type_of : ℕ → ColumnType
-type_of zero = Text
-type_of (suc zero) = Int
-type_of (suc (suc zero)) = BigInt
-type_of (suc (suc (suc n))) = Uuid
+abbrev pub type_of_code : ℕ → ColumnType
+type_of_code zero = Text
+type_of_code (suc zero) = Int
+type_of_code (suc (suc zero)) = BigInt
+type_of_code (suc (suc (suc n))) = Uuid
 
-abbrev pub GREATEST_PARTITIONER : ℕ
-GREATEST_PARTITIONER = 1
+abbrev pub MAX_PARTITIONER_CODE : ℕ
+MAX_PARTITIONER_CODE = 1
 
-abbrev pub partitioner_of : ℕ → Partitioner
-partitioner_of zero = Lead8
-partitioner_of (suc n) = Murmur3
+abbrev pub partitioner_of_code : ℕ → Partitioner
+partitioner_of_code zero = Lead8
+partitioner_of_code (suc n) = Murmur3
 
 -- a name: its length, and its bytes
 abbrev pub name_form : List Bytes → (Bytes → Form) → Form
@@ -70,11 +70,11 @@ name_form taken next = number One 1 48 (λ size. text size taken next)
 -- this many columns: the name and the type of each
 abbrev pub columns_form : ℕ → List Bytes → (List Column → Form) → Form
 columns_form zero taken next = next []
-columns_form (suc count) taken next = name_form taken (λ name. number One 0 3 (λ code. columns_form count (taken ++ name ∷ []) (λ columns. next ((name, type_of code) ∷ columns))))
+columns_form (suc count) taken next = name_form taken (λ name. number One 0 3 (λ code. columns_form count (taken ++ name ∷ []) (λ columns. next ((name, type_of_code code) ∷ columns))))
 
 -- the fields of a start, after its tag
 abbrev pub start_form : (Edit → Form) → Form
-start_form next = number One 0 GREATEST_PARTITIONER (λ code. number Four 1 (2 ^ 32 - 1) (λ floor. number Four 1 (2 ^ 32 - 1) (λ last. if nat_lt last floor then too_great 8 floor else next (Start (partitioner_of code) floor last))))
+start_form next = number One 0 MAX_PARTITIONER_CODE (λ code. number Four 1 (2 ^ 32 - 1) (λ floor. number Four 1 (2 ^ 32 - 1) (λ last. if nat_lt last floor then too_great 8 floor else next (Start (partitioner_of_code code) floor last))))
 
 -- the fields of the next table, after its tag
 abbrev pub create_form : Listing → (Edit → Form) → Form
@@ -101,7 +101,7 @@ record_form from = number Four 1 (2 ^ 32 - 1) (λ count. edits_form count from)
 -- the bytes begin with this number, and others follow
 pub record HasNumber (width : Width) (bytes : Bytes) (stated : ℕ) (rest : Bytes) : Type 0 where
   pub is : bytes ≡ field_of width stated ++ rest
-  pub fits : stated < limit_of width
+  pub fits : stated < width_limit width
 
 -- the bytes begin with this name, and others follow
 pub record HasText (size : ℕ) (bytes name rest : Bytes) : Type 0 where
@@ -117,32 +117,32 @@ pub record IsOpenName (taken : List Bytes) (name : Bytes) : Type 0 where
   pub free : IsFree taken name
 
 -- the bytes have the form, and build up this listing
-abbrev pub Has : Form → Bytes → Option Listing → Type 0
-Has (number width least greatest next) bytes to = (stated : ℕ) × (rest : Bytes) × HasNumber width bytes stated rest × IsBetween least greatest stated × Has (next stated) rest to
-Has (text size taken next) bytes to = (name : Bytes) × (rest : Bytes) × HasText size bytes name rest × IsOpenName taken name × Has (next name) rest to
-Has (too_great before stated) bytes to = ⊥
-Has (ends from) bytes to = (bytes ≡ []) × (from ≡ to)
+abbrev pub HasForm : Form → Bytes → Option Listing → Type 0
+HasForm (number width least greatest next) bytes to = (stated : ℕ) × (rest : Bytes) × HasNumber width bytes stated rest × IsBetween least greatest stated × HasForm (next stated) rest to
+HasForm (text size taken next) bytes to = (name : Bytes) × (rest : Bytes) × HasText size bytes name rest × IsOpenName taken name × HasForm (next name) rest to
+HasForm (too_great before stated) bytes to = ⊥
+HasForm (ends from) bytes to = (bytes ≡ []) × (from ≡ to)
 
 -- ---- what doesn't
 
 -- why bytes don't have a form
-pub data Finding : Type 0 where
+pub data FormFault : Type 0 where
   -- they end before the last field, or go on after it
-  NoEnd : Finding
+  NoEnd : FormFault
   -- they break the rule at this offset, where they have these bytes
-  Broken : FormatRule → ℕ → Bytes → Finding
+  Broken : FormatRule → ℕ → Bytes → FormFault
 
 -- the bytes at this offset don't have the form, and this is their first fault
-abbrev pub Lacks : Form → ℕ → Bytes → Finding → Type 0
-Lacks (number width least greatest next) at bytes found =
-    ((length bytes < size_of width) × (found ≡ NoEnd))
+abbrev pub BreaksForm : Form → ℕ → Bytes → FormFault → Type 0
+BreaksForm (number width least greatest next) at bytes found =
+    ((length bytes < width_size width) × (found ≡ NoEnd))
     ⊎ ((stated : ℕ) × (rest : Bytes) × HasNumber width bytes stated rest
     × (((¬ IsBetween least greatest stated) × (found ≡ Broken rules_.Number at (field_of width stated)))
-    ⊎ (IsBetween least greatest stated × Lacks (next stated) (at + size_of width) rest found)))
-Lacks (text size taken next) at bytes found =
+    ⊎ (IsBetween least greatest stated × BreaksForm (next stated) (at + width_size width) rest found)))
+BreaksForm (text size taken next) at bytes found =
     ((length bytes < size) × (found ≡ NoEnd))
     ⊎ ((name : Bytes) × (rest : Bytes) × HasText size bytes name rest
     × (((¬ IsOpenName taken name) × (found ≡ Broken rules_.Text at (take 8 name)))
-    ⊎ (IsOpenName taken name × Lacks (next name) (at + size) rest found)))
-Lacks (too_great before stated) at bytes found = found ≡ Broken rules_.Number (at - before) (to_be_bytes w32 stated)
-Lacks (ends from) at bytes found = (bytes ≢ []) × (found ≡ NoEnd)
+    ⊎ (IsOpenName taken name × BreaksForm (next name) (at + size) rest found)))
+BreaksForm (too_great before stated) at bytes found = found ≡ Broken rules_.Number (at - before) (to_be_bytes w32 stated)
+BreaksForm (ends from) at bytes found = (bytes ≢ []) × (found ≡ NoEnd)

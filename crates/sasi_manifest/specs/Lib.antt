@@ -1,5 +1,5 @@
 pub mod Naming
-pub mod Listed
+pub mod ListedDefinition
 pub mod Edits
 pub mod ListedTables
 pub mod Listings
@@ -8,8 +8,8 @@ pub mod Consistent
 pub mod Types
 pub mod Forms
 pub mod IsBroken
-pub mod Misreads
-pub mod Taken
+pub mod IsFormFault
+pub mod ReadEdits
 pub mod Damages
-pub mod Standing
+pub mod OpenManifest
 pub mod Reading

@@ -3,11 +3,11 @@ use Rattle.std.specs.Prelude.{◌≤◌, List, [], length, map}
 use Rattle.sasi_schema.specs.Defined.{definition}
 use Rattle.sasi_schema.specs.Numbers.{RisesFrom}
 use Rattle.sasi_manifest.specs.declared.listed.ListedTable.{ListedTable}
-use Rattle.sasi_manifest.specs.Listed.{Listed}
+use Rattle.sasi_manifest.specs.ListedDefinition.{ListedDefinition}
 use Rattle.sasi_manifest.specs.Naming.{AreApart}
 
 -- the model of a listed table
-abbrev pub listed : ListedTable → Listed
+abbrev pub listed : ListedTable → ListedDefinition
 listed t = record { definition = definition t.table; since = t.since }
 
 -- numbered from 1, at most 256, and each of a name of its own

@@ -7,15 +7,15 @@ use Rattle.sasi_model.specs.Refusals.{names_in}
 use Rattle.sasi_manifest.specs.declared.edit.Edit.{Edit}
 use Rattle.sasi_manifest.specs.declared.edit.Edit.TheVariants.{Start, CreateTable}
 use Rattle.sasi_manifest.specs.declared.listing.Listing.{Listing}
-use Rattle.sasi_manifest.specs.Listed.{Listed}
+use Rattle.sasi_manifest.specs.ListedDefinition.{ListedDefinition}
 use Rattle.sasi_manifest.specs.Naming.{IsName, IsFree, AreNames, AreApart}
 
 -- the names of the listed tables
-abbrev pub listed_names : List Listed → List Bytes
+abbrev pub listed_names : List ListedDefinition → List Bytes
 listed_names tables = map (λ t. t.definition.name) tables
 
 -- the definitions of the listed tables
-abbrev pub listed_definitions : List Listed → List Definition
+abbrev pub listed_definitions : List ListedDefinition → List Definition
 listed_definitions tables = map (λ t. t.definition) tables
 
 -- ---- edits
@@ -58,17 +58,17 @@ abbrev pub started : Partitioner → ℕ → ℕ → Listing
 started partitioner floor last = record { partitioner = partitioner; floor = floor; last = last; records = 0; length = 17; tables = [] }
 
 -- a table as an edit makes it
-abbrev pub created : Bytes → List Column → ℕ → ℕ → Listed
-created name columns key since = record { definition = record { name = name; columns = columns; key = key }; since = since }
+abbrev pub created_table : Bytes → List Column → ℕ → ℕ → ListedDefinition
+created_table name columns key since = record { definition = record { name = name; columns = columns; key = key }; since = since }
 
-abbrev pub with_table : Listed → Listing → Listing
-with_table table listing = record listing { tables = listing.tables ++ table ∷ [] }
+abbrev pub with_listed_table : ListedDefinition → Listing → Listing
+with_listed_table table listing = record listing { tables = listing.tables ++ table ∷ [] }
 
 -- the listing after an edit
 abbrev pub after : Option Listing → Edit → Option Listing
 after from (Start partitioner floor last) = Some (started partitioner floor last)
 after None (CreateTable number name columns key since) = None
-after (Some listing) (CreateTable number name columns key since) = Some (with_table (created name columns key since) listing)
+after (Some listing) (CreateTable number name columns key since) = Some (with_listed_table (created_table name columns key since) listing)
 
 -- edits apply one after another
 abbrev pub AllApply : Option Listing → List Edit → Type 0
@@ -80,9 +80,9 @@ after_all from [] = from
 after_all from (edit ∷ edits) = after_all (after from edit) edits
 
 -- the listing counts one record more: its gate, its length and its payload
-abbrev pub counted : Bytes → Option Listing → Option Listing
-counted payload None = None
-counted payload (Some listing) = Some (record listing { records = listing.records + 1; length = listing.length + (5 + length payload) })
+abbrev pub with_record_counted : Bytes → Option Listing → Option Listing
+with_record_counted payload None = None
+with_record_counted payload (Some listing) = Some (record listing { records = listing.records + 1; length = listing.length + (5 + length payload) })
 
 -- the number of records, and the length of the manifest
 abbrev pub records_of : Option Listing → ℕ
@@ -95,7 +95,7 @@ length_of (Some listing) = listing.length
 
 -- ---- the record that builds up a listing anew
 
-abbrev pub create_edits : ℕ → List Listed → List Edit
+abbrev pub create_edits : ℕ → List ListedDefinition → List Edit
 create_edits number [] = []
 create_edits number (t ∷ tables) = CreateTable number t.definition.name t.definition.columns t.definition.key t.since ∷ create_edits (suc number) tables
 

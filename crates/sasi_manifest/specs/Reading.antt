@@ -3,40 +3,40 @@ use Rattle.std.specs.Prelude.{◌≡◌, ℕ, ◌+◌, ◌≤◌, ◌^◌, IsTru
 use Rattle.sasi_host.specs.declared.damage.Damage.{Damage}
 use Rattle.sasi_host.specs.Names.{Bytes, manifest_name}
 use Rattle.sasi_host.specs.View.{View, IsThere, IsTold, contents}
-use Rattle.sasi_host.specs.Disk.{Changes, Same, IsKept}
+use Rattle.sasi_host.specs.Disk.{Changes, Same, IsFileDurable}
 use Rattle.sasi_host.specs.Damages.{seen_bytes}
 use Rattle.sasi_gated.specs.Format.{Closes}
 use Rattle.sasi_gated.specs.Gates.{IsAtGate}
-use Rattle.sasi_gated.specs.Standing.{Handle}
+use Rattle.sasi_gated.specs.Handles.{Handle}
 use Rattle.sasi_manifest.specs.declared.listing.Listing.{Listing}
-use Rattle.sasi_manifest.specs.declared.misread.Misread.{Misread}
-use Rattle.sasi_manifest.specs.declared.misread.Misread.TheVariants as misread
+use Rattle.sasi_manifest.specs.declared.record_fault.RecordFault.{RecordFault}
+use Rattle.sasi_manifest.specs.declared.record_fault.RecordFault.TheVariants as record_fault
 use Rattle.sasi_manifest.specs.Consistent.{ConsistentIf}
 use Rattle.sasi_manifest.specs.Listings.{length_of, records_of}
-use Rattle.sasi_manifest.specs.Format.{Builds, IsManifest, LeadsTo}
-use Rattle.sasi_manifest.specs.Forms.{Finding, Lacks, record_form}
-use Rattle.sasi_manifest.specs.Damages.{IsTold as IsToldOf}
-use Rattle.sasi_manifest.specs.Standing.{Stands}
+use Rattle.sasi_manifest.specs.Format.{Builds, IsManifest, RecordsLeadTo}
+use Rattle.sasi_manifest.specs.Forms.{FormFault, BreaksForm, record_form}
+use Rattle.sasi_manifest.specs.Damages.{IsRecordDamage}
+use Rattle.sasi_manifest.specs.OpenManifest.{ManifestStands}
 
 -- the damage is a fault of the record after the gate at this offset
-pub record IsTelling (number before : ℕ) (from : Option Listing) (payload : Bytes) (damage : Damage) : Type 0 where
+pub record IsDamageOfRecord (number before : ℕ) (from : Option Listing) (payload : Bytes) (damage : Damage) : Type 0 where
   pub named : damage.file ≡ manifest_name number
-  pub found : Finding
-  pub lacks : Lacks (record_form from) 0 payload found
-  pub told : IsToldOf before payload found damage.rule damage.at (seen_bytes damage.seen)
+  pub found : FormFault
+  pub lacks : BreaksForm (record_form from) 0 payload found
+  pub told : IsRecordDamage before payload found damage.rule damage.at (seen_bytes damage.seen)
 
 -- the offset of the fault is at most this
-abbrev pub IsSpotWithin : ℕ → Misread → Type 0
-IsSpotWithin size misread.OutOfMemory = Unit {0}
-IsSpotWithin size misread.NoEnd = Unit {0}
-IsSpotWithin size (misread.Broken rule at seen) = at ≤ size
+abbrev pub IsOffsetWithin : ℕ → RecordFault → Type 0
+IsOffsetWithin size record_fault.OutOfMemory = Unit {0}
+IsOffsetWithin size record_fault.NoEnd = Unit {0}
+IsOffsetWithin size (record_fault.Broken rule at seen) = at ≤ size
 
 -- the records before the gate at this offset build up this listing
 pub record IsReadTo (number : ℕ) (bytes : Bytes) (at : ℕ) (listed : Option Listing) : Type 0 where
   pub done : List Bytes
   pub rest : Bytes
   pub at_gate : IsAtGate (manifest_name number) bytes at done rest
-  pub leads : LeadsTo None done listed
+  pub leads : RecordsLeadTo None done listed
 
 -- all records were read, and the closed gate is at this offset
 pub record IsReadWhole (number : ℕ) (bytes : Bytes) (at : ℕ) (listing : Listing) : Type 0 where
@@ -59,10 +59,10 @@ ReadsListing v number listing = (bytes : Bytes) → contents v (manifest_name nu
 
 -- where the file is durable, the manifest is durable too
 abbrev pub StandsWhereKept : View → View → ℕ → ℕ → Listing → Type 0
-StandsWhereKept old new number at listing = (bytes : Bytes) → IsTold old → IsKept old (manifest_name number) bytes → Stands new number at listing
+StandsWhereKept old new number at listing = (bytes : Bytes) → IsTold old → IsFileDurable old (manifest_name number) bytes → ManifestStands new number at listing
 
 -- what holds while a manifest is read
-pub record GoesOn (a b : View) (number : ℕ) (gated : Handle) (listed : Option Listing) : Type 0 where
+pub record ReadingGoesOn (a b : View) (number : ℕ) (gated : Handle) (listed : Option Listing) : Type 0 where
   pub file : gated.file ≡ manifest_name number
   pub usable : IsTrue gated.usable
   pub fits : gated.at ≤ 2 ^ 62

@@ -1,15 +1,15 @@
 // Appends edits to the file of a manifest.
 ghost use Rattle.std.specs.Prelude.{◌≡◌, ◌+◌, ◌≤◌, ◌^◌, ℕ, List, length, Some, IsTrue, is_ok, OnErr, OnOk};
 ghost use Rattle.sasi_host.specs.View.{ListCauses, Reaches};
-ghost use Rattle.sasi_host.specs.Disk.{Anyhow, Changes, LeftWith, Step};
+ghost use Rattle.sasi_host.specs.Disk.{AnyChange, Changes, LeftWith, FileChange};
 ghost use Rattle.sasi_gated.specs.Format.{IsBeforeOrAfter};
-ghost use Rattle.sasi_gated.specs.Reads.{Gains};
-ghost use Rattle.sasi_gated.specs.Standing.{IsAtEnd};
+ghost use Rattle.sasi_gated.specs.Reads.{AppendsRecord};
+ghost use Rattle.sasi_gated.specs.Handles.{IsAtEnd};
 ghost use Rattle.sasi_manifest.specs.Edits.{encoded};
 ghost use Rattle.sasi_manifest.specs.Format.{IsNext};
 ghost use Rattle.sasi_manifest.specs.Listings.{AllApply};
 
-use crate::prepare::prepare;
+use crate::encode::encode;
 use crate::{Edit, Listing};
 use sasi_gated::Gated;
 use sasi_host::{Host, HostFault};
@@ -30,13 +30,13 @@ pub fn append_edits<H: Host>(
     requires short { length (encoded edits.now) ≤ 2 ^ 30 }
     requires records { listing.old.records ≤ 2 ^ 62 }
     requires length { listing.old.length ≤ 2 ^ 62 + 1 }
-    ensures ok { OnOk result (Gains (H.view host.old) (H.view host.new) gated.old.file gated.old.at gated.new.at (encoded edits.now)) }
+    ensures ok { OnOk result (AppendsRecord (H.view host.old) (H.view host.new) gated.old.file gated.old.at gated.new.at (encoded edits.now)) }
     ensures listing { OnOk result (IsNext listing.old edits.now listing.new) }
     ensures err { OnErr result (listing.new ≡ listing.old) }
     ensures any_moment { (records : List (List ℕ)) → IsAtEnd (H.view host.old) gated.old.file gated.old.at records
-        → Changes (Step gated.old.file (LeftWith (IsBeforeOrAfter gated.old.file records (encoded edits.now)))) (H.view host.old) (H.view host.new) }
-    ensures changes { Changes (Step gated.old.file Anyhow) (H.view host.old) (H.view host.new) }
-    ensures place { OnOk result (gated.new.at ≡ gated.old.at + (5 + length (encoded edits.now))) }
+        → Changes (FileChange gated.old.file (LeftWith (IsBeforeOrAfter gated.old.file records (encoded edits.now)))) (H.view host.old) (H.view host.new) }
+    ensures changes { Changes (FileChange gated.old.file AnyChange) (H.view host.old) (H.view host.new) }
+    ensures offset { OnOk result (gated.new.at ≡ gated.old.at + (5 + length (encoded edits.now))) }
     ensures fits { OnOk result (gated.new.at ≤ 2 ^ 62) }
     ensures room { OnOk result (Reaches (H.view host.new) gated.new.file (gated.new.at + 1)) }
     ensures usable { OnOk result (IsTrue gated.new.usable) }
@@ -44,7 +44,7 @@ pub fn append_edits<H: Host>(
     ensures causes { ListCauses (H.view host.old) (H.view host.new) result }
 {
     let copy = listing.copy(alloc)?;
-    let next = prepare(alloc, Some(copy), edits)?;
+    let next = encode(alloc, Some(copy), edits)?;
     gated.append(host, &next.record)?;
     *listing = next.listing;
     Ok(())

@@ -2,7 +2,7 @@
 ghost use Rattle.std.specs.Prelude.{◌≡◌, ◌+◌, ◌<◌, ◌++◌, ◌∷◌, [], length, Some, IfOk};
 ghost use Rattle.sasi_schema.specs.Defined.{definition};
 ghost use Rattle.sasi_manifest.specs.Naming.{IsFree};
-ghost use Rattle.sasi_manifest.specs.Listings.{Applies, after, listed_names, started, with_table};
+ghost use Rattle.sasi_manifest.specs.Listings.{Applies, after, listed_names, started, with_listed_table};
 
 use crate::{Edit, ListedTables, Listing};
 use sasi_schema::Table;
@@ -31,7 +31,7 @@ pub fn apply(alloc: Global, from: Option<Listing>, edit: &Edit) -> Result<Listin
                 unreachable!();
             };
             let (name, columns) = (name.copy(alloc)?, columns.copy(alloc)?);
-            with_table(listing, Table::new(*number, name, columns, *key), *since)
+            with_listed_table(listing, Table::new(*number, name, columns, *key), *since)
         }
     }
 }
@@ -50,11 +50,11 @@ fn started(alloc: Global, partitioner: Partitioner, floor: u32, last: u32) -> Li
     }
 }
 
-fn with_table(mut listing: Listing, table: Table, since: u32) -> Result<Listing, AllocError>
+fn with_listed_table(mut listing: Listing, table: Table, since: u32) -> Result<Listing, AllocError>
     requires number { table.number ≡ length listing.tables + 1 }
     requires few { length listing.tables < 256 }
     requires free { IsFree (listed_names listing.tables) table.name }
-    ensures { IfOk result (λ made. made ≡ with_table (record { definition = definition table; since = since }) listing) }
+    ensures { IfOk result (λ made. made ≡ with_listed_table (record { definition = definition table; since = since }) listing) }
 {
     listing.tables.push(table, since)?;
     Ok(listing)

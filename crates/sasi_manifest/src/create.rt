@@ -1,16 +1,16 @@
 // A new manifest and its seal.
 ghost use Rattle.std.specs.Prelude.{◌≡◌, ◌+◌, ◌≤◌, ◌^◌, [], length, None, true, IfOk, OnOk};
 ghost use Rattle.sasi_host.specs.View.{Holds, IsAbsent, ListCauses, Reaches};
-ghost use Rattle.sasi_host.specs.Disk.{Changes, IsKept};
+ghost use Rattle.sasi_host.specs.Disk.{Changes, IsFileDurable};
 ghost use Rattle.sasi_host.specs.Names.{manifest_name, seal_name};
 ghost use Rattle.sasi_manifest.specs.declared.listing.Listing.{Listing as AListing};
 ghost use Rattle.sasi_manifest.specs.Edits.{encoded};
 ghost use Rattle.sasi_manifest.specs.Format.{IsRewritten};
 ghost use Rattle.sasi_manifest.specs.Listings.{AllApply, edits_of};
-ghost use Rattle.sasi_manifest.specs.Standing.{Creates, IsInHand, IsUnsealed, Stands, Touches};
+ghost use Rattle.sasi_manifest.specs.OpenManifest.{Creates, IsOpenManifest, IsUnsealed, ManifestStands, ChangesOnlyManifest};
 
 use crate::Listing;
-use crate::prepare::prepare;
+use crate::encode::encode;
 use crate::rewrite::edits_of;
 use crate::seal::make_seal;
 use sasi_gated::Gated;
@@ -34,17 +34,17 @@ pub fn create_sealed<H: Host>(
     requires seal { IsAbsent (H.view host.old) (seal_name number) }
     requires apply { AllApply None (edits_of listing.now) }
     requires short { length (encoded (edits_of listing.now)) ≤ 2 ^ 30 }
-    ensures ok { IfOk result (λ o. Stands (H.view host.new) number o.gated.at o.listing) }
-    ensures sealed { OnOk result (IsUnsealed (H.view host.old) number → IsKept (H.view host.new) (seal_name number) []) }
+    ensures ok { IfOk result (λ o. ManifestStands (H.view host.new) number o.gated.at o.listing) }
+    ensures sealed { OnOk result (IsUnsealed (H.view host.old) number → IsFileDurable (H.view host.new) (seal_name number) []) }
     ensures listing { IfOk result (λ o. IsRewritten listing.now o.listing) }
     ensures any_moment { (made : AListing) → IsRewritten listing.now made → IsUnsealed (H.view host.old) number → Changes (Creates number made) (H.view host.old) (H.view host.new) }
-    ensures changes { Changes (Touches number) (H.view host.old) (H.view host.new) }
+    ensures changes { Changes (ChangesOnlyManifest number) (H.view host.old) (H.view host.new) }
     ensures room { IfOk result (λ o. Reaches (H.view host.new) (manifest_name number) (o.gated.at + 1)) }
-    ensures in_hand { IfOk result (λ o. IsInHand number o.gated o.listing true) }
+    ensures is_open { IfOk result (λ o. IsOpenManifest number o.gated o.listing true) }
     ensures causes { ListCauses (H.view host.old) (H.view host.new) result }
 {
     let edits = edits_of(alloc, listing)?;
-    let first = prepare(alloc, None, &edits)?;
+    let first = encode(alloc, None, &edits)?;
     let gated = Gated::create(alloc, host, FileName::manifest(number), Some(&first.record))?;
     make_seal(host, number)?;
     Ok(Opened {

@@ -4,7 +4,7 @@ ghost use Rattle.sasi_schema.specs.Defined.{definition};
 ghost use Rattle.sasi_schema.specs.Numbers.{RisesFrom};
 ghost use Rattle.sasi_manifest.specs.Naming.{AreApart, IsFree};
 
-use crate::named::{copies, is_listed};
+use crate::table_list::{copies, is_listed};
 use sasi_schema::Table;
 use std::alloc::{AllocError, Global};
 use std::marker::Model;
@@ -25,11 +25,11 @@ pub struct ListedTables {
 
 impl Model for ListedTables {
     ghost use Rattle.std.specs.Prelude.{List, [], map};
-    ghost use Rattle.sasi_manifest.specs.Listed.{Listed, listed_code};
+    ghost use Rattle.sasi_manifest.specs.ListedDefinition.{ListedDefinition, listed_code};
     ghost use Rattle.sasi_manifest.specs.ListedTables.{listed, IsInOrder};
     ghost use Rattle.std.specs.Coded.{coded_list};
 
-    ghost Value = { List Listed };
+    ghost Value = { List ListedDefinition };
 
     ghost coded = { coded_list listed_code };
 

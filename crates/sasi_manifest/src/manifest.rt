@@ -1,17 +1,17 @@
 // Open manifests.
 ghost use Rattle.std.specs.Prelude.{◌≡◌, ◌+◌, ◌≤◌, ◌^◌, [], length, None, Some, IsTrue, IfErr, IfOk, OnErr, OnOk, is_ok};
 ghost use Rattle.sasi_host.specs.View.{Holds, IsAbsent, IsThere, IsTold, ListCauses, Reaches, contents};
-ghost use Rattle.sasi_host.specs.Disk.{Anyhow, Changes, IsKept, LeftWith, Same, Step};
+ghost use Rattle.sasi_host.specs.Disk.{AnyChange, Changes, IsFileDurable, LeftWith, Same, FileChange};
 ghost use Rattle.sasi_host.specs.Names.{manifest_name, seal_name};
 ghost use Rattle.sasi_gated.specs.Causes.{ReadingCauses};
 ghost use Rattle.sasi_manifest.specs.declared.listing.Listing.{Listing as AListing};
 ghost use Rattle.sasi_manifest.specs.Consistent.{IsConsistent};
-ghost use Rattle.sasi_manifest.specs.Damages.{IsShownBy, SparesManifests};
+ghost use Rattle.sasi_manifest.specs.Damages.{IsManifestDamage, NoFalseManifestDamage};
 ghost use Rattle.sasi_manifest.specs.Edits.{encoded};
 ghost use Rattle.sasi_manifest.specs.Format.{IsManifest, IsNext, IsRewritten};
 ghost use Rattle.sasi_manifest.specs.Listings.{AllApply, edits_of};
 ghost use Rattle.sasi_manifest.specs.Reading.{ReadsListing, StandsWhereKept};
-ghost use Rattle.sasi_manifest.specs.Standing.{Creates, IsEither, IsUnsealed, Stands, Touches};
+ghost use Rattle.sasi_manifest.specs.OpenManifest.{Creates, IsEither, IsUnsealed, ManifestStands, ChangesOnlyManifest};
 
 use crate::append::append_edits;
 use crate::create::create_sealed;
@@ -33,13 +33,13 @@ pub struct Manifest {
 }
 
 impl Model for Manifest {
-    ghost use Rattle.sasi_manifest.specs.Standing.{Held, IsInHand};
+    ghost use Rattle.sasi_manifest.specs.OpenManifest.{ManifestState, IsOpenManifest};
 
-    ghost Value = { Held };
+    ghost Value = { ManifestState };
 
     ghost view = { λ a. record { number = a.number; at = a.gated.at; usable = a.usable; listing = a.listing } };
 
-    ghost invariant = { λ a. IsInHand a.number a.gated a.listing a.usable };
+    ghost invariant = { λ a. IsOpenManifest a.number a.gated a.listing a.usable };
 }
 
 impl Manifest {
@@ -77,11 +77,11 @@ impl Manifest {
         requires seal { IsAbsent (H.view host.old) (seal_name number) }
         requires apply { AllApply None (edits_of listing.now) }
         requires short { length (encoded (edits_of listing.now)) ≤ 2 ^ 30 }
-        ensures ok { IfOk result (λ m. Stands (H.view host.new) number m.at m.listing) }
-        ensures sealed { OnOk result (IsUnsealed (H.view host.old) number → IsKept (H.view host.new) (seal_name number) []) }
+        ensures ok { IfOk result (λ m. ManifestStands (H.view host.new) number m.at m.listing) }
+        ensures sealed { OnOk result (IsUnsealed (H.view host.old) number → IsFileDurable (H.view host.new) (seal_name number) []) }
         ensures listing { IfOk result (λ m. IsRewritten listing.now m.listing) }
         ensures any_moment { (made : AListing) → IsRewritten listing.now made → IsUnsealed (H.view host.old) number → Changes (Creates number made) (H.view host.old) (H.view host.new) }
-        ensures changes { Changes (Touches number) (H.view host.old) (H.view host.new) }
+        ensures changes { Changes (ChangesOnlyManifest number) (H.view host.old) (H.view host.new) }
         ensures room { IfOk result (λ m. Reaches (H.view host.new) (manifest_name number) (m.at + 1)) }
         ensures number { IfOk result (λ m. m.number ≡ number) }
         ensures usable { IfOk result (λ m. IsTrue m.usable) }
@@ -103,8 +103,8 @@ impl Manifest {
         ensures ok { IfOk result (λ m. ReadsListing (H.view host.old) number m.listing) }
         ensures stands { IfOk result (λ m. StandsWhereKept (H.view host.old) (H.view host.new) number m.at m.listing) }
         ensures room { IfOk result (λ m. Reaches (H.view host.new) (manifest_name number) (m.at + 1)) }
-        ensures damaged { IfErr result (IsShownBy (H.view host.old) number) }
-        ensures undamaged { IfErr result (SparesManifests (H.view host.old) number) }
+        ensures damaged { IfErr result (IsManifestDamage (H.view host.old) number) }
+        ensures undamaged { IfErr result (NoFalseManifestDamage (H.view host.old) number) }
         ensures changes { Changes Same (H.view host.old) (H.view host.new) }
         ensures number { IfOk result (λ m. m.number ≡ number) }
         ensures usable { IfOk result (λ m. IsTrue m.usable) }
@@ -127,12 +127,12 @@ impl Manifest {
         requires apply { AllApply (Some self.old.listing) edits.now }
         requires some { 1 ≤ length edits.now }
         requires short { length (encoded edits.now) ≤ 2 ^ 30 }
-        ensures ok { OnOk result (Stands (H.view host.old) self.old.number self.old.at self.old.listing → Stands (H.view host.new) self.old.number self.new.at self.new.listing) }
+        ensures ok { OnOk result (ManifestStands (H.view host.old) self.old.number self.old.at self.old.listing → ManifestStands (H.view host.new) self.old.number self.new.at self.new.listing) }
         ensures listing { OnOk result (IsNext self.old.listing edits.now self.new.listing) }
         ensures err { OnErr result (self.new.listing ≡ self.old.listing) }
-        ensures any_moment { (next : AListing) → IsNext self.old.listing edits.now next → Stands (H.view host.old) self.old.number self.old.at self.old.listing
-            → Changes (Step (manifest_name self.old.number) (LeftWith (IsEither self.old.number self.old.listing next))) (H.view host.old) (H.view host.new) }
-        ensures changes { Changes (Step (manifest_name self.old.number) Anyhow) (H.view host.old) (H.view host.new) }
+        ensures any_moment { (next : AListing) → IsNext self.old.listing edits.now next → ManifestStands (H.view host.old) self.old.number self.old.at self.old.listing
+            → Changes (FileChange (manifest_name self.old.number) (LeftWith (IsEither self.old.number self.old.listing next))) (H.view host.old) (H.view host.new) }
+        ensures changes { Changes (FileChange (manifest_name self.old.number) AnyChange) (H.view host.old) (H.view host.new) }
         ensures room { OnOk result (Reaches (H.view host.new) (manifest_name self.new.number) (self.new.at + 1)) }
         ensures usable { self.new.usable ≡ is_ok result }
         ensures number { self.new.number ≡ self.old.number }

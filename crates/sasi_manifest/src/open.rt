@@ -10,17 +10,17 @@ ghost use Rattle.sasi_host.specs.Damages.{OnDamage};
 ghost use Rattle.sasi_host.specs.Names.{manifest_name};
 ghost use Rattle.sasi_manifest.specs.declared.listing.Listing.{Listing as AListing};
 ghost use Rattle.sasi_manifest.specs.declared.edit.Edit.{Edit as AnEdit};
-ghost use Rattle.sasi_manifest.specs.Damages.{IsShownBy};
+ghost use Rattle.sasi_manifest.specs.Damages.{IsManifestDamage};
 ghost use Rattle.sasi_manifest.specs.Format.{IsRecord};
 ghost use Rattle.sasi_manifest.specs.Forms.{record_form};
-ghost use Rattle.sasi_manifest.specs.Listings.{after_all, counted, length_of, records_of};
-ghost use Rattle.sasi_manifest.specs.Misreads.{Misreads};
-ghost use Rattle.sasi_manifest.specs.Reading.{IsSpotWithin, IsTelling, ReadsWhole};
-ghost use Rattle.sasi_manifest.specs.Standing.{IsInHand};
+ghost use Rattle.sasi_manifest.specs.Listings.{after_all, with_record_counted, length_of, records_of};
+ghost use Rattle.sasi_manifest.specs.IsFormFault.{IsFormFault};
+ghost use Rattle.sasi_manifest.specs.Reading.{IsOffsetWithin, IsDamageOfRecord, ReadsWhole};
+ghost use Rattle.sasi_manifest.specs.OpenManifest.{IsOpenManifest};
 
 use crate::Listing;
 use crate::create::Opened;
-use crate::misread::Misread;
+use crate::record_fault::RecordFault;
 use crate::read_record::read_record;
 use sasi_gated::Gated;
 use sasi_host::{Damage, FileName, FormatRule, Host, ReadFault, Seen};
@@ -31,8 +31,8 @@ pub fn open_manifest<H: Host>(alloc: Global, host: &mut H, number: u32) -> Resul
     requires { IsThere (H.view host.old) (manifest_name number) }
     ensures ok { IfOk result (λ o. ReadsWhole (H.view host.old) number o.gated.at o.listing) }
     ensures room { IfOk result (λ o. Reaches (H.view host.new) (manifest_name number) (o.gated.at + 1)) }
-    ensures in_hand { IfOk result (λ o. IsInHand number o.gated o.listing true) }
-    ensures damaged { IfErr result (IsShownBy (H.view host.old) number) }
+    ensures is_open { IfOk result (λ o. IsOpenManifest number o.gated o.listing true) }
+    ensures damaged { IfErr result (IsManifestDamage (H.view host.old) number) }
     ensures changes { Changes Same (H.view host.old) (H.view host.new) }
     ensures causes { ReadingCauses (H.view host.old) (H.view host.new) result }
 {
@@ -59,14 +59,14 @@ fn take_record(
     requires length { length_of listed ≤ 2 ^ 62 + 1 }
     requires some { 1 ≤ length_of listed }
     requires short { length payload.now ≤ 2 ^ 30 }
-    ensures ok { IfOk result (λ listing. (edits : List AnEdit) × IsRecord listed payload.now edits × (Some listing ≡ counted payload.now (after_all listed edits))) }
-    ensures damaged { IfErr result (OnDamage (IsTelling number (length_of listed - 1) listed payload.now)) }
+    ensures ok { IfOk result (λ listing. (edits : List AnEdit) × IsRecord listed payload.now edits × (Some listing ≡ with_record_counted payload.now (after_all listed edits))) }
+    ensures damaged { IfErr result (OnDamage (IsDamageOfRecord number (length_of listed - 1) listed payload.now)) }
     ensures not_failed { IfErr result (λ f. f ≢ read_fault.Failed) }
 {
     let before = end_of(&listed);
     match read_record(alloc, listed, payload) {
         Ok(listing) => Ok(listing),
-        Err(misread) => Err(told(number, before, payload, misread)),
+        Err(record_fault) => Err(record_damage(number, before, payload, record_fault)),
     }
 }
 
@@ -82,23 +82,23 @@ fn end_of(listed: &Option<Listing>) -> u64
 }
 
 // The fault of the record after the gate at this offset, with its offset in the file.
-fn told(number: u32, before: u64, payload: &[u8], misread: Misread) -> ReadFault
-    requires place { before ≤ 2 ^ 62 + 1 }
-    requires within { IsSpotWithin (2 ^ 62) misread }
+fn record_damage(number: u32, before: u64, payload: &[u8], record_fault: RecordFault) -> ReadFault
+    requires offset { before ≤ 2 ^ 62 + 1 }
+    requires within { IsOffsetWithin (2 ^ 62) record_fault }
     requires short { length payload.now ≤ 2 ^ 30 }
-    ensures damaged { (from : Option AListing) → Misreads (record_form from) (record { done = []; left = payload.now }) misread → OnDamage (IsTelling number before from payload.now) result }
+    ensures damaged { (from : Option AListing) → IsFormFault (record_form from) (record { done = []; left = payload.now }) record_fault → OnDamage (IsDamageOfRecord number before from payload.now) result }
     ensures not_failed { result ≢ read_fault.Failed }
 {
     let file = FileName::manifest(number);
-    match misread {
-        Misread::OutOfMemory => ReadFault::OutOfMemory,
-        Misread::NoEnd => ReadFault::Damaged(Damage {
+    match record_fault {
+        RecordFault::OutOfMemory => ReadFault::OutOfMemory,
+        RecordFault::NoEnd => ReadFault::Damaged(Damage {
             file,
             at: before + 1,
             rule: FormatRule::Number,
             seen: Seen::of(&(payload.len() as u32).to_be_bytes()),
         }),
-        Misread::Broken { rule, at, seen } => ReadFault::Damaged(Damage {
+        RecordFault::Broken { rule, at, seen } => ReadFault::Damaged(Damage {
             file,
             at: before + 5 + at as u64,
             rule,

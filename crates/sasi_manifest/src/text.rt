@@ -1,19 +1,19 @@
 // Names in a record.
 ghost use Rattle.std.specs.Prelude.{◌≡◌, ◌≤◌, ◌↔◌, ℕ, List, length, take, IfErr, IfOk, IsTrue};
 ghost use Rattle.std.specs.List.{list_any, list_all};
-ghost use Rattle.sasi_fields.specs.Reading.{Passes};
+ghost use Rattle.sasi_fields.specs.Reading.{ReadsField};
 ghost use Rattle.sasi_model.specs.Refusals.{names_in};
 ghost use Rattle.sasi_model.specs.Statements.{same};
 ghost use Rattle.sasi_model.specs.Tokens.{is_word_byte};
 ghost use Rattle.sasi_manifest.specs.Edits.{name_bytes};
 ghost use Rattle.sasi_manifest.specs.Forms.{Form, name_form, IsOpenName};
 ghost use Rattle.sasi_manifest.specs.Listings.{listed_names};
-ghost use Rattle.sasi_manifest.specs.Misreads.{Misreads};
+ghost use Rattle.sasi_manifest.specs.IsFormFault.{IsFormFault};
 ghost use Rattle.sasi_manifest.specs.Naming.{IsFree, IsName, IsWord};
 
 use crate::ListedTables;
 use crate::field::ranged_u8;
-use crate::misread::{Misread, broken};
+use crate::record_fault::{RecordFault, broken};
 use sasi_fields::FieldReader;
 use sasi_host::FormatRule;
 use sasi_types::{ColumnType, Name};
@@ -23,15 +23,15 @@ use std::alloc::Global;
 const NAME_LIMIT: u8 = 48;
 
 // Reads the bytes of a name, without looking at them.
-pub fn read_text<'a>(reader: &mut FieldReader<'a>) -> Result<&'a [u8], Misread>
-    ensures ok { IfOk result (λ name. Passes (name_bytes name.now) reader.old reader.new) }
+pub fn read_text<'a>(reader: &mut FieldReader<'a>) -> Result<&'a [u8], RecordFault>
+    ensures ok { IfOk result (λ name. ReadsField (name_bytes name.now) reader.old reader.new) }
     ensures some { IfOk result (λ name. 1 ≤ length name.now) }
     ensures short { IfOk result (λ name. length name.now ≤ 48) }
-    ensures misread { IfErr result (λ m. (taken : List (List ℕ)) (next : List ℕ → Form) → Misreads (name_form taken next) reader.old m) }
+    ensures record_fault { IfErr result (λ m. (taken : List (List ℕ)) (next : List ℕ → Form) → IsFormFault (name_form taken next) reader.old m) }
 {
     let size = ranged_u8(reader, 1, NAME_LIMIT)?;
     let Ok(text) = reader.bytes(size as usize) else {
-        return Err(Misread::NoEnd);
+        return Err(RecordFault::NoEnd);
     };
     Ok(text)
 }
@@ -41,14 +41,14 @@ pub fn read_column_name(
     alloc: Global,
     reader: &mut FieldReader,
     columns: &[(Name, ColumnType)],
-) -> Result<Name, Misread>
-    ensures ok { IfOk result (λ name. Passes (name_bytes name) reader.old reader.new) }
+) -> Result<Name, RecordFault>
+    ensures ok { IfOk result (λ name. ReadsField (name_bytes name) reader.old reader.new) }
     ensures name { IfOk result IsName }
     ensures free { IfOk result (IsFree (names_in columns.now)) }
-    ensures misread { IfErr result (λ m. (next : List ℕ → Form) → Misreads (name_form (names_in columns.now) next) reader.old m) }
+    ensures record_fault { IfErr result (λ m. (next : List ℕ → Form) → IsFormFault (name_form (names_in columns.now) next) reader.old m) }
 {
     let text = read_text(reader)?;
-    let at = reader.place() - text.len();
+    let at = reader.offset() - text.len();
     if !is_open_column(text, columns) {
         return Err(broken(FormatRule::Text, at, front(text)));
     }
@@ -60,14 +60,14 @@ pub fn read_table_name(
     alloc: Global,
     reader: &mut FieldReader,
     tables: &ListedTables,
-) -> Result<Name, Misread>
-    ensures ok { IfOk result (λ name. Passes (name_bytes name) reader.old reader.new) }
+) -> Result<Name, RecordFault>
+    ensures ok { IfOk result (λ name. ReadsField (name_bytes name) reader.old reader.new) }
     ensures name { IfOk result IsName }
     ensures free { IfOk result (IsFree (listed_names tables.now)) }
-    ensures misread { IfErr result (λ m. (next : List ℕ → Form) → Misreads (name_form (listed_names tables.now) next) reader.old m) }
+    ensures record_fault { IfErr result (λ m. (next : List ℕ → Form) → IsFormFault (name_form (listed_names tables.now) next) reader.old m) }
 {
     let text = read_text(reader)?;
-    let at = reader.place() - text.len();
+    let at = reader.offset() - text.len();
     if !is_open_table(text, tables) {
         return Err(broken(FormatRule::Text, at, front(text)));
     }

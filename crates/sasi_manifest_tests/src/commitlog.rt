@@ -134,10 +134,10 @@ const DAMAGES: [(usize, u8, u64, FormatRule, &[u8]); 8] = [
     (65, 0xff, 65, FormatRule::Text, &[0xff]),
 ];
 
-/// The damage of the segment with this byte in the place of its own.
-fn damage_of(rt: &impl Abort, alloc: Global, place: usize, byte: u8) -> Damage {
+/// The damage of the segment with this byte in the offset of its own.
+fn damage_of(rt: &impl Abort, alloc: Global, offset: usize, byte: u8) -> Damage {
     let mut bytes = BYTES;
-    *bytes.get_mut(place).expect(rt, "it is there") = byte;
+    *bytes.get_mut(offset).expect(rt, "it is there") = byte;
     let mut host = host_with(rt, alloc, &bytes);
     match first(rt, alloc, &mut host) {
         Err(ReadFault::Damaged(damage)) => Some(damage),
@@ -148,14 +148,14 @@ fn damage_of(rt: &impl Abort, alloc: Global, place: usize, byte: u8) -> Damage {
 
 #[test]
 fn damage_is_told_where_it_is(rt: HostRuntime) {
-    for (place, byte, at, rule, seen) in DAMAGES {
-        let damage = damage_of(&rt, rt.alloc(), place, byte);
-        assert!(rt; damage.file == LOG, "byte {place}");
-        assert!(rt; damage.at == at, "byte {place}");
-        assert!(rt; damage.rule == rule, "byte {place}");
+    for (offset, byte, at, rule, seen) in DAMAGES {
+        let damage = damage_of(&rt, rt.alloc(), offset, byte);
+        assert!(rt; damage.file == LOG, "byte {offset}");
+        assert!(rt; damage.at == at, "byte {offset}");
+        assert!(rt; damage.rule == rule, "byte {offset}");
         assert!(rt;
             damage.seen.bytes.get(..usize::from(damage.seen.len)) == Some(seen),
-            "byte {place}"
+            "byte {offset}"
         );
     }
 }

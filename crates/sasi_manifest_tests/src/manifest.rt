@@ -153,19 +153,19 @@ const DAMAGES: [(usize, u8, u64, FormatRule, [u8; 8], u8); 20] = [
 type Case = (usize, u8, u64, FormatRule, [u8; 8], u8);
 
 fn check_damage(rt: &impl Abort, alloc: Global, case: &Case) {
-    let (place, byte, at, rule, seen, len) = *case;
+    let (offset, byte, at, rule, seen, len) = *case;
     let mut bytes = BYTES;
-    *bytes.get_mut(place).expect(rt, "it is there") = byte;
+    *bytes.get_mut(offset).expect(rt, "it is there") = byte;
     let mut host = MemHost::new(alloc);
     host.put(FileName::manifest(1), &bytes)
         .expect(rt, "memory is left");
     let damage = read(rt, alloc, &mut host).err().expect(rt, "damage");
-    assert!(rt; damage.file == FileName::manifest(1), "byte {place}");
-    assert!(rt; damage.at == at, "byte {place}");
-    assert!(rt; damage.rule == rule, "byte {place}");
+    assert!(rt; damage.file == FileName::manifest(1), "byte {offset}");
+    assert!(rt; damage.at == at, "byte {offset}");
+    assert!(rt; damage.rule == rule, "byte {offset}");
     assert!(rt;
         damage.seen.bytes == seen && damage.seen.len == len,
-        "byte {place}"
+        "byte {offset}"
     );
 }
 

@@ -6,7 +6,7 @@ use Rattle.sasi_types.specs.declared.literal.Literal.TheVariants as literals
 use Rattle.sasi_types.specs.declared.literal.Number.TheVariants.{Fits, Wide}
 use Rattle.sasi_types.specs.declared.statement.Statement.TheVariants.{CreateTable, Insert, Update, Delete, Query}
 use Rattle.sasi_model.specs.Pieces.{Whole, Unfinished, pieces}
-use Rattle.sasi_model.specs.Tokens.{Word, QuotedName, Quoted, Integer, Uuid, Open, Close, Comma, Star, Equal, Semicolon, Unknown, tokens, uuid_in_front, other_lexeme, lexeme, is_gap}
+use Rattle.sasi_model.specs.Tokens.{Word, QuotedName, Quoted, Integer, Uuid, Open, Close, Comma, Star, Equal, Semicolon, Unknown, tokens, uuid_in_front, other_lexeme, lexeme, is_separator}
 use Rattle.sasi_model.specs.Statements.{read_up_to, create_of, insert_of, update_of, delete_of, query_of, statement_of}
 
 -- ---- pieces
@@ -30,97 +30,97 @@ open_comment = refl
 -- ---- tokens
 
 quote_in_a_string : tokens (codes "Values('it''s' ,\n'' )=*") ≡ Word (codes "values") ∷ Open ∷ Quoted (codes "it's") ∷ Comma ∷ Quoted [] ∷ Close ∷ Equal ∷ Star ∷ []
-unfolding is_gap lexeme uuid_in_front other_lexeme
+unfolding is_separator lexeme uuid_in_front other_lexeme
 quote_in_a_string = refl
 
 no_such_token : tokens (codes "a_1 <;'b") ≡ Word (codes "a_1") ∷ Unknown ∷ Semicolon ∷ Unknown ∷ Word (codes "b") ∷ []
-unfolding is_gap lexeme uuid_in_front other_lexeme
+unfolding is_separator lexeme uuid_in_front other_lexeme
 no_such_token = refl
 
 comments_between : tokens (codes "a-- b\n// c\r\n/*/ d */e/* f") ≡ Word (codes "a") ∷ Word (codes "e") ∷ Unknown ∷ Star ∷ Word (codes "f") ∷ []
-unfolding is_gap lexeme uuid_in_front other_lexeme
+unfolding is_separator lexeme uuid_in_front other_lexeme
 comments_between = refl
 
 quoted_names : tokens (codes "\"Set\"\"1a_\" \"\" \"a b\"") ≡ QuotedName (codes "Set") ∷ QuotedName (codes "1a_") ∷ Unknown ∷ Unknown ∷ Unknown ∷ Word (codes "a") ∷ Word (codes "b") ∷ Unknown ∷ []
-unfolding is_gap lexeme uuid_in_front other_lexeme
+unfolding is_separator lexeme uuid_in_front other_lexeme
 quoted_names = refl
 
 integers : tokens (codes "0 -007 5a - 1--2") ≡ Integer (Fits (pos 0)) ∷ Integer (Fits (negsuc 6)) ∷ Integer (Fits (pos 5)) ∷ Word (codes "a") ∷ Unknown ∷ Integer (Fits (pos 1)) ∷ []
-unfolding is_gap lexeme uuid_in_front other_lexeme
+unfolding is_separator lexeme uuid_in_front other_lexeme
 integers = refl
 
 -- the largest and the smallest number of 128 bits, and one beyond each
 ends_of_128_bits : tokens (codes "170141183460469231731687303715884105727 170141183460469231731687303715884105728 -170141183460469231731687303715884105728 -170141183460469231731687303715884105729")
     ≡ Integer (Fits (pos 170141183460469231731687303715884105727)) ∷ Integer Wide ∷ Integer (Fits (negsuc 170141183460469231731687303715884105727)) ∷ Integer Wide ∷ []
-unfolding is_gap lexeme uuid_in_front other_lexeme
+unfolding is_separator lexeme uuid_in_front other_lexeme
 ends_of_128_bits = refl
 
 uuids : tokens (codes "00010203-0405-0607-0809-0A0b0c0d0e0f,a0010203-0405-0607-0809-0A0b0c0d0e0f_")
     ≡ Uuid (0 ∷ 1 ∷ 2 ∷ 3 ∷ 4 ∷ 5 ∷ 6 ∷ 7 ∷ 8 ∷ 9 ∷ 10 ∷ 11 ∷ 12 ∷ 13 ∷ 14 ∷ 15 ∷ []) ∷ Comma
     ∷ Word (codes "a0010203") ∷ Integer (Fits (negsuc 404)) ∷ Integer (Fits (negsuc 606)) ∷ Integer (Fits (negsuc 808)) ∷ Integer (Fits (pos 0)) ∷ Word (codes "a0b0c0d0e0f_") ∷ []
-unfolding is_gap lexeme uuid_in_front other_lexeme uuid_on_literals
+unfolding is_separator lexeme uuid_in_front other_lexeme uuid_on_literals
 uuids = refl
 
 -- ---- statements
 
 a_create : statement_of (tokens (codes "CREATE TABLE t (k text PRIMARY KEY, a varchar, b Int, \"C\" bigint, d uuid);"))
     ≡ Some (CreateTable (codes "t") ((codes "k", types.Text) ∷ (codes "a", types.Text) ∷ (codes "b", types.Int) ∷ (codes "C", types.BigInt) ∷ (codes "d", types.Uuid) ∷ []) (codes "k" ∷ []))
-unfolding statement_of create_of read_up_to is_gap lexeme uuid_in_front other_lexeme
+unfolding statement_of create_of read_up_to is_separator lexeme uuid_in_front other_lexeme
 a_create = refl
 
 a_create_with_its_key_apart : statement_of (tokens (codes "create table \"T\" (a int, primary key (K), k uuid);"))
     ≡ Some (CreateTable (codes "T") ((codes "a", types.Int) ∷ (codes "k", types.Uuid) ∷ []) (codes "k" ∷ []))
-unfolding statement_of create_of read_up_to is_gap lexeme uuid_in_front other_lexeme
+unfolding statement_of create_of read_up_to is_separator lexeme uuid_in_front other_lexeme
 a_create_with_its_key_apart = refl
 
 a_create_without_key : statement_of (tokens (codes "CREATE TABLE t (a int);")) ≡ Some (CreateTable (codes "t") ((codes "a", types.Int) ∷ []) [])
-unfolding statement_of create_of read_up_to is_gap lexeme uuid_in_front other_lexeme
+unfolding statement_of create_of read_up_to is_separator lexeme uuid_in_front other_lexeme
 a_create_without_key = refl
 
 two_keys : statement_of (tokens (codes "CREATE TABLE t (k text PRIMARY KEY, PRIMARY KEY (k));")) ≡ None
-unfolding statement_of create_of read_up_to is_gap lexeme uuid_in_front other_lexeme
+unfolding statement_of create_of read_up_to is_separator lexeme uuid_in_front other_lexeme
 two_keys = refl
 
 an_insert : statement_of (tokens (codes "insert into T (k, A, b, c) values ('k1', 'it''s', -5, NULL) -- now\n;"))
     ≡ Some (Insert (codes "t") (codes "k" ∷ codes "a" ∷ codes "b" ∷ codes "c" ∷ []) (literals.Text (codes "k1") ∷ literals.Text (codes "it's") ∷ literals.Number (Fits (negsuc 4)) ∷ literals.Null ∷ []) None)
-unfolding statement_of insert_of read_up_to is_gap lexeme uuid_in_front other_lexeme
+unfolding statement_of insert_of read_up_to is_separator lexeme uuid_in_front other_lexeme
 an_insert = refl
 
 an_insert_with_its_time : statement_of (tokens (codes "INSERT INTO t (k) VALUES (00000000-0000-0000-0000-0000000000FF) USING TIMESTAMP 7;"))
     ≡ Some (Insert (codes "t") (codes "k" ∷ []) (literals.Uuid (0 ∷ 0 ∷ 0 ∷ 0 ∷ 0 ∷ 0 ∷ 0 ∷ 0 ∷ 0 ∷ 0 ∷ 0 ∷ 0 ∷ 0 ∷ 0 ∷ 0 ∷ 255 ∷ []) ∷ []) (Some (Fits (pos 7))))
-unfolding statement_of insert_of read_up_to is_gap lexeme uuid_in_front other_lexeme uuid_on_literals
+unfolding statement_of insert_of read_up_to is_separator lexeme uuid_in_front other_lexeme uuid_on_literals
 an_insert_with_its_time = refl
 
 an_update : statement_of (tokens (codes "UPDATE t USING TIMESTAMP 9 SET a = 'x', b = null WHERE k = 1;"))
     ≡ Some (Update (codes "t") (Some (Fits (pos 9))) ((codes "a", literals.Text (codes "x")) ∷ (codes "b", literals.Null) ∷ []) (codes "k") (literals.Number (Fits (pos 1))))
-unfolding statement_of update_of read_up_to is_gap lexeme uuid_in_front other_lexeme
+unfolding statement_of update_of read_up_to is_separator lexeme uuid_in_front other_lexeme
 an_update = refl
 
 a_deletion : statement_of (tokens (codes "DELETE FROM t WHERE k = 'a';")) ≡ Some (Delete (codes "t") [] None (codes "k") (literals.Text (codes "a")))
-unfolding statement_of delete_of read_up_to is_gap lexeme uuid_in_front other_lexeme
+unfolding statement_of delete_of read_up_to is_separator lexeme uuid_in_front other_lexeme
 a_deletion = refl
 
 a_deletion_of_columns : statement_of (tokens (codes "DELETE a, \"from\" FROM t USING TIMESTAMP 3 WHERE k = 'a';"))
     ≡ Some (Delete (codes "t") (codes "a" ∷ codes "from" ∷ []) (Some (Fits (pos 3))) (codes "k") (literals.Text (codes "a")))
-unfolding statement_of delete_of read_up_to is_gap lexeme uuid_in_front other_lexeme
+unfolding statement_of delete_of read_up_to is_separator lexeme uuid_in_front other_lexeme
 a_deletion_of_columns = refl
 
 a_query : statement_of (tokens (codes "SELECT * FROM t;")) ≡ Some (Query (record { columns = None; table = codes "t" }))
-unfolding statement_of query_of read_up_to is_gap lexeme uuid_in_front other_lexeme
+unfolding statement_of query_of read_up_to is_separator lexeme uuid_in_front other_lexeme
 a_query = refl
 
 a_query_of_columns : statement_of (tokens (codes "SELECT b, a FROM t;")) ≡ Some (Query (record { columns = Some (codes "b" ∷ codes "a" ∷ []); table = codes "t" }))
-unfolding statement_of query_of read_up_to is_gap lexeme uuid_in_front other_lexeme
+unfolding statement_of query_of read_up_to is_separator lexeme uuid_in_front other_lexeme
 a_query_of_columns = refl
 
 too_few_values : statement_of (tokens (codes "INSERT INTO t (k, a) VALUES ('k1');")) ≡ None
-unfolding statement_of insert_of read_up_to is_gap lexeme uuid_in_front other_lexeme
+unfolding statement_of insert_of read_up_to is_separator lexeme uuid_in_front other_lexeme
 too_few_values = refl
 
 reserved_name : statement_of (tokens (codes "SELECT * FROM values;")) ≡ None
-unfolding statement_of query_of read_up_to is_gap lexeme uuid_in_front other_lexeme
+unfolding statement_of query_of read_up_to is_separator lexeme uuid_in_front other_lexeme
 reserved_name = refl
 
 nothing_behind_the_end : statement_of (tokens (codes "SELECT * FROM t;;")) ≡ None
-unfolding statement_of query_of read_up_to is_gap lexeme uuid_in_front other_lexeme
+unfolding statement_of query_of read_up_to is_separator lexeme uuid_in_front other_lexeme
 nothing_behind_the_end = refl

@@ -58,14 +58,14 @@ IsNormal p = (column : ℕ) → unshadowed p.deleted (map_.get p.cells column) �
 abbrev pub merged_cell : ℕ → Partition → Partition → ℕ → Option Cell
 merged_cell deleted p q column = unshadowed deleted (newest_of (map_.get p.cells column) (map_.get q.cells column))
 
-abbrev pub with_cell : ℕ → Option Cell → List (ℕ × Cell) → List (ℕ × Cell)
-with_cell column None cells = cells
-with_cell column (Some cell) cells = (column, cell) ∷ cells
+abbrev pub with_entry : ℕ → Option Cell → List (ℕ × Cell) → List (ℕ × Cell)
+with_entry column None cells = cells
+with_entry column (Some cell) cells = (column, cell) ∷ cells
 
 -- the same of some columns
 abbrev pub merged_cells : ℕ → Partition → Partition → List ℕ → List (ℕ × Cell)
 merged_cells deleted p q [] = []
-merged_cells deleted p q (column ∷ columns) = with_cell column (merged_cell deleted p q column) (merged_cells deleted p q columns)
+merged_cells deleted p q (column ∷ columns) = with_entry column (merged_cell deleted p q column) (merged_cells deleted p q columns)
 
 -- the later deletion, and the newest cell of each column, unless that deletion shadows it
 unfoldable pub merge : Partition → Partition → Partition
@@ -94,10 +94,10 @@ value_at p column = value_of (map_.get p.cells column)
 
 -- ---- times
 
-abbrev pub greatest_time : List Cell → ℕ
-greatest_time [] = 0
-greatest_time (cell ∷ cells) = max cell.time (greatest_time cells)
+abbrev pub max_timestamp_in : List Cell → ℕ
+max_timestamp_in [] = 0
+max_timestamp_in (cell ∷ cells) = max cell.time (max_timestamp_in cells)
 
 -- the largest timestamp of the deletion and the cells, 0 if there is none
-abbrev pub greatest_of : Partition → ℕ
-greatest_of p = max p.deleted (greatest_time (map_.values p.cells))
+abbrev pub max_timestamp_of : Partition → ℕ
+max_timestamp_of p = max p.deleted (max_timestamp_in (map_.values p.cells))

@@ -2,7 +2,7 @@
 -- the partition of a key.
 use Rattle.std.specs.Prelude.{ℕ, zero, suc, List, [], ◌∷◌, ◌++◌}
 use Rattle.std.specs.FinMap as map_
-use Rattle.sasi_types.specs.declared.place.Place.{Place}
+use Rattle.sasi_types.specs.declared.decorated_key.DecoratedKey.{DecoratedKey}
 use Rattle.sasi_model.specs.Cells.{Partition}
 use Rattle.sasi_model.specs.State.{Definition, State, Table, apply}
 
@@ -15,16 +15,16 @@ abbrev pub with_new_table : State → Definition → State
 with_new_table s d = record { partitioner = s.partitioner; tables = s.tables ++ empty_table d ∷ [] }
 
 -- the tables after a change of a partition of the table at this index
-abbrev pub changed_behind : ℕ → Place → Partition → List Table → List Table
-changed_behind before place change [] = []
-changed_behind zero place change (t ∷ ts) = apply place change t ∷ ts
-changed_behind (suc before) place change (t ∷ ts) = t ∷ changed_behind before place change ts
+abbrev pub changed_behind : ℕ → DecoratedKey → Partition → List Table → List Table
+changed_behind before decorated_key change [] = []
+changed_behind zero decorated_key change (t ∷ ts) = apply decorated_key change t ∷ ts
+changed_behind (suc before) decorated_key change (t ∷ ts) = t ∷ changed_behind before decorated_key change ts
 
 -- the tables after a change of a partition of the table with this number, from 1
-abbrev pub changed_tables : ℕ → Place → Partition → List Table → List Table
-changed_tables zero place change ts = ts
-changed_tables (suc before) place change ts = changed_behind before place change ts
+abbrev pub changed_tables : ℕ → DecoratedKey → Partition → List Table → List Table
+changed_tables zero decorated_key change ts = ts
+changed_tables (suc before) decorated_key change ts = changed_behind before decorated_key change ts
 
 -- the state after a change of a partition of the table with this number
-abbrev pub after_change : State → ℕ → Place → Partition → State
-after_change s number place change = record { partitioner = s.partitioner; tables = changed_tables number place change s.tables }
+abbrev pub after_change : State → ℕ → DecoratedKey → Partition → State
+after_change s number decorated_key change = record { partitioner = s.partitioner; tables = changed_tables number decorated_key change s.tables }

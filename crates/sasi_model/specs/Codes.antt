@@ -7,20 +7,20 @@ use Rattle.sasi_types.specs.declared.column.ColumnType.{ColumnType}
 use Rattle.sasi_types.specs.declared.column.ColumnType.TheVariants as types
 use Rattle.sasi_types.specs.declared.partitioner.Partitioner.{Partitioner}
 use Rattle.sasi_types.specs.declared.partitioner.Partitioner.TheVariants.{Lead8, Murmur3}
-use Rattle.sasi_types.specs.declared.place.Place.{Place}
+use Rattle.sasi_types.specs.declared.decorated_key.DecoratedKey.{DecoratedKey}
 use Rattle.sasi_types.specs.declared.value.Value.{Value}
 use Rattle.sasi_types.specs.declared.value.Value.TheVariants as values
 use Rattle.sasi_model.specs.Cells.{Cells, Partition}
 use Rattle.sasi_model.specs.State.{Column, Definition, Partitions, Table, State}
 
-abbrev pub Form : Type 0
-Form = ℕ × (ℤ × List ℕ)
+abbrev pub ValueCode : Type 0
+ValueCode = ℕ × (ℤ × List ℕ)
 
-abbrev pub value_form : Value → Form
-value_form (values.Text text) = (0, (pos 0, text))
-value_form (values.Int number) = (1, (number, []))
-value_form (values.BigInt number) = (2, (number, []))
-value_form (values.Uuid bytes) = (3, (pos 0, bytes))
+abbrev pub value_code : Value → ValueCode
+value_code (values.Text text) = (0, (pos 0, text))
+value_code (values.Int number) = (1, (number, []))
+value_code (values.BigInt number) = (2, (number, []))
+value_code (values.Uuid bytes) = (3, (pos 0, bytes))
 
 abbrev pub value_from : ℕ → ℤ → List ℕ → Value
 value_from zero number bytes = values.Text bytes
@@ -28,14 +28,14 @@ value_from (suc zero) number bytes = values.Int number
 value_from (suc (suc zero)) number bytes = values.BigInt number
 value_from (suc (suc (suc n))) number bytes = values.Uuid bytes
 
-abbrev pub value_again : (value : Value) → value_from (value_form value).0 (value_form value).1.0 (value_form value).1.1 ≡ value
+abbrev pub value_again : (value : Value) → value_from (value_code value).0 (value_code value).1.0 (value_code value).1.1 ≡ value
 value_again (values.Text text) = refl
 value_again (values.Int number) = refl
 value_again (values.BigInt number) = refl
 value_again (values.Uuid bytes) = refl
 
 abbrev pub coded_value : Coded Value
-coded_value = code_by Form (coded× coded_ℕ (coded× coded_ℤ (coded_list coded_ℕ))) value_form (λ c. value_from c.0 c.1.0 c.1.1) value_again
+coded_value = code_by ValueCode (coded× coded_ℕ (coded× coded_ℤ (coded_list coded_ℕ))) value_code (λ c. value_from c.0 c.1.0 c.1.1) value_again
 
 abbrev pub coded_cell : Coded Cell
 coded_cell = code_by (ℕ × Option Value) (coded× coded_ℕ (coded_option coded_value)) (λ c. (c.time, c.value)) (λ p. record { time = p.0; value = p.1 }) (λ _. refl)
@@ -49,11 +49,11 @@ coded_partition = code_by (ℕ × Cells) (coded× coded_ℕ (map_.code coded_ℕ
 abbrev pub coded_bytes : Coded (List ℕ)
 coded_bytes = coded_list coded_ℕ
 
-abbrev pub coded_place : Coded Place
-coded_place = code_by (ℕ × List ℕ) (coded× coded_ℕ coded_bytes) (λ p. (p.token, p.key)) (λ c. record { token = c.0; key = c.1 }) (λ _. refl)
+abbrev pub coded_decorated : Coded DecoratedKey
+coded_decorated = code_by (ℕ × List ℕ) (coded× coded_ℕ coded_bytes) (λ p. (p.token, p.key)) (λ c. record { token = c.0; key = c.1 }) (λ _. refl)
 
 abbrev pub coded_partitions : Coded Partitions
-coded_partitions = map_.code coded_place coded_partition
+coded_partitions = map_.code coded_decorated coded_partition
 
 abbrev pub column_type_number : ColumnType → ℕ
 column_type_number types.Text = 0

@@ -5,7 +5,7 @@ pub mod Statements
 pub mod Cells
 pub mod State
 pub mod Changes
-pub mod Written
+pub mod WellFormed
 pub mod Stored
 pub mod Refusals
 pub mod Lines

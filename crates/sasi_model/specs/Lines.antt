@@ -34,12 +34,12 @@ printed None = codes "null"
 printed (Some value) = value_printed value
 
 -- values with ` | ` between them
-abbrev pub joined : List (Option Value) → List ℕ
-joined [] = []
-joined (value ∷ values) = printed value ++ flat_map (λ next. codes " | " ++ printed next) values
+abbrev pub row_text : List (Option Value) → List ℕ
+row_text [] = []
+row_text (value ∷ values) = printed value ++ flat_map (λ next. codes " | " ++ printed next) values
 
 abbrev pub row_line : List (Option Value) → List ℕ
-row_line values = line (joined values)
+row_line values = line (row_text values)
 
 abbrev pub count_line : ℕ → List ℕ
 count_line rows = line (codes "(" ++ decimal rows ++ codes " rows)")
@@ -49,29 +49,29 @@ rows_lines rows = flat_map row_line rows ++ count_line (length rows)
 
 -- ---- refusals
 
-abbrev pub number_of : Refusal → ℕ
-number_of StatementTooLong = 2
-number_of (NotUtf8 place) = 3
-number_of (NoTable name) = 4
-number_of (TableExists name) = 5
-number_of (NoColumn name) = 6
-number_of (ColumnRepeated name) = 7
-number_of (WrongType column) = 8
-number_of (NumberRange column) = 9
-number_of (KeyMissing column) = 10
-number_of (KeyEmpty column) = 11
-number_of (ValueTooLong column) = 12
-number_of TimestampRange = 20
-number_of ClockSpent = 21
-number_of TooManyTables = 24
-number_of TooManyColumns = 24
-number_of ScriptEnds = 25
-number_of NotBuilt = 90
+abbrev pub refusal_number : Refusal → ℕ
+refusal_number StatementTooLong = 2
+refusal_number (NotUtf8 offset) = 3
+refusal_number (NoTable name) = 4
+refusal_number (TableExists name) = 5
+refusal_number (NoColumn name) = 6
+refusal_number (ColumnRepeated name) = 7
+refusal_number (WrongType column) = 8
+refusal_number (NumberRange column) = 9
+refusal_number (KeyMissing column) = 10
+refusal_number (KeyEmpty column) = 11
+refusal_number (ValueTooLong column) = 12
+refusal_number TimestampRange = 20
+refusal_number ClockSpent = 21
+refusal_number TooManyTables = 24
+refusal_number TooManyColumns = 24
+refusal_number ScriptEnds = 25
+refusal_number NotBuilt = 90
 
 -- the name of a refusal, and its detail
 abbrev pub refusal_text : Refusal → List ℕ
 refusal_text StatementTooLong = codes "StatementTooLong 1048576"
-refusal_text (NotUtf8 place) = codes "NotUtf8 at " ++ decimal place
+refusal_text (NotUtf8 offset) = codes "NotUtf8 at " ++ decimal offset
 refusal_text (NoTable name) = codes "NoTable " ++ name
 refusal_text (TableExists name) = codes "TableExists " ++ name
 refusal_text (NoColumn name) = codes "NoColumn " ++ name
@@ -89,4 +89,4 @@ refusal_text ScriptEnds = codes "Unfinished"
 refusal_text NotBuilt = codes "NotBuilt"
 
 abbrev pub refusal_line : Refusal → List ℕ
-refusal_line r = line (codes "error " ++ decimal (number_of r) ++ codes " " ++ refusal_text r)
+refusal_line r = line (codes "error " ++ decimal (refusal_number r) ++ codes " " ++ refusal_text r)

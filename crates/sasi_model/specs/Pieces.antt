@@ -59,13 +59,13 @@ pub record Cut : Type 0 where
   pub whole : List (List ℕ)
   pub rest : List ℕ
 
-abbrev pub joined : ℕ → List (List ℕ) → List ℕ → Cut
-joined b [] rest = record { whole = []; rest = b ∷ rest }
-joined b (p ∷ ps) rest = record { whole = (b ∷ p) ∷ ps; rest = rest }
+abbrev pub byte_in_front : ℕ → List (List ℕ) → List ℕ → Cut
+byte_in_front b [] rest = record { whole = []; rest = b ∷ rest }
+byte_in_front b (p ∷ ps) rest = record { whole = (b ∷ p) ∷ ps; rest = rest }
 
 -- with one more byte at the start, which ends no piece
 abbrev pub in_front : ℕ → Cut → Cut
-in_front b c = joined b c.whole c.rest
+in_front b c = byte_in_front b c.whole c.rest
 
 -- with one more piece at the start, which is this byte
 abbrev pub ended_by : ℕ → Cut → Cut

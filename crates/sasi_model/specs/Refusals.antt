@@ -16,7 +16,7 @@ use Rattle.sasi_types.specs.declared.statement.Statement.TheVariants.{CreateTabl
 use Rattle.sasi_model.specs.Pieces.{Piece, Whole, TooLong, Unfinished}
 use Rattle.sasi_model.specs.Tokens.{tokens}
 use Rattle.sasi_model.specs.Statements.{same, statement_of}
-use Rattle.sasi_model.specs.State.{Column, State, Definition, definitions, definition_of, place_in, column_at, type_or_text, key_name, number_of_column, greatest}
+use Rattle.sasi_model.specs.State.{Column, State, Definition, definitions, definition_of, position_in, column_at, type_or_text, key_name, number_of_column, max_timestamp}
 
 pub data Refusal : Type 0 where
   StatementTooLong : Refusal
@@ -57,20 +57,20 @@ TIME_LIMIT = 2 ^ 62
 -- ---- reading a piece
 
 -- the content of a piece, whatever the state
-pub data Reading : Type 0 where
+pub data ParsedPiece : Type 0 where
   -- a `;` alone
-  Nothing : Reading
-  Says : Statement → Reading
-  Bad : Refusal → Reading
+  Nothing : ParsedPiece
+  Says : Statement → ParsedPiece
+  Bad : Refusal → ParsedPiece
 
-abbrev pub reading_of : Option Statement → Reading
-reading_of None = Bad NotBuilt
-reading_of (Some statement) = Says statement
+abbrev pub parsed_statement : Option Statement → ParsedPiece
+parsed_statement None = Bad NotBuilt
+parsed_statement (Some statement) = Says statement
 
-unfoldable pub read : Piece → Reading
+unfoldable pub read : Piece → ParsedPiece
 read (TooLong finished) = Bad StatementTooLong
 read Unfinished = Bad ScriptEnds
-read (Whole text) = if same text (59 ∷ []) then Nothing else if is_utf8 text then reading_of (statement_of (tokens text)) else Bad (NotUtf8 (utf8_valid_len text))
+read (Whole text) = if same text (59 ∷ []) then Nothing else if is_utf8 text then parsed_statement (statement_of (tokens text)) else Bad (NotUtf8 (utf8_valid_len text))
 
 -- ---- rules
 
@@ -129,10 +129,10 @@ is_long_text type literal = false
 -- the type of a column, if the table has it
 abbrev pub typed_at : Definition → Option ℕ → Option ColumnType
 typed_at d None = None
-typed_at d (Some place) = Some (type_or_text (column_at place d.columns))
+typed_at d (Some position) = Some (type_or_text (column_at position d.columns))
 
 abbrev pub type_of_column : Definition → List ℕ → Option ColumnType
-type_of_column d name = typed_at d (place_in name d.columns)
+type_of_column d name = typed_at d (position_in name d.columns)
 
 -- the test of the literal, if the column exists
 abbrev pub tests : (ColumnType → Literal → Bool) → Option ColumnType → Literal → Bool
@@ -181,8 +181,8 @@ is_time Wide = false
 
 -- the first argument is the largest timestamp of the state
 abbrev pub time_rules : ℕ → Option Number → List Rule
-time_rules greatest None = (greatest == TIME_LIMIT, ClockSpent) ∷ []
-time_rules greatest (Some time) = (not (is_time time), TimestampRange) ∷ []
+time_rules max_timestamp None = (max_timestamp == TIME_LIMIT, ClockSpent) ∷ []
+time_rules max_timestamp (Some time) = (not (is_time time), TimestampRange) ∷ []
 
 -- ---- the rules of each statement
 
@@ -204,27 +204,27 @@ abbrev pub gives_key : Definition → List (List ℕ × Literal) → Bool
 gives_key d given = list_any (λ g. is_key_value d g.0 g.1) given
 
 abbrev pub insert_rules : ℕ → List ℕ → List (List ℕ) → List (List ℕ × Literal) → Option Number → Option Definition → List Rule
-insert_rules greatest table columns given time None = (true, NoTable table) ∷ []
-insert_rules greatest table columns given time (Some d) =
+insert_rules max_timestamp table columns given time None = (true, NoTable table) ∷ []
+insert_rules max_timestamp table columns given time (Some d) =
     map (no_column d) columns ++ (repeat_rules [] columns ++ (each (wrong_type d) given ++ (each (number_range d) given
-    ++ (not (gives_key d given), KeyMissing (key_name d)) ∷ (each (key_empty d) given ++ (each (value_too_long d) given ++ time_rules greatest time)))))
+    ++ (not (gives_key d given), KeyMissing (key_name d)) ∷ (each (key_empty d) given ++ (each (value_too_long d) given ++ time_rules max_timestamp time)))))
 
 -- the WHERE of an UPDATE or a DELETE names a column that isn't the key
 abbrev pub other_key : Definition → List ℕ → Rule
 other_key d key = (is_column d key && not (is_key d key), KeyMissing (key_name d))
 
 abbrev pub update_rules : ℕ → List ℕ → List (List ℕ × Literal) → List ℕ → Literal → Option Number → Option Definition → List Rule
-update_rules greatest table sets key value time None = (true, NoTable table) ∷ []
-update_rules greatest table sets key value time (Some d) =
+update_rules max_timestamp table sets key value time None = (true, NoTable table) ∷ []
+update_rules max_timestamp table sets key value time (Some d) =
     map (λ set. no_regular_column d set.0) sets ++ no_column d key ∷ (repeat_rules [] (map (λ set. set.0) sets)
     ++ (each (wrong_type d) sets ++ wrong_where d key value ∷ (each (number_range d) sets ++ number_range d key value
-    ∷ other_key d key ∷ key_empty d key value ∷ (each (value_too_long d) sets ++ value_too_long d key value ∷ time_rules greatest time))))
+    ∷ other_key d key ∷ key_empty d key value ∷ (each (value_too_long d) sets ++ value_too_long d key value ∷ time_rules max_timestamp time))))
 
 abbrev pub delete_rules : ℕ → List ℕ → List (List ℕ) → List ℕ → Literal → Option Number → Option Definition → List Rule
-delete_rules greatest table columns key value time None = (true, NoTable table) ∷ []
-delete_rules greatest table columns key value time (Some d) =
+delete_rules max_timestamp table columns key value time None = (true, NoTable table) ∷ []
+delete_rules max_timestamp table columns key value time (Some d) =
     map (no_regular_column d) columns ++ no_column d key ∷ (repeat_rules [] columns ++ wrong_where d key value ∷ number_range d key value ∷ other_key d key
-    ∷ key_empty d key value ∷ value_too_long d key value ∷ time_rules greatest time)
+    ∷ key_empty d key value ∷ value_too_long d key value ∷ time_rules max_timestamp time)
 
 abbrev pub select_rules : List ℕ → Option (List (List ℕ)) → Option Definition → List Rule
 select_rules table columns None = (true, NoTable table) ∷ []
@@ -233,11 +233,11 @@ select_rules table (Some columns) (Some d) = map (no_column d) columns
 
 -- the rules for these tables and this largest timestamp of the state
 abbrev pub rules : List Definition → ℕ → Statement → List Rule
-rules tables greatest (CreateTable table columns keys) = create_rules tables table columns keys
-rules tables greatest (Insert table columns values time) = insert_rules greatest table columns (zip columns values) time (definition_of table tables)
-rules tables greatest (Update table time sets key value) = update_rules greatest table sets key value time (definition_of table tables)
-rules tables greatest (Delete table columns time key value) = delete_rules greatest table columns key value time (definition_of table tables)
-rules tables greatest (Query select) = select_rules select.table select.columns (definition_of select.table tables)
+rules tables max_timestamp (CreateTable table columns keys) = create_rules tables table columns keys
+rules tables max_timestamp (Insert table columns values time) = insert_rules max_timestamp table columns (zip columns values) time (definition_of table tables)
+rules tables max_timestamp (Update table time sets key value) = update_rules max_timestamp table sets key value time (definition_of table tables)
+rules tables max_timestamp (Delete table columns time key value) = delete_rules max_timestamp table columns key value time (definition_of table tables)
+rules tables max_timestamp (Query select) = select_rules select.table select.columns (definition_of select.table tables)
 
 unfoldable pub refusal : State → Statement → Option Refusal
-refusal s statement = first_of (rules (definitions s.tables) (greatest s) statement)
+refusal s statement = first_of (rules (definitions s.tables) (max_timestamp s) statement)

@@ -5,18 +5,18 @@ use Rattle.std.specs.FinMap as map_
 use Rattle.sasi_types.specs.declared.column.ColumnType.{ColumnType}
 use Rattle.sasi_types.specs.declared.column.ColumnType.TheVariants as types
 use Rattle.sasi_types.specs.declared.partitioner.Partitioner.{Partitioner}
-use Rattle.sasi_types.specs.declared.place.Place.{Place}
-use Rattle.sasi_types.specs.Place.{place_cmp}
+use Rattle.sasi_types.specs.declared.decorated_key.DecoratedKey.{DecoratedKey}
+use Rattle.sasi_types.specs.DecoratedKey.{decorated_cmp}
 use Rattle.sasi_types.specs.Token.{token_of}
 use Rattle.sasi_model.specs.Statements.{same}
-use Rattle.sasi_model.specs.Cells.{Partition, empty_partition, merge, greatest_of}
+use Rattle.sasi_model.specs.Cells.{Partition, empty_partition, merge, max_timestamp_of}
 
 -- a column's name and type
 abbrev pub Column : Type 0
 Column = List ℕ × ColumnType
 
 abbrev pub Partitions : Type 0
-Partitions = map_.FinMap place_cmp Partition
+Partitions = map_.FinMap decorated_cmp Partition
 
 -- the definition of a table by a CREATE TABLE
 pub record Definition : Type 0 where
@@ -65,24 +65,24 @@ one_more None = None
 one_more (Some n) = Some (suc n)
 
 -- the position of the first column of that name, from 0
-abbrev pub place_in : List ℕ → List Column → Option ℕ
-place_in name [] = None
-place_in name (column ∷ columns) = if same name column.0 then Some 0 else one_more (place_in name columns)
+abbrev pub position_in : List ℕ → List Column → Option ℕ
+position_in name [] = None
+position_in name (column ∷ columns) = if same name column.0 then Some 0 else one_more (position_in name columns)
 
 -- the number of the column at a position: 0 for the key, and the others from 1 in declared order, without the key
 abbrev pub number_at : ℕ → ℕ → ℕ
-number_at key place = if place == key then 0 else if nat_lt place key then suc place else place
+number_at key position = if position == key then 0 else if nat_lt position key then suc position else position
 
 abbrev pub numbered_at : ℕ → Option ℕ → Option ℕ
 numbered_at key None = None
-numbered_at key (Some place) = Some (number_at key place)
+numbered_at key (Some position) = Some (number_at key position)
 
 -- the number of the column of a name, if the table has it
 abbrev pub number_of_column : Definition → List ℕ → Option ℕ
-number_of_column d name = numbered_at d.key (place_in name d.columns)
+number_of_column d name = numbered_at d.key (position_in name d.columns)
 
 abbrev pub column_at : ℕ → List Column → Option Column
-column_at place columns = slice_get columns place
+column_at position columns = slice_get columns position
 
 abbrev pub type_or_text : Option Column → ColumnType
 type_or_text None = types.Text
@@ -102,23 +102,23 @@ key_type d = type_or_text (column_at d.key d.columns)
 -- ---- partitions
 
 -- the decorated key: the token and the key
-abbrev pub place_of : Partitioner → List ℕ → Place
-place_of partitioner key = record { token = token_of partitioner key; key = key }
+abbrev pub decorated : Partitioner → List ℕ → DecoratedKey
+decorated partitioner key = record { token = token_of partitioner key; key = key }
 
 -- the table after a change, which is merged into the partition of its key
-abbrev pub apply : Place → Partition → Table → Table
-apply place change t = record t { partitions = map_.insert t.partitions place (merge (unwrap_or (map_.get t.partitions place) empty_partition) change) }
+abbrev pub apply : DecoratedKey → Partition → Table → Table
+apply decorated_key change t = record t { partitions = map_.insert t.partitions decorated_key (merge (unwrap_or (map_.get t.partitions decorated_key) empty_partition) change) }
 
 -- ---- times
 
-abbrev pub greatest_in : List Partition → ℕ
-greatest_in [] = 0
-greatest_in (p ∷ ps) = max (greatest_of p) (greatest_in ps)
+abbrev pub max_timestamp_of_partitions : List Partition → ℕ
+max_timestamp_of_partitions [] = 0
+max_timestamp_of_partitions (p ∷ ps) = max (max_timestamp_of p) (max_timestamp_of_partitions ps)
 
-abbrev pub greatest_among : List Table → ℕ
-greatest_among [] = 0
-greatest_among (t ∷ ts) = max (greatest_in (map_.values t.partitions)) (greatest_among ts)
+abbrev pub max_timestamp_of_tables : List Table → ℕ
+max_timestamp_of_tables [] = 0
+max_timestamp_of_tables (t ∷ ts) = max (max_timestamp_of_partitions (map_.values t.partitions)) (max_timestamp_of_tables ts)
 
 -- the largest timestamp of the state, deletions included, and 0 if there is none
-unfoldable pub greatest : State → ℕ
-greatest s = greatest_among s.tables
+unfoldable pub max_timestamp : State → ℕ
+max_timestamp s = max_timestamp_of_tables s.tables

@@ -13,7 +13,7 @@ use Rattle.sasi_types.specs.declared.literal.Literal.TheVariants as literals
 use Rattle.sasi_types.specs.declared.literal.Number.{Number}
 use Rattle.sasi_types.specs.declared.literal.Number.TheVariants.{Fits, Wide}
 use Rattle.sasi_types.specs.declared.partitioner.Partitioner.{Partitioner}
-use Rattle.sasi_types.specs.declared.place.Place.{Place}
+use Rattle.sasi_types.specs.declared.decorated_key.DecoratedKey.{DecoratedKey}
 use Rattle.sasi_types.specs.declared.value.Value.{Value}
 use Rattle.sasi_types.specs.declared.value.Value.TheVariants.{Text, Int, BigInt, Uuid}
 use Rattle.sasi_types.specs.Value.{stored}
@@ -21,8 +21,8 @@ use Rattle.sasi_types.specs.declared.statement.Statement.{Statement}
 use Rattle.sasi_types.specs.declared.statement.Statement.TheVariants.{CreateTable, Insert, Update, Delete, Query}
 use Rattle.sasi_model.specs.Pieces.{Piece}
 use Rattle.sasi_model.specs.Cells.{Cells, Partition, is_live, value_at}
-use Rattle.sasi_model.specs.State.{Column, Definition, Table, State, place_of, table_of, with_table, place_in, number_of_column, key_type, apply, greatest}
-use Rattle.sasi_model.specs.Refusals.{Refusal, Reading, Nothing, Says, Bad, read, refusal, type_of_column, is_key_value}
+use Rattle.sasi_model.specs.State.{Column, Definition, Table, State, decorated, table_of, with_table, position_in, number_of_column, key_type, apply, max_timestamp}
+use Rattle.sasi_model.specs.Refusals.{Refusal, ParsedPiece, Nothing, Says, Bad, read, refusal, type_of_column, is_key_value}
 use Rattle.sasi_model.specs.Lines.{ok_line, rows_lines, refusal_line}
 
 -- ---- values
@@ -50,23 +50,23 @@ stored_of (Some value) = stored value
 
 -- the timestamp of a write: the given one, or one more than the largest of the state
 abbrev pub time_of : ℕ → Option Number → ℕ
-time_of greatest None = greatest + 1
-time_of greatest (Some Wide) = 0
-time_of greatest (Some (Fits z)) = unsigned_abs z
+time_of max_timestamp None = max_timestamp + 1
+time_of max_timestamp (Some Wide) = 0
+time_of max_timestamp (Some (Fits z)) = unsigned_abs z
 
 -- the type of a column; text for a name that no column has
 abbrev pub column_type : Definition → List ℕ → ColumnType
 column_type d name = unwrap_or (type_of_column d name) types.Text
 
-abbrev pub with_cell : Option ℕ → Cell → Cells → Cells
-with_cell None cell cells = cells
-with_cell (Some zero) cell cells = cells
-with_cell (Some (suc n)) cell cells = map_.insert cells (suc n) cell
+abbrev pub with_column_cell : Option ℕ → Cell → Cells → Cells
+with_column_cell None cell cells = cells
+with_column_cell (Some zero) cell cells = cells
+with_column_cell (Some (suc n)) cell cells = map_.insert cells (suc n) cell
 
 -- a cell for each regular column that is set: its value, or a tombstone for NULL
 abbrev pub cells_set : Definition → ℕ → List (List ℕ × Literal) → Cells
 cells_set d time [] = map_.empty
-cells_set d time (set ∷ sets) = with_cell (number_of_column d set.0) (record { time = time; value = value_given (column_type d set.0) set.1 }) (cells_set d time sets)
+cells_set d time (set ∷ sets) = with_column_cell (number_of_column d set.0) (record { time = time; value = value_given (column_type d set.0) set.1 }) (cells_set d time sets)
 
 -- a live marker
 abbrev pub marker : ℕ → Cell
@@ -91,15 +91,15 @@ key_literal d [] = literals.Null
 key_literal d (given ∷ others) = if is_key_value d given.0 given.1 then given.1 else key_literal d others
 
 -- the decorated key that a literal gives
-abbrev pub place_given : Partitioner → Definition → Literal → Place
-place_given partitioner d literal = place_of partitioner (stored_of (value_given (key_type d) literal))
+abbrev pub decorated_given : Partitioner → Definition → Literal → DecoratedKey
+decorated_given partitioner d literal = decorated partitioner (stored_of (value_given (key_type d) literal))
 
 -- ---- what a query answers
 
 -- the value of a column by its number: the key's own, or that of its cell
-abbrev pub value_numbered : Definition → Place → Partition → ℕ → Option Value
-value_numbered d place p zero = Some (value_stored (key_type d) place.key)
-value_numbered d place p (suc n) = value_at p (suc n)
+abbrev pub value_numbered : Definition → DecoratedKey → Partition → ℕ → Option Value
+value_numbered d decorated_key p zero = Some (value_stored (key_type d) decorated_key.key)
+value_numbered d decorated_key p (suc n) = value_at p (suc n)
 
 abbrev pub count_up : ℕ → ℕ → List ℕ
 count_up from zero = []
@@ -110,29 +110,29 @@ numbers_of d [] = []
 numbers_of d (name ∷ names) = unwrap_or (number_of_column d name) 0 ∷ numbers_of d names
 
 -- the numbers of the selected columns: those named, or the key and then the others in declared order
-abbrev pub columns_asked : Definition → Option (List (List ℕ)) → List ℕ
-columns_asked d None = count_up 0 (length d.columns)
-columns_asked d (Some names) = numbers_of d names
+abbrev pub selected_columns : Definition → Option (List (List ℕ)) → List ℕ
+selected_columns d None = count_up 0 (length d.columns)
+selected_columns d (Some names) = numbers_of d names
 
 -- the live rows, in order
-abbrev pub rows_among : Definition → List ℕ → List (Place × Partition) → List (List (Option Value))
-rows_among d numbers [] = []
-rows_among d numbers (entry ∷ entries) =
-    if is_live entry.1 then map (value_numbered d entry.0 entry.1) numbers ∷ rows_among d numbers entries else rows_among d numbers entries
+abbrev pub live_rows : Definition → List ℕ → List (DecoratedKey × Partition) → List (List (Option Value))
+live_rows d numbers [] = []
+live_rows d numbers (entry ∷ entries) =
+    if is_live entry.1 then map (value_numbered d entry.0 entry.1) numbers ∷ live_rows d numbers entries else live_rows d numbers entries
 
-abbrev pub rows_answered : Option (List (List ℕ)) → Option Table → List (List (Option Value))
-rows_answered columns None = []
-rows_answered columns (Some t) = rows_among t.definition (columns_asked t.definition columns) (map_.entries t.partitions)
+abbrev pub selected_rows : Option (List (List ℕ)) → Option Table → List (List (Option Value))
+selected_rows columns None = []
+selected_rows columns (Some t) = live_rows t.definition (selected_columns t.definition columns) (map_.entries t.partitions)
 
 -- ---- one statement
 
 -- the table that a CREATE TABLE creates: its key column is the one with PRIMARY KEY
-abbrev pub key_place : List Column → List (List ℕ) → ℕ
-key_place columns [] = 0
-key_place columns (key ∷ keys) = unwrap_or (place_in key columns) 0
+abbrev pub key_position : List Column → List (List ℕ) → ℕ
+key_position columns [] = 0
+key_position columns (key ∷ keys) = unwrap_or (position_in key columns) 0
 
 abbrev pub new_definition : List ℕ → List Column → List (List ℕ) → Definition
-new_definition name columns keys = record { name = name; columns = columns; key = key_place columns keys }
+new_definition name columns keys = record { name = name; columns = columns; key = key_position columns keys }
 
 abbrev pub new_table : List ℕ → List Column → List (List ℕ) → Table
 new_table name columns keys = record { definition = new_definition name columns keys; partitions = map_.empty }
@@ -140,40 +140,40 @@ new_table name columns keys = record { definition = new_definition name columns 
 abbrev pub tables_after : State → Statement → List Table
 tables_after s (CreateTable table columns keys) = s.tables ++ new_table table columns keys ∷ []
 tables_after s (Insert table columns values time) =
-    with_table table (λ t. apply (place_given s.partitioner t.definition (key_literal t.definition (zip columns values))) (insert_change t.definition (time_of (greatest s) time) (zip columns values)) t) s.tables
-tables_after s (Update table time sets key value) = with_table table (λ t. apply (place_given s.partitioner t.definition value) (update_change t.definition (time_of (greatest s) time) sets) t) s.tables
-tables_after s (Delete table columns time key value) = with_table table (λ t. apply (place_given s.partitioner t.definition value) (delete_change t.definition (time_of (greatest s) time) columns) t) s.tables
+    with_table table (λ t. apply (decorated_given s.partitioner t.definition (key_literal t.definition (zip columns values))) (insert_change t.definition (time_of (max_timestamp s) time) (zip columns values)) t) s.tables
+tables_after s (Update table time sets key value) = with_table table (λ t. apply (decorated_given s.partitioner t.definition value) (update_change t.definition (time_of (max_timestamp s) time) sets) t) s.tables
+tables_after s (Delete table columns time key value) = with_table table (λ t. apply (decorated_given s.partitioner t.definition value) (delete_change t.definition (time_of (max_timestamp s) time) columns) t) s.tables
 tables_after s (Query select) = s.tables
 
 abbrev pub answer_of : State → Statement → List ℕ
-answer_of s (Query select) = rows_lines (rows_answered select.columns (table_of select.table s.tables))
+answer_of s (Query select) = rows_lines (selected_rows select.columns (table_of select.table s.tables))
 answer_of s statement = ok_line
 
 -- ---- one piece
 
 -- the state after a piece, its reply, and its refusal if it is refused
-pub record Stepped : Type 0 where
+pub record StepResult : Type 0 where
   pub state : State
   pub reply : List ℕ
   pub refused : Option Refusal
 
-abbrev pub refuse : State → Refusal → Stepped
-refuse s r = record { state = s; reply = refusal_line r; refused = Some r }
+abbrev pub refused_step : State → Refusal → StepResult
+refused_step s r = record { state = s; reply = refusal_line r; refused = Some r }
 
 -- a statement that isn't refused
-abbrev pub execute : State → Statement → Stepped
+abbrev pub execute : State → Statement → StepResult
 execute s statement = record { state = record { partitioner = s.partitioner; tables = tables_after s statement }; reply = answer_of s statement; refused = None }
 
-abbrev pub execute_or : State → Statement → Option Refusal → Stepped
+abbrev pub execute_or : State → Statement → Option Refusal → StepResult
 execute_or s statement None = execute s statement
-execute_or s statement (Some r) = refuse s r
+execute_or s statement (Some r) = refused_step s r
 
-abbrev pub step_as : State → Reading → Stepped
+abbrev pub step_as : State → ParsedPiece → StepResult
 step_as s Nothing = record { state = s; reply = []; refused = None }
-step_as s (Bad r) = refuse s r
+step_as s (Bad r) = refused_step s r
 step_as s (Says statement) = execute_or s statement (refusal s statement)
 
-unfoldable pub step : State → Piece → Stepped
+unfoldable pub step : State → Piece → StepResult
 step s piece = step_as s (read piece)
 
 -- ---- pieces, one after another

@@ -76,9 +76,9 @@ IsValueOf types.BigInt bytes = length bytes ≡ 8
 IsValueOf types.Uuid bytes = length bytes ≡ 16
 
 -- the bytes are those of a value of the type at this position of the list
-pub record IsTypedAt (types : List ColumnType) (place : ℕ) (bytes : List ℕ) : Type 0 where
+pub record IsTypedAt (types : List ColumnType) (position : ℕ) (bytes : List ℕ) : Type 0 where
   pub type : ColumnType
-  pub listed : slice_get types place ≡ Some type
+  pub listed : slice_get types position ≡ Some type
   pub value : IsValueOf type bytes
 
 -- the cell is the marker's, or one of a regular column of the list, with a value of its type if it is live

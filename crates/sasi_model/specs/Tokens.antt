@@ -169,15 +169,15 @@ unfoldable pub lexeme : ℕ → List ℕ → Lexeme
 lexeme b behind = lexeme_or (uuid_in_front (b ∷ behind)) (other_lexeme b behind)
 
 -- the byte is a space or begins a comment. A `/*` without a `*/` is no comment
-unfoldable pub is_gap : ℕ → List ℕ → Bool
-is_gap b behind = is_space b || is_line b behind || (is_block b behind && closes (behind_first behind))
+unfoldable pub is_separator : ℕ → List ℕ → Bool
+is_separator b behind = is_space b || is_line b behind || (is_block b behind && closes (behind_first behind))
 
 -- the tokens of bytes of which the first `inside` belong to the token or the comment before them
 abbrev pub tokens_from : ℕ → List ℕ → List Token
 tokens_from inside [] = []
 tokens_from (suc inside) (b ∷ bs) = tokens_from inside bs
 tokens_from zero (b ∷ bs) =
-    if is_gap b bs then tokens_from (opened_by b bs) bs
+    if is_separator b bs then tokens_from (opened_by b bs) bs
     else (lexeme b bs).token ∷ tokens_from (lexeme b bs).inside bs
 
 abbrev pub tokens : List ℕ → List Token

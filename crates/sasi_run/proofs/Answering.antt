@@ -9,18 +9,18 @@ use Rattle.sasi_host.specs.Disk.{Changes}
 use Rattle.sasi_model.specs.Pieces.{Piece}
 use Rattle.sasi_model.specs.Refusals.{Refusal}
 use Rattle.sasi_model.specs.Step.{step}
-use Rattle.sasi_cql.specs.Standing.{resume, behind}
+use Rattle.sasi_cql.specs.SplitterState.{resume, behind}
 use Rattle.sasi_machine.specs.declared.outcome.Outcome.{Outcome}
 use Rattle.sasi_machine.specs.Outcome.{outcome_of}
-use Rattle.sasi_run.specs.Crashing.{AnswersOn, FailsOn, FinishesOn, LeavesPieces, ServesOn, StopsOn, TakesOn}
+use Rattle.sasi_run.specs.Crashing.{AnswersCrashSafe, FailsCrashSafe, FinishesCrashSafe, CrashLeavesPieces, StaysDurable, StopsCrashSafe, FeedsCrashSafe}
 use Rattle.sasi_run.specs.Session.{counted_by, counted_outcome, refused_by, stop_of}
-use Rattle.sasi_run.specs.Storing.{GoesTo, IsReady, ServesStore, Somehow}
+use Rattle.sasi_run.specs.Storing.{IsAtomic, IsReady, IsStoreDurable, AnyFolderChange}
 use Rattle.sasi_run.specs.declared.session.Session.{Session}
 use Rattle.sasi_run.specs.declared.session.Stop.{Stop}
 use Rattle.sasi_run.specs.declared.session.Stop.TheVariants.{Memory, Output}
 use Rattle.sasi_run.specs.declared.store.Store.{Store}
-use Rattle.sasi_run.proofs.Crashing.{leaves_answered, leaves_both, leaves_nothing, leaves_recorded, ready_still, serves_answered, serves_both, serves_nothing}
-use Rattle.sasi_run.proofs.Taking.{appends_none, stops_at, stops_before, stops_later, takes_answer, takes_both, takes_nothing, takes_quietly}
+use Rattle.sasi_run.proofs.Crashing.{leaves_answered, leaves_both, leaves_nothing, leaves_recorded, ready_still, durable_answered, durable_both, durable_nothing}
+use Rattle.sasi_run.proofs.RunParts.{appends_none, stops_at, stops_before, stops_later, feeds_answer, feeds_both, feeds_nothing, feeds_no_end}
 
 -- ---- the answer
 
@@ -28,9 +28,9 @@ unmoved : (a b : View) → b.emitted ≡ a.emitted → Appends a.emitted b.emitt
 unmoved a b same = subst (λ (l : Option (List ℕ)). Appends a.emitted l []) (sym same) (appends_none a.emitted)
 
 -- the folder or memory failed before anything was emitted
-pub fails_recorded : (fault : HostFault) (session : Session) (a b : View) (piece : Piece) → Changes Somehow a b
-    → (ServesStore a session.store → GoesTo a b session.store.machine (step session.store.machine piece).state)
-    → FailsOn (stop_of fault) session a b (piece ∷ [])
+pub fails_recorded : (fault : HostFault) (session : Session) (a b : View) (piece : Piece) → Changes AnyFolderChange a b
+    → (IsStoreDurable a session.store → IsAtomic a b session.store.machine (step session.store.machine piece).state)
+    → FailsCrashSafe (stop_of fault) session a b (piece ∷ [])
 fails_recorded host_fault.Failed session a b piece change moves = record
     { shown = unmoved a b change.emitted; crashes = leaves_recorded a b session.store session.store piece moves }
 fails_recorded host_fault.OutOfMemory session a b piece change moves = record
@@ -38,11 +38,11 @@ fails_recorded host_fault.OutOfMemory session a b piece change moves = record
 
 module _ (session : Session) (a b d : View) (later : Store) (piece : Piece) (reply : List ℕ)
     (said : reply ≡ (step session.store.machine piece).reply) (made : later.machine ≡ (step session.store.machine piece).state)
-    (change : Changes Somehow a b)
-    (moves : ServesStore a session.store → GoesTo a b session.store.machine (step session.store.machine piece).state)
-    (serves : IsTold a → ServesStore a session.store → ServesStore b later) (emits : Emits reply b d) where
+    (change : Changes AnyFolderChange a b)
+    (moves : IsStoreDurable a session.store → IsAtomic a b session.store.machine (step session.store.machine piece).state)
+    (durable : IsTold a → IsStoreDurable a session.store → IsStoreDurable b later) (emits : Emits reply b d) where
   -- the reply was not emitted whole
-  pub fails_shown : FailsOn Output session a d (piece ∷ [])
+  pub fails_shown : FailsCrashSafe Output session a d (piece ∷ [])
   fails_shown = record {
     shown = (
       piece,
@@ -53,7 +53,7 @@ module _ (session : Session) (a b d : View) (later : Store) (piece : Piece) (rep
           ∙ emits.parts,
       subst (λ (l : Option (List ℕ)). Appends l d.emitted emits.front) change.emitted emits.out,
     );
-    crashes = leaves_answered a b session.store later piece moves d reply said made serves emits;
+    crashes = leaves_answered a b session.store later piece moves d reply said made durable emits;
   }
 
   counts : (refused : ℕ) (o : Option Refusal) → refused < 2 ^ 64
@@ -63,7 +63,7 @@ module _ (session : Session) (a b d : View) (later : Store) (piece : Piece) (rep
 
   pub answers_on : (new : Session) (outcome : Outcome) → new.store ≡ later → session.refused < 2 ^ 64
       → outcome ≡ outcome_of (step session.store.machine piece).refused → new.refused ≡ counted_outcome session.refused outcome
-      → new.splitter ≡ session.splitter → IsReady b later → AllOut reply b d → AnswersOn session new a d piece
+      → new.splitter ≡ session.splitter → IsReady b later → AllOut reply b d → AnswersCrashSafe session new a d piece
   answers_on new outcome store_is small outcome_is count reading ready all = record {
     answers = record {
       state = ap (λ (s : Store). s.machine) store_is ∙ made;
@@ -73,100 +73,100 @@ module _ (session : Session) (a b d : View) (later : Store) (piece : Piece) (rep
       reading = reading;
     };
     ready = subst (λ (s : Store). IsReady d s) (sym store_is) (ready_still b d later emits.files ready);
-    serves = subst (λ (s : Store). ServesOn a d session.store s (step session.store.machine piece).reply) (sym store_is)
-        (subst (λ (l : List ℕ). ServesOn a d session.store later l) said
-        (serves_answered a b session.store later piece moves d reply said made serves emits all));
-    crashes = leaves_answered a b session.store later piece moves d reply said made serves emits;
+    durable = subst (λ (s : Store). StaysDurable a d session.store s (step session.store.machine piece).reply) (sym store_is)
+        (subst (λ (l : List ℕ). StaysDurable a d session.store later l) said
+        (durable_answered a b session.store later piece moves d reply said made durable emits all));
+    crashes = leaves_answered a b session.store later piece moves d reply said made durable emits;
   }
 
 -- ---- one byte
 
 -- no piece ended
-pub takes_quietly_on : (old new : Session) (a : View) (byte : ℕ) → IsReady a old.store → old.refused < 2 ^ 64
+pub feeds_no_end_crash_safe : (old new : Session) (a : View) (byte : ℕ) → IsReady a old.store → old.refused < 2 ^ 64
     → ((left : List ℕ) → resume old.splitter (byte ∷ left) ≡ behind [] (resume new.splitter left)) → new.store ≡ old.store
-    → new.refused ≡ old.refused → TakesOn old new a a (byte ∷ [])
-unfolding takes_quietly
-takes_quietly_on old new a byte ready small next store count = record {
-  takes = takes_quietly old new a.emitted byte small next (ap (λ (s : Store). s.machine) store) count;
+    → new.refused ≡ old.refused → FeedsCrashSafe old new a a (byte ∷ [])
+unfolding feeds_no_end
+feeds_no_end_crash_safe old new a byte ready small next store count = record {
+  feeds = feeds_no_end old new a.emitted byte small next (ap (λ (s : Store). s.machine) store) count;
   ready = subst (λ (s : Store). IsReady a s) (sym store) ready;
-  serves = subst (λ (s : Store). ServesOn a a old.store s []) (sym store) (serves_nothing a old.store);
+  durable = subst (λ (s : Store). StaysDurable a a old.store s []) (sym store) (durable_nothing a old.store);
   crashes = leaves_nothing a old.store [];
 }
 
 -- a piece ended, and was answered
-pub takes_answer_on : (old stand new : Session) (a b : View) (byte : ℕ) (piece : Piece)
+pub feeds_answer_crash_safe : (old stand new : Session) (a b : View) (byte : ℕ) (piece : Piece)
     → ((left : List ℕ) → resume old.splitter (byte ∷ left) ≡ behind (piece ∷ []) (resume stand.splitter left)) → stand.store ≡ old.store
-    → stand.refused ≡ old.refused → AnswersOn stand new a b piece → TakesOn old new a b (byte ∷ [])
-unfolding takes_answer
-takes_answer_on old stand new a b byte piece next store count answered = record {
-  takes = takes_answer old stand new a.emitted b.emitted byte piece next (ap (λ (s : Store). s.machine) store) count answered.answers;
+    → stand.refused ≡ old.refused → AnswersCrashSafe stand new a b piece → FeedsCrashSafe old new a b (byte ∷ [])
+unfolding feeds_answer
+feeds_answer_crash_safe old stand new a b byte piece next store count answered = record {
+  feeds = feeds_answer old stand new a.emitted b.emitted byte piece next (ap (λ (s : Store). s.machine) store) count answered.answers;
   ready = answered.ready;
-  serves = subst (λ (s : Store). ServesOn a b s new.store ((step s.machine piece).reply ++ [])) store
-      (subst (λ (l : List ℕ). ServesOn a b stand.store new.store l) (sym (append-nil (step stand.store.machine piece).reply))
-      answered.serves);
-  crashes = subst (λ (s : Store). LeavesPieces a b s (piece ∷ [])) store answered.crashes;
+  durable = subst (λ (s : Store). StaysDurable a b s new.store ((step s.machine piece).reply ++ [])) store
+      (subst (λ (l : List ℕ). StaysDurable a b stand.store new.store l) (sym (append-nil (step stand.store.machine piece).reply))
+      answered.durable);
+  crashes = subst (λ (s : Store). CrashLeavesPieces a b s (piece ∷ [])) store answered.crashes;
 }
 
 -- it stopped before the byte was taken
-pub stops_before_on : (old : Session) (a : View) (bytes : List ℕ) → StopsOn Memory old a a bytes
+pub stops_before_on : (old : Session) (a : View) (bytes : List ℕ) → StopsCrashSafe Memory old a a bytes
 unfolding stops_before
 stops_before_on old a bytes = record { stops = stops_before old a.emitted bytes; crashes = leaves_nothing a old.store [] }
 
 -- it stopped at the answer
 pub stops_at_on : (stop : Stop) (old stand : Session) (a b : View) (byte : ℕ) (piece : Piece)
     → ((left : List ℕ) → resume old.splitter (byte ∷ left) ≡ behind (piece ∷ []) (resume stand.splitter left)) → stand.store ≡ old.store
-    → FailsOn stop stand a b (piece ∷ []) → StopsOn stop old a b (byte ∷ [])
+    → FailsCrashSafe stop stand a b (piece ∷ []) → StopsCrashSafe stop old a b (byte ∷ [])
 unfolding stops_at
 stops_at_on stop old stand a b byte piece next store fails = record {
   stops = stops_at stop old stand a.emitted b.emitted byte piece next (ap (λ (s : Store). s.machine) store) fails.shown;
-  crashes = subst (λ (s : Store). LeavesPieces a b s (piece ∷ [])) store fails.crashes;
+  crashes = subst (λ (s : Store). CrashLeavesPieces a b s (piece ∷ [])) store fails.crashes;
 }
 
 -- ---- more bytes
 
-pub takes_nothing_on : (session : Session) (a : View) → IsReady a session.store → session.refused < 2 ^ 64 → TakesOn session session a a []
-unfolding takes_nothing
-takes_nothing_on session a ready small = record {
-  takes = takes_nothing session a.emitted small;
+pub feeds_nothing_crash_safe : (session : Session) (a : View) → IsReady a session.store → session.refused < 2 ^ 64 → FeedsCrashSafe session session a a []
+unfolding feeds_nothing
+feeds_nothing_crash_safe session a ready small = record {
+  feeds = feeds_nothing session a.emitted small;
   ready = ready;
-  serves = serves_nothing a session.store;
+  durable = durable_nothing a session.store;
   crashes = leaves_nothing a
       session.store [];
 }
 
-pub takes_both_on : (old mid new : Session) (a b c : View) (xs ys : List ℕ) → TakesOn old mid a b xs → TakesOn mid new b c ys
-    → TakesOn old new a c (xs ++ ys)
-unfolding takes_both
-takes_both_on old mid new a b c xs ys t u = record {
-  takes = takes_both old mid new a.emitted b.emitted c.emitted xs ys t.takes u.takes;
+pub feeds_both_crash_safe : (old mid new : Session) (a b c : View) (xs ys : List ℕ) → FeedsCrashSafe old mid a b xs → FeedsCrashSafe mid new b c ys
+    → FeedsCrashSafe old new a c (xs ++ ys)
+unfolding feeds_both
+feeds_both_crash_safe old mid new a b c xs ys t u = record {
+  feeds = feeds_both old mid new a.emitted b.emitted c.emitted xs ys t.feeds u.feeds;
   ready = u.ready;
-  serves = serves_both a b c old.store mid.store new.store t.takes.done u.takes.done t.takes.state t.serves u.serves;
-  crashes = leaves_both a b c old.store mid.store t.takes.done u.takes.done t.takes.state t.serves t.crashes u.crashes;
+  durable = durable_both a b c old.store mid.store new.store t.feeds.done u.feeds.done t.feeds.state t.durable u.durable;
+  crashes = leaves_both a b c old.store mid.store t.feeds.done u.feeds.done t.feeds.state t.durable t.crashes u.crashes;
 }
 
-pub stops_later_on : (stop : Stop) (old mid : Session) (a b c : View) (bytes xs ys rest : List ℕ) → TakesOn old mid a b xs
-    → StopsOn stop mid b c ys → bytes ≡ xs ++ ys ++ rest → StopsOn stop old a c bytes
+pub stops_later_on : (stop : Stop) (old mid : Session) (a b c : View) (bytes xs ys rest : List ℕ) → FeedsCrashSafe old mid a b xs
+    → StopsCrashSafe stop mid b c ys → bytes ≡ xs ++ ys ++ rest → StopsCrashSafe stop old a c bytes
 unfolding stops_later
 stops_later_on stop old mid a b c bytes xs ys rest t u parts = record {
-  stops = stops_later stop old mid a.emitted b.emitted c.emitted bytes xs ys rest t.takes u.stops parts;
-  crashes = subst (λ (l : List Piece). LeavesPieces a c old.store l) (sym (append_assoc t.takes.done u.stops.done u.stops.next))
-      (leaves_both a b c old.store mid.store t.takes.done (u.stops.done ++ u.stops.next) t.takes.state t.serves t.crashes u.crashes);
+  stops = stops_later stop old mid a.emitted b.emitted c.emitted bytes xs ys rest t.feeds u.stops parts;
+  crashes = subst (λ (l : List Piece). CrashLeavesPieces a c old.store l) (sym (append_assoc t.feeds.done u.stops.done u.stops.next))
+      (leaves_both a b c old.store mid.store t.feeds.done (u.stops.done ++ u.stops.next) t.feeds.state t.durable t.crashes u.crashes);
 }
 
 -- ---- the last piece
 
 pub finishes_nothing : (old new : Session) (a : View) → (resume old.splitter []).last ≡ [] → new.store ≡ old.store
-    → new.refused ≡ old.refused → old.refused < 2 ^ 64 → IsReady a old.store → FinishesOn old new a a
+    → new.refused ≡ old.refused → old.refused < 2 ^ 64 → IsReady a old.store → FinishesCrashSafe old new a a
 finishes_nothing old new a last store count small ready = record {
   finishes = record { shown = rw last (appends_none a.emitted); count = rw last (omega (arith, count, small)) };
   state = rw last (ap (λ (s : Store). s.machine) store);
   ready = subst (λ (s : Store). IsReady a s) (sym store) ready;
-  serves = rw last (subst (λ (s : Store). ServesOn a a old.store s []) (sym store) (serves_nothing a old.store));
+  durable = rw last (subst (λ (s : Store). StaysDurable a a old.store s []) (sym store) (durable_nothing a old.store));
   crashes = rw last (leaves_nothing a old.store []);
 }
 
 pub finishes_answer : (old stand new : Session) (a b : View) (piece : Piece) → (resume old.splitter []).last ≡ piece ∷ []
-    → stand.store ≡ old.store → stand.refused ≡ old.refused → AnswersOn stand new a b piece → FinishesOn old new a b
+    → stand.store ≡ old.store → stand.refused ≡ old.refused → AnswersCrashSafe stand new a b piece → FinishesCrashSafe old new a b
 finishes_answer old stand new a b piece last store count answered = record {
   finishes = record {
     shown = rw (last, append-nil) (subst (λ (s : Store). Appends a.emitted b.emitted (step s.machine piece).reply) store answered.answers.shown);
@@ -177,6 +177,6 @@ finishes_answer old stand new a b piece last store count answered = record {
   };
   state = rw last (subst (λ (s : Store). new.store.machine ≡ (step s.machine piece).state) store answered.answers.state);
   ready = answered.ready;
-  serves = rw (last, append-nil) (subst (λ (s : Store). ServesOn a b s new.store (step s.machine piece).reply) store answered.serves);
-  crashes = rw last (subst (λ (s : Store). LeavesPieces a b s (piece ∷ [])) store answered.crashes);
+  durable = rw (last, append-nil) (subst (λ (s : Store). StaysDurable a b s new.store (step s.machine piece).reply) store answered.durable);
+  crashes = rw last (subst (λ (s : Store). CrashLeavesPieces a b s (piece ∷ [])) store answered.crashes);
 }

@@ -6,16 +6,16 @@ use Rattle.sasi_host.specs.Names.{Bytes, Folder}
 use Rattle.sasi_host.specs.View.{AllOut, CrashLeaves, Emits, IsTold, PartlyOut, View}
 use Rattle.sasi_host.specs.Disk.{FromImage}
 use Rattle.sasi_host.specs.Contents.{told_after}
-use Rattle.sasi_host.specs.Moves.{crash_leaves_on}
+use Rattle.sasi_host.specs.ChangeLaws.{crash_leaves_on}
 use Rattle.sasi_model.specs.Pieces.{Piece}
 use Rattle.sasi_model.specs.State.{State}
 use Rattle.sasi_model.specs.Step.{step, state_after, replies}
-use Rattle.sasi_folder.specs.Serving.{StandsForEither, each_stands, serves_still}
+use Rattle.sasi_folder.specs.DurableStore.{StandsForEither, each_stands, durable_still}
 use Rattle.sasi_folder.specs.Stands.{StandsSealed}
 use Rattle.sasi_run.specs.declared.store.Store.{Store}
-use Rattle.sasi_run.specs.Crashing.{Crashed, IsServing, LeavesPieces, ServesOn}
-use Rattle.sasi_run.specs.Storing.{GoesTo, IsReady, ServesStore}
-use Rattle.sasi_run.proofs.Taking.{replies-append, state_after-append}
+use Rattle.sasi_run.specs.Crashing.{Crashed, HasDurableStore, CrashLeavesPieces, StaysDurable}
+use Rattle.sasi_run.specs.Storing.{IsAtomic, IsReady, IsStoreDurable}
+use Rattle.sasi_run.proofs.RunParts.{replies-append, state_after-append}
 
 pub one_of : (a b : Bytes) → Some a ≡ Some b → a ≡ b
 one_of a b is = cc
@@ -25,17 +25,17 @@ one_of a b is = cc
 pub crash_stays : (v : View) (P : Folder → Bytes → Type 0) → CrashLeaves v v P
 crash_stays v P = record { later = omega arith; left = λ t x e le gone. inl gone }
 
-pub leaves_nothing : (v : View) (store : Store) (pieces : List Piece) → LeavesPieces v v store pieces
+pub leaves_nothing : (v : View) (store : Store) (pieces : List Piece) → CrashLeavesPieces v v store pieces
 leaves_nothing v store pieces out serving = crash_stays v (Crashed store.machine out pieces)
 
-pub serves_nothing : (v : View) (store : Store) → ServesOn v v store store []
-serves_nothing v store out serving = subst (λ (l : List ℕ). IsServing v store l) (sym (append-nil out)) serving
+pub durable_nothing : (v : View) (store : Store) → StaysDurable v v store store []
+durable_nothing v store out serving = subst (λ (l : List ℕ). HasDurableStore v store l) (sym (append-nil out)) serving
 
 -- ---- one piece
 
 module _ (a b : View) (store later : Store) (piece : Piece)
-    (moves : ServesStore a store → GoesTo a b store.machine (step store.machine piece).state) where
-  recorded : (out : List ℕ) → IsServing a store out → (x : Folder) (e : Bytes)
+    (moves : IsStoreDurable a store → IsAtomic a b store.machine (step store.machine piece).state) where
+  recorded : (out : List ℕ) → HasDurableStore a store out → (x : Folder) (e : Bytes)
       → FromImage (StandsForEither store.machine (step store.machine piece).state) a x e → Crashed store.machine out (piece ∷ []) x e
   recorded out serving x e (was, image, either, emitted) =
       let same : e ≡ out = one_of e out (sym emitted ∙ serving.emitted) in
@@ -60,18 +60,18 @@ module _ (a b : View) (store later : Store) (piece : Piece)
       }
 
   -- it was recorded, but nothing emitted
-  pub leaves_recorded : LeavesPieces a b store (piece ∷ [])
+  pub leaves_recorded : CrashLeavesPieces a b store (piece ∷ [])
   leaves_recorded out serving = crash_leaves_on a a b (Crashed store.machine out (piece ∷ []))
       (FromImage (StandsForEither store.machine (step store.machine piece).state) a) (Crashed store.machine out (piece ∷ []))
-      (crash_stays a (Crashed store.machine out (piece ∷ []))) (moves serving.serves).during (λ x e p. p) (recorded out serving)
+      (crash_stays a (Crashed store.machine out (piece ∷ []))) (moves serving.durable).during (λ x e p. p) (recorded out serving)
 
   module _ (c : View) (reply : List ℕ) (said : reply ≡ (step store.machine piece).reply)
-      (made : later.machine ≡ (step store.machine piece).state) (serves : IsTold a → ServesStore a store → ServesStore b later)
+      (made : later.machine ≡ (step store.machine piece).state) (durable : IsTold a → IsStoreDurable a store → IsStoreDurable b later)
       (emits : Emits reply b c) where
-    partly : (out : List ℕ) → IsServing a store out → (x : Folder) (e : Bytes) → PartlyOut b reply x e → Crashed store.machine out (piece ∷ []) x e
+    partly : (out : List ℕ) → HasDurableStore a store out → (x : Folder) (e : Bytes) → PartlyOut b reply x e → Crashed store.machine out (piece ∷ []) x e
     partly out serving x e (image, bytes, k, emitted, went) =
-        let same : bytes ≡ out = one_of bytes out (sym emitted ∙ (moves serving.serves).emitted ∙ serving.emitted) in
-        let stands = each_stands b later.machine later.manifest later.log (serves serving.told serving.serves) x image in
+        let same : bytes ≡ out = one_of bytes out (sym emitted ∙ (moves serving.durable).emitted ∙ serving.emitted) in
+        let stands = each_stands b later.machine later.manifest later.log (durable serving.told serving.durable) x image in
         record {
           done = [];
           rest = piece ∷ [];
@@ -89,18 +89,18 @@ module _ (a b : View) (store later : Store) (piece : Piece)
         }
 
     -- it was recorded, and its reply emitted or a first part of it
-    pub leaves_answered : LeavesPieces a c store (piece ∷ [])
+    pub leaves_answered : CrashLeavesPieces a c store (piece ∷ [])
     leaves_answered out serving = crash_leaves_on a b c (Crashed store.machine out (piece ∷ [])) (PartlyOut b reply)
         (Crashed store.machine out (piece ∷ [])) (leaves_recorded out serving) emits.during (λ x e p. p) (partly out serving)
 
-    told_still : (out : List ℕ) → IsServing a store out → IsTold c
-    told_still out serving = subst (λ (f : Option Folder). IsSome f) (sym emits.files) (told_after _ a b (moves serving.serves) serving.told)
+    told_still : (out : List ℕ) → HasDurableStore a store out → IsTold c
+    told_still out serving = subst (λ (f : Option Folder). IsSome f) (sym emits.files) (told_after _ a b (moves serving.durable) serving.told)
 
-    pub serves_answered : AllOut reply b c → ServesOn a c store later reply
-    serves_answered all out serving = record {
+    pub durable_answered : AllOut reply b c → StaysDurable a c store later reply
+    durable_answered all out serving = record {
       told = told_still out serving;
-      serves = serves_still b c emits.image later.machine later.manifest later.log (serves serving.told serving.serves);
-      emitted = grown b.emitted c.emitted out reply ((moves serving.serves).emitted ∙ serving.emitted) all;
+      durable = durable_still b c emits.image later.machine later.manifest later.log (durable serving.told serving.durable);
+      emitted = grown b.emitted c.emitted out reply ((moves serving.durable).emitted ∙ serving.emitted) all;
     }
       where
         grown : (old new : Option Bytes) (before more : List ℕ) → old ≡ Some before → Appends old new more → new ≡ Some (before ++ more)
@@ -159,18 +159,18 @@ crashed_later s m out done pieces x e is was =
     }
 
 pub leaves_both : (a b c : View) (old mid : Store) (done more : List Piece) → mid.machine ≡ state_after old.machine done
-    → ServesOn a b old mid (replies old.machine done) → LeavesPieces a b old done → LeavesPieces b c mid more
-    → LeavesPieces a c old (done ++ more)
-leaves_both a b c old mid done more is serves first second out serving =
+    → StaysDurable a b old mid (replies old.machine done) → CrashLeavesPieces a b old done → CrashLeavesPieces b c mid more
+    → CrashLeavesPieces a c old (done ++ more)
+leaves_both a b c old mid done more is durable first second out serving =
     crash_leaves_on a b c (Crashed old.machine out done) (Crashed mid.machine (out ++ replies old.machine done) more)
-    (Crashed old.machine out (done ++ more)) (first out serving) (second (out ++ replies old.machine done) (serves out serving))
+    (Crashed old.machine out (done ++ more)) (first out serving) (second (out ++ replies old.machine done) (durable out serving))
     (λ x e p. crashed_more old.machine out done more x e p) (λ x e p. crashed_later old.machine mid.machine out done more x e is p)
 
-pub serves_both : (a b c : View) (old mid new : Store) (done more : List Piece) → mid.machine ≡ state_after old.machine done
-    → ServesOn a b old mid (replies old.machine done) → ServesOn b c mid new (replies mid.machine more)
-    → ServesOn a c old new (replies old.machine (done ++ more))
-serves_both a b c old mid new done more is first second out serving =
-    subst (λ (l : List ℕ). IsServing c new l)
+pub durable_both : (a b c : View) (old mid new : Store) (done more : List Piece) → mid.machine ≡ state_after old.machine done
+    → StaysDurable a b old mid (replies old.machine done) → StaysDurable b c mid new (replies mid.machine more)
+    → StaysDurable a c old new (replies old.machine (done ++ more))
+durable_both a b c old mid new done more is first second out serving =
+    subst (λ (l : List ℕ). HasDurableStore c new l)
     (append_assoc out (replies old.machine done) (replies mid.machine more)
     ∙ ap (λ (l : List ℕ). out ++ l)
     (ap (λ (t : State). replies old.machine done ++ replies t more) is ∙ sym (replies-append done more old.machine)))
@@ -189,7 +189,7 @@ ready_still a b store same ready = record {
   no_other = rw same ready.no_other;
 }
 
-pub leaves_more : (a b : View) (store : Store) (pieces more : List Piece) → LeavesPieces a b store pieces → LeavesPieces a b store (pieces ++ more)
+pub leaves_more : (a b : View) (store : Store) (pieces more : List Piece) → CrashLeavesPieces a b store pieces → CrashLeavesPieces a b store (pieces ++ more)
 leaves_more a b store pieces more leaves out serving =
     crash_leaves_on a a b (Crashed store.machine out (pieces ++ more)) (Crashed store.machine out pieces)
     (Crashed store.machine out (pieces ++ more)) (crash_stays a (Crashed store.machine out (pieces ++ more))) (leaves out serving)

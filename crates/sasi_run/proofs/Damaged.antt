@@ -10,25 +10,25 @@ use Rattle.sasi_host.specs.Names.{Bytes, Folder, log_name, manifest_name, seal_n
 use Rattle.sasi_host.specs.View.{View, IsThere}
 use Rattle.sasi_host.specs.Disk.{Changes, Lists}
 use Rattle.sasi_manifest.specs.declared.listing.Listing.{Listing}
-use Rattle.sasi_manifest.specs.Damages.{IsShownBy}
+use Rattle.sasi_manifest.specs.Damages.{IsManifestDamage}
 use Rattle.sasi_manifest.specs.Reading.{ReadsListing}
 use Rattle.sasi_folder.specs.Damages.{FolderShows, ShowsListed, ShowsMissing, broken_log, broken_manifest, no_manifest}
 use Rattle.sasi_folder.specs.Stands.{IsSealed}
-use Rattle.sasi_run.specs.declared.deleting.Keep.TheVariants.{Store as KeepStore}
+use Rattle.sasi_run.specs.declared.unlisted_files.Keep.TheVariants.{Store as KeepStore}
 use Rattle.sasi_run.specs.Deletion.{Deletes, keeps}
-use Rattle.sasi_run.specs.NewFolder.{IsForeign}
+use Rattle.sasi_run.specs.NewFolder.{ReportsForeign}
 use Rattle.sasi_run.specs.Opening.{IsHighestSeal}
-use Rattle.sasi_run.specs.Replaying.{AreThere, IsReplayShown}
-use Rattle.sasi_run.specs.SealedFolder.{TellsMissing, TellsSegment}
+use Rattle.sasi_run.specs.Replaying.{LiveSegmentsExist, ReplayShowsDamage}
+use Rattle.sasi_run.specs.SealedFolder.{ReportsMissing, ReportsMissingSegment}
 use Rattle.sasi_run.proofs.Foreign.{apart, foreign_listed}
-use Rattle.sasi_run.proofs.Gone.{keeps_segment, unless_kept}
+use Rattle.sasi_run.proofs.DeletedFiles.{keeps_segment, unless_kept}
 use Rattle.sasi_run.proofs.SealedStore.{bytes_there, held_is_listed, listed_is_there, none_where, reads_of}
 
 module _ (v : View) (folder : Folder) (files : v.files ≡ Some folder) where
   -- ---- a manifest
 
   -- damage that the manifest shows as it reads
-  pub manifest_shown : (number : ℕ) (fault : ReadFault) → IsThere v (manifest_name number) → IsShownBy v number fault
+  pub manifest_shown : (number : ℕ) (fault : ReadFault) → IsThere v (manifest_name number) → IsManifestDamage v number fault
       → OnDamage (ShowsListed folder number) fault
   manifest_shown number Failed there shown = tt
   manifest_shown number OutOfMemory there shown = tt
@@ -37,22 +37,22 @@ module _ (v : View) (folder : Folder) (files : v.files ≡ Some folder) where
       broken_manifest bytes.0 bytes.1 (shown bytes.0 (reads_of v folder (manifest_name number) bytes.0 files bytes.1))
 
   module _ (names : List FileName) (lists : Lists v names) where
-    missing : (file : FileName) (damage : Damage) → TellsMissing names file damage → ShowsMissing folder file damage
+    missing : (file : FileName) (damage : Damage) → ReportsMissing names file damage → ShowsMissing folder file damage
     missing file damage tells = record {
       absent = none_where (get folder file) (λ there. tells.absent (held_is_listed v names folder file lists files there));
       named = tells.named;
       rule = tells.rule;
-      place = tells.place;
+      offset = tells.offset_is;
       seen = tells.seen;
     }
 
     -- it isn't among the names
-    pub manifest_missing : (number : ℕ) (damage : Damage) → TellsMissing names (manifest_name number) damage → ShowsListed folder number damage
+    pub manifest_missing : (number : ℕ) (damage : Damage) → ReportsMissing names (manifest_name number) damage → ShowsListed folder number damage
     manifest_missing number damage tells = no_manifest (missing (manifest_name number) damage tells)
 
     -- a segment that it lists isn't
     pub segment_missing : (number : ℕ) (listing : Listing) (damage : Damage) → IsThere v (manifest_name number)
-        → ReadsListing v number listing → TellsSegment names listing.floor listing.last damage → ShowsListed folder number damage
+        → ReadsListing v number listing → ReportsMissingSegment names listing.floor listing.last damage → ShowsListed folder number damage
     segment_missing number listing damage there reads tells =
         let bytes = bytes_there v folder (manifest_name number) files there in
         broken_log bytes.0 listing bytes.1 (reads bytes.0 (reads_of v folder (manifest_name number) bytes.0 files bytes.1))
@@ -75,7 +75,7 @@ module _ (v : View) (folder : Folder) (files : v.files ≡ Some folder) where
     }
 
     -- a file that the making of a store doesn't begin with, where there is no seal
-    pub foreign_shown : (fault : ReadFault) → IsHighestSeal names None → OnDamage (IsForeign names) fault → OnDamage (FolderShows folder) fault
+    pub foreign_shown : (fault : ReadFault) → IsHighestSeal names None → OnDamage (ReportsForeign names) fault → OnDamage (FolderShows folder) fault
     foreign_shown Failed none foreign = tt
     foreign_shown OutOfMemory none foreign = tt
     foreign_shown (Damaged damage) none foreign = inl (record {
@@ -87,7 +87,7 @@ module _ (v : View) (folder : Folder) (files : v.files ≡ Some folder) where
       no_manifest = apart damage.file (manifest_name 1) refl foreign.other;
       no_log = apart damage.file (log_name 1) refl foreign.other;
       rule = foreign.rule;
-      place = foreign.place;
+      offset = foreign.offset;
       seen = foreign.seen;
     })
 
@@ -96,7 +96,7 @@ module _ (v : View) (folder : Folder) (files : v.files ≡ Some folder) where
 -- damage that a live segment shows as it reads, once other files were deleted
 pub segment_shown : (a b : View) (folder : Folder) (number : ℕ) (listing : Listing) (fault : ReadFault) → a.files ≡ Some folder
     → IsThere a (manifest_name number) → ReadsListing a number listing
-    → Changes (Deletes (keeps (KeepStore number listing.floor listing.last))) a b → AreThere b listing → IsReplayShown b listing fault
+    → Changes (Deletes (keeps (KeepStore number listing.floor listing.last))) a b → LiveSegmentsExist b listing → ReplayShowsDamage b listing fault
     → OnDamage (ShowsListed folder number) fault
 segment_shown a b folder number listing Failed files there reads deletes live shown = tt
 segment_shown a b folder number listing OutOfMemory files there reads deletes live shown = tt

@@ -9,28 +9,28 @@ use Rattle.sasi_host.specs.declared.name.FileName.{FileName}
 use Rattle.sasi_host.specs.NameLaws.{name_cases}
 use Rattle.sasi_host.specs.Names.{Bytes, Folder, log_name, manifest_name, seal_name}
 use Rattle.sasi_host.specs.View.{View, IsSound, IsTold, Reaches}
-use Rattle.sasi_host.specs.Disk.{Anyhow, Changes, IsKept, Relation, Same, Step}
+use Rattle.sasi_host.specs.Disk.{AnyChange, Changes, IsFileDurable, Relation, Same, FileChange}
 use Rattle.sasi_host.specs.Contents.{contents_kept, reaches_where}
-use Rattle.sasi_host.specs.Moves.{Each, at_each_moment, changes_as, changes_on, each_on, stays, then_each_moment}
+use Rattle.sasi_host.specs.ChangeLaws.{Each, at_each_moment, changes_as, changes_on, each_on, stays, then_each_moment}
 use Rattle.sasi_gated.specs.Format.{IsGated}
 use Rattle.sasi_gated.specs.Laws.{gated_end}
-use Rattle.sasi_commitlog.specs.Standing.{IsAtLogEnd}
+use Rattle.sasi_commitlog.specs.LogPosition.{IsAtLogEnd}
 use Rattle.sasi_manifest.specs.declared.listing.Listing.{Listing}
 use Rattle.sasi_manifest.specs.Consistent.{IsConsistent}
 use Rattle.sasi_manifest.proofs.Consistency.{record_consistent}
 use Rattle.sasi_manifest.specs.Edits.{encoded, start_length}
 use Rattle.sasi_manifest.specs.Format.{IsManifest, IsRewritten}
 use Rattle.sasi_manifest.specs.Listings.{AllApply, edits_of}
-use Rattle.sasi_manifest.specs.Standing.{Creates, IsUnsealed, Touches}
-use Rattle.sasi_manifest.specs.Standing as manifests
+use Rattle.sasi_manifest.specs.OpenManifest.{Creates, IsUnsealed, ChangesOnlyManifest}
+use Rattle.sasi_manifest.specs.OpenManifest as manifests
 use Rattle.sasi_folder.specs.FolderLaws.{kinds_apart}
-use Rattle.sasi_folder.specs.Replay.{state_made}
+use Rattle.sasi_folder.specs.Replay.{replayed_state}
 use Rattle.sasi_folder.specs.Stands.{Holds, IsFresh}
 use Rattle.sasi_run.specs.declared.store.Store.{Store}
 use Rattle.sasi_run.specs.Deletion.{Deletes}
 use Rattle.sasi_run.specs.NewFolder.{StandsEmpty}
-use Rattle.sasi_run.specs.Storing.{HasNoOther, IsReady, ServesStore, Somehow}
-use Rattle.sasi_run.proofs.Gone.{deletes_fresh}
+use Rattle.sasi_run.specs.Storing.{HasNoUnlisted, IsReady, IsStoreDurable, AnyFolderChange}
+use Rattle.sasi_run.proofs.DeletedFiles.{deletes_fresh}
 
 -- ---- what the first manifest lists
 
@@ -59,8 +59,8 @@ made_consistent p = record_consistent None (encoded (edits_of (new_listing p))) 
     (is_rewritten p) tt
 
 -- it makes the state without tables
-made_state : (p : Partitioner) → empty_state p ≡ state_made (made_listing p) ([] ∷ [])
-unfolding state_made
+made_state : (p : Partitioner) → empty_state p ≡ replayed_state (made_listing p) ([] ∷ [])
+unfolding replayed_state
 made_state p = refl
 
 -- ---- what stands in a folder with it
@@ -94,7 +94,7 @@ fresh_moments a b S p sound keeps change fresh = at_each_moment a b S IsFresh (�
 pub same_fresh : (x y : Folder) → Same x y → IsFresh x → IsFresh y
 same_fresh x y same fresh = subst IsFresh (sym same) fresh
 
-pub log_fresh : (x y : Folder) → Step (log_name 1) Anyhow x y → IsFresh x → IsFresh y
+pub log_fresh : (x y : Folder) → FileChange (log_name 1) AnyChange x y → IsFresh x → IsFresh y
 log_fresh x y step fresh name other another = step.others name another ∙ fresh name other another
 
 seal_none : (x : Folder) (number : ℕ) → IsFresh x → get x (seal_name number) ≡ None
@@ -139,25 +139,25 @@ first_log : (v : View) (at : ℕ) → (end : IsAtLogEnd v (log_name 1) at []) �
 first_log v at end = gated_end v (log_name 1) at [] end
 
 pub create_moments : (a b c : View) (p : Partitioner) (at : ℕ) → IsSound a → IsSound b → Each a IsFresh
-    → Changes (Step (log_name 1) Anyhow) a b → IsAtLogEnd b (log_name 1) at [] → Changes (Creates 1 (made_listing p)) b c
+    → Changes (FileChange (log_name 1) AnyChange) a b → IsAtLogEnd b (log_name 1) at [] → Changes (Creates 1 (made_listing p)) b c
     → Changes (StandsEmpty p) a c
 create_moments a b c p at sound_a sound_b fresh first end second =
-    let fresh_b = each_on a b (Step (log_name 1) Anyhow) IsFresh first log_fresh fresh in
-    then_each_moment a b c (λ y. StandsEmpty p y y) (fresh_moments a b (Step (log_name 1) Anyhow) p sound_a log_fresh first fresh)
+    let fresh_b = each_on a b (FileChange (log_name 1) AnyChange) IsFresh first log_fresh fresh in
+    then_each_moment a b c (λ y. StandsEmpty p y y) (fresh_moments a b (FileChange (log_name 1) AnyChange) p sound_a log_fresh first fresh)
     (at_each_moment b c (Creates 1 (made_listing p)) (IsBegun end.bytes) (λ y. StandsEmpty p y y) sound_b second
     (λ x now. record { fresh = fresh_b x now; has = end.kept x now })
     (λ x y begun creates. created_stands p end.bytes x y (first_log b at end) begun creates))
 
 -- ---- the store that is made
 
-log_kept : (x y : Folder) → Touches 1 x y → get y (log_name 1) ≡ get x (log_name 1)
+log_kept : (x y : Folder) → ChangesOnlyManifest 1 x y → get y (log_name 1) ≡ get x (log_name 1)
 log_kept x y touches = touches (log_name 1) (log_apart 1) (log_seal_apart 1)
 
-pub log_room : (b c : View) (at : ℕ) → Changes (Touches 1) b c → Reaches b (log_name 1) at → Reaches c (log_name 1) at
-log_room b c at change reaches = reaches_where b c (Touches 1) (log_name 1) at change
-    (contents_kept b c (Touches 1) (log_name 1) log_kept change) reaches
+pub log_room : (b c : View) (at : ℕ) → Changes (ChangesOnlyManifest 1) b c → Reaches b (log_name 1) at → Reaches c (log_name 1) at
+log_room b c at change reaches = reaches_where b c (ChangesOnlyManifest 1) (log_name 1) at change
+    (contents_kept b c (ChangesOnlyManifest 1) (log_name 1) log_kept change) reaches
 
-log_end : (b c : View) (at : ℕ) → Changes (Touches 1) b c → IsAtLogEnd b (log_name 1) at [] → IsAtLogEnd c (log_name 1) at []
+log_end : (b c : View) (at : ℕ) → Changes (ChangesOnlyManifest 1) b c → IsAtLogEnd b (log_name 1) at [] → IsAtLogEnd c (log_name 1) at []
 log_end b c at change end = record {
   bytes = end.bytes;
   rest = end.rest;
@@ -173,7 +173,7 @@ module _ (p : Partitioner) (store : Store) (machine_is : store.machine ≡ empty
   listing_is = made_is p store.manifest.listing rewritten
 
   pub first_ready : (c : View) → Reaches c (manifest_name 1) (store.manifest.at + 1) → Reaches c (log_name 1) (store.log.at + 1)
-      → IsTrue store.manifest.usable → IsTrue store.log.usable → HasNoOther c 1 (made_listing p) → IsReady c store
+      → IsTrue store.manifest.usable → IsTrue store.log.usable → HasNoUnlisted c 1 (made_listing p) → IsReady c store
   first_ready c manifest_room log_room manifest_usable log_usable alone = record {
     together = record {
       file = file_is ∙ ap (λ (l : Listing). log_name l.last) (sym listing_is);
@@ -185,16 +185,16 @@ module _ (p : Partitioner) (store : Store) (machine_is : store.machine ≡ empty
     log_room = subst (λ f. Reaches c f (store.log.at + 1)) (sym file_is) log_room;
     manifest_usable = manifest_usable;
     log_usable = log_usable;
-    no_other = subst (λ n. HasNoOther c n store.manifest.listing) (sym number_is) (subst (HasNoOther c 1) (sym listing_is) alone);
+    no_other = subst (λ n. HasNoUnlisted c n store.manifest.listing) (sym number_is) (subst (HasNoUnlisted c 1) (sym listing_is) alone);
   }
 
-  pub first_serves : (a b c : View) → Each a IsFresh → Changes (Step (log_name 1) Anyhow) a b → IsAtLogEnd b (log_name 1) store.log.at []
-      → Changes (Touches 1) b c → (IsUnsealed b 1 → IsKept c (seal_name 1) [])
-      → manifests.Stands c 1 store.manifest.at store.manifest.listing → ServesStore c store
-  first_serves a b c fresh first end second sealed stands =
-      let fresh_b = each_on a b (Step (log_name 1) Anyhow) IsFresh first log_fresh fresh in
+  pub first_durable : (a b c : View) → Each a IsFresh → Changes (FileChange (log_name 1) AnyChange) a b → IsAtLogEnd b (log_name 1) store.log.at []
+      → Changes (ChangesOnlyManifest 1) b c → (IsUnsealed b 1 → IsFileDurable c (seal_name 1) [])
+      → manifests.ManifestStands c 1 store.manifest.at store.manifest.listing → IsStoreDurable c store
+  first_durable a b c fresh first end second sealed stands =
+      let fresh_b = each_on a b (FileChange (log_name 1) AnyChange) IsFresh first log_fresh fresh in
       let end_c = log_end b c store.log.at second end in
-      let stands_made : manifests.Stands c 1 store.manifest.at (made_listing p) = subst (manifests.Stands c 1 store.manifest.at) listing_is stands in
+      let stands_made : manifests.ManifestStands c 1 store.manifest.at (made_listing p) = subst (manifests.ManifestStands c 1 store.manifest.at) listing_is stands in
       let whole : IsManifest 1 stands_made.at_end.bytes (made_listing p) = (
         stands_made.records,
         gated_end c (manifest_name 1)
@@ -205,7 +205,7 @@ module _ (p : Partitioner) (store : Store) (machine_is : store.machine ≡ empty
         older = [];
         current = [];
         log_end = subst (λ (l : Listing). IsAtLogEnd c (log_name l.last) store.log.at []) (sym listing_is) end_c;
-        manifest_end = subst (λ n. manifests.Stands c n store.manifest.at store.manifest.listing) (sym number_is) stands;
+        manifest_end = subst (λ n. manifests.ManifestStands c n store.manifest.at store.manifest.listing) (sym number_is) stands;
         held = λ y now. (
             let from = second.image y now in
             let none = λ (other : ℕ) (above : 1 < other). from.2 (seal_name other) (kinds_apart _ _ (omega arith)) (seals_apart other above)
@@ -216,26 +216,26 @@ module _ (p : Partitioner) (store : Store) (machine_is : store.machine ≡ empty
             subst (λ n. Holds y n store.manifest.listing ([] ∷ [])) (sym number_is)
             (subst (λ (l : Listing). Holds y 1 l ([] ∷ [])) (sym listing_is) holds)
             );
-        makes = machine_is ∙ made_state p ∙ ap (λ (l : Listing). state_made l ([] ∷ [])) (sym listing_is);
+        makes = machine_is ∙ made_state p ∙ ap (λ (l : Listing). replayed_state l ([] ∷ [])) (sym listing_is);
       }
 
-pub still_fresh : (a b : View) → Each a IsFresh → Changes (Step (log_name 1) Anyhow) a b → Each b IsFresh
-still_fresh a b fresh change = each_on a b (Step (log_name 1) Anyhow) IsFresh change log_fresh fresh
+pub still_fresh : (a b : View) → Each a IsFresh → Changes (FileChange (log_name 1) AnyChange) a b → Each b IsFresh
+still_fresh a b fresh change = each_on a b (FileChange (log_name 1) AnyChange) IsFresh change log_fresh fresh
 
-pub made_somehow : (a b c : View) → Changes (Step (log_name 1) Anyhow) a b → Changes (Touches 1) b c → Changes Somehow a c
-made_somehow a b c first second = changes_on a b c (Step (log_name 1) Anyhow) (Touches 1) Somehow first second (λ x y s. tt) (λ x y z s t. tt)
+pub made_any_change : (a b c : View) → Changes (FileChange (log_name 1) AnyChange) a b → Changes (ChangesOnlyManifest 1) b c → Changes AnyFolderChange a c
+made_any_change a b c first second = changes_on a b c (FileChange (log_name 1) AnyChange) (ChangesOnlyManifest 1) AnyFolderChange first second (λ x y s. tt) (λ x y z s t. tt)
 
-pub log_somehow : (a b : View) → Changes (Step (log_name 1) Anyhow) a b → Changes Somehow a b
-log_somehow a b change = changes_as a b (Step (log_name 1) Anyhow) Somehow change (λ x y step. tt)
+pub log_any_change : (a b : View) → Changes (FileChange (log_name 1) AnyChange) a b → Changes AnyFolderChange a b
+log_any_change a b change = changes_as a b (FileChange (log_name 1) AnyChange) AnyFolderChange change (λ x y step. tt)
 
-pub deletes_somehow : (a b : View) (kept : FileName → Bool) → Changes (Deletes kept) a b → Changes Somehow a b
-deletes_somehow a b kept change = changes_as a b (Deletes kept) Somehow change (λ x y step. tt)
+pub deletes_any_change : (a b : View) (kept : FileName → Bool) → Changes (Deletes kept) a b → Changes AnyFolderChange a b
+deletes_any_change a b kept change = changes_as a b (Deletes kept) AnyFolderChange change (λ x y step. tt)
 
-pub stays_somehow : (v : View) → Changes Somehow v v
-stays_somehow v = changes_as v v Same Somehow (stays v) (λ x y same. tt)
+pub stays_any_change : (v : View) → Changes AnyFolderChange v v
+stays_any_change v = changes_as v v Same AnyFolderChange (stays v) (λ x y same. tt)
 
-pub somehow_on : (a b c : View) → Changes Somehow a b → Changes Somehow b c → Changes Somehow a c
-somehow_on a b c first second = changes_on a b c Somehow Somehow Somehow first second (λ x y s. tt) (λ x y z s t. tt)
+pub any_change_on : (a b c : View) → Changes AnyFolderChange a b → Changes AnyFolderChange b c → Changes AnyFolderChange a c
+any_change_on a b c first second = changes_on a b c AnyFolderChange AnyFolderChange AnyFolderChange first second (λ x y s. tt) (λ x y z s t. tt)
 
 -- ---- what was there before
 
@@ -261,7 +261,7 @@ module _ (a b c : View) (p : Partitioner) (kept : FileName → Bool) (sound_a : 
   synced_fresh = each_on b c Same IsFresh sync same_fresh (deleted_fresh a b p kept sound_a change fresh)
 
 -- what a later part of a call promises, promised from its start
-pub serves_later : (result : Result Store HostFault) (b c a : View) → IfOk result (λ store. IsTold b → Each b IsFresh → ServesStore c store)
-    → (IsTold a → IsTold b) → (Each a IsFresh → Each b IsFresh) → IfOk result (λ store. IsTold a → Each a IsFresh → ServesStore c store)
-serves_later (Ok store) b c a serves told fresh = λ seen new. serves (told seen) (fresh new)
-serves_later (Err fault) b c a serves told fresh = tt
+pub durable_later : (result : Result Store HostFault) (b c a : View) → IfOk result (λ store. IsTold b → Each b IsFresh → IsStoreDurable c store)
+    → (IsTold a → IsTold b) → (Each a IsFresh → Each b IsFresh) → IfOk result (λ store. IsTold a → Each a IsFresh → IsStoreDurable c store)
+durable_later (Ok store) b c a durable told fresh = λ seen new. durable (told seen) (fresh new)
+durable_later (Err fault) b c a durable told fresh = tt

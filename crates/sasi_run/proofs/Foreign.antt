@@ -10,7 +10,7 @@ use Rattle.sasi_host.specs.Damages.{seen_bytes}
 use Rattle.sasi_host.specs.Names.{Bytes, Folder, log_name, manifest_name}
 use Rattle.sasi_host.specs.View.{View, contents_in}
 use Rattle.sasi_host.specs.Disk.{Lists}
-use Rattle.sasi_run.specs.NewFolder.{IsForeign, SparesFresh, is_first}
+use Rattle.sasi_run.specs.NewFolder.{ReportsForeign, NoFalseFreshDamage, is_initial}
 
 around : (names : List FileName) (i : ℕ) (d : FileName) → i < length names → names ≡ take i names ++ get_or names i d ∷ drop (i + 1) names
 around names i d within =
@@ -18,40 +18,40 @@ around names i d within =
     ∙ append_assoc (take i names) (get_or names i d ∷ []) (drop (i + 1) names)
 
 pub foreign_at : (names : List FileName) (i : ℕ) (d : FileName) (damage : Damage) → i < length names
-    → All (λ name. is_first name ≡ true) (take i names) → is_first (get_or names i d) ≡ false
-    → damage.file ≡ get_or names i d → damage.rule ≡ NoSeal → damage.at ≡ 0 → seen_bytes damage.seen ≡ [] → IsForeign names damage
-foreign_at names i d damage within firsts other file rule place seen = record {
+    → All (λ name. is_initial name ≡ true) (take i names) → is_initial (get_or names i d) ≡ false
+    → damage.file ≡ get_or names i d → damage.rule ≡ NoSeal → damage.at ≡ 0 → seen_bytes damage.seen ≡ [] → ReportsForeign names damage
+foreign_at names i d damage within firsts other file rule offset seen = record {
   before = take i names;
   behind = drop (i + 1) names;
   is = around names i d within ∙ ap (λ (n : FileName). take i names ++ n ∷ drop (i + 1) names) (sym file);
-  firsts = recursion_from_All (λ name. is_first name ≡ true) (take i names) firsts;
-  other = ap is_first file ∙ other;
+  firsts = recursion_from_All (λ name. is_initial name ≡ true) (take i names) firsts;
+  other = ap is_initial file ∙ other;
   rule = rule;
-  place = place;
+  offset = offset;
   seen = seen;
 }
 
-pub firsts_more : (names : List FileName) (i : ℕ) (d : FileName) → i < length names → All (λ name. is_first name ≡ true) (take i names)
-    → is_first (get_or names i d) ≡ true → All (λ name. is_first name ≡ true) (take (i + 1) names)
-firsts_more names i d within done one = All-more (λ name. is_first name ≡ true) names i d within done one
+pub firsts_more : (names : List FileName) (i : ℕ) (d : FileName) → i < length names → All (λ name. is_initial name ≡ true) (take i names)
+    → is_initial (get_or names i d) ≡ true → All (λ name. is_initial name ≡ true) (take (i + 1) names)
+firsts_more names i d within done one = All-more (λ name. is_initial name ≡ true) names i d within done one
 
-pub firsts_all : (names : List FileName) (i : ℕ) → length names ≤ i → All (λ name. is_first name ≡ true) (take i names)
-    → All (λ name. is_first name ≡ true) names
-firsts_all names i end done = All-same (λ name. is_first name ≡ true) names (take i names) (sym (take_all i names end)) done
+pub firsts_all : (names : List FileName) (i : ℕ) → length names ≤ i → All (λ name. is_initial name ≡ true) (take i names)
+    → All (λ name. is_initial name ≡ true) names
+firsts_all names i end done = All-same (λ name. is_initial name ≡ true) names (take i names) (sym (take_all i names end)) done
 
 both_ways : true ≡ false → ⊥
 both_ways e = cc
 
-pub apart : (name first : FileName) → is_first first ≡ true → is_first name ≡ false → name ≢ first
-apart name first is other same = both_ways (sym is ∙ ap is_first (sym same) ∙ other)
+pub apart : (name first : FileName) → is_initial first ≡ true → is_initial name ≡ false → name ≢ first
+apart name first is other same = both_ways (sym is ∙ ap is_initial (sym same) ∙ other)
 
-pub foreign_listed : (names : List FileName) (damage : Damage) → IsForeign names damage → Contains names damage.file
+pub foreign_listed : (names : List FileName) (damage : Damage) → ReportsForeign names damage → Contains names damage.file
 foreign_listed names damage foreign = subst (λ (l : List FileName). Contains l damage.file) (sym foreign.is)
     (Contains-append_right foreign.before (damage.file ∷ foreign.behind) damage.file (0, omega arith, refl))
 
 -- **A folder in which such a name is there isn't new.**
-pub foreign_spares : (v : View) (names : List FileName) (damage : Damage) → Lists v names → IsForeign names damage → SparesFresh v
-foreign_spares v names damage lists foreign folder files fresh =
+pub foreign_no_false_damage : (v : View) (names : List FileName) (damage : Damage) → Lists v names → ReportsForeign names damage → NoFalseFreshDamage v
+foreign_no_false_damage v names damage lists foreign folder files fresh =
     let there : IsSome (get folder damage.file) = subst (λ (o : Option Folder). IsSome (contents_in o damage.file)) files
     ((lists (ap (λ (o : Option Folder). is_some o) files) damage.file).0 (foreign_listed names damage foreign)) in
     let none : get folder damage.file ≡ None = fresh damage.file (apart damage.file (manifest_name 1) refl foreign.other)

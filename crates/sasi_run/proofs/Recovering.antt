@@ -6,13 +6,13 @@ use Rattle.sasi_types.specs.declared.statement.Statement.{Statement}
 use Rattle.sasi_types.specs.declared.statement.Statement.TheVariants.{CreateTable, Insert, Update, Delete, Query}
 use Rattle.sasi_host.specs.Names.{Folder}
 use Rattle.sasi_model.specs.Pieces.{Piece}
-use Rattle.sasi_model.specs.Refusals.{Reading, Nothing, Says, Bad, Refusal, read, refusal}
+use Rattle.sasi_model.specs.Refusals.{ParsedPiece, Nothing, Says, Bad, Refusal, read, refusal}
 use Rattle.sasi_model.specs.State.{State}
 use Rattle.sasi_model.specs.Step.{execute_or, step, step_as, state_after, replies}
 use Rattle.sasi_folder.specs.Stands.{StandsSealed}
-use Rattle.sasi_run.specs.Crashing.{Crashed, IsAnswering, IsQuiet}
-use Rattle.sasi_run.specs.Recovering.{IsGreatest, StandsAfter}
-use Rattle.sasi_run.proofs.Taking.{replies-append, state_after-append}
+use Rattle.sasi_run.specs.Crashing.{Crashed, IsAnswering, IsBetweenPieces}
+use Rattle.sasi_run.specs.Recovering.{IsReplyCount, StandsAfter}
+use Rattle.sasi_run.proofs.RunParts.{replies-append, state_after-append}
 
 -- ---- a piece without a reply changes nothing
 
@@ -24,7 +24,7 @@ silent_or s (Update table time sets key value) None none = cc
 silent_or s (Delete table columns time key value) None none = cc
 silent_or s (Query select) None none = refl
 
-silent_as : (s : State) (r : Reading) → (step_as s r).reply ≡ [] → (step_as s r).state ≡ s
+silent_as : (s : State) (r : ParsedPiece) → (step_as s r).reply ≡ [] → (step_as s r).state ≡ s
 silent_as s Nothing none = refl
 silent_as s (Bad r) none = refl
 silent_as s (Says statement) none = silent_or s statement (refusal s statement) none
@@ -50,7 +50,7 @@ silent s (p ∷ pieces) none =
 -- ---- the number of whole replies
 
 module _ (s : State) (before : List ℕ) (pieces : List Piece) (folder : Folder) (out shown : List ℕ) (went : out ≡ before ++ shown) (n : ℕ)
-    (greatest : IsGreatest s pieces shown n) where
+    (is_count : IsReplyCount s pieces shown n) where
   at_least : (done rest : List Piece) (more : List ℕ) → pieces ≡ done ++ rest → shown ≡ replies s done ++ more → length done ≤ n
   at_least done rest more parts is = by (n - length done) (length done - n) refl refl
     where
@@ -58,7 +58,7 @@ module _ (s : State) (before : List ℕ) (pieces : List Piece) (folder : Folder)
       by k zero a b = omega arith
       by k (suc j) a b = (
           let same : take (length done) pieces ≡ done = ap (take (length done)) parts ∙ take-append_seam done rest in
-          absurd (greatest.no_more (length done) more (omega arith) (omega (arith, ap length parts, length-append done rest))
+          absurd (is_count.no_more (length done) more (omega arith) (omega (arith, ap length parts, length-append done rest))
           (is ∙ ap (λ (l : List Piece). replies s l ++ more) (sym same)))
           )
 
@@ -69,7 +69,7 @@ module _ (s : State) (before : List ℕ) (pieces : List Piece) (folder : Folder)
       subst (λ m. take m pieces ≡ done ++ take (n - length done) rest) count
       (ap (take (length done + (n - length done))) parts ∙ take-append-add done rest (n - length done))
 
-  quiet : (done rest : List Piece) → pieces ≡ done ++ rest → IsQuiet s before done folder out → StandsAfter s pieces n folder
+  quiet : (done rest : List Piece) → pieces ≡ done ++ rest → IsBetweenPieces s before done folder out → StandsAfter s pieces n folder
   quiet done rest parts is =
       let shows : shown ≡ replies s done ++ [] = append_cancel_left before shown (replies s done ++ [])
       (sym went ∙ is.went ∙ ap (λ (l : List ℕ). before ++ l) (sym (append-nil (replies s done)))) in
@@ -77,12 +77,12 @@ module _ (s : State) (before : List ℕ) (pieces : List Piece) (folder : Folder)
       let m = state_after s done in
       let mid = take (n - length done) rest in
       let first = split done rest parts le in
-      let none : replies m mid ++ greatest.rest ≡ [] = sym (append_cancel_left (replies s done) [] (replies m mid ++ greatest.rest)
-      (sym shows ∙ greatest.begins ∙ ap (λ (l : List Piece). replies s l ++ greatest.rest) first
-      ∙ ap (λ (l : List ℕ). l ++ greatest.rest) (replies-append done mid s)
-      ∙ append_assoc (replies s done) (replies m mid) greatest.rest)) in
+      let none : replies m mid ++ is_count.rest ≡ [] = sym (append_cancel_left (replies s done) [] (replies m mid ++ is_count.rest)
+      (sym shows ∙ is_count.begins ∙ ap (λ (l : List Piece). replies s l ++ is_count.rest) first
+      ∙ ap (λ (l : List ℕ). l ++ is_count.rest) (replies-append done mid s)
+      ∙ append_assoc (replies s done) (replies m mid) is_count.rest)) in
       let same : state_after s (take n pieces) ≡ m = ap (state_after s) first ∙ state_after-append done mid s
-      ∙ silent m mid (nil_front (replies m mid) greatest.rest none) in
+      ∙ silent m mid (nil_front (replies m mid) is_count.rest none) in
       inl (inr (subst (λ (t : State). StandsSealed folder t) (sym same) is.stands))
 
   answering : (done rest : List Piece) → pieces ≡ done ++ rest → IsAnswering s before done rest folder out → StandsAfter s pieces n folder
@@ -111,19 +111,19 @@ module _ (s : State) (before : List ℕ) (pieces : List Piece) (folder : Folder)
           let mid = take j is.others in
           let taken : take (n - length done) rest ≡ is.piece ∷ mid = ap (λ k. take k rest) (sym count) ∙ ap (take (suc j)) is.next in
           let first : take n pieces ≡ done ++ (is.piece ∷ mid) = split done rest parts le ∙ ap (λ (l : List Piece). done ++ l) taken in
-          let begins : is.front ≡ replies m (is.piece ∷ mid) ++ greatest.rest = append_cancel_left (replies s done) is.front
-          (replies m (is.piece ∷ mid) ++ greatest.rest)
-          (sym shows ∙ greatest.begins ∙ ap (λ (l : List Piece). replies s l ++ greatest.rest) first
-          ∙ ap (λ (l : List ℕ). l ++ greatest.rest) (replies-append done (is.piece ∷ mid) s)
-          ∙ append_assoc (replies s done) (replies m (is.piece ∷ mid)) greatest.rest) in
-          let tail = is.back ++ (replies later mid ++ greatest.rest) in
+          let begins : is.front ≡ replies m (is.piece ∷ mid) ++ is_count.rest = append_cancel_left (replies s done) is.front
+          (replies m (is.piece ∷ mid) ++ is_count.rest)
+          (sym shows ∙ is_count.begins ∙ ap (λ (l : List Piece). replies s l ++ is_count.rest) first
+          ∙ ap (λ (l : List ℕ). l ++ is_count.rest) (replies-append done (is.piece ∷ mid) s)
+          ∙ append_assoc (replies s done) (replies m (is.piece ∷ mid)) is_count.rest) in
+          let tail = is.back ++ (replies later mid ++ is_count.rest) in
           let whole : is.front ++ [] ≡ is.front ++ tail = append-nil is.front ∙ begins
-          ∙ append_assoc (step m is.piece).reply (replies later mid) greatest.rest
-          ∙ ap (λ (l : List ℕ). l ++ (replies later mid ++ greatest.rest)) is.parts
-          ∙ append_assoc is.front is.back (replies later mid ++ greatest.rest) in
+          ∙ append_assoc (step m is.piece).reply (replies later mid) is_count.rest
+          ∙ ap (λ (l : List ℕ). l ++ (replies later mid ++ is_count.rest)) is.parts
+          ∙ append_assoc is.front is.back (replies later mid ++ is_count.rest) in
           let none : tail ≡ [] = sym (append_cancel_left is.front [] tail whole) in
           let silent_mid = silent later mid
-          (nil_front (replies later mid) greatest.rest (nil_back is.back (replies later mid ++ greatest.rest) none)) in
+          (nil_front (replies later mid) is_count.rest (nil_back is.back (replies later mid ++ is_count.rest) none)) in
           inl (inr (subst (λ (t : State). StandsSealed folder t)
           (sym (ap (state_after s) first ∙ state_after-append done (is.piece ∷ mid) s ∙ silent_mid)) is.stands))
           )

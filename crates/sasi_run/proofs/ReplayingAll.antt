@@ -6,25 +6,25 @@ use Rattle.sasi_host.specs.declared.fault.ReadFault.{ReadFault}
 use Rattle.sasi_host.specs.declared.fault.ReadFault.TheVariants as fault
 use Rattle.sasi_host.specs.Contents.{contents_same, there_where, told_after}
 use Rattle.sasi_host.specs.Disk.{Changes, Same}
-use Rattle.sasi_host.specs.Durability.{kept_same}
-use Rattle.sasi_host.specs.Moves.{stays, then_same}
+use Rattle.sasi_host.specs.Durability.{file_durable_same}
+use Rattle.sasi_host.specs.ChangeLaws.{stays, then_same}
 use Rattle.sasi_host.specs.Names.{Folder, log_name}
 use Rattle.sasi_host.specs.View.{View, IsThere, IsTold}
 use Rattle.sasi_cells.specs.declared.mutation.Mutation.{Mutation}
-use Rattle.sasi_commitlog.specs.Standing.{IsAtLogEnd}
+use Rattle.sasi_commitlog.specs.LogPosition.{IsAtLogEnd}
 use Rattle.sasi_manifest.specs.declared.listing.Listing.{Listing}
-use Rattle.sasi_manifest.specs.Listed.{Listed}
+use Rattle.sasi_manifest.specs.ListedDefinition.{ListedDefinition}
 use Rattle.sasi_manifest.specs.Listings.{listed_definitions}
-use Rattle.sasi_folder.specs.Replay.{after_segment, after_segments, listed_state, state_made}
+use Rattle.sasi_folder.specs.Replay.{after_segment, after_segments, listed_state, replayed_state}
 use Rattle.sasi_folder.specs.ReplayLaws.{segments_last}
-use Rattle.sasi_folder.specs.FolderMoves.{segments_join}
+use Rattle.sasi_folder.specs.FolderChanges.{segments_join}
 use Rattle.sasi_folder.specs.Stands.{HasSegment, types_listed}
-use Rattle.sasi_run.specs.Replaying.{AreThere, HasRead, HasReplayed, IsReplayShown, IsSegmentShown, KeepsSegment, KeepsSegments, MergedBefore, ReadsAll, ReadsSegment, Replays, ReplaysSegment, SparesReplay, SparesSegment}
+use Rattle.sasi_run.specs.Replaying.{LiveSegmentsExist, HasRead, HasReplayed, ReplayShowsDamage, SegmentShowsDamage, KeepsSegment, KeepsSegments, MergedBefore, ReadsAll, ReadsSegment, Replays, ReplaysSegment, NoFalseReplayDamage, NoFalseSegmentDamage}
 use Rattle.sasi_run.proofs.SealedStore.{bytes_there, reads_of}
 
 -- ---- the beginning
 
-empty_definitions : (tables : List Listed) → definitions (map (λ t. empty_table t.definition) tables) ≡ listed_definitions tables
+empty_definitions : (tables : List ListedDefinition) → definitions (map (λ t. empty_table t.definition) tables) ≡ listed_definitions tables
 empty_definitions [] = refl
 empty_definitions (t ∷ tables) = ap (λ (ds : List Definition). t.definition ∷ ds) (empty_definitions tables)
 
@@ -76,14 +76,14 @@ module _ (a b : View) (listing : Listing) (number : ℕ) (now : State) (on : Has
   next_of : (logs : List (List Mutation)) → IsTold a → listing.floor + length logs ≡ suc listing.last → KeepsSegments a (types_listed listing) listing.floor logs → IsNextLeft a listing number now logs
   next_of logs told live kept = let some = on.merged logs told live kept in next_left a listing number now logs within live some some.left refl some.kept
 
-  kept_on : (mutations : List Mutation) → KeepsSegment a (types_listed listing) number mutations → KeepsSegment b (types_listed listing) number mutations
-  kept_on mutations kept = (kept.0, kept_same a b (log_name number) kept.0 on.same kept.1, kept.2)
+  file_durable_on : (mutations : List Mutation) → KeepsSegment a (types_listed listing) number mutations → KeepsSegment b (types_listed listing) number mutations
+  file_durable_on mutations kept = (kept.0, file_durable_same a b (log_name number) kept.0 on.same kept.1, kept.2)
 
-  pub still_there : AreThere a listing → IsThere b (log_name number)
+  pub still_there : LiveSegmentsExist a listing → IsThere b (log_name number)
   still_there there = there_where a b Same (log_name number) on.same (contents_same a b (log_name number) on.same) (there number on.from_floor within)
 
   -- what the folder has of one segment more
-  pub read_more : (later : State) → ReadsSegment b listing number now later → (folder : Folder) → a.files ≡ Some folder → AreThere a listing → HasRead folder listing (suc number) later
+  pub read_more : (later : State) → ReadsSegment b listing number now later → (folder : Folder) → a.files ≡ Some folder → LiveSegmentsExist a listing → HasRead folder listing (suc number) later
   read_more later reads folder files there =
       let r = on.read folder files there in
       let bytes = bytes_there a folder (log_name number) files (there number on.from_floor within) in
@@ -97,13 +97,13 @@ module _ (a b : View) (listing : Listing) (number : ℕ) (now : State) (on : Has
       }
 
   -- where it is the last, all were read
-  pub read_all : (later : State) → ReadsSegment b listing number now later → number ≡ listing.last → AreThere a listing → ReadsAll a listing later
+  pub read_all : (later : State) → ReadsSegment b listing number now later → number ≡ listing.last → LiveSegmentsExist a listing → ReadsAll a listing later
   read_all later reads last there folder files = subst (λ n. HasRead folder listing (suc n) later) last (read_more later reads folder files there)
 
   module _ (c : View) (later : State) (at : ℕ) (same : Changes Same b c) (replays : ReplaysSegment b c listing number at now later) where
     merged_next : (logs : List (List Mutation)) → IsTold a → (n : IsNextLeft a listing number now logs) → (later ≡ after_segments listing.tables listing.floor (listed_state listing) (n.done ++ n.next ∷ [])) × IsAtLogEnd c (log_name number) at n.next
     merged_next logs told n =
-        let segment = replays n.next (told_after Same a b on.same told) (kept_on n.next n.kept) in (
+        let segment = replays n.next (told_after Same a b on.same told) (file_durable_on n.next n.kept) in (
           segment.0 ∙ ap (λ s. after_segment listing.tables number s n.next) n.state ∙ ap (λ k. after_segment listing.tables k (after_segments listing.tables listing.floor (listed_state listing) n.done) n.next) (sym n.count)
               ∙ sym (segments_last listing.tables listing.floor (listed_state listing) n.done n.next),
           segment.1,
@@ -133,7 +133,7 @@ module _ (a b : View) (listing : Listing) (number : ℕ) (now : State) (on : Has
 
     -- where it is the last, all are merged
     pub replayed_all : number ≡ listing.last → Replays a c listing at later
-    unfolding state_made
+    unfolding replayed_state
     replayed_all last logs told live kept =
         let n = next_of logs told live kept in
         let merged = merged_next logs told n in
@@ -143,14 +143,14 @@ module _ (a b : View) (listing : Listing) (number : ℕ) (now : State) (on : Has
 
   -- ---- damage
 
-  pub shown_among : (f : ReadFault) → IsSegmentShown b listing number f → IsReplayShown a listing f
+  pub shown_among : (f : ReadFault) → SegmentShowsDamage b listing number f → ReplayShowsDamage a listing f
   shown_among fault.Failed shown = tt
   shown_among fault.OutOfMemory shown = tt
   shown_among (fault.Damaged damage) shown = (number, on.from_floor, within, λ bytes told. shown bytes (contents_same a b (log_name number) on.same ∙ told))
 
-  pub spares_among : (f : ReadFault) → SparesSegment b listing number f → SparesReplay a listing f
-  spares_among fault.Failed spares = tt
-  spares_among fault.OutOfMemory spares = tt
-  spares_among (fault.Damaged damage) spares = λ logs told live kept.
+  pub no_false_damage_among : (f : ReadFault) → NoFalseSegmentDamage b listing number f → NoFalseReplayDamage a listing f
+  no_false_damage_among fault.Failed spares = tt
+  no_false_damage_among fault.OutOfMemory spares = tt
+  no_false_damage_among (fault.Damaged damage) spares = λ logs told live kept.
       let n = next_of logs told live kept in
-      spares n.next (told_after Same a b on.same told) (kept_on n.next n.kept)
+      spares n.next (told_after Same a b on.same told) (file_durable_on n.next n.kept)

@@ -2,34 +2,34 @@
 use Rattle.std.proofs.Common.{◌≡◌, ℕ, ◌≤◌, IsTrue, Bool, true, false, cond, List, [], ◌∷◌, ◌++◌, map, Option, Some, None, refl, sym, ap, subst, ◌∙◌, inl, arith, append_assoc}
 use Rattle.std.proofs.lemmas.List.{append-nil, map-append}
 use Rattle.std.specs.List.{AllByRecursion}
-use Rattle.sasi_model.specs.State.{State, definitions, place_of}
+use Rattle.sasi_model.specs.State.{State, definitions, decorated}
 use Rattle.sasi_model.specs.Changes.{after_change}
 use Rattle.sasi_host.specs.declared.name.FileName.{FileName}
 use Rattle.sasi_host.specs.declared.fault.ReadFault.{ReadFault}
 use Rattle.sasi_host.specs.declared.fault.ReadFault.TheVariants as fault
 use Rattle.sasi_host.specs.Names.{Bytes, log_name}
 use Rattle.sasi_host.specs.Contents.{contents_same, there_where, told_after}
-use Rattle.sasi_host.specs.Disk.{Changes, IsKept, Same}
-use Rattle.sasi_host.specs.Durability.{kept_contents}
-use Rattle.sasi_host.specs.Moves.{then_same}
+use Rattle.sasi_host.specs.Disk.{Changes, IsFileDurable, Same}
+use Rattle.sasi_host.specs.Durability.{file_durable_contents}
+use Rattle.sasi_host.specs.ChangeLaws.{then_same}
 use Rattle.sasi_host.specs.View.{View, IsSound, IsThere, IsTold, Rose, contents}
 use Rattle.sasi_gated.specs.Format.{IsGated}
 use Rattle.sasi_gated.specs.Gates.{IsAtGate}
 use Rattle.sasi_gated.specs.Laws.{gated_at}
-use Rattle.sasi_gated.specs.Reads.{Begins, IsShown, SparesGated}
-use Rattle.sasi_gated.specs.Standing.{Handle}
+use Rattle.sasi_gated.specs.Reads.{HasHeader, GatedDamageShown, NoFalseGatedDamage}
+use Rattle.sasi_gated.specs.Handles.{Handle}
 use Rattle.sasi_cells.specs.declared.mutation.Mutation.{Mutation}
 use Rattle.sasi_commitlog.specs.Damages.{ShowsLog}
 use Rattle.sasi_commitlog.specs.Format.{IsLog, IsMutationOf, Tables, payload_of}
-use Rattle.sasi_commitlog.specs.Reads.{IsLogShownAt, ReadsLogGate, ReadsMutation, ReadsMutations, ReadsNext, SparesLog}
-use Rattle.sasi_commitlog.specs.Standing.{IsAtLogEnd, IsReadingLog}
+use Rattle.sasi_commitlog.specs.Reads.{IsLogDamageAt, ReadsLogGate, ReadsMutation, ReadsMutations, ReadsNext, NoFalseLogDamage}
+use Rattle.sasi_commitlog.specs.LogPosition.{IsAtLogEnd, IsReadingLog}
 use Rattle.sasi_manifest.specs.declared.listing.Listing.{Listing}
 use Rattle.sasi_manifest.specs.Listings.{listed_definitions}
 use Rattle.sasi_folder.specs.Recording.{changed_definitions}
-use Rattle.sasi_folder.specs.Replay.{after_mutation, after_segment, takes}
+use Rattle.sasi_folder.specs.Replay.{after_mutation, after_segment, is_replayed}
 use Rattle.sasi_folder.specs.ReplayLaws.{segment_more}
 use Rattle.sasi_folder.specs.Stands.{types_listed}
-use Rattle.sasi_run.specs.Replaying.{IsSegmentShown, KeepsSegment, ReadsSegment, ReplaysSegment, SparesSegment}
+use Rattle.sasi_run.specs.Replaying.{SegmentShowsDamage, KeepsSegment, ReadsSegment, ReplaysSegment, NoFalseSegmentDamage}
 
 -- so many mutations of a segment were merged, and these are left
 pub record MergedSome (b : View) (listing : Listing) (number at : ℕ) (before now : State) (mutations : List Mutation) : Type 0 where
@@ -39,7 +39,7 @@ pub record MergedSome (b : View) (listing : Listing) (number at : ℕ) (before n
   pub reading : IsReadingLog b (log_name number) at (types_listed listing) done left
   pub state : now ≡ after_segment listing.tables number before done
 
--- so many mutations of the segment as it reads were merged, and the gate behind them stands at this place
+-- so many mutations of the segment as it reads were merged, and the gate behind them stands at this offset
 pub record ReadSome (bytes : Bytes) (listing : Listing) (number at : ℕ) (before now : State) : Type 0 where
   pub done : List Mutation
   pub rest : Bytes
@@ -71,23 +71,23 @@ all_join P (y ∷ ys) x all one = (all.0, all_join P ys x all.1 one)
 -- ---- a mutation is merged
 
 pub after_definitions : (listing : Listing) (number : ℕ) (s : State) (m : Mutation) → definitions (after_mutation listing.tables number s m).tables ≡ definitions s.tables
-after_definitions listing number s m = by (takes listing.tables number m.table)
+after_definitions listing number s m = by (is_replayed listing.tables number m.table)
   where
-    by : (b : Bool) → definitions (cond {A = State} b (after_change s m.table (place_of s.partitioner m.key) m.change) s).tables ≡ definitions s.tables
-    by true = changed_definitions m.table (place_of s.partitioner m.key) m.change s.tables
+    by : (b : Bool) → definitions (cond {A = State} b (after_change s m.table (decorated s.partitioner m.key) m.change) s).tables ≡ definitions s.tables
+    by true = changed_definitions m.table (decorated s.partitioner m.key) m.change s.tables
     by false = refl
 
 pub after_partitioner : (listing : Listing) (number : ℕ) (s : State) (m : Mutation) → (after_mutation listing.tables number s m).partitioner ≡ s.partitioner
-after_partitioner listing number s m = by (takes listing.tables number m.table)
+after_partitioner listing number s m = by (is_replayed listing.tables number m.table)
   where
-    by : (b : Bool) → (cond {A = State} b (after_change s m.table (place_of s.partitioner m.key) m.change) s).partitioner ≡ s.partitioner
+    by : (b : Bool) → (cond {A = State} b (after_change s m.table (decorated s.partitioner m.key) m.change) s).partitioner ≡ s.partitioner
     by true = refl
     by false = refl
 
 -- ---- the beginning
 
 pub begins_replay : (a b : View) (listing : Listing) (number : ℕ) (log : Handle) (s : State) → IsThere a (log_name number) → log.file ≡ log_name number → IsTrue log.usable → Changes Same a b → a.disk_faults ≤ b.disk_faults → b.out_faults ≡ a.out_faults → definitions s.tables ≡ listed_definitions listing.tables
-    → Begins a (log_name number) log.at → ((tables : Tables) (bytes : Bytes) (mutations : List Mutation) → IsKept a (log_name number) bytes → IsLog number tables bytes mutations → IsReadingLog b (log_name number) log.at tables [] mutations)
+    → HasHeader a (log_name number) log.at → ((tables : Tables) (bytes : Bytes) (mutations : List Mutation) → IsFileDurable a (log_name number) bytes → IsLog number tables bytes mutations → IsReadingLog b (log_name number) log.at tables [] mutations)
     → IsReplaying a b listing number log s s
 begins_replay a b listing number log s there file usable same disk out tables begins mutations_are = record {
   file = file;
@@ -187,27 +187,27 @@ module _ (a b : View) (listing : Listing) (number : ℕ) (log : Handle) (before 
 
   -- ---- damage
 
-  pub shown_on : (f : ReadFault) → IsLogShownAt b log.file (types_listed listing) log.at f → IsSegmentShown a listing number f
+  pub shown_on : (f : ReadFault) → IsLogDamageAt b log.file (types_listed listing) log.at f → SegmentShowsDamage a listing number f
   shown_on fault.Failed shown = tt
   shown_on fault.OutOfMemory shown = tt
   shown_on (fault.Damaged damage) shown = λ bytes told.
       let at = gate_here bytes told in
       subst (λ (f : FileName). ShowsLog (types_listed listing) f bytes damage) on.file (shown bytes at.0 at.1 (still bytes told) at.2)
 
-  pub spares_on : (f : ReadFault) → SparesLog b log.file (types_listed listing) log.at f → SparesSegment a listing number f
-  spares_on fault.Failed spares = tt
-  spares_on fault.OutOfMemory spares = tt
-  spares_on (fault.Damaged damage) spares = λ mutations told kept.
+  pub no_false_damage_on : (f : ReadFault) → NoFalseLogDamage b log.file (types_listed listing) log.at f → NoFalseSegmentDamage a listing number f
+  no_false_damage_on fault.Failed spares = tt
+  no_false_damage_on fault.OutOfMemory spares = tt
+  no_false_damage_on (fault.Damaged damage) spares = λ mutations told kept.
       let some = on.merged mutations told kept in
       spares some.done some.left (told_after Same a b on.same told) (subst (λ (f : FileName). IsReadingLog b f log.at (types_listed listing) some.done some.left) (sym on.file) some.reading)
 
-pub shown_first : (v : View) (listing : Listing) (number : ℕ) (f : ReadFault) → IsShown v (log_name number) f → IsSegmentShown v listing number f
+pub shown_first : (v : View) (listing : Listing) (number : ℕ) (f : ReadFault) → GatedDamageShown v (log_name number) f → SegmentShowsDamage v listing number f
 shown_first v listing number fault.Failed shown = tt
 shown_first v listing number fault.OutOfMemory shown = tt
 shown_first v listing number (fault.Damaged damage) shown = λ bytes told. inl (shown bytes told)
 
-pub spares_first : (v : View) (listing : Listing) (number : ℕ) (f : ReadFault) → IsSound v → SparesGated v (log_name number) f → SparesSegment v listing number f
-spares_first v listing number fault.Failed sound spares = tt
-spares_first v listing number fault.OutOfMemory sound spares = tt
-spares_first v listing number (fault.Damaged damage) sound spares = λ mutations told kept.
-    spares kept.0 (map payload_of mutations) (kept_contents v (log_name number) kept.0 sound told kept.1) kept.2.gated
+pub no_false_damage_first : (v : View) (listing : Listing) (number : ℕ) (f : ReadFault) → IsSound v → NoFalseGatedDamage v (log_name number) f → NoFalseSegmentDamage v listing number f
+no_false_damage_first v listing number fault.Failed sound spares = tt
+no_false_damage_first v listing number fault.OutOfMemory sound spares = tt
+no_false_damage_first v listing number (fault.Damaged damage) sound spares = λ mutations told kept.
+    spares kept.0 (map payload_of mutations) (file_durable_contents v (log_name number) kept.0 sound told kept.1) kept.2.gated

@@ -18,14 +18,14 @@ use Rattle.sasi_cells.specs.declared.mutation.Mutation.{Mutation}
 use Rattle.sasi_commitlog.specs.Format.{IsMutationOf, types_in}
 use Rattle.sasi_manifest.specs.declared.listed.ListedTable.{ListedTable}
 use Rattle.sasi_manifest.specs.declared.listing.Listing.{Listing}
-use Rattle.sasi_manifest.specs.Listed.{Listed}
+use Rattle.sasi_manifest.specs.ListedDefinition.{ListedDefinition}
 use Rattle.sasi_manifest.specs.ListedTables.{listed}
 use Rattle.sasi_manifest.specs.Listings.{listed_definitions}
 use Rattle.sasi_manifest.specs.Naming.{AreApart, IsFree}
 use Rattle.sasi_manifest.specs.Types.{numbered_types}
-use Rattle.sasi_machine.specs.Plans.{IsFit, IsNext}
+use Rattle.sasi_machine.specs.Prepares.{IsApplicable, IsNewTable}
 use Rattle.sasi_folder.specs.Creating.{same_sym}
-use Rattle.sasi_folder.specs.Replay.{reaches, takes}
+use Rattle.sasi_folder.specs.Replay.{reaches, is_replayed}
 use Rattle.sasi_folder.specs.Stands.{types_listed}
 
 -- ---- tables are made
@@ -71,7 +71,7 @@ module _ (before now : State) (tables : List ListedTable) (index : ℕ) (t : Lis
   apart_split : AreApart (names_of now.tables) (names_in (t ∷ drop (index + 1) tables))
   apart_split = subst (λ l. AreApart (names_of now.tables) (names_in l)) split on.apart
 
-  pub creating_is_next : copy.number ≡ t.table.number → IsNext now copy
+  pub creating_is_next : copy.number ≡ t.table.number → IsNewTable now copy
   creating_is_next number = record {
     number = number ∙ numbers_split.0 ∙ omega arith;
     free = subst (λ (d : Definition). definition_of d.name (definitions now.tables) ≡ None) (sym said) (free_name t.table.name now.tables apart_split.0);
@@ -94,17 +94,17 @@ created_all before now tables index on past =
 
 -- ---- a mutation of a table
 
-pub takes_there : (tables : List ListedTable) (segment number : ℕ) (t : ListedTable) → (number ≡ 0 → ⊥) → true ≡ nat_lt (number - 1) (length tables) → t ≡ get_or tables (number - 1) t → nat_le t.since segment ≡ takes (map listed tables) segment number
-takes_there tables segment zero t some inside is = absurd (some refl)
-takes_there tables segment (suc before) t some inside is =
-    let place : suc before - 1 ≡ before = omega arith in
+pub is_replayed_there : (tables : List ListedTable) (segment number : ℕ) (t : ListedTable) → (number ≡ 0 → ⊥) → true ≡ nat_lt (number - 1) (length tables) → t ≡ get_or tables (number - 1) t → nat_le t.since segment ≡ is_replayed (map listed tables) segment number
+is_replayed_there tables segment zero t some inside is = absurd (some refl)
+is_replayed_there tables segment (suc before) t some inside is =
+    let index : suc before - 1 ≡ before = omega arith in
     let within : before < length tables = grind (arith, nat_tests) in
-    let there : slice_get tables before ≡ Some t = slice_get_read tables (length tables) before t refl within (subst (λ k. t ≡ get_or tables k t) place is) in
+    let there : slice_get tables before ≡ Some t = slice_get_read tables (length tables) before t refl within (subst (λ k. t ≡ get_or tables k t) index is) in
     sym (ap (reaches segment) (slice_get-map listed tables before ∙ ap (option_map listed) there))
 
-pub takes_nothing : (tables : List ListedTable) (segment number : ℕ) → (number ≡ 0 → ⊥) → false ≡ nat_lt (number - 1) (length tables) → false ≡ takes (map listed tables) segment number
-takes_nothing tables segment zero some outside = absurd (some refl)
-takes_nothing tables segment (suc before) some outside =
+pub is_replayed_nothing : (tables : List ListedTable) (segment number : ℕ) → (number ≡ 0 → ⊥) → false ≡ nat_lt (number - 1) (length tables) → false ≡ is_replayed (map listed tables) segment number
+is_replayed_nothing tables segment zero some outside = absurd (some refl)
+is_replayed_nothing tables segment (suc before) some outside =
     let past : length tables ≤ before = grind (arith, nat_tests) in
     sym (ap (reaches segment) (slice_get-map listed tables before ∙ ap (option_map listed) (slice_get_past tables before past)))
 
@@ -112,32 +112,32 @@ pub state_same : (s : State) {p : Partitioner} {tables : List Table} → s.parti
 state_same s {p} {tables} partitioner is = rw (← partitioner, ← is) refl
 
 -- the tables of a listing, in memory
-pub listed_tables : (tables : List ListedTable) (all : List Listed) → map listed tables ≡ all → map new_table tables ≡ map (λ t. empty_table t.definition) all
+pub listed_tables : (tables : List ListedTable) (all : List ListedDefinition) → map listed tables ≡ all → map new_table tables ≡ map (λ t. empty_table t.definition) all
 listed_tables [] all is = rw (← is) refl
 listed_tables (t ∷ tables) all is = rw (← is) (ap (λ (ts : List Table). new_table t ∷ ts) (listed_tables tables (map listed tables) refl))
 
 -- the table that a number's types are of
-types_found : (first number : ℕ) (tables : List Listed) (types : List ColumnType) → types_in (numbered_types first tables) number ≡ Some types → (place : ℕ) × (l : Listed) × (number ≡ first + place) × (slice_get tables place ≡ Some l) × (types_of l.definition ≡ types)
+types_found : (first number : ℕ) (tables : List ListedDefinition) (types : List ColumnType) → types_in (numbered_types first tables) number ≡ Some types → (index : ℕ) × (l : ListedDefinition) × (number ≡ first + index) × (slice_get tables index ≡ Some l) × (types_of l.definition ≡ types)
 types_found first number [] types is = cc
 types_found first number (x ∷ tables) types is =
     elim (nat_eq first number) as (λ b. nat_eq first number ≡ b → (if b then Some (types_of x.definition) else types_in (numbered_types (suc first) tables) number) ≡ Some types
-    → (place : ℕ) × (l : Listed) × (number ≡ first + place) × (slice_get (x ∷ tables) place ≡ Some l) × (types_of l.definition ≡ types)) [
+    → (index : ℕ) × (l : ListedDefinition) × (number ≡ first + index) × (slice_get (x ∷ tables) index ≡ Some l) × (types_of l.definition ≡ types)) [
       | true ↦ λ e there. (0, x, grind (arith, nat_tests), refl, cc)
       | false ↦ λ e there. (let rest = types_found (suc first) number tables types there in (suc rest.0, rest.1, omega (arith, rest.2), rest.3, rest.4))
     ] refl is
 
--- stands at its place in memory
-table_found : (tables : List Table) (all : List Listed) (place : ℕ) (l : Listed) → definitions tables ≡ listed_definitions all → slice_get all place ≡ Some l → (t : Table) × (slice_get tables place ≡ Some t) × (t.definition ≡ l.definition)
-table_found tables [] place l same there = cc
-table_found [] (x ∷ all) place l same there = cc
+-- stands at its index in memory
+table_found : (tables : List Table) (all : List ListedDefinition) (index : ℕ) (l : ListedDefinition) → definitions tables ≡ listed_definitions all → slice_get all index ≡ Some l → (t : Table) × (slice_get tables index ≡ Some t) × (t.definition ≡ l.definition)
+table_found tables [] index l same there = cc
+table_found [] (x ∷ all) index l same there = cc
 table_found (t ∷ tables) (x ∷ all) zero l same there =
     let first : t.definition ≡ x.definition = cc in
     let is : x ≡ l = cc in
-    (t, refl, first ∙ ap (λ (x : Listed). x.definition) is)
-table_found (t ∷ tables) (x ∷ all) (suc place) l same there = let rest : definitions tables ≡ listed_definitions all = cc in table_found tables all place l rest there
+    (t, refl, first ∙ ap (λ (x : ListedDefinition). x.definition) is)
+table_found (t ∷ tables) (x ∷ all) (suc index) l same there = let rest : definitions tables ≡ listed_definitions all = cc in table_found tables all index l rest there
 
 -- and the mutation can be merged there
-pub mutation_fit : (listing : Listing) (s : State) (m : Mutation) → IsMutationOf (types_listed listing) m → definitions s.tables ≡ listed_definitions listing.tables → IsFit s m
+pub mutation_fit : (listing : Listing) (s : State) (m : Mutation) → IsMutationOf (types_listed listing) m → definitions s.tables ≡ listed_definitions listing.tables → IsApplicable s m
 mutation_fit listing s m of same =
     let found = types_found 1 m.table listing.tables of.types of.listed in
     let t = table_found s.tables listing.tables found.0 found.1 same found.3 in

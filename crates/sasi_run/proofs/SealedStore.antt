@@ -9,21 +9,21 @@ use Rattle.sasi_host.specs.Names.{Bytes, Folder, log_name, manifest_name}
 use Rattle.sasi_host.specs.View.{View, IsSound, IsThere, Reaches, contents, contents_in}
 use Rattle.sasi_host.specs.Disk.{Changes, Lists, Same}
 use Rattle.sasi_host.specs.Contents.{contents_kept, reaches_where, there_where, told_files}
-use Rattle.sasi_host.specs.Moves.{Each, at_each_moment, changes_as, changes_on}
+use Rattle.sasi_host.specs.ChangeLaws.{Each, at_each_moment, changes_as, changes_on}
 use Rattle.sasi_cells.specs.declared.mutation.Mutation.{Mutation}
 use Rattle.sasi_commitlog.specs.Format.{Tables}
 use Rattle.sasi_manifest.specs.declared.listing.Listing.{Listing}
-use Rattle.sasi_manifest.specs.Damages.{SparesManifests}
+use Rattle.sasi_manifest.specs.Damages.{NoFalseManifestDamage}
 use Rattle.sasi_manifest.proofs.Laws.{manifest_same}
 use Rattle.sasi_manifest.specs.Reading.{ReadsListing}
-use Rattle.sasi_manifest.specs.Standing.{Stands}
+use Rattle.sasi_manifest.specs.OpenManifest.{ManifestStands}
 use Rattle.sasi_folder.specs.Stands.{HasSegments, Holds, types_listed}
-use Rattle.sasi_run.specs.declared.deleting.Keep.TheVariants.{Store}
+use Rattle.sasi_run.specs.declared.unlisted_files.Keep.TheVariants.{Store}
 use Rattle.sasi_run.specs.Deletion.{DeletedUnless, Deletes, keeps}
-use Rattle.sasi_run.specs.Replaying.{AreThere}
-use Rattle.sasi_run.specs.SealedFolder.{SparesStore, TellsMissing, TellsSegment, none_kept}
-use Rattle.sasi_run.proofs.Gone.{deletes_kept, deletes_store, keeps_manifest, keeps_segment, unless_same}
-use Rattle.sasi_run.proofs.Settling.{holds_where_kept, there_same}
+use Rattle.sasi_run.specs.Replaying.{LiveSegmentsExist}
+use Rattle.sasi_run.specs.SealedFolder.{NoFalseStoreDamage, ReportsMissing, ReportsMissingSegment, none_kept}
+use Rattle.sasi_run.proofs.DeletedFiles.{deletes_kept, deletes_store, keeps_manifest, keeps_segment, unless_same}
+use Rattle.sasi_run.proofs.SyncedFolder.{holds_where_kept, there_same}
 
 -- ---- names
 
@@ -82,14 +82,14 @@ listed_same v folder number listing read logs files holds reads =
 
 module _ (v : View) (names : List FileName) (number : ℕ) (lists : Lists v names) (folder : Folder) (listing : Listing)
     (logs : List (List Mutation)) (files : v.files ≡ Some folder) (holds : Holds folder number listing logs) where
-  pub manifest_listed : (damage : Damage) → TellsMissing names (manifest_name number) damage → ⊥
+  pub manifest_listed : (damage : Damage) → ReportsMissing names (manifest_name number) damage → ⊥
   manifest_listed damage tells = tells.absent
       (held_is_listed v names folder (manifest_name number) lists files (ap (λ (o : Option Bytes). is_some o) holds.manifest.1))
 
-  pub segments_listed : (read : Listing) (damage : Damage) → ReadsListing v number read → TellsSegment names read.floor read.last damage → ⊥
+  pub segments_listed : (read : Listing) (damage : Damage) → ReadsListing v number read → ReportsMissingSegment names read.floor read.last damage → ⊥
   segments_listed read damage reads tells =
       let same : read ≡ listing = listed_same v folder number listing read logs files holds reads in
-      let told : TellsSegment names listing.floor listing.last damage = subst (λ (l : Listing). TellsSegment names l.floor l.last damage)
+      let told : ReportsMissingSegment names listing.floor listing.last damage = subst (λ (l : Listing). ReportsMissingSegment names l.floor l.last damage)
       same tells in
       told.missing.absent
       (held_is_listed v names folder (log_name told.segment) lists files
@@ -97,10 +97,10 @@ module _ (v : View) (names : List FileName) (number : ℕ) (lists : Lists v name
       (omega (arith, told.below, holds.live))))
 
 -- a reading that spares manifests spares stores
-pub spares_store : (v : View) (number : ℕ) (fault : ReadFault) → SparesManifests v number fault → SparesStore v number fault
-spares_store v number Failed spares = tt
-spares_store v number OutOfMemory spares = tt
-spares_store v number (Damaged damage) spares = λ folder listing logs files holds. spares holds.manifest.0 listing
+pub no_false_damage_store : (v : View) (number : ℕ) (fault : ReadFault) → NoFalseManifestDamage v number fault → NoFalseStoreDamage v number fault
+no_false_damage_store v number Failed spares = tt
+no_false_damage_store v number OutOfMemory spares = tt
+no_false_damage_store v number (Damaged damage) spares = λ folder listing logs files holds. spares holds.manifest.0 listing
     (reads_of v folder (manifest_name number) holds.manifest.0 files holds.manifest.1) holds.manifest.2
 
 -- ---- segments in order
@@ -149,7 +149,7 @@ module _ (a b : View) (number : ℕ) (listing : Listing) (change : Changes (Dele
       (contents_left a b (keeps (Store number listing.floor listing.last)) (manifest_name number)
       (keeps_manifest number listing.floor listing.last) change) reaches
 
-  pub manifest_stands : (at : ℕ) → Stands a number at listing → Stands b number at listing
+  pub manifest_stands : (at : ℕ) → ManifestStands a number at listing → ManifestStands b number at listing
   manifest_stands at stands = record {
     records = stands.records;
     at_end = record {
@@ -163,7 +163,7 @@ module _ (a b : View) (number : ℕ) (listing : Listing) (change : Changes (Dele
     builds = stands.builds;
   }
 
-  pub segments_live : AreThere a listing → AreThere b listing
+  pub segments_live : LiveSegmentsExist a listing → LiveSegmentsExist b listing
   segments_live live segment above below =
       there_where a b (Deletes (keeps (Store number listing.floor listing.last))) (log_name segment) change
       (contents_left a b (keeps (Store number listing.floor listing.last)) (log_name segment)
@@ -208,6 +208,6 @@ deletes_listed a b number first second listing one two change =
     (subst (λ (l : Listing). Changes (Deletes (keeps (Store number l.floor second.last))) a b) one change)
 
 pub live_same : (a b : View) (names : List FileName) (listing : Listing) → Lists a names → Changes Same a b
-    → ((segment : ℕ) → listing.floor ≤ segment → segment ≤ listing.last → Contains names (log_name segment)) → AreThere b listing
+    → ((segment : ℕ) → listing.floor ≤ segment → segment ≤ listing.last → Contains names (log_name segment)) → LiveSegmentsExist b listing
 live_same a b names listing lists same all segment above below = there_same a b same (log_name segment)
     (listed_is_there a names (log_name segment) lists (all segment above below))

@@ -5,20 +5,20 @@ use Rattle.sasi_model.specs.State.{State}
 use Rattle.sasi_model.specs.Step.{step, state_after, replies}
 use Rattle.sasi_host.specs.Names.{Folder}
 use Rattle.sasi_host.specs.View.{CrashLeaves, IsTold, View}
-use Rattle.sasi_cql.specs.Standing.{resume}
+use Rattle.sasi_cql.specs.SplitterState.{resume}
 use Rattle.sasi_folder.specs.Stands.{StandsSealed}
 use Rattle.sasi_run.specs.declared.session.Session.{Session}
 use Rattle.sasi_run.specs.declared.session.Stop.{Stop}
 use Rattle.sasi_run.specs.declared.store.Store.{Store}
 use Rattle.sasi_run.specs.declared.status.Status.{Status}
 use Rattle.sasi_run.specs.Headline.{RanToEnd, Runs, script_of}
-use Rattle.sasi_run.specs.Session.{Answers, Finishes, Goes, ShownAt, Stops, Takes}
-use Rattle.sasi_run.specs.Storing.{IsReady, ServesStore}
+use Rattle.sasi_run.specs.Session.{Answers, Finishes, ReadsScript, EmittedAtStop, Stops, Feeds}
+use Rattle.sasi_run.specs.Storing.{IsReady, IsStoreDurable}
 
 -- ---- moments
 
 -- these pieces were answered, and the folder stands for the state after them
-pub record IsQuiet (s : State) (before : List ℕ) (done : List Piece) (folder : Folder) (out : List ℕ) : Type 0 where
+pub record IsBetweenPieces (s : State) (before : List ℕ) (done : List Piece) (folder : Folder) (out : List ℕ) : Type 0 where
   pub went : out ≡ before ++ replies s done
   pub stands : StandsSealed folder (state_after s done)
 
@@ -38,68 +38,68 @@ pub record Crashed (s : State) (before : List ℕ) (pieces : List Piece) (folder
   pub done : List Piece
   pub rest : List Piece
   pub parts : pieces ≡ done ++ rest
-  pub stands : IsQuiet s before done folder out ⊎ IsAnswering s before done rest folder out
+  pub stands : IsBetweenPieces s before done folder out ⊎ IsAnswering s before done rest folder out
 
 -- the host tells its files, each image holds the state of the store, and this was emitted
-pub record IsServing (v : View) (store : Store) (out : List ℕ) : Type 0 where
+pub record HasDurableStore (v : View) (store : Store) (out : List ℕ) : Type 0 where
   pub told : IsTold v
-  pub serves : ServesStore v store
+  pub durable : IsStoreDurable v store
   pub emitted : v.emitted ≡ Some out
 
 -- from any such store, a crash meanwhile leaves no more than these pieces do
-abbrev pub LeavesPieces : View → View → Store → List Piece → Type 0
-LeavesPieces a b store pieces = (out : List ℕ) → IsServing a store out → CrashLeaves a b (Crashed store.machine out pieces)
+abbrev pub CrashLeavesPieces : View → View → Store → List Piece → Type 0
+CrashLeavesPieces a b store pieces = (out : List ℕ) → HasDurableStore a store out → CrashLeaves a b (Crashed store.machine out pieces)
 
 -- and the store is durable after it, with this emitted besides
-abbrev pub ServesOn : View → View → Store → Store → List ℕ → Type 0
-ServesOn a b old new shown = (out : List ℕ) → IsServing a old out → IsServing b new (out ++ shown)
+abbrev pub StaysDurable : View → View → Store → Store → List ℕ → Type 0
+StaysDurable a b old new shown = (out : List ℕ) → HasDurableStore a old out → HasDurableStore b new (out ++ shown)
 
 -- ---- parts of a run, with what a crash leaves meanwhile
 
-pub record AnswersOn (old new : Session) (a b : View) (piece : Piece) : Type 0 where
+pub record AnswersCrashSafe (old new : Session) (a b : View) (piece : Piece) : Type 0 where
   pub answers : Answers old new a.emitted b.emitted piece
   pub ready : IsReady b new.store
-  pub serves : ServesOn a b old.store new.store (step old.store.machine piece).reply
-  pub crashes : LeavesPieces a b old.store (piece ∷ [])
+  pub durable : StaysDurable a b old.store new.store (step old.store.machine piece).reply
+  pub crashes : CrashLeavesPieces a b old.store (piece ∷ [])
 
-pub record FailsOn (stop : Stop) (old : Session) (a b : View) (next : List Piece) : Type 0 where
-  pub shown : ShownAt stop old.store.machine a.emitted b.emitted [] next
-  pub crashes : LeavesPieces a b old.store next
+pub record FailsCrashSafe (stop : Stop) (old : Session) (a b : View) (next : List Piece) : Type 0 where
+  pub shown : EmittedAtStop stop old.store.machine a.emitted b.emitted [] next
+  pub crashes : CrashLeavesPieces a b old.store next
 
-pub record TakesOn (old new : Session) (a b : View) (bytes : List ℕ) : Type 0 where
-  pub takes : Takes old new a.emitted b.emitted bytes
+pub record FeedsCrashSafe (old new : Session) (a b : View) (bytes : List ℕ) : Type 0 where
+  pub feeds : Feeds old new a.emitted b.emitted bytes
   pub ready : IsReady b new.store
-  pub serves : ServesOn a b old.store new.store (replies old.store.machine takes.done)
-  pub crashes : LeavesPieces a b old.store takes.done
+  pub durable : StaysDurable a b old.store new.store (replies old.store.machine feeds.done)
+  pub crashes : CrashLeavesPieces a b old.store feeds.done
 
-pub record StopsOn (stop : Stop) (old : Session) (a b : View) (bytes : List ℕ) : Type 0 where
+pub record StopsCrashSafe (stop : Stop) (old : Session) (a b : View) (bytes : List ℕ) : Type 0 where
   pub stops : Stops stop old a.emitted b.emitted bytes
-  pub crashes : LeavesPieces a b old.store (stops.done ++ stops.next)
+  pub crashes : CrashLeavesPieces a b old.store (stops.done ++ stops.next)
 
-pub record FinishesOn (old new : Session) (a b : View) : Type 0 where
+pub record FinishesCrashSafe (old new : Session) (a b : View) : Type 0 where
   pub finishes : Finishes old new a.emitted b.emitted
   pub state : new.store.machine ≡ state_after old.store.machine (resume old.splitter []).last
   pub ready : IsReady b new.store
-  pub serves : ServesOn a b old.store new.store (replies old.store.machine (resume old.splitter []).last)
-  pub crashes : LeavesPieces a b old.store (resume old.splitter []).last
+  pub durable : StaysDurable a b old.store new.store (replies old.store.machine (resume old.splitter []).last)
+  pub crashes : CrashLeavesPieces a b old.store (resume old.splitter []).last
 
-pub record GoesOn (from to : Session) (left_old left_new : Option (List ℕ)) (a b : View) (count : ℕ) : Type 0 where
-  pub goes : Goes from to left_old left_new a.emitted b.emitted count
+pub record ReadsCrashSafe (from to : Session) (left_old left_new : Option (List ℕ)) (a b : View) (count : ℕ) : Type 0 where
+  pub goes : ReadsScript from to left_old left_new a.emitted b.emitted count
   pub ready : IsReady b to.store
-  pub serves : ServesOn a b from.store to.store (replies from.store.machine goes.taken.done)
-  pub crashes : LeavesPieces a b from.store goes.taken.done
+  pub durable : StaysDurable a b from.store to.store (replies from.store.machine goes.taken.done)
+  pub crashes : CrashLeavesPieces a b from.store goes.taken.done
 
 -- ---- a run
 
 -- a store is open in which these pieces were run
-pub record ServesAfter (store : Store) (a b : View) (pieces : List Piece) : Type 0 where
+pub record IsDurableAfter (store : Store) (a b : View) (pieces : List Piece) : Type 0 where
   pub last : Store
   pub state : last.machine ≡ state_after store.machine pieces
   pub ready : IsReady b last
-  pub serves : ServesOn a b store last (replies store.machine pieces)
+  pub durable : StaysDurable a b store last (replies store.machine pieces)
 
 -- the run shows what its status says, and a crash meanwhile leaves no more than the pieces of the script do
-pub record RunsOn (status : Status) (store : Store) (left_old left_new : Option (List ℕ)) (a b : View) : Type 0 where
+pub record RunsCrashSafe (status : Status) (store : Store) (left_old left_new : Option (List ℕ)) (a b : View) : Type 0 where
   pub runs : Runs status store.machine left_old left_new a.emitted b.emitted
-  pub crashes : LeavesPieces a b store (all_pieces (script_of left_old runs.read))
-  pub ends : RanToEnd status → ServesAfter store a b (all_pieces (script_of left_old runs.read))
+  pub crashes : CrashLeavesPieces a b store (all_pieces (script_of left_old runs.read))
+  pub ends : RanToEnd status → IsDurableAfter store a b (all_pieces (script_of left_old runs.read))

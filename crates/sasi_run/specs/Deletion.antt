@@ -4,8 +4,8 @@ use Rattle.std.specs.FinMap.{get}
 use Rattle.sasi_host.specs.declared.name.FileName.{FileName}
 use Rattle.sasi_host.specs.Names.{Bytes, Folder, name_eq, log_name, manifest_name, seal_name}
 use Rattle.sasi_host.specs.Disk.{MaybeDeleted}
-use Rattle.sasi_run.specs.declared.deleting.Keep.{Keep}
-use Rattle.sasi_run.specs.declared.deleting.Keep.TheVariants.{Nothing, Store}
+use Rattle.sasi_run.specs.declared.unlisted_files.Keep.{Keep}
+use Rattle.sasi_run.specs.declared.unlisted_files.Keep.TheVariants.{Nothing, Store}
 
 -- a segment of the log with a number from the floor to the last
 abbrev pub has_segment : ℕ → ℕ → FileName → Bool

@@ -16,12 +16,12 @@ use Rattle.sasi_model.specs.Step.{step, state_after, replies, refusals}
 use Rattle.sasi_cells.specs.declared.mutation.Mutation.{Mutation}
 use Rattle.sasi_manifest.specs.declared.listing.Listing.{Listing}
 use Rattle.sasi_folder.specs.Damages.{FolderShows}
-use Rattle.sasi_folder.specs.Replay.{state_made}
+use Rattle.sasi_folder.specs.Replay.{replayed_state}
 use Rattle.sasi_folder.specs.Stands.{Holds, Stands, StandsSealed}
-use Rattle.sasi_run.specs.declared.deleting.Keep.TheVariants.{Store as KeepStore}
+use Rattle.sasi_run.specs.declared.unlisted_files.Keep.TheVariants.{Store as KeepStore}
 use Rattle.sasi_run.specs.Deletion.{keeps}
 use Rattle.sasi_run.specs.Recovering.{Recovers}
-use Rattle.sasi_run.specs.Words.{AreWords}
+use Rattle.sasi_run.specs.CommandLine.{IsCommandLine}
 use Rattle.sasi_run.specs.declared.session.Stop.{Stop}
 use Rattle.sasi_run.specs.declared.session.Stop.TheVariants.{Disk, Output, Memory}
 use Rattle.sasi_run.specs.declared.status.Status.{Status}
@@ -36,18 +36,18 @@ abbrev pub READ_MOST : ℕ
 READ_MOST = 4096
 
 -- the replies of all pieces of the script were emitted, and so many pieces are refused
-pub record ShowsAll (s : State) (read shown : List ℕ) (refused : ℕ) : Type 0 where
+pub record EmitsAllReplies (s : State) (read shown : List ℕ) (refused : ℕ) : Type 0 where
   pub all : shown ≡ replies s (all_pieces read)
   pub count : refused ≡ min (refusals s (all_pieces read)) (2 ^ 64 - 1)
   pub short : length read ≤ SCRIPT_MOST
 
 -- the replies of exactly the whole pieces within the bytes read were emitted
-pub record ShowsWhole (s : State) (read shown : List ℕ) : Type 0 where
+pub record EmitsWholePieces (s : State) (read shown : List ℕ) : Type 0 where
   pub whole : shown ≡ replies s (pieces read).whole
   pub short : length read ≤ SCRIPT_MOST
 
 -- the same within the first 2^40 bytes, and the source gave more
-pub record ShowsLimit (s : State) (read shown : List ℕ) : Type 0 where
+pub record EmitsUpToLimit (s : State) (read shown : List ℕ) : Type 0 where
   pub whole : shown ≡ replies s (pieces (take SCRIPT_MOST read)).whole
   pub long : SCRIPT_MOST < length read
 
@@ -61,13 +61,13 @@ pub record IsFirstPart (read : List ℕ) (done next : List Piece) : Type 0 where
   pub has : done ≡ (pieces (take before read)).whole ++ more
 
 -- whole replies of a first part of the pieces were emitted
-pub record ShowsFirst (s : State) (read shown : List ℕ) : Type 0 where
+pub record EmitsFirstReplies (s : State) (read shown : List ℕ) : Type 0 where
   pub done : List Piece
   pub first : IsFirstPart read done []
   pub replied : shown ≡ replies s done
 
 -- and a first part of the next reply behind them
-pub record ShowsBroken (s : State) (read shown : List ℕ) : Type 0 where
+pub record EmitsCutReply (s : State) (read shown : List ℕ) : Type 0 where
   pub done : List Piece
   pub piece : Piece
   pub first : IsFirstPart read done (piece ∷ [])
@@ -76,22 +76,22 @@ pub record ShowsBroken (s : State) (read shown : List ℕ) : Type 0 where
   pub reply : (step (state_after s done) piece).reply ≡ front ++ back
   pub replied : shown ≡ replies s done ++ front
 
-abbrev pub Shows : Status → State → List ℕ → List ℕ → Type 0
-Shows Done s read shown = ShowsAll s read shown 0
-Shows (Refused n) s read shown = (0 < n) × ShowsAll s read shown n
-Shows Usage s read shown = (read ≡ []) × (shown ≡ [])
-Shows ScriptFault s read shown = ShowsWhole s read shown
-Shows ScriptTooLong s read shown = ShowsLimit s read shown
-Shows OutOfMemory s read shown = ShowsFirst s read shown
-Shows FolderFault s read shown = ShowsFirst s read shown
-Shows (Damaged damage) s read shown = (read ≡ []) × (shown ≡ [])
-Shows OutputFault s read shown = ShowsBroken s read shown
+abbrev pub EmitsByStatus : Status → State → List ℕ → List ℕ → Type 0
+EmitsByStatus Done s read shown = EmitsAllReplies s read shown 0
+EmitsByStatus (Refused n) s read shown = (0 < n) × EmitsAllReplies s read shown n
+EmitsByStatus Usage s read shown = (read ≡ []) × (shown ≡ [])
+EmitsByStatus ScriptFault s read shown = EmitsWholePieces s read shown
+EmitsByStatus ScriptTooLong s read shown = EmitsUpToLimit s read shown
+EmitsByStatus OutOfMemory s read shown = EmitsFirstReplies s read shown
+EmitsByStatus FolderFault s read shown = EmitsFirstReplies s read shown
+EmitsByStatus (Damaged damage) s read shown = (read ≡ []) × (shown ≡ [])
+EmitsByStatus OutputFault s read shown = EmitsCutReply s read shown
 
 -- the script was read to its end
-abbrev pub EndsWith : Status → Option (List ℕ) → Type 0
-EndsWith Done left = IsAtEnd left
-EndsWith (Refused n) left = IsAtEnd left
-EndsWith _ left = Unit {0}
+abbrev pub ReadsToEnd : Status → Option (List ℕ) → Type 0
+ReadsToEnd Done left = IsAtEnd left
+ReadsToEnd (Refused n) left = IsAtEnd left
+ReadsToEnd _ left = Unit {0}
 
 -- the script was run to its end
 abbrev pub RanToEnd : Status → Type 0
@@ -105,8 +105,8 @@ pub record Runs (status : Status) (s : State) (left_old left_new out_old out_new
   pub shown : List ℕ
   pub consumed : Consumes left_old left_new read
   pub emitted : Appends out_old out_new shown
-  pub at_end : EndsWith status left_new
-  pub shows : Shows status s read shown
+  pub at_end : ReadsToEnd status left_new
+  pub shows : EmitsByStatus status s read shown
   pub bounded : length read ≤ SCRIPT_MOST + READ_MOST
 
 -- a run that nothing outside stopped; where the folder stands for a state, it is not damaged
@@ -129,14 +129,14 @@ pub record StartsFrom (host : View) (s : State) : Type 0 where
   pub images : (image : Folder) → host.image image → (t : State) × Stands Lead8 image t
 
 -- The folder as it reads stands for the state, and has no file but those that tell it: a manifest, its seal, and the live segments of the log. Each image of it stands for the state.
-pub record StandsAlone (v : View) (s : State) : Type 0 where
+pub record StandsWithoutUnlisted (v : View) (s : State) : Type 0 where
   pub folder : Folder
   pub reads : v.files ≡ Some folder
   pub number : ℕ
   pub listing : Listing
   pub logs : List (List Mutation)
   pub holds : Holds folder number listing logs
-  pub makes : s ≡ state_made listing logs
+  pub makes : s ≡ replayed_state listing logs
   pub alone : (name : FileName) → keeps (KeepStore number listing.floor listing.last) name ≡ false → get folder name ≡ None
   pub images : (image : Folder) → v.image image → StandsSealed image s
 
@@ -149,10 +149,10 @@ script_of (Some script) read = script
 pub record RunsFrom (status : Status) (s : State) (left_old left_new : Option (List ℕ)) (host_old host_new : View) : Type 0 where
   pub runs : Runs status s left_old left_new host_old.emitted host_new.emitted
   pub crash : (before : List ℕ) → host_old.emitted ≡ Some before → (folder : Folder) (out : List ℕ) → host_new.left host_old.moment folder out → Recovers host_old s (all_pieces (script_of left_old runs.read)) before folder out
-  pub ends : RanToEnd status → IsSome host_old.emitted → StandsAlone host_new (state_after s (all_pieces (script_of left_old runs.read)))
+  pub ends : RanToEnd status → IsSome host_old.emitted → StandsWithoutUnlisted host_new (state_after s (all_pieces (script_of left_old runs.read)))
 
 -- **A damaged folder.** It shows the damage that is told, and the run took nothing of the script and emitted nothing.
-pub record TellsDamage (damage : Damage) (script_old script_new : SourceView) (host_old host_new : View) : Type 0 where
+pub record ReportsDamage (damage : Damage) (script_old script_new : SourceView) (host_old host_new : View) : Type 0 where
   pub shows : (folder : Folder) → host_old.files ≡ Some folder → FolderShows folder damage
   pub unread : script_new ≡ script_old
   pub silent : host_new.emitted ≡ host_old.emitted
@@ -180,15 +180,15 @@ pub record Headline (words : List (List ℕ)) (status : Status) (script_old scri
   -- the replies, and the crash
   pub shows : (s : State) → StartsFrom host_old s → RunsFrom status s script_old.left script_new.left host_old host_new
   -- the causes
-  pub usage : (status ≡ Usage) ↔ ¬ (AreWords words)
+  pub usage : (status ≡ Usage) ↔ ¬ (IsCommandLine words)
   pub script_fault : status ≡ ScriptFault → Rose script_old.faults script_new.faults
   pub folder_fault : status ≡ FolderFault → Rose host_old.disk_faults host_new.disk_faults
   pub output_fault : status ≡ OutputFault → Rose host_old.out_faults host_new.out_faults
-  pub damaged : (damage : Damage) → status ≡ Damaged damage → TellsDamage damage script_old script_new host_old host_new
+  pub damaged : (damage : Damage) → status ≡ Damaged damage → ReportsDamage damage script_old script_new host_old host_new
   pub refused : (folder : Folder) → host_old.files ≡ Some folder → ((s : State) → ¬ Stands Lead8 folder s) → RefusesFolder status script_old script_new host_old host_new
   pub undamaged : (s : State) (damage : Damage) → StartsFrom host_old s → status ≢ Damaged damage
   -- completeness
-  pub complete : AreWords words → ¬ (Rose script_old.faults script_new.faults) → ¬ (Rose host_old.out_faults host_new.out_faults) → ¬ (Rose host_old.disk_faults host_new.disk_faults)
+  pub complete : IsCommandLine words → ¬ (Rose script_old.faults script_new.faults) → ¬ (Rose host_old.out_faults host_new.out_faults) → ¬ (Rose host_old.disk_faults host_new.disk_faults)
       → IfSome script_old.left (λ script. length script ≤ SCRIPT_MOST → RanThrough status)
 
 -- ---- the status of a run's end

@@ -1,7 +1,7 @@
 pub mod Headline
-pub mod Numbers
+pub mod StatusCodes
 pub mod Session
-pub mod Words
+pub mod CommandLine
 pub mod Storing
 pub mod Crashing
 pub mod Recovering

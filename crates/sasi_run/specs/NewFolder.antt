@@ -12,23 +12,23 @@ use Rattle.sasi_model.specs.State.{empty_state}
 use Rattle.sasi_folder.specs.Stands.{IsFresh, Stands}
 
 -- a file that an unfinished creation of a store may leave: the first manifest or the first segment of the log
-abbrev pub is_first : FileName → Bool
-is_first name = name_eq name (manifest_name 1) || name_eq name (log_name 1)
+abbrev pub is_initial : FileName → Bool
+is_initial name = name_eq name (manifest_name 1) || name_eq name (log_name 1)
 
 -- the damage reports the first of the names that is another one
-pub record IsForeign (names : List FileName) (damage : Damage) : Type 0 where
+pub record ReportsForeign (names : List FileName) (damage : Damage) : Type 0 where
   pub before : List FileName
   pub behind : List FileName
   pub is : names ≡ before ++ damage.file ∷ behind
-  pub firsts : AllByRecursion (λ name. is_first name ≡ true) before
-  pub other : is_first damage.file ≡ false
+  pub firsts : AllByRecursion (λ name. is_initial name ≡ true) before
+  pub other : is_initial damage.file ≡ false
   pub rule : damage.rule ≡ NoSeal
-  pub place : damage.at ≡ 0
+  pub offset : damage.at ≡ 0
   pub seen : seen_bytes damage.seen ≡ []
 
 -- the folder isn't a new one, where its files are known
-abbrev pub SparesFresh : View → Type 0
-SparesFresh v = (folder : Folder) → v.files ≡ Some folder → ¬ IsFresh folder
+abbrev pub NoFalseFreshDamage : View → Type 0
+NoFalseFreshDamage v = (folder : Folder) → v.files ≡ Some folder → ¬ IsFresh folder
 
 -- the folder stands for the state without tables
 abbrev pub StandsEmpty : Partitioner → Folder → Folder → Type 0

@@ -21,7 +21,7 @@ abbrev pub IsRecordSynced : View → FileName → Type 0
 IsRecordSynced v name = has_records name.kind ≡ true → IsSynced v name
 
 -- Each image has the names of the folder as it reads, and its manifests and segments of the log.
-pub record IsSettled (v : View) : Type 0 where
+pub record IsFolderDurable (v : View) : Type 0 where
   pub names : IsFolderSynced v
   pub records : (name : FileName) → IsRecordSynced v name
 

@@ -9,7 +9,7 @@ use Rattle.sasi_model.specs.Step.{state_after, replies}
 use Rattle.sasi_folder.specs.Stands.{Stands}
 
 -- n is the number of whole replies that were emitted: what was shown begins with the replies of the first n pieces, and of no more
-pub record IsGreatest (s : State) (pieces : List Piece) (shown : List ℕ) (n : ℕ) : Type 0 where
+pub record IsReplyCount (s : State) (pieces : List Piece) (shown : List ℕ) (n : ℕ) : Type 0 where
   pub within : n ≤ length pieces
   pub rest : List ℕ
   pub begins : shown ≡ replies s (take n pieces) ++ rest
@@ -20,7 +20,7 @@ abbrev pub StandsAfter : State → List Piece → ℕ → Folder → Type 0
 StandsAfter s pieces n folder = Stands Lead8 folder (state_after s (take n pieces)) ⊎ ((n < length pieces) × Stands Lead8 folder (state_after s (take (suc n) pieces)))
 
 -- nothing was shown, and the folder stands for what an image of the start stands for
-pub record IsOfStart (start : View) (shown : List ℕ) (folder : Folder) : Type 0 where
+pub record RecoversStart (start : View) (shown : List ℕ) (folder : Folder) : Type 0 where
   pub nothing : shown ≡ []
   pub image : Folder
   pub was : start.image image
@@ -32,4 +32,4 @@ pub record IsOfStart (start : View) (shown : List ℕ) (folder : Folder) : Type 
 pub record Recovers (start : View) (s : State) (pieces : List Piece) (before : List ℕ) (folder : Folder) (out : List ℕ) : Type 0 where
   pub shown : List ℕ
   pub went : out ≡ before ++ shown
-  pub stands : IsOfStart start shown folder ⊎ ((n : ℕ) → IsGreatest s pieces shown n → StandsAfter s pieces n folder)
+  pub stands : RecoversStart start shown folder ⊎ ((n : ℕ) → IsReplyCount s pieces shown n → StandsAfter s pieces n folder)

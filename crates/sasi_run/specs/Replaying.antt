@@ -4,22 +4,22 @@ use Rattle.sasi_host.specs.declared.fault.ReadFault.{ReadFault}
 use Rattle.sasi_host.specs.Damages.{OnDamage}
 use Rattle.sasi_host.specs.Names.{Bytes, Folder, log_name}
 use Rattle.sasi_host.specs.View.{View, IsThere, IsTold, contents}
-use Rattle.sasi_host.specs.Disk.{Changes, IsKept, Same}
+use Rattle.sasi_host.specs.Disk.{Changes, IsFileDurable, Same}
 use Rattle.sasi_model.specs.State.{State, definitions}
 use Rattle.sasi_cells.specs.declared.mutation.Mutation.{Mutation}
 use Rattle.sasi_commitlog.specs.Damages.{ShowsLog}
 use Rattle.sasi_commitlog.specs.Format.{IsLog, Tables}
-use Rattle.sasi_commitlog.specs.Standing.{IsAtLogEnd}
+use Rattle.sasi_commitlog.specs.LogPosition.{IsAtLogEnd}
 use Rattle.sasi_manifest.specs.declared.listing.Listing.{Listing}
 use Rattle.sasi_manifest.specs.Listings.{listed_definitions}
-use Rattle.sasi_folder.specs.Replay.{after_segment, after_segments, listed_state, state_made}
+use Rattle.sasi_folder.specs.Replay.{after_segment, after_segments, listed_state, replayed_state}
 use Rattle.sasi_folder.specs.Stands.{HasSegments, types_listed}
 
 -- ---- what a host keeps
 
 -- each image has the segment with this number, and it has these mutations
 abbrev pub KeepsSegment : View → Tables → ℕ → List Mutation → Type 0
-KeepsSegment v tables number mutations = (bytes : Bytes) × IsKept v (log_name number) bytes × IsLog number tables bytes mutations
+KeepsSegment v tables number mutations = (bytes : Bytes) × IsFileDurable v (log_name number) bytes × IsLog number tables bytes mutations
 
 -- and those with rising numbers from this one on
 abbrev pub KeepsSegments : View → Tables → ℕ → List (List Mutation) → Type 0
@@ -27,8 +27,8 @@ KeepsSegments v tables number [] = ⊤
 KeepsSegments v tables number (mutations ∷ logs) = KeepsSegment v tables number mutations × KeepsSegments v tables (suc number) logs
 
 -- the live segments that are listed are there
-abbrev pub AreThere : View → Listing → Type 0
-AreThere v listing = (number : ℕ) → listing.floor ≤ number → number ≤ listing.last → IsThere v (log_name number)
+abbrev pub LiveSegmentsExist : View → Listing → Type 0
+LiveSegmentsExist v listing = (number : ℕ) → listing.floor ≤ number → number ≤ listing.last → IsThere v (log_name number)
 
 -- ---- what is read
 
@@ -51,21 +51,21 @@ ReadsAll v listing state = (folder : Folder) → v.files ≡ Some folder → Has
 -- ---- damage
 
 -- damage is what the segment of this number shows as it reads
-abbrev pub IsSegmentShown : View → Listing → ℕ → ReadFault → Type 0
-IsSegmentShown v listing number = OnDamage (λ damage. (bytes : Bytes) → contents v (log_name number) ≡ Some bytes → ShowsLog (types_listed listing) (log_name number) bytes damage)
+abbrev pub SegmentShowsDamage : View → Listing → ℕ → ReadFault → Type 0
+SegmentShowsDamage v listing number = OnDamage (λ damage. (bytes : Bytes) → contents v (log_name number) ≡ Some bytes → ShowsLog (types_listed listing) (log_name number) bytes damage)
 
 -- and no segment of mutations of the listed tables is damaged
-abbrev pub SparesSegment : View → Listing → ℕ → ReadFault → Type 0
-SparesSegment v listing number = OnDamage (λ _. (mutations : List Mutation) → IsTold v → KeepsSegment v (types_listed listing) number mutations → ⊥)
+abbrev pub NoFalseSegmentDamage : View → Listing → ℕ → ReadFault → Type 0
+NoFalseSegmentDamage v listing number = OnDamage (λ _. (mutations : List Mutation) → IsTold v → KeepsSegment v (types_listed listing) number mutations → ⊥)
 
 -- damage is what a live segment shows as it reads
-abbrev pub IsReplayShown : View → Listing → ReadFault → Type 0
-IsReplayShown v listing = OnDamage (λ damage. (number : ℕ) × (listing.floor ≤ number) × (number ≤ listing.last)
+abbrev pub ReplayShowsDamage : View → Listing → ReadFault → Type 0
+ReplayShowsDamage v listing = OnDamage (λ damage. (number : ℕ) × (listing.floor ≤ number) × (number ≤ listing.last)
     × ((bytes : Bytes) → contents v (log_name number) ≡ Some bytes → ShowsLog (types_listed listing) (log_name number) bytes damage))
 
 -- and none is told where all of them have mutations of the listed tables
-abbrev pub SparesReplay : View → Listing → ReadFault → Type 0
-SparesReplay v listing = OnDamage (λ _. (logs : List (List Mutation)) → IsTold v → listing.floor + length logs ≡ suc listing.last → KeepsSegments v (types_listed listing) listing.floor logs → ⊥)
+abbrev pub NoFalseReplayDamage : View → Listing → ReadFault → Type 0
+NoFalseReplayDamage v listing = OnDamage (λ _. (logs : List (List Mutation)) → IsTold v → listing.floor + length logs ≡ suc listing.last → KeepsSegments v (types_listed listing) listing.floor logs → ⊥)
 
 -- ---- what was replayed
 
@@ -75,16 +75,16 @@ ReplaysSegment old new listing number at before later = (mutations : List Mutati
     → (later ≡ after_segment listing.tables number before mutations) × IsAtLogEnd new (log_name number) at mutations
 
 -- the last segment stands at its closed gate, behind the mutations of the last of these
-abbrev pub EndsWith : View → Listing → ℕ → List (List Mutation) → Type 0
-EndsWith v listing at logs = (older : List (List Mutation)) × (current : List Mutation) × (logs ≡ older ++ current ∷ []) × IsAtLogEnd v (log_name listing.last) at current
+abbrev pub LastLogEndsWith : View → Listing → ℕ → List (List Mutation) → Type 0
+LastLogEndsWith v listing at logs = (older : List (List Mutation)) × (current : List Mutation) × (logs ≡ older ++ current ∷ []) × IsAtLogEnd v (log_name listing.last) at current
 
 -- all live segments were merged in order
 abbrev pub Replays : View → View → Listing → ℕ → State → Type 0
 Replays old new listing at state = (logs : List (List Mutation)) → IsTold old → listing.floor + length logs ≡ suc listing.last → KeepsSegments old (types_listed listing) listing.floor logs
-    → (state ≡ state_made listing logs) × EndsWith new listing at logs
+    → (state ≡ replayed_state listing logs) × LastLogEndsWith new listing at logs
 
 -- the state is of the listed tables
-pub record IsOfListing (state : State) (listing : Listing) : Type 0 where
+pub record HasListedTables (state : State) (listing : Listing) : Type 0 where
   pub partitioner : state.partitioner ≡ listing.partitioner
   pub tables : definitions state.tables ≡ listed_definitions listing.tables
 
@@ -105,6 +105,6 @@ pub record HasReplayed (a b : View) (listing : Listing) (number : ℕ) (now : St
   pub same : Changes Same a b
   pub disk : a.disk_faults ≤ b.disk_faults
   pub out : b.out_faults ≡ a.out_faults
-  pub of_listing : IsOfListing now listing
-  pub read : (folder : Folder) → a.files ≡ Some folder → AreThere a listing → HasRead folder listing number now
+  pub of_listing : HasListedTables now listing
+  pub read : (folder : Folder) → a.files ≡ Some folder → LiveSegmentsExist a listing → HasRead folder listing number now
   pub merged : (logs : List (List Mutation)) → IsTold a → listing.floor + length logs ≡ suc listing.last → KeepsSegments a (types_listed listing) listing.floor logs → MergedBefore a listing number now logs

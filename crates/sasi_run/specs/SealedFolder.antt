@@ -14,24 +14,24 @@ use Rattle.sasi_folder.specs.Stands.{Holds}
 -- ---- what isn't there
 
 -- the damage reports that this file isn't among the names
-pub record TellsMissing (names : List FileName) (file : FileName) (damage : Damage) : Type 0 where
+pub record ReportsMissing (names : List FileName) (file : FileName) (damage : Damage) : Type 0 where
   pub absent : ¬ Contains names file
   pub named : damage.file ≡ file
   pub rule : damage.rule ≡ Missing
-  pub place : damage.at ≡ 0
+  pub offset : damage.at ≡ 0
   pub seen : seen_bytes damage.seen ≡ []
 
 -- the damage reports the first live segment of the log that isn't among them
-pub record TellsSegment (names : List FileName) (floor last : ℕ) (damage : Damage) : Type 0 where
+pub record ReportsMissingSegment (names : List FileName) (floor last : ℕ) (damage : Damage) : Type 0 where
   pub segment : ℕ
   pub above : floor ≤ segment
   pub below : segment ≤ last
   pub earlier : (number : ℕ) → floor ≤ number → number < segment → Contains names (log_name number)
-  pub missing : TellsMissing names (log_name segment) damage
+  pub missing : ReportsMissing names (log_name segment) damage
 
 -- no folder that holds a store with this manifest is damaged
-abbrev pub SparesStore : View → ℕ → ReadFault → Type 0
-SparesStore v number = OnDamage (λ damage. (folder : Folder) (listing : Listing) (logs : List (List Mutation)) → v.files ≡ Some folder → ¬ Holds folder number listing logs)
+abbrev pub NoFalseStoreDamage : View → ℕ → ReadFault → Type 0
+NoFalseStoreDamage v number = OnDamage (λ damage. (folder : Folder) (listing : Listing) (logs : List (List Mutation)) → v.files ≡ Some folder → ¬ Holds folder number listing logs)
 
 -- ---- what is there
 

@@ -11,7 +11,7 @@ use Rattle.sasi_model.specs.State.{State}
 use Rattle.sasi_model.specs.Step.{step, state_after, replies, refusals}
 use Rattle.sasi_machine.specs.declared.outcome.Outcome.{Outcome}
 use Rattle.sasi_machine.specs.declared.outcome.Outcome.TheVariants as outcomes
-use Rattle.sasi_cql.specs.Standing.{Standing, resume, behind}
+use Rattle.sasi_cql.specs.SplitterState.{SplitterState, resume, behind}
 use Rattle.sasi_run.specs.declared.session.Session.{Session}
 use Rattle.sasi_run.specs.declared.session.Stop.{Stop}
 use Rattle.sasi_run.specs.declared.session.Stop.TheVariants.{Output, Memory, Disk}
@@ -46,7 +46,7 @@ pub record Answers (old new : Session) (out_old out_new : Option (List ℕ)) (pi
   pub reading : new.splitter ≡ old.splitter
 
 -- the session was fed these bytes: it has run the pieces that ended in them, and goes on behind them
-pub record Takes (old new : Session) (out_old out_new : Option (List ℕ)) (bytes : List ℕ) : Type 0 where
+pub record Feeds (old new : Session) (out_old out_new : Option (List ℕ)) (bytes : List ℕ) : Type 0 where
   pub done : List Piece
   pub reading : (left : List ℕ) → resume old.splitter (bytes ++ left) ≡ behind done (resume new.splitter left)
   pub state : new.store.machine ≡ state_after old.store.machine done
@@ -54,10 +54,10 @@ pub record Takes (old new : Session) (out_old out_new : Option (List ℕ)) (byte
   pub count : new.refused ≡ counted_by old.refused (refusals old.store.machine done)
 
 -- where a run stopped: nothing of the next reply was emitted, or a first part of it
-abbrev pub ShownAt : Stop → State → Option (List ℕ) → Option (List ℕ) → List Piece → List Piece → Type 0
-ShownAt Memory s out_old out_new done next = Appends out_old out_new (replies s done)
-ShownAt Disk s out_old out_new done next = Appends out_old out_new (replies s done)
-ShownAt Output s out_old out_new done next = (piece : Piece) × (front back : List ℕ) × (next ≡ piece ∷ []) × ((step (state_after s done) piece).reply ≡ front ++ back)
+abbrev pub EmittedAtStop : Stop → State → Option (List ℕ) → Option (List ℕ) → List Piece → List Piece → Type 0
+EmittedAtStop Memory s out_old out_new done next = Appends out_old out_new (replies s done)
+EmittedAtStop Disk s out_old out_new done next = Appends out_old out_new (replies s done)
+EmittedAtStop Output s out_old out_new done next = (piece : Piece) × (front back : List ℕ) × (next ≡ piece ∷ []) × ((step (state_after s done) piece).reply ≡ front ++ back)
     × Appends out_old out_new (replies s done ++ front)
 
 -- the session was fed a first part of these bytes, and stopped
@@ -69,7 +69,7 @@ pub record Stops (stop : Stop) (old : Session) (out_old out_new : Option (List �
   pub next : List Piece
   pub stand : Standing
   pub reading : (left : List ℕ) → resume old.splitter (taken ++ left) ≡ behind (done ++ next) (resume stand left)
-  pub shown : ShownAt stop old.store.machine out_old out_new done next
+  pub shown : EmittedAtStop stop old.store.machine out_old out_new done next
 
 -- the counts of failures don't fall, and that of emits rose where the output stopped the run, and that of the disk where the folder did
 pub record Faults {T : Type 0} (old new : View) (result : Result T Stop) : Type 0 where
@@ -84,13 +84,13 @@ pub record Finishes (old new : Session) (out_old out_new : Option (List ℕ)) : 
   pub count : new.refused ≡ counted_by old.refused (refusals old.store.machine (resume old.splitter []).last)
 
 -- the session stands at the start of a script
-pub record IsFresh (session : Session) : Type 0 where
+pub record IsAtScriptStart (session : Session) : Type 0 where
   pub reading : (left : List ℕ) → resume session.splitter left ≡ pieces left
   pub count : session.refused ≡ 0
 
 -- so many bytes were read and fed to the session
-pub record Goes (old new : Session) (left_old left_new out_old out_new : Option (List ℕ)) (count : ℕ) : Type 0 where
+pub record ReadsScript (old new : Session) (left_old left_new out_old out_new : Option (List ℕ)) (count : ℕ) : Type 0 where
   pub read : List ℕ
   pub consumed : Consumes left_old left_new read
-  pub taken : Takes old new out_old out_new read
+  pub taken : Feeds old new out_old out_new read
   pub length_is : count ≡ length read

@@ -2,11 +2,11 @@
 //! reply, and answers a status. The contract of `run` is the headline of the repository.
 #![tactic(auto)]
 
-mod deleting;
+mod unlisted_files;
 mod new_folder;
 mod open;
-mod opening;
-mod places;
+mod folder_sync;
+mod arguments;
 mod reading;
 mod replay;
 mod sealed_folder;
@@ -14,10 +14,10 @@ mod seals;
 mod session;
 mod status;
 mod store;
-mod top;
-mod words;
+mod runner;
+mod command_line;
 
-pub use places::Command;
+pub use arguments::Command;
 pub use status::Status;
-pub use top::run;
-pub use words::command;
+pub use runner::run;
+pub use command_line::command;

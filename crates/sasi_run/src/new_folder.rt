@@ -6,14 +6,14 @@ ghost use Rattle.sasi_host.specs.Damages.{OnDamage};
 ghost use Rattle.sasi_host.specs.Names.{name_cmp};
 ghost use Rattle.sasi_host.specs.View.{IsAbsent, IsTold, ListCauses};
 ghost use Rattle.sasi_host.specs.Disk.{Changes, Lists, Same};
-ghost use Rattle.sasi_host.specs.Moves.{Each};
+ghost use Rattle.sasi_host.specs.ChangeLaws.{Each};
 ghost use Rattle.sasi_gated.specs.Causes.{ReadingCauses};
 ghost use Rattle.sasi_model.specs.State.{empty_state};
 ghost use Rattle.sasi_folder.specs.Stands.{IsFresh};
-ghost use Rattle.sasi_run.specs.NewFolder.{IsForeign, SparesFresh, StandsEmpty, is_first};
-ghost use Rattle.sasi_run.specs.Storing.{IsReady, ServesStore, Somehow};
+ghost use Rattle.sasi_run.specs.NewFolder.{ReportsForeign, NoFalseFreshDamage, StandsEmpty, is_initial};
+ghost use Rattle.sasi_run.specs.Storing.{IsReady, IsStoreDurable, AnyFolderChange};
 
-use crate::deleting::{Keep, delete_others};
+use crate::unlisted_files::{Keep, delete_unlisted};
 use crate::store::Store;
 use sasi_commitlog::Log;
 use sasi_host::{Damage, FileName, FormatRule, Host, HostFault, ReadFault, found};
@@ -24,7 +24,7 @@ use std::alloc::Global;
 
 /// Creates the store of a folder without a seal: its first segment of the commit log, its first manifest, and the seal.
 /// Deletes before what an unfinished creation left. `names` are the files of the folder.
-pub fn make_new<H: Host>(
+pub fn create_store<H: Host>(
     alloc: Global,
     host: &mut H,
     names: &[FileName],
@@ -34,41 +34,41 @@ pub fn make_new<H: Host>(
     requires sorted { IsStrictlySortedBy name_cmp names.now }
     ensures machine { IfOk result (λ store. store.machine ≡ empty_state partitioner) }
     ensures ready { IfOk result (λ store. IsReady (H.view host.new) store) }
-    ensures serves { IfOk result (λ store. IsTold (H.view host.old) → Each (H.view host.old) IsFresh → ServesStore (H.view host.new) store) }
+    ensures durable { IfOk result (λ store. IsTold (H.view host.old) → Each (H.view host.old) IsFresh → IsStoreDurable (H.view host.new) store) }
     ensures any_moment { Each (H.view host.old) IsFresh → Changes (StandsEmpty partitioner) (H.view host.old) (H.view host.new) }
-    ensures firsts { OnOk result (All (λ name. is_first name ≡ true) names.now) }
-    ensures damaged { IfErr result (OnDamage (IsForeign names.now)) }
-    ensures undamaged { IfErr result (OnDamage (λ damage. SparesFresh (H.view host.old))) }
+    ensures firsts { OnOk result (All (λ name. is_initial name ≡ true) names.now) }
+    ensures damaged { IfErr result (OnDamage (ReportsForeign names.now)) }
+    ensures undamaged { IfErr result (OnDamage (λ damage. NoFalseFreshDamage (H.view host.old))) }
     ensures untouched { IfErr result (OnDamage (λ damage. Changes Same (H.view host.old) (H.view host.new))) }
-    ensures changes { Changes Somehow (H.view host.old) (H.view host.new) }
+    ensures changes { Changes AnyFolderChange (H.view host.old) (H.view host.new) }
     ensures causes { ReadingCauses (H.view host.old) (H.view host.new) result }
 {
     check_new(names)?;
-    let store = begin_anew(alloc, host, names, partitioner)?;
+    let store = clear_and_create(alloc, host, names, partitioner)?;
     Ok(store)
 }
 
 // Passes where each file is one that an unfinished creation leaves, and else reports the first other one as damage.
 fn check_new(names: &[FileName]) -> Result<(), Damage>
-    ensures firsts { OnOk result (All (λ name. is_first name ≡ true) names.now) }
-    ensures foreign { IfErr result (IsForeign names.now) }
+    ensures firsts { OnOk result (All (λ name. is_initial name ≡ true) names.now) }
+    ensures foreign { IfErr result (ReportsForeign names.now) }
 {
     for name in names {
-        if !is_first(*name) {
+        if !is_initial(*name) {
             return Err(found(*name, 0, FormatRule::NoSeal, &[]));
         }
     }
     Ok(())
 }
 
-fn is_first(name: FileName) -> bool
-    ensures { result ≡ is_first name }
+fn is_initial(name: FileName) -> bool
+    ensures { result ≡ is_initial name }
 {
     name == FileName::manifest(1) || name == FileName::log(1)
 }
 
 // Deletes all files, and creates the store.
-fn begin_anew<H: Host>(
+fn clear_and_create<H: Host>(
     alloc: Global,
     host: &mut H,
     names: &[FileName],
@@ -78,18 +78,18 @@ fn begin_anew<H: Host>(
     requires sorted { IsStrictlySortedBy name_cmp names.now }
     ensures machine { IfOk result (λ store. store.machine ≡ empty_state partitioner) }
     ensures ready { IfOk result (λ store. IsReady (H.view host.new) store) }
-    ensures serves { IfOk result (λ store. IsTold (H.view host.old) → Each (H.view host.old) IsFresh → ServesStore (H.view host.new) store) }
+    ensures durable { IfOk result (λ store. IsTold (H.view host.old) → Each (H.view host.old) IsFresh → IsStoreDurable (H.view host.new) store) }
     ensures any_moment { Each (H.view host.old) IsFresh → Changes (StandsEmpty partitioner) (H.view host.old) (H.view host.new) }
-    ensures changes { Changes Somehow (H.view host.old) (H.view host.new) }
+    ensures changes { Changes AnyFolderChange (H.view host.old) (H.view host.new) }
     ensures causes { ListCauses (H.view host.old) (H.view host.new) result }
 {
-    delete_others(host, names, Keep::Nothing)?;
+    delete_unlisted(host, names, Keep::Nothing)?;
     host.sync_folder()?;
-    make_first(alloc, host, partitioner)
+    create_files(alloc, host, partitioner)
 }
 
 // Creates the store in an empty folder.
-fn make_first<H: Host>(
+fn create_files<H: Host>(
     alloc: Global,
     host: &mut H,
     partitioner: Partitioner,
@@ -97,9 +97,9 @@ fn make_first<H: Host>(
     requires { (name : AName) → IsAbsent (H.view host.old) name }
     ensures machine { IfOk result (λ store. store.machine ≡ empty_state partitioner) }
     ensures ready { IfOk result (λ store. IsReady (H.view host.new) store) }
-    ensures serves { IfOk result (λ store. IsTold (H.view host.old) → Each (H.view host.old) IsFresh → ServesStore (H.view host.new) store) }
+    ensures durable { IfOk result (λ store. IsTold (H.view host.old) → Each (H.view host.old) IsFresh → IsStoreDurable (H.view host.new) store) }
     ensures any_moment { Each (H.view host.old) IsFresh → Changes (StandsEmpty partitioner) (H.view host.old) (H.view host.new) }
-    ensures changes { Changes Somehow (H.view host.old) (H.view host.new) }
+    ensures changes { Changes AnyFolderChange (H.view host.old) (H.view host.new) }
     ensures causes { ListCauses (H.view host.old) (H.view host.new) result }
 {
     let listing = Listing::new(alloc, partitioner);

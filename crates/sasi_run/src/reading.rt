@@ -2,8 +2,8 @@
 ghost use Rattle.std.specs.Prelude.{◌≡◌, ◌≢◌};
 ghost use Rattle.sasi_host.specs.View.{Rose};
 ghost use Rattle.sasi_host.specs.declared.damage.Damage.{Damage};
-ghost use Rattle.sasi_run.specs.Crashing.{RunsOn};
-ghost use Rattle.sasi_run.specs.Session.{IsFresh};
+ghost use Rattle.sasi_run.specs.Crashing.{RunsCrashSafe};
+ghost use Rattle.sasi_run.specs.Session.{IsAtScriptStart};
 ghost use Rattle.sasi_run.specs.Storing.{IsReady};
 ghost use Rattle.sasi_run.specs.Headline.{status_of_stop, status_of_count};
 
@@ -39,9 +39,9 @@ fn end_status(refused: u64) -> Status
 
 /// Runs the script to its end, or until a fault stops the run.
 pub fn run_script<S: Source, H: Host>(session: &mut Session, script: &mut S, host: &mut H) -> Status
-    requires fresh { IsFresh session.old }
+    requires fresh { IsAtScriptStart session.old }
     requires ready { IsReady (H.view host.old) session.old.store }
-    ensures runs { RunsOn result session.old.store (S.view script.old).left (S.view script.new).left (H.view host.old) (H.view host.new) }
+    ensures runs { RunsCrashSafe result session.old.store (S.view script.old).left (S.view script.new).left (H.view host.old) (H.view host.new) }
     ensures script_fault { result ≡ Status.ScriptFault → Rose (S.view script.old).faults (S.view script.new).faults }
     ensures output_fault { result ≡ Status.OutputFault → Rose (H.view host.old).out_faults (H.view host.new).out_faults }
     ensures folder_fault { result ≡ Status.FolderFault → Rose (H.view host.old).disk_faults (H.view host.new).disk_faults }

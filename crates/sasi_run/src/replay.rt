@@ -12,9 +12,9 @@ ghost use Rattle.sasi_commitlog.specs.Format.{IsMutationOf};
 ghost use Rattle.sasi_manifest.specs.ListedTables.{listed};
 ghost use Rattle.sasi_manifest.specs.Listings.{CanStart, listed_definitions};
 ghost use Rattle.sasi_manifest.specs.Naming.{AreApart};
-ghost use Rattle.sasi_folder.specs.Replay.{after_mutation, listed_state, takes};
+ghost use Rattle.sasi_folder.specs.Replay.{after_mutation, listed_state, is_replayed};
 ghost use Rattle.sasi_folder.specs.Stands.{types_listed};
-ghost use Rattle.sasi_run.specs.Replaying.{AreThere, HasReplayed, IsOfListing, IsReplayShown, IsSegmentShown, ReadsAll, ReadsSegment, Replays, ReplaysSegment, SparesReplay, SparesSegment};
+ghost use Rattle.sasi_run.specs.Replaying.{LiveSegmentsExist, HasReplayed, HasListedTables, ReplayShowsDamage, SegmentShowsDamage, ReadsAll, ReadsSegment, Replays, ReplaysSegment, NoFalseReplayDamage, NoFalseSegmentDamage};
 
 use sasi_cells::Mutation;
 use sasi_commitlog::Log;
@@ -38,15 +38,15 @@ pub fn replay<H: Host>(
     listing: &Listing,
 ) -> Result<Replayed, ReadFault>
     requires live { CanStart listing.now.floor listing.now.last }
-    requires there { AreThere (H.view host.old) listing.now }
+    requires there { LiveSegmentsExist (H.view host.old) listing.now }
     ensures replayed { IfOk result (λ r. Replays (H.view host.old) (H.view host.new) listing.now r.log.at r.machine) }
     ensures reads { IfOk result (λ r. ReadsAll (H.view host.old) listing.now r.machine) }
-    ensures of_listing { IfOk result (λ r. IsOfListing r.machine listing.now) }
+    ensures of_listing { IfOk result (λ r. HasListedTables r.machine listing.now) }
     ensures room { IfOk result (λ r. Reaches (H.view host.new) (log_name listing.now.last) (r.log.at + 1)) }
     ensures usable { IfOk result (λ r. IsTrue r.log.usable) }
     ensures file { IfOk result (λ r. r.log.file ≡ log_name listing.now.last) }
-    ensures damaged { IfErr result (IsReplayShown (H.view host.old) listing.now) }
-    ensures undamaged { IfErr result (SparesReplay (H.view host.old) listing.now) }
+    ensures damaged { IfErr result (ReplayShowsDamage (H.view host.old) listing.now) }
+    ensures undamaged { IfErr result (NoFalseReplayDamage (H.view host.old) listing.now) }
     ensures changes { Changes Same (H.view host.old) (H.view host.new) }
     ensures causes { ReadingCauses (H.view host.old) (H.view host.new) result }
 {
@@ -66,12 +66,12 @@ fn replay_older<H: Host>(
     types: &TableTypes,
 ) -> Result<(), ReadFault>
     requires live { CanStart listing.now.floor listing.now.last }
-    requires there { AreThere (H.view host.old) listing.now }
+    requires there { LiveSegmentsExist (H.view host.old) listing.now }
     requires types { types.now ≡ types_listed listing.now }
     requires start { machine.old ≡ listed_state listing.now }
     ensures replayed { OnOk result (HasReplayed (H.view host.old) (H.view host.new) listing.now listing.now.last machine.new) }
-    ensures damaged { IfErr result (IsReplayShown (H.view host.old) listing.now) }
-    ensures undamaged { IfErr result (SparesReplay (H.view host.old) listing.now) }
+    ensures damaged { IfErr result (ReplayShowsDamage (H.view host.old) listing.now) }
+    ensures undamaged { IfErr result (NoFalseReplayDamage (H.view host.old) listing.now) }
     ensures changes { Changes Same (H.view host.old) (H.view host.new) }
     ensures causes { ReadingCauses (H.view host.old) (H.view host.new) result }
 {
@@ -103,14 +103,14 @@ fn create_tables(
     ensures tables { OnOk result (machine.new.tables ≡ map (λ t. empty_table (definition t.table)) tables.now) }
 {
     for listed in tables {
-        machine.create(listed.table.copy(alloc)?)?;
+        machine.create_table(listed.table.copy(alloc)?)?;
     }
     Ok(())
 }
 
 // Whether mutations of the table with this number are replayed from the segment.
-fn takes(tables: &[ListedTable], segment: u32, number: u32) -> bool
-    ensures { result ≡ takes (map listed tables.now) segment number }
+fn is_replayed(tables: &[ListedTable], segment: u32, number: u32) -> bool
+    ensures { result ≡ is_replayed (map listed tables.now) segment number }
 {
     if number == 0 {
         return false;
@@ -133,10 +133,10 @@ fn merge(
     ensures ok { OnOk result (machine.new ≡ after_mutation listing.now.tables number machine.old mutation) }
     ensures err { OnErr result (machine.new ≡ machine.old) }
 {
-    if !takes(listing.tables.as_slice(), number, mutation.table) {
+    if !is_replayed(listing.tables.as_slice(), number, mutation.table) {
         return Ok(());
     }
-    machine.write(mutation)
+    machine.apply(mutation)
 }
 
 // Merges the mutations of the segment with this number into the listed tables. The log then stands at its closed gate.
@@ -158,8 +158,8 @@ fn replay_segment<H: Host>(
     ensures room { IfOk result (λ log. Reaches (H.view host.new) (log_name number) (log.at + 1)) }
     ensures usable { IfOk result (λ log. IsTrue log.usable) }
     ensures file { IfOk result (λ log. log.file ≡ log_name number) }
-    ensures damaged { IfErr result (IsSegmentShown (H.view host.old) listing.now number) }
-    ensures undamaged { IfErr result (SparesSegment (H.view host.old) listing.now number) }
+    ensures damaged { IfErr result (SegmentShowsDamage (H.view host.old) listing.now number) }
+    ensures undamaged { IfErr result (NoFalseSegmentDamage (H.view host.old) listing.now number) }
     ensures changes { Changes Same (H.view host.old) (H.view host.new) }
     ensures causes { ReadingCauses (H.view host.old) (H.view host.new) result }
 {

@@ -5,7 +5,7 @@ ghost use Rattle.sasi_host.specs.Damages.{OnDamage};
 ghost use Rattle.sasi_host.specs.Names.{Folder, name_cmp, log_name, manifest_name};
 ghost use Rattle.sasi_host.specs.View.{IsThere, Reaches};
 ghost use Rattle.sasi_host.specs.Disk.{Changes, Lists, Same};
-ghost use Rattle.sasi_host.specs.Moves.{Each};
+ghost use Rattle.sasi_host.specs.ChangeLaws.{Each};
 ghost use Rattle.sasi_gated.specs.Causes.{ReadingCauses};
 ghost use Rattle.sasi_cells.specs.declared.mutation.Mutation.{Mutation};
 ghost use Rattle.sasi_manifest.specs.declared.listing.Listing.{Listing as AListing};
@@ -14,11 +14,11 @@ ghost use Rattle.sasi_manifest.specs.Reading.{ReadsListing, StandsWhereKept};
 ghost use Rattle.sasi_folder.specs.Damages.{ShowsListed};
 ghost use Rattle.sasi_folder.specs.Stands.{Holds};
 ghost use Rattle.sasi_run.specs.Deletion.{Deletes, keeps};
-ghost use Rattle.sasi_run.specs.Replaying.{AreThere};
-ghost use Rattle.sasi_run.specs.SealedFolder.{SparesStore, TellsMissing, TellsSegment, none_kept};
-ghost use Rattle.sasi_run.specs.Storing.{HasNoOther};
+ghost use Rattle.sasi_run.specs.Replaying.{LiveSegmentsExist};
+ghost use Rattle.sasi_run.specs.SealedFolder.{NoFalseStoreDamage, ReportsMissing, ReportsMissingSegment, none_kept};
+ghost use Rattle.sasi_run.specs.Storing.{HasNoUnlisted};
 
-use crate::deleting::{Keep, delete_others};
+use crate::unlisted_files::{Keep, delete_unlisted};
 use sasi_host::{Damage, FileName, FormatRule, Host, ReadFault, found};
 use sasi_manifest::Manifest;
 use std::alloc::Global;
@@ -36,8 +36,8 @@ pub fn open_listed<H: Host>(
     ensures there { OnOk result (IsThere (H.view host.old) (manifest_name number)) }
     ensures reads { IfOk result (λ m. ReadsListing (H.view host.old) number m.listing) }
     ensures stands { IfOk result (λ m. StandsWhereKept (H.view host.old) (H.view host.new) number m.at m.listing) }
-    ensures live { IfOk result (λ m. AreThere (H.view host.new) m.listing) }
-    ensures gone { IfOk result (λ m. HasNoOther (H.view host.new) number m.listing) }
+    ensures live { IfOk result (λ m. LiveSegmentsExist (H.view host.new) m.listing) }
+    ensures gone { IfOk result (λ m. HasNoUnlisted (H.view host.new) number m.listing) }
     ensures deletes { IfOk result (λ m. Changes (Deletes (keeps (Keep.Store number m.listing.floor m.listing.last))) (H.view host.old) (H.view host.new)) }
     ensures consistent { IfOk result (λ m. IsConsistent m.listing) }
     ensures room { IfOk result (λ m. Reaches (H.view host.new) (manifest_name number) (m.at + 1)) }
@@ -45,7 +45,7 @@ pub fn open_listed<H: Host>(
     ensures usable { IfOk result (λ m. IsTrue m.usable) }
     ensures any_moment { (listing : AListing) (logs : List (List Mutation)) → Each (H.view host.old) (λ x. Holds x number listing logs) → Changes (λ x y. Holds y number listing logs) (H.view host.old) (H.view host.new) }
     ensures damaged { (folder : Folder) → (H.view host.old).files ≡ Some folder → IfErr result (OnDamage (ShowsListed folder number)) }
-    ensures undamaged { IfErr result (SparesStore (H.view host.old) number) }
+    ensures undamaged { IfErr result (NoFalseStoreDamage (H.view host.old) number) }
     ensures untouched { IfErr result (OnDamage (λ damage. Changes Same (H.view host.old) (H.view host.new))) }
     ensures changes { Changes (Deletes none_kept) (H.view host.old) (H.view host.new) }
     ensures causes { ReadingCauses (H.view host.old) (H.view host.new) result }
@@ -53,7 +53,7 @@ pub fn open_listed<H: Host>(
     let manifest = read_listed(alloc, host, names, number)?;
     let floor = manifest.listing().floor;
     let last = manifest.listing().last;
-    delete_others(
+    delete_unlisted(
         host,
         names,
         Keep::Store {
@@ -82,7 +82,7 @@ fn read_listed<H: Host>(
     ensures number { IfOk result (λ m. m.number ≡ number) }
     ensures usable { IfOk result (λ m. IsTrue m.usable) }
     ensures damaged { (folder : Folder) → (H.view host.old).files ≡ Some folder → IfErr result (OnDamage (ShowsListed folder number)) }
-    ensures undamaged { IfErr result (SparesStore (H.view host.old) number) }
+    ensures undamaged { IfErr result (NoFalseStoreDamage (H.view host.old) number) }
     ensures changes { Changes Same (H.view host.old) (H.view host.new) }
     ensures causes { ReadingCauses (H.view host.old) (H.view host.new) result }
 {
@@ -97,7 +97,7 @@ fn read_listed<H: Host>(
 fn check_segments(names: &[FileName], floor: u32, last: u32) -> Result<(), Damage>
     requires { floor ≤ last }
     ensures there { OnOk result ((segment : ℕ) → floor ≤ segment → segment ≤ last → Contains names.now (log_name segment)) }
-    ensures missing { IfErr result (TellsSegment names.now floor last) }
+    ensures missing { IfErr result (ReportsMissingSegment names.now floor last) }
 {
     for segment in floor..last {
         check_there(names, FileName::log(segment))?;
@@ -109,7 +109,7 @@ fn check_segments(names: &[FileName], floor: u32, last: u32) -> Result<(), Damag
 // Passes where the file is among the names, and else reports it as missing.
 fn check_there(names: &[FileName], file: FileName) -> Result<(), Damage>
     ensures there { OnOk result (Contains names.now file) }
-    ensures missing { IfErr result (TellsMissing names.now file) }
+    ensures missing { IfErr result (ReportsMissing names.now file) }
 {
     if is_listed(names, file) {
         Ok(())

@@ -3,9 +3,9 @@ ghost use Rattle.std.specs.Prelude.{◌≡◌, OnOk, IfErr, ◌∷◌, []};
 ghost use Rattle.sasi_host.specs.View.{AllOut, Emits, OutCauses};
 ghost use Rattle.sasi_host.specs.declared.fault.HostFault.TheVariants as host_fault;
 ghost use Rattle.sasi_model.specs.Pieces.{piece_of};
-ghost use Rattle.sasi_cql.specs.Standing.{resume};
+ghost use Rattle.sasi_cql.specs.SplitterState.{resume};
 ghost use Rattle.sasi_run.specs.declared.session.Stop.TheVariants.{Disk, Memory, Output};
-ghost use Rattle.sasi_run.specs.Crashing.{AnswersOn, FailsOn, FinishesOn, StopsOn, TakesOn};
+ghost use Rattle.sasi_run.specs.Crashing.{AnswersCrashSafe, FailsCrashSafe, FinishesCrashSafe, StopsCrashSafe, FeedsCrashSafe};
 ghost use Rattle.sasi_run.specs.Session.{counted_outcome, EmitAppends, Faults};
 ghost use Rattle.sasi_run.specs.Storing.{IsReady};
 
@@ -75,7 +75,7 @@ fn count_refused(count: u64, outcome: Outcome) -> u64
 }
 
 // Emits a reply by one call, unless it is empty.
-fn show<H: Host>(host: &mut H, reply: &[u8]) -> Result<(), Failed>
+fn emit_reply<H: Host>(host: &mut H, reply: &[u8]) -> Result<(), Failed>
     ensures bytes { EmitAppends (H.view host.old).emitted (H.view host.new).emitted result reply.now }
     ensures all { OnOk result (AllOut reply.now (H.view host.old) (H.view host.new)) }
     ensures emits { Emits reply.now (H.view host.old) (H.view host.new) }
@@ -90,8 +90,8 @@ fn show<H: Host>(host: &mut H, reply: &[u8]) -> Result<(), Failed>
 /// Runs the piece that has ended, and emits its reply.
 pub fn answer<H: Host>(session: &mut Session, host: &mut H, end: PieceEnd) -> Result<(), Stop>
     requires ready { IsReady (H.view host.old) session.old.store }
-    ensures ok { OnOk result (AnswersOn session.old session.new (H.view host.old) (H.view host.new) (piece_of end session.old.splitter.text)) }
-    ensures err { IfErr result (λ stop. FailsOn stop session.old (H.view host.old) (H.view host.new) (piece_of end session.old.splitter.text ∷ [])) }
+    ensures ok { OnOk result (AnswersCrashSafe session.old session.new (H.view host.old) (H.view host.new) (piece_of end session.old.splitter.text)) }
+    ensures err { IfErr result (λ stop. FailsCrashSafe stop session.old (H.view host.old) (H.view host.new) (piece_of end session.old.splitter.text ∷ [])) }
     ensures causes { Faults (H.view host.old) (H.view host.new) result }
 {
     let outcome = step(
@@ -103,15 +103,15 @@ pub fn answer<H: Host>(session: &mut Session, host: &mut H, end: PieceEnd) -> Re
         &mut session.reply,
     )?;
     session.refused = count_refused(session.refused, outcome);
-    show(host, session.reply.bytes())?;
+    emit_reply(host, session.reply.bytes())?;
     Ok(())
 }
 
 // Pushes the next byte of the script, and runs the piece that it ends, if it ends one.
-fn take_byte<H: Host>(session: &mut Session, host: &mut H, byte: u8) -> Result<(), Stop>
+fn feed_byte<H: Host>(session: &mut Session, host: &mut H, byte: u8) -> Result<(), Stop>
     requires ready { IsReady (H.view host.old) session.old.store }
-    ensures ok { OnOk result (TakesOn session.old session.new (H.view host.old) (H.view host.new) (byte ∷ [])) }
-    ensures err { IfErr result (λ stop. StopsOn stop session.old (H.view host.old) (H.view host.new) (byte ∷ [])) }
+    ensures ok { OnOk result (FeedsCrashSafe session.old session.new (H.view host.old) (H.view host.new) (byte ∷ [])) }
+    ensures err { IfErr result (λ stop. StopsCrashSafe stop session.old (H.view host.old) (H.view host.new) (byte ∷ [])) }
     ensures causes { Faults (H.view host.old) (H.view host.new) result }
 {
     let _refused = session.refused;
@@ -124,12 +124,12 @@ fn take_byte<H: Host>(session: &mut Session, host: &mut H, byte: u8) -> Result<(
 /// Feeds the next bytes of the script, and runs each piece that ends in them.
 pub fn feed<H: Host>(session: &mut Session, host: &mut H, bytes: &[u8]) -> Result<(), Stop>
     requires ready { IsReady (H.view host.old) session.old.store }
-    ensures ok { OnOk result (TakesOn session.old session.new (H.view host.old) (H.view host.new) bytes.now) }
-    ensures err { IfErr result (λ stop. StopsOn stop session.old (H.view host.old) (H.view host.new) bytes.now) }
+    ensures ok { OnOk result (FeedsCrashSafe session.old session.new (H.view host.old) (H.view host.new) bytes.now) }
+    ensures err { IfErr result (λ stop. StopsCrashSafe stop session.old (H.view host.old) (H.view host.new) bytes.now) }
     ensures causes { Faults (H.view host.old) (H.view host.new) result }
 {
     for byte in bytes {
-        take_byte(session, host, *byte)?;
+        feed_byte(session, host, *byte)?;
     }
     Ok(())
 }
@@ -137,8 +137,8 @@ pub fn feed<H: Host>(session: &mut Session, host: &mut H, bytes: &[u8]) -> Resul
 /// Runs the piece that the script's end cuts off, if there is one.
 pub fn finish<H: Host>(session: &mut Session, host: &mut H) -> Result<(), Stop>
     requires ready { IsReady (H.view host.old) session.old.store }
-    ensures ok { OnOk result (FinishesOn session.old session.new (H.view host.old) (H.view host.new)) }
-    ensures err { IfErr result (λ stop. FailsOn stop session.old (H.view host.old) (H.view host.new) (resume session.old.splitter []).last) }
+    ensures ok { OnOk result (FinishesCrashSafe session.old session.new (H.view host.old) (H.view host.new)) }
+    ensures err { IfErr result (λ stop. FailsCrashSafe stop session.old (H.view host.old) (H.view host.new) (resume session.old.splitter []).last) }
     ensures causes { Faults (H.view host.old) (H.view host.new) result }
 {
     let _refused = session.refused;
@@ -149,11 +149,11 @@ pub fn finish<H: Host>(session: &mut Session, host: &mut H) -> Result<(), Stop>
 }
 
 impl Session {
-    ghost use Rattle.sasi_run.specs.Session.{IsFresh};
+    ghost use Rattle.sasi_run.specs.Session.{IsAtScriptStart};
 
     /// A session at the start of a script.
     pub fn new(alloc: Global, store: Store) -> Session
-        ensures fresh { IsFresh result }
+        ensures fresh { IsAtScriptStart result }
         ensures store { result.store ≡ store }
     {
         Session {

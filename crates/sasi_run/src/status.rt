@@ -1,6 +1,6 @@
 // How a run ended.
 ghost use Rattle.std.specs.Prelude.{◌≡◌};
-ghost use Rattle.sasi_run.specs.Numbers.{number_of};
+ghost use Rattle.sasi_run.specs.StatusCodes.{code_of};
 
 use sasi_host::Damage;
 
@@ -29,7 +29,7 @@ pub enum Status {
 impl Status {
     /// The exit status of the program.
     pub fn code(self) -> u8
-        ensures { result ≡ number_of self }
+        ensures { result ≡ code_of self }
     {
         match self {
             Status::Done => 0,

@@ -8,14 +8,14 @@ ghost use Rattle.sasi_model.specs.Step.{step};
 ghost use Rattle.sasi_schema.specs.Defined.{definition};
 ghost use Rattle.sasi_manifest.specs.Listings.{CanCreate};
 ghost use Rattle.sasi_machine.specs.Outcome.{outcome_of};
-ghost use Rattle.sasi_cells.specs.Mutations.{written_state};
-ghost use Rattle.sasi_machine.specs.Plans.{IsFit, IsNext};
-ghost use Rattle.sasi_run.specs.Storing.{GoesTo, IsReady, ServesStore, Somehow};
+ghost use Rattle.sasi_cells.specs.Mutations.{state_with_mutation};
+ghost use Rattle.sasi_machine.specs.Prepares.{IsApplicable, IsNewTable};
+ghost use Rattle.sasi_run.specs.Storing.{IsAtomic, IsReady, IsStoreDurable, AnyFolderChange};
 
 use sasi_cells::Mutation;
 use sasi_commitlog::Log;
 use sasi_host::{Host, HostFault};
-use sasi_machine::{Machine, Outcome, Planned, Reply};
+use sasi_machine::{Machine, Outcome, Prepared, Reply};
 use sasi_manifest::{Edit, EditList, Manifest};
 use sasi_schema::Table;
 use sasi_types::PieceEnd;
@@ -29,7 +29,7 @@ pub struct Store {
     pub log: Log,
 }
 
-/// Takes one piece: records what it asks for, and does it. After a fault the reply may be a part of one.
+/// Feeds one piece: records what it asks for, and does it. After a fault the reply may be a part of one.
 pub fn step<H: Host>(
     alloc: Global,
     store: &mut Store,
@@ -43,18 +43,18 @@ pub fn step<H: Host>(
     ensures reply { OnOk result (reply.new ≡ (step store.old.machine (piece_of end piece.now)).reply) }
     ensures outcome { IfOk result (λ o. o ≡ outcome_of (step store.old.machine (piece_of end piece.now)).refused) }
     ensures ready { OnOk result (IsReady (H.view host.new) store.new) }
-    ensures serves { OnOk result (IsTold (H.view host.old) → ServesStore (H.view host.old) store.old → ServesStore (H.view host.new) store.new) }
-    ensures any_moment { ServesStore (H.view host.old) store.old → GoesTo (H.view host.old) (H.view host.new) store.old.machine (step store.old.machine (piece_of end piece.now)).state }
-    ensures changes { Changes Somehow (H.view host.old) (H.view host.new) }
+    ensures durable { OnOk result (IsTold (H.view host.old) → IsStoreDurable (H.view host.old) store.old → IsStoreDurable (H.view host.new) store.new) }
+    ensures any_moment { IsStoreDurable (H.view host.old) store.old → IsAtomic (H.view host.old) (H.view host.new) store.old.machine (step store.old.machine (piece_of end piece.now)).state }
+    ensures changes { Changes AnyFolderChange (H.view host.old) (H.view host.new) }
     ensures causes { ListCauses (H.view host.old) (H.view host.new) result }
 {
-    match store.machine.plan(piece, end, reply)? {
-        Planned::Answered(outcome) => Ok(outcome),
-        Planned::Create(table) => {
+    match store.machine.prepare(piece, end, reply)? {
+        Prepared::Answered(outcome) => Ok(outcome),
+        Prepared::Create(table) => {
             create(alloc, store, host, table)?;
             Ok(Outcome::Done)
         }
-        Planned::Write(mutation) => {
+        Prepared::Write(mutation) => {
             write(store, host, mutation)?;
             Ok(Outcome::Done)
         }
@@ -64,16 +64,16 @@ pub fn step<H: Host>(
 // Records a change of a partition in the log, and makes it.
 fn write<H: Host>(store: &mut Store, host: &mut H, mutation: Mutation) -> Result<(), HostFault>
     requires ready { IsReady (H.view host.old) store.old }
-    requires fit { IsFit store.old.machine mutation }
-    ensures state { OnOk result (store.new.machine ≡ written_state store.old.machine mutation) }
+    requires fit { IsApplicable store.old.machine mutation }
+    ensures state { OnOk result (store.new.machine ≡ state_with_mutation store.old.machine mutation) }
     ensures ready { OnOk result (IsReady (H.view host.new) store.new) }
-    ensures serves { OnOk result (IsTold (H.view host.old) → ServesStore (H.view host.old) store.old → ServesStore (H.view host.new) store.new) }
-    ensures any_moment { ServesStore (H.view host.old) store.old → GoesTo (H.view host.old) (H.view host.new) store.old.machine (written_state store.old.machine mutation) }
-    ensures changes { Changes Somehow (H.view host.old) (H.view host.new) }
+    ensures durable { OnOk result (IsTold (H.view host.old) → IsStoreDurable (H.view host.old) store.old → IsStoreDurable (H.view host.new) store.new) }
+    ensures any_moment { IsStoreDurable (H.view host.old) store.old → IsAtomic (H.view host.old) (H.view host.new) store.old.machine (state_with_mutation store.old.machine mutation) }
+    ensures changes { Changes AnyFolderChange (H.view host.old) (H.view host.new) }
     ensures causes { ListCauses (H.view host.old) (H.view host.new) result }
 {
     store.log.append(host, &mutation)?;
-    store.machine.write(mutation)?;
+    store.machine.apply(mutation)?;
     Ok(())
 }
 
@@ -85,18 +85,18 @@ fn create<H: Host>(
     table: Table,
 ) -> Result<(), HostFault>
     requires ready { IsReady (H.view host.old) store.old }
-    requires next { IsNext store.old.machine table }
+    requires next { IsNewTable store.old.machine table }
     requires can { CanCreate store.old.manifest.listing table.number table.name table.columns table.key store.old.manifest.listing.last }
     ensures state { OnOk result (store.new.machine ≡ with_new_table store.old.machine (definition table)) }
     ensures ready { OnOk result (IsReady (H.view host.new) store.new) }
-    ensures serves { OnOk result (IsTold (H.view host.old) → ServesStore (H.view host.old) store.old → ServesStore (H.view host.new) store.new) }
-    ensures any_moment { ServesStore (H.view host.old) store.old → GoesTo (H.view host.old) (H.view host.new) store.old.machine (with_new_table store.old.machine (definition table)) }
-    ensures changes { Changes Somehow (H.view host.old) (H.view host.new) }
+    ensures durable { OnOk result (IsTold (H.view host.old) → IsStoreDurable (H.view host.old) store.old → IsStoreDurable (H.view host.new) store.new) }
+    ensures any_moment { IsStoreDurable (H.view host.old) store.old → IsAtomic (H.view host.old) (H.view host.new) store.old.machine (with_new_table store.old.machine (definition table)) }
+    ensures changes { Changes AnyFolderChange (H.view host.old) (H.view host.new) }
     ensures causes { ListCauses (H.view host.old) (H.view host.new) result }
 {
     let edits = edits_of(alloc, &table, store.manifest.listing().last)?;
     store.manifest.append(host, &edits)?;
-    store.machine.create(table)?;
+    store.machine.create_table(table)?;
     Ok(())
 }
 

@@ -31,19 +31,19 @@ fn patched(rt: &impl Abort, alloc: Global, bytes: &[u8], patches: &[(usize, u8)]
 
 /// Which segments a manifest lists, and from which one on the table has mutations.
 #[derive(Clone, Copy)]
-struct Listed {
+struct ListedDefinition {
     floor: u8,
     last: u8,
     since: u8,
 }
 
-fn lists(floor: u8, last: u8, since: u8) -> Listed {
-    Listed { floor, last, since }
+fn lists(floor: u8, last: u8, since: u8) -> ListedDefinition {
+    ListedDefinition { floor, last, since }
 }
 
 /// Puts a manifest of this number that lists these segments, and its seal.
-fn put_manifest(rt: &impl Abort, alloc: Global, host: &mut MemHost, number: u8, listed: Listed) {
-    let Listed { floor, last, since } = listed;
+fn put_manifest(rt: &impl Abort, alloc: Global, host: &mut MemHost, number: u8, listed: ListedDefinition) {
+    let ListedDefinition { floor, last, since } = listed;
     let patches = [(15, number), (30, floor), (34, last), (64, since)];
     let bytes = patched(rt, alloc, &MANIFEST_BYTES, &patches);
     let (manifest, seal) = (
@@ -69,7 +69,7 @@ fn put_segments(rt: &impl Abort, alloc: Global, host: &mut MemHost) {
 }
 
 /// Exactly the listed segments are left.
-fn check_segments(rt: &impl Abort, host: &MemHost, listed: Listed) {
+fn check_segments(rt: &impl Abort, host: &MemHost, listed: ListedDefinition) {
     for segment in 1..4 {
         let is_live = listed.floor <= segment && segment <= listed.last;
         let file = plain(Kind::Log, segment.into());
@@ -77,7 +77,7 @@ fn check_segments(rt: &impl Abort, host: &MemHost, listed: Listed) {
     }
 }
 
-fn check_live(rt: &impl Abort, alloc: Global, listed: Listed, output: &str) {
+fn check_live(rt: &impl Abort, alloc: Global, listed: ListedDefinition, output: &str) {
     let mut host = MemHost::new(alloc);
     put_segments(rt, alloc, &mut host);
     put_manifest(rt, alloc, &mut host, 1, listed);

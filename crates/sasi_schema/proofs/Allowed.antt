@@ -4,7 +4,7 @@ use Rattle.std.proofs.lemmas.List.{length-map}
 use Rattle.std.proofs.lemmas.Bool.Decides.{nat_tests}
 use Rattle.sasi_model.specs.State.{Column, Definition}
 use Rattle.sasi_model.specs.Refusals.{KeyMissing, TooManyTables, TooManyColumns, first_of, create_rules, repeat_rules, names_in, TABLE_LIMIT, COLUMN_LIMIT}
-use Rattle.sasi_model.specs.Step.{key_place}
+use Rattle.sasi_model.specs.Step.{key_position}
 use Rattle.sasi_schema.specs.declared.table.Table.{Table}
 use Rattle.sasi_schema.proofs.RuleLaws.{none_first, none_parts}
 use Rattle.sasi_schema.specs.Checks.{name_rules, key_rules, count_rules}
@@ -16,7 +16,7 @@ use Rattle.sasi_schema.proofs.Keys.{made_key}
 pub record IsAllowed (tables : List Definition) (columns : List Column) (keys : List (List ℕ)) : Type 0 where
   pub room : length tables < TABLE_LIMIT
   pub few : length columns ≤ COLUMN_LIMIT
-  pub key : IsKeyAt (key_place columns keys) columns
+  pub key : IsKeyAt (key_position columns keys) columns
 
 below : (a b : ℕ) → nat_le a b ≡ false → b < a
 below a b above = grind (arith, nat_tests)
@@ -27,8 +27,8 @@ at_most a b above = grind (arith, nat_tests)
 pub allowed : (tables : List Definition) (table : List ℕ) (columns : List Column) (keys : List (List ℕ)) → first_of (create_rules tables table columns keys) ≡ None → IsAllowed tables columns keys
 allowed tables table columns keys none =
     let counts = count_rules tables table columns keys in
-    let named = none_parts (name_rules tables table) (key_rules columns keys ++ (repeat_rules [] (names_in columns) ++ counts)) none in
-    let keyed = none_parts (key_rules columns keys) (repeat_rules [] (names_in columns) ++ counts) named.1 in
+    let find_table = none_parts (name_rules tables table) (key_rules columns keys ++ (repeat_rules [] (names_in columns) ++ counts)) none in
+    let keyed = none_parts (key_rules columns keys) (repeat_rules [] (names_in columns) ++ counts) find_table.1 in
     let counted = none_parts (repeat_rules [] (names_in columns)) counts keyed.1 in
     let some = none_first (length keys == 0, KeyMissing table) ((nat_le TABLE_LIMIT (length tables), TooManyTables) ∷ (nat_lt COLUMN_LIMIT (length columns), TooManyColumns) ∷ []) counted.1 in
     let few_before = none_first (nat_le TABLE_LIMIT (length tables), TooManyTables) ((nat_lt COLUMN_LIMIT (length columns), TooManyColumns) ∷ []) some.1 in

@@ -1,6 +1,6 @@
 pub mod RuleLaws
 pub mod Allowed
 pub mod Keys
-pub mod Places
+pub mod Positions
 pub mod Repeated
 pub mod Rises

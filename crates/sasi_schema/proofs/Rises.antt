@@ -7,9 +7,9 @@ use Rattle.sasi_model.specs.State.{definition_of}
 use Rattle.sasi_schema.specs.declared.table.Table.{Table}
 use Rattle.sasi_schema.specs.Defined.{definition, definitions}
 use Rattle.sasi_schema.specs.Numbers.{number_of_table, RisesFrom}
-use Rattle.sasi_schema.proofs.Places.{from_place, from_more}
+use Rattle.sasi_schema.proofs.Positions.{from_place, from_more}
 
--- the number at a place
+-- the number at a position
 pub rises_at : (n : ℕ) (tables : List Table) (i : ℕ) (t : Table) → RisesFrom n (map (λ t. t.number) tables) → i < length tables → t ≡ get_or tables i t → t.number ≡ n + i
 rises_at n [] i t rises inside is = absurd (omega arith)
 rises_at n (x ∷ xs) zero t rises inside is = rw is (rises.0 ∙ omega arith)

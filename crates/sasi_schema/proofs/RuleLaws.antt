@@ -3,7 +3,7 @@ use Rattle.std.specs.Prelude.{◌≡◌, List, [], ◌∷◌, ◌++◌, true, fa
 use Rattle.std.specs.Result.{IsErrAnd}
 use Rattle.std.proofs.Common.{refl, ◌∙◌}
 use Rattle.sasi_model.specs.Refusals.{Refusal, Rule, first_of}
-use Rattle.sasi_schema.specs.Answers.{Answers, IsTold}
+use Rattle.sasi_schema.specs.Answers.{Answers, IsFirstRefusal}
 
 -- ---- the rules of one check, and then those of another
 
@@ -24,24 +24,24 @@ first_before (rule ∷ a) b refusal is =
     ] is
 
 -- what the first check refuses
-pub told_before : (told : Option Refusal) (a b : List Rule) → IsTold told a → IsTold told (a ++ b)
-told_before None a b is = tt
-told_before (Some refusal) a b is = first_before a b refusal is
+pub refused_before : (refusal_of_fault : Option Refusal) (a b : List Rule) → IsFirstRefusal refusal_of_fault a → IsFirstRefusal refusal_of_fault (a ++ b)
+refused_before None a b is = tt
+refused_before (Some refusal) a b is = first_before a b refusal is
 
 -- where it passes, the other decides
-pub answers_behind : {A F : Type 0} (told : F → Option Refusal) (a b : List Rule) (result : Result A F) → first_of a ≡ None → Answers told b result → Answers told (a ++ b) result
-answers_behind told a b (Ok x) none is = first_behind a b none ∙ is
-answers_behind told a b (Err fault) none is = by (told fault) is
+pub answers_behind : {A F : Type 0} (refusal_of_fault : F → Option Refusal) (a b : List Rule) (result : Result A F) → first_of a ≡ None → Answers refusal_of_fault b result → Answers refusal_of_fault (a ++ b) result
+answers_behind refusal_of_fault a b (Ok x) none is = first_behind a b none ∙ is
+answers_behind refusal_of_fault a b (Err fault) none is = by (refusal_of_fault fault) is
   where
-    by : (refusal : Option Refusal) → IsTold refusal b → IsTold refusal (a ++ b)
+    by : (refusal : Option Refusal) → IsFirstRefusal refusal b → IsFirstRefusal refusal (a ++ b)
     by None is = tt
     by (Some refusal) is = first_behind a b none ∙ is
 
 -- a fault that is passed on
-pub answers_exit : {A F : Type 0} (told : F → Option Refusal) (rules : List Rule) (result : Result A F) (fault : F) → IsErrAnd result
-    (λ e. e ≡ fault) → IsTold (told fault) rules → Answers told rules result
-answers_exit told rules (Ok x) fault is passed = absurd is
-answers_exit told rules (Err e) fault is passed = rw is passed
+pub answers_exit : {A F : Type 0} (refusal_of_fault : F → Option Refusal) (rules : List Rule) (result : Result A F) (fault : F) → IsErrAnd result
+    (λ e. e ≡ fault) → IsFirstRefusal (refusal_of_fault fault) rules → Answers refusal_of_fault rules result
+answers_exit refusal_of_fault rules (Ok x) fault is passed = absurd is
+answers_exit refusal_of_fault rules (Err e) fault is passed = rw is passed
 
 -- ---- rules that none applies of
 

@@ -3,11 +3,11 @@ use Rattle.std.specs.Prelude.{◌≡◌, List, Option, None, Some, Result, Ok, E
 use Rattle.sasi_model.specs.Refusals.{Refusal, Rule, first_of}
 
 -- the refusal is that of the first rule that applies; where memory was short there is none
-abbrev pub IsTold : Option Refusal → List Rule → Type 0
-IsTold None rules = ⊤
-IsTold (Some refusal) rules = first_of rules ≡ Some refusal
+abbrev pub IsFirstRefusal : Option Refusal → List Rule → Type 0
+IsFirstRefusal None rules = ⊤
+IsFirstRefusal (Some refusal) rules = first_of rules ≡ Some refusal
 
 -- a check of these rules, whose faults are refusals by the function
 abbrev pub Answers : {A F : Type 0} → (F → Option Refusal) → List Rule → Result A F → Type 0
-Answers told rules (Ok _) = first_of rules ≡ None
-Answers told rules (Err fault) = IsTold (told fault) rules
+Answers refusal_of_fault rules (Ok _) = first_of rules ≡ None
+Answers refusal_of_fault rules (Err fault) = IsFirstRefusal (refusal_of_fault fault) rules

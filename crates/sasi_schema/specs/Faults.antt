@@ -6,15 +6,15 @@ use Rattle.sasi_schema.specs.declared.fault.Limit.TheVariants.{Tables, Columns}
 use Rattle.sasi_schema.specs.declared.fault.SchemaFault.{SchemaFault}
 use Rattle.sasi_schema.specs.declared.fault.SchemaFault.TheVariants.{OutOfMemory, TableExists, NoColumn, ColumnRepeated, KeyMissing, TooMany}
 
-abbrev pub limit_of : Limit → model.Refusal
-limit_of Tables = model.TooManyTables
-limit_of Columns = model.TooManyColumns
+abbrev pub limit_refusal : Limit → model.Refusal
+limit_refusal Tables = model.TooManyTables
+limit_refusal Columns = model.TooManyColumns
 
 -- the refusal that a fault is; want of memory is none
-abbrev pub told : SchemaFault → Option model.Refusal
-told OutOfMemory = None
-told (TableExists name) = Some (model.TableExists name)
-told (NoColumn name) = Some (model.NoColumn name)
-told (ColumnRepeated name) = Some (model.ColumnRepeated name)
-told (KeyMissing name) = Some (model.KeyMissing name)
-told (TooMany limit) = Some (limit_of limit)
+abbrev pub refusal_of_fault : SchemaFault → Option model.Refusal
+refusal_of_fault OutOfMemory = None
+refusal_of_fault (TableExists name) = Some (model.TableExists name)
+refusal_of_fault (NoColumn name) = Some (model.NoColumn name)
+refusal_of_fault (ColumnRepeated name) = Some (model.ColumnRepeated name)
+refusal_of_fault (KeyMissing name) = Some (model.KeyMissing name)
+refusal_of_fault (TooMany limit) = Some (limit_refusal limit)

@@ -1,7 +1,7 @@
 -- The numbers of tables: from 1, in the order of their creation.
 use Rattle.std.specs.Prelude.{◌≡◌, ℕ, suc, List, [], ◌∷◌, Option, None, Some, if◌then◌else◌, ⊤}
 use Rattle.sasi_model.specs.Statements.{same}
-use Rattle.sasi_model.specs.State.{Definition, Column, one_more, place_in, column_at, name_or_none}
+use Rattle.sasi_model.specs.State.{Definition, Column, one_more, position_in, column_at, name_or_none}
 
 -- the number of the table of a name
 abbrev pub number_of_table : List ℕ → List Definition → Option ℕ
@@ -15,4 +15,4 @@ RisesFrom n (number ∷ numbers) = (number ≡ n) × RisesFrom (suc n) numbers
 
 -- the first column of the key's name is the key
 abbrev pub IsKeyAt : ℕ → List Column → Type 0
-IsKeyAt key columns = place_in (name_or_none (column_at key columns)) columns ≡ Some key
+IsKeyAt key columns = position_in (name_or_none (column_at key columns)) columns ≡ Some key

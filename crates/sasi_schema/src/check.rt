@@ -4,10 +4,10 @@ ghost use Rattle.sasi_model.specs.Refusals.{create_rules, repeat_rules, names_in
 ghost use Rattle.sasi_schema.specs.Answers.{Answers};
 ghost use Rattle.sasi_schema.specs.Checks.{count_rules, key_rules, name_rules};
 ghost use Rattle.sasi_schema.specs.Defined.{definitions};
-ghost use Rattle.sasi_schema.specs.Faults.{told};
+ghost use Rattle.sasi_schema.specs.Faults.{refusal_of_fault};
 
 use crate::repeats::repeated_column;
-use crate::search::{named, place_in};
+use crate::search::{find_table, position_in};
 use crate::table::Table;
 use crate::{Limit, SchemaFault};
 use sasi_types::{ColumnType, Name};
@@ -27,7 +27,7 @@ pub fn check(
     columns: &[(Name, ColumnType)],
     keys: &[Name],
 ) -> Result<(), SchemaFault>
-    ensures { Answers told (create_rules (definitions tables.now) table.now columns.now keys.now) result }
+    ensures { Answers refusal_of_fault (create_rules (definitions tables.now) table.now columns.now keys.now) result }
 {
     check_name(alloc, tables, table)?;
     check_keys(alloc, columns, keys)?;
@@ -36,9 +36,9 @@ pub fn check(
 }
 
 fn check_name(alloc: Global, tables: &[Table], table: &Name) -> Result<(), SchemaFault>
-    ensures { Answers told (name_rules (definitions tables.now) table.now) result }
+    ensures { Answers refusal_of_fault (name_rules (definitions tables.now) table.now) result }
 {
-    if named(table, tables).is_some() {
+    if find_table(table, tables).is_some() {
         return Err(SchemaFault::TableExists(table.copy(alloc)?));
     }
     Ok(())
@@ -49,10 +49,10 @@ fn check_keys(
     columns: &[(Name, ColumnType)],
     keys: &[Name],
 ) -> Result<(), SchemaFault>
-    ensures { Answers told (key_rules columns.now keys.now) result }
+    ensures { Answers refusal_of_fault (key_rules columns.now keys.now) result }
 {
     for key in keys {
-        if place_in(key, columns).is_none() {
+        if position_in(key, columns).is_none() {
             return Err(SchemaFault::NoColumn(key.copy(alloc)?));
         }
     }
@@ -60,7 +60,7 @@ fn check_keys(
 }
 
 fn check_repeats(alloc: Global, columns: &[(Name, ColumnType)]) -> Result<(), SchemaFault>
-    ensures { Answers told (repeat_rules [] (names_in columns.now)) result }
+    ensures { Answers refusal_of_fault (repeat_rules [] (names_in columns.now)) result }
 {
     match repeated_column(alloc, columns)? {
         Some(name) => Err(SchemaFault::ColumnRepeated(name)),
@@ -75,7 +75,7 @@ fn check_counts(
     columns: &[(Name, ColumnType)],
     keys: &[Name],
 ) -> Result<(), SchemaFault>
-    ensures { Answers told (count_rules (definitions tables.now) table.now columns.now keys.now) result }
+    ensures { Answers refusal_of_fault (count_rules (definitions tables.now) table.now columns.now keys.now) result }
 {
     if keys.is_empty() {
         return Err(SchemaFault::KeyMissing(table.copy(alloc)?));

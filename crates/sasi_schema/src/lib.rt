@@ -13,5 +13,5 @@ mod table;
 pub use fault::{Limit, SchemaFault};
 pub use repeats::{repeated_column, repeated_name};
 pub use schema::Schema;
-pub use search::place_in;
+pub use search::position_in;
 pub use table::Table;

@@ -3,15 +3,15 @@ ghost use Rattle.std.specs.Prelude.{◌≡◌, ◌+◌, ◌++◌, ◌≤◌, ◌
 ghost use Rattle.std.specs.Option.{option_copied, option_map};
 ghost use Rattle.sasi_model.specs.State.{definition_of};
 ghost use Rattle.sasi_model.specs.Refusals.{create_rules, COLUMN_LIMIT as column_limit};
-ghost use Rattle.sasi_model.specs.Step.{key_place, new_definition};
+ghost use Rattle.sasi_model.specs.Step.{key_position, new_definition};
 ghost use Rattle.sasi_schema.specs.Answers.{Answers};
 ghost use Rattle.sasi_schema.specs.Defined.{definition};
-ghost use Rattle.sasi_schema.specs.Faults.{told};
+ghost use Rattle.sasi_schema.specs.Faults.{refusal_of_fault};
 ghost use Rattle.sasi_schema.specs.Numbers.{number_of_table};
 
 use crate::SchemaFault;
 use crate::check::check;
-use crate::search::{named, place_in};
+use crate::search::{find_table, position_in};
 use crate::table::Table;
 use sasi_types::{ColumnType, Columns, Name, Names};
 use std::alloc::{AllocError, Global};
@@ -57,11 +57,11 @@ impl Schema {
         ensures definition { option_map definition (option_copied result) ≡ definition_of name.now self.now }
         ensures number { option_map (λ t. t.number) (option_copied result) ≡ number_of_table name.now self.now }
     {
-        named(name, &self.tables)
+        find_table(name, &self.tables)
     }
 
     /// The table that a CREATE TABLE would define, behind the others.
-    pub fn plan_table(
+    pub fn prepare_table(
         &self,
         table: &Name,
         columns: &Columns,
@@ -69,11 +69,11 @@ impl Schema {
     ) -> Result<Table, SchemaFault>
         ensures number { IfOk result (λ t. t.number ≡ length self.now + 1) }
         ensures made { IfOk result (λ t. definition t ≡ new_definition table.now columns.now keys.now) }
-        ensures answers { Answers told (create_rules self.now table.now columns.now keys.now) result }
+        ensures answers { Answers refusal_of_fault (create_rules self.now table.now columns.now keys.now) result }
     {
         let (columns_in, keys) = (columns.as_slice(), keys.as_slice());
         check(self.alloc, &self.tables, table, columns_in, keys)?;
-        let key = key_place(columns_in, keys);
+        let key = key_position(columns_in, keys);
         let number = self.tables.len() as u32 + 1;
         Ok(Table {
             number,
@@ -92,10 +92,10 @@ impl Schema {
     ) -> Result<u32, SchemaFault>
         ensures number { IfOk result (λ number. number ≡ length self.old + 1) }
         ensures made { OnOk result (self.new ≡ self.old ++ new_definition table.now columns.now keys.now ∷ []) }
-        ensures answers { Answers told (create_rules self.old table.now columns.now keys.now) result }
+        ensures answers { Answers refusal_of_fault (create_rules self.old table.now columns.now keys.now) result }
         ensures err { OnErr result (self.new ≡ self.old) }
     {
-        let made = self.plan_table(table, columns, keys)?;
+        let made = self.prepare_table(table, columns, keys)?;
         let number = made.number;
         self.restore_table(made)?;
         Ok(number)
@@ -113,13 +113,13 @@ impl Schema {
     }
 }
 
-// The place of the key column.
-fn key_place(columns: &[(Name, ColumnType)], keys: &[Name]) -> u16
+// The position of the key column.
+fn key_position(columns: &[(Name, ColumnType)], keys: &[Name]) -> u16
     requires { length columns.now ≤ column_limit }
-    ensures { result ≡ key_place columns.now keys.now }
+    ensures { result ≡ key_position columns.now keys.now }
 {
     match keys.first() {
         None => 0,
-        Some(key) => place_in(key, columns).unwrap_or(0) as u16,
+        Some(key) => position_in(key, columns).unwrap_or(0) as u16,
     }
 }

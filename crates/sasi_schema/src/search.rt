@@ -2,7 +2,7 @@
 ghost use Rattle.std.specs.Prelude.{◌≡◌, ◌<◌, IfSome, length, map};
 ghost use Rattle.std.specs.Option.{option_copied, option_map};
 ghost use Rattle.sasi_model.specs.Refusals.{COLUMN_LIMIT as column_limit};
-ghost use Rattle.sasi_model.specs.State.{definition_of, number_at, place_in};
+ghost use Rattle.sasi_model.specs.State.{definition_of, number_at, position_in};
 ghost use Rattle.sasi_schema.specs.Defined.{definition, definitions};
 ghost use Rattle.sasi_schema.specs.Numbers.{RisesFrom, number_of_table};
 
@@ -10,7 +10,7 @@ use crate::table::Table;
 use sasi_types::{ColumnType, Name};
 
 /// The first table of that name.
-pub fn named<'a>(name: &Name, tables: &'a [Table]) -> Option<&'a Table>
+pub fn find_table<'a>(name: &Name, tables: &'a [Table]) -> Option<&'a Table>
     ensures definition { option_map definition (option_copied result) ≡ definition_of name.now (definitions tables.now) }
     ensures number { RisesFrom 1 (map (λ t. t.number) tables.now) → option_map (λ t. t.number) (option_copied result) ≡ number_of_table name.now (definitions tables.now) }
 {
@@ -22,10 +22,10 @@ pub fn named<'a>(name: &Name, tables: &'a [Table]) -> Option<&'a Table>
     None
 }
 
-/// The place of the first column of that name.
-pub fn place_in(name: &Name, columns: &[(Name, ColumnType)]) -> Option<usize>
-    ensures place { result ≡ place_in name.now columns.now }
-    ensures within { IfSome result (λ place. place < length columns.now) }
+/// The position of the first column of that name.
+pub fn position_in(name: &Name, columns: &[(Name, ColumnType)]) -> Option<usize>
+    ensures position { result ≡ position_in name.now columns.now }
+    ensures within { IfSome result (λ position. position < length columns.now) }
 {
     for (i, column) in columns.iter().enumerate() {
         if name.bytes() == column.0.bytes() {

@@ -4,7 +4,7 @@ ghost use Rattle.sasi_model.specs.Refusals.{COLUMN_LIMIT as column_limit};
 ghost use Rattle.sasi_schema.specs.Numbers.{IsKeyAt};
 
 use crate::number::number_at;
-use crate::search::place_in;
+use crate::search::position_in;
 use sasi_types::{ColumnType, Columns, Name};
 use std::alloc::{AllocError, Global};
 
@@ -15,7 +15,7 @@ pub struct Table {
     pub number: u32,
     pub name: Name,
     pub columns: Columns,
-    /// The place of the key column, from 0.
+    /// The position of the key column, from 0.
     pub key: u16,
     pub ghost key_is_there: { IsKeyAt key columns },
     pub ghost few: { length columns ≤ column_limit },
@@ -23,11 +23,11 @@ pub struct Table {
 
 impl Table {
     ghost use Rattle.std.specs.Option.{option_map};
-    ghost use Rattle.sasi_model.specs.State.{number_of_column, place_in, key_name, key_type};
+    ghost use Rattle.sasi_model.specs.State.{number_of_column, position_in, key_name, key_type};
     ghost use Rattle.sasi_model.specs.Refusals.{is_key, type_of_column};
     ghost use Rattle.sasi_schema.specs.Defined.{definition};
 
-    /// A table of these columns, with the key column at this place.
+    /// A table of these columns, with the key column at this position.
     pub fn new(number: u32, name: Name, columns: Columns, key: u16) -> Table
         requires key { IsKeyAt key columns }
         requires few { length columns ≤ column_limit }
@@ -70,16 +70,16 @@ impl Table {
     pub fn number_of(&self, column: &Name) -> Option<u16>
         ensures { result ≡ number_of_column (definition self.now) column.now }
     {
-        let place = place_in(column, self.columns.as_slice())?;
-        Some(number_at(self.key, place as u16))
+        let position = position_in(column, self.columns.as_slice())?;
+        Some(number_at(self.key, position as u16))
     }
 
     /// The type of a column.
     pub fn type_of(&self, column: &Name) -> Option<ColumnType>
         ensures { result ≡ type_of_column (definition self.now) column.now }
     {
-        let place = place_in(column, self.columns.as_slice())?;
-        Some(self.columns.as_slice()[place].1)
+        let position = position_in(column, self.columns.as_slice())?;
+        Some(self.columns.as_slice()[position].1)
     }
 
     /// Whether this is the name of the key column.

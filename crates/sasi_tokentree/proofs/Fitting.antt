@@ -2,8 +2,8 @@
 use Rattle.std.proofs.Common.{◌≡◌, ℕ, zero, suc, ◌+◌, ◌-◌, ◌*◌, ◌^◌, ◌<◌, ◌≤◌, List, [], ◌∷◌, length, refl, sym, subst, arith, lit<, ⊎_elim}
 use Rattle.std.proofs.lemmas.Bool.Decides.{leb_tells}
 use Rattle.sasi_types.specs.declared.tree.Pair.{Pair}
-use Rattle.sasi_tokentree.specs.Format.{pair_at, nodes, part, AreFit}
-use Rattle.sasi_tokentree.proofs.Standing.{part_at}
+use Rattle.sasi_tokentree.specs.Format.{pair_at, nodes, entries_of_node, AreFit}
+use Rattle.sasi_tokentree.proofs.StoredLevels.{part_at}
 
 -- the numbers of one pair fit
 abbrev pub IsFit : Pair → Type 0
@@ -35,7 +35,7 @@ all_fit entries count enough first index = ⊎_elim
     (leb_tells (length entries) index)
 
 -- a node more of a level
-pub node_more : (entries here : List Pair) (index : ℕ) → here ≡ part entries index → FirstFit entries (255 * index) → AreFit here → FirstFit entries (255 * (index + 1))
+pub node_more : (entries here : List Pair) (index : ℕ) → here ≡ entries_of_node entries index → FirstFit entries (255 * index) → AreFit here → FirstFit entries (255 * (index + 1))
 node_more entries here index is first fit k lt = ⊎_elim
     (λ behind.
     let same : 255 * index + (k - 255 * index) ≡ k = omega (arith, behind.1) in

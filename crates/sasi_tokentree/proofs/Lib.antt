@@ -1,8 +1,8 @@
-pub mod Leveling
-pub mod Holding
+pub mod LevelSteps
+pub mod AfterRead
 pub mod NodeParts
 pub mod NodeReads
-pub mod Standing
+pub mod StoredLevels
 pub mod Seeks
-pub mod Walking
+pub mod LeafPairs
 pub mod Fitting

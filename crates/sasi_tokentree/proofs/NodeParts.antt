@@ -11,25 +11,25 @@ use Rattle.sasi_host.specs.declared.damage.Damage.{Damage}
 use Rattle.sasi_host.specs.declared.damage.FormatRule.{FormatRule}
 use Rattle.sasi_host.specs.declared.damage.FormatRule.TheVariants.{Short, Number, Order}
 use Rattle.sasi_host.specs.Names.{Bytes}
-use Rattle.sasi_host.specs.Places.{window_at, at_window, first_at, both_at}
-use Rattle.sasi_tokentree.specs.Format.{pair_at, entry, head, node, IsBefore, IsRising, AreFit}
+use Rattle.sasi_host.specs.Offsets.{window_at, at_window, first_at, both_at}
+use Rattle.sasi_tokentree.specs.Format.{pair_at, entry, node_header, node, IsBefore, IsRising, AreFit}
 use Rattle.sasi_tokentree.specs.Sizes.{entry_length, head_length, node_length}
-use Rattle.sasi_tokentree.specs.Damages.{IsHeadPart, NodeBreaks}
-use Rattle.sasi_tokentree.specs.Reads.{IsInNode, FindsBelow}
+use Rattle.sasi_tokentree.specs.Damages.{IsHeaderPart, NodeBreaks}
+use Rattle.sasi_tokentree.specs.Reads.{IsInNode, IsLowerBound}
 use Rattle.sasi_host.specs.Damages.{seen_bytes, HasAt, IsOther}
 
 -- ---- what is seen
 
 -- in the header of a node
-pub head_in : (file : FileName) (at : ℕ) (bytes : Bytes) (level count offset : ℕ) (wanted : Bytes) (damage : Damage) → IsHeadPart level count offset
+pub head_in : (file : FileName) (at : ℕ) (bytes : Bytes) (level count offset : ℕ) (wanted : Bytes) (damage : Damage) → IsHeaderPart level count offset
     wanted → IsOther file at bytes offset wanted Number damage → IsInNode file at bytes level count damage
 head_in file at bytes level count offset wanted damage part other = record {
   offset = offset;
   named = other.named;
-  place = other.place;
+  offset_is = other.offset_is;
   long = λ short. let clash : Number ≡ Short = sym other.rule_is ∙ short in absurd (cc);
   breaks = subst (λ (r : FormatRule). NodeBreaks bytes (record { level = level; at = 0; count = count }) r offset (seen_bytes damage.seen)) (sym other.rule_is)
-      (record { offset = offset; wanted = wanted; part = part; place = omega arith; differs = other.differs });
+      (record { offset = offset; wanted = wanted; part = part; offset_is = omega arith; differs = other.differs });
 }
 
 -- an entry that doesn't come after the one before it
@@ -45,7 +45,7 @@ disorder_in file at bytes level count index n last pair damage long some lt fit 
     record {
       offset = 8 + 16 * index;
       named = named;
-      place = place;
+      offset_is = place;
       long = λ short. let clash : Order ≡ Short = sym rule ∙ short in absurd (cc);
       breaks = subst (λ (r : FormatRule). NodeBreaks bytes (record { level = level; at = 0; count = count }) r (8 + 16 * index) (seen_bytes damage.seen)) (sym rule) (record {
         index = index - 1;
@@ -56,7 +56,7 @@ disorder_in file at bytes level count index n last pair damage long some lt fit 
             (both_at bytes (8 + 16 * (index - 1)) (8 + 16 * index) (entry last) (entry pair) last_stands next pair_stands);
         fit = fit;
         disorder = disorder;
-        place = omega (arith, some);
+        offset_is = omega (arith, some);
         told = seen ∙ ap (λ (k : ℕ). take k (drop (8 + 16 * index) bytes)) eight ∙ told;
       });
     }
@@ -66,28 +66,28 @@ disorder_in file at bytes level count index n last pair damage long some lt fit 
 within_head : (bytes : Bytes) (offset n : ℕ) → offset + n ≤ 8 → take n (drop offset bytes) ≡ drop offset (take (offset + n) (take 8 bytes))
 within_head bytes offset n le = sym (drop-take offset n bytes) ∙ ap (λ (l : Bytes). drop offset l) (sym (take-take (offset + n) 8 bytes le))
 
-pub head_part : (bytes : Bytes) (level count offset n : ℕ) → offset + n ≤ 8 → take 8 bytes ≡ head level count → take n (drop offset bytes) ≡ drop offset (take (offset + n) (head level count))
+pub head_part : (bytes : Bytes) (level count offset n : ℕ) → offset + n ≤ 8 → take 8 bytes ≡ node_header level count → take n (drop offset bytes) ≡ drop offset (take (offset + n) (node_header level count))
 head_part bytes level count offset n le is = within_head bytes offset n le ∙ ap (λ (l : Bytes). drop offset (take (offset + n) l)) is
 
-pub head_level : (level count : ℕ) → drop 0 (take 1 (head level count)) ≡ level ∷ []
-unfolding head
+pub head_level : (level count : ℕ) → drop 0 (take 1 (node_header level count)) ≡ level ∷ []
+unfolding node_header
 head_level level count = refl
 
-pub head_zero : (level count : ℕ) → drop 1 (take 2 (head level count)) ≡ 0 ∷ []
-unfolding head
+pub head_zero : (level count : ℕ) → drop 1 (take 2 (node_header level count)) ≡ 0 ∷ []
+unfolding node_header
 head_zero level count = refl
 
-pub head_count : (level count : ℕ) → drop 2 (take 4 (head level count)) ≡ to_be_bytes w16 count
-unfolding head
+pub head_count : (level count : ℕ) → drop 2 (take 4 (node_header level count)) ≡ to_be_bytes w16 count
+unfolding node_header
 head_count level count = refl
 
-pub head_zeros : (level count : ℕ) → drop 4 (take 8 (head level count)) ≡ 0 ∷ 0 ∷ 0 ∷ 0 ∷ []
-unfolding head
+pub head_zeros : (level count : ℕ) → drop 4 (take 8 (node_header level count)) ≡ 0 ∷ 0 ∷ 0 ∷ 0 ∷ []
+unfolding node_header
 head_zeros level count = refl
 
 pub head_is : (bytes : Bytes) (level count : ℕ) → take 1 (drop 0 bytes) ≡ level ∷ [] → take 1 (drop 1 bytes) ≡ 0 ∷ [] → take 2 (drop 2 bytes) ≡
-    to_be_bytes w16 count → take 4 (drop 4 bytes) ≡ 0 ∷ 0 ∷ 0 ∷ 0 ∷ [] → take 8 bytes ≡ head level count
-unfolding head
+    to_be_bytes w16 count → take 4 (drop 4 bytes) ≡ 0 ∷ 0 ∷ 0 ∷ 0 ∷ [] → take 8 bytes ≡ node_header level count
+unfolding node_header
 head_is bytes level count one two three four =
     take-add 1 7 bytes ∙ ap (λ (l : Bytes). l ++ take 7 (drop 1 bytes)) one
     ∙ ap (λ (l : Bytes). level ∷ l) (take-add 1 6 (drop 1 bytes) ∙ ap (λ (l : Bytes). l ++ take 6 (drop 1 (drop 1 bytes))) two ∙ ap (λ (l : Bytes). 0 ∷ take 6 l) (drop-drop 1 1 bytes)
@@ -109,7 +109,7 @@ pub from_entry : (level : ℕ) (entries : List Pair) (index : ℕ) → index < l
 unfolding node
 from_entry level entries index lt =
     sym (drop-drop (16 * index) 8 (node level entries))
-    ∙ ap (λ (l : Bytes). drop (16 * index) l) (drop_at (head level (length entries)) (flat_map entry entries) 8 (head_length level (length entries)))
+    ∙ ap (λ (l : Bytes). drop (16 * index) l) (drop_at (node_header level (length entries)) (flat_map entry entries) 8 (head_length level (length entries)))
     ∙ drop_entries entries index
     ∙ ap (λ (l : List Pair). flat_map entry l) (drop_more entries index (record { token = 0; place = 0 }) lt)
 
@@ -173,7 +173,7 @@ do_not_fall entries rising first (suc more) lt =
 
 pub found_at : (level count token index : ℕ) (bytes : Bytes) (entries : List Pair) (last pair : Pair) → length bytes ≡ 8 + 16 * count → bytes ≡ node
     level entries → IsRising entries → index < count → pair ≡ pair_at entries index → token ≤ pair.token
-    → ((k : ℕ) → k < index → (pair_at entries k).token < token) → (0 < index → last ≡ pair_at entries (index - 1)) → FindsBelow entries token index last.place
+    → ((k : ℕ) → k < index → (pair_at entries k).token < token) → (0 < index → last ≡ pair_at entries (index - 1)) → IsLowerBound entries token index last.place
 found_at level count token index bytes entries last pair long is rising lt pair_is reached below last_is = record {
   counts = record {
     within = omega (arith, long, ap length is, node_length level entries);
@@ -187,7 +187,7 @@ found_at level count token index bytes entries last pair long is rising lt pair_
 }
 
 pub found_all : (level count token : ℕ) (bytes : Bytes) (entries : List Pair) (last : Pair) → length bytes ≡ 8 + 16 * count → bytes ≡ node level entries
-    → ((k : ℕ) → k < count → (pair_at entries k).token < token) → (0 < count → last ≡ pair_at entries (count - 1)) → FindsBelow entries token count last.place
+    → ((k : ℕ) → k < count → (pair_at entries k).token < token) → (0 < count → last ≡ pair_at entries (count - 1)) → IsLowerBound entries token count last.place
 found_all level count token bytes entries last long is below last_is = record {
   counts = record {
     within = omega (arith, long, ap length is, node_length level entries);

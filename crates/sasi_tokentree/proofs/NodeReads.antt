@@ -10,14 +10,14 @@ use Rattle.sasi_host.specs.declared.fault.ReadFault.{ReadFault}
 use Rattle.sasi_host.specs.declared.fault.ReadFault.TheVariants as fault
 use Rattle.sasi_host.specs.Names.{Bytes}
 use Rattle.sasi_host.specs.View.{View}
-use Rattle.sasi_host.specs.Places.{at_window, differs_in, inner_at}
-use Rattle.sasi_host.specs.Showing.{shown_as}
-use Rattle.sasi_tokentree.specs.Format.{entry, head, node}
+use Rattle.sasi_host.specs.Offsets.{at_window, differs_in, inner_at}
+use Rattle.sasi_host.specs.DamageLaws.{shown_as}
+use Rattle.sasi_tokentree.specs.Format.{entry, node_header, node}
 use Rattle.sasi_tokentree.specs.Damages.{Node, IsNodeFrom, NodeBreaks, ShowsOf, ShownOf}
 use Rattle.sasi_tokentree.specs.Damages.IsNodeFrom.{of_level}
 use Rattle.sasi_tokentree.specs.Sizes.{head_length, node_length}
-use Rattle.sasi_tokentree.specs.Reads.{HasNode, IsInNode, SparesNode}
-use Rattle.sasi_host.specs.Damages.{seen_bytes, HasAt, ShowsEnd, Shown}
+use Rattle.sasi_tokentree.specs.Reads.{HasNode, IsInNode, NoFalseNodeDamage}
+use Rattle.sasi_host.specs.Damages.{seen_bytes, HasAt, ShowsEnd, DamageShown}
 
 -- a read there gives the node
 pub node_is : (bytes out : Bytes) (level at n : ℕ) (entries : List Pair) → HasNode bytes level at entries → n ≡ 8 + 16 * length entries → out ≡ take n (drop at bytes) → out ≡ node level entries
@@ -30,7 +30,7 @@ node_ends bytes level at entries has =
     omega (
       arith,
       ap length has.stands.is,
-      has.stands.place,
+      has.stands.offset_is,
       length-append (has.stands.front ++ node level entries) has.stands.rest,
       length-append
           has.stands.front (node level entries),
@@ -38,15 +38,15 @@ node_ends bytes level at entries has =
     )
 
 -- so no node stands where the file ends before
-pub early_spares : (v : View) (file : FileName) (level at count n : ℕ) (f : ReadFault) → n ≡ 8 + 16 * count → Shown v file (ShowsEnd (at + n) file) f → SparesNode v file level at count f
+pub early_spares : (v : View) (file : FileName) (level at count n : ℕ) (f : ReadFault) → n ≡ 8 + 16 * count → DamageShown v file (ShowsEnd (at + n) file) f → NoFalseNodeDamage v file level at count f
 early_spares v file level at count n fault.Failed size early = tt
 early_spares v file level at count n fault.OutOfMemory size early = tt
 early_spares v file level at count n (fault.Damaged damage) size early = λ bytes entries is has long. let less = (early bytes is).short in omega (arith, less, node_ends bytes level at entries has)
 
 -- the header that a node begins with
-pub node_head : (out : Bytes) (level count : ℕ) (entries : List Pair) → out ≡ node level entries → length entries ≡ count → take 8 out ≡ head level count
+pub node_head : (out : Bytes) (level count : ℕ) (entries : List Pair) → out ≡ node level entries → length entries ≡ count → take 8 out ≡ node_header level count
 unfolding node
-node_head out level count entries is long = ap (λ (l : Bytes). take 8 l) is ∙ take_at (head level (length entries)) _ 8 (head_length level (length entries)) ∙ ap (λ (k : ℕ). head level k) long
+node_head out level count entries is long = ap (λ (l : Bytes). take 8 l) is ∙ take_at (node_header level (length entries)) _ 8 (head_length level (length entries)) ∙ ap (λ (k : ℕ). node_header level k) long
 
 -- ---- damage of a node
 
@@ -58,7 +58,7 @@ node_in bytes at window level count Number offset seen has long breaks = record 
   offset = breaks.offset;
   wanted = breaks.wanted;
   part = breaks.part;
-  place = omega (arith, breaks.place);
+  offset_is = omega (arith, breaks.offset_is);
   differs = differs_in bytes at window offset seen breaks.wanted has breaks.differs;
 }
 node_in bytes at window level count Order offset seen has long breaks = record {
@@ -70,7 +70,7 @@ node_in bytes at window level count Order offset seen has long breaks = record {
       (inner_at bytes at window (0 + (8 + 16 * breaks.index)) (entry breaks.last ++ entry breaks.pair) has breaks.stands);
   fit = breaks.fit;
   disorder = breaks.disorder;
-  place = omega (arith, breaks.place);
+  offset_is = omega (arith, breaks.offset_is);
   told = breaks.told;
 }
 node_in bytes at window level count Missing offset seen has long breaks = breaks
@@ -88,18 +88,18 @@ node_shown file bytes at window level count damage has seen = record {
   node = record { level = level; at = at; count = count };
   is_of = refl;
   breaks = subst (λ (n : ℕ). NodeBreaks bytes (record { level = level; at = at; count = count }) damage.rule n (seen_bytes damage.seen))
-      (sym seen.place) (node_in bytes at window level count damage.rule seen.offset (seen_bytes damage.seen) has seen.long seen.breaks);
+      (sym seen.offset_is) (node_in bytes at window level count damage.rule seen.offset (seen_bytes damage.seen) has seen.long seen.breaks);
 }
 
 -- a file that ends before one of these nodes does breaks it
 pub early_shown : (These : Node → Type 0) (v : View) (file : FileName) (end : ℕ) (node : Node) (f : ReadFault) → These node → end ≤ node.at +
-    (8 + 16 * node.count) → Shown v file (ShowsEnd end file) f → ShownOf These v file f
+    (8 + 16 * node.count) → DamageShown v file (ShowsEnd end file) f → ShownOf These v file f
 early_shown These v file end node f is_of le early =
     shown_as (ShowsEnd end file) (ShowsOf These file) v file f (λ bytes damage is ends. record {
       named = ends.tells.named;
       node = node;
       is_of = is_of;
-      breaks = subst (λ (r : FormatRule). NodeBreaks bytes node r damage.at (seen_bytes damage.seen)) (sym ends.tells.rule) (omega (arith, ends.short, le), ends.tells.place, ends.tells.seen);
+      breaks = subst (λ (r : FormatRule). NodeBreaks bytes node r damage.at (seen_bytes damage.seen)) (sym ends.tells.rule) (omega (arith, ends.short, le), ends.tells.offset_is, ends.tells.seen);
     }) early
 
 -- damage of some nodes is that of more

@@ -10,47 +10,47 @@ use Rattle.sasi_host.specs.declared.fault.ReadFault.TheVariants as fault
 use Rattle.sasi_host.specs.Names.{Bytes}
 use Rattle.sasi_host.specs.View.{View, Rose, ReadsAtMost}
 use Rattle.sasi_host.specs.Disk.{Changes, Same}
-use Rattle.sasi_tokentree.specs.Format.{nodes, size, part, above}
+use Rattle.sasi_tokentree.specs.Format.{nodes, size, entries_of_node, above}
 use Rattle.sasi_tokentree.specs.Sizes.{part_length, first_above_length}
-use Rattle.sasi_tokentree.specs.Heights.{height, lead, no_lead, more_lead, one_high, more_high}
-use Rattle.sasi_tokentree.specs.Reads.{SparesNode, SparesLevel, StandsFrom}
-use Rattle.sasi_tokentree.proofs.Holding.{reads_still}
-use Rattle.sasi_tokentree.proofs.Standing.{stands_node, stands_above, stands_one}
+use Rattle.sasi_tokentree.specs.Heights.{height, bytes_below_root, none_below_root, more_below_root, one_high, more_high}
+use Rattle.sasi_tokentree.specs.Reads.{NoFalseNodeDamage, NoFalseLevelDamage, HasLevels}
+use Rattle.sasi_tokentree.proofs.AfterRead.{reads_still}
+use Rattle.sasi_tokentree.proofs.StoredLevels.{stands_node, stands_above, stands_one}
 
-pub part_size : (entries : List Pair) (node count here : ℕ) → length entries ≡ count → here ≡ min (count - 255 * node) 255 → length (part entries node) ≡ here
+pub part_size : (entries : List Pair) (node count here : ℕ) → length entries ≡ count → here ≡ min (count - 255 * node) 255 → length (entries_of_node entries node) ≡ here
 part_size entries node count here long is = omega (arith, part_length entries node, long, is)
 
 pub spares_part : (v : View) (file : FileName) (level at count node here : ℕ) (f : ReadFault) → 255 * node < count → here ≡ min (count - 255 * node)
-    255 → SparesNode v file level (at + 4088 * node) here f → SparesLevel v file level at count f
-spares_part v file level at count node here fault.Failed lt is spares = tt
-spares_part v file level at count node here fault.OutOfMemory lt is spares = tt
-spares_part v file level at count node here (fault.Damaged damage) lt is spares = λ bytes entries reads stands long.
-    spares bytes (part entries node) reads (stands_node bytes level at entries node stands (omega (arith, lt, long))) (part_size entries node count here long is)
+    255 → NoFalseNodeDamage v file level (at + 4088 * node) here f → NoFalseLevelDamage v file level at count f
+spares_part v file level at count node here fault.Failed lt is no_false_damage = tt
+spares_part v file level at count node here fault.OutOfMemory lt is no_false_damage = tt
+spares_part v file level at count node here (fault.Damaged damage) lt is no_false_damage = λ bytes entries reads stands long.
+    no_false_damage bytes (entries_of_node entries node) reads (stands_node bytes level at entries node stands (omega (arith, lt, long))) (part_size entries node count here long is)
 
-pub spares_one : (v : View) (file : FileName) (level at count : ℕ) (f : ReadFault) → count ≤ 255 → SparesNode v file level at count f → SparesLevel v file level at count f
-spares_one v file level at count fault.Failed le spares = tt
-spares_one v file level at count fault.OutOfMemory le spares = tt
-spares_one v file level at count (fault.Damaged damage) le spares = λ bytes entries reads stands long. spares bytes entries reads
+pub spares_one : (v : View) (file : FileName) (level at count : ℕ) (f : ReadFault) → count ≤ 255 → NoFalseNodeDamage v file level at count f → NoFalseLevelDamage v file level at count f
+spares_one v file level at count fault.Failed le no_false_damage = tt
+spares_one v file level at count fault.OutOfMemory le no_false_damage = tt
+spares_one v file level at count (fault.Damaged damage) le no_false_damage = λ bytes entries reads stands long. no_false_damage bytes entries reads
     (stands_one bytes level at entries stands (omega (arith, le, long))) long
 
-pub up : (bytes : Bytes) (level at count : ℕ) (entries : List Pair) → 255 < count → length entries ≡ count → StandsFrom bytes level at entries →
-    StandsFrom bytes (level + 1) (at + size count) (above at entries)
-up bytes level at count entries many long stands = subst (λ (n : ℕ). StandsFrom bytes (level + 1) (at + size n) (above at entries)) long
+pub up : (bytes : Bytes) (level at count : ℕ) (entries : List Pair) → 255 < count → length entries ≡ count → HasLevels bytes level at entries →
+    HasLevels bytes (level + 1) (at + size count) (above at entries)
+up bytes level at count entries many long stands = subst (λ (n : ℕ). HasLevels bytes (level + 1) (at + size n) (above at entries)) long
     (stands_above bytes level at entries stands (omega (arith, many, long)))
 
 pub up_length : (at count : ℕ) (entries : List Pair) → length entries ≡ count → length (above at entries) ≡ nodes count
 up_length at count entries long = first_above_length at entries (nodes (length entries)) ∙ ap nodes long
 
-pub spares_up : (v : View) (file : FileName) (level at count : ℕ) (f : ReadFault) → 255 < count → SparesLevel v file (level + 1) (at + size count) (nodes count) f → SparesLevel v file level at count f
-spares_up v file level at count fault.Failed many spares = tt
-spares_up v file level at count fault.OutOfMemory many spares = tt
-spares_up v file level at count (fault.Damaged damage) many spares = λ bytes entries reads stands long.
-    spares bytes (above at entries) reads (up bytes level at count entries many long stands) (up_length at count entries long)
+pub spares_up : (v : View) (file : FileName) (level at count : ℕ) (f : ReadFault) → 255 < count → NoFalseLevelDamage v file (level + 1) (at + size count) (nodes count) f → NoFalseLevelDamage v file level at count f
+spares_up v file level at count fault.Failed many no_false_damage = tt
+spares_up v file level at count fault.OutOfMemory many no_false_damage = tt
+spares_up v file level at count (fault.Damaged damage) many no_false_damage = λ bytes entries reads stands long.
+    no_false_damage bytes (above at entries) reads (up bytes level at count entries many long stands) (up_length at count entries long)
 
-pub spares_before : (a b : View) (was now : FileName) (level at count : ℕ) (f : ReadFault) → Changes Same a b → now ≡ was → SparesLevel b now level at count f → SparesLevel a was level at count f
-spares_before a b was now level at count fault.Failed change same spares = tt
-spares_before a b was now level at count fault.OutOfMemory change same spares = tt
-spares_before a b was now level at count (fault.Damaged damage) change same spares = λ bytes entries reads. spares bytes entries (reads_still a b was now bytes change same reads)
+pub spares_before : (a b : View) (was now : FileName) (level at count : ℕ) (f : ReadFault) → Changes Same a b → now ≡ was → NoFalseLevelDamage b now level at count f → NoFalseLevelDamage a was level at count f
+spares_before a b was now level at count fault.Failed change same no_false_damage = tt
+spares_before a b was now level at count fault.OutOfMemory change same no_false_damage = tt
+spares_before a b was now level at count (fault.Damaged damage) change same no_false_damage = λ bytes entries reads. no_false_damage bytes entries (reads_still a b was now bytes change same reads)
 
 -- ---- reads
 
@@ -125,11 +125,11 @@ above_reads a b (suc most) count first many le one = reads_within a b (2 * heigh
 
 -- ---- the bytes before the last level
 
-pub lead_none : (most count : ℕ) → count ≤ 255 → 0 ≡ lead most count
-unfolding lead
-lead_none zero count le = refl
-lead_none (suc most) count le = sym (no_lead most count le)
+pub below_root_none : (most count : ℕ) → count ≤ 255 → 0 ≡ bytes_below_root most count
+unfolding bytes_below_root
+below_root_none zero count le = refl
+below_root_none (suc most) count le = sym (none_below_root most count le)
 
-pub lead_more : (most count here above : ℕ) → 255 < count → count ≤ most → here ≡ size count → ((bound : ℕ) → nodes count ≤ bound → above ≡ lead bound (nodes count)) → here + above ≡ lead most count
-lead_more zero count here above many le is others = absurd (omega arith)
-lead_more (suc most) count here above many le is others = omega (arith, is, others most (omega (arith, many, le)), more_lead most count many)
+pub below_root_more : (most count here above : ℕ) → 255 < count → count ≤ most → here ≡ size count → ((bound : ℕ) → nodes count ≤ bound → above ≡ bytes_below_root bound (nodes count)) → here + above ≡ bytes_below_root most count
+below_root_more zero count here above many le is others = absurd (omega arith)
+below_root_more (suc most) count here above many le is others = omega (arith, is, others most (omega (arith, many, le)), more_below_root most count many)

@@ -9,10 +9,10 @@ use Rattle.sasi_host.specs.declared.damage.FormatRule.{FormatRule}
 use Rattle.sasi_host.specs.declared.damage.FormatRule.TheVariants.{Short, Number, Order}
 use Rattle.sasi_host.specs.declared.fault.ReadFault.{ReadFault}
 use Rattle.sasi_host.specs.Names.{Bytes}
-use Rattle.sasi_host.specs.Damages.{Differs, HasAt, Shown, seen_bytes}
+use Rattle.sasi_host.specs.Damages.{Differs, HasAt, DamageShown, seen_bytes}
 use Rattle.sasi_host.specs.View.{View}
 use Rattle.sasi_tokentree.specs.Format.{entry, nodes, size, AreFit, IsBefore}
-use Rattle.sasi_tokentree.specs.Heights.{lead}
+use Rattle.sasi_tokentree.specs.Heights.{bytes_below_root}
 
 -- ---- the nodes of a tree
 
@@ -29,7 +29,7 @@ pub data IsNodeFrom (node : Node) : ℕ → ℕ → ℕ → Type 0 where
 
 -- where the first leaf of a tree begins
 abbrev pub start : TreeRef → ℕ
-start tree = tree.root - lead tree.pairs tree.pairs
+start tree = tree.root - bytes_below_root tree.pairs tree.pairs
 
 -- it is a node of the tree with this reference
 abbrev pub IsNodeOf : TreeRef → Node → Type 0
@@ -38,18 +38,18 @@ IsNodeOf tree node = IsNodeFrom node 0 (start tree) tree.pairs
 -- ---- what breaks a node
 
 -- the format fixes these bytes at this offset of a node
-pub data IsHeadPart (level count offset : ℕ) (wanted : Bytes) : Type 0 where
-  the_level : offset ≡ 0 → wanted ≡ level ∷ [] → IsHeadPart level count offset wanted
-  a_zero : offset ≡ 1 → wanted ≡ 0 ∷ [] → IsHeadPart level count offset wanted
-  the_count : offset ≡ 2 → wanted ≡ to_be_bytes w16 count → IsHeadPart level count offset wanted
-  four_zeros : offset ≡ 4 → wanted ≡ to_be_bytes w32 0 → IsHeadPart level count offset wanted
+pub data IsHeaderPart (level count offset : ℕ) (wanted : Bytes) : Type 0 where
+  the_level : offset ≡ 0 → wanted ≡ level ∷ [] → IsHeaderPart level count offset wanted
+  a_zero : offset ≡ 1 → wanted ≡ 0 ∷ [] → IsHeaderPart level count offset wanted
+  the_count : offset ≡ 2 → wanted ≡ to_be_bytes w16 count → IsHeaderPart level count offset wanted
+  four_zeros : offset ≡ 4 → wanted ≡ to_be_bytes w32 0 → IsHeaderPart level count offset wanted
 
 -- a field of its header is wrong
-pub record HasWrongHead (bytes : Bytes) (node : Node) (at : ℕ) (seen : Bytes) : Type 0 where
+pub record HasWrongHeader (bytes : Bytes) (node : Node) (at : ℕ) (seen : Bytes) : Type 0 where
   pub offset : ℕ
   pub wanted : Bytes
-  pub part : IsHeadPart node.level node.count offset wanted
-  pub place : at ≡ node.at + offset
+  pub part : IsHeaderPart node.level node.count offset wanted
+  pub offset_is : at ≡ node.at + offset
   pub differs : Differs bytes at seen wanted
 
 -- an entry isn't above the one before it
@@ -61,13 +61,13 @@ pub record HasDisorder (bytes : Bytes) (node : Node) (at : ℕ) (seen : Bytes) :
   pub stands : HasAt bytes (node.at + (8 + 16 * index)) (entry last ++ entry pair)
   pub fit : AreFit (last ∷ pair ∷ [])
   pub disorder : ¬ IsBefore last pair
-  pub place : at ≡ node.at + (8 + 16 * (index + 1))
+  pub offset_is : at ≡ node.at + (8 + 16 * (index + 1))
   pub told : seen ≡ to_be_bytes w64 pair.token
 
 -- the node breaks the rule at the offset, and the seen bytes are there
 abbrev pub NodeBreaks : Bytes → Node → FormatRule → ℕ → Bytes → Type 0
 NodeBreaks bytes node Short at seen = (length bytes < node.at + (8 + 16 * node.count)) × (at ≡ length bytes) × (seen ≡ to_be_bytes w64 (length bytes))
-NodeBreaks bytes node Number at seen = HasWrongHead bytes node at seen
+NodeBreaks bytes node Number at seen = HasWrongHeader bytes node at seen
 NodeBreaks bytes node Order at seen = HasDisorder bytes node at seen
 NodeBreaks bytes node _ at seen = ⊥
 
@@ -86,4 +86,4 @@ ShowsTree file tree = ShowsOf (IsNodeOf tree) file
 
 -- damage is that one of these nodes breaks a rule
 abbrev pub ShownOf : (Node → Type 0) → View → FileName → ReadFault → Type 0
-ShownOf These v file = Shown v file (ShowsOf These file)
+ShownOf These v file = DamageShown v file (ShowsOf These file)

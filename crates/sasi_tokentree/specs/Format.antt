@@ -27,12 +27,12 @@ unfoldable pub entry : Pair → Bytes
 entry pair = to_be_bytes w64 pair.token ++ to_be_bytes w64 pair.place
 
 -- the header of a node: the level, a zero byte, the number of entries, and four zero bytes
-unfoldable pub head : ℕ → ℕ → Bytes
-head level count = level ∷ 0 ∷ (to_be_bytes w16 count ++ to_be_bytes w32 0)
+unfoldable pub node_header : ℕ → ℕ → Bytes
+node_header level count = level ∷ 0 ∷ (to_be_bytes w16 count ++ to_be_bytes w32 0)
 
 -- a node: its header and its entries
 unfoldable pub node : ℕ → List Pair → Bytes
-node level entries = head level (length entries) ++ flat_map entry entries
+node level entries = node_header level (length entries) ++ flat_map entry entries
 
 -- ---- a level
 
@@ -45,13 +45,13 @@ abbrev pub size : ℕ → ℕ
 size entries = 16 * entries + 8 * nodes entries
 
 -- the entries of a node, counted from the left: 255, or what is left for the last one
-abbrev pub part : List Pair → ℕ → List Pair
-part entries index = take 255 (drop (255 * index) entries)
+abbrev pub entries_of_node : List Pair → ℕ → List Pair
+entries_of_node entries index = take 255 (drop (255 * index) entries)
 
 -- the first so many nodes of a level, without gaps
 unfoldable pub first_nodes : ℕ → List Pair → ℕ → Bytes
 first_nodes level entries zero = []
-first_nodes level entries (suc index) = first_nodes level entries index ++ node level (part entries index)
+first_nodes level entries (suc index) = first_nodes level entries index ++ node level (entries_of_node entries index)
 
 -- all its nodes
 abbrev pub level_bytes : ℕ → List Pair → Bytes

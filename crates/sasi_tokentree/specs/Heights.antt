@@ -12,26 +12,26 @@ height zero count = 0
 height (suc most) count = if nat_le count 255 then 1 else (1 + height most (nodes count))
 
 -- how many bytes the levels below the root take
-unfoldable pub lead : ℕ → ℕ → ℕ
-lead zero count = 0
-lead (suc most) count = if nat_le count 255 then 0 else (size count + lead most (nodes count))
+unfoldable pub bytes_below_root : ℕ → ℕ → ℕ
+bytes_below_root zero count = 0
+bytes_below_root (suc most) count = if nat_le count 255 then 0 else (size count + bytes_below_root most (nodes count))
 
 -- the most entries of a level, by its number
-abbrev pub greatest : ℕ → ℕ
-greatest zero = 2 ^ 64
-greatest (suc level) = greatest level / 128
+abbrev pub level_limit : ℕ → ℕ
+level_limit zero = 2 ^ 64
+level_limit (suc level) = level_limit level / 128
 
-few : (more level : ℕ) → level ≡ more + 8 → greatest level ≤ 256
-few zero level is = subst (λ (n : ℕ). greatest n ≤ 256) (sym is) (lit≤ tt)
+few : (more level : ℕ) → level ≡ more + 8 → level_limit level ≤ 256
+few zero level is = subst (λ (n : ℕ). level_limit n ≤ 256) (sym is) (lit≤ tt)
 few (suc more) zero is = absurd (omega arith)
 few (suc more) (suc level) is = let before = few more level (omega arith) in omega (arith, before)
 
 -- a level of more than one node is below the ninth
-pub is_low : (level count : ℕ) → 256 < count → count ≤ greatest level → level < 8
+pub is_low : (level count : ℕ) → 256 < count → count ≤ level_limit level → level < 8
 is_low level count many le = ⊎_elim (λ high. let less = few (level - 8) level (omega (arith, high.1)) in absurd (omega (arith, less))) (λ low. low.1) (leb_tells 8 level)
 
 -- the level above has so few that no more than its number allows
-pub rises : (level count next : ℕ) → 255 < count → count ≤ greatest level → next ≡ nodes count → next ≤ greatest (level + 1)
+pub rises : (level count next : ℕ) → 255 < count → count ≤ level_limit level → next ≡ nodes count → next ≤ level_limit (level + 1)
 rises level count next many le is = rw add-one (omega (arith, is))
 
 pub one_high : (most count : ℕ) → count ≤ 255 → height (suc most) count ≡ 1
@@ -42,27 +42,27 @@ pub more_high : (most count : ℕ) → 255 < count → height (suc most) count �
 unfolding height
 more_high most count lt = rw (lt-leb count 255 lt)
 
-pub no_lead : (most count : ℕ) → count ≤ 255 → lead (suc most) count ≡ 0
-unfolding lead
-no_lead most count le = rw (le-leb count 255 le)
+pub none_below_root : (most count : ℕ) → count ≤ 255 → bytes_below_root (suc most) count ≡ 0
+unfolding bytes_below_root
+none_below_root most count le = rw (le-leb count 255 le)
 
-pub more_lead : (most count : ℕ) → 255 < count → lead (suc most) count ≡ size count + lead most (nodes count)
-unfolding lead
-more_lead most count lt = rw (lt-leb count 255 lt)
+pub more_below_root : (most count : ℕ) → 255 < count → bytes_below_root (suc most) count ≡ size count + bytes_below_root most (nodes count)
+unfolding bytes_below_root
+more_below_root most count lt = rw (lt-leb count 255 lt)
 
 -- the last level begins behind the others
-pub top_is : (most at count : ℕ) → 0 < count → count ≤ most → top most at count ≡ at + lead most count
+pub top_is : (most at count : ℕ) → 0 < count → count ≤ most → top most at count ≡ at + bytes_below_root most count
 top_is zero at count some le = absurd (omega arith)
 top_is (suc most) at count some le = ⊎_elim
-    (λ one. top_one most at count one.1 ∙ omega (arith, no_lead most count one.1))
-    (λ more. top_more most at count more.1 ∙ top_is most (at + size count) (nodes count) (omega arith) (omega (arith, more.1, le)) ∙ omega (arith, more_lead most count more.1))
+    (λ one. top_one most at count one.1 ∙ omega (arith, none_below_root most count one.1))
+    (λ more. top_more most at count more.1 ∙ top_is most (at + size count) (nodes count) (omega arith) (omega (arith, more.1, le)) ∙ omega (arith, more_below_root most count more.1))
     (leb_tells count 255)
 
 -- the others take less than 17 bytes for each entry
-pub lead_short : (most count : ℕ) → count ≤ most → lead most count ≤ 17 * count
-unfolding lead
-lead_short zero count le = omega arith
-lead_short (suc most) count le = ⊎_elim
-    (λ one. omega (arith, no_lead most count one.1))
-    (λ more. omega (arith, more.1, more_lead most count more.1, lead_short most (nodes count) (omega (arith, more.1, le))))
+pub below_root_short : (most count : ℕ) → count ≤ most → bytes_below_root most count ≤ 17 * count
+unfolding bytes_below_root
+below_root_short zero count le = omega arith
+below_root_short (suc most) count le = ⊎_elim
+    (λ one. omega (arith, none_below_root most count one.1))
+    (λ more. omega (arith, more.1, more_below_root most count more.1, below_root_short most (nodes count) (omega (arith, more.1, le))))
     (leb_tells count 255)

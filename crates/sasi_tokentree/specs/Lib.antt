@@ -4,6 +4,6 @@ pub mod Heights
 pub mod Damages
 pub mod Writes
 pub mod Reads
-pub mod Walks
-pub mod Nearness
+pub mod Scans
+pub mod EntryPages
 pub mod Laws

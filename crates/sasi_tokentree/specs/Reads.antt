@@ -18,13 +18,13 @@ use Rattle.sasi_tokentree.specs.Damages.{NodeBreaks}
 pub record IsInNode (file : FileName) (at : ℕ) (window : Bytes) (level count : ℕ) (damage : Damage) : Type 0 where
   pub offset : ℕ
   pub named : damage.file ≡ file
-  pub place : damage.at ≡ at + offset
+  pub offset_is : damage.at ≡ at + offset
   pub long : damage.rule ≢ Short
   pub breaks : NodeBreaks window (record { level = level; at = 0; count = count }) damage.rule offset (seen_bytes damage.seen)
 
 -- damage is reported only where the file doesn't have the tree
-abbrev pub Spares : View → FileName → TreeRef → ReadFault → Type 0
-Spares v file tree = OnDamage (λ _. (bytes : Bytes) (pairs : List Pair) → contents v file ≡ Some bytes → HasTree bytes tree pairs → ⊥)
+abbrev pub NoFalseTreeDamage : View → FileName → TreeRef → ReadFault → Type 0
+NoFalseTreeDamage v file tree = OnDamage (λ _. (bytes : Bytes) (pairs : List Pair) → contents v file ≡ Some bytes → HasTree bytes tree pairs → ⊥)
 
 -- ---- a level in a file, with those above it
 
@@ -35,14 +35,14 @@ pub record HasNode (bytes : Bytes) (level at : ℕ) (entries : List Pair) : Type
   pub fit : AreFit entries
 
 -- at this offset the file has the nodes of a level of these entries, and then those of the levels above it
-pub record StandsFrom (bytes : Bytes) (level at : ℕ) (entries : List Pair) : Type 0 where
+pub record HasLevels (bytes : Bytes) (level at : ℕ) (entries : List Pair) : Type 0 where
   pub most : ℕ
   pub front : Bytes
   pub rest : Bytes
   pub enough : length entries ≤ most
   pub some : 0 < length entries
   pub is : bytes ≡ front ++ levels most level at entries ++ rest
-  pub place : length front ≡ at
+  pub offset_is : length front ≡ at
   pub rising : IsRising entries
   pub fit : AreFit entries
   pub short : length bytes ≤ 2 ^ 62
@@ -54,18 +54,18 @@ pub record CountsBelow (entries : List Pair) (token count : ℕ) : Type 0 where
   pub above : (index : ℕ) → count ≤ index → index < length entries → token ≤ (pair_at entries index).token
 
 -- of these entries so many have tokens below this one, and this is the place of the last of them
-pub record FindsBelow (entries : List Pair) (token count place : ℕ) : Type 0 where
+pub record IsLowerBound (entries : List Pair) (token count place : ℕ) : Type 0 where
   pub counts : CountsBelow entries token count
   pub last : 0 < count → place ≡ (pair_at entries (count - 1)).place
 
 -- damage is reported only where the file has no node of so many entries there
-abbrev pub SparesNode : View → FileName → ℕ → ℕ → ℕ → ReadFault → Type 0
-SparesNode v file level at count = OnDamage (λ _. (bytes : Bytes) (entries : List Pair) → contents v file ≡ Some bytes → HasNode bytes level at entries → length entries ≡ count → ⊥)
+abbrev pub NoFalseNodeDamage : View → FileName → ℕ → ℕ → ℕ → ReadFault → Type 0
+NoFalseNodeDamage v file level at count = OnDamage (λ _. (bytes : Bytes) (entries : List Pair) → contents v file ≡ Some bytes → HasNode bytes level at entries → length entries ≡ count → ⊥)
 
 -- damage is reported only where the file has no level of so many entries there, with those above it
-abbrev pub SparesLevel : View → FileName → ℕ → ℕ → ℕ → ReadFault → Type 0
-SparesLevel v file level at count = OnDamage (λ _. (bytes : Bytes) (entries : List Pair) → contents v file ≡ Some bytes → StandsFrom bytes level at entries → length entries ≡ count → ⊥)
+abbrev pub NoFalseLevelDamage : View → FileName → ℕ → ℕ → ℕ → ReadFault → Type 0
+NoFalseLevelDamage v file level at count = OnDamage (λ _. (bytes : Bytes) (entries : List Pair) → contents v file ≡ Some bytes → HasLevels bytes level at entries → length entries ≡ count → ⊥)
 
 -- damage is reported only where the file has no leaves there that reach to a pair with this index
-abbrev pub SparesPair : View → FileName → ℕ → ℕ → ReadFault → Type 0
-SparesPair v file at index = OnDamage (λ _. (bytes : Bytes) (entries : List Pair) → contents v file ≡ Some bytes → StandsFrom bytes 0 at entries → index < length entries → ⊥)
+abbrev pub NoFalsePairDamage : View → FileName → ℕ → ℕ → ReadFault → Type 0
+NoFalsePairDamage v file at index = OnDamage (λ _. (bytes : Bytes) (entries : List Pair) → contents v file ≡ Some bytes → HasLevels bytes 0 at entries → index < length entries → ⊥)

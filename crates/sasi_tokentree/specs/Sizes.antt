@@ -6,7 +6,7 @@ use Rattle.std.proofs.lemmas.Bool.{le-leb, lt-leb}
 use Rattle.std.specs.List.{flat_map}
 use Rattle.std.specs.Int.{to_be_bytes, w16, w32, w64}
 use Rattle.sasi_types.specs.declared.tree.Pair.{Pair}
-use Rattle.sasi_tokentree.specs.Format.{entry, head, node, nodes, size, part, first_nodes, level_bytes, entry_for, first_above, above, levels, top}
+use Rattle.sasi_tokentree.specs.Format.{entry, node_header, node, nodes, size, entries_of_node, first_nodes, level_bytes, entry_for, first_above, above, levels, top}
 
 -- ---- nodes
 
@@ -18,21 +18,21 @@ pub entries_length : (entries : List Pair) → length (flat_map entry entries) �
 entries_length [] = refl
 entries_length (first ∷ others) = omega (arith, length-append (entry first) (flat_map entry others), entry_length first, entries_length others)
 
-pub head_length : (level count : ℕ) → length (head level count) ≡ 8
-unfolding head
+pub head_length : (level count : ℕ) → length (node_header level count) ≡ 8
+unfolding node_header
 head_length level count = omega (arith, length-append (to_be_bytes w16 count) (to_be_bytes w32 0))
 
 pub node_length : (level : ℕ) (entries : List Pair) → length (node level entries) ≡ 8 + 16 * length entries
 unfolding node
-node_length level entries = omega (arith, length-append (head level (length entries)) (flat_map entry entries), head_length level (length entries), entries_length entries)
+node_length level entries = omega (arith, length-append (node_header level (length entries)) (flat_map entry entries), head_length level (length entries), entries_length entries)
 
-pub part_length : (entries : List Pair) (index : ℕ) → length (part entries index) ≡ min 255 (length entries - 255 * index)
+pub part_length : (entries : List Pair) (index : ℕ) → length (entries_of_node entries index) ≡ min 255 (length entries - 255 * index)
 part_length entries index = length-take 255 (drop (255 * index) entries) ∙ ap (λ (n : ℕ). min 255 n) (length-drop (255 * index) entries)
 
 -- ---- a level
 
 -- one node more
-pub first_nodes_more : (level : ℕ) (entries : List Pair) (index : ℕ) → first_nodes level entries (index + 1) ≡ first_nodes level entries index ++ node level (part entries index)
+pub first_nodes_more : (level : ℕ) (entries : List Pair) (index : ℕ) → first_nodes level entries (index + 1) ≡ first_nodes level entries index ++ node level (entries_of_node entries index)
 unfolding first_nodes
 first_nodes_more level entries index = rw add-one
 
@@ -47,10 +47,10 @@ first_nodes_length level entries zero le = refl
 first_nodes_length level entries (suc index) le =
     omega (
       arith,
-      length-append (first_nodes level entries index) (node level (part entries index)),
+      length-append (first_nodes level entries index) (node level (entries_of_node entries index)),
       first_nodes_length level entries index
           (omega arith),
-      node_length level (part entries index),
+      node_length level (entries_of_node entries index),
       part_length entries index,
     )
 
@@ -65,10 +65,10 @@ level_length level entries = from (nodes (length entries)) refl
         omega (
           arith,
           is,
-          length-append (first_nodes level entries index) (node level (part entries index)),
+          length-append (first_nodes level entries index) (node level (entries_of_node entries index)),
           first_nodes_length level entries index
               (omega (arith, is)),
-          node_length level (part entries index),
+          node_length level (entries_of_node entries index),
           part_length entries index,
         )
 

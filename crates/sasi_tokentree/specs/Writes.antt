@@ -6,18 +6,18 @@ use Rattle.std.proofs.lemmas.List.{take_at, drop_at, drop-drop, append-nil, take
 use Rattle.sasi_host.specs.declared.name.FileName.{FileName}
 use Rattle.sasi_host.specs.Names.{Bytes, Folder}
 use Rattle.sasi_host.specs.View.{View, Reaches, contents, contents_in}
-use Rattle.sasi_host.specs.Disk.{Changes, Same, Step, InPlace, Torn, Becomes, overlay}
+use Rattle.sasi_host.specs.Disk.{Changes, Same, FileChange, InPlace, Torn, Becomes, overlay}
 use Rattle.sasi_host.specs.Contents.{reaches_written}
-use Rattle.sasi_host.specs.Moves.{changes_on, changes_as, stays, step_on, step_as}
+use Rattle.sasi_host.specs.ChangeLaws.{changes_on, changes_as, stays, step_on, step_as}
 
 -- the bytes before this offset stay, and the file gets no shorter
-pub record IsPast (at : ℕ) (old new : Bytes) : Type 0 where
+pub record KeepsBefore (at : ℕ) (old new : Bytes) : Type 0 where
   pub before : take at new ≡ take at old
   pub no_shorter : length old ≤ length new
 
 -- a file changes in place, from this offset on
-abbrev pub ChangesPast : FileName → ℕ → View → View → Type 0
-ChangesPast file at old new = Changes (Step file (InPlace (IsPast at))) old new
+abbrev pub ChangesFrom : FileName → ℕ → View → View → Type 0
+ChangesFrom file at old new = Changes (FileChange file (InPlace (KeepsBefore at))) old new
 
 -- the counts of a call that reads nothing, over the calls so far
 pub record KeepsCounts (old new : View) : Type 0 where
@@ -29,25 +29,25 @@ pub record KeepsCounts (old new : View) : Type 0 where
 pub record Writes (old new : View) (file : FileName) (at : ℕ) (bytes : Bytes) : Type 0 where
   pub becomes : Becomes file (λ was. overlay was at bytes) old new
   pub reaches : Reaches new file (at + length bytes)
-  pub changes : ChangesPast file at old new
+  pub changes : ChangesFrom file at old new
   pub counts : KeepsCounts old new
 
 -- ---- one write after another
 
 -- what stays before a place stays before each earlier one
-pub past_earlier : (at later : ℕ) (old new : Bytes) → at ≤ later → IsPast later old new → IsPast at old new
+pub past_earlier : (at later : ℕ) (old new : Bytes) → at ≤ later → KeepsBefore later old new → KeepsBefore at old new
 past_earlier at later old new le past = record {
   before = sym (take-take at later new le) ∙ ap (λ (l : Bytes). take at l) past.before ∙ take-take at later old le;
   no_shorter = past.no_shorter;
 }
 
-pub past_on : (at : ℕ) (a b c : Bytes) → IsPast at a b → IsPast at b c → IsPast at a c
+pub past_on : (at : ℕ) (a b c : Bytes) → KeepsBefore at a b → KeepsBefore at b c → KeepsBefore at a c
 past_on at a b c first second = record {
   before = second.before ∙ first.before;
   no_shorter = omega (arith, first.no_shorter, second.no_shorter);
 }
 
-in_place_on : (at : ℕ) (x y z : Option Bytes) → InPlace (IsPast at) x y → InPlace (IsPast at) y z → InPlace (IsPast at) x z
+in_place_on : (at : ℕ) (x y z : Option Bytes) → InPlace (KeepsBefore at) x y → InPlace (KeepsBefore at) y z → InPlace (KeepsBefore at) x z
 in_place_on at None None None first second = tt
 in_place_on at None None (Some c) first second = second
 in_place_on at None (Some b) z first second = absurd first
@@ -55,37 +55,37 @@ in_place_on at (Some a) None z first second = absurd first
 in_place_on at (Some a) (Some b) None first second = second
 in_place_on at (Some a) (Some b) (Some c) first second = past_on at a b c first second
 
-in_place_earlier : (at later : ℕ) → at ≤ later → (x y : Option Bytes) → InPlace (IsPast later) x y → InPlace (IsPast at) x y
+in_place_earlier : (at later : ℕ) → at ≤ later → (x y : Option Bytes) → InPlace (KeepsBefore later) x y → InPlace (KeepsBefore at) x y
 in_place_earlier at later le None None changed = tt
 in_place_earlier at later le None (Some b) changed = changed
 in_place_earlier at later le (Some a) None changed = changed
 in_place_earlier at later le (Some a) (Some b) changed = past_earlier at later a b le changed
 
-in_place_torn : (at n : ℕ) (x y : Option Bytes) → InPlace (Torn at n) x y → InPlace (IsPast at) x y
+in_place_torn : (at n : ℕ) (x y : Option Bytes) → InPlace (Torn at n) x y → InPlace (KeepsBefore at) x y
 in_place_torn at n None None changed = tt
 in_place_torn at n None (Some b) changed = changed
 in_place_torn at n (Some a) None changed = changed
 in_place_torn at n (Some a) (Some b) changed = record { before = changed.before; no_shorter = changed.no_shorter }
 
-in_place_same : (at : ℕ) (x : Option Bytes) → InPlace (IsPast at) x x
+in_place_same : (at : ℕ) (x : Option Bytes) → InPlace (KeepsBefore at) x x
 in_place_same at None = tt
 in_place_same at (Some a) = record { before = refl; no_shorter = omega arith }
 
 -- a change past a place, and then one past a later place
-pub changes_past_on : (a b c : View) (file : FileName) (at later : ℕ) → at ≤ later → ChangesPast file at a b → ChangesPast file later b c → ChangesPast file at a c
+pub changes_past_on : (a b c : View) (file : FileName) (at later : ℕ) → at ≤ later → ChangesFrom file at a b → ChangesFrom file later b c → ChangesFrom file at a c
 changes_past_on a b c file at later le first second =
-    changes_on a b c (Step file (InPlace (IsPast at))) (Step file (InPlace (IsPast later))) (Step file (InPlace (IsPast at))) first second (λ x y s. s)
-    (step_on file (InPlace (IsPast at)) (InPlace (IsPast later)) (InPlace (IsPast at)) (λ x y z s t. in_place_on at x y z s (in_place_earlier at later le y z t)))
+    changes_on a b c (FileChange file (InPlace (KeepsBefore at))) (FileChange file (InPlace (KeepsBefore later))) (FileChange file (InPlace (KeepsBefore at))) first second (λ x y s. s)
+    (step_on file (InPlace (KeepsBefore at)) (InPlace (KeepsBefore later)) (InPlace (KeepsBefore at)) (λ x y z s t. in_place_on at x y z s (in_place_earlier at later le y z t)))
 
 -- a write changes the file from its place on
-pub changes_past_torn : (a b : View) (file : FileName) (at n : ℕ) → Changes (Step file (InPlace (Torn at n))) a b → ChangesPast file at a b
+pub changes_past_torn : (a b : View) (file : FileName) (at n : ℕ) → Changes (FileChange file (InPlace (Torn at n))) a b → ChangesFrom file at a b
 changes_past_torn a b file at n change =
-    changes_as a b (Step file (InPlace (Torn at n))) (Step file (InPlace (IsPast at))) change (step_as file (InPlace (Torn at n)) (InPlace (IsPast at)) (in_place_torn at n))
+    changes_as a b (FileChange file (InPlace (Torn at n))) (FileChange file (InPlace (KeepsBefore at))) change (step_as file (InPlace (Torn at n)) (InPlace (KeepsBefore at)) (in_place_torn at n))
 
 -- where nothing is done, nothing changes
-pub changes_past_stays : (v : View) (file : FileName) (at : ℕ) → ChangesPast file at v v
+pub changes_past_stays : (v : View) (file : FileName) (at : ℕ) → ChangesFrom file at v v
 changes_past_stays v file at =
-    changes_as v v Same (Step file (InPlace (IsPast at))) (stays v) (λ x y same. subst (λ (f : Folder). Step file (InPlace (IsPast at)) x f) (sym same) (record {
+    changes_as v v Same (FileChange file (InPlace (KeepsBefore at))) (stays v) (λ x y same. subst (λ (f : Folder). FileChange file (InPlace (KeepsBefore at)) x f) (sym same) (record {
       others = λ name other. refl;
       this = in_place_same at (get x file);
     }))
@@ -143,11 +143,11 @@ writes_on a b c file at x y reaches first second = record {
 
 -- one write writes its bytes
 pub writes_once : (a b : View) (file : FileName) (at : ℕ) (bytes wanted : Bytes) → bytes ≡ wanted → Reaches a file at → Becomes file
-    (λ old. overlay old at bytes) a b → Changes (Step file (InPlace (Torn at (length bytes)))) a b → KeepsCounts a b
+    (λ old. overlay old at bytes) a b → Changes (FileChange file (InPlace (Torn at (length bytes)))) a b → KeepsCounts a b
     → Writes a b file at wanted
 writes_once a b file at bytes wanted is reaches becomes changes counts = subst (λ (l : Bytes). Writes a b file at l) is (record {
   becomes = becomes;
-  reaches = reaches_written a b file (Step file (InPlace (Torn at (length bytes)))) at bytes changes becomes reaches;
+  reaches = reaches_written a b file (FileChange file (InPlace (Torn at (length bytes)))) at bytes changes becomes reaches;
   changes = changes_past_torn a b file at (length bytes) changes;
   counts = counts;
 })

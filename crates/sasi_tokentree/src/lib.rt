@@ -2,14 +2,14 @@
 //! written from left to right, and scanned from any token on. A scan reads each page once.
 #![tactic(auto)]
 
-mod entries;
-mod node;
-mod nodes;
+mod node_decode;
+mod node_encode;
+mod node_read;
 mod order;
 mod seek;
-mod shape;
+mod node_layout;
 mod tree;
-mod walk;
+mod pair_scan;
 mod writing;
 
 pub use order::is_rising;

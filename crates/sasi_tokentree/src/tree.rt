@@ -2,16 +2,16 @@
 ghost use Rattle.std.specs.Prelude.{◌≡◌, ◌+◌, ◌*◌, ◌≤◌, ℕ, [], IfErr, IfOk, IsSome, OnErr, None};
 ghost use Rattle.sasi_host.specs.declared.name.FileName.{FileName};
 ghost use Rattle.sasi_host.specs.View.{ReadsAtMost};
-ghost use Rattle.sasi_host.specs.Held.{fresh_pages};
-ghost use Rattle.sasi_host.specs.Damages.{Shown};
+ghost use Rattle.sasi_host.specs.Buffered.{unbuffered_pages};
+ghost use Rattle.sasi_host.specs.Damages.{DamageShown};
 ghost use Rattle.sasi_host.specs.PageReading.{CanReadOn, HasReadOn};
 ghost use Rattle.sasi_tokentree.specs.Heights.{height};
 ghost use Rattle.sasi_tokentree.specs.Damages.{ShowsTree};
-ghost use Rattle.sasi_tokentree.specs.Reads.{Spares};
-ghost use Rattle.sasi_tokentree.specs.Walks.{GivesEntry, GivesFrom, GivesNext, IsNear, pair_place};
+ghost use Rattle.sasi_tokentree.specs.Reads.{NoFalseTreeDamage};
+ghost use Rattle.sasi_tokentree.specs.Scans.{ReadsEntry, ReadsFirstPair, ReadsNextPair, IsEntryBuffered, pair_place};
 
-use crate::walk::{first_from, pair_from};
-use sasi_host::{FileName, HeldPage, Host, PageReader, ReadFault};
+use crate::pair_scan::{first_from, pair_from};
+use sasi_host::{FileName, BufferedFile, Host, PageReader, ReadFault};
 use sasi_types::{Pair, Token, TreeRef};
 use std::marker::Model;
 
@@ -19,26 +19,26 @@ use std::marker::Model;
 /// passed. A sequential scan reads each page once.
 #[derive(Drop)]
 pub struct Tree {
-    held: HeldPage,
+    buffered: BufferedFile,
     tree: TreeRef,
     passed: u64,
 }
 
 impl Model for Tree {
-    ghost use Rattle.sasi_tokentree.specs.Walks.{Walk};
+    ghost use Rattle.sasi_tokentree.specs.Scans.{PairScan};
 
-    ghost Value = { Walk };
+    ghost Value = { PairScan };
 
-    ghost view = { λ a. record { held = a.held; tree = a.tree; passed = a.passed } };
+    ghost view = { λ a. record { buffered = a.buffered; tree = a.tree; passed = a.passed } };
 }
 
 impl Tree {
     /// A scan of the tree with this reference, before its first pair. It reads nothing yet.
     pub fn new(file: FileName, tree: TreeRef) -> Tree
-        ensures { result ≡ record { held = record { file = file; page = None; bytes = [] }; tree = tree; passed = 0 } }
+        ensures { result ≡ record { buffered = record { file = file; page = None; bytes = [] }; tree = tree; passed = 0 } }
     {
         Tree {
-            held: HeldPage::new(file),
+            buffered: BufferedFile::new(file),
             tree,
             passed: 0,
         }
@@ -52,19 +52,19 @@ impl Tree {
         pages: &mut P,
         token: Token,
     ) -> Result<Option<Pair>, ReadFault>
-        requires read { CanReadOn (P.agrees pages.old) (H.view host.old) self.old.held }
-        ensures ok { IfOk result (λ found. GivesFrom (H.view host.old) self.old.held.file self.old.tree token self.new.passed found) }
+        requires read { CanReadOn (P.agrees pages.old) (H.view host.old) self.old.buffered }
+        ensures ok { IfOk result (λ found. ReadsFirstPair (H.view host.old) self.old.buffered.file self.old.tree token self.new.passed found) }
         // In any file it is an entry of a leaf.
-        ensures stands { IfOk result (λ found. GivesEntry (H.view host.old) self.old.held.file self.old.tree self.new.passed found) }
-        ensures damaged { IfErr result (Shown (H.view host.old) self.old.held.file (ShowsTree self.old.held.file self.old.tree)) }
-        ensures undamaged { IfErr result (Spares (H.view host.old) self.old.held.file self.old.tree) }
-        ensures read { HasReadOn (P.agrees pages.new) (P.covers pages.old) (P.covers pages.new) (H.view host.old) (H.view host.new) self.old.held self.new.held }
-        ensures near { IfOk result (IsNear self.new) }
+        ensures stands { IfOk result (λ found. ReadsEntry (H.view host.old) self.old.buffered.file self.old.tree self.new.passed found) }
+        ensures damaged { IfErr result (DamageShown (H.view host.old) self.old.buffered.file (ShowsTree self.old.buffered.file self.old.tree)) }
+        ensures undamaged { IfErr result (NoFalseTreeDamage (H.view host.old) self.old.buffered.file self.old.tree) }
+        ensures read { HasReadOn (P.agrees pages.new) (P.covers pages.old) (P.covers pages.new) (H.view host.old) (H.view host.new) self.old.buffered self.new.buffered }
+        ensures entry_buffered { IfOk result (IsEntryBuffered self.new) }
         ensures causes { (most : ℕ) → self.old.tree.pairs ≤ most → ReadsAtMost (2 * height most self.old.tree.pairs + 2) (H.view host.old) (H.view host.new) result }
         ensures tree { self.new.tree ≡ self.old.tree }
         ensures err { OnErr result (self.new.passed ≡ self.old.passed) }
     {
-        let found = first_from(host, pages, &mut self.held, self.tree, token)?;
+        let found = first_from(host, pages, &mut self.buffered, self.tree, token)?;
         self.passed = found.passed;
         Ok(found.pair)
     }
@@ -75,22 +75,22 @@ impl Tree {
         host: &mut H,
         pages: &mut P,
     ) -> Result<Option<Pair>, ReadFault>
-        requires read { CanReadOn (P.agrees pages.old) (H.view host.old) self.old.held }
-        ensures ok { IfOk result (λ found. GivesNext (H.view host.old) self.old.held.file self.old.tree self.old.passed self.new.passed found) }
+        requires read { CanReadOn (P.agrees pages.old) (H.view host.old) self.old.buffered }
+        ensures ok { IfOk result (λ found. ReadsNextPair (H.view host.old) self.old.buffered.file self.old.tree self.old.passed self.new.passed found) }
         // In any file it is an entry of a leaf.
-        ensures stands { IfOk result (λ found. GivesEntry (H.view host.old) self.old.held.file self.old.tree self.new.passed found) }
-        ensures damaged { IfErr result (Shown (H.view host.old) self.old.held.file (ShowsTree self.old.held.file self.old.tree)) }
-        ensures undamaged { IfErr result (Spares (H.view host.old) self.old.held.file self.old.tree) }
-        ensures read { HasReadOn (P.agrees pages.new) (P.covers pages.old) (P.covers pages.new) (H.view host.old) (H.view host.new) self.old.held self.new.held }
-        ensures near { IfOk result (IsNear self.new) }
-        ensures causes { ReadsAtMost (fresh_pages self.old.held.page (pair_place self.old.tree self.old.passed) 16) (H.view host.old) (H.view host.new) result }
+        ensures stands { IfOk result (λ found. ReadsEntry (H.view host.old) self.old.buffered.file self.old.tree self.new.passed found) }
+        ensures damaged { IfErr result (DamageShown (H.view host.old) self.old.buffered.file (ShowsTree self.old.buffered.file self.old.tree)) }
+        ensures undamaged { IfErr result (NoFalseTreeDamage (H.view host.old) self.old.buffered.file self.old.tree) }
+        ensures read { HasReadOn (P.agrees pages.new) (P.covers pages.old) (P.covers pages.new) (H.view host.old) (H.view host.new) self.old.buffered self.new.buffered }
+        ensures entry_buffered { IfOk result (IsEntryBuffered self.new) }
+        ensures causes { ReadsAtMost (unbuffered_pages self.old.buffered.page (pair_place self.old.tree self.old.passed) 16) (H.view host.old) (H.view host.new) result }
         ensures tree { self.new.tree ≡ self.old.tree }
         ensures err { OnErr result (self.new.passed ≡ self.old.passed) }
         ensures some { IfOk result (λ found. IsSome found → self.new.passed ≡ self.old.passed + 1) }
         ensures none { IfOk result (λ found. found ≡ None → self.new ≡ self.old) }
         ensures ended { self.old.tree.pairs ≤ self.old.passed → (H.view host.new).reads ≡ (H.view host.old).reads }
     {
-        let found = pair_from(host, pages, &mut self.held, self.tree, self.passed)?;
+        let found = pair_from(host, pages, &mut self.buffered, self.tree, self.passed)?;
         self.passed = found.passed;
         Ok(found.pair)
     }

@@ -2,11 +2,11 @@
 ghost use Rattle.std.specs.Prelude.{◌≡◌, ℕ, ◌+◌, ◌^◌, ◌≤◌, ◌<◌, [], ◌∷◌, ◌++◌, length, IfOk, OnOk};
 ghost use Rattle.sasi_host.specs.View.{ListCauses, Reaches};
 ghost use Rattle.sasi_tokentree.specs.Format.{node, size, level_bytes, above, levels, top, tree_bytes, tree_ref, AreFit, IsRising};
-ghost use Rattle.sasi_tokentree.specs.Heights.{greatest};
-ghost use Rattle.sasi_tokentree.specs.Writes.{ChangesPast, Writes};
+ghost use Rattle.sasi_tokentree.specs.Heights.{level_limit};
+ghost use Rattle.sasi_tokentree.specs.Writes.{ChangesFrom, Writes};
 
-use crate::node::node_bytes;
-use crate::shape::{FULL, FULL_BYTES, level_size, node_count, node_entries};
+use crate::node_encode::node_bytes;
+use crate::node_layout::{MAX_ENTRIES, MAX_NODE_BYTES, level_size, node_count, node_entries};
 use sasi_host::{FileName, Host, HostFault};
 use sasi_types::{Pair, PairList, TreeRef};
 use std::alloc::{AllocError, Global};
@@ -25,7 +25,7 @@ pub fn write<H: Host>(
     ensures ok { OnOk result (Writes (H.view host.old) (H.view host.new) file at (tree_bytes at pairs.now)) }
     ensures tree { IfOk result (λ tree. tree ≡ tree_ref at pairs.now) }
     ensures fit { OnOk result (AreFit pairs.now) }
-    ensures changes { ChangesPast file at (H.view host.old) (H.view host.new) }
+    ensures changes { ChangesFrom file at (H.view host.old) (H.view host.new) }
     ensures causes { ListCauses (H.view host.old) (H.view host.new) result }
 {
     let entries = pairs.as_slice();
@@ -50,15 +50,15 @@ fn write_levels<H: Host>(
 ) -> Result<u64, HostFault>
     requires room { Reaches (H.view host.old) file at }
     requires some { 0 < length entries.now }
-    requires most { length entries.now ≤ greatest level }
+    requires most { length entries.now ≤ level_limit level }
     ensures ok { OnOk result ((most : ℕ) → length entries.now ≤ most → Writes (H.view host.old) (H.view host.new) file at (levels most level at entries.now)) }
     ensures top { IfOk result (λ root. (most : ℕ) → length entries.now ≤ most → root ≡ top most at (length entries.now)) }
     ensures fit { OnOk result (AreFit entries.now) }
-    ensures changes { ChangesPast file at (H.view host.old) (H.view host.new) }
+    ensures changes { ChangesFrom file at (H.view host.old) (H.view host.new) }
     ensures causes { ListCauses (H.view host.old) (H.view host.new) result }
 {
     let above = write_level(alloc, host, file, at, level, entries)?;
-    if entries.len() <= FULL {
+    if entries.len() <= MAX_ENTRIES {
         return Ok(at);
     }
     let next = at + level_size(entries.len());
@@ -81,12 +81,12 @@ fn write_level<H: Host>(
     ensures above { IfOk result (λ entries_above. entries_above.items ≡ above at entries.now) }
     ensures fit { OnOk result (AreFit entries.now) }
     ensures fits { OnOk result (at + size (length entries.now) ≤ 2 ^ 62) }
-    ensures changes { ChangesPast file at (H.view host.old) (H.view host.new) }
+    ensures changes { ChangesFrom file at (H.view host.old) (H.view host.new) }
     ensures causes { ListCauses (H.view host.old) (H.view host.new) result }
 {
     let mut above = Vec::new(alloc);
     for index in 0..node_count(entries.len()) {
-        let place = at + FULL_BYTES * index as u64;
+        let place = at + MAX_NODE_BYTES * index as u64;
         let here = node_entries(entries, index);
         write_node(alloc, host, file, place, level, here)?;
         let token = here[0].token;
@@ -116,7 +116,7 @@ fn write_node<H: Host>(
     ensures ok { OnOk result (Writes (H.view host.old) (H.view host.new) file at (node level entries.now)) }
     ensures fits { OnOk result (at + length (node level entries.now) ≤ 2 ^ 62) }
     ensures fit { OnOk result (AreFit entries.now) }
-    ensures changes { ChangesPast file at (H.view host.old) (H.view host.new) }
+    ensures changes { ChangesFrom file at (H.view host.old) (H.view host.new) }
     ensures causes { ListCauses (H.view host.old) (H.view host.new) result }
 {
     let bytes = node_bytes(alloc, level, entries)?;

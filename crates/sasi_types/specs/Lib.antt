@@ -1,6 +1,6 @@
 pub mod Key
 pub mod Murmur
-pub mod Place
+pub mod DecoratedKey
 pub mod StoredBytes
 pub mod Token
 pub mod Value

@@ -190,7 +190,7 @@ fn empty_partition_has_no_row(rt: HostRuntime) {
 fn partition_tells_its_cells(rt: HostRuntime) {
     let partition = two_cells(&rt, rt.alloc());
     assert!(rt; partition.is_live());
-    assert!(rt; partition.greatest() == 9);
+    assert!(rt; partition.max_timestamp() == 9);
     assert!(rt; partition.cells().len() == 2);
 }
 

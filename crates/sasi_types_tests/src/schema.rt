@@ -96,7 +96,7 @@ fn columns_are_found_by_their_names(rt: HostRuntime) {
 }
 
 /// The fault's number, and the name that it tells.
-fn told(fault: &SchemaFault) -> (u8, &[u8]) {
+fn refusal_of_fault(fault: &SchemaFault) -> (u8, &[u8]) {
     match fault {
         SchemaFault::OutOfMemory => (0, b""),
         SchemaFault::TableExists(name) => (5, name.bytes()),
@@ -112,7 +112,7 @@ fn told(fault: &SchemaFault) -> (u8, &[u8]) {
 fn check_fault(rt: &impl Abort, made: &Result<u32, SchemaFault>, number: u8, name: &[u8]) {
     match made {
         Ok(_) => assert!(rt; false),
-        Err(fault) => assert!(rt; told(fault) == (number, name)),
+        Err(fault) => assert!(rt; refusal_of_fault(fault) == (number, name)),
     }
 }
 

@@ -1,5 +1,5 @@
 // Tokens and the order of partitions, against values that were worked out by hand.
-use sasi_types::{Key, Partitioner, Place, compare};
+use sasi_types::{Key, Partitioner, DecoratedKey, compare};
 use std::alloc::Global;
 use std::cmp::Ordering;
 use std::process::Abort;
@@ -92,7 +92,7 @@ fn murmur_tokens_are_in_the_order_of_signed_hashes(rt: HostRuntime) {
     }
 }
 
-/// Two partitions are in this order, to `compare` and as places.
+/// Two partitions are in this order, to `compare` and as decorated keys.
 fn check_order(
     rt: &impl Abort,
     alloc: Global,
@@ -101,11 +101,11 @@ fn check_order(
     order: Ordering,
 ) {
     assert!(rt; compare(first.0, first.1, second.0, second.1) == order);
-    let first = Place {
+    let first = DecoratedKey {
         token: first.0,
         key: Key::new(alloc, first.1).expect(rt, "a key"),
     };
-    let second = Place {
+    let second = DecoratedKey {
         token: second.0,
         key: Key::new(alloc, second.1).expect(rt, "a key"),
     };

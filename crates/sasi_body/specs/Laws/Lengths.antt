@@ -15,7 +15,7 @@ use Rattle.sasi_body.specs.Format.{value_bytes, cell_bytes, key_bytes, cells_of,
 use Rattle.sasi_body.specs.Damages.{IsWrong, IsNoValue, IsWrongNumber, IsWrongText, Breaks}
 use Rattle.sasi_body.specs.Damages.IsWrongNumber.{wrong_key_length, wrong_deletion, wrong_count, wrong_column, wrong_time, wrong_tag, wrong_marker}
 use Rattle.sasi_body.specs.Damages.IsWrongText.{wrong_key, wrong_value}
-use Rattle.sasi_body.specs.Laws.Same.{value_short}
+use Rattle.sasi_body.specs.Laws.Unique.{value_short}
 
 -- ---- bodies
 
@@ -55,10 +55,10 @@ body_short key part has =
 -- ---- damage
 
 wrong_within : (limit : ℕ) (put : ℕ → Bytes) (Right : ℕ → Type 0) (bytes front : Bytes) (at : ℕ) (seen : Bytes) → IsWrong limit put Right bytes front at seen → at ≤ length bytes
-wrong_within limit put Right bytes front at seen w = omega (arith, w.place, ap length w.is, length-append front (seen ++ w.rest))
+wrong_within limit put Right bytes front at seen w = omega (arith, w.offset, ap length w.is, length-append front (seen ++ w.rest))
 
 value_within : (types : List ColumnType) (column size : ℕ) (bytes front : Bytes) (at : ℕ) (seen : Bytes) → IsNoValue types column size bytes front at seen → at ≤ length bytes
-value_within types column size bytes front at seen w = omega (arith, w.place, ap length w.is, length-append front (w.value ++ w.rest))
+value_within types column size bytes front at seen w = omega (arith, w.offset, ap length w.is, length-append front (w.value ++ w.rest))
 
 number_within : (types : List ColumnType) (bytes : Bytes) (at : ℕ) (seen : Bytes) → IsWrongNumber types bytes at seen → at ≤ length bytes
 number_within types bytes at seen (wrong_key_length w) = wrong_within _ _ _ bytes _ at seen w
@@ -76,7 +76,7 @@ text_within types bytes at seen (wrong_value front column size stands some w) = 
 -- the offset of damage lies within the bytes
 pub place_within : (types : List ColumnType) (bytes : Bytes) (rule : FormatRule) (at : ℕ) (seen : Bytes) → Breaks types bytes rule at seen → at ≤ length bytes
 place_within types bytes Number at seen broken = number_within types bytes at seen broken
-place_within types bytes Order at seen broken = omega (arith, broken.place, ap length broken.is, length-append broken.front broken.left)
+place_within types bytes Order at seen broken = omega (arith, broken.offset, ap length broken.is, length-append broken.front broken.left)
 place_within types bytes Text at seen broken = text_within types bytes at seen broken
 place_within types bytes Short at seen broken = absurd broken
 place_within types bytes Missing at seen broken = absurd broken

@@ -20,12 +20,12 @@ use Rattle.sasi_model.specs.Cells.{Partition}
 use Rattle.sasi_cells.specs.Entries.{Entry}
 use Rattle.sasi_body.specs.Format.{value_bytes, cell_bytes, cells_of, part_bytes, body, HasBytes, IsCell, IsCount}
 use Rattle.sasi_body.specs.Typed.{IsValueOf, IsTypedAt, IsListed, IsBodyOf}
-use Rattle.sasi_body.specs.Places.{IsAtKey, IsAtDeletion, IsAtCount, next_column, IsAtCell, IsAtTime, IsTime, IsAtTag, IsAtSize, IsAtValue}
+use Rattle.sasi_body.specs.Prefixes.{IsAtKey, IsAtDeletion, IsAtCount, next_column, IsAtCell, IsAtTime, IsTime, IsAtTag, IsAtSize, IsAtValue}
 use Rattle.sasi_body.specs.Damages.{IsWrong16, IsWrong64, IsTag, IsWrongNumber, IsWrongOrder, IsNoValue, IsWrongText, Breaks, Lacks, HasOtherLength}
 use Rattle.sasi_body.specs.Damages.IsWrongNumber.{wrong_key_length, wrong_deletion, wrong_count, wrong_column, wrong_time, wrong_tag, wrong_marker}
 use Rattle.sasi_body.specs.Damages.IsWrongText.{wrong_key, wrong_value}
 use Rattle.sasi_body.specs.Damages.HasOtherLength.{no_key_length, no_key, no_deletion, no_count, no_column, no_time, no_tag, no_size, no_value, goes_on}
-use Rattle.sasi_body.specs.Laws.Same.{parts_same, same_16, same_64, sized_same, value_short, live_bytes, has_bytes, cell_apart, cell_same, bodies_same}
+use Rattle.sasi_body.specs.Laws.Unique.{parts_same, same_16, same_64, sized_same, value_short, live_bytes, has_bytes, cell_apart, cell_same, bodies_same}
 
 -- ---- the cells of a partition
 

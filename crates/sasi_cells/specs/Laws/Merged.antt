@@ -10,7 +10,7 @@ use Rattle.std.proofs.lemmas.Cmp.{tied_itself}
 use Rattle.std.proofs.lemmas.List.Folds.{list_any-append}
 use Rattle.std.proofs.lemmas.Bool.Decides.{nat_tests}
 use Rattle.sasi_types.specs.declared.cell.Cell.{Cell}
-use Rattle.sasi_model.specs.Cells.{Cells, Partition, cell_cmp, newest, newest_of, unshadowed, IsNormal, merged_cell, merged_cells, with_cell, merge}
+use Rattle.sasi_model.specs.Cells.{Cells, Partition, cell_cmp, newest, newest_of, unshadowed, IsNormal, merged_cell, merged_cells, with_entry, merge}
 use Rattle.sasi_cells.specs.Laws.Sorted.{equal_columns}
 use Rattle.sasi_cells.specs.Laws.Newest.{newest_of_itself, newest_of_associates, newest_of_commutes, TieOnlyWhereEqual, newest_time}
 
@@ -18,12 +18,12 @@ use Rattle.sasi_cells.specs.Laws.Newest.{newest_of_itself, newest_of_associates,
 
 -- a cell in front, looked up at its own column and at another
 find_here : (c : ℕ) (x : Option Cell) (rest : List (ℕ × Cell)) (m : Option Cell) → x ≡ m → (m ≡ None → map_.find nat_cmp c rest ≡ m)
-    → map_.find nat_cmp c (with_cell c x rest) ≡ m
+    → map_.find nat_cmp c (with_entry c x rest) ≡ m
 find_here c None rest m e left = left (sym e)
 find_here c (Some cell) rest m e left = ap (λ r. cond (is_eq r) (Some cell) (map_.find nat_cmp c rest)) (tied_itself nat_cmp_total c) ∙ e
 
 find_there : (c column : ℕ) (x : Option Cell) (rest : List (ℕ × Cell)) → eq_by_cmp nat_cmp c column ≡ false
-    → map_.find nat_cmp c (with_cell column x rest) ≡ map_.find nat_cmp c rest
+    → map_.find nat_cmp c (with_entry column x rest) ≡ map_.find nat_cmp c rest
 find_there c column None rest e = refl
 find_there c column (Some cell) rest e = ap (λ b. cond b (Some cell) (map_.find nat_cmp c rest)) e
 
@@ -33,9 +33,9 @@ find_merged : (d : ℕ) (p q : Partition) (c : ℕ) (columns : List ℕ) (m : Op
     → map_.find nat_cmp c (merged_cells d p q columns) ≡ m
 find_merged d p q c [] m e absent = sym (absent refl)
 find_merged d p q c (column ∷ columns) m e absent =
-    elim (eq_by_cmp nat_cmp c column) as (λ b. eq_by_cmp nat_cmp c column ≡ b → map_.find nat_cmp c (with_cell column (merged_cell d p q column) (merged_cells d p q columns)) ≡ m) [
+    elim (eq_by_cmp nat_cmp c column) as (λ b. eq_by_cmp nat_cmp c column ≡ b → map_.find nat_cmp c (with_entry column (merged_cell d p q column) (merged_cells d p q columns)) ≡ m) [
       | true ↦ λ same.
-          subst (λ k. map_.find nat_cmp c (with_cell k (merged_cell d p q k) (merged_cells d p q columns)) ≡ m) (equal_columns c column same)
+          subst (λ k. map_.find nat_cmp c (with_entry k (merged_cell d p q k) (merged_cells d p q columns)) ≡ m) (equal_columns c column same)
           (find_here c (merged_cell d p q c) (merged_cells d p q columns) m e (λ none. find_merged d p q c columns m e (λ _. none)))
       | false ↦ λ other.
           find_there c column (merged_cell d p q column) (merged_cells d p q columns) other

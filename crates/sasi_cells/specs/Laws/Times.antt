@@ -5,13 +5,13 @@ use Rattle.std.specs.FinMap as map_
 use Rattle.std.proofs.Common.{refl, sym, ap, ◌∙◌, inl, inr, arith}
 use Rattle.std.proofs.lemmas.Bool.Decides.{nat_tests}
 use Rattle.sasi_types.specs.declared.cell.Cell.{Cell}
-use Rattle.sasi_model.specs.Cells.{Cells, Partition, newest, newest_of, unshadowed, merge, greatest_time, greatest_of}
+use Rattle.sasi_model.specs.Cells.{Cells, Partition, newest, newest_of, unshadowed, merge, max_timestamp_in, max_timestamp_of}
 use Rattle.sasi_cells.specs.Laws.Newest.{newest_time}
 use Rattle.sasi_cells.specs.Laws.Sorted.{first, second, find_first, find_behind}
 use Rattle.sasi_cells.specs.Laws.Merged.{get_merge, deleted_merge}
 
 abbrev times : List (ℕ × Cell) → ℕ
-times es = greatest_time (map (λ e. e.1) es)
+times es = max_timestamp_in (map (λ e. e.1) es)
 
 found_time : (k : ℕ) (es : List (ℕ × Cell)) (cell : Cell) → map_.find nat_cmp k es ≡ Some cell → cell.time ≤ times es
 found_time k [] cell found = cc
@@ -28,11 +28,11 @@ times_below t (e ∷ es) sorted all =
     omega (arith, all e.0 e.1 (find_first e es), times_below t es (second _ _ sorted) (λ k cell found. all k cell (find_behind e es k cell (first _ _ sorted) found)))
 
 -- no cell is newer than the maximum timestamp
-pub get_time : (m : Cells) (k : ℕ) (cell : Cell) → map_.get m k ≡ Some cell → cell.time ≤ greatest_time (map_.values m)
+pub get_time : (m : Cells) (k : ℕ) (cell : Cell) → map_.get m k ≡ Some cell → cell.time ≤ max_timestamp_in (map_.values m)
 get_time m k cell found = found_time k (map_.entries m) cell (sym (map_.get-entries m k) ∙ found)
 
 -- and a bound of all cells bounds the maximum timestamp
-pub values_below : (t : ℕ) (m : Cells) → ((k : ℕ) (cell : Cell) → map_.get m k ≡ Some cell → cell.time ≤ t) → greatest_time (map_.values m) ≤ t
+pub values_below : (t : ℕ) (m : Cells) → ((k : ℕ) (cell : Cell) → map_.get m k ≡ Some cell → cell.time ≤ t) → max_timestamp_in (map_.values m) ≤ t
 values_below t m all = times_below t (map_.entries m) (map_.entries_sorted m) (λ k cell found. all k cell (map_.get-entries m k ∙ found))
 
 -- ---- of a merge
@@ -77,26 +77,26 @@ second_time d None b t later all = cell_time d b t later all
 second_time d (Some a) b t later all = omega (arith, cell_time d (newest a b) t later all, newest_time a b)
 
 cells_below : (p q : Partition)
-    → greatest_time (map_.values (merge p q).cells) ≤ max (greatest_time (map_.values p.cells)) (greatest_time (map_.values q.cells))
+    → max_timestamp_in (map_.values (merge p q).cells) ≤ max (max_timestamp_in (map_.values p.cells)) (max_timestamp_in (map_.values q.cells))
 cells_below p q =
     values_below _ (merge p q).cells (λ k cell found.
     merged_time (max p.deleted q.deleted) (map_.get p.cells k) (map_.get q.cells k) cell _
     (λ a is. omega (arith, get_time p.cells k a is)) (λ b is. omega (arith, get_time q.cells k b is)) (sym (get_merge p q k) ∙ found))
 
-first_below : (p q : Partition) → greatest_time (map_.values p.cells) ≤ greatest_of (merge p q)
+first_below : (p q : Partition) → max_timestamp_in (map_.values p.cells) ≤ max_timestamp_of (merge p q)
 first_below p q =
     let d = max p.deleted q.deleted in
-    values_below (greatest_of (merge p q)) p.cells (λ k a found.
+    values_below (max_timestamp_of (merge p q)) p.cells (λ k a found.
     first_time d a (map_.get q.cells k) _ (omega (arith, deleted_merge p q))
     (λ cell is. omega (arith, get_time (merge p q).cells k cell (get_merge p q k ∙ ap (λ x. unshadowed d (newest_of x (map_.get q.cells k))) found ∙ is))))
 
-second_below : (p q : Partition) → greatest_time (map_.values q.cells) ≤ greatest_of (merge p q)
+second_below : (p q : Partition) → max_timestamp_in (map_.values q.cells) ≤ max_timestamp_of (merge p q)
 second_below p q =
     let d = max p.deleted q.deleted in
-    values_below (greatest_of (merge p q)) q.cells (λ k b found.
+    values_below (max_timestamp_of (merge p q)) q.cells (λ k b found.
     second_time d (map_.get p.cells k) b _ (omega (arith, deleted_merge p q))
     (λ cell is. omega (arith, get_time (merge p q).cells k cell (get_merge p q k ∙ ap (λ x. unshadowed d (newest_of (map_.get p.cells k) x)) found ∙ is))))
 
 -- the maximum timestamp of a merge, whether or not the two are normal
-pub greatest_merge : (p q : Partition) → greatest_of (merge p q) ≡ max (greatest_of p) (greatest_of q)
-greatest_merge p q = omega (arith, deleted_merge p q, cells_below p q, first_below p q, second_below p q)
+pub max_timestamp_merge : (p q : Partition) → max_timestamp_of (merge p q) ≡ max (max_timestamp_of p) (max_timestamp_of q)
+max_timestamp_merge p q = omega (arith, deleted_merge p q, cells_below p q, first_below p q, second_below p q)

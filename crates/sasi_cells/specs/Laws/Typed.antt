@@ -16,7 +16,7 @@ use Rattle.sasi_types.specs.declared.value.Value.TheVariants.{Text, Int, BigInt,
 use Rattle.sasi_types.specs.Value.{type_of, stored}
 use Rattle.sasi_model.specs.Cells.{Partition, value_cmp, cell_cmp, newest_of, unshadowed, value_of, merge}
 use Rattle.sasi_model.specs.Step.{value_stored}
-use Rattle.sasi_cells.specs.Typed.{IsInRange, IsOf, IsTyped}
+use Rattle.sasi_cells.specs.Typed.{IsInRange, IsOfType, IsTyped}
 use Rattle.sasi_cells.specs.Laws.Merged.{get_merge, TiesAreEqual, merge_commutes}
 
 -- ---- the bytes of a value
@@ -38,13 +38,13 @@ value_stored-stored (Int number) h = ap Int (int_again number h)
 value_stored-stored (BigInt number) h = ap BigInt (bigint_again number h)
 value_stored-stored (Uuid bytes) h = refl
 
-same_value : (type : ColumnType) (u v : Value) → IsOf type u → IsOf type v → stored u ≡ stored v → u ≡ v
+same_value : (type : ColumnType) (u v : Value) → IsOfType type u → IsOfType type v → stored u ≡ stored v → u ≡ v
 same_value type u v g h same =
     sym (value_stored-stored u g.in_range) ∙ ap (λ t. value_stored t (stored u)) (g.is ∙ sym h.is) ∙ ap (value_stored (type_of v)) same ∙ value_stored-stored v h.in_range
 
 -- ---- cells that tie
 
-same_values : (type : ColumnType) (x y : Option Value) → ((u : Value) → x ≡ Some u → IsOf type u) → ((v : Value) → y ≡ Some v → IsOf type v)
+same_values : (type : ColumnType) (x y : Option Value) → ((u : Value) → x ≡ Some u → IsOfType type u) → ((v : Value) → y ≡ Some v → IsOfType type v)
     → value_cmp x y ≡ Equal → x ≡ y
 same_values type None None g h tie = refl
 same_values type None (Some v) g h tie = cc
@@ -86,5 +86,5 @@ value_of_shown d (Some cell) value is =
 -- it has the same types
 pub merge_is_typed : (types : ℕ → ColumnType) (p q : Partition) → IsTyped types p → IsTyped types q → IsTyped types (merge p q)
 merge_is_typed types p q g h column value is =
-    value_of_newest (map_.get p.cells column) (map_.get q.cells column) value (IsOf (types column) value) (g column value) (h column value)
+    value_of_newest (map_.get p.cells column) (map_.get q.cells column) value (IsOfType (types column) value) (g column value) (h column value)
     (value_of_shown (max p.deleted q.deleted) _ value (ap value_of (sym (get_merge p q column)) ∙ is))

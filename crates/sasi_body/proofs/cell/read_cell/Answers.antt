@@ -1,7 +1,7 @@
 use Rattle.std.proofs.Common.{◌∙◌, subst}
 use Rattle.std.specs.Int.{to_be_bytes, w16, w64}
 use Rattle.sasi_host.specs.Names.{Bytes}
-use Rattle.sasi_body.specs.Seen.{IsFaultOf}
+use Rattle.sasi_body.specs.Faults.{IsFaultOf}
 use Rattle.sasi_body.specs.Reads.{whole}
 use Rattle.sasi_body.proofs.Exits.{exit_with, whole_same}
 use Rattle.sasi_body.proofs.cell.read_cell.Goals as goal

@@ -1,5 +1,5 @@
 use Rattle.std.proofs.Common.{◌<◌, ◌^◌, ◌+◌, ◌⊎◌, ℕ, arith, ⊎_elim}
-use Rattle.sasi_body.specs.Places.{IsTime}
+use Rattle.sasi_body.specs.Prefixes.{IsTime}
 use Rattle.sasi_body.specs.Damages.HasOtherLength.{no_time}
 use Rattle.sasi_body.specs.Damages.IsWrongNumber.{wrong_time}
 use Rattle.sasi_body.proofs.Exits.{exit_ranged}

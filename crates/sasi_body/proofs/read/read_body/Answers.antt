@@ -1,7 +1,7 @@
 use Rattle.std.proofs.Common.{List, subst}
 use Rattle.std.specs.Result.{IfOk, IfErr}
 use Rattle.sasi_types.specs.declared.column.ColumnType.{ColumnType}
-use Rattle.sasi_body.specs.Seen.{IsFaultOf}
+use Rattle.sasi_body.specs.Faults.{IsFaultOf}
 use Rattle.sasi_body.specs.Typed.{IsBodyOf}
 use Rattle.sasi_body.proofs.Bodies.{spared, read_again}
 use Rattle.sasi_body.proofs.read.read_body.Goals as goal
@@ -17,6 +17,6 @@ returns c =
       bytes = c.read_whole.ensures.bytes;
       in_table = in_table;
       again = λ key part of is. read_again result types bytes key part c.read_whole.ensures.bytes in_table of is;
-      spares = λ key part of is. spared result types bytes key part shown of is;
+      no_false_damage = λ key part of is. spared result types bytes key part shown of is;
       shown = shown;
     }

@@ -2,7 +2,7 @@ use Rattle.std.proofs.Common.{subst}
 use Rattle.std.specs.Result.{IfErr}
 use Rattle.std.specs.Int.{to_be_bytes, w16}
 use Rattle.sasi_host.specs.Names.{Bytes}
-use Rattle.sasi_body.specs.Seen.{IsFaultOf}
+use Rattle.sasi_body.specs.Faults.{IsFaultOf}
 use Rattle.sasi_body.proofs.Exits.{whole_same}
 use Rattle.sasi_body.proofs.value.read_live.Goals as goal
 

@@ -2,10 +2,10 @@ use Rattle.std.proofs.Common.{◌≡◌, ◌^◌, take, refl, ◌∙◌, ap, sub
 use Rattle.std.specs.Int.{to_be_bytes, w16}
 use Rattle.sasi_host.specs.Names.{Bytes}
 use Rattle.sasi_body.specs.declared.fault.BodyFault.TheVariants as fault
-use Rattle.sasi_body.specs.Places.{IsAtSize}
+use Rattle.sasi_body.specs.Prefixes.{IsAtSize}
 use Rattle.sasi_body.specs.Damages.HasOtherLength.{no_size}
 use Rattle.sasi_body.specs.Damages.IsWrongNumber.{wrong_marker}
-use Rattle.sasi_body.specs.Seen.{IsFaultOf}
+use Rattle.sasi_body.specs.Faults.{IsFaultOf}
 use Rattle.sasi_body.specs.Reads.{whole}
 use Rattle.sasi_body.proofs.Exits.{exit_with, lacks_next, number_told}
 use Rattle.sasi_body.proofs.value.read_size.Goals as goal
@@ -19,7 +19,7 @@ pub returns-then-size-ne0-clause-fault : goal.returns-then-size-ne0-clause-fault
 returns-then-size-ne0-clause-fault c before =
     let wrong : ¬ (c.in_ok-size.size ≡ 0) = c.if-size-ne0.true in
     let marker : c.args.column ≡ 0 = c.if-column-eq0.true in
-    number_told c.args.types.now (2 ^ 16) (to_be_bytes w16) (λ n. n ≡ 0) c.args.reader.now c.u16.new.self.left c.in_ok-size.size c.place-at.result c.found.result
-    c.found.ensures.rule c.found.ensures.at c.place-at.ensures (c.found.ensures.seen ∙ ap (λ (l : Bytes). take 8 l) c.to_be_bytes-bytes.ensures)
+    number_told c.args.types.now (2 ^ 16) (to_be_bytes w16) (λ n. n ≡ 0) c.args.reader.now c.u16.new.self.left c.in_ok-size.size c.offset-at.result c.body_damage.result
+    c.body_damage.ensures.rule c.body_damage.ensures.at c.offset-at.ensures (c.body_damage.ensures.seen ∙ ap (λ (l : Bytes). take 8 l) c.to_be_bytes-bytes.ensures)
     c.in_ok-size.ensures.ok.next c.in_ok-size.ensures.fits wrong
     (λ at seen w. wrong_marker c.args.reader.now.done (subst (IsAtSize c.args.types.now c.args.reader.now.done) marker before) w)

@@ -3,7 +3,7 @@ use Rattle.sasi_body.specs.declared.fault.BodyFault.TheVariants as fault
 use Rattle.sasi_body.specs.Damages.HasOtherLength.{no_value}
 use Rattle.sasi_body.specs.Damages.IsWrongText.{wrong_value}
 use Rattle.sasi_body.specs.Typed.{IsTypedAt}
-use Rattle.sasi_body.specs.Seen.{IsFaultOf}
+use Rattle.sasi_body.specs.Faults.{IsFaultOf}
 use Rattle.sasi_host.specs.Damages.{seen_bytes}
 use Rattle.sasi_body.specs.Reads.{whole}
 use Rattle.sasi_body.proofs.Exits.{exit_with, lacks_next, no_value_next, told_text}
@@ -21,7 +21,7 @@ returns-in_default-clause-fault c before =
     let wrong : ¬ IsTypedAt c.args.types.now c.args.column c.in_ok-bytes.bytes.now =
     subst (λ (n : ℕ). ¬ IsTypedAt c.args.types.now n c.in_ok-bytes.bytes.now) c.from-2.ensures c.in_default.ensures
     in
-    told_text c.args.types.now (whole c.args.reader.now) c.found.result.rule c.found.result.at (seen_bytes c.found.result.seen) c.found.ensures.rule
+    told_text c.args.types.now (whole c.args.reader.now) c.body_damage.result.rule c.body_damage.result.at (seen_bytes c.body_damage.result.seen) c.body_damage.ensures.rule
     (wrong_value c.args.reader.now.done c.args.column c.args.size before c.requires
-    (no_value_next c.args.types.now c.args.column c.args.size c.args.reader.now c.in_ok-bytes.bytes.now c.bytes.new.self.left (seen_bytes c.found.result.seen) c.found.result.at
-    c.in_ok-bytes.ensures.ok.next (c.found.ensures.at ∙ c.place-at.ensures) size c.found.ensures.seen wrong))
+    (no_value_next c.args.types.now c.args.column c.args.size c.args.reader.now c.in_ok-bytes.bytes.now c.bytes.new.self.left (seen_bytes c.body_damage.result.seen) c.body_damage.result.at
+    c.in_ok-bytes.ensures.ok.next (c.body_damage.ensures.at ∙ c.offset-at.ensures) size c.body_damage.ensures.seen wrong))

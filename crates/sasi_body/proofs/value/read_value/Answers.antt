@@ -1,11 +1,11 @@
 use Rattle.std.proofs.Common.{◌≡◌, ◌^◌, ◌++◌, ℕ, [], ◌∷◌, refl, ◌∙◌, ap, subst, arith, ⊎_elim}
 use Rattle.sasi_host.specs.Names.{Bytes}
 use Rattle.sasi_body.specs.declared.fault.BodyFault.TheVariants as fault
-use Rattle.sasi_body.specs.Places.{IsAtSize}
+use Rattle.sasi_body.specs.Prefixes.{IsAtSize}
 use Rattle.sasi_body.specs.Damages.{IsTag}
 use Rattle.sasi_body.specs.Damages.HasOtherLength.{no_tag}
 use Rattle.sasi_body.specs.Damages.IsWrongNumber.{wrong_tag}
-use Rattle.sasi_body.specs.Seen.{IsFaultOf}
+use Rattle.sasi_body.specs.Faults.{IsFaultOf}
 use Rattle.sasi_body.specs.Reads.{whole}
 use Rattle.sasi_body.proofs.Exits.{exit_with, lacks_next, number_told, whole_same}
 use Rattle.sasi_body.proofs.value.read_value.Goals as goal
@@ -24,8 +24,8 @@ returns-then-tag-ne1-clause-fault c before =
       | else-tag-eq0-via-else-tag-eq0 w ↦ w.if-tag-eq0.false zero.0
     ]) tag
     in
-    number_told c.args.types.now (2 ^ 8) (λ n. n ∷ []) (IsTag c.args.column) c.args.reader.now c.u8.new.self.left c.in_ok-tag.tag c.place-at.result c.found.result
-    c.found.ensures.rule c.found.ensures.at c.place-at.ensures c.found.ensures.seen c.in_ok-tag.ensures.ok.next c.in_ok-tag.ensures.fits wrong
+    number_told c.args.types.now (2 ^ 8) (λ n. n ∷ []) (IsTag c.args.column) c.args.reader.now c.u8.new.self.left c.in_ok-tag.tag c.offset-at.result c.body_damage.result
+    c.body_damage.ensures.rule c.body_damage.ensures.at c.offset-at.ensures c.body_damage.ensures.seen c.in_ok-tag.ensures.ok.next c.in_ok-tag.ensures.fits wrong
     (λ at seen w. wrong_tag c.args.reader.now.done c.args.column before w)
 
 pub returns-in_err-value-clause-fault : goal.returns-in_err-value-clause-fault

@@ -1,7 +1,7 @@
 use Rattle.std.proofs.Common.{rules}
 use Rattle.std.proofs.lemmas.List.Sorted.{answers_always}
 use Rattle.sasi_cells.proofs.Partitions.{test}
-use Rattle.sasi_cells.proofs.Places.{searched}
+use Rattle.sasi_cells.proofs.Positions.{searched}
 use Rattle.sasi_cells.proofs.search.search.Goals as goal
 
 pub returns : goal.returns

@@ -1,10 +1,10 @@
 use Rattle.std.proofs.Common.{◌≡◌, ◌++◌, map, length, ◌∙◌, ap, subst, arith, length-append}
 use Rattle.std.specs.Int.{to_be_bytes, w32}
 use Rattle.sasi_host.specs.Names.{Bytes}
-use Rattle.sasi_host.specs.Disk.{Changes, LeftWith, Step}
-use Rattle.sasi_host.specs.Moves.{untouched}
+use Rattle.sasi_host.specs.Disk.{Changes, LeftWith, FileChange}
+use Rattle.sasi_host.specs.ChangeLaws.{untouched}
 use Rattle.sasi_gated.specs.Format.{IsBeforeOrAfter}
-use Rattle.sasi_gated.specs.StandingLaws.{unmoved}
+use Rattle.sasi_gated.specs.HandleLaws.{unmoved}
 use Rattle.sasi_body.specs.Format.{body}
 use Rattle.sasi_body.specs.Laws.Lengths.{body_short}
 use Rattle.sasi_commitlog.specs.Format.{payload_of}
@@ -34,7 +34,7 @@ pub returns-in_err-append-clause-any_moment : goal.returns-in_err-append-clause-
 returns-in_err-append-clause-any_moment g c mutations end =
     let payload : c.in_ok-record.record ≡ payload_of c.args.mutation.now = c.in_ok-record.ensures ∙ c.deref.ensures.value
     ∙ c.in_ok-put_mutation.ensures ∙ ap (λ (l : Bytes). l ++ payload_of c.args.mutation.now) c.clear.ensures.items in
-    subst (λ (p : Bytes). Changes (Step c.args.gated.now.file
+    subst (λ (p : Bytes). Changes (FileChange c.args.gated.now.file
     (LeftWith (IsBeforeOrAfter c.args.gated.now.file (map payload_of mutations) p))) (g.H.Host.view c.args.host.now)
     (g.H.Host.view c.append.new.host)) payload
     (c.append.ensures.any_moment (map payload_of mutations) end)
@@ -43,7 +43,7 @@ pub returns-clause-any_moment : goal.returns-clause-any_moment
 returns-clause-any_moment g c mutations end =
     let payload : c.in_ok-record.record ≡ payload_of c.args.mutation.now = c.in_ok-record.ensures ∙ c.deref.ensures.value
     ∙ c.in_ok-put_mutation.ensures ∙ ap (λ (l : Bytes). l ++ payload_of c.args.mutation.now) c.clear.ensures.items in
-    subst (λ (p : Bytes). Changes (Step c.args.gated.now.file
+    subst (λ (p : Bytes). Changes (FileChange c.args.gated.now.file
     (LeftWith (IsBeforeOrAfter c.args.gated.now.file (map payload_of mutations) p))) (g.H.Host.view c.args.host.now)
     (g.H.Host.view c.append.new.host)) payload
     (c.append.ensures.any_moment (map payload_of mutations) end)

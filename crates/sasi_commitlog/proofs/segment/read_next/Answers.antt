@@ -3,7 +3,7 @@ use Rattle.std.proofs.lemmas.Result.{err_from_is_err_and}
 use Rattle.sasi_host.specs.Names.{Bytes}
 use Rattle.sasi_commitlog.specs.Format.{payload_of, Tables, IsMutationOf}
 use Rattle.sasi_commitlog.specs.Damages.{IsPayloadFault}
-use Rattle.sasi_commitlog.proofs.Nexts.{on_damage, spared, closed_gate, none_left, opened_gate, first_read, first_left, record_shown}
+use Rattle.sasi_commitlog.proofs.ReadMutations.{on_damage, spared, closed_gate, none_left, opened_gate, first_read, first_left, record_shown}
 use Rattle.sasi_commitlog.proofs.Payloads.{only_memory}
 use Rattle.sasi_commitlog.proofs.segment.read_next.Goals as goal
 
@@ -49,8 +49,8 @@ returns-in-Err-clause-damaged g c =
     let shown = subst (λ (b : Bytes). IsPayloadFault c.args.tables.now b c.in-Err.fault) same
     (subst (λ (t : Tables). IsPayloadFault t c.deref.result.now c.in-Err.fault) c.as_slice.ensures c.in-Err.ensures.shown) in
     on_damage _ _ c.fault_in_file.result (λ damage record_damage bytes done rest is gate.
-    record_shown c.args.tables.now c.args.gated.now.file c.file-file.result c.args.gated.now.at c.place-gate.result c.next.new.self.at bytes
-    done rest c.next.new.out.items c.deref-in-Err.result.now c.in_ok-next.field-0 damage c.file-file.ensures c.place-gate.ensures.place
+    record_shown c.args.tables.now c.args.gated.now.file c.file-file.result c.args.gated.now.at c.offset-gate.result c.next.new.self.at bytes
+    done rest c.next.new.out.items c.deref-in-Err.result.now c.in_ok-next.field-0 damage c.file-file.ensures c.offset-gate.ensures.offset
     c.deref-in-Err.ensures.value c.if-not-branch.false record_damage (c.in_ok-next.ensures.gate bytes done rest is gate) gate) (c.fault_in_file.ensures.shown c.args.tables.now shown)
 
 pub returns-in-Err-clause-undamaged : goal.returns-in-Err-clause-undamaged

@@ -1,5 +1,5 @@
 use Rattle.std.proofs.Common.{◌≡◌, ◌++◌, drop}
-use Rattle.sasi_cql.specs.Meaning.{undoubled, undoubled_from}
+use Rattle.sasi_cql.specs.ModelTokens.{undoubled, undoubled_from}
 use Rattle.sasi_cql.proofs.quoted.text_of.Given as goal
 
 abbrev pub invariant-bytes : goal.invariant-bytes

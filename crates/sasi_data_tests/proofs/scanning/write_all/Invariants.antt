@@ -10,7 +10,7 @@ abbrev pub invariant-loop-k : goal.invariant-loop-k
 invariant-loop-k g l = record {
   last : (last_pair l.writer.pairs).token ≤ l.last;
   partitioner : l.writer.partitioner ≡ Lead8;
-  room : Reaches (host_view (seen l.host)) l.writer.file l.writer.place;
+  room : Reaches (host_view (seen l.host)) l.writer.file l.writer.offset;
   usable : IsTrue l.writer.usable;
   some : 1 ≤ length l.writer.pairs;
 }

@@ -4,36 +4,36 @@ use Rattle.sasi_host.specs.PageReading.{read_of, read_then}
 use Rattle.sasi_types.specs.declared.tree.Pair.{Pair}
 use Rattle.sasi_types.specs.declared.tree.TreeRef.{TreeRef}
 use Rattle.sasi_host.specs.Disk.{Same}
-use Rattle.sasi_host.specs.Moves.{then_same}
-use Rattle.sasi_host.specs.Held.{Held, IsHeld, held_after}
+use Rattle.sasi_host.specs.ChangeLaws.{then_same}
+use Rattle.sasi_host.specs.Buffered.{Buffered, IsBuffered, buffered_after}
 use Rattle.sasi_tokentree.specs.Heights.{height}
-use Rattle.sasi_host.specs.Showing.{shown_before}
-use Rattle.sasi_tokentree.specs.Walks.{GivesEntry, Walk}
+use Rattle.sasi_host.specs.DamageLaws.{shown_before}
+use Rattle.sasi_tokentree.specs.Scans.{ReadsEntry, PairScan}
 use Rattle.sasi_dataread.specs.Laws.{pairs_are}
-use Rattle.sasi_dataread.proofs.Runs.{causes_fault, causes_ok, passes_on, there_same}
-use Rattle.sasi_dataread.proofs.Walking.{entry_before, entry_of, next_takes, open_same, partition_shown, tree_shown, tree_spares}
+use Rattle.sasi_dataread.proofs.ReadChains.{causes_fault, causes_ok, passes_on, there_same}
+use Rattle.sasi_dataread.proofs.DataScan.{entry_before, entry_of, next_takes, open_same, partition_shown, tree_shown, tree_spares}
 use Rattle.sasi_dataread.proofs.Finding.{all_passed, first_causes, first_passes, found_here, here_costs, here_spares, none_here, one_more, searches_on, spares_before, stands_here, starts}
 use Rattle.sasi_dataread.proofs.find.find_partition.Goals as goal
 
 pub returns-in_err-next-clause-damaged : goal.returns-in_err-next-clause-damaged
 returns-in_err-next-clause-damaged g c =
     let p = err_from_is_err_and c.from_residual.result c.from_residual.ensures.1 in
-    rw (p.1, p.2) (tree_shown (g.H.Host.view c.args.host.now) c.args.opened.now c.tree-tree.result.held.file c.tree-tree.result.tree
-    c.in_err-next.field-0.0 (ap (λ (w : Walk). w.held.file) c.tree-tree.ensures) (ap (λ (w : Walk). w.tree) c.tree-tree.ensures)
+    rw (p.1, p.2) (tree_shown (g.H.Host.view c.args.host.now) c.args.opened.now c.tree-tree.result.buffered.file c.tree-tree.result.tree
+    c.in_err-next.field-0.0 (ap (λ (w : PairScan). w.buffered.file) c.tree-tree.ensures) (ap (λ (w : PairScan). w.tree) c.tree-tree.ensures)
     c.in_err-next.ensures.damaged)
 
 pub returns-in_err-next-clause-undamaged : goal.returns-in_err-next-clause-undamaged
 returns-in_err-next-clause-undamaged g c =
     let p = err_from_is_err_and c.from_residual.result c.from_residual.ensures.1 in
-    rw (p.1, p.2) (tree_spares (g.H.Host.view c.args.host.now) c.args.opened.now c.tree-tree.result.held.file c.tree-tree.result.tree
-    c.in_err-next.field-0.0 (ap (λ (w : Walk). w.held.file) c.tree-tree.ensures) (ap (λ (w : Walk). w.tree) c.tree-tree.ensures)
+    rw (p.1, p.2) (tree_spares (g.H.Host.view c.args.host.now) c.args.opened.now c.tree-tree.result.buffered.file c.tree-tree.result.tree
+    c.in_err-next.field-0.0 (ap (λ (w : PairScan). w.buffered.file) c.tree-tree.ensures) (ap (λ (w : PairScan). w.tree) c.tree-tree.ensures)
     (λ bytes is. (g.met.H.Host.sound c.args.host.now).fits c.args.opened.now.file bytes is) c.in_err-next.ensures.undamaged)
 
 pub loop-turn-init : goal.loop-turn-init
 loop-turn-init g c =
     let v = g.H.Host.view c.args.host.now in
     let w = g.H.Host.view c.first.new.host in
-    let file_is = ap (λ (t : Walk). t.held.file) c.tree-tree.ensures in
+    let file_is = ap (λ (t : PairScan). t.buffered.file) c.tree-tree.ensures in
     record {
       there = there_same v w c.args.opened.now.file c.first.ensures.read.changes c.requires.read.there;
       read = read_of _ _ _ _ _ _ _ _ file_is c.first.ensures.read;
@@ -41,13 +41,13 @@ loop-turn-init g c =
           c.first.result c.first.ensures.read.changes (first_causes v w c.args.opened.now c.tree-tree.result c.first.result c.tree-tree.ensures
           c.first.ensures.causes most le) (omega arith);
       file = c.first.ensures.read.file ∙ file_is;
-      named = ap (λ (h : Held). h.file) c.hold-held.ensures;
-      pairs_held = c.first.ensures.read.held;
-      held = subst (λ (h : Held). IsHeld h (g.H.Host.view c.first.new.host).files) (sym c.hold-held.ensures) (λ page bytes is. absurd (cc));
-      near = c.in_ok-next.ensures.near;
-      tree = c.first.ensures.tree ∙ ap (λ (t : Walk). t.tree) c.tree-tree.ensures;
-      entry = entry_of v c.args.opened.now c.tree-tree.result.held.file c.tree-tree.result.tree c.first.new.self.passed c.in_ok-next.next file_is
-          (ap (λ (t : Walk). t.tree) c.tree-tree.ensures) c.in_ok-next.ensures.stands;
+      named = ap (λ (h : Buffered). h.file) c.buffered_file-buffered.ensures;
+      pairs_buffered = c.first.ensures.read.buffered;
+      buffered = subst (λ (h : Buffered). IsBuffered h (g.H.Host.view c.first.new.host).files) (sym c.buffered_file-buffered.ensures) (λ page bytes is. absurd (cc));
+      entry_buffered = c.in_ok-next.ensures.entry_buffered;
+      tree = c.first.ensures.tree ∙ ap (λ (t : PairScan). t.tree) c.tree-tree.ensures;
+      entry = entry_of v c.args.opened.now c.tree-tree.result.buffered.file c.tree-tree.result.tree c.first.new.self.passed c.in_ok-next.next file_is
+          (ap (λ (t : PairScan). t.tree) c.tree-tree.ensures) c.in_ok-next.ensures.stands;
       searches = starts v w c.args.opened.now c.tree-tree.result c.args.token c.args.key.now c.first.new.self.passed c.in_ok-next.next c.first.result
           c.tree-tree.ensures (λ bytes is. (g.met.H.Host.sound c.args.host.now).fits c.args.opened.now.file bytes is) c.in_ok-next.ensures.ok
           c.first.ensures.causes;
@@ -68,7 +68,7 @@ returns-in_err-found-clause-damaged g c =
     let v = g.H.Host.view c.args.host.now in
     let pair : Pair = record { token = c.args.token; place = c.in-Some.place } in
     rw (p.1, p.2) (partition_shown v c.args.opened.now c.loop-turn.tree.passed pair c.in_err-found.field-0.0
-    (subst (λ (o : Option Pair). GivesEntry v c.args.opened.now.file c.args.opened.now.tree c.loop-turn.tree.passed o) c.in-Some.ensures c.loop-turn.invariant.entry)
+    (subst (λ (o : Option Pair). ReadsEntry v c.args.opened.now.file c.args.opened.now.tree c.loop-turn.tree.passed o) c.in-Some.ensures c.loop-turn.invariant.entry)
     (shown_before _ v _ c.args.opened.now.file c.in_err-found.field-0.0 c.loop-turn.invariant.read.changes c.in_err-found.ensures.damaged))
 
 pub returns-in_err-found-clause-undamaged : goal.returns-in_err-found-clause-undamaged
@@ -85,9 +85,9 @@ returns-in_err-found-clause-undamaged g c =
 pub returns-in_err-found-clause-reads : goal.returns-in_err-found-clause-reads
 returns-in_err-found-clause-reads g c most partitioner content le is have =
     let here = here_costs (g.H.Host.view c.args.host.now) _ c.args.opened.now partitioner content c.args.token c.args.key.now c.loop-turn._turn
-    c.loop-turn.tree.passed c.in-Some.place _ _ (g.H.Host.view c.part_with.new.host).reads c.loop-turn.next is c.loop-turn.invariant.read.changes
+    c.loop-turn.tree.passed c.in-Some.place _ _ (g.H.Host.view c.partition_with_key.new.host).reads c.loop-turn.next is c.loop-turn.invariant.read.changes
     (c.loop-turn.invariant.searches most partitioner content le is have) c.in-Some.ensures
-    (λ k p there at. let less = c.part_with.ensures.reads partitioner content k p there at in omega (arith, less))
+    (λ k p there at. let less = c.partition_with_key.ensures.reads partitioner content k p there at in omega (arith, less))
     in
     omega (arith, here)
 
@@ -101,15 +101,15 @@ pub returns-then-is_some-clause-causes : goal.returns-then-is_some-clause-causes
 returns-then-is_some-clause-causes g c most le =
     let spent = 2 * height most c.args.opened.now.tree.pairs + 2 + 2051 * c.loop-turn._turn in
     causes_ok _ _ (spent + 2050) _ c.in_ok-found.found (Ok c.in_ok-found.found) refl
-    (passes_on _ _ _ spent 2050 (spent + 2050) c.part_with.result (c.loop-turn.invariant.passes most le) c.part_with.ensures.causes
-    c.part_with.ensures.read.changes (omega arith)) (omega arith)
+    (passes_on _ _ _ spent 2050 (spent + 2050) c.partition_with_key.result (c.loop-turn.invariant.passes most le) c.partition_with_key.ensures.causes
+    c.partition_with_key.ensures.read.changes (omega arith)) (omega arith)
 
 pub returns-then-is_some-clause-reads : goal.returns-then-is_some-clause-reads
 returns-then-is_some-clause-reads g c most partitioner content le is have =
     let here = here_costs (g.H.Host.view c.args.host.now) _ c.args.opened.now partitioner content c.args.token c.args.key.now c.loop-turn._turn
-    c.loop-turn.tree.passed c.in-Some.place _ _ (g.H.Host.view c.part_with.new.host).reads c.loop-turn.next is c.loop-turn.invariant.read.changes
+    c.loop-turn.tree.passed c.in-Some.place _ _ (g.H.Host.view c.partition_with_key.new.host).reads c.loop-turn.next is c.loop-turn.invariant.read.changes
     (c.loop-turn.invariant.searches most partitioner content le is have) c.in-Some.ensures
-    (λ k p there at. let less = c.part_with.ensures.reads partitioner content k p there at in omega (arith, less))
+    (λ k p there at. let less = c.partition_with_key.ensures.reads partitioner content k p there at in omega (arith, less))
     in
     omega (arith, here)
 
@@ -117,18 +117,18 @@ pub returns-in_err-next-2-clause-damaged : goal.returns-in_err-next-2-clause-dam
 returns-in_err-next-2-clause-damaged g c =
     let p = err_from_is_err_and c.from_residual-in_err-next-2.result c.from_residual-in_err-next-2.ensures.1 in
     let v = g.H.Host.view c.args.host.now in
-    rw (p.1, p.2) (tree_shown v c.args.opened.now c.loop-turn.tree.held.file c.loop-turn.tree.tree c.in_err-next-2.field-0.0 c.loop-turn.invariant.file c.loop-turn.invariant.tree
-    (shown_before _ v _ c.loop-turn.tree.held.file c.in_err-next-2.field-0.0
-    (then_same _ _ _ Same c.loop-turn.invariant.read.changes c.part_with.ensures.read.changes) c.in_err-next-2.ensures.damaged))
+    rw (p.1, p.2) (tree_shown v c.args.opened.now c.loop-turn.tree.buffered.file c.loop-turn.tree.tree c.in_err-next-2.field-0.0 c.loop-turn.invariant.file c.loop-turn.invariant.tree
+    (shown_before _ v _ c.loop-turn.tree.buffered.file c.in_err-next-2.field-0.0
+    (then_same _ _ _ Same c.loop-turn.invariant.read.changes c.partition_with_key.ensures.read.changes) c.in_err-next-2.ensures.damaged))
 
 pub returns-in_err-next-2-clause-undamaged : goal.returns-in_err-next-2-clause-undamaged
 returns-in_err-next-2-clause-undamaged g c =
     let p = err_from_is_err_and c.from_residual-in_err-next-2.result c.from_residual-in_err-next-2.ensures.1 in
     rw (p.1, p.2) (
-    spares_before (g.H.Host.view c.args.host.now) (g.H.Host.view c.part_with.new.host) c.args.opened.now c.in_err-next-2.field-0.0
-    (then_same _ _ _ Same c.loop-turn.invariant.read.changes c.part_with.ensures.read.changes)
-    (tree_spares (g.H.Host.view c.part_with.new.host) c.args.opened.now c.loop-turn.tree.held.file c.loop-turn.tree.tree c.in_err-next-2.field-0.0
-    c.loop-turn.invariant.file c.loop-turn.invariant.tree (λ bytes is. (g.met.H.Host.sound c.part_with.new.host).fits c.args.opened.now.file bytes
+    spares_before (g.H.Host.view c.args.host.now) (g.H.Host.view c.partition_with_key.new.host) c.args.opened.now c.in_err-next-2.field-0.0
+    (then_same _ _ _ Same c.loop-turn.invariant.read.changes c.partition_with_key.ensures.read.changes)
+    (tree_spares (g.H.Host.view c.partition_with_key.new.host) c.args.opened.now c.loop-turn.tree.buffered.file c.loop-turn.tree.tree c.in_err-next-2.field-0.0
+    c.loop-turn.invariant.file c.loop-turn.invariant.tree (λ bytes is. (g.met.H.Host.sound c.partition_with_key.new.host).fits c.args.opened.now.file bytes
     is) c.in_err-next-2.ensures.undamaged)
     )
 
@@ -138,60 +138,60 @@ returns-in_err-next-2-clause-causes g c most le =
     let spent = 2 * height most c.args.opened.now.tree.pairs + 2 + 2051 * c.loop-turn._turn in
     rw (p.1, p.2) (
     causes_fault _ _ _ (spent + 2050) 1 _ c.next.result (Err c.in_err-next-2.field-0.0) c.in_err-next-2.field-0.0 c.in_err-next-2.was refl
-    (passes_on _ _ _ spent 2050 (spent + 2050) c.part_with.result (c.loop-turn.invariant.passes most le) c.part_with.ensures.causes
-    c.part_with.ensures.read.changes (omega arith)) (one_more (g.H.Host.view c.args.host.now) _ _ c.args.opened.now.file c.args.opened.now.tree
+    (passes_on _ _ _ spent 2050 (spent + 2050) c.partition_with_key.result (c.loop-turn.invariant.passes most le) c.partition_with_key.ensures.causes
+    c.partition_with_key.ensures.read.changes (omega arith)) (one_more (g.H.Host.view c.args.host.now) _ _ c.args.opened.now.file c.args.opened.now.tree
     c.loop-turn.tree c.args.token c.in-Some.place c.loop-turn.next c.next.result c.in-Some.ensures c.loop-turn.invariant.entry
-    c.loop-turn.invariant.near c.next.ensures.causes) (omega arith)
+    c.loop-turn.invariant.entry_buffered c.next.ensures.causes) (omega arith)
     )
 
 pub returns-in_err-next-2-clause-reads : goal.returns-in_err-next-2-clause-reads
 returns-in_err-next-2-clause-reads g c most partitioner content le is have =
     let here = here_costs (g.H.Host.view c.args.host.now) _ c.args.opened.now partitioner content c.args.token c.args.key.now c.loop-turn._turn
-    c.loop-turn.tree.passed c.in-Some.place _ _ (g.H.Host.view c.part_with.new.host).reads c.loop-turn.next is c.loop-turn.invariant.read.changes
+    c.loop-turn.tree.passed c.in-Some.place _ _ (g.H.Host.view c.partition_with_key.new.host).reads c.loop-turn.next is c.loop-turn.invariant.read.changes
     (c.loop-turn.invariant.searches most partitioner content le is have) c.in-Some.ensures
-    (λ k p there at. let less = c.part_with.ensures.reads partitioner content k p there at in omega (arith, less))
+    (λ k p there at. let less = c.partition_with_key.ensures.reads partitioner content k p there at in omega (arith, less))
     in
     omega (
       arith,
       here,
       (one_more (g.H.Host.view c.args.host.now) _ _ c.args.opened.now.file c.args.opened.now.tree c.loop-turn.tree c.args.token
-          c.in-Some.place c.loop-turn.next c.next.result c.in-Some.ensures c.loop-turn.invariant.entry c.loop-turn.invariant.near
+          c.in-Some.place c.loop-turn.next c.next.result c.in-Some.ensures c.loop-turn.invariant.entry c.loop-turn.invariant.entry_buffered
           c.next.ensures.causes).reads,
     )
 
 pub loop-turn-preserved : goal.loop-turn-preserved
 loop-turn-preserved g c =
     let v = g.H.Host.view c.args.host.now in
-    let w = g.H.Host.view c.part_with.new.host in
+    let w = g.H.Host.view c.partition_with_key.new.host in
     let here = c.loop-turn.invariant in
     let file = c.args.opened.now.file in
-    let change = then_same _ _ _ Same here.read.changes c.part_with.ensures.read.changes in
+    let change = then_same _ _ _ Same here.read.changes c.partition_with_key.ensures.read.changes in
     let cheap = one_more v w (g.H.Host.view c.next.new.host) file c.args.opened.now.tree c.loop-turn.tree c.args.token c.in-Some.place
-    c.loop-turn.next c.next.result c.in-Some.ensures here.entry here.near c.next.ensures.causes in
+    c.loop-turn.next c.next.result c.in-Some.ensures here.entry here.entry_buffered c.next.ensures.causes in
     record {
-      there = there_same _ _ file c.next.ensures.read.changes (there_same _ _ file c.part_with.ensures.read.changes here.there);
-      read = read_then _ _ _ _ _ _ _ _ _ (read_then _ _ _ _ _ _ _ _ _ here.read c.part_with.ensures.read) (read_of _ _ _ _ _ _ _ _ here.file c.next.ensures.read);
+      there = there_same _ _ file c.next.ensures.read.changes (there_same _ _ file c.partition_with_key.ensures.read.changes here.there);
+      read = read_then _ _ _ _ _ _ _ _ _ (read_then _ _ _ _ _ _ _ _ _ here.read c.partition_with_key.ensures.read) (read_of _ _ _ _ _ _ _ _ here.file c.next.ensures.read);
       passes = λ most le.
           let spent = 2 * height most c.args.opened.now.tree.pairs + 2 + 2051 * c.loop-turn._turn in
-          passes_on _ _ _ (spent + 2050) 1 _ c.next.result (passes_on _ _ _ spent 2050 (spent + 2050) c.part_with.result (here.passes most le)
-          c.part_with.ensures.causes c.part_with.ensures.read.changes (omega arith)) cheap c.next.ensures.read.changes (omega arith);
+          passes_on _ _ _ (spent + 2050) 1 _ c.next.result (passes_on _ _ _ spent 2050 (spent + 2050) c.partition_with_key.result (here.passes most le)
+          c.partition_with_key.ensures.causes c.partition_with_key.ensures.read.changes (omega arith)) cheap c.next.ensures.read.changes (omega arith);
       file = c.next.ensures.read.file ∙ here.file;
-      named = c.part_with.ensures.named;
-      pairs_held = c.next.ensures.read.held;
-      held = held_after c.part_with.new.held w (g.H.Host.view c.next.new.host) c.next.ensures.read.changes c.part_with.ensures.held;
-      near = c.in_ok-next-2.ensures.near;
+      named = c.partition_with_key.ensures.named;
+      pairs_buffered = c.next.ensures.read.buffered;
+      buffered = buffered_after c.partition_with_key.new.buffered w (g.H.Host.view c.next.new.host) c.next.ensures.read.changes c.partition_with_key.ensures.buffered;
+      entry_buffered = c.in_ok-next-2.ensures.entry_buffered;
       tree = c.next.ensures.tree ∙ here.tree;
-      entry = entry_of v c.args.opened.now c.loop-turn.tree.held.file c.loop-turn.tree.tree c.next.new.self.passed c.in_ok-next-2.next here.file
-          here.tree (entry_before v w c.loop-turn.tree.held.file c.loop-turn.tree.tree c.next.new.self.passed c.in_ok-next-2.next change
+      entry = entry_of v c.args.opened.now c.loop-turn.tree.buffered.file c.loop-turn.tree.tree c.next.new.self.passed c.in_ok-next-2.next here.file
+          here.tree (entry_before v w c.loop-turn.tree.buffered.file c.loop-turn.tree.tree c.next.new.self.passed c.in_ok-next-2.next change
           c.in_ok-next-2.ensures.stands);
       searches = λ most partitioner content le is have.
           searches_on v _ c.args.opened.now partitioner content c.args.token c.args.key.now c.loop-turn._turn c.loop-turn.tree.passed c.in-Some.place
           _ _ c.next.new.self.passed (g.H.Host.view c.next.new.host).reads c.loop-turn.next c.in_ok-next-2.next c.in_ok-found.found is
           here.read.changes (here.searches most partitioner content le is have) c.in-Some.ensures c.in_ok-found.ensures.ok
           (sym c.if-is_some.ensures)
-          (λ k p there at. let cost = c.part_with.ensures.reads partitioner content k p there at in omega (arith, cost, cheap.reads))
-          (next_takes w c.args.opened.now c.loop-turn.tree.held.file c.loop-turn.tree.tree c.loop-turn.tree.passed c.next.new.self.passed
-          c.in_ok-next-2.next here.file here.tree (λ bytes reads. (g.met.H.Host.sound c.part_with.new.host).fits file bytes reads)
+          (λ k p there at. let partition_pages = c.partition_with_key.ensures.reads partitioner content k p there at in omega (arith, partition_pages, cheap.reads))
+          (next_takes w c.args.opened.now c.loop-turn.tree.buffered.file c.loop-turn.tree.tree c.loop-turn.tree.passed c.next.new.self.passed
+          c.in_ok-next-2.next here.file here.tree (λ bytes reads. (g.met.H.Host.sound c.partition_with_key.new.host).fits file bytes reads)
           c.in_ok-next-2.ensures.ok partitioner content (open_same v w c.args.opened.now partitioner content change is) have);
     }
 
@@ -205,11 +205,11 @@ pub returns-clause-reads : goal.returns-clause-reads
 returns-clause-reads g c most partitioner content le is have = let s = c.loop-turn.invariant.searches most partitioner content le is have in omega (arith, s.costs)
 
 pub returns-in_err-found-clause-read : goal.returns-in_err-found-clause-read
-returns-in_err-found-clause-read g c = read_then _ _ _ _ _ _ _ _ _ c.loop-turn.invariant.read c.part_with.ensures.read
+returns-in_err-found-clause-read g c = read_then _ _ _ _ _ _ _ _ _ c.loop-turn.invariant.read c.partition_with_key.ensures.read
 
 pub returns-then-is_some-clause-read : goal.returns-then-is_some-clause-read
-returns-then-is_some-clause-read g c = read_then _ _ _ _ _ _ _ _ _ c.loop-turn.invariant.read c.part_with.ensures.read
+returns-then-is_some-clause-read g c = read_then _ _ _ _ _ _ _ _ _ c.loop-turn.invariant.read c.partition_with_key.ensures.read
 
 pub returns-in_err-next-2-clause-read : goal.returns-in_err-next-2-clause-read
 returns-in_err-next-2-clause-read g c =
-    read_then _ _ _ _ _ _ _ _ _ (read_then _ _ _ _ _ _ _ _ _ c.loop-turn.invariant.read c.part_with.ensures.read) (read_of _ _ _ _ _ _ _ _ c.loop-turn.invariant.file c.next.ensures.read)
+    read_then _ _ _ _ _ _ _ _ _ (read_then _ _ _ _ _ _ _ _ _ c.loop-turn.invariant.read c.partition_with_key.ensures.read) (read_of _ _ _ _ _ _ _ _ c.loop-turn.invariant.file c.next.ensures.read)

@@ -2,13 +2,13 @@ use Rattle.std.proofs.Common.{◌≡◌, ◌⊎◌, ◌+◌, ◌*◌, ◌≤◌,
 use Rattle.sasi_types.specs.declared.partitioner.Partitioner.{Partitioner}
 use Rattle.sasi_host.specs.View.{IsThere}
 use Rattle.sasi_host.specs.PageReading.{HasRead}
-use Rattle.sasi_host.specs.Held.{IsHeld}
+use Rattle.sasi_host.specs.Buffered.{IsBuffered}
 use Rattle.sasi_tokentree.specs.Heights.{height}
-use Rattle.sasi_tokentree.specs.Walks.{GivesEntry, IsNear}
+use Rattle.sasi_tokentree.specs.Scans.{ReadsEntry, IsEntryBuffered}
 use Rattle.sasi_datawrite.specs.Format.{Content, header}
-use Rattle.sasi_dataread.specs.Reads.{IsOpenOn, Passes}
-use Rattle.sasi_dataread.specs.Walks.{HaveTokens}
-use Rattle.sasi_dataread.specs.Finds.{token_cost}
+use Rattle.sasi_dataread.specs.Reads.{IsOpenOn, ReadsWithin}
+use Rattle.sasi_dataread.specs.Scans.{TokensFit}
+use Rattle.sasi_dataread.specs.Finds.{token_reads}
 use Rattle.sasi_dataread.proofs.Finding.{Searches}
 use Rattle.sasi_dataread.proofs.find.find_partition.Given as goal
 
@@ -19,15 +19,15 @@ invariant-loop-turn g l =
     record {
       there : IsThere (view l.host) l.opened.file;
       read : HasRead (g.P.PageReader.agrees l.pages) (g.P.PageReader.covers l.fn.pages) (g.P.PageReader.covers l.pages) (view l.fn.host) (view l.host) l.opened.file;
-      passes : (most : ℕ) → pairs ≤ most → Passes (2 * height most pairs + 2 + 2051 * l._turn) (view l.fn.host) (view l.host);
-      file : l.tree.held.file ≡ l.opened.file;
-      named : l.held.file ≡ l.opened.file;
-      pairs_held : IsHeld l.tree.held (view l.host).files;
-      held : IsHeld l.held (view l.host).files;
-      near : IsNear l.tree l.next;
+      passes : (most : ℕ) → pairs ≤ most → ReadsWithin (2 * height most pairs + 2 + 2051 * l._turn) (view l.fn.host) (view l.host);
+      file : l.tree.buffered.file ≡ l.opened.file;
+      named : l.buffered.file ≡ l.opened.file;
+      pairs_buffered : IsBuffered l.tree.buffered (view l.host).files;
+      buffered : IsBuffered l.buffered (view l.host).files;
+      entry_buffered : IsEntryBuffered l.tree l.next;
       tree : l.tree.tree ≡ l.opened.tree;
-      entry : GivesEntry (view l.fn.host) l.opened.file l.opened.tree l.tree.passed l.next;
-      searches : (most : ℕ) (partitioner : Partitioner) (content : Content) → pairs ≤ most → IsOpenOn (view l.fn.host) l.opened partitioner content → HaveTokens partitioner content
+      entry : ReadsEntry (view l.fn.host) l.opened.file l.opened.tree l.tree.passed l.next;
+      searches : (most : ℕ) (partitioner : Partitioner) (content : Content) → pairs ≤ most → IsOpenOn (view l.fn.host) l.opened partitioner content → TokensFit partitioner content
           → Searches partitioner content l.token l.key l._turn l.tree.passed l.next (view l.host).reads
-          ((view l.fn.host).reads + (2 * height most pairs + 2 + token_cost partitioner l.token (length header) content));
+          ((view l.fn.host).reads + (2 * height most pairs + 2 + token_reads partitioner l.token (length header) content));
     }

@@ -1,5 +1,5 @@
 use Rattle.std.proofs.Common.{refl, ◌∙◌, subst, arith}
-use Rattle.sasi_body.specs.Seen.{IsFaultOf}
+use Rattle.sasi_body.specs.Faults.{IsFaultOf}
 use Rattle.sasi_dataread.specs.Damages.ShowsPartition.{other_length, broken_body}
 use Rattle.sasi_dataread.proofs.partition.fault_in_file.Goals as goal
 
@@ -15,13 +15,13 @@ returns-in-OtherLength-clause-shown c types end whole shown has = other_length (
   other = subst (IsFaultOf types c.args.bytes.now) c.in-OtherLength.is shown;
 })
 
-pub returns-in-Broken-clause-shown : goal.returns-in-Broken-clause-shown
-returns-in-Broken-clause-shown c types end whole shown has = broken_body (record {
+pub returns-in-Damaged-clause-shown : goal.returns-in-Damaged-clause-shown
+returns-in-Damaged-clause-shown c types end whole shown has = broken_body (record {
   named = refl;
   body = c.args.bytes.now;
   stands = has;
   fits = omega arith;
-  offset = c.in-Broken.broken.at;
+  offset = c.in-Damaged.broken.at;
   at = refl;
-  breaks = subst (IsFaultOf types c.args.bytes.now) c.in-Broken.is shown;
+  breaks = subst (IsFaultOf types c.args.bytes.now) c.in-Damaged.is shown;
 })

@@ -2,32 +2,32 @@ use Rattle.std.proofs.Common.{◌≡◌, ℕ, List, sym, ◌∙◌, subst, arith
 use Rattle.std.specs.Int.{to_be_bytes, w32}
 use Rattle.std.proofs.lemmas.Result.{err_from_is_err_and}
 use Rattle.sasi_host.specs.declared.name.FileName.{FileName}
-use Rattle.sasi_host.specs.Damages.{HasAt, Shown, TellsSize}
-use Rattle.sasi_host.specs.Places.{window_at}
+use Rattle.sasi_host.specs.Damages.{HasAt, DamageShown, TellsSize}
+use Rattle.sasi_host.specs.Offsets.{window_at}
 use Rattle.sasi_dataread.specs.Damages.ShowsPartition.{wrong_length}
 use Rattle.sasi_dataread.proofs.Numbers.{number_at}
 use Rattle.sasi_dataread.proofs.Bodies.{far_shown, far_spares, length_shown, length_spares}
 use Rattle.sasi_dataread.proofs.partition.read_length.Goals as goal
 
-pub returns-then-place-gt-LARGEST_FILE-clause-damaged : goal.returns-then-place-gt-LARGEST_FILE-clause-damaged
-returns-then-place-gt-LARGEST_FILE-clause-damaged g c types =
-    far_shown types (g.H.Host.view c.args.host.now) c.args.held.now.file c.args.end c.args.place c.too_short.result (omega arith)
-    (λ bytes is. (g.met.H.Host.sound c.args.host.now).fits c.args.held.now.file bytes is)
-    (subst (λ (n : FileName). Shown (g.H.Host.view c.args.host.now) n (TellsSize n) c.too_short.result) c.file-file.ensures c.too_short.ensures.damaged)
+pub returns-then-place-gt-MAX_FILE_SIZE-clause-damaged : goal.returns-then-place-gt-MAX_FILE_SIZE-clause-damaged
+returns-then-place-gt-MAX_FILE_SIZE-clause-damaged g c types =
+    far_shown types (g.H.Host.view c.args.host.now) c.args.buffered.now.file c.args.end c.args.place c.unexpected_end.result (omega arith)
+    (λ bytes is. (g.met.H.Host.sound c.args.host.now).fits c.args.buffered.now.file bytes is)
+    (subst (λ (n : FileName). DamageShown (g.H.Host.view c.args.host.now) n (TellsSize n) c.unexpected_end.result) c.file-file.ensures c.unexpected_end.ensures.damaged)
 
-pub returns-then-place-gt-LARGEST_FILE-clause-undamaged : goal.returns-then-place-gt-LARGEST_FILE-clause-undamaged
-returns-then-place-gt-LARGEST_FILE-clause-undamaged g c = far_spares (g.H.Host.view c.args.host.now) c.args.held.now.file c.args.end c.args.place
-    c.too_short.result (omega arith) (λ bytes is. (g.met.H.Host.sound c.args.host.now).fits c.args.held.now.file bytes is)
+pub returns-then-place-gt-MAX_FILE_SIZE-clause-undamaged : goal.returns-then-place-gt-MAX_FILE_SIZE-clause-undamaged
+returns-then-place-gt-MAX_FILE_SIZE-clause-undamaged g c = far_spares (g.H.Host.view c.args.host.now) c.args.buffered.now.file c.args.end c.args.place
+    c.unexpected_end.result (omega arith) (λ bytes is. (g.met.H.Host.sound c.args.host.now).fits c.args.buffered.now.file bytes is)
 
 pub returns-in_err-read_into-clause-damaged : goal.returns-in_err-read_into-clause-damaged
 returns-in_err-read_into-clause-damaged g c types =
     let p = err_from_is_err_and c.from_residual.result c.from_residual.ensures.1 in
-    rw (p.1, p.2) (length_shown types (g.H.Host.view c.args.host.now) c.args.held.now.file c.args.end c.args.place c.in_err-read_into.field-0.0 c.in_err-read_into.ensures.damaged)
+    rw (p.1, p.2) (length_shown types (g.H.Host.view c.args.host.now) c.args.buffered.now.file c.args.end c.args.place c.in_err-read_into.field-0.0 c.in_err-read_into.ensures.damaged)
 
 pub returns-in_err-read_into-clause-undamaged : goal.returns-in_err-read_into-clause-undamaged
 returns-in_err-read_into-clause-undamaged g c =
     let p = err_from_is_err_and c.from_residual.result c.from_residual.ensures.1 in
-    rw (p.1, p.2) (length_spares (g.H.Host.view c.args.host.now) c.args.held.now.file c.args.end c.args.place c.in_err-read_into.field-0.0 c.in_err-read_into.ensures.damaged)
+    rw (p.1, p.2) (length_spares (g.H.Host.view c.args.host.now) c.args.buffered.now.file c.args.end c.args.place c.in_err-read_into.field-0.0 c.in_err-read_into.ensures.damaged)
 
 pub returns-then-is_wrong_length-clause-damaged : goal.returns-then-is_wrong_length-clause-damaged
 returns-then-is_wrong_length-clause-damaged g c types bytes is =

@@ -1,7 +1,7 @@
 use Rattle.std.proofs.Common.{length}
 use Rattle.sasi_host.specs.Disk.{InPlace, Torn}
-use Rattle.sasi_host.specs.Moves.{touches}
-use Rattle.sasi_host.specs.Moves.{untouched}
+use Rattle.sasi_host.specs.ChangeLaws.{touches}
+use Rattle.sasi_host.specs.ChangeLaws.{untouched}
 use Rattle.sasi_datawrite.proofs.partition.write_partition.Goals as goal
 
 pub returns-in_err-put_partition-clause-changes : goal.returns-in_err-put_partition-clause-changes

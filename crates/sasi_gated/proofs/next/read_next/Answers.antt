@@ -33,13 +33,13 @@ returns-clause-records g c done left told reading =
     (g.met.H.Host.sound c.args.host.now) told reading c.read_record.ensures.changes true (c.args.at + 5 + c.len.result) c.read_record.new.out.items
     (λ bytes before rest is gate. returns-clause-gate g c bytes before rest is gate)
 
-pub returns-then-next-gt-LARGEST_FILE-clause-damaged : goal.returns-then-next-gt-LARGEST_FILE-clause-damaged
-returns-then-next-gt-LARGEST_FILE-clause-damaged g c bytes done rest is gate =
+pub returns-then-next-gt-MAX_FILE_SIZE-clause-damaged : goal.returns-then-next-gt-MAX_FILE_SIZE-clause-damaged
+returns-then-next-gt-MAX_FILE_SIZE-clause-damaged g c bytes done rest is gate =
     absurd (not_too_long (g.H.Host.view c.args.host.now) c.args.file bytes (c.args.at + 5 + c.len.result) done rest c.read_record.new.out.items (g.met.H.Host.sound c.args.host.now) is
     (read_opened c.in_ok-read_record.field-0 c.args.file bytes c.args.at c.len.result done rest c.read_record.new.out.items c.if-not-branch.false
     (c.in_ok-read_record.ensures.ok bytes done rest is gate) gate (omega arith)) (omega arith))
 
-pub returns-then-next-gt-LARGEST_FILE-clause-undamaged : goal.returns-then-next-gt-LARGEST_FILE-clause-undamaged
-returns-then-next-gt-LARGEST_FILE-clause-undamaged g c done left told reading =
-    undamaged _ (g.H.Host.view c.args.host.now) c.args.file c.args.at done left (g.met.H.Host.sound c.args.host.now) told reading c.cut_off.result
-    (λ bytes before rest is gate. returns-then-next-gt-LARGEST_FILE-clause-damaged g c bytes before rest is gate)
+pub returns-then-next-gt-MAX_FILE_SIZE-clause-undamaged : goal.returns-then-next-gt-MAX_FILE_SIZE-clause-undamaged
+returns-then-next-gt-MAX_FILE_SIZE-clause-undamaged g c done left told reading =
+    undamaged _ (g.H.Host.view c.args.host.now) c.args.file c.args.at done left (g.met.H.Host.sound c.args.host.now) told reading c.truncated.result
+    (λ bytes before rest is gate. returns-then-next-gt-MAX_FILE_SIZE-clause-damaged g c bytes before rest is gate)

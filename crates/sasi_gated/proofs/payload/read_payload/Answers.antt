@@ -2,7 +2,7 @@ use Rattle.std.proofs.Common.{refl, ◌≡◌, ◌∙◌, ◌+◌, ℕ, ap, arit
 use Rattle.std.proofs.lemmas.Result.{err_from_is_err_and}
 use Rattle.sasi_host.specs.Disk.{Same}
 use Rattle.sasi_host.specs.Contents.{contents_same}
-use Rattle.sasi_host.specs.Moves.{stays, then_same}
+use Rattle.sasi_host.specs.ChangeLaws.{stays, then_same}
 use Rattle.sasi_gated.proofs.Opens.{on_damage_weaker}
 use Rattle.sasi_gated.proofs.Pieces.{piece_joins, piece_within, piece_short}
 use Rattle.sasi_gated.proofs.payload.read_payload.Goals as goal
@@ -15,9 +15,9 @@ loop-done-init g c = record {
   disk = omega arith;
   out = refl;
   within = λ bytes is fits. omega arith;
-  taken = λ bytes is begun.
+  taken = λ bytes is prefix.
       let same : length c.args.out.now.items ≡ c.len-done.result = omega arith in
-      begun ∙ ap (λ (n : ℕ). take n (drop c.args.at bytes)) same;
+      prefix ∙ ap (λ (n : ℕ). take n (drop c.args.at bytes)) same;
 }
 
 pub returns-in_err-read_piece-clause-changes : goal.returns-in_err-read_piece-clause-changes
@@ -44,8 +44,8 @@ loop-done-preserved g c = record {
       let further = piece_within bytes c.loop-done.out.items c.read_piece.new.out.items (c.args.at + c.loop-done.done) c.min-want.result
       (c.in_ok-read_piece.ensures.ok bytes now) c.in_ok-read_piece.ensures.len so_far in
       omega (arith, further);
-  taken = λ bytes is begun.
+  taken = λ bytes is prefix.
       let now = contents_same _ _ c.args.file c.loop-done.invariant.same ∙ is in
       piece_joins bytes c.loop-done.out.items c.read_piece.new.out.items c.args.at c.loop-done.done c.min-want.result
-      (c.loop-done.invariant.taken bytes is begun) (c.in_ok-read_piece.ensures.ok bytes now);
+      (c.loop-done.invariant.taken bytes is prefix) (c.in_ok-read_piece.ensures.ok bytes now);
 }

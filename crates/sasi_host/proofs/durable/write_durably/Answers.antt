@@ -1,8 +1,8 @@
 use Rattle.std.proofs.Common.{length}
 use Rattle.std.proofs.lemmas.Result.{on_ok_weaker}
 use Rattle.sasi_host.specs.Names.{Bytes}
-use Rattle.sasi_host.specs.Disk.{Step, InPlace, Torn, overlay}
-use Rattle.sasi_host.specs.Moves.{then_same}
+use Rattle.sasi_host.specs.Disk.{FileChange, InPlace, Torn, overlay}
+use Rattle.sasi_host.specs.ChangeLaws.{then_same}
 use Rattle.sasi_host.specs.Contents.{becomes_on}
 use Rattle.sasi_host.specs.Durability.{durable}
 use Rattle.sasi_host.proofs.durable.write_durably.Goals as goal
@@ -16,7 +16,7 @@ returns-clause-ok g c =
 pub returns-clause-changes : goal.returns-clause-changes
 returns-clause-changes g c =
     then_same (g.H.Host.view c.args.host.now) (g.H.Host.view c.write.new.self) (g.H.Host.view c.sync.new.self)
-    (Step c.args.file (InPlace (Torn c.args.at (length c.args.bytes.now)))) c.write.ensures.changes c.sync.ensures.changes
+    (FileChange c.args.file (InPlace (Torn c.args.at (length c.args.bytes.now)))) c.write.ensures.changes c.sync.ensures.changes
 
 pub returns-clause-reads : goal.returns-clause-reads
 returns-clause-reads g c =

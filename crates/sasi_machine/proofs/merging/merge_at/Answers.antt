@@ -6,11 +6,11 @@ pub returns-in-Some-clause-err : goal.returns-in-Some-clause-err
 returns-in-Some-clause-err c =
     let h = c.get_mut.follows.holds c.merge_from.new.self in
     on_err_weaker c.merge_from.result
-    (λ same. same_write c.args.partitions.now (c.get_mut.follows.lender c.merge_from.new.self) c.args.place c.in-Some.partition.now c.merge_from.new.self c.in-Some.ensures.value same h.0)
+    (λ same. same_write c.args.partitions.now (c.get_mut.follows.lender c.merge_from.new.self) c.args.decorated_key c.in-Some.partition.now c.merge_from.new.self c.in-Some.ensures.value same h.0)
     c.merge_from.ensures.err
 
 pub returns-clause-ok : goal.returns-clause-ok
 returns-clause-ok c =
-    new_write c.args.partitions.now c.get_mut.follows.lender-at-none c.insert.new.self c.args.place c.args.change c.new-partition.result
+    new_write c.args.partitions.now c.get_mut.follows.lender-at-none c.insert.new.self c.args.decorated_key c.args.change c.new-partition.result
     c.merge_from-2.new.self c.in_default.ensures.value c.get_mut.follows.holds-at-none c.new-partition.ensures c.in_ok-merge_from.ensures.ok
     c.in_ok-insert.ensures.updates.0

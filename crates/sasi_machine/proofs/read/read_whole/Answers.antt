@@ -5,7 +5,7 @@ use Rattle.sasi_machine.proofs.read.read_whole.Goals as goal
 
 pub returns-in-Err-clause-reads : goal.returns-in-Err-clause-reads
 returns-in-Err-clause-reads c =
-    ap (λ place. Bad (NotUtf8 place)) (c.valid_up_to.ensures ∙ c.in-Err.ensures.valid_len)
+    ap (λ offset. Bad (NotUtf8 offset)) (c.valid_up_to.ensures ∙ c.in-Err.ensures.valid_len)
     ∙ read_bytes c.args.piece.now (rw c.as_slice.ensures at (sym c.eq.ensures ∙ c.if-eq.false)) c.in-Err.ensures.cases.0
 
 pub returns-in-Ok-parse-clause-reads : goal.returns-in-Ok-parse-clause-reads

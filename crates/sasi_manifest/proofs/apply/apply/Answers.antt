@@ -1,4 +1,4 @@
-use Rattle.sasi_manifest.proofs.KeyPlaces.{key_at}
+use Rattle.sasi_manifest.proofs.KeyPositions.{key_at}
 use Rattle.sasi_manifest.proofs.apply.apply.Goals as goal
 
 pub new-requires-clause-key : goal.new-requires-clause-key

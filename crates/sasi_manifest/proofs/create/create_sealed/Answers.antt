@@ -1,12 +1,12 @@
 use Rattle.std.proofs.Common.{◌≡◌, ◌+◌, ◌∷◌, [], List, Some, None, ap, subst, ◌∙◌}
 use Rattle.sasi_host.specs.declared.name.FileName.{FileName}
 use Rattle.sasi_host.specs.View.{Reaches}
-use Rattle.sasi_host.specs.Disk.{Anyhow, Changes, Step}
-use Rattle.sasi_gated.specs.Standing.{IsAtEnd}
+use Rattle.sasi_host.specs.Disk.{AnyChange, Changes, FileChange}
+use Rattle.sasi_gated.specs.Handles.{IsAtEnd}
 use Rattle.sasi_manifest.specs.declared.edit.Edit.{Edit}
 use Rattle.sasi_manifest.specs.Edits.{encoded}
-use Rattle.sasi_manifest.specs.Listings.{after_all, counted}
-use Rattle.sasi_manifest.proofs.Moments.{unmade, unmade_touches, made_file, made_file_touches, made_both, made_both_touches, stands_made, room_made, new_builds, new_in_hand}
+use Rattle.sasi_manifest.specs.Listings.{after_all, with_record_counted}
+use Rattle.sasi_manifest.proofs.CrashMoments.{unmade, unmade_touches, made_file, made_file_touches, made_both, made_both_touches, stands_made, room_made, new_builds, new_is_open}
 use Rattle.sasi_manifest.proofs.create.create_sealed.Goals as goal
 
 pub returns-in_err-edits-clause-any_moment : goal.returns-in_err-edits-clause-any_moment
@@ -24,16 +24,16 @@ returns-in_err-first-clause-changes g c = unmade_touches (g.H.Host.view c.args.h
 pub returns-in_err-gated-clause-any_moment : goal.returns-in_err-gated-clause-any_moment
 returns-in_err-gated-clause-any_moment g c made is unsealed =
     made_file _ (g.H.Host.view c.create.new.host) c.args.number made (g.met.H.Host.sound c.args.host.now) unsealed
-    (subst (λ (f : FileName). Changes (Step f Anyhow) (g.H.Host.view c.args.host.now) (g.H.Host.view c.create.new.host)) c.manifest.ensures c.create.ensures.changes)
+    (subst (λ (f : FileName). Changes (FileChange f AnyChange) (g.H.Host.view c.args.host.now) (g.H.Host.view c.create.new.host)) c.manifest.ensures c.create.ensures.changes)
 
 pub returns-in_err-gated-clause-changes : goal.returns-in_err-gated-clause-changes
 returns-in_err-gated-clause-changes g c =
     made_file_touches _ (g.H.Host.view c.create.new.host) c.args.number
-    (subst (λ (f : FileName). Changes (Step f Anyhow) (g.H.Host.view c.args.host.now) (g.H.Host.view c.create.new.host)) c.manifest.ensures c.create.ensures.changes)
+    (subst (λ (f : FileName). Changes (FileChange f AnyChange) (g.H.Host.view c.args.host.now) (g.H.Host.view c.create.new.host)) c.manifest.ensures c.create.ensures.changes)
 
 pub returns-in_err-make_seal-clause-any_moment : goal.returns-in_err-make_seal-clause-any_moment
 returns-in_err-make_seal-clause-any_moment g c made is unsealed =
-    let first = subst (λ (f : FileName). Changes (Step f Anyhow) (g.H.Host.view c.args.host.now) (g.H.Host.view c.create.new.host)) c.manifest.ensures c.create.ensures.changes in
+    let first = subst (λ (f : FileName). Changes (FileChange f AnyChange) (g.H.Host.view c.args.host.now) (g.H.Host.view c.create.new.host)) c.manifest.ensures c.create.ensures.changes in
     let payload = c.in_ok-first.first.record in
     let end = subst (λ (f : FileName). IsAtEnd (g.H.Host.view c.create.new.host) f c.in_ok-gated.gated.at (payload ∷ [])) c.manifest.ensures c.in_ok-gated.ensures.ok in
     let items = c.deref.ensures.value ∙ c.in_ok-edits.ensures in
@@ -46,11 +46,11 @@ returns-in_err-make_seal-clause-any_moment g c made is unsealed =
 pub returns-in_err-make_seal-clause-changes : goal.returns-in_err-make_seal-clause-changes
 returns-in_err-make_seal-clause-changes g c =
     made_both_touches (g.H.Host.view c.args.host.now) (g.H.Host.view c.create.new.host) (g.H.Host.view c.make_seal.new.host) c.args.number
-    (subst (λ (f : FileName). Changes (Step f Anyhow) (g.H.Host.view c.args.host.now) (g.H.Host.view c.create.new.host)) c.manifest.ensures c.create.ensures.changes) c.make_seal.ensures.changes
+    (subst (λ (f : FileName). Changes (FileChange f AnyChange) (g.H.Host.view c.args.host.now) (g.H.Host.view c.create.new.host)) c.manifest.ensures c.create.ensures.changes) c.make_seal.ensures.changes
 
 pub returns-clause-any_moment : goal.returns-clause-any_moment
 returns-clause-any_moment g c made is unsealed =
-    let first = subst (λ (f : FileName). Changes (Step f Anyhow) (g.H.Host.view c.args.host.now) (g.H.Host.view c.create.new.host)) c.manifest.ensures c.create.ensures.changes in
+    let first = subst (λ (f : FileName). Changes (FileChange f AnyChange) (g.H.Host.view c.args.host.now) (g.H.Host.view c.create.new.host)) c.manifest.ensures c.create.ensures.changes in
     let payload = c.in_ok-first.first.record in
     let end = subst (λ (f : FileName). IsAtEnd (g.H.Host.view c.create.new.host) f c.in_ok-gated.gated.at (payload ∷ [])) c.manifest.ensures c.in_ok-gated.ensures.ok in
     let items = c.deref.ensures.value ∙ c.in_ok-edits.ensures in
@@ -63,7 +63,7 @@ returns-clause-any_moment g c made is unsealed =
 pub returns-clause-changes : goal.returns-clause-changes
 returns-clause-changes g c =
     made_both_touches (g.H.Host.view c.args.host.now) (g.H.Host.view c.create.new.host) (g.H.Host.view c.make_seal.new.host) c.args.number
-    (subst (λ (f : FileName). Changes (Step f Anyhow) (g.H.Host.view c.args.host.now) (g.H.Host.view c.create.new.host)) c.manifest.ensures c.create.ensures.changes) c.make_seal.ensures.changes
+    (subst (λ (f : FileName). Changes (FileChange f AnyChange) (g.H.Host.view c.args.host.now) (g.H.Host.view c.create.new.host)) c.manifest.ensures c.create.ensures.changes) c.make_seal.ensures.changes
 
 pub returns-clause-ok : goal.returns-clause-ok
 returns-clause-ok g c =
@@ -71,7 +71,7 @@ returns-clause-ok g c =
     let end = subst (λ (f : FileName). IsAtEnd (g.H.Host.view c.create.new.host) f c.in_ok-gated.gated.at (payload ∷ [])) c.manifest.ensures c.in_ok-gated.ensures.ok in
     let items = c.deref.ensures.value ∙ c.in_ok-edits.ensures in
     let is_payload = c.in_ok-first.ensures.record ∙ ap encoded items in
-    let rewritten = subst (λ (l : List Edit). Some c.in_ok-first.first.listing ≡ counted (encoded l) (after_all None l)) items c.in_ok-first.ensures.listing in
+    let rewritten = subst (λ (l : List Edit). Some c.in_ok-first.first.listing ≡ with_record_counted (encoded l) (after_all None l)) items c.in_ok-first.ensures.listing in
     stands_made (g.H.Host.view c.create.new.host)
     (g.H.Host.view c.make_seal.new.host) c.args.number c.in_ok-gated.gated.at c.in_ok-first.first.listing (payload ∷ []) end
     (new_builds c.args.listing.now c.in_ok-first.first.listing payload c.requires.apply c.requires.short is_payload rewritten)
@@ -82,11 +82,11 @@ returns-clause-room g c =
     room_made (g.H.Host.view c.create.new.host) (g.H.Host.view c.make_seal.new.host) c.args.number (c.in_ok-gated.gated.at + 1) c.make_seal.ensures.changes
     (subst (λ (f : FileName). Reaches (g.H.Host.view c.create.new.host) f (c.in_ok-gated.gated.at + 1)) (c.in_ok-gated.ensures.file ∙ c.manifest.ensures) c.in_ok-gated.ensures.room)
 
-pub returns-clause-in_hand : goal.returns-clause-in_hand
-returns-clause-in_hand g c =
+pub returns-clause-is_open : goal.returns-clause-is_open
+returns-clause-is_open g c =
     let items = c.deref.ensures.value ∙ c.in_ok-edits.ensures in
-    let rewritten = subst (λ (l : List Edit). Some c.in_ok-first.first.listing ≡ counted (encoded l) (after_all None l)) items c.in_ok-first.ensures.listing in
+    let rewritten = subst (λ (l : List Edit). Some c.in_ok-first.first.listing ≡ with_record_counted (encoded l) (after_all None l)) items c.in_ok-first.ensures.listing in
     let gated = c.in_ok-gated.ensures in
-    new_in_hand c.args.number c.in_ok-gated.gated c.args.listing.now c.in_ok-first.first.listing c.manifest.result
+    new_is_open c.args.number c.in_ok-gated.gated c.args.listing.now c.in_ok-first.first.listing c.manifest.result
     c.in_ok-first.first.record c.requires.apply (c.in_ok-first.ensures.record ∙ ap encoded items) rewritten c.manifest.ensures gated.file
-    gated.place gated.fits gated.usable
+    gated.offset_is gated.fits gated.usable

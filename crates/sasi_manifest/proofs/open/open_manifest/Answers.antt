@@ -2,14 +2,14 @@ use Rattle.std.proofs.Common.{◌≡◌, ◌+◌, ◌-◌, Bool, Some, Option, L
 use Rattle.std.proofs.lemmas.Result.{err_from_is_err_and}
 use Rattle.sasi_host.specs.Names.{Bytes}
 use Rattle.sasi_host.specs.Disk.{Same}
-use Rattle.sasi_host.specs.Moves.{then_same}
+use Rattle.sasi_host.specs.ChangeLaws.{then_same}
 use Rattle.sasi_gated.specs.Reads.{ReadsGate}
 use Rattle.sasi_host.specs.Damages.{OnDamage}
 use Rattle.sasi_manifest.specs.declared.edit.Edit.{Edit}
 use Rattle.sasi_manifest.specs.declared.listing.Listing.{Listing}
 use Rattle.sasi_manifest.specs.Format.{IsRecord}
-use Rattle.sasi_manifest.specs.Listings.{after_all, counted, length_of}
-use Rattle.sasi_manifest.specs.Reading.{GoesOn, IsTelling}
+use Rattle.sasi_manifest.specs.Listings.{after_all, with_record_counted, length_of}
+use Rattle.sasi_manifest.specs.Reading.{ReadingGoesOn, IsDamageOfRecord}
 use Rattle.sasi_manifest.proofs.Opening.{shown_at_gate, shown_inside, shown_empty, goes_on_next, read_whole}
 use Rattle.sasi_manifest.proofs.open.open_manifest.Goals as goal
 
@@ -32,7 +32,7 @@ returns-in_err-take_record-clause-damaged g c =
     rw (p.1, p.2) (shown_inside (g.H.Host.view c.args.host.now)
     (g.H.Host.view c.loop-listed.host) c.args.number c.next.new.self.at c.loop-listed.gated c.loop-listed.listed c.next.new.out.items
     c.in_err-take_record.field-0.0 c.loop-listed.invariant gate
-    (subst (λ (l : Bytes). OnDamage (IsTelling c.args.number (length_of c.loop-listed.listed - 1) c.loop-listed.listed l)
+    (subst (λ (l : Bytes). OnDamage (IsDamageOfRecord c.args.number (length_of c.loop-listed.listed - 1) c.loop-listed.listed l)
     c.in_err-take_record.field-0.0) c.deref.ensures.value c.in_err-take_record.ensures.damaged))
 
 pub returns-in_err-take_record-clause-changes : goal.returns-in_err-take_record-clause-changes
@@ -44,13 +44,13 @@ loop-listed-preserved g c =
     let gate = subst (λ (more : Bool). ReadsGate
     (g.H.Host.view c.loop-listed.host) c.loop-listed.gated.file c.loop-listed.gated.at c.next.new.self.at more c.next.new.out.items)
     c.if-branch.true next.gate in
-    let place = subst (λ (more : Bool). c.next.new.self.at ≡ (if more then c.loop-listed.gated.at + (5 + length c.next.new.out.items) else c.loop-listed.gated.at)) c.if-branch.true next.place in
+    let offset = subst (λ (more : Bool). c.next.new.self.at ≡ (if more then c.loop-listed.gated.at + (5 + length c.next.new.out.items) else c.loop-listed.gated.at)) c.if-branch.true next.offset_is in
     let took = subst (λ (l : Bytes). (edits : List Edit) × IsRecord c.loop-listed.listed l edits
-    × (Some c.in_ok-take_record.field-0 ≡ counted l (after_all c.loop-listed.listed edits))) c.deref.ensures.value
+    × (Some c.in_ok-take_record.field-0 ≡ with_record_counted l (after_all c.loop-listed.listed edits))) c.deref.ensures.value
     c.in_ok-take_record.ensures.ok in
     goes_on_next (g.H.Host.view c.args.host.now) (g.H.Host.view c.loop-listed.host)
     (g.H.Host.view c.next.new.host) c.args.number c.loop-listed.gated c.next.new.self c.loop-listed.listed c.in_ok-take_record.field-0
-    c.next.new.out.items took.0 c.loop-listed.invariant gate c.next.ensures.changes place next.fits next.file
+    c.next.new.out.items took.0 c.loop-listed.invariant gate c.next.ensures.changes offset next.fits next.file
     next.usable next.causes.disk next.causes.out took.1 took.2
 
 pub returns-in-None-clause-damaged : goal.returns-in-None-clause-damaged
@@ -59,7 +59,7 @@ returns-in-None-clause-damaged g c =
     (g.H.Host.view c.loop-listed.host) c.loop-listed.gated.file c.loop-listed.gated.at c.next.new.self.at more c.next.new.out.items)
     c.if-branch.false c.in_ok-next.ensures.gate in
     shown_empty (g.H.Host.view c.args.host.now) (g.H.Host.view c.loop-listed.host) c.args.number c.next.new.self.at c.loop-listed.gated c.next.new.out.items c.empty.result
-    (subst (λ (l : Option Listing). GoesOn (g.H.Host.view c.args.host.now)
+    (subst (λ (l : Option Listing). ReadingGoesOn (g.H.Host.view c.args.host.now)
     (g.H.Host.view c.loop-listed.host) c.args.number c.loop-listed.gated l) c.in-None.is c.loop-listed.invariant) gate c.empty.ensures.file
     c.empty.ensures.at c.empty.ensures.rule c.empty.ensures.seen
 
@@ -72,7 +72,7 @@ returns-clause-ok g c =
     (g.H.Host.view c.loop-listed.host) c.loop-listed.gated.file c.loop-listed.gated.at c.next.new.self.at more c.next.new.out.items)
     c.if-branch.false c.in_ok-next.ensures.gate in
     read_whole (g.H.Host.view c.args.host.now) (g.H.Host.view c.loop-listed.host) c.args.number c.next.new.self.at c.loop-listed.gated c.in-Some.listing c.next.new.out.items
-    (subst (λ (l : Option Listing). GoesOn (g.H.Host.view c.args.host.now) (g.H.Host.view c.loop-listed.host) c.args.number c.loop-listed.gated l) c.in-Some.is c.loop-listed.invariant) gate
+    (subst (λ (l : Option Listing). ReadingGoesOn (g.H.Host.view c.args.host.now) (g.H.Host.view c.loop-listed.host) c.args.number c.loop-listed.gated l) c.in-Some.is c.loop-listed.invariant) gate
 
 pub returns-clause-changes : goal.returns-clause-changes
 returns-clause-changes g c = then_same _ _ _ Same c.loop-listed.invariant.same c.next.ensures.changes

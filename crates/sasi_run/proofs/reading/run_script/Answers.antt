@@ -1,7 +1,7 @@
 use Rattle.std.proofs.Common.{arith, sym, ℕ, [], ◌-◌, ◌^◌}
 use Rattle.std.proofs.lemmas.List.{append-nil, length-take}
-use Rattle.sasi_run.proofs.Ends.{ends_fault, ends_done, ends_last, ends_long, ends_within, goes_on, starts_on}
-use Rattle.sasi_run.proofs.Exits.{front_of, some_left}
+use Rattle.sasi_run.proofs.CrashesAtEnd.{ends_fault, ends_done, ends_last, ends_long, ends_within, goes_on, starts_on}
+use Rattle.sasi_run.proofs.RepliesAtEnd.{front_of, some_left}
 use Rattle.sasi_run.proofs.reading.run_script.Goals as goal
 
 pub returns-in-Err-clause-runs : goal.returns-in-Err-clause-runs

@@ -1,8 +1,8 @@
 use Rattle.std.proofs.Common.{arith, refl}
 use Rattle.std.proofs.lemmas.Result.{err_from_is_err_and}
 use Rattle.sasi_host.specs.Disk.{Same}
-use Rattle.sasi_host.specs.Moves.{stays, then_same}
-use Rattle.sasi_run.proofs.ReplayingAll.{read_all, replayed_all, shown_among, spares_among}
+use Rattle.sasi_host.specs.ChangeLaws.{stays, then_same}
+use Rattle.sasi_run.proofs.ReplayingAll.{read_all, replayed_all, shown_among, no_false_damage_among}
 use Rattle.sasi_run.proofs.replay.replay.Goals as goal
 
 pub returns-in_err-types-clause-changes : goal.returns-in_err-types-clause-changes
@@ -19,7 +19,7 @@ returns-in_err-log-clause-damaged g c =
 pub returns-in_err-log-clause-undamaged : goal.returns-in_err-log-clause-undamaged
 returns-in_err-log-clause-undamaged g c =
     let p = err_from_is_err_and c.from_residual-in_err-log.result c.from_residual-in_err-log.ensures.1 in
-    rw (p.1, p.2) (spares_among (g.H.Host.view c.args.host.now) (g.H.Host.view c.replay_older.new.host) c.args.listing.now c.args.listing.now.last c.replay_older.new.machine c.in_ok-replay_older.ensures.replayed (omega arith) c.in_err-log.field-0.0 c.in_err-log.ensures.undamaged)
+    rw (p.1, p.2) (no_false_damage_among (g.H.Host.view c.args.host.now) (g.H.Host.view c.replay_older.new.host) c.args.listing.now c.args.listing.now.last c.replay_older.new.machine c.in_ok-replay_older.ensures.replayed (omega arith) c.in_err-log.field-0.0 c.in_err-log.ensures.undamaged)
 
 pub returns-in_err-log-clause-changes : goal.returns-in_err-log-clause-changes
 returns-in_err-log-clause-changes g c = then_same _ _ _ Same c.in_ok-replay_older.ensures.replayed.same c.replay_segment.ensures.changes

@@ -1,9 +1,9 @@
 use Rattle.std.proofs.Common.{◌≡◌, arith, subst, ◌∙◌}
 use Rattle.std.proofs.lemmas.Result.{err_from_is_err_and}
 use Rattle.sasi_host.specs.Disk.{Same}
-use Rattle.sasi_host.specs.Moves.{then_same}
+use Rattle.sasi_host.specs.ChangeLaws.{then_same}
 use Rattle.sasi_run.specs.Replaying.{HasReplayed}
-use Rattle.sasi_run.proofs.ReplayingAll.{none_replayed, replayed_more, shown_among, spares_among, still_there}
+use Rattle.sasi_run.proofs.ReplayingAll.{none_replayed, replayed_more, shown_among, no_false_damage_among, still_there}
 use Rattle.sasi_run.proofs.ReplayingSegment.{failed_later}
 use Rattle.sasi_run.proofs.replay.replay_older.Goals as goal
 
@@ -23,7 +23,7 @@ returns-in_err-replay_segment-clause-damaged g c =
 pub returns-in_err-replay_segment-clause-undamaged : goal.returns-in_err-replay_segment-clause-undamaged
 returns-in_err-replay_segment-clause-undamaged g c =
     let p = err_from_is_err_and c.from_residual.result c.from_residual.ensures.1 in
-    rw (p.1, p.2) (spares_among (g.H.Host.view c.args.host.now) (g.H.Host.view c.loop-number.host) c.args.listing.now c.loop-number.number c.loop-number.machine c.loop-number.invariant (omega (arith, c.loop-number-test.true)) c.in_err-replay_segment.field-0.0
+    rw (p.1, p.2) (no_false_damage_among (g.H.Host.view c.args.host.now) (g.H.Host.view c.loop-number.host) c.args.listing.now c.loop-number.number c.loop-number.machine c.loop-number.invariant (omega (arith, c.loop-number-test.true)) c.in_err-replay_segment.field-0.0
     c.in_err-replay_segment.ensures.undamaged)
 
 pub returns-in_err-replay_segment-clause-changes : goal.returns-in_err-replay_segment-clause-changes

@@ -1,19 +1,19 @@
 use Rattle.std.proofs.Common.{arith, ap, subst, ◌∙◌, is_some, Option, ◌+◌}
 use Rattle.std.proofs.lemmas.Result.{err_from_is_err_and}
 use Rattle.sasi_host.specs.Disk.{Same}
-use Rattle.sasi_host.specs.Moves.{then_same}
+use Rattle.sasi_host.specs.ChangeLaws.{then_same}
 use Rattle.sasi_host.specs.View.{Reaches}
 use Rattle.sasi_host.specs.declared.name.FileName.{FileName}
 use Rattle.sasi_cells.specs.declared.mutation.Mutation.{Mutation}
 use Rattle.sasi_commitlog.specs.Format.{Tables}
-use Rattle.sasi_commitlog.specs.Reads.{IsLogShownAt, ReadsLogGate, ReadsMutations, SparesLog}
-use Rattle.sasi_run.proofs.ReplayingSegment.{begins_replay, failed_later, reads_whole, replayed_whole, replays_more, shown_on, spares_first, spares_on}
+use Rattle.sasi_commitlog.specs.Reads.{IsLogDamageAt, ReadsLogGate, ReadsMutations, NoFalseLogDamage}
+use Rattle.sasi_run.proofs.ReplayingSegment.{begins_replay, failed_later, reads_whole, replayed_whole, replays_more, shown_on, no_false_damage_first, no_false_damage_on}
 use Rattle.sasi_run.proofs.replay.replay_segment.Goals as goal
 
 pub returns-in_err-log-clause-undamaged : goal.returns-in_err-log-clause-undamaged
 returns-in_err-log-clause-undamaged g c =
     let p = err_from_is_err_and c.from_residual.result c.from_residual.ensures.1 in
-    rw (p.1, p.2) (spares_first (g.H.Host.view c.args.host.now) c.args.listing.now c.args.number c.in_err-log.field-0.0 (g.met.H.Host.sound c.args.host.now) c.in_err-log.ensures.undamaged)
+    rw (p.1, p.2) (no_false_damage_first (g.H.Host.view c.args.host.now) c.args.listing.now c.args.number c.in_err-log.field-0.0 (g.met.H.Host.sound c.args.host.now) c.in_err-log.ensures.undamaged)
 
 pub loop-log-init : goal.loop-log-init
 loop-log-init g c =
@@ -24,13 +24,13 @@ pub returns-in_err-mutation-clause-damaged : goal.returns-in_err-mutation-clause
 returns-in_err-mutation-clause-damaged g c =
     let p = err_from_is_err_and c.from_residual-in_err-mutation.result c.from_residual-in_err-mutation.ensures.1 in
     rw (p.1, p.2) (shown_on (g.H.Host.view c.args.host.now) (g.H.Host.view c.loop-log.host) c.args.listing.now c.args.number c.loop-log.log c.args.machine.now c.loop-log.machine c.loop-log.invariant c.in_err-mutation.field-0.0
-    (subst (λ (t : Tables). IsLogShownAt (g.H.Host.view c.loop-log.host) c.loop-log.log.file t c.loop-log.log.at c.in_err-mutation.field-0.0) c.requires.types c.in_err-mutation.ensures.damaged))
+    (subst (λ (t : Tables). IsLogDamageAt (g.H.Host.view c.loop-log.host) c.loop-log.log.file t c.loop-log.log.at c.in_err-mutation.field-0.0) c.requires.types c.in_err-mutation.ensures.damaged))
 
 pub returns-in_err-mutation-clause-undamaged : goal.returns-in_err-mutation-clause-undamaged
 returns-in_err-mutation-clause-undamaged g c =
     let p = err_from_is_err_and c.from_residual-in_err-mutation.result c.from_residual-in_err-mutation.ensures.1 in
-    rw (p.1, p.2) (spares_on (g.H.Host.view c.args.host.now) (g.H.Host.view c.loop-log.host) c.args.listing.now c.args.number c.loop-log.log c.args.machine.now c.loop-log.machine c.loop-log.invariant c.in_err-mutation.field-0.0
-    (subst (λ (t : Tables). SparesLog (g.H.Host.view c.loop-log.host) c.loop-log.log.file t c.loop-log.log.at c.in_err-mutation.field-0.0) c.requires.types c.in_err-mutation.ensures.undamaged))
+    rw (p.1, p.2) (no_false_damage_on (g.H.Host.view c.args.host.now) (g.H.Host.view c.loop-log.host) c.args.listing.now c.args.number c.loop-log.log c.args.machine.now c.loop-log.machine c.loop-log.invariant c.in_err-mutation.field-0.0
+    (subst (λ (t : Tables). NoFalseLogDamage (g.H.Host.view c.loop-log.host) c.loop-log.log.file t c.loop-log.log.at c.in_err-mutation.field-0.0) c.requires.types c.in_err-mutation.ensures.undamaged))
 
 pub returns-in_err-mutation-clause-changes : goal.returns-in_err-mutation-clause-changes
 returns-in_err-mutation-clause-changes g c = then_same _ _ _ Same c.loop-log.invariant.same c.next.ensures.changes

@@ -1,19 +1,19 @@
 use Rattle.std.proofs.Common.{subst}
 use Rattle.std.proofs.lemmas.Result.{err_from_is_err_and}
 use Rattle.sasi_host.specs.declared.name.FileName.{FileName}
-use Rattle.sasi_host.specs.Moves.{stays}
+use Rattle.sasi_host.specs.ChangeLaws.{stays}
 use Rattle.sasi_host.specs.View.{IsThere}
 use Rattle.sasi_manifest.specs.declared.listing.Listing.{Listing}
-use Rattle.sasi_run.specs.SealedFolder.{TellsMissing, TellsSegment}
+use Rattle.sasi_run.specs.SealedFolder.{ReportsMissing, ReportsMissingSegment}
 use Rattle.sasi_run.proofs.Damaged.{manifest_missing, manifest_shown, segment_missing}
-use Rattle.sasi_run.proofs.SealedStore.{listed_is_there, manifest_listed, segments_listed, spares_store}
+use Rattle.sasi_run.proofs.SealedStore.{listed_is_there, manifest_listed, segments_listed, no_false_damage_store}
 use Rattle.sasi_run.proofs.sealed_folder.read_listed.Goals as goal
 
 pub returns-in_err-check_there-clause-undamaged : goal.returns-in_err-check_there-clause-undamaged
 returns-in_err-check_there-clause-undamaged g c =
     let p = err_from_is_err_and c.from_residual.result c.from_residual.ensures.1 in
     let damage = c.in_err-check_there.field-0.0 in
-    let tells = subst (λ (f : FileName). TellsMissing c.args.names.now f damage) c.manifest.ensures c.in_err-check_there.ensures.missing in
+    let tells = subst (λ (f : FileName). ReportsMissing c.args.names.now f damage) c.manifest.ensures c.in_err-check_there.ensures.missing in
     rw (p.1, p.2)
     (λ folder listing logs files holds. manifest_listed (g.H.Host.view c.args.host.now) c.args.names.now c.args.number c.requires folder
     listing logs files holds damage tells)
@@ -22,7 +22,7 @@ pub returns-in_err-check_there-clause-damaged : goal.returns-in_err-check_there-
 returns-in_err-check_there-clause-damaged g c folder files =
     let p = err_from_is_err_and c.from_residual.result c.from_residual.ensures.1 in
     let damage = c.in_err-check_there.field-0.0 in
-    let tells = subst (λ (f : FileName). TellsMissing c.args.names.now f damage) c.manifest.ensures c.in_err-check_there.ensures.missing in
+    let tells = subst (λ (f : FileName). ReportsMissing c.args.names.now f damage) c.manifest.ensures c.in_err-check_there.ensures.missing in
     rw (p.1, p.2) (manifest_missing (g.H.Host.view c.args.host.now) folder files c.args.names.now c.requires c.args.number damage tells)
 
 pub returns-in_err-check_there-clause-changes : goal.returns-in_err-check_there-clause-changes
@@ -39,14 +39,14 @@ returns-in_err-manifest-clause-damaged g c folder files =
 pub returns-in_err-manifest-clause-undamaged : goal.returns-in_err-manifest-clause-undamaged
 returns-in_err-manifest-clause-undamaged g c =
     let p = err_from_is_err_and c.from_residual-in_err-manifest.result c.from_residual-in_err-manifest.ensures.1 in
-    rw (p.1, p.2) (spares_store (g.H.Host.view c.args.host.now) c.args.number c.in_err-manifest.field-0.0 c.in_err-manifest.ensures.undamaged)
+    rw (p.1, p.2) (no_false_damage_store (g.H.Host.view c.args.host.now) c.args.number c.in_err-manifest.field-0.0 c.in_err-manifest.ensures.undamaged)
 
 pub returns-in_err-check_segments-clause-damaged : goal.returns-in_err-check_segments-clause-damaged
 returns-in_err-check_segments-clause-damaged g c folder files =
     let p = err_from_is_err_and c.from_residual-in_err-check_segments.result c.from_residual-in_err-check_segments.ensures.1 in
     let a = g.H.Host.view c.args.host.now in
     let damage = c.in_err-check_segments.field-0.0 in
-    let tells = subst (λ (l : Listing). TellsSegment c.args.names.now l.floor l.last damage) c.listing-listing.ensures.listing
+    let tells = subst (λ (l : Listing). ReportsMissingSegment c.args.names.now l.floor l.last damage) c.listing-listing.ensures.listing
     c.in_err-check_segments.ensures.missing in
     let there = subst (λ (f : FileName). IsThere a f) c.manifest.ensures
     (listed_is_there a c.args.names.now c.manifest.result c.requires c.in_ok-check_there.ensures.there) in
@@ -58,7 +58,7 @@ pub returns-in_err-check_segments-clause-undamaged : goal.returns-in_err-check_s
 returns-in_err-check_segments-clause-undamaged g c =
     let p = err_from_is_err_and c.from_residual-in_err-check_segments.result c.from_residual-in_err-check_segments.ensures.1 in
     let damage = c.in_err-check_segments.field-0.0 in
-    let tells = subst (λ (l : Listing). TellsSegment c.args.names.now l.floor l.last damage) c.listing-listing.ensures.listing
+    let tells = subst (λ (l : Listing). ReportsMissingSegment c.args.names.now l.floor l.last damage) c.listing-listing.ensures.listing
     c.in_err-check_segments.ensures.missing in
     rw (p.1, p.2)
     (λ folder listing logs files holds. segments_listed (g.H.Host.view c.args.host.now) c.args.names.now c.args.number c.requires folder

@@ -5,14 +5,14 @@ use Rattle.sasi_folder.specs.Recording.{create_short}
 use Rattle.sasi_manifest.specs.declared.listing.Listing.{Listing}
 use Rattle.sasi_host.specs.Names.{manifest_name}
 use Rattle.sasi_manifest.specs.Format.{IsNext}
-use Rattle.sasi_run.proofs.Storing.{somehow, stays_somehow, goes_nowhere, create_goes, created_ready, created_serves, edit_of}
+use Rattle.sasi_run.proofs.Storing.{somehow, stays_any_change, nothing_atomic, create_atomic, created_ready, created_durable, edit_of}
 use Rattle.sasi_run.proofs.store.create.Goals as goal
 
 pub returns-in_err-edits-clause-any_moment : goal.returns-in_err-edits-clause-any_moment
-returns-in_err-edits-clause-any_moment g c = goes_nowhere (g.H.Host.view c.args.host.now) c.args.store.now _ (g.met.H.Host.sound c.args.host.now)
+returns-in_err-edits-clause-any_moment g c = nothing_atomic (g.H.Host.view c.args.host.now) c.args.store.now _ (g.met.H.Host.sound c.args.host.now)
 
 pub returns-in_err-edits-clause-changes : goal.returns-in_err-edits-clause-changes
-returns-in_err-edits-clause-changes g c = stays_somehow (g.H.Host.view c.args.host.now)
+returns-in_err-edits-clause-changes g c = stays_any_change (g.H.Host.view c.args.host.now)
 
 pub append-requires-clause-short : goal.append-requires-clause-short
 append-requires-clause-short g c =
@@ -23,7 +23,7 @@ append-requires-clause-short g c =
 pub returns-in_err-append-clause-any_moment : goal.returns-in_err-append-clause-any_moment
 returns-in_err-append-clause-any_moment g c =
     let is_edit = c.in_ok-edits.ensures.edits ∙ ap (λ (l : Listing). edit_of c.args.table l.last ∷ []) c.listing.ensures.listing in
-    create_goes (g.H.Host.view c.args.host.now) (g.H.Host.view c.append.new.host) (g.met.H.Host.sound c.args.host.now) c.args.store.now c.args.table c.requires.ready c.requires.can (λ next is. c.append.ensures.any_moment next (subst (λ (l : List Edit). IsNext c.args.store.now.manifest.listing l next) (sym is_edit) is))
+    create_atomic (g.H.Host.view c.args.host.now) (g.H.Host.view c.append.new.host) (g.met.H.Host.sound c.args.host.now) c.args.store.now c.args.table c.requires.ready c.requires.can (λ next is. c.append.ensures.any_moment next (subst (λ (l : List Edit). IsNext c.args.store.now.manifest.listing l next) (sym is_edit) is))
 
 pub returns-in_err-append-clause-changes : goal.returns-in_err-append-clause-changes
 returns-in_err-append-clause-changes g c = somehow (g.H.Host.view c.args.host.now) (g.H.Host.view c.append.new.host) (manifest_name c.args.store.now.manifest.number) c.append.ensures.changes
@@ -31,7 +31,7 @@ returns-in_err-append-clause-changes g c = somehow (g.H.Host.view c.args.host.no
 pub returns-in_err-create-clause-any_moment : goal.returns-in_err-create-clause-any_moment
 returns-in_err-create-clause-any_moment g c =
     let is_edit = c.in_ok-edits.ensures.edits ∙ ap (λ (l : Listing). edit_of c.args.table l.last ∷ []) c.listing.ensures.listing in
-    create_goes (g.H.Host.view c.args.host.now) (g.H.Host.view c.append.new.host) (g.met.H.Host.sound c.args.host.now) c.args.store.now c.args.table c.requires.ready c.requires.can (λ next is. c.append.ensures.any_moment next (subst (λ (l : List Edit). IsNext c.args.store.now.manifest.listing l next) (sym is_edit) is))
+    create_atomic (g.H.Host.view c.args.host.now) (g.H.Host.view c.append.new.host) (g.met.H.Host.sound c.args.host.now) c.args.store.now c.args.table c.requires.ready c.requires.can (λ next is. c.append.ensures.any_moment next (subst (λ (l : List Edit). IsNext c.args.store.now.manifest.listing l next) (sym is_edit) is))
 
 pub returns-in_err-create-clause-changes : goal.returns-in_err-create-clause-changes
 returns-in_err-create-clause-changes g c = somehow (g.H.Host.view c.args.host.now) (g.H.Host.view c.append.new.host) (manifest_name c.args.store.now.manifest.number) c.append.ensures.changes
@@ -42,16 +42,16 @@ returns-clause-ready g c =
     let appended = c.in_ok-append.ensures in
     rw c.in_ok-create.ensures.ok (created_ready (g.H.Host.view c.args.host.now) (g.H.Host.view c.append.new.host) (g.met.H.Host.sound c.args.host.now) c.args.store.now c.args.table c.requires.ready c.requires.can c.append.new.self appended.number appended.changes (subst (λ (l : List Edit). IsNext c.args.store.now.manifest.listing l c.append.new.self.listing) is_edit appended.listing) appended.room appended.usable)
 
-pub returns-clause-serves : goal.returns-clause-serves
-returns-clause-serves g c =
+pub returns-clause-durable : goal.returns-clause-durable
+returns-clause-durable g c =
     let is_edit = c.in_ok-edits.ensures.edits ∙ ap (λ (l : Listing). edit_of c.args.table l.last ∷ []) c.listing.ensures.listing in
     let appended = c.in_ok-append.ensures in
-    rw c.in_ok-create.ensures.ok (created_serves (g.H.Host.view c.args.host.now) (g.H.Host.view c.append.new.host) (g.met.H.Host.sound c.args.host.now) c.args.store.now c.args.table c.requires.ready c.requires.can c.append.new.self appended.number appended.changes (subst (λ (l : List Edit). IsNext c.args.store.now.manifest.listing l c.append.new.self.listing) is_edit appended.listing) appended.ok)
+    rw c.in_ok-create.ensures.ok (created_durable (g.H.Host.view c.args.host.now) (g.H.Host.view c.append.new.host) (g.met.H.Host.sound c.args.host.now) c.args.store.now c.args.table c.requires.ready c.requires.can c.append.new.self appended.number appended.changes (subst (λ (l : List Edit). IsNext c.args.store.now.manifest.listing l c.append.new.self.listing) is_edit appended.listing) appended.ok)
 
 pub returns-clause-any_moment : goal.returns-clause-any_moment
 returns-clause-any_moment g c =
     let is_edit = c.in_ok-edits.ensures.edits ∙ ap (λ (l : Listing). edit_of c.args.table l.last ∷ []) c.listing.ensures.listing in
-    create_goes (g.H.Host.view c.args.host.now) (g.H.Host.view c.append.new.host) (g.met.H.Host.sound c.args.host.now) c.args.store.now c.args.table c.requires.ready c.requires.can (λ next is. c.append.ensures.any_moment next (subst (λ (l : List Edit). IsNext c.args.store.now.manifest.listing l next) (sym is_edit) is))
+    create_atomic (g.H.Host.view c.args.host.now) (g.H.Host.view c.append.new.host) (g.met.H.Host.sound c.args.host.now) c.args.store.now c.args.table c.requires.ready c.requires.can (λ next is. c.append.ensures.any_moment next (subst (λ (l : List Edit). IsNext c.args.store.now.manifest.listing l next) (sym is_edit) is))
 
 pub returns-clause-changes : goal.returns-clause-changes
 returns-clause-changes g c = somehow (g.H.Host.view c.args.host.now) (g.H.Host.view c.append.new.host) (manifest_name c.args.store.now.manifest.number) c.append.ensures.changes

@@ -1,11 +1,11 @@
-use Rattle.sasi_run.proofs.Storing.{stays_somehow, goes_nowhere, made_can_create}
+use Rattle.sasi_run.proofs.Storing.{stays_any_change, nothing_atomic, made_can_create}
 use Rattle.sasi_run.proofs.store.step.Goals as goal
 
 pub returns-in_err-outcome-clause-any_moment : goal.returns-in_err-outcome-clause-any_moment
-returns-in_err-outcome-clause-any_moment g c = goes_nowhere (g.H.Host.view c.args.host.now) c.args.store.now _ (g.met.H.Host.sound c.args.host.now)
+returns-in_err-outcome-clause-any_moment g c = nothing_atomic (g.H.Host.view c.args.host.now) c.args.store.now _ (g.met.H.Host.sound c.args.host.now)
 
 pub returns-in_err-outcome-clause-changes : goal.returns-in_err-outcome-clause-changes
-returns-in_err-outcome-clause-changes g c = stays_somehow (g.H.Host.view c.args.host.now)
+returns-in_err-outcome-clause-changes g c = stays_any_change (g.H.Host.view c.args.host.now)
 
 pub create-requires-clause-can : goal.create-requires-clause-can
 create-requires-clause-can g c =
@@ -14,7 +14,7 @@ create-requires-clause-can g c =
     made_can_create (g.H.Host.view c.args.host.now) c.args.store.now says.0 c.in-Create.table c.requires says.2 says.3
 
 pub returns-in-Answered-clause-any_moment : goal.returns-in-Answered-clause-any_moment
-returns-in-Answered-clause-any_moment g c = goes_nowhere (g.H.Host.view c.args.host.now) c.args.store.now _ (g.met.H.Host.sound c.args.host.now)
+returns-in-Answered-clause-any_moment g c = nothing_atomic (g.H.Host.view c.args.host.now) c.args.store.now _ (g.met.H.Host.sound c.args.host.now)
 
 pub returns-in-Answered-clause-changes : goal.returns-in-Answered-clause-changes
-returns-in-Answered-clause-changes g c = stays_somehow (g.H.Host.view c.args.host.now)
+returns-in-Answered-clause-changes g c = stays_any_change (g.H.Host.view c.args.host.now)

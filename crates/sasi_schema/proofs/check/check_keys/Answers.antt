@@ -7,11 +7,11 @@ pub returns-then-is_none : goal.returns-then-is_none
 returns-then-is_none c =
     c.loop-key.invariant
     ∙ key_here c.args.columns.now c.args.keys.now c.loop-key.key-index c.key-item.result c.loop-key-test.true c.key-item.is
-    (rw c.place_in.ensures.place at (c.is_none.ensures ∙ ap not c.if-is_none.true))
+    (rw c.position_in.ensures.position at (c.is_none.ensures ∙ ap not c.if-is_none.true))
     ∙ ap (λ key. Some (NoColumn key)) (sym c.in_ok-copy.ensures)
 
 pub loop-key-preserved : goal.loop-key-preserved
 loop-key-preserved c =
     c.loop-key.invariant
     ∙ key_past c.args.columns.now c.args.keys.now c.loop-key.key-index c.key-item.result c.loop-key-test.true c.key-item.is
-    (rw c.place_in.ensures.place at (c.is_none.ensures ∙ ap not c.if-is_none.false))
+    (rw c.position_in.ensures.position at (c.is_none.ensures ∙ ap not c.if-is_none.false))

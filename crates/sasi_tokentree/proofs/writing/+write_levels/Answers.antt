@@ -2,15 +2,15 @@ use Rattle.std.proofs.Common.{ℕ, ◌+◌, ◌∙◌, arith, length, subst, sym
 use Rattle.sasi_host.specs.View.{Reaches}
 use Rattle.sasi_tokentree.specs.Heights.{rises}
 use Rattle.sasi_tokentree.specs.Writes.{changes_past_on}
-use Rattle.sasi_tokentree.proofs.Leveling.{last_written, last_top, more_written, more_top, above_length, up_room}
+use Rattle.sasi_tokentree.proofs.LevelSteps.{last_written, last_top, more_written, more_top, above_length, up_room}
 use Rattle.sasi_tokentree.proofs.writing.+write_levels.Goals as goal
 
-pub returns-then-entries-le-FULL-clause-ok : goal.returns-then-entries-le-FULL-clause-ok
-returns-then-entries-le-FULL-clause-ok g t c most enough =
+pub returns-then-entries-le-MAX_ENTRIES-clause-ok : goal.returns-then-entries-le-MAX_ENTRIES-clause-ok
+returns-then-entries-le-MAX_ENTRIES-clause-ok g t c most enough =
     last_written _ _ c.args.file c.args.level c.args.at most c.args.entries.now c.requires.some (omega arith) enough c.in_ok-above.ensures.ok
 
-pub returns-then-entries-le-FULL-clause-top : goal.returns-then-entries-le-FULL-clause-top
-returns-then-entries-le-FULL-clause-top g t c most enough = last_top c.args.at most _ c.requires.some (omega arith) enough
+pub returns-then-entries-le-MAX_ENTRIES-clause-top : goal.returns-then-entries-le-MAX_ENTRIES-clause-top
+returns-then-entries-le-MAX_ENTRIES-clause-top g t c most enough = last_top c.args.at most _ c.requires.some (omega arith) enough
 
 pub write_levels-requires : goal.write_levels-requires
 write_levels-requires g t c κs within =

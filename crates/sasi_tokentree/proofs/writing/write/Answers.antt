@@ -5,7 +5,7 @@ use Rattle.sasi_types.specs.declared.tree.Pair.{Pair}
 use Rattle.sasi_tokentree.specs.Writes.{changes_past_stays}
 use Rattle.sasi_tokentree.specs.Format.{AreFit}
 use Rattle.sasi_tokentree.proofs.Fitting.{all_fit, first_none}
-use Rattle.sasi_tokentree.proofs.Leveling.{empty_written, empty_tree}
+use Rattle.sasi_tokentree.proofs.LevelSteps.{empty_written, empty_tree}
 use Rattle.sasi_tokentree.proofs.writing.write.Goals as goal
 
 pub returns-else-not-is_empty-clause-ok : goal.returns-else-not-is_empty-clause-ok

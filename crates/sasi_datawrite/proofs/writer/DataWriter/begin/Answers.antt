@@ -3,7 +3,7 @@ use Rattle.sasi_host.specs.Names.{Bytes, data_name}
 use Rattle.sasi_host.specs.Contents.{reaches_held}
 use Rattle.sasi_datawrite.specs.Format.{header}
 use Rattle.sasi_datawrite.specs.Laws.{header_length}
-use Rattle.sasi_host.specs.Moves.{untouched}
+use Rattle.sasi_host.specs.ChangeLaws.{untouched}
 use Rattle.sasi_datawrite.proofs.Pushes.{writing_none}
 use Rattle.sasi_datawrite.proofs.writer.DataWriter.begin.Goals as goal
 
@@ -18,8 +18,8 @@ returns-clause-ok g c =
       partitioner = c.args.partitioner;
       pairs =
           c.new.result;
-      place = 16;
-      latest = 0;
+      offset = 16;
+      max_timestamp = 0;
       usable = true;
     }) c.deref.result.now c.new.ensures refl refl is c.in_ok-create_with.ensures.ok
 

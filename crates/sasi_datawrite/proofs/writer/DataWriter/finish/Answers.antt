@@ -12,9 +12,9 @@ returns-clause-ok g c content =
       partitioner = c.self.inside.partitioner;
       pairs = c.self.inside.pairs;
       place =
-          c.self.inside.place;
-      latest = c.self.inside.latest;
+          c.self.inside.offset;
+      max_timestamp = c.self.inside.max_timestamp;
       usable = c.self.inside.usable;
     } in
-    subst (λ (w : Writer). IsWriting (g.H.Host.view c.args.host.now) w content → Holds (g.H.Host.view c.write_ending.new.host) w.file (data_bytes w.partitioner content)) c.self.view_is
-    (writing_ends (g.H.Host.view c.args.host.now) (g.H.Host.view c.write_ending.new.host) writer c.in_ok-write_ending.ensures.ok content)
+    subst (λ (w : Writer). IsWriting (g.H.Host.view c.args.host.now) w content → Holds (g.H.Host.view c.write_trailer.new.host) w.file (data_bytes w.partitioner content)) c.self.view_is
+    (writing_ends (g.H.Host.view c.args.host.now) (g.H.Host.view c.write_trailer.new.host) writer c.in_ok-write_trailer.ensures.ok content)

@@ -4,7 +4,7 @@ use Rattle.sasi_types.specs.Token.{token_of}
 use Rattle.sasi_types.specs.declared.tree.Pair.{Pair}
 use Rattle.sasi_host.specs.Names.{Bytes}
 use Rattle.sasi_datawrite.specs.Laws.{partition_length}
-use Rattle.sasi_datawrite.specs.Writing.{Writer, IsWriting, IsUpTo, last_pair}
+use Rattle.sasi_datawrite.specs.Writing.{Writer, IsWriting, RiseBelow, last_pair}
 use Rattle.sasi_datawrite.proofs.Pushes.{up_to_push, writing_push}
 use Rattle.sasi_datawrite.proofs.writer.DataWriter.push.Goals as goal
 
@@ -12,8 +12,8 @@ pub invariant_of-self-2 : goal.invariant_of-self-2
 invariant_of-self-2 g c =
     let token_is : c.token.result ≡ token_of c.self.inside.partitioner c.args.key.now = c.token.ensures ∙ ap (λ (l : Bytes). token_of c.self.inside.partitioner l) c.bytes.ensures in
     let rising = subst (λ (w : Writer). (last_pair w.pairs).token ≤ token_of w.partitioner c.args.key.now) (sym c.self.view_is) c.requires.rising in
-    subst (λ (l : List Pair). IsUpTo l c.in_ok-next.next) (sym c.in_ok-push.ensures.ok)
-    (up_to_push c.self.inside.pairs (record { token = c.token.result; place = c.self.inside.place }) c.self.inside.place c.in_ok-next.next c.self.invariant (omega (arith, rising, token_is)) refl
+    subst (λ (l : List Pair). RiseBelow l c.in_ok-next.next) (sym c.in_ok-push.ensures.ok)
+    (up_to_push c.self.inside.pairs (record { token = c.token.result; place = c.self.inside.offset }) c.self.inside.offset c.in_ok-next.next c.self.invariant (omega (arith, rising, token_is)) refl
     (omega (arith, c.in_ok-next.ensures.next, partition_length c.args.key.now c.args.part.now)) c.in_ok-next.ensures.fits)
 
 pub returns-clause-ok : goal.returns-clause-ok
@@ -24,8 +24,8 @@ returns-clause-ok g c content =
       partitioner = c.self.inside.partitioner;
       pairs = c.self.inside.pairs;
       place =
-          c.self.inside.place;
-      latest = c.self.inside.latest;
+          c.self.inside.offset;
+      max_timestamp = c.self.inside.max_timestamp;
       usable = c.self.inside.usable;
     } in
     let new : Writer = record {
@@ -34,12 +34,12 @@ returns-clause-ok g c content =
       pairs = c.push.new.self;
       place =
           c.in_ok-next.next;
-      latest = c.max-self-inside.result;
+      max_timestamp = c.max-self-inside.result;
       usable = true;
     } in
-    let pair_of : ℕ → Pair = λ token. record { token = token; place = c.self.inside.place } in
+    let pair_of : ℕ → Pair = λ token. record { token = token; place = c.self.inside.offset } in
     subst (λ (w : Writer). IsWriting (g.H.Host.view c.args.host.now) w content → IsWriting (g.H.Host.view c.push_partition.new.host) new
     (content ++ (c.args.key.now, c.args.part.now) ∷ [])) c.self.view_is
     (writing_push (g.H.Host.view c.args.host.now) (g.H.Host.view c.push_partition.new.host) old new c.args.key.now c.args.part.now refl refl
     (c.in_ok-push.ensures.ok ∙ ap (λ (t : ℕ). c.self.inside.pairs ++ pair_of t ∷ []) token_is) c.in_ok-next.ensures.next
-    (c.max-self-inside.ensures ∙ ap (λ (t : ℕ). max c.self.inside.latest t) c.greatest.ensures) c.in_ok-next.ensures.ok content)
+    (c.max-self-inside.ensures ∙ ap (λ (t : ℕ). max c.self.inside.max_timestamp t) c.max_timestamp.ensures) c.in_ok-next.ensures.ok content)

@@ -6,10 +6,10 @@ use Rattle.sasi_host.proofs.mem_disk.MemDisk.sync.Goals as goal
 pub invariant_of-self : goal.invariant_of-self
 invariant_of-self c = record {
   folder_is =
-      folder_still c.args.self.now.start _ _ _ (Synced c.args.file) c.note.result
-      (λ g. refl) c.args.self.now.folder_is c.note.ensures.ok c.note.ensures.err;
+      folder_still c.args.self.now.start _ _ _ (Synced c.args.file) c.log_call.result
+      (λ g. refl) c.args.self.now.folder_is c.log_call.ensures.ok c.log_call.ensures.err;
   emitted_is =
       emitted_kept c.args.self.now.start _ _ _
-      (Synced c.args.file) c.note.result refl c.args.self.now.emitted_is c.note.ensures.ok c.note.ensures.err;
+      (Synced c.args.file) c.log_call.result refl c.args.self.now.emitted_is c.log_call.ensures.ok c.log_call.ensures.err;
   fits = c.args.self.now.fits;
 }

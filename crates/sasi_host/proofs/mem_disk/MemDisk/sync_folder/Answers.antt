@@ -6,8 +6,8 @@ use Rattle.sasi_host.proofs.mem_disk.MemDisk.sync_folder.Goals as goal
 pub invariant_of-self : goal.invariant_of-self
 invariant_of-self c = record {
   folder_is =
-      folder_still c.args.self.now.start _ _ _ FolderSynced c.note.result (λ g. refl) c.args.self.now.folder_is c.note.ensures.ok c.note.ensures.err;
+      folder_still c.args.self.now.start _ _ _ FolderSynced c.log_call.result (λ g. refl) c.args.self.now.folder_is c.log_call.ensures.ok c.log_call.ensures.err;
   emitted_is =
-      emitted_kept c.args.self.now.start _ _ _ FolderSynced c.note.result refl c.args.self.now.emitted_is c.note.ensures.ok c.note.ensures.err;
+      emitted_kept c.args.self.now.start _ _ _ FolderSynced c.log_call.result refl c.args.self.now.emitted_is c.log_call.ensures.ok c.log_call.ensures.err;
   fits = c.args.self.now.fits;
 }

@@ -14,7 +14,7 @@ Tree = BTreeMap FileName Bytes
 
 pub invariant_of-self-2 : goal.invariant_of-self-2
 invariant_of-self-2 c =
-    let is : look_up c.self.inside.files.entries c.args.name ≡ Some c.in-Some.blob.now = sym c.in-Some.ensures.value in
+    let is : look_up c.self.inside.files.entries c.args.name ≡ Some c.in-Some.byte_buffer.now = sym c.in-Some.ensures.value in
     fits_set c.write.result c.self.inside.files.entries _ c.args.name c.args.at c.args.bytes.now _ c.write.new.self c.self.invariant
     (omega arith) is ((c.get_mut.follows.holds c.write.new.self).3 (ap is_some is)).0 c.write.ensures.ok c.write.ensures.err
 
@@ -23,14 +23,14 @@ returns-clause-fits c = invariant_of-self-2 c
 
 pub returns-clause-ok : goal.returns-clause-ok
 returns-clause-ok c =
-    let is : look_up c.self.inside.files.entries c.args.name ≡ Some c.in-Some.blob.now = sym c.in-Some.ensures.value in
+    let is : look_up c.self.inside.files.entries c.args.name ≡ Some c.in-Some.byte_buffer.now = sym c.in-Some.ensures.value in
     on_ok_weaker c.write.result (λ new. folder_write c.self.inside.files.entries _ c.args.name c.args.at c.args.bytes.now _ c.write.new.self is
     ((c.get_mut.follows.holds c.write.new.self).3 (ap is_some is)).0 new
     ∙ ap (λ (f : Folder). written (map.get f c.args.name) c.args.name c.args.at c.args.bytes.now f) c.self.view_is) c.write.ensures.ok
 
 pub returns-clause-err : goal.returns-clause-err
 returns-clause-err c =
-    let is : look_up c.self.inside.files.entries c.args.name ≡ Some c.in-Some.blob.now = sym c.in-Some.ensures.value in
+    let is : look_up c.self.inside.files.entries c.args.name ≡ Some c.in-Some.byte_buffer.now = sym c.in-Some.ensures.value in
     on_err_weaker c.write.result (λ same. folder_still c.self.inside.files.entries _ c.args.name _ c.write.new.self is
     ((c.get_mut.follows.holds c.write.new.self).3 (ap is_some is)).0 same ∙ c.self.view_is) c.write.ensures.err
 

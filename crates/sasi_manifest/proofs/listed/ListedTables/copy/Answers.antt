@@ -1,7 +1,7 @@
 use Rattle.std.proofs.Common.{◌∙◌, ap, map, List}
 use Rattle.sasi_manifest.specs.declared.listed.ListedTable.{ListedTable}
 use Rattle.sasi_manifest.specs.ListedTables.{listed}
-use Rattle.sasi_manifest.proofs.Growing.{in_order_same}
+use Rattle.sasi_manifest.proofs.Additions.{in_order_same}
 use Rattle.sasi_manifest.proofs.listed.ListedTables.copy.Goals as goal
 
 pub invariant_of-result : goal.invariant_of-result

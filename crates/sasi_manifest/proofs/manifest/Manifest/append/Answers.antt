@@ -1,73 +1,73 @@
 use Rattle.std.proofs.Common.{IsTrue, List, Some, subst, sym}
 use Rattle.sasi_host.specs.Names.{Bytes, manifest_name}
-use Rattle.sasi_host.specs.Disk.{Changes, LeftWith, Step}
+use Rattle.sasi_host.specs.Disk.{Changes, LeftWith, FileChange}
 use Rattle.sasi_gated.specs.Format.{IsBeforeOrAfter}
-use Rattle.sasi_gated.specs.Reads.{Gains}
-use Rattle.sasi_gated.specs.Standing.{IsAtEnd}
+use Rattle.sasi_gated.specs.Reads.{AppendsRecord}
+use Rattle.sasi_gated.specs.Handles.{IsAtEnd}
 use Rattle.sasi_manifest.specs.declared.edit.Edit.{Edit}
 use Rattle.sasi_manifest.specs.declared.listing.Listing.{Listing as AListing}
 use Rattle.sasi_manifest.specs.Consistent.{IsConsistent}
 use Rattle.sasi_manifest.specs.Edits.{encoded}
 use Rattle.sasi_manifest.specs.Format.{IsNext}
 use Rattle.sasi_manifest.specs.Listings.{AllApply}
-use Rattle.sasi_manifest.specs.Standing.{Held, IsEither, Stands}
-use Rattle.sasi_manifest.proofs.Moments.{appended, either_listed, next_in_hand, fault_in_hand}
+use Rattle.sasi_manifest.specs.OpenManifest.{ManifestState, IsEither, ManifestStands}
+use Rattle.sasi_manifest.proofs.CrashMoments.{appended, either_listed, next_is_open, fault_is_open}
 use Rattle.sasi_manifest.proofs.manifest.Manifest.append.Goals as goal
 
 pub invariant_of-self : goal.invariant_of-self
 invariant_of-self g c =
-    fault_in_hand c.self.inside.number c.self.inside.gated c.append_edits.new.gated c.append_edits.new.listing c.self.invariant.file
+    fault_is_open c.self.inside.number c.self.inside.gated c.append_edits.new.gated c.append_edits.new.listing c.self.invariant.file
     c.append_edits.ensures.file (subst IsConsistent (sym c.in_err-append_edits.ensures.err) c.self.invariant.consistent)
 
 pub returns-in_err-append_edits-clause-any_moment : goal.returns-in_err-append_edits-clause-any_moment
 returns-in_err-append_edits-clause-any_moment g c =
-    subst (λ (h : Held). (next : AListing) → IsNext h.listing c.args.edits.now next → Stands
+    subst (λ (h : ManifestState). (next : AListing) → IsNext h.listing c.args.edits.now next → ManifestStands
     (g.H.Host.view c.args.host.now) h.number h.at h.listing → Changes
-    (Step (manifest_name h.number) (LeftWith (IsEither h.number h.listing next))) (g.H.Host.view c.args.host.now)
+    (FileChange (manifest_name h.number) (LeftWith (IsEither h.number h.listing next))) (g.H.Host.view c.args.host.now)
     (g.H.Host.view c.append_edits.new.host)) c.self.view_is
     (λ next is stands. either_listed (g.H.Host.view c.args.host.now)
     (g.H.Host.view c.append_edits.new.host) c.self.inside.number c.self.inside.gated.at c.self.inside.gated.file c.self.inside.listing next
-    c.args.edits.now c.self.invariant.file (subst (λ (h : Held). AllApply (Some h.listing) c.args.edits.now)
+    c.args.edits.now c.self.invariant.file (subst (λ (h : ManifestState). AllApply (Some h.listing) c.args.edits.now)
     (sym c.self.view_is) c.requires.apply) c.requires.some c.requires.short is
     (subst (λ (l : List Edit). (records : List Bytes) → IsAtEnd
     (g.H.Host.view c.args.host.now) c.self.inside.gated.file c.self.inside.gated.at records → Changes
-    (Step c.self.inside.gated.file (LeftWith (IsBeforeOrAfter c.self.inside.gated.file records (encoded l))))
+    (FileChange c.self.inside.gated.file (LeftWith (IsBeforeOrAfter c.self.inside.gated.file records (encoded l))))
     (g.H.Host.view c.args.host.now) (g.H.Host.view c.append_edits.new.host)) c.as_slice.ensures c.append_edits.ensures.any_moment) stands)
 
 pub invariant_of-self-2 : goal.invariant_of-self-2
 invariant_of-self-2 g c =
-    let ready = c.self.invariant.ready (subst (λ (h : Held). IsTrue h.usable) (sym c.self.view_is) c.requires.usable) in
+    let ready = c.self.invariant.ready (subst (λ (h : ManifestState). IsTrue h.usable) (sym c.self.view_is) c.requires.usable) in
     let ok = c.in_ok-append_edits.ensures in
-    next_in_hand c.self.inside.number c.self.inside.gated c.append_edits.new.gated c.self.inside.listing c.append_edits.new.listing
+    next_is_open c.self.inside.number c.self.inside.gated c.append_edits.new.gated c.self.inside.listing c.append_edits.new.listing
     c.as_slice.result.now c.self.invariant.file ready c.self.invariant.consistent
     (subst (λ (l : List Edit). AllApply (Some c.self.inside.listing) l) (sym c.as_slice.ensures)
-    (subst (λ (h : Held). AllApply (Some h.listing) c.args.edits.now) (sym c.self.view_is) c.requires.apply)) ok.listing ok.place ok.fits
+    (subst (λ (h : ManifestState). AllApply (Some h.listing) c.args.edits.now) (sym c.self.view_is) c.requires.apply)) ok.listing ok.offset_is ok.fits
     ok.file ok.usable
 
 pub returns-clause-ok : goal.returns-clause-ok
 returns-clause-ok g c =
-    subst (λ (h : Held). Stands (g.H.Host.view c.args.host.now) h.number h.at h.listing → Stands
+    subst (λ (h : ManifestState). ManifestStands (g.H.Host.view c.args.host.now) h.number h.at h.listing → ManifestStands
     (g.H.Host.view c.append_edits.new.host) h.number c.append_edits.new.gated.at c.append_edits.new.listing) c.self.view_is
     (appended (g.H.Host.view c.args.host.now) (g.H.Host.view c.append_edits.new.host) c.self.inside.number c.self.inside.gated.at
     c.append_edits.new.gated.at c.self.inside.gated.file c.self.inside.listing c.append_edits.new.listing c.args.edits.now
-    c.self.invariant.file (subst (λ (h : Held). AllApply (Some h.listing) c.args.edits.now) (sym c.self.view_is) c.requires.apply)
+    c.self.invariant.file (subst (λ (h : ManifestState). AllApply (Some h.listing) c.args.edits.now) (sym c.self.view_is) c.requires.apply)
     c.requires.some c.requires.short (subst (λ (l : List Edit). IsNext c.self.inside.listing l c.append_edits.new.listing)
     c.as_slice.ensures c.in_ok-append_edits.ensures.listing)
-    (subst (λ (l : List Edit). Gains (g.H.Host.view c.args.host.now)
+    (subst (λ (l : List Edit). AppendsRecord (g.H.Host.view c.args.host.now)
     (g.H.Host.view c.append_edits.new.host) c.self.inside.gated.file c.self.inside.gated.at c.append_edits.new.gated.at (encoded l))
     c.as_slice.ensures c.in_ok-append_edits.ensures.ok))
 
 pub returns-clause-any_moment : goal.returns-clause-any_moment
 returns-clause-any_moment g c =
-    subst (λ (h : Held). (next : AListing) → IsNext h.listing c.args.edits.now next → Stands
+    subst (λ (h : ManifestState). (next : AListing) → IsNext h.listing c.args.edits.now next → ManifestStands
     (g.H.Host.view c.args.host.now) h.number h.at h.listing → Changes
-    (Step (manifest_name h.number) (LeftWith (IsEither h.number h.listing next))) (g.H.Host.view c.args.host.now)
+    (FileChange (manifest_name h.number) (LeftWith (IsEither h.number h.listing next))) (g.H.Host.view c.args.host.now)
     (g.H.Host.view c.append_edits.new.host)) c.self.view_is
     (λ next is stands. either_listed (g.H.Host.view c.args.host.now)
     (g.H.Host.view c.append_edits.new.host) c.self.inside.number c.self.inside.gated.at c.self.inside.gated.file c.self.inside.listing next
-    c.args.edits.now c.self.invariant.file (subst (λ (h : Held). AllApply (Some h.listing) c.args.edits.now)
+    c.args.edits.now c.self.invariant.file (subst (λ (h : ManifestState). AllApply (Some h.listing) c.args.edits.now)
     (sym c.self.view_is) c.requires.apply) c.requires.some c.requires.short is
     (subst (λ (l : List Edit). (records : List Bytes) → IsAtEnd
     (g.H.Host.view c.args.host.now) c.self.inside.gated.file c.self.inside.gated.at records → Changes
-    (Step c.self.inside.gated.file (LeftWith (IsBeforeOrAfter c.self.inside.gated.file records (encoded l))))
+    (FileChange c.self.inside.gated.file (LeftWith (IsBeforeOrAfter c.self.inside.gated.file records (encoded l))))
     (g.H.Host.view c.args.host.now) (g.H.Host.view c.append_edits.new.host)) c.as_slice.ensures c.append_edits.ensures.any_moment) stands)

@@ -1,0 +1,157 @@
+-- Partitions that the key tree leads to.
+use Rattle.std.proofs.Common.{◌≡◌, ℕ, suc, ◌+◌, ◌-◌, ◌/◌, ◌^◌, ◌≤◌, List, [], ◌∷◌, length, length-append, length-drop, take, drop, arith, sym, ◌∙◌, ap, subst, Option, None, Some}
+use Rattle.sasi_host.specs.declared.name.FileName.{FileName}
+use Rattle.sasi_host.specs.declared.fault.ReadFault.{ReadFault}
+use Rattle.sasi_host.specs.declared.fault.ReadFault.TheVariants as fault
+use Rattle.sasi_host.specs.Names.{Bytes}
+use Rattle.sasi_host.specs.View.{View, contents}
+use Rattle.sasi_host.specs.Disk.{Changes, Same}
+use Rattle.sasi_host.specs.Buffered.{Buffered, unbuffered_pages}
+use Rattle.sasi_host.specs.Contents.{contents_same}
+use Rattle.sasi_types.specs.declared.partitioner.Partitioner.{Partitioner}
+use Rattle.sasi_types.specs.declared.tree.Pair.{Pair}
+use Rattle.sasi_types.specs.declared.tree.TreeRef.{TreeRef}
+use Rattle.sasi_types.specs.Token.{token_of}
+use Rattle.sasi_model.specs.Cells.{Partition}
+use Rattle.sasi_tokentree.specs.Format.{entry, HasTree}
+use Rattle.sasi_tokentree.specs.Sizes.{entry_length}
+use Rattle.sasi_host.specs.Offsets.{at_ends}
+use Rattle.std.specs.Int.{to_be_bytes, w32}
+use Rattle.sasi_host.specs.Damages.{DamageShown}
+use Rattle.sasi_tokentree.specs.Damages.{ShowsTree}
+use Rattle.sasi_host.specs.DamageLaws.{shown_as}
+use Rattle.sasi_tokentree.specs.Reads.{NoFalseTreeDamage}
+use Rattle.sasi_tokentree.specs.Scans.{ReadsEntry, ReadsNextPair, IsEntryBuffered, StepsToPair, PairScan, pair_place}
+use Rattle.sasi_body.specs.Format.{body}
+use Rattle.sasi_datawrite.specs.Format.{Content, front, header, key_pairs, partitions}
+use Rattle.sasi_dataread.specs.Opened.{Opened, IsOpenedAs, StandsAt}
+use Rattle.sasi_dataread.specs.Bodies.{length_prefixed, partition_reads}
+use Rattle.sasi_dataread.specs.Laws.{partition_stands}
+use Rattle.sasi_dataread.specs.ReadCosts.{ReadsEachPageOnce, IsSequential, scan_of}
+use Rattle.sasi_dataread.proofs.Pages.{goes_on}
+use Rattle.sasi_dataread.specs.Damages.{ShowsData, ShowsPartition}
+use Rattle.sasi_dataread.specs.Damages.ShowsData.{in_tree, in_partition}
+use Rattle.sasi_dataread.specs.Reads.{ReadsPartition, IsOpenOn, NoFalsePartitionDamage}
+use Rattle.sasi_dataread.specs.Scans.{TokensFit, NoFalseOpenedDamage}
+use Rattle.sasi_dataread.specs.Pairs.{has_tree, nth, nth_stands, nth_token, left_behind}
+
+-- no file is longer
+abbrev pub IsShort : View → FileName → Type 0
+IsShort v file = (bytes : Bytes) → contents v file ≡ Some bytes → length bytes ≤ 2 ^ 62
+
+pub open_same : (a b : View) (opened : Opened) (partitioner : Partitioner) (content : Content) → Changes Same a b → IsOpenOn a opened partitioner content → IsOpenOn b opened partitioner content
+open_same a b opened partitioner content same is = record { bytes = is.bytes; reads = contents_same a b opened.file same ∙ is.reads; data_file = is.data_file; of = is.of }
+
+-- the tree that one reads is the key tree
+pub tree_there : (v : View) (opened : Opened) (tree : TreeRef) → tree ≡ opened.tree → IsShort v opened.file → (partitioner : Partitioner)
+    (content : Content) (is : IsOpenOn v opened partitioner content) → TokensFit partitioner content → HasTree is.bytes tree
+    (key_pairs partitioner content)
+tree_there v opened tree tree_is short partitioner content is have =
+    subst (λ (t : TreeRef). HasTree is.bytes t (key_pairs partitioner content)) (sym tree_is) (has_tree v opened partitioner content is have (short is.bytes is.reads))
+
+pub next_takes : (v : View) (opened : Opened) (file : FileName) (tree : TreeRef) (before after : ℕ) (found : Option Pair) → file ≡ opened.file → tree
+    ≡ opened.tree → IsShort v opened.file → ReadsNextPair v file tree before after found
+    → (partitioner : Partitioner) (content : Content) → IsOpenOn v opened partitioner content → TokensFit partitioner content → StepsToPair (key_pairs partitioner content) before after found
+next_takes v opened file tree before after found file_is tree_is short gives partitioner content is have =
+    gives is.bytes (key_pairs partitioner content) (ap (λ (f : FileName). contents v f) file_is ∙ is.reads) (tree_there v opened tree tree_is short partitioner content is have)
+
+pub tree_spares : (v : View) (opened : Opened) (file : FileName) (tree : TreeRef) (f : ReadFault) → file ≡ opened.file → tree ≡ opened.tree → IsShort
+    v opened.file → NoFalseTreeDamage v file tree f → NoFalseOpenedDamage v opened f
+tree_spares v opened file tree fault.Failed file_is tree_is short no_false_damage = tt
+tree_spares v opened file tree fault.OutOfMemory file_is tree_is short no_false_damage = tt
+tree_spares v opened file tree (fault.Damaged damage) file_is tree_is short no_false_damage = λ partitioner content is have.
+    no_false_damage is.bytes (key_pairs partitioner content) (ap (λ (f : FileName). contents v f) file_is ∙ is.reads) (tree_there v opened tree tree_is short partitioner content is have)
+
+-- what stands at the place of a pair is the next partition
+pub took_partition : (v w : View) (opened : Opened) (before after : ℕ) (pair : Pair) (key : Bytes) (part : Partition) (partitioner : Partitioner)
+    (content : Content) → IsOpenOn v opened partitioner content → Changes Same v w
+    → StepsToPair (key_pairs partitioner content) before after (Some pair) → ReadsPartition w opened pair.place key part →
+    (drop before content ≡ (key, part) ∷ drop after content) × (pair.token ≡ token_of partitioner key)
+took_partition v w opened before after pair key part partitioner content is change took gives =
+    let n = nth partitioner (length header) content before pair (drop after (key_pairs partitioner content)) took in
+    let same = gives partitioner content n.one.0 n.one.1 (open_same v w opened partitioner content change is) (nth_stands partitioner content before pair n) in
+    let one : n.one ≡ (key, part) = ap (λ (k : Bytes). (k, n.one.1)) (sym same.0) ∙ ap (λ (p : Partition). (key, p)) (sym same.1) in (
+      n.left ∙ ap (λ (l : Content). n.one ∷ l) (left_behind partitioner content before after pair took) ∙ ap (λ (o : Bytes × Partition). o ∷ drop after content) one,
+      nth_token partitioner (length header) content before pair n ∙ ap (λ (k : Bytes). token_of partitioner k) (sym same.0),
+    )
+
+pub place_spares : (v w : View) (opened : Opened) (before after : ℕ) (pair : Pair) (f : ReadFault) →
+    ((partitioner : Partitioner) (content : Content) → IsOpenOn v opened partitioner content → TokensFit partitioner content → StepsToPair
+    (key_pairs partitioner content) before after (Some pair))
+    → Changes Same v w → NoFalsePartitionDamage w opened pair.place f → NoFalseOpenedDamage v opened f
+place_spares v w opened before after pair fault.Failed takes change no_false_damage = tt
+place_spares v w opened before after pair fault.OutOfMemory takes change no_false_damage = tt
+place_spares v w opened before after pair (fault.Damaged damage) takes change no_false_damage = λ partitioner content is have.
+    let n = nth partitioner (length header) content before pair (drop after (key_pairs partitioner content)) (takes partitioner content is have) in
+    no_false_damage partitioner content n.one.0 n.one.1 (open_same v w opened partitioner content change is) (nth_stands partitioner content before pair n)
+
+-- ---- damage of the tree, and of a partition to which it leads
+
+pub tree_shown : (v : View) (opened : Opened) (file : FileName) (tree : TreeRef) (f : ReadFault) → file ≡ opened.file → tree ≡ opened.tree → DamageShown v
+    file (ShowsTree file tree) f → DamageShown v opened.file (ShowsData opened) f
+tree_shown v opened file tree f file_is tree_is shown =
+    shown_as (ShowsTree opened.file opened.tree) (ShowsData opened) v opened.file f (λ bytes damage is shows. in_tree shows)
+    (subst (λ (n : FileName). DamageShown v n (ShowsTree n opened.tree) f) file_is (subst (λ (t : TreeRef). DamageShown v file (ShowsTree file t) f) tree_is shown))
+
+pub entry_of : (v : View) (opened : Opened) (file : FileName) (tree : TreeRef) (passed : ℕ) (found : Option Pair) → file ≡ opened.file → tree ≡
+    opened.tree → ReadsEntry v file tree passed found → ReadsEntry v opened.file opened.tree passed found
+entry_of v opened file tree passed found file_is tree_is gives = subst (λ (n : FileName). ReadsEntry v n opened.tree passed found) file_is
+    (subst (λ (t : TreeRef). ReadsEntry v file t passed found) tree_is gives)
+
+pub entry_before : (v w : View) (file : FileName) (tree : TreeRef) (passed : ℕ) (found : Option Pair) → Changes Same v w → ReadsEntry w file tree passed found → ReadsEntry v file tree passed found
+entry_before v w file tree passed None change gives = tt
+entry_before v w file tree passed (Some pair) change gives = (gives.0, gives.1, λ bytes is. gives.2 bytes (contents_same v w file change ∙ is))
+
+pub partition_shown : (v : View) (opened : Opened) (passed : ℕ) (pair : Pair) (f : ReadFault) → ReadsEntry v opened.file opened.tree passed
+    (Some pair) → DamageShown v opened.file (ShowsPartition opened.types opened.end pair.place opened.file) f → DamageShown v opened.file (ShowsData opened) f
+partition_shown v opened passed pair f gives shown =
+    shown_as (ShowsPartition opened.types opened.end pair.place opened.file) (ShowsData opened) v opened.file f (λ bytes damage is shows. in_partition gives.0 pair (gives.2 bytes is) shows) shown
+
+-- ---- the pages of a walk
+
+-- where no pair is left all were passed
+pub all_pairs : (opened : Opened) (partitioner : Partitioner) (content : Content) (tree : TreeRef) (passed : ℕ) → IsOpenedAs opened partitioner content →
+    tree ≡ opened.tree → drop passed (key_pairs partitioner content) ≡ [] → tree.pairs ≤ passed
+all_pairs opened partitioner content tree passed of same none =
+    omega (arith, ap (λ (t : TreeRef). t.pairs) (same ∙ of.tree), ap (λ (l : List Pair). length l) none, length-drop passed (key_pairs partitioner content))
+
+-- the walk went over one partition more
+pub walk_goes : (v w : View) (opened : Opened) (tree after : PairScan) (buffered now : Buffered) (pair : Pair) (key : Bytes) (part : Partition)
+    (partitioner : Partitioner) (content : Content) (r0 r1 r2 : ℕ) (is : IsOpenOn v opened partitioner content) → Changes Same v w
+    → StepsToPair (key_pairs partitioner content) tree.passed after.passed (Some pair) → ReadsPartition w opened pair.place key part → tree.tree ≡ opened.tree →
+    after.tree ≡ tree.tree → ReadsEntry v opened.file opened.tree after.passed (Some pair) → IsSequential is.bytes content (scan_of opened tree buffered)
+    → r1 ≤ r0 + unbuffered_pages tree.buffered.page (pair_place tree.tree tree.passed) 16
+    → ((partitioner : Partitioner) (content : Content) (key : Bytes) (part : Partition) → IsOpenOn w opened partitioner content → StandsAt content
+    pair.place key part → r2 ≤ r1 + partition_reads buffered.page pair.place (length (body key part)))
+    → after.passed ≡ tree.passed + 1 → IsEntryBuffered after (Some pair) → now.page ≡ Some ((pair.place + 3 + length (body key part)) / 4096) → ReadsEachPageOnce is.bytes
+    content r0 r2 (scan_of opened tree buffered) (scan_of opened after now)
+walk_goes v w opened tree after buffered now pair key part partitioner content r0 r1 r2 is change took gives tree_is after_is given sequential first second passed entry_buffered page =
+    let n = nth partitioner (length header) content tree.passed pair (drop after.passed (key_pairs partitioner content)) took in
+    let stands = nth_stands partitioner content tree.passed pair n in
+    let w_open = open_same v w opened partitioner content change is in
+    let same = gives partitioner content n.one.0 n.one.1 w_open stands in
+    let one : n.one ≡ (key, part) = ap (λ (k : Bytes). (k, n.one.1)) (sym same.0) ∙ ap (λ (p : Partition). (key, p)) (sym same.1) in
+    let read : r2 ≤ r1 + partition_reads buffered.page pair.place (length (body key part)) =
+    subst (λ (o : Bytes × Partition). r2 ≤ r1 + partition_reads buffered.page pair.place (length (body o.0 o.1))) one (second partitioner content n.one.0 n.one.1 w_open stands)
+    in
+    let place : pair.place ≡ length (front (take tree.passed content)) = ap (λ (p : Pair). p.place) n.pair_is ∙ sym (length-append header (partitions (take tree.passed content))) in
+    let near_is : after.buffered.page ≡ Some ((pair_place tree.tree tree.passed + 15) / 4096) =
+    entry_buffered ∙ ap (λ (t : TreeRef). Some ((pair_place t (after.passed - 1) + 15) / 4096)) after_is ∙ ap (λ (k : ℕ). Some ((pair_place tree.tree k + 15) / 4096)) (omega (arith, passed))
+    in
+    let has = given.2 is.bytes is.reads in
+    let same_place : pair_place opened.tree given.0 ≡ pair_place tree.tree tree.passed = ap (λ (t : TreeRef). pair_place t given.0) (sym tree_is) ∙ ap
+    (λ (k : ℕ). pair_place tree.tree k) (omega (arith, given.1, passed)) in
+    let pair_within : pair_place tree.tree tree.passed + 16 ≤ length is.bytes = omega
+    (arith, same_place, at_ends is.bytes (pair_place opened.tree given.0) (entry pair) has.stands, entry_length pair) in
+    let read_there = partition_stands partitioner opened.types is.bytes content pair.place n.one.0 n.one.1 is.data_file stands in
+    let part_within : pair.place + (4 + length (body key part)) ≤ length is.bytes =
+    omega (
+      arith,
+      at_ends is.bytes pair.place (length_prefixed (body n.one.0 n.one.1)) read_there,
+      length-append
+          (to_be_bytes w32 (length (body n.one.0 n.one.1))) (body n.one.0 n.one.1),
+      ap (λ (o : Bytes × Partition). length (body o.0 o.1)) one,
+    )
+    in
+    goes_on is.bytes content (drop (suc tree.passed) content) opened tree after buffered now pair.place key part r0 r1 r2 tree_is passed
+    (n.left ∙ ap (λ (o : Bytes × Partition). o ∷ drop (suc tree.passed) content) one) place pair_within part_within sequential first read near_is page

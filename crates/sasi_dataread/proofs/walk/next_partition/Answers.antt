@@ -1,0 +1,139 @@
+use Rattle.std.proofs.Common.{◌≡◌, ◌+◌, refl, IsSome, Option, None, Some, Ok, Err, subst, arith}
+use Rattle.std.proofs.lemmas.Result.{err_from_is_err_and}
+use Rattle.sasi_host.specs.PageReading.{read_of, read_then}
+use Rattle.sasi_types.specs.declared.tree.Pair.{Pair}
+use Rattle.sasi_host.specs.Disk.{Same}
+use Rattle.sasi_host.specs.Buffered.{buffered_after}
+use Rattle.sasi_host.specs.ChangeLaws.{then_same}
+use Rattle.sasi_host.specs.DamageLaws.{shown_before}
+use Rattle.sasi_tokentree.specs.Scans.{ReadsEntry, ReadsNextPair, IsEntryBuffered, pair_place}
+use Rattle.sasi_tokentree.specs.EntryPages.{entry_pages}
+use Rattle.sasi_dataread.specs.Pairs.{none_left}
+use Rattle.sasi_dataread.proofs.Pages.{goes_nowhere}
+use Rattle.sasi_dataread.proofs.ReadChains.{causes_done, causes_handed, causes_on, causes_within}
+use Rattle.sasi_dataread.proofs.DataScan.{all_pairs, walk_goes, entry_of, partition_shown, tree_shown, next_takes, tree_spares, took_partition, place_spares}
+use Rattle.sasi_dataread.proofs.walk.next_partition.Goals as goal
+
+pub returns-in_err-next-clause-damaged : goal.returns-in_err-next-clause-damaged
+returns-in_err-next-clause-damaged g c =
+    let p = err_from_is_err_and c.from_residual.result c.from_residual.ensures.1 in
+    rw (p.1, p.2) (tree_shown (g.H.Host.view c.args.host.now) c.args.opened.now c.args.tree.now.buffered.file c.args.tree.now.tree c.in_err-next.field-0.0
+    c.requires.file c.requires.tree c.in_err-next.ensures.damaged)
+
+pub returns-in_err-next-clause-undamaged : goal.returns-in_err-next-clause-undamaged
+returns-in_err-next-clause-undamaged g c =
+    let p = err_from_is_err_and c.from_residual.result c.from_residual.ensures.1 in
+    rw (p.1, p.2) (tree_spares (g.H.Host.view c.args.host.now) c.args.opened.now c.args.tree.now.buffered.file c.args.tree.now.tree
+    c.in_err-next.field-0.0 c.requires.file c.requires.tree (λ bytes is. (g.met.H.Host.sound c.args.host.now).fits c.args.opened.now.file bytes
+    is) c.in_err-next.ensures.undamaged)
+
+pub returns-in-None-clause-ok : goal.returns-in-None-clause-ok
+returns-in-None-clause-ok g c partitioner content is have =
+    let view = g.H.Host.view c.args.host.now in
+    let gives = subst (λ (o : Option Pair). ReadsNextPair view c.args.tree.now.buffered.file c.args.tree.now.tree c.args.tree.now.passed c.next.new.self.passed o) c.in-None.is c.in_ok-next.ensures.ok in
+    let took = next_takes view c.args.opened.now c.args.tree.now.buffered.file c.args.tree.now.tree c.args.tree.now.passed c.next.new.self.passed None
+    c.requires.file c.requires.tree (λ bytes reads. (g.met.H.Host.sound c.args.host.now).fits c.args.opened.now.file bytes reads) gives
+    partitioner content is have in
+    (none_left partitioner content c.args.tree.now.passed took.0, took.1)
+
+pub returns-in_err-key-clause-damaged : goal.returns-in_err-key-clause-damaged
+returns-in_err-key-clause-damaged g c =
+    let p = err_from_is_err_and c.from_residual-in_err-key.result c.from_residual-in_err-key.ensures.1 in
+    let view = g.H.Host.view in
+    let gives = subst (λ (o : Option Pair). ReadsEntry (view c.args.host.now) c.args.tree.now.buffered.file c.args.tree.now.tree c.next.new.self.passed o) c.in-Some.is c.in_ok-next.ensures.stands in
+    rw (p.1, p.2) (partition_shown (view c.args.host.now) c.args.opened.now c.next.new.self.passed c.in-Some.pair c.in_err-key.field-0.0
+    (entry_of (view c.args.host.now) c.args.opened.now c.args.tree.now.buffered.file c.args.tree.now.tree c.next.new.self.passed (Some c.in-Some.pair) c.requires.file c.requires.tree gives)
+    (shown_before _ (view c.args.host.now) _ c.args.opened.now.file c.in_err-key.field-0.0 c.next.ensures.read.changes c.in_err-key.ensures.damaged))
+
+pub returns-in_err-key-clause-undamaged : goal.returns-in_err-key-clause-undamaged
+returns-in_err-key-clause-undamaged g c =
+    let p = err_from_is_err_and c.from_residual-in_err-key.result c.from_residual-in_err-key.ensures.1 in
+    let view = g.H.Host.view c.args.host.now in
+    let gives = subst (λ (o : Option Pair). ReadsNextPair view c.args.tree.now.buffered.file c.args.tree.now.tree c.args.tree.now.passed c.next.new.self.passed o) c.in-Some.is c.in_ok-next.ensures.ok in
+    rw (p.1, p.2) (place_spares view _ c.args.opened.now c.args.tree.now.passed c.next.new.self.passed c.in-Some.pair c.in_err-key.field-0.0
+    (λ partitioner content is have.
+    next_takes view c.args.opened.now c.args.tree.now.buffered.file c.args.tree.now.tree c.args.tree.now.passed c.next.new.self.passed
+    (Some c.in-Some.pair) c.requires.file c.requires.tree (λ bytes reads. (g.met.H.Host.sound c.args.host.now).fits c.args.opened.now.file bytes
+    reads) gives partitioner content is have)
+    c.next.ensures.read.changes c.in_err-key.ensures.undamaged)
+
+pub returns-in_err-next-clause-buffered : goal.returns-in_err-next-clause-buffered
+returns-in_err-next-clause-buffered g c = buffered_after c.args.buffered.now _ _ c.next.ensures.read.changes c.requires.buffered
+
+pub returns-in_err-next-clause-causes : goal.returns-in_err-next-clause-causes
+returns-in_err-next-clause-causes g c =
+    let p = err_from_is_err_and c.from_residual.result c.from_residual.ensures.1 in
+    rw (p.1, p.2) (causes_handed _ _ _ 2052 c.in_err-next.field-0.0 (omega
+    (arith, entry_pages c.args.tree.now.buffered.page (pair_place c.args.tree.now.tree c.args.tree.now.passed))) c.in_err-next.ensures.causes)
+
+pub returns-in-None-clause-buffered : goal.returns-in-None-clause-buffered
+returns-in-None-clause-buffered g c = buffered_after c.args.buffered.now _ _ c.next.ensures.read.changes c.requires.buffered
+
+pub returns-in-None-clause-causes : goal.returns-in-None-clause-causes
+returns-in-None-clause-causes g c = causes_within _ _ _ 2052 (Ok None)
+    (omega (arith, entry_pages c.args.tree.now.buffered.page (pair_place c.args.tree.now.tree c.args.tree.now.passed)))
+    (causes_done _ _ _ c.next.result None c.next.ensures.causes)
+
+pub returns-in-None-clause-reads : goal.returns-in-None-clause-reads
+returns-in-None-clause-reads g c partitioner content is have sequential =
+    let view = g.H.Host.view c.args.host.now in
+    let gives = subst (λ (o : Option Pair). ReadsNextPair view c.args.tree.now.buffered.file c.args.tree.now.tree c.args.tree.now.passed c.next.new.self.passed o) c.in-None.is c.in_ok-next.ensures.ok in
+    let took = next_takes view c.args.opened.now c.args.tree.now.buffered.file c.args.tree.now.tree c.args.tree.now.passed c.next.new.self.passed None
+    c.requires.file c.requires.tree (λ bytes reads. (g.met.H.Host.sound c.args.host.now).fits c.args.opened.now.file bytes reads) gives
+    partitioner content is have in
+    let same = subst (λ (o : Option Pair). o ≡ None → c.next.new.self ≡ c.args.tree.now) c.in-None.is c.in_ok-next.ensures.none refl in
+    let ended = c.next.ensures.ended (all_pairs c.args.opened.now partitioner content c.args.tree.now.tree c.args.tree.now.passed is.of c.requires.tree took.0) in
+    goes_nowhere is.bytes content c.args.opened.now c.args.tree.now c.next.new.self c.args.buffered.now _ _ same (omega (arith, ended)) sequential
+
+pub returns-in_err-key-clause-pairs_buffered : goal.returns-in_err-key-clause-pairs_buffered
+returns-in_err-key-clause-pairs_buffered g c = buffered_after c.next.new.self.buffered _ _ c.at_buffered.ensures.read.changes c.next.ensures.read.buffered
+
+pub returns-in_err-key-clause-causes : goal.returns-in_err-key-clause-causes
+returns-in_err-key-clause-causes g c =
+    let p = err_from_is_err_and c.from_residual-in_err-key.result c.from_residual-in_err-key.ensures.1 in
+    rw (p.1, p.2) (causes_handed _ _ 2052 2052 c.in_err-key.field-0.0 (omega arith)
+    (causes_on _ _ _ _ 2050 2052 c.next.result (Err c.in_err-key.field-0.0)
+    (omega (arith, entry_pages c.args.tree.now.buffered.page (pair_place c.args.tree.now.tree c.args.tree.now.passed))) c.next.ensures.causes
+    c.in_err-key.ensures.causes))
+
+pub returns-clause-pairs_buffered : goal.returns-clause-pairs_buffered
+returns-clause-pairs_buffered g c = buffered_after c.next.new.self.buffered _ _ c.at_buffered.ensures.read.changes c.next.ensures.read.buffered
+
+pub returns-clause-causes : goal.returns-clause-causes
+returns-clause-causes g c =
+    causes_done _ _ 2052 c.at_buffered.result _ (causes_on _ _ _ _ 2050 2052 c.next.result c.at_buffered.result
+    (omega (arith, entry_pages c.args.tree.now.buffered.page (pair_place c.args.tree.now.tree c.args.tree.now.passed))) c.next.ensures.causes
+    c.at_buffered.ensures.causes)
+
+pub returns-clause-reads : goal.returns-clause-reads
+returns-clause-reads g c partitioner content is have sequential =
+    let v = g.H.Host.view c.args.host.now in
+    let opened = c.args.opened.now in
+    let tree = c.args.tree.now in
+    let pair = c.in-Some.pair in
+    let gives = subst (λ (o : Option Pair). ReadsNextPair v tree.buffered.file tree.tree tree.passed c.next.new.self.passed o) c.in-Some.is c.in_ok-next.ensures.ok in
+    let took = next_takes v opened tree.buffered.file tree.tree tree.passed c.next.new.self.passed (Some pair) c.requires.file c.requires.tree
+    (λ bytes reads. (g.met.H.Host.sound c.args.host.now).fits opened.file bytes reads) gives partitioner content is have in
+    let entry_buffered = subst (λ (o : Option Pair). IsEntryBuffered c.next.new.self o) c.in-Some.is c.in_ok-next.ensures.entry_buffered in
+    walk_goes v (g.H.Host.view c.next.new.host) opened tree c.next.new.self c.args.buffered.now c.at_buffered.new.buffered pair c.in_ok-key.key c.in_ok-key.part
+    partitioner content _ _ _ is c.next.ensures.read.changes took c.in_ok-key.ensures.ok c.requires.tree c.next.ensures.tree
+    (entry_of v opened tree.buffered.file tree.tree c.next.new.self.passed (Some pair) c.requires.file c.requires.tree
+    (subst (λ (o : Option Pair). ReadsEntry v tree.buffered.file tree.tree c.next.new.self.passed o) c.in-Some.is c.in_ok-next.ensures.stands)) sequential
+    c.next.ensures.causes.reads c.at_buffered.ensures.reads (subst (λ (o : Option Pair). IsSome o → c.next.new.self.passed ≡ tree.passed + 1) c.in-Some.is
+    c.in_ok-next.ensures.some refl) entry_buffered c.in_ok-key.ensures.page
+
+pub returns-clause-ok : goal.returns-clause-ok
+returns-clause-ok g c partitioner content is have =
+    let view = g.H.Host.view c.args.host.now in
+    let gives = subst (λ (o : Option Pair). ReadsNextPair view c.args.tree.now.buffered.file c.args.tree.now.tree c.args.tree.now.passed c.next.new.self.passed o) c.in-Some.is c.in_ok-next.ensures.ok in
+    let took = next_takes view c.args.opened.now c.args.tree.now.buffered.file c.args.tree.now.tree c.args.tree.now.passed c.next.new.self.passed
+    (Some c.in-Some.pair) c.requires.file c.requires.tree (λ bytes reads. (g.met.H.Host.sound c.args.host.now).fits c.args.opened.now.file bytes
+    reads) gives partitioner content is have in
+    took_partition view _ c.args.opened.now c.args.tree.now.passed c.next.new.self.passed c.in-Some.pair c.in_ok-key.key c.in_ok-key.part partitioner
+    content is c.next.ensures.read.changes took c.in_ok-key.ensures.ok
+
+pub returns-in_err-key-clause-read : goal.returns-in_err-key-clause-read
+returns-in_err-key-clause-read g c = read_then _ _ _ _ _ _ _ _ _ (read_of _ _ _ _ _ _ _ _ c.requires.file c.next.ensures.read) c.at_buffered.ensures.read
+
+pub returns-clause-read : goal.returns-clause-read
+returns-clause-read g c = read_then _ _ _ _ _ _ _ _ _ (read_of _ _ _ _ _ _ _ _ c.requires.file c.next.ensures.read) c.at_buffered.ensures.read

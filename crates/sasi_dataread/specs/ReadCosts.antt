@@ -1,0 +1,53 @@
+-- How many pages a scan of a data file reads.
+use Rattle.std.specs.Prelude.{◌≡◌, ℕ, suc, ◌+◌, ◌*◌, ◌/◌, ◌<◌, ◌≤◌, length, take, Option, None, Some}
+use Rattle.std.proofs.Common.{ap, arith, sym, ◌∙◌}
+use Rattle.sasi_host.specs.Names.{Bytes}
+use Rattle.sasi_host.specs.Buffered.{Buffered}
+use Rattle.sasi_tokentree.specs.Scans.{PairScan, pair_place}
+use Rattle.sasi_datawrite.specs.Format.{Content, front}
+use Rattle.sasi_dataread.specs.Opened.{Opened}
+use Rattle.sasi_dataread.specs.Scans.{DataScan}
+
+-- how many pages a file has
+abbrev pub file_pages : Bytes → ℕ
+file_pages bytes = (length bytes + 4095) / 4096
+
+-- the pages up to the buffered one
+abbrev pub reached : Option ℕ → ℕ
+reached None = 0
+reached (Some page) = suc page
+
+-- those up to the one of the key tree, and those up to the one of the partitions
+abbrev pub progress : DataScan → ℕ
+progress walk = reached walk.pairs_buffered.page + reached walk.buffered.page
+
+-- A sequential scan: its buffered pages begin before the next pair and the next partition, and are pages of the file.
+pub record IsSequential (bytes : Bytes) (content : Content) (walk : DataScan) : Type 0 where
+  pub pairs : (page : ℕ) → walk.pairs_buffered.page ≡ Some page → 4096 * page < pair_place walk.opened.tree walk.passed
+  pub partitions : (page : ℕ) → walk.buffered.page ≡ Some page → 4096 * page < length (front (take walk.passed content))
+  pub pairs_within : reached walk.pairs_buffered.page ≤ file_pages bytes
+  pub within : reached walk.buffered.page ≤ file_pages bytes
+
+-- the scan stays sequential, and each page that it comes to is read once
+pub record ReadsEachPageOnce (bytes : Bytes) (content : Content) (reads reads_after : ℕ) (old new : DataScan) : Type 0 where
+  pub sequential : IsSequential bytes content new
+  pub pages : reads_after + progress old ≤ reads + progress new
+
+-- a scan by its parts
+abbrev pub scan_of : Opened → PairScan → Buffered → DataScan
+scan_of opened tree buffered = record { opened = opened; passed = tree.passed; pairs_buffered = tree.buffered; buffered = buffered }
+
+-- ---- laws
+
+-- a scan with no page buffered is sequential
+pub begins_sequential : (bytes : Bytes) (content : Content) (walk : DataScan) → walk.pairs_buffered.page ≡ None → walk.buffered.page ≡ None → IsSequential bytes content walk
+begins_sequential bytes content walk no_pairs none = record {
+  pairs = λ page is. absurd (let no : None ≡ Some page = sym no_pairs ∙ is in cc);
+  partitions = λ page is. absurd (let no : None ≡ Some page = sym none ∙ is in cc);
+  pairs_within = omega (arith, ap reached no_pairs);
+  within = omega (arith, ap reached none);
+}
+
+-- a scan comes to each page at most twice: once for the key tree, once for the partitions
+pub progress_within : (bytes : Bytes) (content : Content) (walk : DataScan) → IsSequential bytes content walk → progress walk ≤ 2 * file_pages bytes
+progress_within bytes content walk sequential = omega (arith, sequential.pairs_within, sequential.within)

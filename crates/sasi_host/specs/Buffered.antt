@@ -1,0 +1,43 @@
+-- A buffered file.
+use Rattle.std.specs.Prelude.{◌≡◌, ℕ, ◌+◌, ◌-◌, ◌*◌, ◌/◌, ◌%◌, nat_eq, if◌then◌else◌, take, drop, Option, Some, None}
+use Rattle.std.proofs.Common.{sym, ◌∙◌}
+use Rattle.sasi_host.specs.declared.name.FileName.{FileName}
+use Rattle.sasi_host.specs.Names.{Bytes, Folder}
+use Rattle.sasi_host.specs.View.{View, contents_in}
+use Rattle.sasi_host.specs.Disk.{Changes, Same}
+use Rattle.sasi_host.specs.Contents.{contents_same}
+
+-- a buffered file
+pub record Buffered : Type 0 where
+  -- the file
+  pub file : FileName
+  -- the buffered page, if there is one
+  pub page : Option ℕ
+  -- its bytes
+  pub bytes : Bytes
+
+-- the buffer has the bytes of its page
+abbrev pub IsBuffered : Buffered → Option Folder → Type 0
+IsBuffered buffered files =
+    (page : ℕ) (bytes : Bytes) → buffered.page ≡ Some page → contents_in files buffered.file ≡ Some bytes → buffered.bytes ≡ take 4096 (drop (4096 * page) bytes)
+
+-- the number of pages on which so many bytes from an offset on lie
+abbrev pub pages_of : ℕ → ℕ → ℕ
+pages_of at count = (at % 4096 + count + 4095) / 4096
+
+-- 1 where the page of this offset is buffered, else 0
+abbrev pub buffered_at : Option ℕ → ℕ → ℕ
+buffered_at None at = 0
+buffered_at (Some page) at = if nat_eq page (at / 4096) then 1 else 0
+
+-- the number of pages of so many bytes from an offset on that aren't buffered
+abbrev pub unbuffered_pages : Option ℕ → ℕ → ℕ → ℕ
+unbuffered_pages buffered at count = pages_of at count - buffered_at buffered at
+
+-- the buffer stays right while the file is unchanged
+pub buffered_same : (buffered : Buffered) (old new : Option Folder) → IsBuffered buffered old → contents_in new buffered.file ≡ contents_in old buffered.file → IsBuffered buffered new
+buffered_same buffered old new right same = λ page bytes this is. right page bytes this (sym same ∙ is)
+
+-- and so where the folder is unchanged
+pub buffered_after : (buffered : Buffered) (a b : View) → Changes Same a b → IsBuffered buffered a.files → IsBuffered buffered b.files
+buffered_after buffered a b change right = buffered_same buffered a.files b.files right (contents_same a b buffered.file change)

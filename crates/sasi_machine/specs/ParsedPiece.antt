@@ -1,0 +1,17 @@
+-- Parsed pieces, as the model's.
+use Rattle.sasi_model.specs.Refusals as model
+use Rattle.sasi_model.specs.WellFormed.{IsWellFormed}
+use Rattle.sasi_machine.specs.Refusal.{refusal_of}
+use Rattle.sasi_machine.specs.declared.read.ParsedPiece.{ParsedPiece}
+use Rattle.sasi_machine.specs.declared.read.ParsedPiece.TheVariants.{Nothing, Says, Bad}
+
+-- the model's value of that name
+abbrev pub model_piece : ParsedPiece → model.ParsedPiece
+model_piece Nothing = model.Nothing
+model_piece (Says statement) = model.Says statement
+model_piece (Bad refusal) = model.Bad (refusal_of refusal)
+
+-- a statement is well-formed
+abbrev pub IsReadFrom : ParsedPiece → Type 0
+IsReadFrom (Says statement) = IsWellFormed statement
+IsReadFrom _ = Unit {0}

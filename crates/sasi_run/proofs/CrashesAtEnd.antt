@@ -1,0 +1,182 @@
+-- What a crash leaves of a run, at each of its ends.
+use Rattle.std.proofs.Common.{◌≡◌, ℕ, ◌+◌, ◌≤◌, ◌<◌, ◌^◌, List, [], ◌++◌, length, Option, None, Some, refl, sym, ap, ◌∙◌, subst, append_assoc}
+use Rattle.std.proofs.lemmas.List.{append-nil}
+use Rattle.std.specs.Io.KnownBytes.{Consumes, IsAtEnd, Keeps}
+use Rattle.sasi_model.specs.Pieces.{Piece, Pieces, pieces, all_pieces}
+use Rattle.sasi_model.specs.State.{State}
+use Rattle.sasi_model.specs.Step.{state_after}
+use Rattle.sasi_host.specs.View.{View}
+use Rattle.sasi_cql.specs.SplitterState.{resume, behind}
+use Rattle.sasi_run.specs.Crashing.{FailsCrashSafe, FinishesCrashSafe, ReadsCrashSafe, CrashLeavesPieces, RunsCrashSafe, IsDurableAfter, StopsCrashSafe, FeedsCrashSafe}
+use Rattle.sasi_run.specs.Headline.{RanToEnd, script_of, READ_MOST, SCRIPT_MOST, status_of_count, status_of_stop}
+use Rattle.sasi_run.specs.Session.{IsAtScriptStart, Feeds}
+use Rattle.sasi_run.specs.Storing.{IsReady}
+use Rattle.sasi_run.specs.declared.session.Session.{Session}
+use Rattle.sasi_run.specs.declared.session.Stop.{Stop}
+use Rattle.sasi_run.specs.declared.session.Stop.TheVariants.{Disk, Output, Memory}
+use Rattle.sasi_run.specs.declared.store.Store.{Store}
+use Rattle.sasi_run.specs.declared.status.Status.TheVariants.{ScriptFault, ScriptTooLong}
+use Rattle.sasi_run.proofs.Crashing.{leaves_both, leaves_more, durable_both}
+use Rattle.sasi_run.proofs.RepliesAtEnd as exits
+use Rattle.sasi_run.proofs.RepliesAtEnd.{all_now, pieces_on}
+use Rattle.sasi_run.proofs.Answering.{feeds_nothing_crash_safe}
+use Rattle.sasi_run.proofs.ConsumedBytes.{consumes_nothing}
+use Rattle.sasi_run.proofs.RunParts.{state_after-append, feeds_both}
+
+-- what was read is a first part of the script
+script_parts : (l l2 : Option (List ℕ)) (read : List ℕ) → Consumes l l2 read → (more : List ℕ) × (script_of l read ≡ read ++ more)
+script_parts None l2 read consumed = ([], sym (append-nil read))
+script_parts (Some script) None read consumed = absurd consumed
+script_parts (Some script) (Some left) read consumed = (left, consumed)
+
+-- and the whole of it at its end
+script_whole : (l l2 : Option (List ℕ)) (read : List ℕ) → Consumes l l2 read → IsAtEnd l2 → script_of l read ≡ read
+script_whole None l2 read consumed end = refl
+script_whole (Some script) None read consumed end = absurd consumed
+script_whole (Some script) (Some left) read consumed end = consumed ∙ ap (λ (l : List ℕ). read ++ l) end ∙ append-nil read
+
+widened : (a b : View) (store : Store) (done rest all : List Piece) → all ≡ done ++ rest → CrashLeavesPieces a b store done → CrashLeavesPieces a b store all
+widened a b store done rest all is leaves = subst (λ (l : List Piece). CrashLeavesPieces a b store l) (sym is) (leaves_more a b store done rest leaves)
+
+all_behind : (p : Pieces) (done : List Piece) (q : Pieces) → p ≡ behind done q → p.whole ++ p.last ≡ done ++ (q.whole ++ q.last)
+all_behind p done q is = ap (λ (x : Pieces). x.whole ++ x.last) is ∙ append_assoc done q.whole q.last
+
+-- the pieces that were answered are a first part of those of the script
+answered_first : (from to : Session) (l l2 o o2 : Option (List ℕ)) (read : List ℕ) → IsAtScriptStart from → (t : Feeds from to o o2 read)
+    → Consumes l l2 read → (rest : List Piece) × (all_pieces (script_of l read) ≡ t.done ++ rest)
+answered_first from to l l2 o o2 read fresh t consumed =
+    let parts = script_parts l l2 read consumed in
+    (_, ap all_pieces parts.1 ∙ all_behind _ t.done (resume to.splitter parts.0) (pieces_on from to o o2 read fresh t parts.0))
+
+-- ---- the ends
+
+-- what stopped a run didn't run it to its end
+stopped : (stop : Stop) → RanToEnd (status_of_stop stop) → ⊥
+stopped Disk is = is
+stopped Output is = is
+stopped Memory is = is
+
+-- a read failed
+pub ends_fault : (from mid : Session) (l l1 l2 : Option (List ℕ)) (a b : View) (n : ℕ) → IsAtScriptStart from → ReadsCrashSafe from mid l l1 a b n
+    → n ≤ 2 ^ 40 → Keeps l1 l2 → RunsCrashSafe ScriptFault from.store l l2 a b
+unfolding exits.ends_fault
+ends_fault from mid l l1 l2 a b n fresh on few kept =
+    let runs = exits.ends_fault from mid l l1 l2 a.emitted b.emitted n fresh on.goes few kept in
+    let first = answered_first from mid l l2 a.emitted b.emitted on.goes.read fresh on.goes.taken runs.consumed in
+    record { runs = runs; crashes = widened a b from.store on.goes.taken.done first.0 _ first.1 on.crashes; ends = λ is. absurd is }
+
+-- the script ended
+pub ends_done : (from mid to : Session) (l l1 l2 : Option (List ℕ)) (a b c : View) (n : ℕ) (none : List ℕ) → IsAtScriptStart from
+    → ReadsCrashSafe from mid l l1 a b n → n ≤ 2 ^ 40 → Consumes l1 l2 none → length none ≡ 0 → IsAtEnd l2 → FinishesCrashSafe mid to b c
+    → RunsCrashSafe (status_of_count to.refused) from.store l l2 a c
+unfolding exits.ends_done
+ends_done from mid to l l1 l2 a b c n none fresh on few ate empty end fin =
+    let runs = exits.ends_done from mid to l l1 l2 a.emitted b.emitted c.emitted n none fresh on.goes few ate empty end fin.finishes in
+    let whole = script_whole l l2 on.goes.read runs.consumed end in
+    let all = all_now from mid a.emitted b.emitted on.goes.read fresh on.goes.taken in
+    record {
+      runs = runs;
+      crashes = subst (λ (l : List Piece). CrashLeavesPieces a c from.store l) (sym (ap all_pieces whole ∙ all))
+          (leaves_both a b c from.store mid.store on.goes.taken.done (resume mid.splitter []).last on.goes.taken.state on.durable on.crashes
+          fin.crashes);
+      ends = λ is. subst (λ (l : List Piece). IsDurableAfter from.store a c l) (sym (ap all_pieces whole ∙ all)) (record {
+        last = to.store;
+        state = fin.state ∙ ap (λ (s : State). state_after s (resume mid.splitter []).last) on.goes.taken.state
+            ∙ sym (state_after-append on.goes.taken.done (resume mid.splitter []).last from.store.machine);
+        ready = fin.ready;
+        durable = durable_both a b c from.store mid.store to.store on.goes.taken.done (resume mid.splitter []).last on.goes.taken.state
+            on.durable fin.durable;
+      });
+    }
+
+-- the last reply was not emitted
+pub ends_last : (stop : Stop) (from mid : Session) (l l1 l2 : Option (List ℕ)) (a b c : View) (n : ℕ) (none : List ℕ) → IsAtScriptStart from
+    → ReadsCrashSafe from mid l l1 a b n → n ≤ 2 ^ 40 → Consumes l1 l2 none → length none ≡ 0 → IsAtEnd l2
+    → FailsCrashSafe stop mid b c (resume mid.splitter []).last → RunsCrashSafe (status_of_stop stop) from.store l l2 a c
+ends_last stop from mid l l1 l2 a b c n none fresh on few ate empty end fails =
+    let runs = exits.ends_last stop from mid l l1 l2 a.emitted b.emitted c.emitted n none fresh on.goes few ate empty fails.shown in
+    let all = all_now from mid a.emitted b.emitted on.goes.read fresh on.goes.taken in
+    let both = leaves_both a b c from.store mid.store on.goes.taken.done (resume mid.splitter []).last on.goes.taken.state on.durable
+    on.crashes fails.crashes in
+    let known = exits.ends_last_read stop from mid l l1 l2 a.emitted b.emitted c.emitted n none fresh on.goes few ate empty fails.shown in
+    let whole = script_whole l l2 runs.read runs.consumed end in
+    record {
+      runs = runs;
+      crashes = subst (λ (l : List Piece). CrashLeavesPieces a c from.store l) (sym (ap all_pieces (whole ∙ known) ∙ all))
+          both;
+      ends = λ is. absurd (stopped stop is);
+    }
+
+-- the script was too long
+pub ends_long : (from mid to : Session) (l l1 l2 : Option (List ℕ)) (a b c : View) (n : ℕ) (chunk part rest : List ℕ) → IsAtScriptStart from
+    → ReadsCrashSafe from mid l l1 a b n → n ≤ 2 ^ 40 → Consumes l1 l2 chunk → length chunk ≤ READ_MOST → chunk ≡ part ++ rest
+    → n + length part ≡ SCRIPT_MOST → 0 < length rest → FeedsCrashSafe mid to b c part → RunsCrashSafe ScriptTooLong from.store l l2 a c
+unfolding exits.ends_long feeds_both
+ends_long from mid to l l1 l2 a b c n chunk part rest fresh on few ate small parts full over more =
+    let runs = exits.ends_long from mid to l l1 l2 a.emitted b.emitted c.emitted n chunk part rest fresh on.goes few ate small parts full
+    over more.feeds in
+    let t = feeds_both from mid to a.emitted b.emitted c.emitted on.goes.read part on.goes.taken more.feeds in
+    let script = script_parts l l2 (on.goes.read ++ chunk) runs.consumed in
+    let bytes : script_of l (on.goes.read ++ chunk) ≡ (on.goes.read ++ part) ++ (rest ++ script.0) = script.1
+    ∙ ap (λ (r : List ℕ). (on.goes.read ++ r) ++ script.0) parts ∙ simp append_assoc in
+    let cut = ap all_pieces bytes
+    ∙ all_behind _ t.done (resume to.splitter (rest ++ script.0))
+    (pieces_on from to a.emitted c.emitted (on.goes.read ++ part) fresh t (rest ++ script.0)) in
+    record {
+      runs = runs;
+      crashes = widened a c from.store t.done _ _ cut
+          (leaves_both a b c from.store mid.store on.goes.taken.done more.feeds.done on.goes.taken.state on.durable on.crashes more.crashes);
+      ends = λ is. absurd is;
+    }
+
+-- it stopped within what a read gave
+pub ends_within : (stop : Stop) (from mid : Session) (l l1 l2 : Option (List ℕ)) (a b c : View) (n : ℕ) (chunk part rest : List ℕ)
+    → IsAtScriptStart from → ReadsCrashSafe from mid l l1 a b n → n ≤ 2 ^ 40 → Consumes l1 l2 chunk → length chunk ≤ READ_MOST → chunk ≡ part ++ rest
+    → StopsCrashSafe stop mid b c part → RunsCrashSafe (status_of_stop stop) from.store l l2 a c
+ends_within stop from mid l l1 l2 a b c n chunk part rest fresh on few ate small parts u =
+    let runs = exits.ends_within stop from mid l l1 l2 a.emitted b.emitted c.emitted n chunk part rest fresh on.goes few ate small parts u.stops in
+    let known = exits.ends_within_read stop from mid l l1 l2 a.emitted b.emitted c.emitted n chunk part rest fresh on.goes few ate small
+    parts u.stops in
+    let t = on.goes.taken in
+    let script = script_parts l l2 runs.read runs.consumed in
+    let onward = resume u.stops.stand (u.stops.rest ++ (rest ++ script.0)) in
+    let bytes : script_of l runs.read ≡ on.goes.read ++ (u.stops.taken ++ (u.stops.rest ++ (rest ++ script.0))) = script.1
+    ∙ ap (λ (r : List ℕ). r ++ script.0) known ∙ ap (λ (r : List ℕ). (on.goes.read ++ r) ++ script.0) parts
+    ∙ ap (λ (r : List ℕ). (on.goes.read ++ (r ++ rest)) ++ script.0) u.stops.parts ∙ simp append_assoc in
+    let cut : pieces (script_of l runs.read) ≡ behind t.done (behind (u.stops.done ++ u.stops.next) onward) =
+    ap pieces bytes ∙ pieces_on from mid a.emitted b.emitted on.goes.read fresh t (u.stops.taken ++ (u.stops.rest ++ (rest ++ script.0)))
+    ∙ ap (behind t.done) (u.stops.reading (u.stops.rest ++ (rest ++ script.0))) in
+    let all = all_behind _ t.done (behind (u.stops.done ++ u.stops.next) onward) cut
+    ∙ ap (λ (l : List Piece). t.done ++ l) (append_assoc (u.stops.done ++ u.stops.next) onward.whole onward.last)
+    ∙ sym (append_assoc t.done (u.stops.done ++ u.stops.next) (onward.whole ++ onward.last)) in
+    record {
+      runs = runs;
+      crashes = widened a c from.store (t.done ++ (u.stops.done ++ u.stops.next)) _ _ all
+          (leaves_both a b c from.store mid.store t.done (u.stops.done ++ u.stops.next) t.state on.durable on.crashes u.crashes);
+      ends = λ is.
+          absurd (stopped stop is);
+    }
+
+-- ---- it goes on
+
+-- nothing was read yet
+pub starts_on : (session : Session) (l : Option (List ℕ)) (a : View) → IsReady a session.store → session.refused < 2 ^ 64
+    → ReadsCrashSafe session session l l a a 0
+starts_on session l a ready small =
+    let t = feeds_nothing_crash_safe session a ready small in
+    record {
+      goes = record { read = []; consumed = consumes_nothing l; taken = t.feeds; length_is = refl };
+      ready = t.ready;
+      durable = t.durable;
+      crashes = t.crashes;
+    }
+
+pub goes_on : (from mid to : Session) (l l1 l2 : Option (List ℕ)) (a b c : View) (n m : ℕ) (chunk : List ℕ) → ReadsCrashSafe from mid l l1 a b n
+    → Consumes l1 l2 chunk → FeedsCrashSafe mid to b c chunk → m ≡ length chunk → ReadsCrashSafe from to l l2 a c (n + m)
+unfolding exits.goes_on feeds_both
+goes_on from mid to l l1 l2 a b c n m chunk on ate more is = record {
+  goes = exits.goes_on from mid to l l1 l2 a.emitted b.emitted c.emitted n m chunk on.goes ate more.feeds is;
+  ready = more.ready;
+  durable = durable_both a b c from.store mid.store to.store on.goes.taken.done more.feeds.done on.goes.taken.state on.durable more.durable;
+  crashes = leaves_both a b c from.store mid.store on.goes.taken.done more.feeds.done on.goes.taken.state on.durable on.crashes more.crashes;
+}

@@ -1,0 +1,361 @@
+-- What a crash leaves of a whole run, from its folder's opening on.
+use Rattle.std.proofs.Common.{◌≡◌, ◌≢◌, ℕ, List, [], ◌∷◌, ◌++◌, length, ◌≤◌, IfSome, Option, Some, None, IsSome, refl, sym, ◌∙◌, ap, subst, inl, inr, ⊎_elim, arith}
+use Rattle.std.proofs.lemmas.List.{append-nil}
+use Rattle.std.specs.Io.KnownBytes.{Appends}
+use Rattle.sasi_types.specs.declared.partitioner.Partitioner.TheVariants.{Lead8}
+use Rattle.sasi_model.specs.Pieces.{Piece, all_pieces}
+use Rattle.sasi_model.specs.State.{State}
+use Rattle.sasi_model.specs.Step.{replies, state_after}
+use Rattle.sasi_host.specs.declared.fault.ReadFault.{ReadFault}
+use Rattle.sasi_host.specs.declared.fault.ReadFault.TheVariants as read_fault
+use Rattle.sasi_host.specs.Names.{Folder}
+use Rattle.sasi_host.specs.View.{IsSound, IsTold, LeavesNow, Rose, SourceView, View, contents_in}
+use Rattle.sasi_host.specs.Damages.{OnDamage}
+use Rattle.sasi_host.specs.declared.damage.Damage.{Damage}
+use Rattle.sasi_host.specs.Disk.{Changes, FromImage, Same}
+use Rattle.sasi_host.specs.Contents.{told_after, told_files}
+use Rattle.sasi_host.specs.ChangeLaws.{changes_as, crash_leaves_on, since_start, stays}
+use Rattle.sasi_folder.specs.Damages.{FolderShows}
+use Rattle.sasi_folder.specs.Stands.{Stands}
+use Rattle.sasi_run.specs.Crashing.{Crashed, HasDurableStore, CrashLeavesPieces, RunsCrashSafe, IsDurableAfter}
+use Rattle.sasi_run.specs.Headline.{Headline, RanThrough, RanToEnd, Runs, RunsFrom, SCRIPT_MOST, EmitsByStatus, EmitsFirstReplies, StandsWithoutUnlisted, StartsFrom, ReportsDamage, script_of, status_of_fault}
+use Rattle.sasi_run.specs.Recovering.{Recovers}
+use Rattle.sasi_run.specs.Storing.{IsReady, UnchangedOrStands, IsStoreDurable}
+use Rattle.sasi_run.specs.declared.status.Status.{Status}
+use Rattle.sasi_run.specs.declared.status.Status.TheVariants.{Usage, ScriptFault, FolderFault, OutputFault, OutOfMemory, Damaged}
+use Rattle.sasi_run.specs.CommandLine.{IsCommandLine}
+use Rattle.sasi_run.specs.declared.store.Store.{Store}
+use Rattle.sasi_run.proofs.Crashing.{one_of}
+use Rattle.sasi_run.proofs.Complete.{through}
+use Rattle.sasi_run.proofs.ConsumedBytes.{consumes_nothing}
+use Rattle.sasi_run.proofs.Recovering.{after_crash}
+use Rattle.sasi_run.proofs.RunParts.{appends_none}
+
+-- ---- the start, and the opening
+
+module _ (a : View) (s : State) (starts : StartsFrom a s) (before : List ℕ) (emitted : a.emitted ≡ Some before) (pieces : List Piece) where
+  at_start : (folder : Folder) (out : List ℕ) → LeavesNow a folder out → Recovers a s pieces before folder out
+  at_start folder out now =
+      let stood = starts.images folder now.0 in
+      record {
+        shown = [];
+        went = one_of out before (sym now.1 ∙ emitted)
+            ∙ sym (append-nil before);
+        stands = inl
+            (record { nothing = refl; image = folder; was = now.0; state = stood.0; stood = stood.1; stands = stood.1 });
+      }
+
+  while_opening : IsSound a → (folder : Folder) (out : List ℕ) → FromImage (UnchangedOrStands Lead8 s) a folder out → Recovers a s pieces before folder out
+  while_opening sound folder out (was, image, opens, said) =
+      let stood = starts.images was image in
+      let none : out ≡ before ++ [] = one_of out before (sym said ∙ emitted) ∙ sym (append-nil before) in
+      ⊎_elim
+      (λ same. record {
+        shown = [];
+        went = none;
+        stands = inl
+            (record {
+              nothing = refl;
+              image = was;
+              was = image;
+              state = stood.0;
+              stood = stood.1;
+              stands = subst
+                  (λ (f : Folder). Stands Lead8 f stood.0) (sym same) stood.1;
+            });
+      })
+      (λ stands. record {
+        shown = [];
+        went = none;
+        stands = inl
+            (record {
+              nothing = refl;
+              image = starts.folder;
+              was = sound.reads starts.folder starts.reads;
+              state = s;
+              stood = starts.stands;
+              stands = stands;
+            });
+      })
+      opens
+
+  -- the run stopped in the opening
+  pub recovers_opening : (b : View) → IsSound a → Changes (UnchangedOrStands Lead8 s) a b → (folder : Folder) (out : List ℕ)
+      → b.left a.moment folder out → Recovers a s pieces before folder out
+  recovers_opening b sound change folder out left = ⊎_elim (at_start folder out) (while_opening sound folder out)
+      (since_start a b (FromImage (UnchangedOrStands Lead8 s) a) sound change.during folder out left)
+
+  crashed : (folder : Folder) (out : List ℕ) → Crashed s before pieces folder out → Recovers a s pieces before folder out
+  crashed folder out was =
+      ⊎_elim
+      (λ quiet. record {
+        shown = replies s was.done;
+        went = quiet.went;
+        stands = inr
+            (λ n is_count. after_crash s before pieces folder out (replies s was.done) quiet.went n is_count was);
+      })
+      (λ answering. record {
+        shown = replies s was.done
+            ++ answering.front;
+        went = answering.went;
+        stands = inr
+            (λ n is_count. after_crash s before pieces folder out (replies s was.done ++ answering.front) answering.went n is_count was);
+      })
+      was.stands
+
+  -- it went on behind it
+  pub recovers_run : (b c : View) (store : Store) → IsSound a → Changes (UnchangedOrStands Lead8 s) a b → IsStoreDurable b store → store.machine ≡ s
+      → CrashLeavesPieces b c store pieces → (folder : Folder) (out : List ℕ) → c.left a.moment folder out
+      → Recovers a s pieces before folder out
+  recovers_run b c store sound change durable is leaves folder out left =
+      let told : IsTold a = subst (λ (f : Option Folder). IsSome f) (sym starts.reads) refl in
+      let serving : HasDurableStore b store before = record
+      { told = told_after (UnchangedOrStands Lead8 s) a b change told; durable = durable; emitted = change.emitted ∙ emitted } in
+      let both = crash_leaves_on a b c (FromImage (UnchangedOrStands Lead8 s) a) (Crashed store.machine before pieces)
+      (λ x e. Recovers a s pieces before x e) change.during (leaves before serving) (while_opening sound)
+      (λ x e p. crashed x e (subst (λ (t : State). Crashed t before pieces x e) is p)) in
+      ⊎_elim (at_start folder out) (λ r. r) (since_start a c (λ x e. Recovers a s pieces before x e) sound both folder out left)
+
+-- ---- the end
+
+some_out : (o : Option (List ℕ)) → IsSome o → (out : List ℕ) × (o ≡ Some out)
+some_out None is = cc
+some_out (Some out) is = (out, refl)
+
+-- a store in hand tells what its folder stands for
+alone_there : (v : View) (store : Store) → IsSound v → IsTold v → IsReady v store → IsStoreDurable v store → StandsWithoutUnlisted v store.machine
+alone_there v store sound told ready durable =
+    let files = told_files v told in
+    record {
+      folder = files.0;
+      reads = files.1;
+      number = store.manifest.number;
+      listing = store.manifest.listing;
+      logs = durable.older ++ durable.current ∷ [];
+      holds = durable.held files.0 (sound.reads files.0 files.1);
+      makes = durable.makes;
+      alone = λ name other. sym (ap (λ (o : Option Folder). contents_in o name) files.1) ∙ ready.no_other name other;
+      images = λ image now. record {
+        number = store.manifest.number;
+        listing = store.manifest.listing;
+        logs = durable.older
+            ++ durable.current ∷ [];
+        holds = durable.held image now;
+        makes = durable.makes;
+      };
+    }
+
+ends_alone : (a b c : View) (s : State) (store : Store) → StartsFrom a s → (before : List ℕ) → a.emitted ≡ Some before
+    → Changes (UnchangedOrStands Lead8 s) a b → IsStoreDurable b store → store.machine ≡ s → IsSound c → (pieces : List Piece)
+    → IsDurableAfter store b c pieces → StandsWithoutUnlisted c (state_after s pieces)
+ends_alone a b c s store starts before emitted change durable is sound pieces after =
+    let told : IsTold a = subst (λ (f : Option Folder). IsSome f) (sym starts.reads) refl in
+    let serving : HasDurableStore b store before = record
+    { told = told_after (UnchangedOrStands Lead8 s) a b change told; durable = durable; emitted = change.emitted ∙ emitted } in
+    let later = after.durable before serving in
+    subst (λ (t : State). StandsWithoutUnlisted c t) (after.state ∙ ap (λ (t : State). state_after t pieces) is)
+    (alone_there c after.last sound later.told after.ready later.durable)
+
+-- ---- what a run does
+
+-- the words named no script
+pub runs_nothing : (a : View) (s : State) (l : Option (List ℕ)) → IsSound a → StartsFrom a s → RunsFrom Usage s l l a a
+runs_nothing a s l sound starts = record {
+  runs = record {
+    read = [];
+    shown = [];
+    consumed = consumes_nothing l;
+    emitted = appends_none a.emitted;
+    at_end = tt;
+    shows = (refl, refl);
+    bounded = omega arith;
+  };
+  crash = λ before emitted folder out left. recovers_opening a s starts before emitted _ a sound
+      (changes_as a a Same (UnchangedOrStands Lead8 s) (stays a) (λ x y same. inl same)) folder out left;
+  ends = λ is. absurd is;
+}
+
+nothing_read : (s : State) → EmitsFirstReplies s [] []
+nothing_read s = record {
+  done = [];
+  first = record { rest = all_pieces []; parts = refl; before = 0; late = omega arith; more = []; has = refl };
+  replied = refl;
+}
+
+first_runs : (fault : ReadFault) (s : State) (l o o2 : Option (List ℕ)) → o2 ≡ o → Runs (status_of_fault fault) s l l o o2
+first_runs read_fault.Failed s l o o2 same = record {
+  read = [];
+  shown = [];
+  consumed = consumes_nothing l;
+  emitted = subst (λ (x : Option (List ℕ)). Appends o x []) (sym same)
+      (appends_none o);
+  at_end = tt;
+  shows = nothing_read s;
+  bounded = omega arith;
+}
+first_runs read_fault.OutOfMemory s l o o2 same = record {
+  read = [];
+  shown = [];
+  consumed = consumes_nothing l;
+  emitted = subst (λ (x : Option (List ℕ)). Appends o x []) (sym same)
+      (appends_none o);
+  at_end = tt;
+  shows = nothing_read s;
+  bounded = omega arith;
+}
+first_runs (read_fault.Damaged damage) s l o o2 same = record {
+  read = [];
+  shown = [];
+  consumed = consumes_nothing l;
+  emitted = subst (λ (x : Option (List ℕ)). Appends o x []) (sym same)
+      (appends_none o);
+  at_end = tt;
+  shows = (refl, refl);
+  bounded = omega arith;
+}
+
+not_ended : (fault : ReadFault) → RanToEnd (status_of_fault fault) → ⊥
+not_ended read_fault.Failed is = is
+not_ended read_fault.OutOfMemory is = is
+not_ended (read_fault.Damaged damage) is = is
+
+-- the folder wasn't opened
+pub runs_unopened : (fault : ReadFault) (a b : View) (s : State) (l : Option (List ℕ)) → IsSound a → StartsFrom a s
+    → Changes (UnchangedOrStands Lead8 s) a b → RunsFrom (status_of_fault fault) s l l a b
+runs_unopened fault a b s l sound starts change = record {
+  runs = first_runs fault s l a.emitted b.emitted change.emitted;
+  crash = λ before emitted folder out left. recovers_opening a s starts before emitted _ b sound change folder out left;
+  ends = λ is. absurd (not_ended fault is);
+}
+
+-- it was, and the script run
+pub runs_opened : (status : Status) (a b c : View) (s : State) (store : Store) (l l2 : Option (List ℕ)) → IsSound a → StartsFrom a s
+    → Changes (UnchangedOrStands Lead8 s) a b → IsStoreDurable b store → store.machine ≡ s → IsSound c → RunsCrashSafe status store l l2 b c
+    → RunsFrom status s l l2 a c
+runs_opened status a b c s store l l2 sound starts change durable is sound_c on = record {
+  runs = moved s store.machine is b.emitted a.emitted change.emitted on.runs;
+  crash = λ before emitted folder out left. recovers_run a s starts before emitted
+      (all_pieces (script_of l (moved s store.machine is b.emitted a.emitted change.emitted on.runs).read)) b c store sound change durable is
+      (same_read s store.machine is b.emitted a.emitted change.emitted) folder out left;
+  ends = λ ran said.
+      (let out = some_out a.emitted said in ends_alone a b c s store starts out.0 out.1 change durable is sound_c
+      (all_pieces (script_of l on.runs.read)) (on.ends ran));
+}
+  where
+    moved : (t m : State) → m ≡ t → (o p : Option (List ℕ)) → o ≡ p → Runs status m l l2 o c.emitted → Runs status t l l2 p c.emitted
+    moved t m e o p f runs = record {
+      read = runs.read;
+      shown = runs.shown;
+      consumed = runs.consumed;
+      emitted = subst (λ (x : Option (List ℕ)). Appends x c.emitted runs.shown) f runs.emitted;
+      at_end = runs.at_end;
+      shows = subst (λ (x : State). EmitsByStatus status x runs.read runs.shown) e runs.shows;
+      bounded = runs.bounded;
+    }
+
+    same_read : (t m : State) (e : m ≡ t) (o p : Option (List ℕ)) (f : o ≡ p) → CrashLeavesPieces b c store (all_pieces (script_of l on.runs.read))
+    same_read t m e o p f = on.crashes
+
+-- ---- the headline
+
+rose_later : (a b c : ℕ) → a ≤ b → Rose b c → Rose a c
+rose_later a b c le rose = omega (arith, le, rose)
+
+-- the words name no script
+pub headline_unused : (words : List (List ℕ)) (script : SourceView) (a : View) → IsSound a → (IsCommandLine words → ⊥)
+    → Headline words Usage script script a a
+headline_unused words script a sound none = record {
+  shows = λ s starts. runs_nothing a s script.left sound starts;
+  usage = (λ is. none, λ no. refl);
+  script_fault = λ is. cc;
+  folder_fault = λ is. cc;
+  output_fault = λ is. cc;
+  damaged = λ damage is. cc;
+  refused = λ folder files none. record { refusal = tt; unread = refl; silent = refl };
+  undamaged = λ s damage starts is. cc;
+  complete = λ are x y z. absurd (none are);
+}
+
+damage_same : (x y : Damage) → Damaged x ≡ Damaged y → x ≡ y
+damage_same x y is = cc
+
+-- the folder wasn't opened
+pub headline_unopened : (words : List (List ℕ)) (fault : ReadFault) (script : SourceView) (a b : View) → IsSound a → IsCommandLine words
+    → b.emitted ≡ a.emitted
+    → ((folder : Folder) (s : State) → a.files ≡ Some folder → Stands Lead8 folder s → Changes (UnchangedOrStands Lead8 s) a b)
+    → (fault ≡ read_fault.Failed → Rose a.disk_faults b.disk_faults)
+    → ((folder : Folder) → a.files ≡ Some folder → OnDamage (FolderShows folder) fault)
+    → ((folder : Folder) (s : State) → a.files ≡ Some folder → Stands Lead8 folder s → OnDamage (λ _. ⊥) fault)
+    → Headline words (status_of_fault fault) script script a b
+headline_unopened words read_fault.Failed script a b sound are silent change failed shown undamaged = record {
+  shows = λ s starts. runs_unopened read_fault.Failed a b s script.left sound starts (change starts.folder s starts.reads starts.stands);
+  usage = (λ is. cc, λ no. absurd (no are));
+  script_fault = λ is. cc;
+  folder_fault = λ is. failed refl;
+  output_fault = λ is. cc;
+  damaged = λ damage is. cc;
+  refused = λ folder files none. record { refusal = tt; unread = refl; silent = silent };
+  undamaged = λ s damage starts is. cc;
+  complete = λ words x y disk. absurd (disk (failed refl));
+}
+headline_unopened words read_fault.OutOfMemory script a b sound are silent change failed shown undamaged = record {
+  shows = λ s starts. runs_unopened read_fault.OutOfMemory a b s script.left sound starts (change starts.folder s starts.reads starts.stands);
+  usage = (λ is. cc, λ no. absurd (no are));
+  script_fault = λ is. cc;
+  folder_fault = λ is. cc;
+  output_fault = λ is. cc;
+  damaged = λ damage is. cc;
+  refused = λ folder files none. record { refusal = tt; unread = refl; silent = silent };
+  undamaged = λ s damage starts is. cc;
+  complete = λ words x y disk. through_memory script.left;
+}
+  where
+    through_memory : (l : Option (List ℕ)) → IfSome l (λ script. length script ≤ SCRIPT_MOST → RanThrough OutOfMemory)
+    through_memory None = tt
+    through_memory (Some script) = λ _. tt
+headline_unopened words (read_fault.Damaged damage) script a b sound are silent change failed shown undamaged = record {
+  shows = λ s starts. runs_unopened (read_fault.Damaged damage) a b s script.left sound starts (change starts.folder s starts.reads starts.stands);
+  usage = (λ is. cc, λ no. absurd (no are));
+  script_fault = λ is. cc;
+  folder_fault = λ is. cc;
+  output_fault = λ is. cc;
+  damaged = λ told is. subst (λ (d : Damage). ReportsDamage d script script a b) (damage_same damage told is)
+      (record { shows = shown; unread = refl; silent = silent });
+  refused = λ folder files none. record { refusal = tt; unread = refl; silent = silent };
+  undamaged = λ s damage starts is. undamaged starts.folder s starts.reads starts.stands;
+  complete = λ words x y disk. through_damage script.left;
+}
+  where
+    through_damage : (l : Option (List ℕ)) → IfSome l (λ script. length script ≤ SCRIPT_MOST → RanThrough (Damaged damage))
+    through_damage None = tt
+    through_damage (Some script) = λ _. tt
+
+-- the script was run
+pub headline_opened : (words : List (List ℕ)) (status : Status) (script later : SourceView) (a b c : View) (store : Store) → IsSound a
+    → IsSound c → IsCommandLine words
+    → ((folder : Folder) (s : State) → a.files ≡ Some folder → Stands Lead8 folder s → Changes (UnchangedOrStands Lead8 s) a b)
+    → a.disk_faults ≤ b.disk_faults → b.out_faults ≡ a.out_faults
+    → ((folder : Folder) (s : State) → a.files ≡ Some folder → Stands Lead8 folder s → IsStoreDurable b store × (store.machine ≡ s))
+    → ((folder : Folder) → a.files ≡ Some folder → Stands Lead8 folder store.machine) → RunsCrashSafe status store script.left later.left b c
+    → (status ≡ ScriptFault → Rose script.faults later.faults) → (status ≡ OutputFault → Rose b.out_faults c.out_faults)
+    → (status ≡ FolderFault → Rose b.disk_faults c.disk_faults) → status ≢ Usage → ((damage : Damage) → status ≢ Damaged damage)
+    → Headline words status script later a c
+headline_opened words status script later a b c store sound sound_c are change disk out opened stands on script_fault output_fault
+    folder_fault used undamaged =
+    let output : status ≡ OutputFault → Rose a.out_faults c.out_faults = λ is. subst (λ n. Rose n c.out_faults) out (output_fault is) in
+    let folder : status ≡ FolderFault → Rose a.disk_faults c.disk_faults = λ is. rose_later a.disk_faults b.disk_faults c.disk_faults disk
+    (folder_fault is) in
+    record {
+      shows = λ s starts.
+          (let known = opened starts.folder s starts.reads starts.stands in runs_opened status a b c s store script.left later.left sound
+          starts (change starts.folder s starts.reads starts.stands) known.0 known.1 sound_c on);
+      usage = (λ is. absurd (used is), λ no. absurd (no are));
+      script_fault = script_fault;
+      folder_fault = folder;
+      output_fault = output;
+      damaged = λ damage is. absurd (undamaged damage is);
+      refused = λ folder files none. absurd (none store.machine (stands folder files));
+      undamaged = λ s damage starts. undamaged damage;
+      complete = λ words x y z. through status store.machine script.left later.left b.emitted c.emitted on.runs used
+          (λ is. x (script_fault is)) (λ is. y (output is)) (λ is. z (folder is));
+    }

@@ -1,0 +1,91 @@
+use Rattle.std.proofs.Common.{◌+◌, ◌*◌, ◌∙◌, subst, arith, inr, ⊎_elim, Err}
+use Rattle.std.proofs.lemmas.Result.{err_from_is_err_and}
+use Rattle.sasi_host.specs.PageReading.{reads_nothing, reads_then}
+use Rattle.sasi_host.specs.Disk.{Same}
+use Rattle.sasi_host.specs.declared.name.FileName.{FileName}
+use Rattle.sasi_host.specs.Damages.{DamageShown, TellsSize}
+use Rattle.sasi_host.specs.ChangeLaws.{stays, then_same}
+use Rattle.sasi_tokentree.specs.Damages.{IsNodeOf}
+use Rattle.sasi_tokentree.specs.Heights.{height}
+use Rattle.sasi_tokentree.specs.EntryPages.{entry_pages}
+use Rattle.sasi_tokentree.specs.Scans.{pair_place}
+use Rattle.sasi_tokentree.proofs.AfterRead.{reads_still, shown_still}
+use Rattle.sasi_tokentree.proofs.Seeks.{reads_on, ok_reads}
+use Rattle.sasi_tokentree.proofs.LeafPairs.{long_spares, long_shown, leaves_shown, gave_entry, level_spares, tree_spares_before, tree_stands_at, count_is, no_pairs, takes_none}
+use Rattle.sasi_tokentree.proofs.pair_scan.first_from.Goals as goal
+
+pub returns-then-tree-eq0-clause-ok : goal.returns-then-tree-eq0-clause-ok
+returns-then-tree-eq0-clause-ok g c bytes pairs is has = (0, no_pairs bytes c.args.tree pairs c.args.token has (omega arith), takes_none bytes c.args.tree pairs 0 has (omega arith))
+
+pub returns-then-is_too_long-clause-undamaged : goal.returns-then-is_too_long-clause-undamaged
+returns-then-is_too_long-clause-undamaged g c =
+    long_spares (g.H.Host.view c.args.host.now) c.args.buffered.now.file c.args.tree c.unexpected_end.result
+    (λ bytes is. (g.met.H.Host.sound c.args.host.now).fits c.args.buffered.now.file bytes is) (omega arith)
+    (c.is_too_long.ensures.long c.if-is_too_long.true)
+
+pub returns-then-is_too_long-clause-damaged : goal.returns-then-is_too_long-clause-damaged
+returns-then-is_too_long-clause-damaged g c =
+    long_shown (g.H.Host.view c.args.host.now) c.args.buffered.now.file c.args.tree c.unexpected_end.result
+    (λ bytes is. (g.met.H.Host.sound c.args.host.now).fits c.args.buffered.now.file bytes is) (omega arith)
+    (c.is_too_long.ensures.long c.if-is_too_long.true) (subst (λ (n : FileName). DamageShown (g.H.Host.view c.args.host.now) n (TellsSize n)
+    c.unexpected_end.result) c.file.ensures c.unexpected_end.ensures.damaged)
+
+pub returns-in_err-below-clause-damaged : goal.returns-in_err-below-clause-damaged
+returns-in_err-below-clause-damaged g c =
+    let p = err_from_is_err_and c.from_residual.result c.from_residual.ensures.1 in
+    rw (p.1, p.2) (leaves_shown (g.H.Host.view c.args.host.now) c.args.buffered.now.file c.args.tree c.start_of-start.result c.in_err-below.field-0.0
+    c.start_of-start.ensures.is c.in_err-below.ensures.damaged)
+
+pub returns-clause-stands : goal.returns-clause-stands
+returns-clause-stands g c = gave_entry _ _ c.args.buffered.now.file _ c.args.tree _ _ c.count_below.ensures.read.changes c.count_below.ensures.read.file c.in_ok-found.ensures.stands
+
+pub returns-in_err-below-clause-undamaged : goal.returns-in_err-below-clause-undamaged
+returns-in_err-below-clause-undamaged g c =
+    let p = err_from_is_err_and c.from_residual.result c.from_residual.ensures.1 in
+    rw (p.1, p.2) (level_spares (g.H.Host.view c.args.host.now) c.args.buffered.now.file c.args.tree c.start_of-start.result c.in_err-below.field-0.0
+    (λ bytes is. (g.met.H.Host.sound c.args.host.now).fits c.args.buffered.now.file bytes is) (omega arith) c.start_of-start.ensures.is
+    c.in_err-below.ensures.undamaged)
+
+pub returns-in_err-found-clause-damaged : goal.returns-in_err-found-clause-damaged
+returns-in_err-found-clause-damaged g c =
+    let p = err_from_is_err_and c.from_residual-in_err-found.result c.from_residual-in_err-found.ensures.1 in
+    rw (p.1, p.2) (shown_still (IsNodeOf c.args.tree) _ _ c.args.buffered.now.file _ c.in_err-found.field-0.0 c.count_below.ensures.read.changes
+    c.count_below.ensures.read.file c.in_err-found.ensures.damaged)
+
+pub returns-in_err-found-clause-undamaged : goal.returns-in_err-found-clause-undamaged
+returns-in_err-found-clause-undamaged g c =
+    let p = err_from_is_err_and c.from_residual-in_err-found.result c.from_residual-in_err-found.ensures.1 in
+    rw (p.1, p.2) (tree_spares_before _ _ c.args.buffered.now.file _ c.args.tree c.in_err-found.field-0.0 c.count_below.ensures.read.changes
+    c.count_below.ensures.read.file c.in_err-found.ensures.undamaged)
+
+pub returns-clause-ok : goal.returns-clause-ok
+returns-clause-ok g c bytes pairs is has =
+    let short = (g.met.H.Host.sound c.args.host.now).fits c.args.buffered.now.file bytes is in
+    let stands = tree_stands_at bytes c.args.tree pairs c.start_of-start.result has (omega arith) short c.start_of-start.ensures.is in
+    let now = reads_still _ _ c.args.buffered.now.file _ bytes c.count_below.ensures.read.changes c.count_below.ensures.read.file is in (
+      c.in_ok-below.below.count,
+      (c.in_ok-below.ensures.ok bytes pairs is stands (count_is bytes c.args.tree pairs has)).counts,
+      c.in_ok-found.ensures.ok bytes pairs now has,
+    )
+
+pub returns-in_err-found-clause-causes : goal.returns-in_err-found-clause-causes
+returns-in_err-found-clause-causes g c most le =
+    let p = err_from_is_err_and c.from_residual-in_err-found.result c.from_residual-in_err-found.ensures.1 in
+    let two = entry_pages c.count_below.new.buffered.page (pair_place c.args.tree c.in_ok-below.below.count) in
+    rw (p.1, p.2) (reads_on _ _ _ (2 * height most c.args.tree.pairs) _ (2 * height most c.args.tree.pairs + 2) c.count_below.result
+    (Err c.in_err-found.field-0.0) (omega (arith, two)) (c.count_below.ensures.causes most le) c.in_err-found.ensures.causes)
+
+pub returns-clause-causes : goal.returns-clause-causes
+returns-clause-causes g c most le =
+    let two = entry_pages c.count_below.new.buffered.page (pair_place c.args.tree c.in_ok-below.below.count) in
+    ok_reads _ _ _ c.pair_from.result _ (reads_on _ _ _ (2 * height most c.args.tree.pairs) _ (2 * height most c.args.tree.pairs + 2)
+    c.count_below.result c.pair_from.result (omega (arith, two)) (c.count_below.ensures.causes most le) c.pair_from.ensures.causes)
+
+pub returns-then-tree-eq0-clause-read : goal.returns-then-tree-eq0-clause-read
+returns-then-tree-eq0-clause-read g c = reads_nothing _ _ _ _ c.requires.read.agrees c.requires.read.buffered
+
+pub returns-in_err-found-clause-read : goal.returns-in_err-found-clause-read
+returns-in_err-found-clause-read g c = reads_then _ _ _ _ _ _ _ _ _ _ _ c.count_below.ensures.read c.pair_from.ensures.read
+
+pub returns-clause-read : goal.returns-clause-read
+returns-clause-read g c = reads_then _ _ _ _ _ _ _ _ _ _ _ c.count_below.ensures.read c.pair_from.ensures.read

@@ -1,0 +1,52 @@
+-- Scans of the pairs of a tree.
+use Rattle.std.specs.Prelude.{◌≡◌, ℕ, ◌+◌, ◌-◌, ◌*◌, ◌/◌, ◌%◌, ◌<◌, List, [], ◌∷◌, drop, Option, None, Some}
+use Rattle.sasi_types.specs.declared.tree.Pair.{Pair}
+use Rattle.sasi_types.specs.declared.tree.TreeRef.{TreeRef}
+use Rattle.sasi_host.specs.declared.name.FileName.{FileName}
+use Rattle.sasi_host.specs.Names.{Bytes}
+use Rattle.sasi_host.specs.View.{View, contents}
+use Rattle.sasi_host.specs.Buffered.{Buffered}
+use Rattle.sasi_host.specs.Damages.{HasAt}
+use Rattle.sasi_tokentree.specs.Format.{entry, AreFit, HasTree}
+use Rattle.sasi_tokentree.specs.Damages.{start}
+use Rattle.sasi_tokentree.specs.Reads.{CountsBelow}
+
+-- the view of a scan: the buffered file, where the tree is, and how many of its pairs the scan has passed
+pub record PairScan : Type 0 where
+  pub buffered : Buffered
+  pub tree : TreeRef
+  pub passed : ℕ
+
+-- the scan steps to the first of the pairs from an index on, and those behind it are left; to none where none is left
+abbrev pub StepsToPair : List Pair → ℕ → ℕ → Option Pair → Type 0
+StepsToPair pairs from passed None = (drop from pairs ≡ []) × (passed ≡ from)
+StepsToPair pairs from passed (Some pair) = drop from pairs ≡ pair ∷ drop passed pairs
+
+-- the offset of the pair with this index: that of its leaf, and its offset there
+abbrev pub pair_place : TreeRef → ℕ → ℕ
+pair_place tree index = start tree + 4088 * (index / 255) + (8 + 16 * (index % 255))
+
+-- behind a pair that was read, the page on which its entry ends is buffered
+abbrev pub IsEntryBuffered : PairScan → Option Pair → Type 0
+IsEntryBuffered w None = Unit {0}
+IsEntryBuffered w (Some pair) = w.buffered.page ≡ Some ((pair_place w.tree (w.passed - 1) + 15) / 4096)
+
+-- the file has this pair as the entry with this index, even where the tree is damaged
+pub record HasEntry (bytes : Bytes) (tree : TreeRef) (index : ℕ) (pair : Pair) : Type 0 where
+  pub within : index < tree.pairs
+  pub stands : HasAt bytes (pair_place tree index) (entry pair)
+  pub fit : AreFit (pair ∷ [])
+
+-- the pair read, if any, is the last of the passed entries
+abbrev pub ReadsEntry : View → FileName → TreeRef → ℕ → Option Pair → Type 0
+ReadsEntry v file tree passed None = Unit {0}
+ReadsEntry v file tree passed (Some pair) = (index : ℕ) × (passed ≡ index + 1) × ((bytes : Bytes) → contents v file ≡ Some bytes → HasEntry bytes tree index pair)
+
+-- where the file has the tree, this is the next of its pairs
+abbrev pub ReadsNextPair : View → FileName → TreeRef → ℕ → ℕ → Option Pair → Type 0
+ReadsNextPair v file tree before after found = (bytes : Bytes) (pairs : List Pair) → contents v file ≡ Some bytes → HasTree bytes tree pairs → StepsToPair pairs before after found
+
+-- where the file has the tree, this is the first of its pairs at or after a token
+abbrev pub ReadsFirstPair : View → FileName → TreeRef → ℕ → ℕ → Option Pair → Type 0
+ReadsFirstPair v file tree token after found =
+    (bytes : Bytes) (pairs : List Pair) → contents v file ≡ Some bytes → HasTree bytes tree pairs → (count : ℕ) × CountsBelow pairs token count × StepsToPair pairs count after found

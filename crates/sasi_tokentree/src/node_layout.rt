@@ -1,0 +1,37 @@
+// The layout of a level, by its number of entries.
+ghost use Rattle.std.specs.Prelude.{◌≡◌, ◌+◌, ◌*◌, ◌^◌, ◌<◌, ◌≤◌, length};
+ghost use Rattle.sasi_tokentree.specs.Format.{nodes, entries_of_node, size};
+
+use sasi_types::Pair;
+
+/// The entries of a full node.
+pub const MAX_ENTRIES: usize = 255;
+
+/// The bytes of a full node.
+pub const MAX_NODE_BYTES: u64 = 4088;
+
+// How many nodes so many entries take.
+pub fn node_count(entries: usize) -> usize
+    ensures { result ≡ nodes entries }
+{
+    entries / MAX_ENTRIES + usize::from(entries % MAX_ENTRIES != 0)
+}
+
+// The entries of a node.
+pub fn node_entries(entries: &[Pair], index: usize) -> &[Pair]
+    requires { 255 * index < length entries.now }
+    ensures is { result.now ≡ entries_of_node entries.now index }
+    ensures some { 0 < length result.now }
+    ensures most { length result.now ≤ 255 }
+{
+    let rest = &entries[MAX_ENTRIES * index..];
+    &rest[..rest.len().min(MAX_ENTRIES)]
+}
+
+// How many bytes the nodes of so many entries take.
+pub fn level_size(entries: usize) -> u64
+    requires { size entries < 2 ^ 64 }
+    ensures { result ≡ size entries }
+{
+    16 * entries as u64 + 8 * node_count(entries) as u64
+}

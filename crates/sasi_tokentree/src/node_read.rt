@@ -1,0 +1,67 @@
+// Reads nodes of a tree from the file.
+ghost use Rattle.std.specs.Prelude.{◌≡◌, ◌+◌, ◌*◌, ◌^◌, ◌<◌, ◌≤◌, List, ℕ, length, IfErr, IfOk, OnOk, Some};
+ghost use Rattle.sasi_types.specs.declared.tree.Pair.{Pair};
+ghost use Rattle.sasi_host.specs.View.{contents, ReadsAtMost};
+ghost use Rattle.sasi_host.specs.Damages.{HasAt};
+ghost use Rattle.sasi_host.specs.PageReading.{CanReadOn, HasReadOn};
+ghost use Rattle.sasi_tokentree.specs.Format.{node};
+ghost use Rattle.sasi_tokentree.specs.Damages.{ShownOf};
+ghost use Rattle.sasi_tokentree.specs.Reads.{IsLowerBound, HasNode, NoFalseNodeDamage};
+
+use crate::node_decode::{LowerBound, ENTRY_BYTES, NODE_HEADER_BYTES, check_header, find_below};
+use sasi_host::{BufferedFile, Host, PageReader, ReadFault};
+use sasi_types::Token;
+
+// Fills the buffer with a node, and checks its header against this level and number of entries.
+fn read_node<H: Host, P: PageReader>(
+    host: &mut H,
+    pages: &mut P,
+    buffered: &mut BufferedFile,
+    at: u64,
+    level: u8,
+    count: usize,
+    out: &mut [u8],
+) -> Result<(), ReadFault>
+    requires read { CanReadOn (P.agrees pages.old) (H.view host.old) buffered.old }
+    requires place { at < 2 ^ 63 + 2 ^ 60 }
+    requires most { count ≤ 255 }
+    requires whole { length out.old ≡ 8 + 16 * count }
+    ensures ok { OnOk result ((bytes : List ℕ) (entries : List Pair) → contents (H.view host.old) buffered.old.file ≡ Some bytes → HasNode bytes level at entries → length entries ≡ count → out.new ≡ node level entries) }
+    ensures is { OnOk result ((bytes : List ℕ) → contents (H.view host.old) buffered.old.file ≡ Some bytes → HasAt bytes at out.new) }
+    ensures damaged { IfErr result (ShownOf (λ n. n ≡ record { level = level; at = at; count = count }) (H.view host.old) buffered.old.file) }
+    ensures undamaged { IfErr result (NoFalseNodeDamage (H.view host.old) buffered.old.file level at count) }
+    ensures read { HasReadOn (P.agrees pages.new) (P.covers pages.old) (P.covers pages.new) (H.view host.old) (H.view host.new) buffered.old buffered.new }
+    ensures causes { ReadsAtMost 2 (H.view host.old) (H.view host.new) result }
+{
+    buffered.read_into(host, pages, at, out)?;
+    check_header(buffered.file(), at, level, count as u16, out)?;
+    Ok(())
+}
+
+// How many entries of a node have tokens below this one.
+pub fn node_below<H: Host, P: PageReader>(
+    host: &mut H,
+    pages: &mut P,
+    buffered: &mut BufferedFile,
+    at: u64,
+    level: u8,
+    count: usize,
+    token: Token,
+) -> Result<LowerBound, ReadFault>
+    requires read { CanReadOn (P.agrees pages.old) (H.view host.old) buffered.old }
+    requires place { at < 2 ^ 63 + 2 ^ 60 }
+    requires most { count ≤ 255 }
+    ensures ok { IfOk result (λ below. (bytes : List ℕ) (entries : List Pair) → contents (H.view host.old) buffered.old.file ≡ Some bytes → HasNode bytes level at entries → length entries ≡ count
+        → IsLowerBound entries token below.count below.place) }
+    ensures within { IfOk result (λ below. below.count ≤ count) }
+    ensures damaged { IfErr result (ShownOf (λ n. n ≡ record { level = level; at = at; count = count }) (H.view host.old) buffered.old.file) }
+    ensures undamaged { IfErr result (NoFalseNodeDamage (H.view host.old) buffered.old.file level at count) }
+    ensures read { HasReadOn (P.agrees pages.new) (P.covers pages.old) (P.covers pages.new) (H.view host.old) (H.view host.new) buffered.old buffered.new }
+    ensures causes { ReadsAtMost 2 (H.view host.old) (H.view host.new) result }
+{
+    let mut buffer = [0; 4088];
+    let bytes = &mut buffer[..NODE_HEADER_BYTES + ENTRY_BYTES * count];
+    read_node(host, pages, buffered, at, level, count, bytes)?;
+    let below = find_below(buffered.file(), at, count, bytes, token)?;
+    Ok(below)
+}

@@ -1,0 +1,142 @@
+// Reads the pairs of a tree, one after another.
+ghost use Rattle.std.specs.Prelude.{◌≡◌, ◌⊎◌, ◌+◌, ◌-◌, ◌*◌, ◌/◌, ◌%◌, ◌^◌, ◌<◌, ◌≤◌, List, ℕ, length, IfErr, IfOk, IsSome, IsTrue, None, Some, false};
+ghost use Rattle.sasi_types.specs.declared.tree.Pair.{Pair};
+ghost use Rattle.sasi_host.specs.View.{contents, ReadsAtMost};
+ghost use Rattle.sasi_host.specs.Buffered.{unbuffered_pages};
+ghost use Rattle.sasi_host.specs.Damages.{HasAt, DamageShown, ShowsEnd};
+ghost use Rattle.sasi_host.specs.PageReading.{CanReadOn, HasReadOn};
+ghost use Rattle.sasi_tokentree.specs.Format.{pair_at, entry};
+ghost use Rattle.sasi_tokentree.specs.Damages.{IsNodeOf, ShownOf};
+ghost use Rattle.sasi_tokentree.specs.Heights.{height, bytes_below_root};
+ghost use Rattle.sasi_tokentree.specs.Reads.{NoFalseTreeDamage, NoFalsePairDamage, HasLevels};
+ghost use Rattle.sasi_tokentree.specs.Scans.{ReadsEntry, ReadsFirstPair, ReadsNextPair, IsEntryBuffered, pair_place};
+
+use crate::node_decode::{ENTRY_BYTES, NODE_HEADER_BYTES, number_in};
+use crate::seek::{count_below, size_below_root};
+use crate::node_layout::{MAX_ENTRIES, MAX_NODE_BYTES};
+use sasi_host::{BufferedFile, Host, PageReader, ReadFault, unexpected_end};
+use sasi_types::{Pair, Token, TreeRef};
+
+// No file is longer.
+const MAX_FILE_SIZE: u64 = 1 << 62;
+
+// No file has more pairs.
+const MAX_PAIRS: u64 = 1 << 58;
+
+// A pair, if there is one, and how many pairs the scan has then passed.
+#[derive(Clone, Copy)]
+pub struct ScannedPair {
+    pub pair: Option<Pair>,
+    pub passed: u64,
+}
+
+// Whether the tree is longer than a file can be.
+fn is_too_long(tree: TreeRef) -> bool
+    ensures long { IsTrue result → (2 ^ 62 < tree.root) ⊎ (2 ^ 58 < tree.pairs) }
+    ensures root { result ≡ false → tree.root ≤ 2 ^ 62 }
+    ensures pairs { result ≡ false → tree.pairs ≤ 2 ^ 58 }
+{
+    tree.root > MAX_FILE_SIZE || tree.pairs > MAX_PAIRS
+}
+
+// The offset of the first leaf of the tree.
+fn start_of(tree: TreeRef) -> u64
+    requires { tree.pairs ≤ 2 ^ 58 }
+    ensures is { result ≡ tree.root - bytes_below_root tree.pairs tree.pairs }
+    ensures before { result ≤ tree.root }
+{
+    tree.root.saturating_sub(size_below_root(tree.pairs as usize))
+}
+
+// The pair with this index, of leaves at this offset.
+fn read_pair<H: Host, P: PageReader>(
+    host: &mut H,
+    pages: &mut P,
+    buffered: &mut BufferedFile,
+    at: u64,
+    index: u64,
+) -> Result<Pair, ReadFault>
+    requires read { CanReadOn (P.agrees pages.old) (H.view host.old) buffered.old }
+    requires place { at + 17 * index < 2 ^ 63 + 2 ^ 59 }
+    ensures ok { IfOk result (λ pair. (bytes : List ℕ) (entries : List Pair) → contents (H.view host.old) buffered.old.file ≡ Some bytes → HasLevels bytes 0 at entries → index < length entries → pair ≡ pair_at entries index) }
+    ensures stands { IfOk result (λ pair. (bytes : List ℕ) → contents (H.view host.old) buffered.old.file ≡ Some bytes → HasAt bytes (at + 4088 * (index / 255) + (8 + 16 * (index % 255))) (entry pair)) }
+    ensures damaged { IfErr result (DamageShown (H.view host.old) buffered.old.file (ShowsEnd (at + 4088 * (index / 255) + (8 + 16 * (index % 255)) + 16) buffered.old.file)) }
+    ensures undamaged { IfErr result (NoFalsePairDamage (H.view host.old) buffered.old.file at index) }
+    ensures read { HasReadOn (P.agrees pages.new) (P.covers pages.old) (P.covers pages.new) (H.view host.old) (H.view host.new) buffered.old buffered.new }
+    ensures page { IfOk result (λ _. buffered.new.page ≡ Some ((at + 4088 * (index / 255) + (8 + 16 * (index % 255)) + 15) / 4096)) }
+    ensures causes { ReadsAtMost (unbuffered_pages buffered.old.page (at + 4088 * (index / 255) + (8 + 16 * (index % 255))) 16) (H.view host.old) (H.view host.new) result }
+{
+    let node = at + MAX_NODE_BYTES * (index / MAX_ENTRIES as u64);
+    let offset = NODE_HEADER_BYTES as u64 + ENTRY_BYTES as u64 * (index % MAX_ENTRIES as u64);
+    let mut bytes = [0; ENTRY_BYTES];
+    buffered.read_into(host, pages, node + offset, &mut bytes)?;
+    Ok(Pair {
+        token: number_in(&bytes[..8]),
+        place: number_in(&bytes[8..16]),
+    })
+}
+
+// The pair behind the passed ones.
+pub fn pair_from<H: Host, P: PageReader>(
+    host: &mut H,
+    pages: &mut P,
+    buffered: &mut BufferedFile,
+    tree: TreeRef,
+    passed: u64,
+) -> Result<ScannedPair, ReadFault>
+    requires read { CanReadOn (P.agrees pages.old) (H.view host.old) buffered.old }
+    ensures ok { IfOk result (λ found. ReadsNextPair (H.view host.old) buffered.old.file tree passed found.passed found.pair) }
+    ensures stands { IfOk result (λ found. ReadsEntry (H.view host.old) buffered.old.file tree found.passed found.pair) }
+    ensures damaged { IfErr result (ShownOf (IsNodeOf tree) (H.view host.old) buffered.old.file) }
+    ensures undamaged { IfErr result (NoFalseTreeDamage (H.view host.old) buffered.old.file tree) }
+    ensures read { HasReadOn (P.agrees pages.new) (P.covers pages.old) (P.covers pages.new) (H.view host.old) (H.view host.new) buffered.old buffered.new }
+    ensures entry_buffered { IfOk result (λ found. IsEntryBuffered (record { buffered = buffered.new; tree = tree; passed = found.passed }) found.pair) }
+    ensures none { IfOk result (λ found. found.pair ≡ None → (buffered.new ≡ buffered.old) × (found.passed ≡ passed)) }
+    ensures causes { ReadsAtMost (unbuffered_pages buffered.old.page (pair_place tree passed) 16) (H.view host.old) (H.view host.new) result }
+    ensures some { IfOk result (λ found. IsSome found.pair → found.passed ≡ passed + 1) }
+    ensures ended { tree.pairs ≤ passed → (H.view host.new).reads ≡ (H.view host.old).reads }
+{
+    if passed >= tree.pairs {
+        return Ok(ScannedPair { pair: None, passed });
+    }
+    if is_too_long(tree) {
+        return Err(unexpected_end(host, buffered.file()));
+    }
+    let pair = read_pair(host, pages, buffered, start_of(tree), passed)?;
+    Ok(ScannedPair {
+        pair: Some(pair),
+        passed: passed + 1,
+    })
+}
+
+// The first pair at or after the token.
+pub fn first_from<H: Host, P: PageReader>(
+    host: &mut H,
+    pages: &mut P,
+    buffered: &mut BufferedFile,
+    tree: TreeRef,
+    token: Token,
+) -> Result<ScannedPair, ReadFault>
+    requires read { CanReadOn (P.agrees pages.old) (H.view host.old) buffered.old }
+    ensures ok { IfOk result (λ found. ReadsFirstPair (H.view host.old) buffered.old.file tree token found.passed found.pair) }
+    ensures stands { IfOk result (λ found. ReadsEntry (H.view host.old) buffered.old.file tree found.passed found.pair) }
+    ensures damaged { IfErr result (ShownOf (IsNodeOf tree) (H.view host.old) buffered.old.file) }
+    ensures undamaged { IfErr result (NoFalseTreeDamage (H.view host.old) buffered.old.file tree) }
+    ensures read { HasReadOn (P.agrees pages.new) (P.covers pages.old) (P.covers pages.new) (H.view host.old) (H.view host.new) buffered.old buffered.new }
+    ensures entry_buffered { IfOk result (λ found. IsEntryBuffered (record { buffered = buffered.new; tree = tree; passed = found.passed }) found.pair) }
+    ensures causes { (most : ℕ) → tree.pairs ≤ most → ReadsAtMost (2 * height most tree.pairs + 2) (H.view host.old) (H.view host.new) result }
+{
+    if tree.pairs == 0 {
+        return Ok(ScannedPair {
+            pair: None,
+            passed: 0,
+        });
+    }
+    if is_too_long(tree) {
+        return Err(unexpected_end(host, buffered.file()));
+    }
+    let start = start_of(tree);
+    let below = count_below(host, pages, buffered, start, 0, tree.pairs as usize, token)?;
+    let found = pair_from(host, pages, buffered, tree, below.count as u64)?;
+    Ok(found)
+}
