@@ -19,8 +19,8 @@ use Rattle.sasi_body.specs.Faults.{IsFaultOf, IsOutOfMemory}
 use Rattle.sasi_host.specs.Damages.{seen_bytes}
 use Rattle.sasi_body.specs.declared.fault.BodyFault.{BodyFault}
 use Rattle.sasi_body.specs.declared.fault.BodyFault.TheVariants as fault
-use Rattle.sasi_body.specs.Laws.Unique.{bodies_same}
-use Rattle.sasi_body.specs.Laws.Undamaged.{no_break, no_other_length}
+use Rattle.sasi_body.proofs.Laws.Unique.{bodies_same}
+use Rattle.sasi_body.proofs.Laws.Undamaged.{no_break, no_other_length}
 
 -- a reader that went over a key and a partition stands behind their body
 pub body_passed : (key : Bytes) (part : Partition) (start between end : Reading) → ReadsField (key_bytes key) start between → ReadsField (part_bytes part) between end → start.left ≡ body key part ++ end.left

@@ -1,3 +1,4 @@
+pub mod Laws
 pub mod Bodies
 pub mod Cells
 pub mod Exits

@@ -4,4 +4,3 @@ pub mod Prefixes
 pub mod Damages
 pub mod Faults
 pub mod Reads
-pub mod Laws

@@ -10,6 +10,6 @@ mod read;
 mod typed;
 mod value;
 
-pub use fault::{BodyFault, BodyDamage, body_damage};
+pub use fault::{BodyDamage, BodyFault, body_damage};
 pub use put::put_body;
 pub use read::read_body;

@@ -1,3 +1,4 @@
+pub mod Laws
 mod MergedSorted
 mod Merges
 mod Positions

@@ -11,8 +11,8 @@ use Rattle.std.specs.FinMap as map
 use Rattle.sasi_types.specs.declared.cell.Cell.{Cell}
 use Rattle.sasi_model.specs.Cells.{newest, newest_of, unshadowed, merge}
 use Rattle.sasi_cells.specs.Entries.{Entry, merged_sorted, is_above, unshadowed_entries, partition_of}
-use Rattle.sasi_cells.specs.Laws.Sorted.{both, first, second, equal_columns, find_below}
-use Rattle.sasi_cells.specs.Laws.Merged.{get_merge, deleted_merge, same_partition}
+use Rattle.sasi_cells.proofs.Laws.Sorted.{both, first, second, equal_columns, find_below}
+use Rattle.sasi_cells.proofs.Laws.Merged.{get_merge, deleted_merge, same_partition}
 
 -- ---- the columns rise
 

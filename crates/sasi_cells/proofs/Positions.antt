@@ -14,7 +14,7 @@ use Rattle.std.proofs.lemmas.List.Sorted.{IsNonDecreasingBy-from_default}
 use Rattle.sasi_types.specs.declared.cell.Cell.{Cell}
 use Rattle.sasi_cells.specs.Entries.{Entry}
 use Rattle.sasi_cells.specs.Positions.{IsColumnAt, IsGapFor}
-use Rattle.sasi_cells.specs.Laws.Sorted.{first, second, find_first}
+use Rattle.sasi_cells.proofs.Laws.Sorted.{first, second, find_first}
 
 -- ---- orders of two columns
 

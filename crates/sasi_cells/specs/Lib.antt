@@ -5,4 +5,3 @@ pub mod Changes
 pub mod Mutations
 pub mod Rows
 pub mod Typed
-pub mod Laws

@@ -1,12 +1,12 @@
 // Mutations.
 use crate::Partition;
-use sasi_types::Key;
+use sasi_types::{Key, TableNumber};
 
 /// The change of one partition of a table.
 #[derive(Debug, Drop)]
 pub struct Mutation {
     /// The number of the table.
-    pub table: u32,
+    pub table: TableNumber,
     pub key: Key,
     pub change: Partition,
 }

@@ -7,10 +7,10 @@ use Rattle.std.specs.List.{AllByRecursion}
 use Rattle.sasi_host.specs.Names.{Bytes, log_name}
 use Rattle.sasi_types.specs.declared.column.ColumnType.{ColumnType}
 use Rattle.sasi_model.specs.Cells.{Partition}
-use Rattle.sasi_gated.specs.Laws.{records_same}
+use Rattle.sasi_gated.proofs.Laws.{records_same}
 use Rattle.sasi_body.specs.Format.{body}
 use Rattle.sasi_body.specs.Typed.{IsBodyOf}
-use Rattle.sasi_body.specs.Laws.Unique.{parts_same, bodies_same}
+use Rattle.sasi_body.proofs.Laws.Unique.{parts_same, bodies_same}
 use Rattle.sasi_cells.specs.declared.mutation.Mutation.{Mutation}
 use Rattle.sasi_commitlog.specs.Format.{payload_of, types_in, Tables, IsMutationOf, IsLog}
 

@@ -10,8 +10,8 @@ use Rattle.sasi_body.specs.declared.fault.BodyFault.TheVariants as fault
 use Rattle.sasi_body.specs.Format.{body}
 use Rattle.sasi_body.specs.Typed.{IsBodyOf}
 use Rattle.sasi_body.specs.Faults.{IsFaultOf}
-use Rattle.sasi_body.specs.Laws.Undamaged.{no_break, no_other_length}
-use Rattle.sasi_body.specs.Laws.Lengths.{place_within}
+use Rattle.sasi_body.proofs.Laws.Undamaged.{no_break, no_other_length}
+use Rattle.sasi_body.proofs.Laws.Lengths.{place_within}
 use Rattle.sasi_cells.specs.declared.mutation.Mutation.{Mutation}
 use Rattle.sasi_commitlog.specs.Format.{payload_of, types_in, Tables, IsMutationOf}
 use Rattle.sasi_commitlog.specs.Damages.{IsOfTable, PayloadBreaks, PayloadHasOtherLength, IsPayloadFault}

@@ -6,7 +6,7 @@ ghost use Rattle.sasi_commitlog.specs.Format.{Tables};
 ghost use Rattle.sasi_commitlog.specs.Damages.{IsPayloadFault};
 ghost use Rattle.sasi_commitlog.specs.Faults.{IsFaultShifted, IsWithin, IsRecordFault};
 
-use sasi_body::{BodyFault, BodyDamage, body_damage};
+use sasi_body::{BodyDamage, BodyFault, body_damage};
 use sasi_host::{Damage, FileName, FormatRule, ReadFault};
 
 // Shifts the offset of a fault of the body past the number of the table.
@@ -38,7 +38,11 @@ pub fn fault_in_file(file: FileName, gate: u64, payload: &[u8], fault: BodyFault
         BodyFault::OutOfMemory => ReadFault::OutOfMemory,
         BodyFault::OtherLength => {
             let bytes = (payload.len() as u32).to_be_bytes();
-            ReadFault::Damaged(damage_at(file, gate + 1, body_damage(FormatRule::Number, 0, &bytes)))
+            ReadFault::Damaged(damage_at(
+                file,
+                gate + 1,
+                body_damage(FormatRule::Number, 0, &bytes),
+            ))
         }
         BodyFault::Damaged(broken) => {
             ReadFault::Damaged(damage_at(file, gate + 5 + broken.at as u64, broken))

@@ -14,7 +14,7 @@ ghost use Rattle.sasi_commitlog.specs.Reads.{GainsMutation, IsLogDamageAt, IsRea
 use crate::Mutation;
 use crate::segment::{append, read_next};
 use sasi_gated::Gated;
-use sasi_host::{FileName, Host, HostFault, ReadFault};
+use sasi_host::{FileName, Host, HostFault, ReadFault, SegmentNumber};
 use sasi_types::TableTypes;
 use std::alloc::Global;
 use std::marker::Model;
@@ -47,7 +47,11 @@ impl Log {
     }
 
     /// Creates the empty segment with this number, and syncs it and the folder. The log is then at the closed gate.
-    pub fn create<H: Host>(alloc: Global, host: &mut H, number: u32) -> Result<Log, HostFault>
+    pub fn create<H: Host>(
+        alloc: Global,
+        host: &mut H,
+        number: SegmentNumber,
+    ) -> Result<Log, HostFault>
         requires { IsAbsent (H.view host.old) (log_name number) }
         ensures ok { IfOk result (λ log. IsAtLogEnd (H.view host.new) (log_name number) log.at []) }
         ensures changes { Changes (FileChange (log_name number) AnyChange) (H.view host.old) (H.view host.new) }
@@ -65,7 +69,11 @@ impl Log {
     }
 
     /// Opens the segment with this number. The first mutation is next.
-    pub fn open<H: Host>(alloc: Global, host: &mut H, number: u32) -> Result<Log, ReadFault>
+    pub fn open<H: Host>(
+        alloc: Global,
+        host: &mut H,
+        number: SegmentNumber,
+    ) -> Result<Log, ReadFault>
         requires { IsThere (H.view host.old) (log_name number) }
         ensures header { IfOk result (λ log. HasHeader (H.view host.old) (log_name number) log.at) }
         ensures mutations { IfOk result (λ log. (tables : Tables) (bytes : Bytes) (mutations : List Mutation) → IsFileDurable (H.view host.old) (log_name number) bytes → IsLog number tables bytes mutations

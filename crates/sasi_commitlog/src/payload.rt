@@ -11,7 +11,7 @@ use crate::tables::types_of;
 use sasi_body::{BodyFault, body_damage, put_body, read_body};
 use sasi_fields::{FieldReader, put_u32};
 use sasi_host::FormatRule;
-use sasi_types::TypeList;
+use sasi_types::{TableNumber, TypeList};
 use std::alloc::{AllocError, Global};
 
 // Appends the number of the table, and the body.
@@ -27,7 +27,7 @@ pub fn put_mutation(out: &mut Vec<u8>, mutation: &Mutation) -> Result<(), AllocE
 pub fn read_mutation(
     alloc: Global,
     payload: &[u8],
-    tables: &[(u32, TypeList)],
+    tables: &[(TableNumber, TypeList)],
 ) -> Result<Mutation, BodyFault>
     requires { length payload.now ≤ 2 ^ 30 }
     ensures bytes { IfOk result (λ mutation. payload.now ≡ payload_of mutation) }

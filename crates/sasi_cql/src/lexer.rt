@@ -4,9 +4,9 @@ ghost use Rattle.sasi_model.specs.Tokens.{lexeme, name_lexeme, other_lexeme, quo
 ghost use Rattle.sasi_cql.specs.ModelTokens.{IsLexeme, model_token, quoted_size};
 
 use crate::byte::{is_digit, is_letter, is_word_byte, starts, starts_digit, starts_word};
-use crate::separator::separator;
 use crate::integer::{negative_integer, positive_integer};
 use crate::quoted::string_size;
+use crate::separator::separator;
 use crate::token::Token;
 use std::alloc::{AllocError, Global};
 use uuid::Uuid;

@@ -5,7 +5,6 @@
 mod byte;
 mod fault;
 mod front;
-mod separator;
 mod grammar;
 mod integer;
 mod item;
@@ -16,6 +15,7 @@ mod mode;
 mod parser;
 mod part;
 mod quoted;
+mod separator;
 mod splitter;
 mod stage;
 mod token;

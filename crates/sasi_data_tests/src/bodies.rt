@@ -1,5 +1,5 @@
 // Bodies: their bytes, what is read of each front of one, and where others break the format.
-use sasi_body::{BodyFault, BodyDamage, put_body, read_body};
+use sasi_body::{BodyDamage, BodyFault, put_body, read_body};
 use sasi_cells::Partition;
 use sasi_host::FormatRule;
 use sasi_types::{ColumnType, TypeList};

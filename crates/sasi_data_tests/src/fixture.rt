@@ -79,7 +79,7 @@ pub fn push<O: FlushObserver>(
 pub fn begin(rt: &impl Abort, alloc: Global, host: &mut MemHost) -> DataWriter
     ensures none { (last_pair result.pairs).token ≡ 0 }
     ensures partitioner { result.partitioner ≡ Lead8 }
-    ensures room { Reaches (host_view (seen host.new)) result.file result.place }
+    ensures room { Reaches (host_view (seen host.new)) result.file result.offset }
     ensures usable { IsTrue result.usable }
 {
     assert!(rt; host.bytes(DATA).is_none());

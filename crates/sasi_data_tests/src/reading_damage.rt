@@ -78,7 +78,7 @@ const DAMAGES: [(usize, usize, usize, usize, FormatRule); 28] = [
     (92, 93, 60, 61, FormatRule::Number),
     (93, 100, 0, 0, FormatRule::Short),
     (100, 101, 93, 101, FormatRule::Number),
-    (109, 116, 109, 117, FormatRule::DecoratedKey),
+    (109, 116, 109, 117, FormatRule::Place),
     (116, 117, 16, 20, FormatRule::Number),
     (117, 125, 117, 125, FormatRule::Magic),
 ];

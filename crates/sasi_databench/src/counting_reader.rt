@@ -8,11 +8,11 @@ pub struct CountingReader {
 }
 
 impl PageReader for CountingReader {
-    ghost agrees = { λ _ _. Unit {0} };
+    ghost keeps = { λ _ _ _ _ _ _. tt };
 
     ghost covers = { λ _ _. ⊥ };
 
-    ghost keeps = { λ _ _ _ _ _ _. tt };
+    ghost agrees = { λ _ _. Unit {0} };
 
     fn page<H: Host>(
         &mut self,

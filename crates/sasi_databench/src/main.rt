@@ -1,5 +1,5 @@
 //! Measures a data file of many partitions in a real folder: writes it, and then scans it or looks up each of its keys. The
-//! arguments are the folder, the number of partitions, and write, walk or find. It prints how many partitions were given and
+//! arguments are the folder, the number of partitions, and write, scan or find. It prints how many partitions were given and
 //! how many pages were read.
 #![tactic(auto)]
 
@@ -8,7 +8,7 @@ mod counting_reader;
 mod measured;
 
 use counting_reader::CountingReader;
-use measured::{NUMBER, find_all, walk_all, write_all};
+use measured::{NUMBER, find_all, scan_all, write_all};
 use sasi_dataread::DataFile;
 use sasi_datawrite::PairFault;
 use sasi_filehost::FileHost;
@@ -30,7 +30,7 @@ fn run(rt: HostRuntime, folder: &str, count: u64, what: &str) -> Result<(u64, u6
         &content::types(alloc)?,
     )?;
     let given = match what {
-        "walk" => walk_all(alloc, &mut host, &mut pages, &opened)?,
+        "scan" => scan_all(alloc, &mut host, &mut pages, &opened)?,
         "find" => find_all(alloc, &mut host, &mut pages, &opened)?,
         _ => 0,
     };

@@ -56,16 +56,16 @@ pub fn write_all(alloc: Global, host: &mut FileHost, count: u64) -> Result<DataR
 }
 
 /// How many partitions a scan gives.
-pub fn walk_all(
+pub fn scan_all(
     alloc: Global,
     host: &mut FileHost,
     pages: &mut CountingReader,
     opened: &DataFile,
 ) -> Result<u64, ReadFault> {
-    let mut walk = opened.walk(alloc)?;
+    let mut scan = opened.walk(alloc)?;
     let mut count = 0u64;
     for _turn in 0..u64::MAX {
-        if walk.next(alloc, host, pages)?.is_none() {
+        if scan.next(alloc, host, pages)?.is_none() {
             break;
         }
         count = count.saturating_add(1);

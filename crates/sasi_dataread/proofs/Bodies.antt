@@ -15,13 +15,13 @@ use Rattle.sasi_body.specs.declared.fault.BodyFault.TheVariants as body_fault
 use Rattle.sasi_body.specs.Format.{body, key_bytes, part_bytes}
 use Rattle.sasi_body.specs.Faults.{IsFaultOf}
 use Rattle.sasi_body.specs.Typed.{IsBodyOf}
-use Rattle.sasi_body.specs.Laws.Lengths.{body_short, place_within}
+use Rattle.sasi_body.proofs.Laws.Lengths.{body_short, place_within}
 use Rattle.sasi_host.specs.Disk.{Changes, Same}
 use Rattle.sasi_host.specs.Contents.{contents_same}
 use Rattle.sasi_host.specs.Damages.{HasAt, DamageShown, ShowsEnd, TellsSize}
 use Rattle.sasi_host.specs.Buffered.{unbuffered_pages}
-use Rattle.sasi_host.specs.Offsets.{at_ends, same_at, first_at, second_at, both_at, window_at}
-use Rattle.sasi_host.specs.DamageLaws.{shown_as}
+use Rattle.sasi_host.proofs.Offsets.{at_ends, same_at, first_at, second_at, both_at, window_at}
+use Rattle.sasi_host.proofs.DamageLaws.{shown_as}
 use Rattle.sasi_dataread.specs.Damages.{ShowsPartition}
 use Rattle.sasi_dataread.specs.Damages.ShowsPartition.{no_length, no_body}
 use Rattle.sasi_dataread.specs.Bodies.{length_prefixed, partition_reads, IsLength, IsWithinBody, NoFalseLengthDamage, NoFalseBytesDamage, NoFalseBodyDamage}

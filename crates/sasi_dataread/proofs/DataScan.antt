@@ -15,11 +15,11 @@ use Rattle.sasi_types.specs.Token.{token_of}
 use Rattle.sasi_model.specs.Cells.{Partition}
 use Rattle.sasi_tokentree.specs.Format.{entry, HasTree}
 use Rattle.sasi_tokentree.specs.Sizes.{entry_length}
-use Rattle.sasi_host.specs.Offsets.{at_ends}
+use Rattle.sasi_host.proofs.Offsets.{at_ends}
 use Rattle.std.specs.Int.{to_be_bytes, w32}
 use Rattle.sasi_host.specs.Damages.{DamageShown}
 use Rattle.sasi_tokentree.specs.Damages.{ShowsTree}
-use Rattle.sasi_host.specs.DamageLaws.{shown_as}
+use Rattle.sasi_host.proofs.DamageLaws.{shown_as}
 use Rattle.sasi_tokentree.specs.Reads.{NoFalseTreeDamage}
 use Rattle.sasi_tokentree.specs.Scans.{ReadsEntry, ReadsNextPair, IsEntryBuffered, StepsToPair, PairScan, pair_place}
 use Rattle.sasi_body.specs.Format.{body}
@@ -33,7 +33,7 @@ use Rattle.sasi_dataread.specs.Damages.{ShowsData, ShowsPartition}
 use Rattle.sasi_dataread.specs.Damages.ShowsData.{in_tree, in_partition}
 use Rattle.sasi_dataread.specs.Reads.{ReadsPartition, IsOpenOn, NoFalsePartitionDamage}
 use Rattle.sasi_dataread.specs.Scans.{TokensFit, NoFalseOpenedDamage}
-use Rattle.sasi_dataread.specs.Pairs.{has_tree, nth, nth_stands, nth_token, left_behind}
+use Rattle.sasi_dataread.proofs.Pairs.{has_tree, nth, nth_stands, nth_token, left_behind}
 
 -- no file is longer
 abbrev pub IsShort : View → FileName → Type 0

@@ -27,15 +27,15 @@ use Rattle.sasi_tokentree.specs.Format.{pair_at}
 use Rattle.sasi_tokentree.specs.Heights.{height}
 use Rattle.sasi_tokentree.specs.Reads.{CountsBelow}
 use Rattle.sasi_tokentree.specs.Scans.{ReadsEntry, ReadsFirstPair, IsEntryBuffered, StepsToPair, PairScan, pair_place}
-use Rattle.sasi_tokentree.specs.EntryPages.{next_entry_cost}
+use Rattle.sasi_tokentree.proofs.EntryPages.{next_entry_cost}
 use Rattle.sasi_datawrite.specs.Format.{Content, header, key_pairs, pairs_from, partition_bytes, partitions, decorated_key}
-use Rattle.sasi_datawrite.specs.Laws.{pairs_length}
+use Rattle.sasi_datawrite.proofs.Laws.{pairs_length}
 use Rattle.sasi_dataread.specs.Opened.{Opened, StandsAt}
 use Rattle.sasi_dataread.specs.Reads.{IsOpenOn, ReadsWithin, NoFalsePartitionDamage}
 use Rattle.sasi_dataread.specs.Bodies.{partition_pages}
 use Rattle.sasi_dataread.specs.Scans.{TokensFit, NoFalseOpenedDamage}
 use Rattle.sasi_dataread.specs.Finds.{partition_of, token_reads, LeadsTo, ReadsPartitionOfKey}
-use Rattle.sasi_dataread.specs.Pairs.{nth, nth_stands, as_many_left, left_behind, none_left, less_token}
+use Rattle.sasi_dataread.proofs.Pairs.{nth, nth_stands, as_many_left, left_behind, none_left, less_token}
 use Rattle.sasi_dataread.proofs.ReadChains.{causes_within, passes_none, passes_on}
 use Rattle.sasi_dataread.proofs.DataScan.{IsShort, open_same, tree_there}
 

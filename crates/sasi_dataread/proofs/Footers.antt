@@ -18,10 +18,10 @@ use Rattle.sasi_types.specs.declared.column.ColumnType.{ColumnType}
 use Rattle.sasi_types.specs.declared.partitioner.Partitioner.{Partitioner}
 use Rattle.sasi_types.specs.declared.tree.TreeRef.{TreeRef}
 use Rattle.sasi_host.specs.Damages.{HasAt, Differs, IsOther, DamageShown, ShowsEnd}
-use Rattle.sasi_host.specs.Offsets.{at_ends, at_window, differs_in, inner_at, same_at, window_at}
+use Rattle.sasi_host.proofs.Offsets.{at_ends, at_window, differs_in, inner_at, same_at, window_at}
 use Rattle.sasi_datawrite.specs.Format.{Content, header, footer, front, content_max_timestamp}
 use Rattle.sasi_datawrite.specs.Files.{IsDataFile}
-use Rattle.sasi_datawrite.specs.Laws.{header_length}
+use Rattle.sasi_datawrite.proofs.Laws.{header_length}
 use Rattle.sasi_dataread.specs.Reads.{NoFalseDataDamage}
 use Rattle.sasi_dataread.specs.Laws.{AreInRange, in_range, tree_of, footer_of, footer_length, header_stands, footer_stands, least_size}
 use Rattle.sasi_dataread.specs.Damages.{HeaderOrFooterBreaks, ShowsHeaderOrFooter, end_mark, magic}

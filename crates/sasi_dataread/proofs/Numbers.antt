@@ -4,7 +4,7 @@ use Rattle.std.proofs.lemmas.Nat.{from_be_bytes-to_be_bytes_4, from_be_bytes-to_
 use Rattle.std.specs.Int.{to_be_bytes, from_be_bytes, w32, w64}
 use Rattle.sasi_host.specs.Names.{Bytes}
 use Rattle.sasi_host.specs.Damages.{HasAt}
-use Rattle.sasi_host.specs.Offsets.{same_at}
+use Rattle.sasi_host.proofs.Offsets.{same_at}
 
 pub same_32 : (n m : ℕ) → n < 2 ^ 32 → m < 2 ^ 32 → to_be_bytes w32 n ≡ to_be_bytes w32 m → n ≡ m
 same_32 n m n_fits m_fits same = sym (from_be_bytes-to_be_bytes_4 n n_fits) ∙ ap (from_be_bytes w32) same ∙ from_be_bytes-to_be_bytes_4 m m_fits

@@ -12,12 +12,12 @@ use Rattle.sasi_types.specs.declared.tree.TreeRef.{TreeRef}
 use Rattle.sasi_model.specs.Cells.{Partition}
 use Rattle.sasi_body.specs.Format.{body}
 use Rattle.sasi_body.specs.Typed.{IsBodyOf}
-use Rattle.sasi_body.specs.Laws.Unique.{bodies_same}
-use Rattle.sasi_body.specs.Laws.Lengths.{body_short}
+use Rattle.sasi_body.proofs.Laws.Unique.{bodies_same}
+use Rattle.sasi_body.proofs.Laws.Lengths.{body_short}
 use Rattle.sasi_host.specs.declared.name.FileName.{FileName}
 use Rattle.sasi_host.specs.Damages.{HasAt, DamageShown}
 use Rattle.sasi_dataread.specs.Damages.{ShowsPartition}
-use Rattle.sasi_host.specs.Offsets.{same_at}
+use Rattle.sasi_host.proofs.Offsets.{same_at}
 use Rattle.sasi_datawrite.specs.Format.{Content, footer, front, content_max_timestamp}
 use Rattle.sasi_datawrite.specs.Files.{IsDataFile}
 use Rattle.sasi_dataread.specs.Opened.{Opened, StandsAt}

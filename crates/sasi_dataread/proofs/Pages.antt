@@ -9,7 +9,7 @@ use Rattle.sasi_host.specs.Names.{Bytes}
 use Rattle.sasi_body.specs.Format.{body}
 use Rattle.sasi_tokentree.specs.Scans.{PairScan, pair_place}
 use Rattle.sasi_datawrite.specs.Format.{Content, front, header, partition_bytes, partitions}
-use Rattle.sasi_datawrite.specs.Laws.{partition_length}
+use Rattle.sasi_datawrite.proofs.Laws.{partition_length}
 use Rattle.sasi_dataread.specs.Opened.{Opened}
 use Rattle.sasi_dataread.specs.Bodies.{partition_reads}
 use Rattle.sasi_dataread.specs.ReadCosts.{reached, scan_of, IsSequential, ReadsEachPageOnce}

@@ -16,11 +16,11 @@ use Rattle.sasi_body.specs.Typed.{IsBodyOf}
 use Rattle.sasi_cells.specs.Entries.{Entry}
 use Rattle.sasi_tokentree.specs.Format.{tree_bytes, tree_ref, levels, level_bytes, size, top, above}
 use Rattle.sasi_tokentree.specs.Sizes.{level_length, one_level, more_levels}
-use Rattle.sasi_tokentree.specs.Heights.{top_is, lead_short}
+use Rattle.sasi_tokentree.specs.Heights.{top_is, below_root_short}
 use Rattle.sasi_host.specs.Damages.{HasAt}
 use Rattle.sasi_datawrite.specs.Format.{Content, IsContent, header, footer, front, trailer, content_max_timestamp, key_pairs, partition_bytes, partitions, data_bytes}
 use Rattle.sasi_datawrite.specs.Files.{IsDataFile}
-use Rattle.sasi_datawrite.specs.Laws.{header_length, partition_length, pairs_length}
+use Rattle.sasi_datawrite.proofs.Laws.{header_length, partition_length, pairs_length}
 use Rattle.sasi_dataread.specs.Opened.{StandsAt}
 use Rattle.sasi_dataread.specs.Bodies.{length_prefixed}
 
@@ -186,7 +186,7 @@ pub pairs_are : (partitioner : Partitioner) (content : Content) → (tree_of par
 pairs_are partitioner content = count_is partitioner content
 
 root_is : (at n : ℕ) → 0 < n → top n at n ≤ at + 17 * n
-root_is at n some = omega (arith, top_is n at n some (omega arith), lead_short n n (omega arith))
+root_is at n some = omega (arith, top_is n at n some (omega arith), below_root_short n n (omega arith))
 
 times_fit : (deleted : ℕ) (entries : List Entry) → AllByRecursion (IsCell deleted) entries → max_timestamp_in (map (λ e. e.1) entries) ≤ 2 ^ 62
 times_fit deleted [] all = omega arith

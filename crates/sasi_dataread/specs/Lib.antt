@@ -6,5 +6,4 @@ pub mod Laws
 pub mod HeaderAndFooter
 pub mod Scans
 pub mod ReadCosts
-pub mod Pairs
 pub mod Finds

@@ -27,7 +27,7 @@ use crate::footer::read_footer;
 use crate::partition::partition_at;
 use crate::types::copy_types;
 use sasi_cells::Partition;
-use sasi_host::{FileName, BufferedFile, Host, PageReader, ReadFault};
+use sasi_host::{BufferedFile, FileName, Host, PageReader, ReadFault};
 use sasi_tokentree::Tree;
 use sasi_types::{Key, Token, TreeRef, TypeList};
 use std::alloc::{AllocError, Global};

@@ -15,7 +15,7 @@ ghost use Rattle.sasi_dataread.specs.HeaderAndFooter.{HasHeaderAndFooter, NoFals
 
 use sasi_fields::FieldReader;
 use sasi_host::{
-    Damage, FileName, FormatRule, BufferedFile, Host, PageReader, ReadFault, check_part, found,
+    BufferedFile, Damage, FileName, FormatRule, Host, PageReader, ReadFault, check_part, found,
 };
 use sasi_types::TreeRef;
 

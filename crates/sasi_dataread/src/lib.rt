@@ -3,10 +3,10 @@
 #![tactic(auto)]
 
 mod data_file;
+mod file_bytes;
 mod find;
 mod footer;
 mod partition;
-mod file_bytes;
 mod types;
 mod walk;
 

@@ -22,7 +22,7 @@ use sasi_body::{BodyFault, read_body};
 use sasi_cells::Partition;
 use sasi_fields::FieldReader;
 use sasi_host::{
-    Damage, FileName, FormatRule, BufferedFile, Host, PageReader, ReadFault, found, unexpected_end,
+    BufferedFile, Damage, FileName, FormatRule, Host, PageReader, ReadFault, found, unexpected_end,
 };
 use sasi_types::{Key, TypeList};
 use std::alloc::Global;

@@ -14,7 +14,7 @@ ghost use Rattle.sasi_dataread.specs.Scans.{ReadsNextPartition, TokensFit, NoFal
 
 use crate::DataFile;
 use sasi_cells::Partition;
-use sasi_host::{FileName, BufferedFile, Host, PageReader, ReadFault};
+use sasi_host::{BufferedFile, FileName, Host, PageReader, ReadFault};
 use sasi_tokentree::Tree;
 use sasi_types::{Key, Token};
 use std::alloc::Global;
@@ -47,7 +47,11 @@ impl Walk {
     {
         let tree = opened.tree();
         let buffered = opened.buffered_file();
-        Walk { opened, tree, buffered }
+        Walk {
+            opened,
+            tree,
+            buffered,
+        }
     }
 
     /// The next partition, with the token of its key; None exactly at the end. After a fault its position is before that

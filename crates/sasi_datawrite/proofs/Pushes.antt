@@ -11,7 +11,7 @@ use Rattle.sasi_host.specs.View.{View, Holds}
 use Rattle.sasi_tokentree.specs.Format.{pair_at, IsBefore, IsRising}
 use Rattle.sasi_datawrite.specs.Format.{Content, partition_bytes, front, header, partitions, key_pairs, content_max_timestamp, trailer, data_bytes}
 use Rattle.sasi_datawrite.specs.Writing.{Writer, IsWriting, RiseBelow, last_pair}
-use Rattle.sasi_datawrite.specs.Laws.{front_push, pairs_push, content_max_timestamp_push}
+use Rattle.sasi_datawrite.proofs.Laws.{front_push, pairs_push, content_max_timestamp_push}
 
 -- ---- its bytes
 

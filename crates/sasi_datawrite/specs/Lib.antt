@@ -3,4 +3,3 @@ pub mod Files
 pub mod Calls
 pub mod Writing
 pub mod Causes
-pub mod Laws

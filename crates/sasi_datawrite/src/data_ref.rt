@@ -1,9 +1,10 @@
 // References to data files, as a manifest lists them.
 
+use sasi_host::DataNumber;
 /// A data file that was written.
 #[derive(Clone, Copy, Debug, PartialEq, Eq)]
 pub struct DataRef {
-    pub number: u32,
+    pub number: DataNumber,
     /// The number of partitions.
     pub partitions: u64,
     /// The largest timestamp of a deletion or a cell.

@@ -3,13 +3,13 @@
 #![tactic(auto)]
 
 mod data_ref;
-mod trailer;
 mod fault;
 mod header;
+mod notify;
 mod observer;
 mod partition;
 mod push;
-mod notify;
+mod trailer;
 mod writer;
 
 pub use data_ref::DataRef;

@@ -39,7 +39,11 @@ fn notify_cells<O: FlushObserver>(
     Ok(())
 }
 
-fn notify_cell<O: FlushObserver>(alloc: Global, watch: &mut O, entry: &Entry) -> Result<(), KitFault>
+fn notify_cell<O: FlushObserver>(
+    alloc: Global,
+    watch: &mut O,
+    entry: &Entry,
+) -> Result<(), KitFault>
     ensures agrees { OnOk result ((calls : List Call) → O.agrees watch.old calls → O.agrees watch.new (calls ++ cell_call entry.now ∷ [])) }
     ensures lacks { (class : Class) → O.lacks watch.new class → O.lacks watch.old class }
     ensures missing { MissingOnlyIfLacking (O.lacks watch.old) result }

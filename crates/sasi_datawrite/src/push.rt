@@ -9,8 +9,8 @@ ghost use Rattle.sasi_datawrite.specs.Format.{partition_bytes};
 ghost use Rattle.sasi_datawrite.specs.Calls.{Call, partition_calls};
 ghost use Rattle.sasi_datawrite.specs.Causes.{PushCauses};
 
-use crate::partition::write_partition;
 use crate::notify::notify;
+use crate::partition::write_partition;
 use crate::{FlushObserver, PairFault};
 use sasi_cells::Partition;
 use sasi_host::{FileName, Host};

@@ -47,7 +47,12 @@ fn append<H: Host>(host: &mut H, file: FileName, more: &[u8]) -> Result<(), Host
 }
 
 #[tactic(auto, unfolding(crate::specs::Format::footer))]
-fn footer_bytes(alloc: Global, tree: TreeRef, max_timestamp: u64, end: u64) -> Result<Vec<u8>, AllocError>
+fn footer_bytes(
+    alloc: Global,
+    tree: TreeRef,
+    max_timestamp: u64,
+    end: u64,
+) -> Result<Vec<u8>, AllocError>
     ensures { IfOk result (λ bytes. bytes.items ≡ footer tree max_timestamp end) }
 {
     let mut bytes = Vec::new(alloc);

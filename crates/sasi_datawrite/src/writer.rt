@@ -11,12 +11,12 @@ ghost use Rattle.sasi_datawrite.specs.Calls.{Call, partition_calls};
 ghost use Rattle.sasi_datawrite.specs.Causes.{PushCauses};
 ghost use Rattle.sasi_datawrite.specs.Writing.{IsWriting, last_pair};
 
-use crate::trailer::write_trailer;
 use crate::header::{HEADER_LENGTH, put_header};
 use crate::push::push_partition;
+use crate::trailer::write_trailer;
 use crate::{DataRef, FlushObserver, PairFault};
 use sasi_cells::Partition;
-use sasi_host::{Failed, FileName, Host, HostFault};
+use sasi_host::{DataNumber, Failed, FileName, Host, HostFault};
 use sasi_types::{Key, Pair, PairList, Partitioner};
 use std::alloc::Global;
 use std::marker::Model;
@@ -48,7 +48,7 @@ impl DataWriter {
     pub fn begin<H: Host>(
         alloc: Global,
         host: &mut H,
-        number: u32,
+        number: DataNumber,
         partitioner: Partitioner,
     ) -> Result<DataWriter, HostFault>
         requires { IsAbsent (H.view host.old) (data_name number) }
@@ -126,7 +126,14 @@ impl DataWriter {
         ensures causes { ListCauses (H.view host.old) (H.view host.new) result }
     {
         let alloc = *self.buffer.allocator();
-        write_trailer(alloc, host, self.file, self.offset, &self.pairs, self.max_timestamp)?;
+        write_trailer(
+            alloc,
+            host,
+            self.file,
+            self.offset,
+            &self.pairs,
+            self.max_timestamp,
+        )?;
         Ok(DataRef {
             number: self.file.number,
             partitions: self.pairs.as_slice().len() as u64,

@@ -1,9 +1,4 @@
 pub mod Replay
 pub mod Stands
 pub mod Damages
-pub mod ReplayLaws
-pub mod FolderLaws
-pub mod FolderChanges
-pub mod Creating
 pub mod DurableStore
-pub mod Recording

@@ -14,7 +14,7 @@ use Rattle.sasi_gated.specs.Gates.{IsAtGate}
 use Rattle.sasi_gated.specs.AtGate.{BeginsRecord}
 use Rattle.sasi_gated.specs.Damages.{EndsEarly, IsTruncated, Breaks, IsGatedDamage, TellsSize}
 use Rattle.sasi_host.specs.Damages.{seen_bytes}
-use Rattle.sasi_gated.specs.Laws.{frame_is}
+use Rattle.sasi_gated.proofs.Laws.{frame_is}
 use Rattle.sasi_gated.proofs.Windows.{window, window_length, nothing_more}
 
 -- a file that ends too early shows it by its size

@@ -8,7 +8,7 @@ use Rattle.sasi_host.specs.Disk.{IsFileDurable}
 use Rattle.sasi_gated.specs.Format.{header, frame, new_file, IsPayload}
 use Rattle.sasi_gated.specs.Gates.{IsAtGate}
 use Rattle.sasi_gated.specs.Handles.{IsAtEnd}
-use Rattle.sasi_gated.specs.Laws.{at_first_gate, at_next_gate, header_length, frame_length}
+use Rattle.sasi_gated.proofs.Laws.{at_first_gate, at_next_gate, header_length, frame_length}
 
 -- the closed gate is the last byte
 pub new_file_gate : (file : FileName) (first : Option Bytes) → IfSome first IsPayload

@@ -4,7 +4,7 @@ use Rattle.std.proofs.lemmas.List.{take_at, drop_at}
 use Rattle.std.specs.Int.{to_be_bytes, w32}
 use Rattle.sasi_host.specs.Names.{Bytes}
 use Rattle.sasi_gated.specs.Format.{frame, IsPayload}
-use Rattle.sasi_gated.specs.Laws.{frame_is}
+use Rattle.sasi_gated.proofs.Laws.{frame_is}
 use Rattle.sasi_gated.specs.Records.{payload_in, IsFramed}
 
 -- the payload that was framed is the one that is seen

@@ -1,3 +1,6 @@
+pub mod Laws
+pub mod HandleLaws
+pub mod Undamaged
 pub mod Frames
 pub mod Torn
 pub mod Appends

@@ -5,13 +5,13 @@ use Rattle.sasi_host.specs.declared.damage.Damage.{Damage}
 use Rattle.sasi_host.specs.Names.{Bytes}
 use Rattle.sasi_host.specs.View.{View, IsSound, IsTold, contents}
 use Rattle.sasi_host.specs.Disk.{Changes, IsFileDurable, Same}
-use Rattle.sasi_host.specs.Durability.{file_durable_contents, file_durable_same}
+use Rattle.sasi_host.proofs.Durability.{file_durable_contents, file_durable_same}
 use Rattle.sasi_gated.specs.Format.{header, FromGate}
 use Rattle.sasi_gated.specs.Gates.{ReadsFrom, IsAtGate, ReadsAt}
 use Rattle.sasi_gated.specs.Damages.{IsGatedDamage}
 use Rattle.sasi_gated.specs.Handles.{IsReading, ReadsOn}
-use Rattle.sasi_gated.specs.Laws.{at_next_gate, gated_at, opens_same, opens_not_closes}
-use Rattle.sasi_gated.specs.Undamaged.{gated_undamaged}
+use Rattle.sasi_gated.proofs.Laws.{at_next_gate, gated_at, opens_same, opens_not_closes}
+use Rattle.sasi_gated.proofs.Undamaged.{gated_undamaged}
 
 -- a closed gate, where the reader stays
 pub read_closed : (more : Bool) (file : FileName) (bytes : Bytes) (at : ℕ) (done : List Bytes) (rest out : Bytes) → more ≡ false → ReadsFrom more rest out

@@ -6,13 +6,13 @@ use Rattle.sasi_host.specs.declared.fault.ReadFault.{ReadFault}
 use Rattle.sasi_host.specs.declared.fault.ReadFault.TheVariants as fault
 use Rattle.sasi_host.specs.Names.{Bytes}
 use Rattle.sasi_host.specs.View.{View}
-use Rattle.sasi_host.specs.Durability.{file_durable_same}
+use Rattle.sasi_host.proofs.Durability.{file_durable_same}
 use Rattle.sasi_host.specs.Disk.{Changes, IsFileDurable, Same}
 use Rattle.sasi_gated.specs.Format.{header, IsGated}
 use Rattle.sasi_gated.specs.Gates.{IsAtGate}
 use Rattle.sasi_host.specs.Damages.{OnDamage}
 use Rattle.sasi_gated.specs.Handles.{IsReading}
-use Rattle.sasi_gated.specs.Laws.{at_first_gate}
+use Rattle.sasi_gated.proofs.Laws.{at_first_gate}
 
 pub on_damage_weaker : (P Q : Damage → Type 0) (f : ReadFault) → ((damage : Damage) → P damage → Q damage) → OnDamage P f → OnDamage Q f
 on_damage_weaker P Q fault.Failed weaker p = tt

@@ -7,7 +7,7 @@ use Rattle.sasi_host.specs.Names.{Bytes}
 use Rattle.sasi_host.specs.Disk.{Torn, overlay}
 use Rattle.sasi_gated.specs.Format.{header, frame, OpenRecords, IsPayload, IsGated, IsBeforeOrAfter}
 use Rattle.sasi_gated.specs.Gates.{IsAtGate}
-use Rattle.sasi_gated.specs.Laws.{gated_at}
+use Rattle.sasi_gated.proofs.Laws.{gated_at}
 
 -- around the byte behind base
 module _ (base : Bytes) (at : ℕ) (offset : at ≡ length base) where

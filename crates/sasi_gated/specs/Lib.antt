@@ -6,6 +6,3 @@ pub mod Causes
 pub mod AtGate
 pub mod Handles
 pub mod Reads
-pub mod Laws
-pub mod HandleLaws
-pub mod Undamaged

@@ -1,3 +1,6 @@
+pub mod Durability
+pub mod Offsets
+pub mod DamageLaws
 pub mod Folders
 pub mod CallChanges
 pub mod PickedImages

@@ -14,7 +14,7 @@ use Rattle.sasi_host.specs.View.{View, IsThere, contents, Rose, ReadsAtMost}
 use Rattle.sasi_host.specs.Disk.{Changes, Same, Fills}
 use Rattle.sasi_host.specs.Contents.{contents_same, there_where}
 use Rattle.sasi_host.specs.Damages.{DamageShown, ShowsEnd}
-use Rattle.sasi_host.specs.DamageLaws.{shown_before, end_later}
+use Rattle.sasi_host.proofs.DamageLaws.{shown_before, end_later}
 use Rattle.sasi_host.specs.Buffered.{pages_of, buffered_at, unbuffered_pages}
 
 -- what was read of a page is all that the file has there

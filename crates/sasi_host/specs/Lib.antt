@@ -5,7 +5,6 @@ pub mod Disk
 pub mod NameLaws
 pub mod ChangeLaws
 pub mod Contents
-pub mod Durability
 pub mod Files
 pub mod Calls
 pub mod CallLaws
@@ -14,7 +13,5 @@ pub mod MemoryLaws
 pub mod Opaque
 pub mod Picks
 pub mod Damages
-pub mod Offsets
-pub mod DamageLaws
 pub mod Buffered
 pub mod PageReading

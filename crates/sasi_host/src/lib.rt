@@ -3,15 +3,17 @@
 //! what a crash in between may leave. Each trait has an implementation in memory, which fails at the calls that are listed.
 #![tactic(auto)]
 
+mod buffered;
 mod byte_buffer;
 mod call;
+mod call_log;
 mod crash;
 mod damage;
 mod direct;
 mod durable;
+mod end_of_file;
 mod failed;
 mod fault;
-mod buffered;
 mod host;
 mod mem_disk;
 mod mem_folder;
@@ -19,23 +21,21 @@ mod mem_host;
 mod mem_host_calls;
 mod mem_source;
 mod name;
-mod call_log;
 mod page;
 mod pick;
-mod end_of_file;
 mod source;
 
+pub use buffered::BufferedFile;
 pub use damage::{Damage, FormatRule, Seen, check_part, found};
 pub use direct::Direct;
 pub use durable::{make_file, write_durably};
+pub use end_of_file::unexpected_end;
 pub use failed::Failed;
 pub use fault::{HostFault, ReadFault};
-pub use buffered::BufferedFile;
 pub use host::Host;
 pub use mem_host::MemHost;
 pub use mem_source::MemSource;
-pub use name::{FileName, Kind};
+pub use name::{DataNumber, FileName, Kind, ManifestNumber, SegmentNumber};
 pub use page::PageReader;
 pub use pick::{BytePick, NamePick, Pick};
-pub use end_of_file::unexpected_end;
 pub use source::Source;

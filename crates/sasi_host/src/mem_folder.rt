@@ -108,7 +108,10 @@ impl MemFolder {
 }
 
 // The tree's names in their order.
-fn keys_of(files: &BTreeMap<FileName, ByteBuffer>, alloc: Global) -> Result<Vec<FileName>, AllocError>
+fn keys_of(
+    files: &BTreeMap<FileName, ByteBuffer>,
+    alloc: Global,
+) -> Result<Vec<FileName>, AllocError>
     ensures sorted { IfOk result (λ names. IsStrictlySortedBy name_cmp names.items) }
     ensures has { IfOk result (λ names. (name : _) → is_some (look_up files.now.entries name) ≡ is_member (eq_by_cmp name_cmp) names.items name) }
 {

@@ -45,30 +45,39 @@ pub struct FileName {
     pub part: u32,
 }
 
+/// The number of a manifest and of its seal, from 1.
+pub type ManifestNumber = u32;
+
+/// The number of a segment of the commit log, from 1.
+pub type SegmentNumber = u32;
+
+/// The number of a data file, from 1.
+pub type DataNumber = u32;
+
 impl FileName {
     /// The manifest of this number.
-    pub fn manifest(number: u32) -> FileName
+    pub fn manifest(number: ManifestNumber) -> FileName
         ensures { result ≡ manifest_name number }
     {
         plain(Kind::Manifest, number)
     }
 
     /// The seal of this number: an empty file that tells that the manifest is whole.
-    pub fn seal(number: u32) -> FileName
+    pub fn seal(number: ManifestNumber) -> FileName
         ensures { result ≡ seal_name number }
     {
         plain(Kind::Seal, number)
     }
 
     /// The segment of the commit log with this number.
-    pub fn log(number: u32) -> FileName
+    pub fn log(number: SegmentNumber) -> FileName
         ensures { result ≡ log_name number }
     {
         plain(Kind::Log, number)
     }
 
     /// The data file with this number.
-    pub fn data(number: u32) -> FileName
+    pub fn data(number: DataNumber) -> FileName
         ensures { result ≡ data_name number }
     {
         plain(Kind::Data, number)

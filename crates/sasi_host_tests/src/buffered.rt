@@ -1,5 +1,5 @@
 // A buffered file: a page that was read is not read again.
-use sasi_host::{Direct, FileName, FormatRule, BufferedFile, Kind, MemHost, ReadFault, found};
+use sasi_host::{BufferedFile, Direct, FileName, FormatRule, Kind, MemHost, ReadFault, found};
 
 const DATA: FileName = FileName {
     kind: Kind::Data,

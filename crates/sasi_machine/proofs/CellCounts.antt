@@ -6,7 +6,7 @@ use Rattle.std.proofs.lemmas.Bool.Decides.{nat_tests}
 use Rattle.std.specs.FinMap as fin
 use Rattle.std.specs.Ordering.{nat_cmp, eq_by_cmp}
 use Rattle.sasi_types.specs.declared.cell.Cell.{Cell}
-use Rattle.sasi_cells.specs.Laws.Sorted.{equal_columns, first, second, find_first, find_behind}
+use Rattle.sasi_cells.proofs.Laws.Sorted.{equal_columns, first, second, find_first, find_behind}
 use Rattle.sasi_model.specs.Cells.{Cells}
 use Rattle.sasi_model.specs.Stored.{Entry}
 

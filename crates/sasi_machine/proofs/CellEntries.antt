@@ -4,7 +4,7 @@ use Rattle.std.specs.FinMap as fin
 use Rattle.std.specs.List.{AllByRecursion}
 use Rattle.std.specs.Ordering.{nat_cmp}
 use Rattle.sasi_types.specs.declared.cell.Cell.{Cell}
-use Rattle.sasi_cells.specs.Laws.Sorted.{first, second, find_first, find_behind}
+use Rattle.sasi_cells.proofs.Laws.Sorted.{first, second, find_first, find_behind}
 use Rattle.sasi_model.specs.Cells.{Cells}
 use Rattle.sasi_model.specs.Refusals.{each}
 use Rattle.sasi_model.specs.Stored.{Entry}

@@ -5,11 +5,11 @@ use Rattle.std.specs.Result.{IsErrAnd}
 use Rattle.std.proofs.lemmas.List.{append_assoc}
 use Rattle.sasi_model.specs.Refusals.{Refusal, Rule, first_of}
 use Rattle.sasi_schema.specs.Answers.{Answers, IsFirstRefusal}
-use Rattle.sasi_schema.proofs.RuleLaws.{told_before, answers_behind, answers_exit}
+use Rattle.sasi_schema.proofs.RuleLaws.{refused_before, answers_behind, answers_exit}
 
 -- the first check fails
 pub fails : {A F : Type 0} (refusal_of_fault : F → Option Refusal) (a b : List Rule) (result : Result A F) (fault : F) → IsErrAnd result (λ e. e ≡ fault) → IsFirstRefusal (refusal_of_fault fault) a → Answers refusal_of_fault (a ++ b) result
-fails refusal_of_fault a b result fault is failed = answers_exit refusal_of_fault (a ++ b) result fault is (told_before (refusal_of_fault fault) a b failed)
+fails refusal_of_fault a b result fault is failed = answers_exit refusal_of_fault (a ++ b) result fault is (refused_before (refusal_of_fault fault) a b failed)
 
 -- the first check is of the rules `a` and one more, and fails
 pub pair_fails : {A F : Type 0} (refusal_of_fault : F → Option Refusal) (a : List Rule) (rule : Rule) (b : List Rule) (result : Result A F) (fault : F)

@@ -2,7 +2,7 @@
 use Rattle.std.proofs.Common.{◌≡◌, ◌≢◌, ℕ, zero, suc, ◌-◌, Bool, true, false, cond, nat_eq, nat_lt, List, [], ◌∷◌, map, slice_get, Option, None, Some, refl, ap, subst, arith}
 use Rattle.std.proofs.lemmas.Bool.Decides.{nat_tests}
 use Rattle.sasi_types.specs.declared.column.ColumnType.{ColumnType}
-use Rattle.sasi_cells.specs.Laws.Sorted.{first}
+use Rattle.sasi_cells.proofs.Laws.Sorted.{first}
 use Rattle.sasi_model.specs.State.{Column, Definition, number_at, number_of_column, numbered_at, one_more, position_in, type_or_text}
 use Rattle.sasi_model.specs.Statements.{same}
 use Rattle.sasi_model.specs.Refusals.{type_of_column}

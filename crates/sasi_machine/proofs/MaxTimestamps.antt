@@ -7,7 +7,7 @@ use Rattle.std.specs.declared.cmp.Ordering.TheVariants.{Less, Equal, Greater}
 use Rattle.std.specs.Ordering.{eq_by_cmp, is_eq}
 use Rattle.sasi_types.specs.declared.decorated_key.DecoratedKey.{DecoratedKey}
 use Rattle.sasi_types.specs.DecoratedKey.{decorated_cmp, decorated_total}
-use Rattle.sasi_cells.specs.Laws.Times.{max_timestamp_merge}
+use Rattle.sasi_cells.proofs.Laws.Times.{max_timestamp_merge}
 use Rattle.sasi_model.specs.Cells.{Partition, empty_partition, max_timestamp_of, merge}
 use Rattle.sasi_model.specs.State.{Definition, Partitions, Table, max_timestamp_of_tables, max_timestamp_of_partitions}
 use Rattle.sasi_machine.specs.MemtableView.{MemtableView}

@@ -9,7 +9,7 @@ use Rattle.sasi_types.specs.declared.column.ColumnType.{ColumnType}
 use Rattle.sasi_types.specs.declared.literal.Literal.{Literal}
 use Rattle.sasi_types.specs.declared.value.Value.{Value}
 use Rattle.sasi_types.specs.Value.{type_of}
-use Rattle.sasi_cells.specs.Laws.Sorted.{equal_columns}
+use Rattle.sasi_cells.proofs.Laws.Sorted.{equal_columns}
 use Rattle.sasi_model.specs.Cells.{Cells}
 use Rattle.sasi_model.specs.State.{Definition, number_of_column}
 use Rattle.sasi_model.specs.Refusals.{each, first_of, is_of, number_range, value_too_long, wrong_type}

@@ -9,7 +9,7 @@ use Rattle.sasi_types.specs.declared.cell.Cell.{Cell}
 use Rattle.sasi_types.specs.declared.literal.Literal.{Literal}
 use Rattle.sasi_types.specs.declared.statement.Statement.{Statement}
 use Rattle.sasi_types.specs.declared.statement.Statement.TheVariants.{CreateTable, Insert, Update, Delete, Query}
-use Rattle.sasi_cells.specs.Laws.Times.{values_below}
+use Rattle.sasi_cells.proofs.Laws.Times.{values_below}
 use Rattle.sasi_model.specs.Cells.{Cells, empty_partition, max_timestamp_of}
 use Rattle.sasi_model.specs.State.{Definition, number_of_column}
 use Rattle.sasi_model.specs.Step.{cells_set, column_type, marker, value_given, with_column_cell}

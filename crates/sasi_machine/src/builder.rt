@@ -60,7 +60,13 @@ impl MutationBuilder {
         ensures write { IfOk result (IsInsertTo self.now.max_timestamp (definition table.now) given time) }
         ensures table { IfOk result (λ mutation. mutation.table ≡ table.now.number) }
     {
-        let time = check_given(self.alloc, table, self.max_timestamp, given.as_slice(), time)?;
+        let time = check_given(
+            self.alloc,
+            table,
+            self.max_timestamp,
+            given.as_slice(),
+            time,
+        )?;
         Ok(mutation_of_insert(self.alloc, table, time, given)?)
     }
 
@@ -73,9 +79,9 @@ impl MutationBuilder {
         time: Option<Number>,
     ) -> Result<Mutation, Fault>
         requires { self.now.max_timestamp ≤ time_limit }
+        ensures table { IfOk result (λ mutation. mutation.table ≡ table.now.number) }
         ensures answers { Answers refusal_of_fault (update_rules self.now.max_timestamp table.now.name sets relation.column relation.value time (Some (definition table.now))) result }
         ensures write { IfOk result (IsWriteTo self.now.max_timestamp (definition table.now) (Update table.now.name time sets relation.column relation.value)) }
-        ensures table { IfOk result (λ mutation. mutation.table ≡ table.now.number) }
     {
         let time = check_update(
             self.alloc,

@@ -7,7 +7,7 @@ ghost use Rattle.sasi_model.specs.Step.{stored_of, value_given};
 ghost use Rattle.sasi_machine.specs.KeyLiteral.{IsKeyLiteral, IsKeyValue};
 
 use crate::literals::{TEXT_LIMIT, value_given};
-use sasi_types::{ColumnType, Key, KeyFault, Literal, Partitioner, DecoratedKey, Value};
+use sasi_types::{ColumnType, DecoratedKey, Key, KeyFault, Literal, Partitioner, Value};
 use std::alloc::{AllocError, Global};
 
 /// The decorated key of a key.

@@ -2,31 +2,31 @@
 //! the cells, and promises the state, the reply and the refusal of the model's step.
 #![tactic(auto)]
 
+mod assign;
+mod builder;
 mod change;
 mod check;
-mod assign;
 mod fault;
-mod memtables;
 mod key;
 mod literal_rule;
 mod literals;
 mod machine;
+mod memtable;
+mod memtables;
 mod merging;
 mod name_rule;
 mod outcome;
 mod picking;
-mod statement_mutation;
-mod prepared;
 mod prepare;
+mod prepared;
 pub mod print;
 mod query;
 mod read;
 mod refusal;
-mod reply_refusal;
-mod memtable;
 mod relation;
+mod reply_refusal;
+mod statement_mutation;
 mod time;
-mod builder;
 
 pub use machine::Machine;
 pub use outcome::Outcome;

@@ -9,9 +9,9 @@ ghost use Rattle.sasi_machine.specs.Outcome.{outcome_of};
 ghost use Rattle.sasi_cells.specs.Mutations.{state_with_mutation};
 ghost use Rattle.sasi_machine.specs.Prepares.{IsApplicable, IsNewTable};
 
+use crate::memtable::Memtable;
 use crate::memtables::{add_within, merge_into, reserve_one};
 use crate::prepared::Prepared;
-use crate::memtable::Memtable;
 use crate::{Outcome, Reply};
 use sasi_cells::Mutation;
 use sasi_schema::{Schema, Table};

@@ -52,7 +52,11 @@ impl Memtable {
     }
 
     /// Merges a change into the partition of a key, which is a value of the type.
-    pub fn merge(&mut self, decorated_key: DecoratedKey, change: Partition) -> Result<(), AllocError>
+    pub fn merge(
+        &mut self,
+        decorated_key: DecoratedKey,
+        change: Partition,
+    ) -> Result<(), AllocError>
         requires { IsStored self.old.kind decorated_key.key }
         ensures ok { OnOk result (self.new ≡ record self.old { partitions = map.insert self.old.partitions decorated_key (merge (unwrap_or (map.get self.old.partitions decorated_key) empty_partition) change) }) }
         ensures err { OnErr result (self.new ≡ self.old) }

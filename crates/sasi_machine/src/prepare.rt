@@ -6,13 +6,13 @@ ghost use Rattle.sasi_machine.specs.Prepares.{StatementPrepares, Prepares};
 ghost use Rattle.sasi_machine.specs.StatementSteps.{StatementStepsTo};
 ghost use Rattle.sasi_machine.specs.Writes.{IsWriting};
 
+use crate::builder::MutationBuilder;
 use crate::fault::Fault;
-use crate::statement_mutation::statement_mutation;
 use crate::prepared::Prepared;
 use crate::query::query;
 use crate::read::{ParsedPiece, read};
-use crate::reply_refusal::{reply_refusal, reply_fault};
-use crate::builder::MutationBuilder;
+use crate::reply_refusal::{reply_fault, reply_refusal};
+use crate::statement_mutation::statement_mutation;
 use crate::{Machine, Outcome, Refusal, Reply};
 use sasi_types::{Columns, Name, Names, PieceEnd, Select, Statement};
 use std::alloc::AllocError;
@@ -40,7 +40,11 @@ impl Machine {
     }
 
     // Prepares a statement, or replies with its refusal.
-    fn prepare_statement(&self, statement: Statement, reply: &mut Reply) -> Result<Prepared, AllocError>
+    fn prepare_statement(
+        &self,
+        statement: Statement,
+        reply: &mut Reply,
+    ) -> Result<Prepared, AllocError>
         ensures { IfOk result (λ prepared. StatementPrepares self.now statement reply.old reply.new prepared) }
     {
         match statement {
@@ -79,7 +83,11 @@ impl Machine {
     }
 
     // An INSERT, an UPDATE or a DELETE.
-    fn prepare_mutation(&self, statement: Statement, reply: &mut Reply) -> Result<Prepared, AllocError>
+    fn prepare_mutation(
+        &self,
+        statement: Statement,
+        reply: &mut Reply,
+    ) -> Result<Prepared, AllocError>
         requires { IsWriting statement }
         ensures { IfOk result (λ prepared. StatementPrepares self.now statement reply.old reply.new prepared) }
     {

@@ -11,10 +11,10 @@ ghost use Rattle.sasi_machine.specs.Faults.{refusal_of_fault};
 ghost use Rattle.sasi_machine.specs.StatementSteps.{IsAnswered};
 
 use crate::fault::Fault;
+use crate::memtable::Memtable;
 use crate::name_rule::NameRule;
 use crate::picking::picked;
 use crate::reply_refusal::reply_fault;
-use crate::memtable::Memtable;
 use crate::{Outcome, Reply};
 use sasi_schema::Table;
 use sasi_types::Names;

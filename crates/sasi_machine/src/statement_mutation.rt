@@ -7,15 +7,19 @@ ghost use Rattle.sasi_machine.specs.Faults.{refusal_of_fault};
 ghost use Rattle.sasi_machine.specs.Writes.{IsWrite, IsWriting};
 
 use crate::Refusal;
+use crate::builder::MutationBuilder;
 use crate::fault::Fault;
 use crate::relation::KeyRelation;
-use crate::builder::MutationBuilder;
 use sasi_cells::Mutation;
 use sasi_schema::Schema;
 use sasi_types::{Literals, Name, Names, Number, Sets, Statement};
 
 /// The mutation of an INSERT, an UPDATE or a DELETE, or its refusal.
-pub fn statement_mutation(builder: &MutationBuilder, schema: &Schema, statement: Statement) -> Result<Mutation, Fault>
+pub fn statement_mutation(
+    builder: &MutationBuilder,
+    schema: &Schema,
+    statement: Statement,
+) -> Result<Mutation, Fault>
     requires limit { builder.now.max_timestamp ≤ time_limit }
     requires writing { IsWriting statement }
     ensures answers { Answers refusal_of_fault (rules schema.now builder.now.max_timestamp statement) result }

@@ -7,10 +7,10 @@ use Rattle.sasi_host.specs.Names.{Bytes, Folder, manifest_name, seal_name}
 use Rattle.sasi_host.specs.View.{View, IsSound, Reaches}
 use Rattle.sasi_host.specs.Disk.{Changes, FileChange, Same, AnyChange, LeftWith, MaybeCreated}
 use Rattle.sasi_host.specs.ChangeLaws.{changes_as, changes_on, changes_among, stays, step_as, each_on}
-use Rattle.sasi_host.specs.Durability.{file_durable_other}
+use Rattle.sasi_host.proofs.Durability.{file_durable_other}
 use Rattle.sasi_host.specs.Contents.{reaches_where, contents_other}
 use Rattle.sasi_gated.specs.Format.{IsBeforeOrAfter, header, frame, new_file}
-use Rattle.sasi_gated.specs.Laws.{gated_end, header_length, frame_length}
+use Rattle.sasi_gated.proofs.Laws.{gated_end, header_length, frame_length}
 use Rattle.sasi_gated.specs.Reads.{AppendsRecord}
 use Rattle.sasi_gated.specs.Handles.{Handle, IsAtEnd}
 use Rattle.sasi_manifest.specs.declared.edit.Edit.{Edit}
@@ -20,7 +20,7 @@ use Rattle.sasi_manifest.proofs.Consistency.{record_consistent}
 use Rattle.sasi_manifest.specs.Edits.{encoded}
 use Rattle.sasi_manifest.specs.Listings.{AllApply, after_all, with_record_counted, edits_of, records_of, length_of}
 use Rattle.sasi_manifest.specs.Format.{IsRecord, Builds, IsNext, IsRewritten}
-use Rattle.sasi_manifest.specs.OpenManifest.{IsOpenManifest, IsAtListingEnd, ManifestStands, IsEither, IsUnsealed, ChangesOnlyManifest, Creates}
+use Rattle.sasi_manifest.specs.OpenManifest.{ManifestState, IsOpenManifest, IsAtListingEnd, ManifestStands, IsEither, IsUnsealed, ChangesOnlyManifest, Creates}
 use Rattle.sasi_manifest.proofs.Laws.{leads_on}
 use Rattle.sasi_manifest.proofs.Records.{edits_few, sizes_stay}
 
@@ -65,6 +65,19 @@ either_listed a b n at file listing next edits named apply some short is moments
           next_builds listing next edits stands.records apply some short is
               stands.builds,
         )) before_or_after
+
+-- at each moment between the two the manifest lists what it did, or what it does after the edits
+abbrev pub ListsEither : View → View → ManifestState → List Edit → Type 0
+ListsEither a b m edits = (next : Listing) → IsNext m.listing edits next → ManifestStands a m.number m.at m.listing → Changes (FileChange (manifest_name m.number) (LeftWith (IsEither m.number m.listing next))) a b
+
+-- so it is while edits are appended
+pub lists_either : (a b : View) (file : FileName) (m : ManifestState) (edits put : List Edit) → file ≡ manifest_name m.number
+    → AllApply (Some m.listing) edits → 1 ≤ length edits → length (encoded edits) ≤ 2 ^ 30 → put ≡ edits
+    → ((records : List Bytes) → IsAtEnd a file m.at records → Changes (FileChange file (LeftWith (IsBeforeOrAfter file records (encoded put)))) a b)
+    → ListsEither a b m edits
+lists_either a b file m edits put named apply some short same moments next is stands =
+    either_listed a b m.number m.at file m.listing next edits named apply some short is
+    (subst (λ (l : List Edit). (records : List Bytes) → IsAtEnd a file m.at records → Changes (FileChange file (LeftWith (IsBeforeOrAfter file records (encoded l)))) a b) same moments) stands
 
 -- ---- a new manifest
 

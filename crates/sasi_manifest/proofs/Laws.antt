@@ -8,8 +8,8 @@ use Rattle.sasi_host.specs.Names.{Bytes, manifest_name}
 use Rattle.sasi_host.specs.declared.damage.Damage.{Damage}
 use Rattle.sasi_fields.specs.Reading.{Reading}
 use Rattle.sasi_gated.specs.Format.{Opens, Closes, FromGate}
-use Rattle.sasi_gated.specs.Laws.{records_same, left_at, opens_same, opens_not_closes}
-use Rattle.sasi_gated.specs.Undamaged.{gated_undamaged}
+use Rattle.sasi_gated.proofs.Laws.{records_same, left_at, opens_same, opens_not_closes}
+use Rattle.sasi_gated.proofs.Undamaged.{gated_undamaged}
 use Rattle.sasi_manifest.specs.declared.edit.Edit.{Edit}
 use Rattle.sasi_manifest.specs.declared.listing.Listing.{Listing}
 use Rattle.sasi_manifest.specs.Edits.{edits_bytes, encoded_is}

@@ -13,12 +13,12 @@ use Rattle.sasi_host.specs.View.{View, IsSound, IsThere, contents}
 use Rattle.sasi_host.specs.Disk.{Changes, Same}
 use Rattle.sasi_host.specs.ChangeLaws.{then_same}
 use Rattle.sasi_host.specs.Contents.{contents_same, there_where}
-use Rattle.sasi_host.specs.Durability.{file_durable_contents, file_durable_same}
+use Rattle.sasi_host.proofs.Durability.{file_durable_contents, file_durable_same}
 use Rattle.sasi_gated.specs.Damages.{IsGatedDamage}
 use Rattle.sasi_host.specs.Damages.{seen_bytes}
 use Rattle.sasi_gated.specs.Format.{IsGated}
 use Rattle.sasi_gated.specs.Gates.{IsAtGate}
-use Rattle.sasi_gated.specs.Laws.{gated_at}
+use Rattle.sasi_gated.proofs.Laws.{gated_at}
 use Rattle.sasi_gated.specs.Reads.{GatedDamageShown, GatedDamageShownAt, ReadsGate, HasHeader}
 use Rattle.sasi_host.specs.Damages.{OnDamage}
 use Rattle.sasi_gated.specs.Handles.{Handle}

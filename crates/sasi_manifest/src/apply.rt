@@ -5,6 +5,7 @@ ghost use Rattle.sasi_manifest.specs.Naming.{IsFree};
 ghost use Rattle.sasi_manifest.specs.Listings.{Applies, after, listed_names, started, with_listed_table};
 
 use crate::{Edit, ListedTables, Listing};
+use sasi_host::SegmentNumber;
 use sasi_schema::Table;
 use sasi_types::Partitioner;
 use std::alloc::{AllocError, Global};
@@ -37,7 +38,12 @@ pub fn apply(alloc: Global, from: Option<Listing>, edit: &Edit) -> Result<Listin
 }
 
 // The listing of a start: no tables, and no record yet.
-fn started(alloc: Global, partitioner: Partitioner, floor: u32, last: u32) -> Listing
+fn started(
+    alloc: Global,
+    partitioner: Partitioner,
+    floor: SegmentNumber,
+    last: SegmentNumber,
+) -> Listing
     ensures { result ≡ started partitioner floor last }
 {
     Listing {
@@ -50,7 +56,11 @@ fn started(alloc: Global, partitioner: Partitioner, floor: u32, last: u32) -> Li
     }
 }
 
-fn with_listed_table(mut listing: Listing, table: Table, since: u32) -> Result<Listing, AllocError>
+fn with_listed_table(
+    mut listing: Listing,
+    table: Table,
+    since: SegmentNumber,
+) -> Result<Listing, AllocError>
     requires number { table.number ≡ length listing.tables + 1 }
     requires few { length listing.tables < 256 }
     requires free { IsFree (listed_names listing.tables) table.name }

@@ -16,7 +16,11 @@ use sasi_types::{ColumnType, Columns};
 use std::alloc::Global;
 
 // Reads this many columns of different names.
-pub fn read_columns(alloc: Global, reader: &mut FieldReader, count: u16) -> Result<Columns, RecordFault>
+pub fn read_columns(
+    alloc: Global,
+    reader: &mut FieldReader,
+    count: u16,
+) -> Result<Columns, RecordFault>
     ensures ok { IfOk result (λ columns. ReadsField (column_bytes columns) reader.old reader.new) }
     ensures count { IfOk result (λ columns. length columns ≡ count) }
     ensures names { IfOk result (λ columns. AreNames (names_in columns)) }

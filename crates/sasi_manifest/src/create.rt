@@ -14,7 +14,7 @@ use crate::encode::encode;
 use crate::rewrite::edits_of;
 use crate::seal::make_seal;
 use sasi_gated::Gated;
-use sasi_host::{FileName, Host, HostFault};
+use sasi_host::{FileName, Host, HostFault, ManifestNumber};
 use std::alloc::Global;
 
 // The open file of a manifest, and its listing.
@@ -27,7 +27,7 @@ pub struct Opened {
 pub fn create_sealed<H: Host>(
     alloc: Global,
     host: &mut H,
-    number: u32,
+    number: ManifestNumber,
     listing: &Listing,
 ) -> Result<Opened, HostFault>
     requires manifest { IsAbsent (H.view host.old) (manifest_name number) }

@@ -1,5 +1,6 @@
 // Edits of a manifest.
-use sasi_types::{Columns, Name, Partitioner};
+use sasi_host::SegmentNumber;
+use sasi_types::{Columns, Name, Partitioner, TableNumber};
 
 /// A change of the listing of a manifest.
 #[derive(Drop)]
@@ -7,16 +8,16 @@ pub enum Edit {
     /// The first edit of a manifest: no tables, and the live segments of the log from `floor` to `last`.
     Start {
         partitioner: Partitioner,
-        floor: u32,
-        last: u32,
+        floor: SegmentNumber,
+        last: SegmentNumber,
     },
     /// A table, after the others. `key` is the position of the key column, and `since` the first segment of the log that
     /// can have mutations of the table.
     CreateTable {
-        number: u32,
+        number: TableNumber,
         name: Name,
         columns: Columns,
         key: u16,
-        since: u32,
+        since: SegmentNumber,
     },
 }

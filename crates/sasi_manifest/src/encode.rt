@@ -18,7 +18,11 @@ pub struct EncodedEdits {
     pub record: Record,
 }
 
-pub fn encode(alloc: Global, from: Option<Listing>, edits: &[Edit]) -> Result<EncodedEdits, AllocError>
+pub fn encode(
+    alloc: Global,
+    from: Option<Listing>,
+    edits: &[Edit],
+) -> Result<EncodedEdits, AllocError>
     requires apply { AllApply from edits.now }
     requires some { 1 ≤ length edits.now }
     requires short { length (encoded edits.now) ≤ 2 ^ 30 }

@@ -5,6 +5,7 @@ ghost use Rattle.sasi_schema.specs.Numbers.{RisesFrom};
 ghost use Rattle.sasi_manifest.specs.Naming.{AreApart, IsFree};
 
 use crate::table_list::{copies, is_listed};
+use sasi_host::SegmentNumber;
 use sasi_schema::Table;
 use std::alloc::{AllocError, Global};
 use std::marker::Model;
@@ -14,7 +15,7 @@ use std::marker::Model;
 pub struct ListedTable {
     pub table: Table,
     /// The first segment of the log that can have mutations of the table.
-    pub since: u32,
+    pub since: SegmentNumber,
 }
 
 /// The tables that a manifest lists, numbered from 1 in their order.
@@ -69,7 +70,7 @@ impl ListedTables {
     }
 
     /// Adds a table at the end.
-    pub fn push(&mut self, table: Table, since: u32) -> Result<(), AllocError>
+    pub fn push(&mut self, table: Table, since: SegmentNumber) -> Result<(), AllocError>
         requires number { table.number ≡ length self.old + 1 }
         requires few { length self.old < 256 }
         requires free { IsFree (listed_names self.old) table.name }

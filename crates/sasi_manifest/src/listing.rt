@@ -3,6 +3,7 @@ ghost use Rattle.std.specs.Prelude.{◌≡◌, [], IfOk};
 
 use crate::ListedTables;
 use crate::table_types::table_types;
+use sasi_host::SegmentNumber;
 use sasi_types::{Partitioner, TableTypes};
 use std::alloc::{AllocError, Global};
 
@@ -11,8 +12,8 @@ use std::alloc::{AllocError, Global};
 pub struct Listing {
     pub partitioner: Partitioner,
     /// The live segments of the log are those from `floor` to `last`.
-    pub floor: u32,
-    pub last: u32,
+    pub floor: SegmentNumber,
+    pub last: SegmentNumber,
     /// How many records the manifest has.
     pub records: u64,
     /// The length of the manifest, its closed gate included.

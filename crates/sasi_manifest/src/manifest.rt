@@ -18,7 +18,7 @@ use crate::create::create_sealed;
 use crate::open::open_manifest;
 use crate::{EditList, Listing};
 use sasi_gated::Gated;
-use sasi_host::{Host, HostFault, ReadFault};
+use sasi_host::{Host, HostFault, ManifestNumber, ReadFault};
 use std::alloc::Global;
 use std::marker::Model;
 
@@ -26,7 +26,7 @@ use std::marker::Model;
 #[derive(Drop)]
 pub struct Manifest {
     alloc: Global,
-    number: u32,
+    number: ManifestNumber,
     gated: Gated,
     listing: Listing,
     usable: bool,
@@ -52,7 +52,7 @@ impl Manifest {
     }
 
     /// Its number.
-    pub fn number(&self) -> u32
+    pub fn number(&self) -> ManifestNumber
         ensures { result ≡ self.now.number }
     {
         self.number
@@ -70,7 +70,7 @@ impl Manifest {
     pub fn create<H: Host>(
         alloc: Global,
         host: &mut H,
-        number: u32,
+        number: ManifestNumber,
         listing: &Listing,
     ) -> Result<Manifest, HostFault>
         requires manifest { IsAbsent (H.view host.old) (manifest_name number) }
@@ -98,7 +98,11 @@ impl Manifest {
     }
 
     /// Opens a manifest, and reads all its records.
-    pub fn open<H: Host>(alloc: Global, host: &mut H, number: u32) -> Result<Manifest, ReadFault>
+    pub fn open<H: Host>(
+        alloc: Global,
+        host: &mut H,
+        number: ManifestNumber,
+    ) -> Result<Manifest, ReadFault>
         requires { IsThere (H.view host.old) (manifest_name number) }
         ensures ok { IfOk result (λ m. ReadsListing (H.view host.old) number m.listing) }
         ensures stands { IfOk result (λ m. StandsWhereKept (H.view host.old) (H.view host.new) number m.at m.listing) }

@@ -20,14 +20,18 @@ ghost use Rattle.sasi_manifest.specs.OpenManifest.{IsOpenManifest};
 
 use crate::Listing;
 use crate::create::Opened;
-use crate::record_fault::RecordFault;
 use crate::read_record::read_record;
+use crate::record_fault::RecordFault;
 use sasi_gated::Gated;
-use sasi_host::{Damage, FileName, FormatRule, Host, ReadFault, Seen};
+use sasi_host::{Damage, FileName, FormatRule, Host, ManifestNumber, ReadFault, Seen};
 use std::alloc::Global;
 
 // Reads all records of a manifest.
-pub fn open_manifest<H: Host>(alloc: Global, host: &mut H, number: u32) -> Result<Opened, ReadFault>
+pub fn open_manifest<H: Host>(
+    alloc: Global,
+    host: &mut H,
+    number: ManifestNumber,
+) -> Result<Opened, ReadFault>
     requires { IsThere (H.view host.old) (manifest_name number) }
     ensures ok { IfOk result (λ o. ReadsWhole (H.view host.old) number o.gated.at o.listing) }
     ensures room { IfOk result (λ o. Reaches (H.view host.new) (manifest_name number) (o.gated.at + 1)) }
@@ -51,7 +55,7 @@ pub fn open_manifest<H: Host>(alloc: Global, host: &mut H, number: u32) -> Resul
 // Applies the record after the gate at the end of the listing.
 fn take_record(
     alloc: Global,
-    number: u32,
+    number: ManifestNumber,
     listed: Option<Listing>,
     payload: &[u8],
 ) -> Result<Listing, ReadFault>
@@ -82,7 +86,12 @@ fn end_of(listed: &Option<Listing>) -> u64
 }
 
 // The fault of the record after the gate at this offset, with its offset in the file.
-fn record_damage(number: u32, before: u64, payload: &[u8], record_fault: RecordFault) -> ReadFault
+fn record_damage(
+    number: ManifestNumber,
+    before: u64,
+    payload: &[u8],
+    record_fault: RecordFault,
+) -> ReadFault
     requires offset { before ≤ 2 ^ 62 + 1 }
     requires within { IsOffsetWithin (2 ^ 62) record_fault }
     requires short { length payload.now ≤ 2 ^ 30 }
@@ -108,7 +117,7 @@ fn record_damage(number: u32, before: u64, payload: &[u8], record_fault: RecordF
 }
 
 // The damage of a manifest without a record.
-fn empty(number: u32) -> Damage
+fn empty(number: ManifestNumber) -> Damage
     ensures file { result.file ≡ manifest_name number }
     ensures at { result.at ≡ 16 }
     ensures rule { result.rule ≡ Number }

@@ -75,7 +75,11 @@ fn partitioner_named(code: u8) -> Partitioner
 }
 
 // Reads the edit that adds a table after the listed ones.
-fn read_create(alloc: Global, reader: &mut FieldReader, listing: &Listing) -> Result<Edit, RecordFault>
+fn read_create(
+    alloc: Global,
+    reader: &mut FieldReader,
+    listing: &Listing,
+) -> Result<Edit, RecordFault>
     ensures ok { IfOk result (λ edit. ReadsField (edit_bytes edit) reader.old reader.new) }
     ensures applies { IfOk result (Applies (Some listing.now)) }
     ensures record_fault { IfErr result (λ m. (next : AnEdit → Form) → IsFormFault (edit_form (Some listing.now) next) reader.old m) }

@@ -10,8 +10,8 @@ ghost use Rattle.sasi_manifest.specs.ReadEdits.{ReadsEdits};
 use crate::Listing;
 use crate::apply::apply;
 use crate::field::ranged_u32;
-use crate::record_fault::RecordFault;
 use crate::read_edit::read_edit;
+use crate::record_fault::RecordFault;
 use sasi_fields::FieldReader;
 use std::alloc::Global;
 

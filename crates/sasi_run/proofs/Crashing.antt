@@ -10,7 +10,8 @@ use Rattle.sasi_host.specs.ChangeLaws.{crash_leaves_on}
 use Rattle.sasi_model.specs.Pieces.{Piece}
 use Rattle.sasi_model.specs.State.{State}
 use Rattle.sasi_model.specs.Step.{step, state_after, replies}
-use Rattle.sasi_folder.specs.DurableStore.{StandsForEither, each_stands, durable_still}
+use Rattle.sasi_folder.specs.DurableStore.{StandsForEither, each_stands}
+use Rattle.sasi_folder.proofs.AtomicWrites.{durable_still}
 use Rattle.sasi_folder.specs.Stands.{StandsSealed}
 use Rattle.sasi_run.specs.declared.store.Store.{Store}
 use Rattle.sasi_run.specs.Crashing.{Crashed, HasDurableStore, CrashLeavesPieces, StaysDurable}

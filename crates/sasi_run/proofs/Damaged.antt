@@ -42,7 +42,7 @@ module _ (v : View) (folder : Folder) (files : v.files ≡ Some folder) where
       absent = none_where (get folder file) (λ there. tells.absent (held_is_listed v names folder file lists files there));
       named = tells.named;
       rule = tells.rule;
-      offset = tells.offset_is;
+      offset_is = tells.offset_is;
       seen = tells.seen;
     }
 
@@ -87,7 +87,7 @@ module _ (v : View) (folder : Folder) (files : v.files ≡ Some folder) where
       no_manifest = apart damage.file (manifest_name 1) refl foreign.other;
       no_log = apart damage.file (log_name 1) refl foreign.other;
       rule = foreign.rule;
-      offset = foreign.offset;
+      offset_is = foreign.offset_is;
       seen = foreign.seen;
     })
 

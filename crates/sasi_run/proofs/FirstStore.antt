@@ -13,7 +13,7 @@ use Rattle.sasi_host.specs.Disk.{AnyChange, Changes, IsFileDurable, Relation, Sa
 use Rattle.sasi_host.specs.Contents.{contents_kept, reaches_where}
 use Rattle.sasi_host.specs.ChangeLaws.{Each, at_each_moment, changes_as, changes_on, each_on, stays, then_each_moment}
 use Rattle.sasi_gated.specs.Format.{IsGated}
-use Rattle.sasi_gated.specs.Laws.{gated_end}
+use Rattle.sasi_gated.proofs.Laws.{gated_end}
 use Rattle.sasi_commitlog.specs.LogPosition.{IsAtLogEnd}
 use Rattle.sasi_manifest.specs.declared.listing.Listing.{Listing}
 use Rattle.sasi_manifest.specs.Consistent.{IsConsistent}
@@ -23,7 +23,7 @@ use Rattle.sasi_manifest.specs.Format.{IsManifest, IsRewritten}
 use Rattle.sasi_manifest.specs.Listings.{AllApply, edits_of}
 use Rattle.sasi_manifest.specs.OpenManifest.{Creates, IsUnsealed, ChangesOnlyManifest}
 use Rattle.sasi_manifest.specs.OpenManifest as manifests
-use Rattle.sasi_folder.specs.FolderLaws.{kinds_apart}
+use Rattle.sasi_folder.proofs.FolderLaws.{kinds_apart}
 use Rattle.sasi_folder.specs.Replay.{replayed_state}
 use Rattle.sasi_folder.specs.Stands.{Holds, IsFresh}
 use Rattle.sasi_run.specs.declared.store.Store.{Store}

@@ -12,7 +12,7 @@ use Rattle.sasi_host.specs.Names.{Bytes, Folder, log_name, manifest_name, seal_n
 use Rattle.sasi_host.specs.View.{IsSound, IsTold, Reaches, View, contents_in}
 use Rattle.sasi_host.specs.Disk.{Changes, IsFileDurable, Lists, Same}
 use Rattle.sasi_host.specs.Contents.{contents_same, reaches_where, told_after}
-use Rattle.sasi_host.specs.Durability.{file_durable_same}
+use Rattle.sasi_host.proofs.Durability.{file_durable_same}
 use Rattle.sasi_host.specs.ChangeLaws.{Each, changes_as, changes_on}
 use Rattle.sasi_gated.specs.Handles.{Handle}
 use Rattle.sasi_cells.specs.declared.mutation.Mutation.{Mutation}
@@ -23,7 +23,7 @@ use Rattle.sasi_manifest.specs.Listings.{listed_definitions}
 use Rattle.sasi_manifest.specs.Reading.{StandsWhereKept}
 use Rattle.sasi_manifest.specs.OpenManifest as manifests
 use Rattle.sasi_manifest.specs.OpenManifest.{ManifestState}
-use Rattle.sasi_folder.specs.FolderLaws.{kinds_apart}
+use Rattle.sasi_folder.proofs.FolderLaws.{kinds_apart}
 use Rattle.sasi_folder.specs.Replay.{replayed_state}
 use Rattle.sasi_folder.specs.DurableStore.{IsDurable}
 use Rattle.sasi_folder.specs.Stands.{HasSegments, Holds, IsFresh, Stands, types_listed}

@@ -20,14 +20,14 @@ around names i d within =
 pub foreign_at : (names : List FileName) (i : ℕ) (d : FileName) (damage : Damage) → i < length names
     → All (λ name. is_initial name ≡ true) (take i names) → is_initial (get_or names i d) ≡ false
     → damage.file ≡ get_or names i d → damage.rule ≡ NoSeal → damage.at ≡ 0 → seen_bytes damage.seen ≡ [] → ReportsForeign names damage
-foreign_at names i d damage within firsts other file rule offset seen = record {
+foreign_at names i d damage within firsts other file rule offset_is seen = record {
   before = take i names;
   behind = drop (i + 1) names;
   is = around names i d within ∙ ap (λ (n : FileName). take i names ++ n ∷ drop (i + 1) names) (sym file);
   firsts = recursion_from_All (λ name. is_initial name ≡ true) (take i names) firsts;
   other = ap is_initial file ∙ other;
   rule = rule;
-  offset = offset;
+  offset_is = offset_is;
   seen = seen;
 }
 

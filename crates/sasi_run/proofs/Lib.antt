@@ -18,7 +18,6 @@ pub mod FirstStore
 pub mod Foreign
 pub mod SealedStore
 pub mod FolderOpening
-pub mod ReplayingServes
 pub mod NoUnlistedFiles
 pub mod Damaged
 pub mod OpenedState

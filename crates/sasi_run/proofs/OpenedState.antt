@@ -14,7 +14,7 @@ use Rattle.sasi_host.specs.View.{View, IsThere}
 use Rattle.sasi_host.specs.Disk.{Changes, Lists}
 use Rattle.sasi_manifest.specs.declared.listing.Listing.{Listing}
 use Rattle.sasi_manifest.specs.Reading.{ReadsListing}
-use Rattle.sasi_folder.specs.FolderLaws.{segments_kept}
+use Rattle.sasi_folder.proofs.FolderLaws.{segments_kept}
 use Rattle.sasi_folder.specs.Replay.{replayed_state}
 use Rattle.sasi_folder.specs.Stands.{IsFresh, IsSealed, Stands, StandsSealed, types_listed}
 use Rattle.sasi_run.specs.declared.unlisted_files.Keep.TheVariants.{Store as KeepStore}

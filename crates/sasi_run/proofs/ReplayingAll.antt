@@ -6,7 +6,7 @@ use Rattle.sasi_host.specs.declared.fault.ReadFault.{ReadFault}
 use Rattle.sasi_host.specs.declared.fault.ReadFault.TheVariants as fault
 use Rattle.sasi_host.specs.Contents.{contents_same, there_where, told_after}
 use Rattle.sasi_host.specs.Disk.{Changes, Same}
-use Rattle.sasi_host.specs.Durability.{file_durable_same}
+use Rattle.sasi_host.proofs.Durability.{file_durable_same}
 use Rattle.sasi_host.specs.ChangeLaws.{stays, then_same}
 use Rattle.sasi_host.specs.Names.{Folder, log_name}
 use Rattle.sasi_host.specs.View.{View, IsThere, IsTold}
@@ -16,8 +16,8 @@ use Rattle.sasi_manifest.specs.declared.listing.Listing.{Listing}
 use Rattle.sasi_manifest.specs.ListedDefinition.{ListedDefinition}
 use Rattle.sasi_manifest.specs.Listings.{listed_definitions}
 use Rattle.sasi_folder.specs.Replay.{after_segment, after_segments, listed_state, replayed_state}
-use Rattle.sasi_folder.specs.ReplayLaws.{segments_last}
-use Rattle.sasi_folder.specs.FolderChanges.{segments_join}
+use Rattle.sasi_folder.proofs.ReplayLaws.{segments_last}
+use Rattle.sasi_folder.proofs.FolderChanges.{segments_join}
 use Rattle.sasi_folder.specs.Stands.{HasSegment, types_listed}
 use Rattle.sasi_run.specs.Replaying.{LiveSegmentsExist, HasRead, HasReplayed, ReplayShowsDamage, SegmentShowsDamage, KeepsSegment, KeepsSegments, MergedBefore, ReadsAll, ReadsSegment, Replays, ReplaysSegment, NoFalseReplayDamage, NoFalseSegmentDamage}
 use Rattle.sasi_run.proofs.SealedStore.{bytes_there, reads_of}

@@ -10,12 +10,12 @@ use Rattle.sasi_host.specs.declared.fault.ReadFault.TheVariants as fault
 use Rattle.sasi_host.specs.Names.{Bytes, log_name}
 use Rattle.sasi_host.specs.Contents.{contents_same, there_where, told_after}
 use Rattle.sasi_host.specs.Disk.{Changes, IsFileDurable, Same}
-use Rattle.sasi_host.specs.Durability.{file_durable_contents}
+use Rattle.sasi_host.proofs.Durability.{file_durable_contents}
 use Rattle.sasi_host.specs.ChangeLaws.{then_same}
 use Rattle.sasi_host.specs.View.{View, IsSound, IsThere, IsTold, Rose, contents}
 use Rattle.sasi_gated.specs.Format.{IsGated}
 use Rattle.sasi_gated.specs.Gates.{IsAtGate}
-use Rattle.sasi_gated.specs.Laws.{gated_at}
+use Rattle.sasi_gated.proofs.Laws.{gated_at}
 use Rattle.sasi_gated.specs.Reads.{HasHeader, GatedDamageShown, NoFalseGatedDamage}
 use Rattle.sasi_gated.specs.Handles.{Handle}
 use Rattle.sasi_cells.specs.declared.mutation.Mutation.{Mutation}
@@ -25,9 +25,9 @@ use Rattle.sasi_commitlog.specs.Reads.{IsLogDamageAt, ReadsLogGate, ReadsMutatio
 use Rattle.sasi_commitlog.specs.LogPosition.{IsAtLogEnd, IsReadingLog}
 use Rattle.sasi_manifest.specs.declared.listing.Listing.{Listing}
 use Rattle.sasi_manifest.specs.Listings.{listed_definitions}
-use Rattle.sasi_folder.specs.Recording.{changed_definitions}
+use Rattle.sasi_folder.proofs.Recording.{changed_definitions}
 use Rattle.sasi_folder.specs.Replay.{after_mutation, after_segment, is_replayed}
-use Rattle.sasi_folder.specs.ReplayLaws.{segment_more}
+use Rattle.sasi_folder.proofs.ReplayLaws.{segment_more}
 use Rattle.sasi_folder.specs.Stands.{types_listed}
 use Rattle.sasi_run.specs.Replaying.{SegmentShowsDamage, KeepsSegment, ReadsSegment, ReplaysSegment, NoFalseSegmentDamage}
 

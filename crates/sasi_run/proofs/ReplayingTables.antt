@@ -24,7 +24,7 @@ use Rattle.sasi_manifest.specs.Listings.{listed_definitions}
 use Rattle.sasi_manifest.specs.Naming.{AreApart, IsFree}
 use Rattle.sasi_manifest.specs.Types.{numbered_types}
 use Rattle.sasi_machine.specs.Prepares.{IsApplicable, IsNewTable}
-use Rattle.sasi_folder.specs.Creating.{same_sym}
+use Rattle.sasi_folder.proofs.Creating.{same_sym}
 use Rattle.sasi_folder.specs.Replay.{reaches, is_replayed}
 use Rattle.sasi_folder.specs.Stands.{types_listed}
 

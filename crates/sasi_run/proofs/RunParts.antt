@@ -46,9 +46,9 @@ counted_twice n a b = omega arith
 behind_both : (xs ys : List Piece) (p q r : Pieces) → p ≡ behind xs q → q ≡ behind ys r → p ≡ behind (xs ++ ys) r
 behind_both xs ys p q r e f = e ∙ ap (behind xs) f ∙ ap (λ w. record { whole = w; last = r.last }) (sym (append_assoc xs ys r.whole))
 
-pub reads_on : (a : Standing) (b : Standing) (xs ys : List ℕ) (done : List Piece)
+pub reads_on : (a : SplitterState) (b : SplitterState) (xs ys : List ℕ) (done : List Piece)
     → ((left : List ℕ) → resume a (xs ++ left) ≡ behind done (resume b left))
-    → (c : Standing) (more : List Piece) → ((left : List ℕ) → resume b (ys ++ left) ≡ behind more (resume c left)) → (left : List ℕ)
+    → (c : SplitterState) (more : List Piece) → ((left : List ℕ) → resume b (ys ++ left) ≡ behind more (resume c left)) → (left : List ℕ)
     → resume a ((xs ++ ys) ++ left) ≡ behind (done ++ more) (resume c left)
 reads_on a b xs ys done first c more then left = ap (resume a) (append_assoc xs ys left)
     ∙ behind_both done more _ _ _ (first (ys ++ left)) (then left)

@@ -29,11 +29,12 @@ use Rattle.sasi_manifest.specs.Format.{IsNext}
 use Rattle.sasi_manifest.specs.ListedDefinition.{ListedDefinition}
 use Rattle.sasi_manifest.specs.Listings.{CanCreate, created_table}
 use Rattle.sasi_manifest.specs.OpenManifest.{ManifestState, IsEither, ManifestStands}
-use Rattle.sasi_folder.specs.Creating.{can_create}
-use Rattle.sasi_folder.specs.FolderLaws.{kinds_apart}
-use Rattle.sasi_folder.specs.FolderChanges.{AddsTable}
-use Rattle.sasi_folder.specs.Recording.{adds_table, mutation_fits, together_created, together_written}
-use Rattle.sasi_folder.specs.DurableStore.{IsDurable, create_moments, create_durable, each_stands, write_moments, write_durable}
+use Rattle.sasi_folder.proofs.Creating.{can_create}
+use Rattle.sasi_folder.proofs.FolderLaws.{kinds_apart}
+use Rattle.sasi_folder.proofs.FolderChanges.{AddsTable}
+use Rattle.sasi_folder.proofs.Recording.{adds_table, mutation_fits, together_created, together_written}
+use Rattle.sasi_folder.specs.DurableStore.{IsDurable, each_stands}
+use Rattle.sasi_folder.proofs.AtomicWrites.{create_moments, create_durable, write_moments, write_durable}
 use Rattle.sasi_folder.specs.Stands.{StandsSealed, types_listed}
 use Rattle.sasi_cells.specs.Mutations.{state_with_mutation}
 use Rattle.sasi_machine.specs.Prepares.{IsApplicable, CreatesTable}

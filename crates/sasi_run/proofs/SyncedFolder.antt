@@ -10,7 +10,7 @@ use Rattle.sasi_host.specs.Contents.{contents_same, there_where, told_before}
 use Rattle.sasi_host.specs.ChangeLaws.{Each}
 use Rattle.sasi_cells.specs.declared.mutation.Mutation.{Mutation}
 use Rattle.sasi_manifest.specs.declared.listing.Listing.{Listing}
-use Rattle.sasi_folder.specs.FolderLaws.{segments_kept}
+use Rattle.sasi_folder.proofs.FolderLaws.{segments_kept}
 use Rattle.sasi_folder.specs.Stands.{Holds, IsFresh, types_listed}
 use Rattle.sasi_run.specs.Opening.{IsRecordSynced, IsFolderDurable, KeepsStore, has_records}
 

@@ -23,7 +23,7 @@ pub record ReportsForeign (names : List FileName) (damage : Damage) : Type 0 whe
   pub firsts : AllByRecursion (λ name. is_initial name ≡ true) before
   pub other : is_initial damage.file ≡ false
   pub rule : damage.rule ≡ NoSeal
-  pub offset : damage.at ≡ 0
+  pub offset_is : damage.at ≡ 0
   pub seen : seen_bytes damage.seen ≡ []
 
 -- the folder isn't a new one, where its files are known

@@ -18,7 +18,7 @@ pub record ReportsMissing (names : List FileName) (file : FileName) (damage : Da
   pub absent : ¬ Contains names file
   pub named : damage.file ≡ file
   pub rule : damage.rule ≡ Missing
-  pub offset : damage.at ≡ 0
+  pub offset_is : damage.at ≡ 0
   pub seen : seen_bytes damage.seen ≡ []
 
 -- the damage reports the first live segment of the log that isn't among them

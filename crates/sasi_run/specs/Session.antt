@@ -67,7 +67,7 @@ pub record Stops (stop : Stop) (old : Session) (out_old out_new : Option (List �
   pub parts : bytes ≡ taken ++ rest
   pub done : List Piece
   pub next : List Piece
-  pub stand : Standing
+  pub stand : SplitterState
   pub reading : (left : List ℕ) → resume old.splitter (taken ++ left) ≡ behind (done ++ next) (resume stand left)
   pub shown : EmittedAtStop stop old.store.machine out_old out_new done next
 

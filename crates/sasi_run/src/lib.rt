@@ -2,22 +2,22 @@
 //! reply, and answers a status. The contract of `run` is the headline of the repository.
 #![tactic(auto)]
 
-mod unlisted_files;
+mod arguments;
+mod command_line;
+mod folder_sync;
 mod new_folder;
 mod open;
-mod folder_sync;
-mod arguments;
 mod reading;
 mod replay;
+mod runner;
 mod sealed_folder;
 mod seals;
 mod session;
 mod status;
 mod store;
-mod runner;
-mod command_line;
+mod unlisted_files;
 
 pub use arguments::Command;
-pub use status::Status;
-pub use runner::run;
 pub use command_line::command;
+pub use runner::run;
+pub use status::Status;

@@ -13,8 +13,8 @@ ghost use Rattle.sasi_folder.specs.Stands.{IsFresh};
 ghost use Rattle.sasi_run.specs.NewFolder.{ReportsForeign, NoFalseFreshDamage, StandsEmpty, is_initial};
 ghost use Rattle.sasi_run.specs.Storing.{IsReady, IsStoreDurable, AnyFolderChange};
 
-use crate::unlisted_files::{Keep, delete_unlisted};
 use crate::store::Store;
+use crate::unlisted_files::{Keep, delete_unlisted};
 use sasi_commitlog::Log;
 use sasi_host::{Damage, FileName, FormatRule, Host, HostFault, ReadFault, found};
 use sasi_machine::Machine;

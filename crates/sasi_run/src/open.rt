@@ -15,13 +15,13 @@ ghost use Rattle.sasi_folder.specs.Stands.{Holds, IsSealed, Stands, StandsSealed
 ghost use Rattle.sasi_run.specs.Opening.{IsFolderDurable};
 ghost use Rattle.sasi_run.specs.Storing.{IsReady, UnchangedOrStands, IsStoreDurable, AnyFolderChange};
 
-use crate::new_folder::create_store;
 use crate::folder_sync::sync_all;
+use crate::new_folder::create_store;
 use crate::replay::replay;
 use crate::sealed_folder::open_listed;
 use crate::seals::highest_seal;
 use crate::store::Store;
-use sasi_host::{FileName, Host, ReadFault};
+use sasi_host::{FileName, Host, ManifestNumber, ReadFault};
 use sasi_types::Partitioner;
 use std::alloc::Global;
 
@@ -52,7 +52,7 @@ fn open_sealed<H: Host>(
     alloc: Global,
     host: &mut H,
     names: &[FileName],
-    number: u32,
+    number: ManifestNumber,
 ) -> Result<Store, ReadFault>
     requires lists { Lists (H.view host.old) names.now }
     requires sorted { IsStrictlySortedBy name_cmp names.now }

@@ -18,10 +18,10 @@ ghost use Rattle.sasi_run.specs.Replaying.{LiveSegmentsExist, HasReplayed, HasLi
 
 use sasi_cells::Mutation;
 use sasi_commitlog::Log;
-use sasi_host::{Host, ReadFault};
+use sasi_host::{Host, ReadFault, SegmentNumber};
 use sasi_machine::Machine;
 use sasi_manifest::{ListedTable, Listing};
-use sasi_types::TableTypes;
+use sasi_types::{TableNumber, TableTypes};
 use std::alloc::{AllocError, Global};
 
 /// What a listing and its live segments of the log stand for, with the last of them at its closed gate.
@@ -109,7 +109,7 @@ fn create_tables(
 }
 
 // Whether mutations of the table with this number are replayed from the segment.
-fn is_replayed(tables: &[ListedTable], segment: u32, number: u32) -> bool
+fn is_replayed(tables: &[ListedTable], segment: SegmentNumber, number: TableNumber) -> bool
     ensures { result ≡ is_replayed (map listed tables.now) segment number }
 {
     if number == 0 {
@@ -125,7 +125,7 @@ fn is_replayed(tables: &[ListedTable], segment: u32, number: u32) -> bool
 fn merge(
     machine: &mut Machine,
     listing: &Listing,
-    number: u32,
+    number: SegmentNumber,
     mutation: Mutation,
 ) -> Result<(), AllocError>
     requires known { IsMutationOf (types_listed listing.now) mutation }
@@ -146,7 +146,7 @@ fn replay_segment<H: Host>(
     machine: &mut Machine,
     listing: &Listing,
     types: &TableTypes,
-    number: u32,
+    number: SegmentNumber,
 ) -> Result<Log, ReadFault>
     requires there { IsThere (H.view host.old) (log_name number) }
     requires types { types.now ≡ types_listed listing.now }

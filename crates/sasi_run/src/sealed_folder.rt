@@ -19,7 +19,9 @@ ghost use Rattle.sasi_run.specs.SealedFolder.{NoFalseStoreDamage, ReportsMissing
 ghost use Rattle.sasi_run.specs.Storing.{HasNoUnlisted};
 
 use crate::unlisted_files::{Keep, delete_unlisted};
-use sasi_host::{Damage, FileName, FormatRule, Host, ReadFault, found};
+use sasi_host::{
+    Damage, FileName, FormatRule, Host, ManifestNumber, ReadFault, SegmentNumber, found,
+};
 use sasi_manifest::Manifest;
 use std::alloc::Global;
 
@@ -29,7 +31,7 @@ pub fn open_listed<H: Host>(
     alloc: Global,
     host: &mut H,
     names: &[FileName],
-    number: u32,
+    number: ManifestNumber,
 ) -> Result<Manifest, ReadFault>
     requires lists { Lists (H.view host.old) names.now }
     requires sorted { IsStrictlySortedBy name_cmp names.now }
@@ -70,7 +72,7 @@ fn read_listed<H: Host>(
     alloc: Global,
     host: &mut H,
     names: &[FileName],
-    number: u32,
+    number: ManifestNumber,
 ) -> Result<Manifest, ReadFault>
     requires { Lists (H.view host.old) names.now }
     ensures there { OnOk result (IsThere (H.view host.old) (manifest_name number)) }
@@ -94,7 +96,11 @@ fn read_listed<H: Host>(
 }
 
 // Passes where each segment of the commit log from `floor` to `last` exists, and else reports the first missing one.
-fn check_segments(names: &[FileName], floor: u32, last: u32) -> Result<(), Damage>
+fn check_segments(
+    names: &[FileName],
+    floor: SegmentNumber,
+    last: SegmentNumber,
+) -> Result<(), Damage>
     requires { floor ≤ last }
     ensures there { OnOk result ((segment : ℕ) → floor ≤ segment → segment ≤ last → Contains names.now (log_name segment)) }
     ensures missing { IfErr result (ReportsMissingSegment names.now floor last) }

@@ -4,10 +4,10 @@ ghost use Rattle.sasi_host.specs.declared.name.FileName.{FileName as AName};
 ghost use Rattle.sasi_host.specs.Names.{seal_name};
 ghost use Rattle.sasi_run.specs.Opening.{IsHighestSeal, IsSealNumber};
 
-use sasi_host::FileName;
+use sasi_host::{FileName, ManifestNumber};
 
 /// The number of the highest seal among the names, if there is one.
-pub fn highest_seal(names: &[FileName]) -> Option<u32>
+pub fn highest_seal(names: &[FileName]) -> Option<ManifestNumber>
     ensures { IsHighestSeal names.now result }
 {
     let mut highest = None;
@@ -18,7 +18,7 @@ pub fn highest_seal(names: &[FileName]) -> Option<u32>
 }
 
 // The higher of this number and the name's, if the name is that of a seal.
-fn higher(highest: Option<u32>, name: FileName) -> Option<u32>
+fn higher(highest: Option<ManifestNumber>, name: FileName) -> Option<ManifestNumber>
     ensures { (before : List AName) → IsHighestSeal before highest → IsHighestSeal (before ++ name ∷ []) result }
 {
     let Some(number) = seal_number(name) else {
@@ -36,7 +36,7 @@ fn higher(highest: Option<u32>, name: FileName) -> Option<u32>
     }
 }
 
-fn seal_number(name: FileName) -> Option<u32>
+fn seal_number(name: FileName) -> Option<ManifestNumber>
     ensures { IsSealNumber name result }
 {
     if name == FileName::seal(name.number) {

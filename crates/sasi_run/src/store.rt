@@ -14,7 +14,7 @@ ghost use Rattle.sasi_run.specs.Storing.{IsAtomic, IsReady, IsStoreDurable, AnyF
 
 use sasi_cells::Mutation;
 use sasi_commitlog::Log;
-use sasi_host::{Host, HostFault};
+use sasi_host::{Host, HostFault, SegmentNumber};
 use sasi_machine::{Machine, Outcome, Prepared, Reply};
 use sasi_manifest::{Edit, EditList, Manifest};
 use sasi_schema::Table;
@@ -101,7 +101,7 @@ fn create<H: Host>(
 }
 
 // The edit that lists a table whose mutations stand in the segments of the log from this one on.
-fn edits_of(alloc: Global, table: &Table, since: u32) -> Result<EditList, HostFault>
+fn edits_of(alloc: Global, table: &Table, since: SegmentNumber) -> Result<EditList, HostFault>
     ensures edits { IfOk result (λ edits. edits ≡ Edit.CreateTable table.now.number table.now.name table.now.columns table.now.key since ∷ []) }
     ensures memory { IfErr result (λ f. f ≡ HostFault.OutOfMemory) }
 {

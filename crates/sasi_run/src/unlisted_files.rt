@@ -7,14 +7,18 @@ ghost use Rattle.sasi_host.specs.View.{DiskCauses, IsAbsent, IsThere};
 ghost use Rattle.sasi_host.specs.Disk.{Changes, Lists, FileChange};
 ghost use Rattle.sasi_run.specs.Deletion.{DeletedUnless, Deletes, has_segment, keeps};
 
-use sasi_host::{Failed, FileName, Host};
+use sasi_host::{Failed, FileName, Host, ManifestNumber, SegmentNumber};
 
 /// The files of a folder that are kept. The others are deleted.
 #[derive(Clone, Copy)]
 pub enum Keep {
     Nothing,
     /// The manifest of this number, its seal, and the segments of the commit log from `floor` to `last`.
-    Store { number: u32, floor: u32, last: u32 },
+    Store {
+        number: ManifestNumber,
+        floor: SegmentNumber,
+        last: SegmentNumber,
+    },
 }
 
 /// Deletes each file that isn't kept. A crash leaves none of them once the folder is synced.
@@ -62,7 +66,7 @@ fn is_kept(keep: Keep, name: FileName) -> bool
 }
 
 // Whether it is a segment of the commit log with a number from `floor` to `last`.
-fn is_segment(name: FileName, floor: u32, last: u32) -> bool
+fn is_segment(name: FileName, floor: SegmentNumber, last: SegmentNumber) -> bool
     ensures { result ≡ has_segment floor last name }
 {
     name == FileName::log(name.number) && floor <= name.number && name.number <= last

@@ -42,7 +42,13 @@ fn lists(floor: u8, last: u8, since: u8) -> ListedDefinition {
 }
 
 /// Puts a manifest of this number that lists these segments, and its seal.
-fn put_manifest(rt: &impl Abort, alloc: Global, host: &mut MemHost, number: u8, listed: ListedDefinition) {
+fn put_manifest(
+    rt: &impl Abort,
+    alloc: Global,
+    host: &mut MemHost,
+    number: u8,
+    listed: ListedDefinition,
+) {
     let ListedDefinition { floor, last, since } = listed;
     let patches = [(15, number), (30, floor), (34, last), (64, since)];
     let bytes = patched(rt, alloc, &MANIFEST_BYTES, &patches);

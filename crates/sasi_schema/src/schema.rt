@@ -13,7 +13,7 @@ use crate::SchemaFault;
 use crate::check::check;
 use crate::search::{find_table, position_in};
 use crate::table::Table;
-use sasi_types::{ColumnType, Columns, Name, Names};
+use sasi_types::{ColumnType, Columns, Name, Names, TableNumber};
 use std::alloc::{AllocError, Global};
 use std::marker::Model;
 
@@ -89,7 +89,7 @@ impl Schema {
         table: &Name,
         columns: &Columns,
         keys: &Names,
-    ) -> Result<u32, SchemaFault>
+    ) -> Result<TableNumber, SchemaFault>
         ensures number { IfOk result (λ number. number ≡ length self.old + 1) }
         ensures made { OnOk result (self.new ≡ self.old ++ new_definition table.now columns.now keys.now ∷ []) }
         ensures answers { Answers refusal_of_fault (create_rules self.old table.now columns.now keys.now) result }

@@ -5,14 +5,14 @@ ghost use Rattle.sasi_schema.specs.Numbers.{IsKeyAt};
 
 use crate::number::number_at;
 use crate::search::position_in;
-use sasi_types::{ColumnType, Columns, Name};
+use sasi_types::{ColumnType, Columns, Name, TableNumber};
 use std::alloc::{AllocError, Global};
 
 /// A table, as it is defined.
 #[derive(Drop)]
 pub struct Table {
     /// From 1, in the order of creation.
-    pub number: u32,
+    pub number: TableNumber,
     pub name: Name,
     pub columns: Columns,
     /// The position of the key column, from 0.
@@ -28,7 +28,7 @@ impl Table {
     ghost use Rattle.sasi_schema.specs.Defined.{definition};
 
     /// A table of these columns, with the key column at this position.
-    pub fn new(number: u32, name: Name, columns: Columns, key: u16) -> Table
+    pub fn new(number: TableNumber, name: Name, columns: Columns, key: u16) -> Table
         requires key { IsKeyAt key columns }
         requires few { length columns ≤ column_limit }
         ensures number { result.number ≡ number }

@@ -6,7 +6,7 @@ use Rattle.sasi_host.specs.Names.{Bytes}
 use Rattle.sasi_host.specs.View.{View, contents}
 use Rattle.sasi_host.specs.Disk.{Changes, Same}
 use Rattle.sasi_host.specs.Contents.{contents_same}
-use Rattle.sasi_host.specs.DamageLaws.{shown_before}
+use Rattle.sasi_host.proofs.DamageLaws.{shown_before}
 use Rattle.sasi_tokentree.specs.Damages.{Node, ShownOf, ShowsOf}
 
 -- the file reads as before

@@ -13,8 +13,8 @@ use Rattle.sasi_host.specs.Names.{Bytes}
 use Rattle.sasi_host.specs.View.{View, contents}
 use Rattle.sasi_host.specs.Disk.{Changes, Same}
 use Rattle.sasi_host.specs.Damages.{HasAt, ShowsEnd, DamageShown, TellsSize}
-use Rattle.sasi_host.specs.Offsets.{at_window}
-use Rattle.sasi_host.specs.DamageLaws.{end_shown}
+use Rattle.sasi_host.proofs.Offsets.{at_window}
+use Rattle.sasi_host.proofs.DamageLaws.{end_shown}
 use Rattle.sasi_tokentree.specs.Format.{pair_at, entry, node, nodes, size, entries_of_node, above, level_bytes, levels, tree_bytes, HasTree}
 use Rattle.sasi_tokentree.specs.Sizes.{entry_length, node_length, part_length, level_length, one_level, more_levels, first_above_length}
 use Rattle.sasi_tokentree.specs.Heights.{bytes_below_root, none_below_root, more_below_root, top_is}

@@ -1,3 +1,5 @@
+pub mod Laws
+pub mod EntryPages
 pub mod LevelSteps
 pub mod AfterRead
 pub mod NodeParts

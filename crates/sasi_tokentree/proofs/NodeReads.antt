@@ -10,8 +10,8 @@ use Rattle.sasi_host.specs.declared.fault.ReadFault.{ReadFault}
 use Rattle.sasi_host.specs.declared.fault.ReadFault.TheVariants as fault
 use Rattle.sasi_host.specs.Names.{Bytes}
 use Rattle.sasi_host.specs.View.{View}
-use Rattle.sasi_host.specs.Offsets.{at_window, differs_in, inner_at}
-use Rattle.sasi_host.specs.DamageLaws.{shown_as}
+use Rattle.sasi_host.proofs.Offsets.{at_window, differs_in, inner_at}
+use Rattle.sasi_host.proofs.DamageLaws.{shown_as}
 use Rattle.sasi_tokentree.specs.Format.{entry, node_header, node}
 use Rattle.sasi_tokentree.specs.Damages.{Node, IsNodeFrom, NodeBreaks, ShowsOf, ShownOf}
 use Rattle.sasi_tokentree.specs.Damages.IsNodeFrom.{of_level}

@@ -5,5 +5,3 @@ pub mod Damages
 pub mod Writes
 pub mod Reads
 pub mod Scans
-pub mod EntryPages
-pub mod Laws

@@ -4,12 +4,12 @@
 
 mod node_decode;
 mod node_encode;
+mod node_layout;
 mod node_read;
 mod order;
-mod seek;
-mod node_layout;
-mod tree;
 mod pair_scan;
+mod seek;
+mod tree;
 mod writing;
 
 pub use order::is_rising;

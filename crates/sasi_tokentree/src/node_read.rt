@@ -8,7 +8,7 @@ ghost use Rattle.sasi_tokentree.specs.Format.{node};
 ghost use Rattle.sasi_tokentree.specs.Damages.{ShownOf};
 ghost use Rattle.sasi_tokentree.specs.Reads.{IsLowerBound, HasNode, NoFalseNodeDamage};
 
-use crate::node_decode::{LowerBound, ENTRY_BYTES, NODE_HEADER_BYTES, check_header, find_below};
+use crate::node_decode::{ENTRY_BYTES, LowerBound, NODE_HEADER_BYTES, check_header, find_below};
 use sasi_host::{BufferedFile, Host, PageReader, ReadFault};
 use sasi_types::Token;
 

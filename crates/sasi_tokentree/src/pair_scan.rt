@@ -12,8 +12,8 @@ ghost use Rattle.sasi_tokentree.specs.Reads.{NoFalseTreeDamage, NoFalsePairDamag
 ghost use Rattle.sasi_tokentree.specs.Scans.{ReadsEntry, ReadsFirstPair, ReadsNextPair, IsEntryBuffered, pair_place};
 
 use crate::node_decode::{ENTRY_BYTES, NODE_HEADER_BYTES, number_in};
-use crate::seek::{count_below, size_below_root};
 use crate::node_layout::{MAX_ENTRIES, MAX_NODE_BYTES};
+use crate::seek::{count_below, size_below_root};
 use sasi_host::{BufferedFile, Host, PageReader, ReadFault, unexpected_end};
 use sasi_types::{Pair, Token, TreeRef};
 
@@ -45,7 +45,8 @@ fn start_of(tree: TreeRef) -> u64
     ensures is { result ≡ tree.root - bytes_below_root tree.pairs tree.pairs }
     ensures before { result ≤ tree.root }
 {
-    tree.root.saturating_sub(size_below_root(tree.pairs as usize))
+    tree.root
+        .saturating_sub(size_below_root(tree.pairs as usize))
 }
 
 // The pair with this index, of leaves at this offset.

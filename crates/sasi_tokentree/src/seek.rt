@@ -9,8 +9,8 @@ ghost use Rattle.sasi_tokentree.specs.Damages.{IsNodeFrom, ShownOf};
 ghost use Rattle.sasi_tokentree.specs.Reads.{IsLowerBound, NoFalseLevelDamage, HasLevels};
 
 use crate::node_decode::LowerBound;
-use crate::node_read::node_below;
 use crate::node_layout::{MAX_ENTRIES, MAX_NODE_BYTES, level_size, node_count};
+use crate::node_read::node_below;
 use sasi_host::{BufferedFile, Host, PageReader, ReadFault};
 use sasi_types::Token;
 
@@ -53,7 +53,15 @@ pub fn count_below<H: Host, P: PageReader>(
         return Ok(below);
     }
     let next = at + level_size(count);
-    let above = count_below(host, pages, buffered, next, level + 1, node_count(count), token)?;
+    let above = count_below(
+        host,
+        pages,
+        buffered,
+        next,
+        level + 1,
+        node_count(count),
+        token,
+    )?;
     if above.count == 0 {
         return Ok(LowerBound { count: 0, place: 0 });
     }

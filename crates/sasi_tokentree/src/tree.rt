@@ -11,7 +11,7 @@ ghost use Rattle.sasi_tokentree.specs.Reads.{NoFalseTreeDamage};
 ghost use Rattle.sasi_tokentree.specs.Scans.{ReadsEntry, ReadsFirstPair, ReadsNextPair, IsEntryBuffered, pair_place};
 
 use crate::pair_scan::{first_from, pair_from};
-use sasi_host::{FileName, BufferedFile, Host, PageReader, ReadFault};
+use sasi_host::{BufferedFile, FileName, Host, PageReader, ReadFault};
 use sasi_types::{Pair, Token, TreeRef};
 use std::marker::Model;
 

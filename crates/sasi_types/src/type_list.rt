@@ -47,10 +47,13 @@ impl TypeList {
     }
 }
 
+/// The number of a table, from 1 in the order of creation.
+pub type TableNumber = u32;
+
 /// The numbers of tables, each with the types of its columns.
 #[derive(Debug, Drop)]
 pub struct TableTypes {
-    items: Vec<(u32, TypeList)>,
+    items: Vec<(TableNumber, TypeList)>,
 }
 
 impl Model for TableTypes {
@@ -73,14 +76,14 @@ impl TableTypes {
     }
 
     /// The tables, in order.
-    pub fn as_slice(&self) -> &[(u32, TypeList)]
+    pub fn as_slice(&self) -> &[(TableNumber, TypeList)]
         ensures { result.now ≡ self.now }
     {
         &self.items
     }
 
     /// Adds the types of one more table.
-    pub fn push(&mut self, table: u32, types: TypeList) -> Result<(), AllocError>
+    pub fn push(&mut self, table: TableNumber, types: TypeList) -> Result<(), AllocError>
         ensures ok { OnOk result (self.new ≡ self.old ++ (table, types) ∷ []) }
         ensures err { OnErr result (self.new ≡ self.old) }
     {

@@ -1,5 +1,5 @@
 // Tokens and the order of partitions, against values that were worked out by hand.
-use sasi_types::{Key, Partitioner, DecoratedKey, compare};
+use sasi_types::{DecoratedKey, Key, Partitioner, compare};
 use std::alloc::Global;
 use std::cmp::Ordering;
 use std::process::Abort;

@@ -7,7 +7,7 @@ use Rattle.sasi_host.specs.Disk.{Same}
 use Rattle.sasi_host.specs.ChangeLaws.{then_same}
 use Rattle.sasi_host.specs.Buffered.{Buffered, IsBuffered, buffered_after}
 use Rattle.sasi_tokentree.specs.Heights.{height}
-use Rattle.sasi_host.specs.DamageLaws.{shown_before}
+use Rattle.sasi_host.proofs.DamageLaws.{shown_before}
 use Rattle.sasi_tokentree.specs.Scans.{ReadsEntry, PairScan}
 use Rattle.sasi_dataread.specs.Laws.{pairs_are}
 use Rattle.sasi_dataread.proofs.ReadChains.{causes_fault, causes_ok, passes_on, there_same}

@@ -9,7 +9,7 @@ use Rattle.sasi_host.specs.declared.name.FileName.{FileName}
 use Rattle.sasi_host.specs.View.{contents}
 use Rattle.sasi_host.specs.Damages.{DamageShown}
 use Rattle.sasi_host.specs.Buffered.{Buffered}
-use Rattle.sasi_host.specs.DamageLaws.{shown_as, shown_before}
+use Rattle.sasi_host.proofs.DamageLaws.{shown_as, shown_before}
 use Rattle.sasi_dataread.specs.Damages.{ShowsHeaderOrFooter}
 use Rattle.sasi_dataread.specs.HeaderAndFooter.{NoFalseHeaderDamage, NoFalseFooterDamage}
 use Rattle.sasi_dataread.specs.Laws.{least_size}

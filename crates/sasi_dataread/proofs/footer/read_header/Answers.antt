@@ -2,8 +2,8 @@ use Rattle.std.proofs.Common.{ℕ, List, subst, lit<, lit≤}
 use Rattle.std.proofs.lemmas.Result.{err_from_is_err_and}
 use Rattle.sasi_host.specs.declared.name.FileName.{FileName}
 use Rattle.sasi_host.specs.Damages.{HasAt, ShowsEnd}
-use Rattle.sasi_host.specs.Offsets.{window_at}
-use Rattle.sasi_host.specs.DamageLaws.{shown_as}
+use Rattle.sasi_host.proofs.Offsets.{window_at}
+use Rattle.sasi_host.proofs.DamageLaws.{shown_as}
 use Rattle.sasi_dataread.specs.Damages.{ShowsHeaderOrFooter}
 use Rattle.sasi_dataread.proofs.Footers.{end_frames, run_header, header_read}
 use Rattle.sasi_dataread.proofs.footer.read_header.Goals as goal

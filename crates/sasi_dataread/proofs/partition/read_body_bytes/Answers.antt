@@ -7,7 +7,7 @@ use Rattle.sasi_host.specs.Damages.{DamageShown, ShowsEnd}
 use Rattle.sasi_host.specs.Disk.{Same}
 use Rattle.sasi_host.specs.Contents.{contents_same}
 use Rattle.sasi_host.specs.ChangeLaws.{then_same}
-use Rattle.sasi_host.specs.DamageLaws.{shown_before}
+use Rattle.sasi_host.proofs.DamageLaws.{shown_before}
 use Rattle.sasi_dataread.proofs.Bodies.{body_shown, sized_spares, cut_spares, sized_read, reads_cost, both_causes}
 use Rattle.sasi_dataread.proofs.partition.read_body_bytes.Goals as goal
 

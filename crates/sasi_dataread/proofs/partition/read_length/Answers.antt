@@ -3,7 +3,7 @@ use Rattle.std.specs.Int.{to_be_bytes, w32}
 use Rattle.std.proofs.lemmas.Result.{err_from_is_err_and}
 use Rattle.sasi_host.specs.declared.name.FileName.{FileName}
 use Rattle.sasi_host.specs.Damages.{HasAt, DamageShown, TellsSize}
-use Rattle.sasi_host.specs.Offsets.{window_at}
+use Rattle.sasi_host.proofs.Offsets.{window_at}
 use Rattle.sasi_dataread.specs.Damages.ShowsPartition.{wrong_length}
 use Rattle.sasi_dataread.proofs.Numbers.{number_at}
 use Rattle.sasi_dataread.proofs.Bodies.{far_shown, far_spares, length_shown, length_spares}

@@ -5,10 +5,10 @@ use Rattle.sasi_types.specs.declared.tree.Pair.{Pair}
 use Rattle.sasi_host.specs.Disk.{Same}
 use Rattle.sasi_host.specs.Buffered.{buffered_after}
 use Rattle.sasi_host.specs.ChangeLaws.{then_same}
-use Rattle.sasi_host.specs.DamageLaws.{shown_before}
+use Rattle.sasi_host.proofs.DamageLaws.{shown_before}
 use Rattle.sasi_tokentree.specs.Scans.{ReadsEntry, ReadsNextPair, IsEntryBuffered, pair_place}
-use Rattle.sasi_tokentree.specs.EntryPages.{entry_pages}
-use Rattle.sasi_dataread.specs.Pairs.{none_left}
+use Rattle.sasi_tokentree.proofs.EntryPages.{entry_pages}
+use Rattle.sasi_dataread.proofs.Pairs.{none_left}
 use Rattle.sasi_dataread.proofs.Pages.{goes_nowhere}
 use Rattle.sasi_dataread.proofs.ReadChains.{causes_done, causes_handed, causes_on, causes_within}
 use Rattle.sasi_dataread.proofs.DataScan.{all_pairs, walk_goes, entry_of, partition_shown, tree_shown, next_takes, tree_spares, took_partition, place_spares}

@@ -1,5 +1,5 @@
 use Rattle.std.proofs.Common.{arith, rules}
-use Rattle.sasi_host.specs.Offsets.{other_at}
+use Rattle.sasi_host.proofs.Offsets.{other_at}
 use Rattle.sasi_host.proofs.damage.check_part.Goals as goal
 
 pub returns-then-ne-clause-seen : goal.returns-then-ne-clause-seen

@@ -4,7 +4,7 @@ use Rattle.sasi_host.specs.Names.{Bytes}
 use Rattle.sasi_host.specs.Disk.{FileChange, InPlace, Torn, overlay}
 use Rattle.sasi_host.specs.ChangeLaws.{then_same}
 use Rattle.sasi_host.specs.Contents.{becomes_on}
-use Rattle.sasi_host.specs.Durability.{durable}
+use Rattle.sasi_host.proofs.Durability.{durable}
 use Rattle.sasi_host.proofs.durable.write_durably.Goals as goal
 
 pub returns-clause-ok : goal.returns-clause-ok

@@ -3,7 +3,7 @@ use Rattle.sasi_host.specs.Names.{Bytes}
 use Rattle.sasi_host.specs.Disk.{Changes, LeftWith, FileChange}
 use Rattle.sasi_host.specs.ChangeLaws.{untouched}
 use Rattle.sasi_gated.specs.Format.{IsBeforeOrAfter}
-use Rattle.sasi_gated.specs.HandleLaws.{unmoved}
+use Rattle.sasi_gated.proofs.HandleLaws.{unmoved}
 use Rattle.sasi_manifest.specs.Edits.{encoded}
 use Rattle.sasi_manifest.proofs.append.append_edits.Goals as goal
 

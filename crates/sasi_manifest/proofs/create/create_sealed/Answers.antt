@@ -89,4 +89,4 @@ returns-clause-is_open g c =
     let gated = c.in_ok-gated.ensures in
     new_is_open c.args.number c.in_ok-gated.gated c.args.listing.now c.in_ok-first.first.listing c.manifest.result
     c.in_ok-first.first.record c.requires.apply (c.in_ok-first.ensures.record ∙ ap encoded items) rewritten c.manifest.ensures gated.file
-    gated.offset_is gated.fits gated.usable
+    gated.offset gated.fits gated.usable

@@ -44,7 +44,7 @@ loop-listed-preserved g c =
     let gate = subst (λ (more : Bool). ReadsGate
     (g.H.Host.view c.loop-listed.host) c.loop-listed.gated.file c.loop-listed.gated.at c.next.new.self.at more c.next.new.out.items)
     c.if-branch.true next.gate in
-    let offset = subst (λ (more : Bool). c.next.new.self.at ≡ (if more then c.loop-listed.gated.at + (5 + length c.next.new.out.items) else c.loop-listed.gated.at)) c.if-branch.true next.offset_is in
+    let offset = subst (λ (more : Bool). c.next.new.self.at ≡ (if more then c.loop-listed.gated.at + (5 + length c.next.new.out.items) else c.loop-listed.gated.at)) c.if-branch.true next.offset in
     let took = subst (λ (l : Bytes). (edits : List Edit) × IsRecord c.loop-listed.listed l edits
     × (Some c.in_ok-take_record.field-0 ≡ with_record_counted l (after_all c.loop-listed.listed edits))) c.deref.ensures.value
     c.in_ok-take_record.ensures.ok in

@@ -6,7 +6,7 @@ use Rattle.sasi_manifest.specs.declared.listing.Listing.{Listing}
 use Rattle.sasi_manifest.specs.Edits.{encoded}
 use Rattle.sasi_manifest.specs.Format.{IsRewritten}
 use Rattle.sasi_manifest.specs.Listings.{edits_of}
-use Rattle.sasi_folder.specs.FolderLaws.{kinds_apart}
+use Rattle.sasi_folder.proofs.FolderLaws.{kinds_apart}
 use Rattle.sasi_run.specs.declared.store.Store.{Store}
 use Rattle.sasi_run.proofs.NoUnlistedFiles.{alone_first}
 use Rattle.sasi_run.proofs.FirstStore.{create_moments, first_ready, first_durable, first_short, fresh_moments, fresh_unsealed, is_rewritten, log_fresh, log_room, log_any_change, made_listing, made_any_change, still_fresh}

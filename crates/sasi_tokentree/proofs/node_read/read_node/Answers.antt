@@ -1,9 +1,9 @@
 use Rattle.std.proofs.Common.{◌≡◌, ℕ, ◌+◌, ◌*◌, length, refl, sym, ◌∙◌, ap, subst, arith, Err}
 use Rattle.std.proofs.lemmas.Result.{err_from_is_err_and}
 use Rattle.sasi_host.specs.declared.name.FileName.{FileName}
-use Rattle.sasi_host.specs.Offsets.{window_at}
+use Rattle.sasi_host.proofs.Offsets.{window_at}
 use Rattle.sasi_tokentree.specs.Damages.{Node}
-use Rattle.sasi_tokentree.specs.EntryPages.{node_pages}
+use Rattle.sasi_tokentree.proofs.EntryPages.{node_pages}
 use Rattle.sasi_tokentree.specs.Reads.{IsInNode}
 use Rattle.sasi_tokentree.proofs.NodeReads.{node_is, node_head, early_spares, early_shown, node_shown}
 use Rattle.sasi_tokentree.proofs.Seeks.{damage_reads, ok_reads, reads_within}

@@ -7,7 +7,7 @@ use Rattle.sasi_host.specs.Damages.{DamageShown, TellsSize}
 use Rattle.sasi_host.specs.ChangeLaws.{stays, then_same}
 use Rattle.sasi_tokentree.specs.Damages.{IsNodeOf}
 use Rattle.sasi_tokentree.specs.Heights.{height}
-use Rattle.sasi_tokentree.specs.EntryPages.{entry_pages}
+use Rattle.sasi_tokentree.proofs.EntryPages.{entry_pages}
 use Rattle.sasi_tokentree.specs.Scans.{pair_place}
 use Rattle.sasi_tokentree.proofs.AfterRead.{reads_still, shown_still}
 use Rattle.sasi_tokentree.proofs.Seeks.{reads_on, ok_reads}

@@ -1,7 +1,7 @@
 use Rattle.std.proofs.Common.{ℕ, ◌+◌, ◌*◌, ◌/◌, ◌%◌, refl, subst, arith, ◌∙◌, ap, Some}
 use Rattle.std.proofs.lemmas.Result.{err_from_is_err_and}
 use Rattle.sasi_host.specs.Damages.{HasAt}
-use Rattle.sasi_host.specs.Offsets.{window_at, inner_at}
+use Rattle.sasi_host.proofs.Offsets.{window_at, inner_at}
 use Rattle.sasi_tokentree.specs.Format.{entry}
 use Rattle.sasi_tokentree.proofs.NodeParts.{entry_at}
 use Rattle.sasi_tokentree.proofs.LeafPairs.{pair_reads, short_spares}

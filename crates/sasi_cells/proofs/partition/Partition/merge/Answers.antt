@@ -1,8 +1,8 @@
 use Rattle.std.proofs.Common.{ap, ◌∙◌}
 use Rattle.std.proofs.lemmas.Result.{on_ok_weaker}
 use Rattle.sasi_model.specs.Cells.{Partition as Written, merge}
-use Rattle.sasi_cells.specs.Laws.Merged.{merge_associates, merge_with_itself}
-use Rattle.sasi_cells.specs.Laws.Typed.{typed_merge_commutes}
+use Rattle.sasi_cells.proofs.Laws.Merged.{merge_associates, merge_with_itself}
+use Rattle.sasi_cells.proofs.Laws.Typed.{typed_merge_commutes}
 use Rattle.sasi_cells.proofs.partition.Partition.merge.Goals as goal
 
 pub returns-clause-commutes : goal.returns-clause-commutes

@@ -2,7 +2,7 @@ use Rattle.std.proofs.Common.{◌≡◌, ◌++◌, length, true, refl, ◌∙◌
 use Rattle.sasi_host.specs.Names.{Bytes, data_name}
 use Rattle.sasi_host.specs.Contents.{reaches_held}
 use Rattle.sasi_datawrite.specs.Format.{header}
-use Rattle.sasi_datawrite.specs.Laws.{header_length}
+use Rattle.sasi_datawrite.proofs.Laws.{header_length}
 use Rattle.sasi_host.specs.ChangeLaws.{untouched}
 use Rattle.sasi_datawrite.proofs.Pushes.{writing_none}
 use Rattle.sasi_datawrite.proofs.writer.DataWriter.begin.Goals as goal

@@ -11,8 +11,7 @@ returns-clause-ok g c content =
       file = c.self.inside.file;
       partitioner = c.self.inside.partitioner;
       pairs = c.self.inside.pairs;
-      place =
-          c.self.inside.offset;
+      offset = c.self.inside.offset;
       max_timestamp = c.self.inside.max_timestamp;
       usable = c.self.inside.usable;
     } in

@@ -3,7 +3,7 @@ use Rattle.std.specs.Prelude.{max}
 use Rattle.sasi_types.specs.Token.{token_of}
 use Rattle.sasi_types.specs.declared.tree.Pair.{Pair}
 use Rattle.sasi_host.specs.Names.{Bytes}
-use Rattle.sasi_datawrite.specs.Laws.{partition_length}
+use Rattle.sasi_datawrite.proofs.Laws.{partition_length}
 use Rattle.sasi_datawrite.specs.Writing.{Writer, IsWriting, RiseBelow, last_pair}
 use Rattle.sasi_datawrite.proofs.Pushes.{up_to_push, writing_push}
 use Rattle.sasi_datawrite.proofs.writer.DataWriter.push.Goals as goal
@@ -23,8 +23,7 @@ returns-clause-ok g c content =
       file = c.self.inside.file;
       partitioner = c.self.inside.partitioner;
       pairs = c.self.inside.pairs;
-      place =
-          c.self.inside.offset;
+      offset = c.self.inside.offset;
       max_timestamp = c.self.inside.max_timestamp;
       usable = c.self.inside.usable;
     } in
@@ -32,8 +31,7 @@ returns-clause-ok g c content =
       file = c.self.inside.file;
       partitioner = c.self.inside.partitioner;
       pairs = c.push.new.self;
-      place =
-          c.in_ok-next.next;
+      offset = c.in_ok-next.next;
       max_timestamp = c.max-self-inside.result;
       usable = true;
     } in

@@ -1,5 +1,5 @@
 use Rattle.std.proofs.lemmas.Result.{err_from_is_err_and}
-use Rattle.sasi_gated.specs.Undamaged.{gated_undamaged}
+use Rattle.sasi_gated.proofs.Undamaged.{gated_undamaged}
 use Rattle.sasi_gated.proofs.Opens.{on_damage_weaker, opened_gate, opened_reading}
 use Rattle.sasi_gated.proofs.gated.Gated.open.Goals as goal
 

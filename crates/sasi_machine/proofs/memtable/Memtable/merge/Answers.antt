@@ -1,5 +1,5 @@
 use Rattle.std.proofs.Common.{unwrap_or, sym, ap, subst}
-use Rattle.sasi_cells.specs.Memtable.{IsStored}
+use Rattle.sasi_cells.specs.Rows.{IsStored}
 use Rattle.sasi_model.specs.Cells.{empty_partition, merge}
 use Rattle.sasi_machine.specs.MemtableView.{MemtableView, partition_at}
 use Rattle.sasi_machine.proofs.Stored.{fault_seen, merge_seen, merge_stored}

@@ -11,7 +11,7 @@ use Rattle.sasi_manifest.specs.Edits.{encoded}
 use Rattle.sasi_manifest.specs.Format.{IsNext}
 use Rattle.sasi_manifest.specs.Listings.{AllApply}
 use Rattle.sasi_manifest.specs.OpenManifest.{ManifestState, IsEither, ManifestStands}
-use Rattle.sasi_manifest.proofs.CrashMoments.{appended, either_listed, next_is_open, fault_is_open}
+use Rattle.sasi_manifest.proofs.CrashMoments.{ListsEither, appended, lists_either, next_is_open, fault_is_open}
 use Rattle.sasi_manifest.proofs.manifest.Manifest.append.Goals as goal
 
 pub invariant_of-self : goal.invariant_of-self
@@ -21,18 +21,11 @@ invariant_of-self g c =
 
 pub returns-in_err-append_edits-clause-any_moment : goal.returns-in_err-append_edits-clause-any_moment
 returns-in_err-append_edits-clause-any_moment g c =
-    subst (λ (h : ManifestState). (next : AListing) → IsNext h.listing c.args.edits.now next → ManifestStands
-    (g.H.Host.view c.args.host.now) h.number h.at h.listing → Changes
-    (FileChange (manifest_name h.number) (LeftWith (IsEither h.number h.listing next))) (g.H.Host.view c.args.host.now)
-    (g.H.Host.view c.append_edits.new.host)) c.self.view_is
-    (λ next is stands. either_listed (g.H.Host.view c.args.host.now)
-    (g.H.Host.view c.append_edits.new.host) c.self.inside.number c.self.inside.gated.at c.self.inside.gated.file c.self.inside.listing next
-    c.args.edits.now c.self.invariant.file (subst (λ (h : ManifestState). AllApply (Some h.listing) c.args.edits.now)
-    (sym c.self.view_is) c.requires.apply) c.requires.some c.requires.short is
-    (subst (λ (l : List Edit). (records : List Bytes) → IsAtEnd
-    (g.H.Host.view c.args.host.now) c.self.inside.gated.file c.self.inside.gated.at records → Changes
-    (FileChange c.self.inside.gated.file (LeftWith (IsBeforeOrAfter c.self.inside.gated.file records (encoded l))))
-    (g.H.Host.view c.args.host.now) (g.H.Host.view c.append_edits.new.host)) c.as_slice.ensures c.append_edits.ensures.any_moment) stands)
+    subst (λ (h : ManifestState). ListsEither (g.H.Host.view c.args.host.now) (g.H.Host.view c.append_edits.new.host) h c.args.edits.now) c.self.view_is
+    (lists_either _ _ c.self.inside.gated.file
+    (record { number = c.self.inside.number; at = c.self.inside.gated.at; usable = c.self.inside.usable; listing = c.self.inside.listing }) c.args.edits.now c.as_slice.result.now c.self.invariant.file
+    (subst (λ (h : ManifestState). AllApply (Some h.listing) c.args.edits.now) (sym c.self.view_is) c.requires.apply)
+    c.requires.some c.requires.short c.as_slice.ensures c.append_edits.ensures.any_moment)
 
 pub invariant_of-self-2 : goal.invariant_of-self-2
 invariant_of-self-2 g c =
@@ -41,7 +34,7 @@ invariant_of-self-2 g c =
     next_is_open c.self.inside.number c.self.inside.gated c.append_edits.new.gated c.self.inside.listing c.append_edits.new.listing
     c.as_slice.result.now c.self.invariant.file ready c.self.invariant.consistent
     (subst (λ (l : List Edit). AllApply (Some c.self.inside.listing) l) (sym c.as_slice.ensures)
-    (subst (λ (h : ManifestState). AllApply (Some h.listing) c.args.edits.now) (sym c.self.view_is) c.requires.apply)) ok.listing ok.offset_is ok.fits
+    (subst (λ (h : ManifestState). AllApply (Some h.listing) c.args.edits.now) (sym c.self.view_is) c.requires.apply)) ok.listing ok.offset ok.fits
     ok.file ok.usable
 
 pub returns-clause-ok : goal.returns-clause-ok
@@ -59,15 +52,8 @@ returns-clause-ok g c =
 
 pub returns-clause-any_moment : goal.returns-clause-any_moment
 returns-clause-any_moment g c =
-    subst (λ (h : ManifestState). (next : AListing) → IsNext h.listing c.args.edits.now next → ManifestStands
-    (g.H.Host.view c.args.host.now) h.number h.at h.listing → Changes
-    (FileChange (manifest_name h.number) (LeftWith (IsEither h.number h.listing next))) (g.H.Host.view c.args.host.now)
-    (g.H.Host.view c.append_edits.new.host)) c.self.view_is
-    (λ next is stands. either_listed (g.H.Host.view c.args.host.now)
-    (g.H.Host.view c.append_edits.new.host) c.self.inside.number c.self.inside.gated.at c.self.inside.gated.file c.self.inside.listing next
-    c.args.edits.now c.self.invariant.file (subst (λ (h : ManifestState). AllApply (Some h.listing) c.args.edits.now)
-    (sym c.self.view_is) c.requires.apply) c.requires.some c.requires.short is
-    (subst (λ (l : List Edit). (records : List Bytes) → IsAtEnd
-    (g.H.Host.view c.args.host.now) c.self.inside.gated.file c.self.inside.gated.at records → Changes
-    (FileChange c.self.inside.gated.file (LeftWith (IsBeforeOrAfter c.self.inside.gated.file records (encoded l))))
-    (g.H.Host.view c.args.host.now) (g.H.Host.view c.append_edits.new.host)) c.as_slice.ensures c.append_edits.ensures.any_moment) stands)
+    subst (λ (h : ManifestState). ListsEither (g.H.Host.view c.args.host.now) (g.H.Host.view c.append_edits.new.host) h c.args.edits.now) c.self.view_is
+    (lists_either _ _ c.self.inside.gated.file
+    (record { number = c.self.inside.number; at = c.self.inside.gated.at; usable = c.self.inside.usable; listing = c.self.inside.listing }) c.args.edits.now c.as_slice.result.now c.self.invariant.file
+    (subst (λ (h : ManifestState). AllApply (Some h.listing) c.args.edits.now) (sym c.self.view_is) c.requires.apply)
+    c.requires.some c.requires.short c.as_slice.ensures c.append_edits.ensures.any_moment)

@@ -12,7 +12,7 @@ use Rattle.sasi_host.specs.Names.{Bytes}
 use Rattle.sasi_gated.specs.Format.{magic, header, frame, IsLength, FromGate, IsGated}
 use Rattle.sasi_gated.specs.Damages.{Differs, EndsEarly, Breaks, IsGatedDamage}
 use Rattle.sasi_host.specs.Damages.{seen_bytes}
-use Rattle.sasi_gated.specs.Laws.{frame_states, frame_length, magic_length, header_length, left_at}
+use Rattle.sasi_gated.proofs.Laws.{frame_states, frame_length, magic_length, header_length, left_at}
 
 parts_same : (front seen rest a wanted b : Bytes) → front ++ seen ++ rest ≡ a ++ wanted ++ b → length front ≡ length a → length seen ≡ length wanted
     → seen ≡ wanted

@@ -15,7 +15,7 @@ use Rattle.sasi_body.specs.Format.{value_bytes, cell_bytes, key_bytes, cells_of,
 use Rattle.sasi_body.specs.Damages.{IsWrong, IsNoValue, IsWrongNumber, IsWrongText, Breaks}
 use Rattle.sasi_body.specs.Damages.IsWrongNumber.{wrong_key_length, wrong_deletion, wrong_count, wrong_column, wrong_time, wrong_tag, wrong_marker}
 use Rattle.sasi_body.specs.Damages.IsWrongText.{wrong_key, wrong_value}
-use Rattle.sasi_body.specs.Laws.Unique.{value_short}
+use Rattle.sasi_body.proofs.Laws.Unique.{value_short}
 
 -- ---- bodies
 

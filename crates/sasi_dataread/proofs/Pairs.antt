@@ -19,7 +19,7 @@ use Rattle.sasi_host.specs.Names.{Bytes}
 use Rattle.sasi_host.specs.View.{View}
 use Rattle.sasi_tokentree.specs.Format.{pair_at, IsBefore, HasTree, tree_bytes}
 use Rattle.sasi_datawrite.specs.Format.{Content, header, front, decorated_key, key_pairs, pairs_from, partition_bytes, partitions}
-use Rattle.sasi_datawrite.specs.Laws.{partition_length, pairs_length}
+use Rattle.sasi_datawrite.proofs.Laws.{partition_length, pairs_length}
 use Rattle.sasi_dataread.specs.Opened.{Opened, StandsAt}
 use Rattle.sasi_dataread.specs.Reads.{IsOpenOn}
 use Rattle.sasi_dataread.specs.Laws.{file_is, end_within, footer_of}

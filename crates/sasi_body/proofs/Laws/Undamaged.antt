@@ -25,7 +25,7 @@ use Rattle.sasi_body.specs.Damages.{IsWrong16, IsWrong64, IsTag, IsWrongNumber, 
 use Rattle.sasi_body.specs.Damages.IsWrongNumber.{wrong_key_length, wrong_deletion, wrong_count, wrong_column, wrong_time, wrong_tag, wrong_marker}
 use Rattle.sasi_body.specs.Damages.IsWrongText.{wrong_key, wrong_value}
 use Rattle.sasi_body.specs.Damages.HasOtherLength.{no_key_length, no_key, no_deletion, no_count, no_column, no_time, no_tag, no_size, no_value, goes_on}
-use Rattle.sasi_body.specs.Laws.Unique.{parts_same, same_16, same_64, sized_same, value_short, live_bytes, has_bytes, cell_apart, cell_same, bodies_same}
+use Rattle.sasi_body.proofs.Laws.Unique.{parts_same, same_16, same_64, sized_same, value_short, live_bytes, has_bytes, cell_apart, cell_same, bodies_same}
 
 -- ---- the cells of a partition
 

@@ -17,7 +17,7 @@ use Rattle.sasi_types.specs.Value.{type_of, stored}
 use Rattle.sasi_model.specs.Cells.{Partition, value_cmp, cell_cmp, newest_of, unshadowed, value_of, merge}
 use Rattle.sasi_model.specs.Step.{value_stored}
 use Rattle.sasi_cells.specs.Typed.{IsInRange, IsOfType, IsTyped}
-use Rattle.sasi_cells.specs.Laws.Merged.{get_merge, TiesAreEqual, merge_commutes}
+use Rattle.sasi_cells.proofs.Laws.Merged.{get_merge, TiesAreEqual, merge_commutes}
 
 -- ---- the bytes of a value
 

@@ -23,9 +23,9 @@ use Rattle.sasi_manifest.specs.ListedDefinition.{ListedDefinition}
 use Rattle.sasi_manifest.specs.Types.{numbered_types}
 use Rattle.sasi_manifest.specs.OpenManifest.{IsEither}
 use Rattle.sasi_folder.specs.Replay.{listed_state, reaches, replayed_state, is_replayed}
-use Rattle.sasi_folder.specs.ReplayLaws.{AreOfFirst, last_more, segments_new}
+use Rattle.sasi_folder.proofs.ReplayLaws.{AreOfFirst, last_more, segments_new}
 use Rattle.sasi_folder.specs.Stands.{HasSegment, HasSegments, Holds, types_listed}
-use Rattle.sasi_folder.specs.FolderLaws.{kinds_apart, numbers_apart, sealed_kept, segments_kept}
+use Rattle.sasi_folder.proofs.FolderLaws.{kinds_apart, numbers_apart, sealed_kept, segments_kept}
 
 -- ---- lists
 

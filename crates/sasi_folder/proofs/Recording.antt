@@ -22,7 +22,7 @@ use Rattle.sasi_manifest.specs.Listings.{CanCreate, created_table, listed_defini
 use Rattle.sasi_manifest.specs.Naming.{AreNames}
 use Rattle.sasi_manifest.specs.OpenManifest.{ManifestState}
 use Rattle.sasi_manifest.specs.Types.{numbered_types}
-use Rattle.sasi_folder.specs.FolderChanges.{AddsTable}
+use Rattle.sasi_folder.proofs.FolderChanges.{AddsTable}
 use Rattle.sasi_folder.specs.DurableStore.{BelongTogether}
 use Rattle.sasi_folder.specs.Stands.{types_listed}
 

@@ -1,0 +1,6 @@
+pub mod ReplayLaws
+pub mod FolderLaws
+pub mod FolderChanges
+pub mod Recording
+pub mod Creating
+pub mod AtomicWrites
