@@ -1,92 +1,68 @@
--- A whole body that was read.
-use Rattle.std.proofs.Common.{◌≡◌, true, false, arith, ◌≢◌, List, [], ◌∷◌, ◌++◌, length, Result, Ok, Err, refl, sym, ◌∙◌, ap, append_assoc}
-use Rattle.std.specs.Bool.{◌==◌}
-use Rattle.std.proofs.lemmas.Bool.Decides.{nat_tests}
-use Rattle.std.specs.Result.{IfOk, IfErr}
-use Rattle.std.proofs.lemmas.Result.{IfErr-weaker}
-use Rattle.std.proofs.lemmas.List.{append-nil}
+-- Bytes are the body of at most one key and partition of a table, and such bytes show no corruption.
+use Rattle.std.proofs.Common.{◌≡◌, ◌≤◌, ℕ, List, ◌++◌, length, refl, sym, ap, ◌∙◌}
 use Rattle.sasi_host.specs.Names.{Bytes}
+use Rattle.sasi_host.specs.declared.damage.FormatRule.{FormatRule}
 use Rattle.sasi_types.specs.declared.column.ColumnType.{ColumnType}
 use Rattle.sasi_model.specs.Cells.{Partition}
-use Rattle.sasi_fields.specs.Reading.{Reading, ReadsField}
-use Rattle.sasi_body.specs.Format.{body, key_bytes, part_bytes}
-use Rattle.sasi_body.specs.Typed.{IsBodyOf}
-use Rattle.sasi_body.specs.Prefixes.{IsKey, IsAtDeletion}
-use Rattle.sasi_body.specs.Damages.{HasOtherLength}
-use Rattle.sasi_body.specs.Damages.HasOtherLength.{goes_on}
-use Rattle.sasi_body.specs.Reads.{IsPart}
-use Rattle.sasi_body.specs.Faults.{IsFaultOf, IsOutOfMemory}
-use Rattle.sasi_host.specs.Damages.{seen_bytes}
-use Rattle.sasi_body.specs.declared.fault.BodyFault.{BodyFault}
-use Rattle.sasi_body.specs.declared.fault.BodyFault.TheVariants as fault
-use Rattle.sasi_body.proofs.Laws.Unique.{bodies_same}
-use Rattle.sasi_body.proofs.Laws.Undamaged.{no_break, no_other_length}
+use Rattle.sasi_cells.specs.Entries.{Entry, IsOrdered, partition_of}
+use Rattle.sasi_formats.specs.Formats.{Encodes, encoded}
+use Rattle.sasi_formats.specs.Reader.{Corruption, Broken}
+use Rattle.sasi_formats.specs.Failures.{FailsWhole}
+use Rattle.sasi_formats.proofs.Agreement.{one_content, is_encoded, never_both, same_front}
+use Rattle.sasi_formats.proofs.Encoding.{encoded_only, fits}
+use Rattle.sasi_formats.proofs.Offsets.{whole_within}
+use Rattle.sasi_body.specs.Body.{Content, body_of, content, body, cells_of, IsBodyOf}
+use Rattle.sasi_body.proofs.FitBodies.{body_fits, fits_body, cells_are, partition_is}
+use Rattle.sasi_body.proofs.BodyBytes.{same_body}
 
--- a reader that went over a key and a partition stands behind their body
-pub body_passed : (key : Bytes) (part : Partition) (start between end : Reading) → ReadsField (key_bytes key) start between → ReadsField (part_bytes part) between end → start.left ≡ body key part ++ end.left
-unfolding body
-body_passed key part start between end first second = first.next ∙ ap (λ (l : Bytes). key_bytes key ++ l) second.next ∙ sym (append_assoc (key_bytes key) (part_bytes part) end.left)
+-- the body of a key and a partition of the table is in its format
+pub body_encodes : (listed : List ColumnType) (key : Bytes) (part : Partition) (bytes : Bytes) → IsBodyOf listed key part → bytes ≡ body key part → Encodes (body_of listed) (content key part) bytes
+body_encodes listed key part bytes is same = is_encoded (body_of listed) (content key part) bytes (body_fits listed key part is) (same ∙ sym (same_body listed key part))
 
--- a key and a partition that were read are those of a body of the table
-pub body_of : (types : List ColumnType) (key : Bytes) (part : Partition) → IsKey types key → IsPart types part → IsBodyOf types key part
-body_of types key part key_is part_is = record {
-  has = record {
-    key_some = key_is.some;
-    key_short = key_is.short;
-    deleted = part_is.deleted;
-    count = part_is.count;
-    cells = part_is.cells.each;
-  };
-  key_typed = key_is.typed;
-  columns = part_is.cells.listed;
+-- bytes in the format are the body of a key and a partition of the table
+pub record IsBodyIn (listed : List ColumnType) (bytes key : Bytes) (deleted : ℕ) (entries : List Entry) : Type 0 where
+  pub ordered : IsOrdered deleted entries
+  pub body_is : IsBodyOf listed key (partition_of deleted entries)
+  pub bytes_are : bytes ≡ body key (partition_of deleted entries)
+
+pub encodes_body : (listed : List ColumnType) (bytes key : Bytes) (deleted : ℕ) (entries : List Entry) → Encodes (body_of listed) (key, (deleted, entries)) bytes → IsBodyIn listed bytes key deleted entries
+encodes_body listed bytes key deleted entries h =
+    let fit = fits_body listed key deleted entries (fits (body_of listed) (key, (deleted, entries)) bytes h) in
+    record {
+      ordered = fit.ordered;
+      body_is = fit.body_is;
+      bytes_are = encoded_only (body_of listed) (key, (deleted, entries)) bytes h ∙ ap (λ (l : List Entry). encoded (body_of listed) (key, (deleted, l))) (sym (cells_are deleted entries fit.ordered)) ∙ same_body listed key (partition_of deleted entries);
+    }
+
+-- what is read is what was put
+pub record IsSame (key read_key : Bytes) (part read_part : Partition) : Type 0 where
+  pub keys : read_key ≡ key
+  pub parts : read_part ≡ part
+
+contents_same : (key key' : Bytes) (part : Partition) (deleted : ℕ) (entries : List Entry) → IsOrdered deleted entries → (key', (deleted, entries)) ≡ content key part → IsSame key key' part (partition_of deleted entries)
+contents_same key key' part deleted entries ordered same = record {
+  keys = ap (λ (c : Content). c.0) same;
+  parts = partition_is deleted entries part ordered (ap (λ (c : Content). c.1.0) same) (ap (λ (c : Content). c.1.1) same);
 }
 
--- behind the key at the start stands the deletion
-pub at_deletion : (types : List ColumnType) (key : Bytes) (start between : Reading) → start.done ≡ [] → ReadsField (key_bytes key) start between → IsKey types key → IsAtDeletion types between.done
-at_deletion types key start between empty passes key_is = record {
-  key = key;
-  is = passes.done ∙ ap (λ (l : Bytes). l ++ key_bytes key) empty;
-  key_is = key_is;
-}
+pub read_again : (listed : List ColumnType) (bytes key' : Bytes) (deleted : ℕ) (entries : List Entry) (key : Bytes) (part : Partition) → Encodes (body_of listed) (key', (deleted, entries)) bytes → IsBodyOf listed key part → bytes ≡ body key part
+    → IsSame key key' part (partition_of deleted entries)
+read_again listed bytes key' deleted entries key part h is same =
+    contents_same key key' part deleted entries (encodes_body listed bytes key' deleted entries h).ordered (one_content (body_of listed) (key', (deleted, entries)) (content key part) bytes h (body_encodes listed key part bytes is same))
 
--- bytes that are left behind a body aren't its own
-pub left_over : (types : List ColumnType) (key : Bytes) (part : Partition) (start between end : Reading) → IsKey types key → IsPart types part →
-    ReadsField (key_bytes key) start between → ReadsField (part_bytes part) between end
-    → end.left ≢ [] → HasOtherLength types start.left
-left_over types key part start between end key_is part_is first second some = goes_on key part end.left (body_of types key part key_is part_is) some
-    (body_passed key part start between end first second)
+-- two bodies of a table that begin the same bytes are those of one key and partition
+pub bodies_same : (listed : List ColumnType) (key key' : Bytes) (part part' : Partition) (a b : Bytes) → IsBodyOf listed key part → IsBodyOf listed key' part' → body key part ++ a ≡ body key' part' ++ b → (key ≡ key') × (part ≡ part') × (a ≡ b)
+bodies_same listed key key' part part' a b first second same =
+    let encodes = body_encodes listed key part (body key part) first refl in
+    let both = same_front (body_of listed) (content key part) (content key' part') (body key part) (body key' part') a b encodes (body_encodes listed key' part' (body key' part') second refl) same in
+    let ordered = (encodes_body listed (body key part) key part.deleted (cells_of part) encodes).ordered in
+    let parts = contents_same key' key part' part.deleted (cells_of part) ordered both.0 in
+    (parts.keys, sym (partition_is part.deleted (cells_of part) part ordered refl refl) ∙ parts.parts, both.1)
 
-pub all_passed : (key : Bytes) (part : Partition) (start between end : Reading) → ReadsField (key_bytes key) start between → ReadsField (part_bytes part)
-    between end → end.left ≡ [] → start.left ≡ body key part
-all_passed key part start between end first second none = body_passed key part start between end first second ∙ ap (λ (l : Bytes). body key part ++ l) none ∙ append-nil (body key part)
+-- a body of the table shows no corruption
+pub no_corruption : (listed : List ColumnType) (key : Bytes) (part : Partition) (bytes : Bytes) (f : Corruption) → IsBodyOf listed key part → bytes ≡ body key part → FailsWhole (body_of listed) bytes f → ⊥
+no_corruption listed key part bytes f is same h = never_both (body_of listed) bytes (content key part) f (body_encodes listed key part bytes is same) h
 
--- ---- what was put is read
-
--- bytes that are a body show no fault
-only_memory : (types : List ColumnType) (key : Bytes) (part : Partition) (bytes : Bytes) (f : BodyFault) → IsBodyOf types key part → bytes ≡ body key
-    part → IsFaultOf types bytes f → IsOutOfMemory f
-only_memory types key part bytes fault.OutOfMemory of is shown = refl
-only_memory types key part bytes fault.OtherLength of is shown = absurd (no_other_length types key part of bytes is shown)
-only_memory types key part bytes (fault.Damaged broken) of is shown = absurd (no_break types key part of bytes broken.rule broken.at (seen_bytes broken.seen) is shown)
-
-pub spared : {T : Type 0} (result : Result T BodyFault) (types : List ColumnType) (bytes key : Bytes) (part : Partition) → IfErr result
-    (IsFaultOf types bytes) → IsBodyOf types key part → bytes ≡ body key part → IfErr result IsOutOfMemory
-spared result types bytes key part shown of is = IfErr-weaker result (IsFaultOf types bytes) IsOutOfMemory (λ f. only_memory types key part bytes f of is) shown
-
-pub read_again : (result : Result (Bytes × Partition) BodyFault) (types : List ColumnType) (bytes key : Bytes) (part : Partition)
-    → IfOk result (λ read. bytes ≡ body read.0 read.1) → IfOk result (λ read. IsBodyOf types read.0 read.1) → IsBodyOf types key part → bytes ≡ body
-    key part → IfOk result (λ read. (read.0 ≡ key) × (read.1 ≡ part))
-read_again (Ok read) types bytes key part stands in_table of is =
-    let same = bodies_same types read.0 key read.1 part [] [] in_table of (ap (λ (l : Bytes). l ++ []) (sym stands ∙ is)) in
-    (same.0, same.1)
-read_again (Err f) types bytes key part stands in_table of is = tt
-
--- ---- the end
-
-pub some_left : (l : Bytes) → (length l == 0) ≡ false → l ≢ []
-some_left [] is none = cc
-some_left (x ∷ l) is none = cc
-
-pub none_left : (l : Bytes) → (length l == 0) ≡ true → l ≡ []
-none_left [] is = refl
-none_left (x ∷ l) is = absurd (grind (arith, nat_tests))
+-- the offset of a broken rule lies within the bytes
+pub offset_within : (listed : List ColumnType) (bytes : Bytes) (rule : FormatRule) (at : ℕ) (seen : Bytes) → FailsWhole (body_of listed) bytes (Broken rule at seen) → at ≤ length bytes
+offset_within listed bytes rule at seen h = whole_within (body_of listed) bytes (Broken rule at seen) h

@@ -1,6 +1,7 @@
-pub mod Laws
-pub mod Bodies
-pub mod Cells
-pub mod Exits
-pub mod Puts
 pub mod Values
+pub mod TypedValues
+pub mod FitCells
+pub mod Rising
+pub mod FitBodies
+pub mod BodyBytes
+pub mod Bodies

@@ -1,73 +1,92 @@
 // One cell of a body, with its column.
-ghost use Rattle.std.specs.Prelude.{◌≡◌, ◌≤◌, ◌<◌, ◌^◌, ◌+◌, ◌++◌, [], ℕ, List, IfErr, IfOk, length};
-ghost use Rattle.std.specs.Int.{to_be_bytes, w16, w64};
-ghost use Rattle.sasi_cells.specs.Entries.{Entry};
-ghost use Rattle.sasi_fields.specs.Reading.{ReadsField};
-ghost use Rattle.sasi_body.specs.Format.{cell_bytes, IsCell};
-ghost use Rattle.sasi_body.specs.Typed.{IsListed};
-ghost use Rattle.sasi_body.specs.Prefixes.{next_column, IsAtCell, IsAtTime, IsAtTag, IsTime};
-ghost use Rattle.sasi_body.specs.Faults.{IsFaultOf};
-ghost use Rattle.sasi_body.specs.Reads.{whole};
+ghost use Rattle.std.specs.Prelude.{◌≡◌, ◌<◌, ◌^◌, ◌+◌};
+ghost use Rattle.sasi_formats.specs.Reader.{read};
+ghost use Rattle.sasi_formats.specs.Fields.{last};
+ghost use Rattle.sasi_formats.specs.Gives.{Gives};
+ghost use Rattle.sasi_body.specs.Body.{cell, column_after, is_next, time};
 
-use crate::fault::{BodyFault, body_damage};
-use crate::header::MAX_TIMESTAMP;
+use crate::part::MAX_TIME;
 use crate::value::read_value;
+use sasi_cells::Entry;
 use sasi_fields::FieldReader;
+use sasi_formats::{FieldStart, FormatFault, ReadItem, read_u16, read_u64};
 use sasi_host::FormatRule;
 use sasi_types::{Cell, ColumnType};
 use std::alloc::Global;
 
-// Reads the next cell, whose column is `least` or above.
-pub fn read_cell(
+// Reads cells of a table whose columns have these types, above a deletion.
+#[derive(Drop)]
+pub struct ReadCell<'a> {
+    pub types: &'a [ColumnType],
+    pub deleted: u64,
+}
+
+impl<'a> ReadItem<Entry> for ReadCell<'a> {
+    ghost format = { λ c before. cell c.types.now c.deleted before };
+
+    fn read(
+        &self,
+        alloc: Global,
+        before: &[Entry],
+        reader: &mut FieldReader,
+    ) -> Result<Entry, FormatFault> {
+        read_cell(alloc, reader, self.types, self.deleted, before)
+    }
+}
+
+// Reads the next cell after those before.
+fn read_cell(
     alloc: Global,
     reader: &mut FieldReader,
     types: &[ColumnType],
     deleted: u64,
-    least: u32,
-) -> Result<(u16, Cell), BodyFault>
-    requires { deleted ≤ 2 ^ 62 }
-    ensures passes { IfOk result (λ entry. ReadsField (cell_bytes entry) reader.old reader.new) }
-    ensures cell { IfOk result (IsCell deleted) }
-    ensures listed { IfOk result (IsListed types.now) }
-    ensures above { IfOk result (λ entry. least ≤ entry.0) }
-    ensures fault { (cells : List Entry) → least ≡ next_column cells → IsAtCell types.now reader.old.done deleted cells → IfErr result (IsFaultOf types.now (whole reader.old)) }
+    before: &[Entry],
+) -> Result<Entry, FormatFault>
+    ensures { Gives (read (cell types.now deleted before.now) reader.old) result reader.new }
 {
-    let column = read_column(reader, types, least)?;
-    let time = read_time(reader, types, deleted)?;
+    let column = read_column(reader, types, before)?;
+    let time = read_time(reader, deleted)?;
     let value = read_value(alloc, reader, types, column)?;
-    Ok((column, Cell { time, value }))
+    Ok(Entry::new(column, Cell { time, value }))
 }
 
-// Reads a column's number, which is in the list and `least` or above.
-fn read_column(reader: &mut FieldReader, types: &[ColumnType], least: u32) -> Result<u16, BodyFault>
-    ensures passes { IfOk result (λ column. ReadsField (to_be_bytes w16 column) reader.old reader.new) }
-    ensures listed { IfOk result (λ column. column < length types.now) }
-    ensures above { IfOk result (λ column. least ≤ column) }
-    ensures fits { IfOk result (λ column. column < 2 ^ 16) }
-    ensures next { (deleted : ℕ) (cells : List Entry) → least ≡ next_column cells → IsAtCell types.now reader.old.done deleted cells → IfOk result (λ column. IsAtTime types.now reader.new.done deleted column) }
-    ensures fault { (deleted : ℕ) (cells : List Entry) → least ≡ next_column cells → IsAtCell types.now reader.old.done deleted cells → IfErr result (IsFaultOf types.now (whole reader.old)) }
+// Reads the timestamp of a cell, which is above that of the deletion.
+fn read_time(reader: &mut FieldReader, deleted: u64) -> Result<u64, FormatFault>
+    ensures { Gives (read (time deleted) reader.old) result reader.new }
 {
-    let at = reader.offset();
-    let cell = reader.left();
-    let column = reader.u16()?;
-    if usize::from(column) >= types.len() {
-        let bytes = column.to_be_bytes();
-        return Err(BodyFault::Damaged(body_damage(FormatRule::Number, at, &bytes)));
+    let start = FieldStart::of(reader);
+    let time = read_u64(reader)?;
+    if time <= deleted || time > MAX_TIME {
+        return Err(start.broken(FormatRule::Number, 8));
     }
-    if u32::from(column) < least {
-        return Err(BodyFault::Damaged(body_damage(FormatRule::Order, at, cell)));
+    Ok(time)
+}
+
+// Reads a column's number, which is in the list and above the last one.
+fn read_column(
+    reader: &mut FieldReader,
+    types: &[ColumnType],
+    before: &[Entry],
+) -> Result<u16, FormatFault>
+    ensures { Gives (read (column_after types.now before.now) reader.old) result reader.new }
+{
+    let start = FieldStart::of(reader);
+    let column = read_u16(reader)?;
+    if usize::from(column) >= types.len() {
+        return Err(start.broken(FormatRule::Number, 2));
+    }
+    if !is_next(before, column) {
+        return Err(start.broken(FormatRule::Order, 8));
     }
     Ok(column)
 }
 
-// Reads the timestamp of a cell, which is above that of the deletion.
-fn read_time(reader: &mut FieldReader, types: &[ColumnType], deleted: u64) -> Result<u64, BodyFault>
-    requires { deleted ≤ 2 ^ 62 }
-    ensures passes { IfOk result (λ time. ReadsField (to_be_bytes w64 time) reader.old reader.new) }
-    ensures time { IfOk result (IsTime deleted) }
-    ensures next { (column : ℕ) → IsAtTime types.now reader.old.done deleted column → IfOk result (λ _. IsAtTag types.now reader.new.done column) }
-    ensures fault { (column : ℕ) → IsAtTime types.now reader.old.done deleted column → IfErr result (IsFaultOf types.now (whole reader.old)) }
+// Whether the column comes after the last of these.
+fn is_next(before: &[Entry], column: u16) -> bool
+    ensures { result ≡ is_next (last before.now) column }
 {
-    let time = reader.ranged_u64(deleted + 1, MAX_TIMESTAMP)?;
-    Ok(time)
+    match before.last() {
+        None => true,
+        Some(last) => last.column() < column,
+    }
 }

@@ -3,13 +3,10 @@
 #![tactic(auto)]
 
 mod cell;
-mod fault;
-mod header;
+mod part;
 mod put;
-mod read;
-mod typed;
 mod value;
+mod whole;
 
-pub use fault::{BodyDamage, BodyFault, body_damage};
 pub use put::put_body;
-pub use read::read_body;
+pub use whole::read_body;

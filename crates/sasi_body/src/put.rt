@@ -1,8 +1,9 @@
 // Encodes bodies.
-ghost use Rattle.std.specs.Prelude.{◌≡◌, ◌<◌, ◌^◌, ◌++◌, length, OnOk, Some, All};
-ghost use Rattle.std.specs.Int.{to_be_bytes, w16};
-ghost use Rattle.std.specs.List.{flat_map};
-ghost use Rattle.sasi_body.specs.Format.{body, cell_bytes, key_bytes, value_bytes, HasBody, HasBytes, HasCellBytes};
+ghost use Rattle.std.specs.Prelude.{◌≡◌, ◌<◌, ◌^◌, ◌++◌, [], length, OnOk, Some, All};
+ghost use Rattle.sasi_formats.specs.Formats.{encoded};
+ghost use Rattle.sasi_body.specs.Body.{body, HasBody};
+ghost use Rattle.sasi_body.specs.Body as format;
+ghost use Rattle.sasi_model.specs.Stored.{HasBytes, HasCellBytes};
 
 use sasi_cells::{Entry, Partition};
 use sasi_fields::{put_bytes, put_u8, put_u16, put_u64};
@@ -22,7 +23,7 @@ pub fn put_body(out: &mut Vec<u8>, key: &Key, part: &Partition) -> Result<(), Al
 // Appends a key's length and the key.
 fn put_key(out: &mut Vec<u8>, key: &Key) -> Result<(), AllocError>
     requires { length key.now < 2 ^ 16 }
-    ensures { OnOk result (out.new.items ≡ out.old.items ++ key_bytes key.now) }
+    ensures { OnOk result (out.new.items ≡ out.old.items ++ encoded (format.key []) key.now) }
 {
     let bytes = key.bytes();
     put_u16(out, bytes.len() as u16)?;
@@ -33,7 +34,7 @@ fn put_key(out: &mut Vec<u8>, key: &Key) -> Result<(), AllocError>
 fn put_cells(out: &mut Vec<u8>, cells: &[Entry]) -> Result<(), AllocError>
     requires few { length cells.now < 2 ^ 16 }
     requires each { All HasCellBytes cells.now }
-    ensures { OnOk result (out.new.items ≡ out.old.items ++ to_be_bytes w16 (length cells.now) ++ flat_map cell_bytes cells.now) }
+    ensures { OnOk result (out.new.items ≡ out.old.items ++ encoded (format.cells [] 0) cells.now) }
 {
     put_u16(out, cells.len() as u16)?;
     for entry in cells {
@@ -45,7 +46,7 @@ fn put_cells(out: &mut Vec<u8>, cells: &[Entry]) -> Result<(), AllocError>
 // Appends a column's number and its cell.
 fn put_cell(out: &mut Vec<u8>, entry: &Entry) -> Result<(), AllocError>
     requires { HasCellBytes entry.now }
-    ensures { OnOk result (out.new.items ≡ out.old.items ++ cell_bytes entry.now) }
+    ensures { OnOk result (out.new.items ≡ out.old.items ++ encoded (format.cell [] 0 []) entry.now) }
 {
     put_u16(out, entry.column())?;
     put_u64(out, entry.time())?;
@@ -58,7 +59,7 @@ fn put_cell(out: &mut Vec<u8>, entry: &Entry) -> Result<(), AllocError>
 // Appends the tag, the length and the bytes of a value.
 fn put_value(out: &mut Vec<u8>, value: &Value) -> Result<(), AllocError>
     requires { HasBytes value.now }
-    ensures { OnOk result (out.new.items ≡ out.old.items ++ value_bytes (Some value.now)) }
+    ensures { OnOk result (out.new.items ≡ out.old.items ++ encoded (format.value [] 0) (Some value.now)) }
 {
     let stored = value.stored();
     let bytes = stored.as_slice();

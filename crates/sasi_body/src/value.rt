@@ -1,19 +1,17 @@
 // The value of a cell; a tombstone has none.
-ghost use Rattle.std.specs.Prelude.{◌≡◌, ◌≤◌, ◌<◌, ◌^◌, ◌++◌, [], ℕ, List, IfErr, IfOk, IfSome, Some, length, slice_get};
-ghost use Rattle.std.specs.Int.{to_be_bytes, w16};
-ghost use Rattle.sasi_types.specs.Value.{stored, type_of as type_of_value};
-ghost use Rattle.sasi_fields.specs.Reading.{ReadsField};
-ghost use Rattle.sasi_body.specs.Format.{value_bytes, HasBytes};
-ghost use Rattle.sasi_body.specs.Prefixes.{IsAtTag, IsAtSize, IsAtValue};
-ghost use Rattle.sasi_body.specs.Faults.{IsFaultOf};
-ghost use Rattle.sasi_body.specs.Reads.{whole, FitsColumn};
+ghost use Rattle.std.specs.Prelude.{◌≡◌, ◌↔◌, IsTrue, Some, IfOk, slice_get};
+ghost use Rattle.std.specs.Option.{option_copied};
+ghost use Rattle.std.specs.Str.{IsUtf8};
+ghost use Rattle.sasi_formats.specs.Reader.{read};
+ghost use Rattle.sasi_formats.specs.Gives.{Gives};
+ghost use Rattle.sasi_body.specs.Body.{is_typed, is_value, kind_of, live, most_bytes, tag, value, value_in};
 
-use crate::fault::{BodyFault, body_damage};
-use crate::typed::{type_of, value_of};
+use sasi_cells::decode_value;
 use sasi_fields::FieldReader;
+use sasi_formats::{FieldStart, FormatFault, broken, read_flag, read_u16_in_range, take};
 use sasi_host::FormatRule;
-use sasi_types::{ColumnType, Text, Value};
-use std::alloc::Global;
+use sasi_types::{ColumnType, Value};
+use std::alloc::{AllocError, Global};
 
 // Reads the tag of a tombstone, or that of a value and the value.
 pub fn read_value(
@@ -21,22 +19,26 @@ pub fn read_value(
     reader: &mut FieldReader,
     types: &[ColumnType],
     column: u16,
-) -> Result<Option<Value>, BodyFault>
-    ensures passes { IfOk result (λ value. ReadsField (value_bytes value) reader.old reader.new) }
-    ensures fits { IfOk result (λ value. IfSome value (FitsColumn types.now column)) }
-    ensures marker { IfOk result (λ value. column ≡ 0 → value ≡ Some (Value.Text [])) }
-    ensures fault { IsAtTag types.now reader.old.done column → IfErr result (IsFaultOf types.now (whole reader.old)) }
+) -> Result<Option<Value>, FormatFault>
+    ensures { Gives (read (value types.now column) reader.old) result reader.new }
 {
-    let at = reader.offset();
-    let tag = reader.u8()?;
-    if tag == 0 && column != 0 {
+    if !read_tag(reader, column)? {
         return Ok(None);
-    }
-    if tag != 1 {
-        return Err(BodyFault::Damaged(body_damage(FormatRule::Number, at, &[tag])));
     }
     let value = read_live(alloc, reader, types, column)?;
     Ok(Some(value))
+}
+
+// Reads the tag: whether a value follows it. The marker is no tombstone.
+fn read_tag(reader: &mut FieldReader, column: u16) -> Result<bool, FormatFault>
+    ensures { Gives (read (tag column) reader.old) result reader.new }
+{
+    let start = FieldStart::of(reader);
+    let live = read_flag(reader)?;
+    if !live && column == 0 {
+        return Err(start.broken(FormatRule::Number, 1));
+    }
+    Ok(live)
 }
 
 // Reads a length and a value. The marker's value is empty.
@@ -45,54 +47,67 @@ fn read_live(
     reader: &mut FieldReader,
     types: &[ColumnType],
     column: u16,
-) -> Result<Value, BodyFault>
-    ensures passes { IfOk result (λ value. ReadsField (to_be_bytes w16 (length (stored value)) ++ stored value) reader.old reader.new) }
-    ensures fits { IfOk result (FitsColumn types.now column) }
-    ensures marker { IfOk result (λ value. column ≡ 0 → value ≡ Value.Text []) }
-    ensures fault { IsAtSize types.now reader.old.done column → IfErr result (IsFaultOf types.now (whole reader.old)) }
+) -> Result<Value, FormatFault>
+    ensures { Gives (read (live types.now column) reader.old) result reader.new }
 {
-    let size = read_size(reader, types, column)?;
-    if column == 0 {
-        return Ok(Value::Text(Text::new(Vec::new(alloc))));
-    }
-    read_typed(alloc, reader, types, column, size)
-}
-
-// Reads the length of a value. The marker's is 0.
-fn read_size(reader: &mut FieldReader, types: &[ColumnType], column: u16) -> Result<u16, BodyFault>
-    ensures passes { IfOk result (λ size. ReadsField (to_be_bytes w16 size) reader.old reader.new) }
-    ensures marker { IfOk result (λ size. column ≡ 0 → size ≡ 0) }
-    ensures next { IsAtSize types.now reader.old.done column → IfOk result (λ size. IsAtValue types.now reader.new.done column size) }
-    ensures fault { IsAtSize types.now reader.old.done column → IfErr result (IsFaultOf types.now (whole reader.old)) }
-{
+    let size = read_u16_in_range(reader, 0, most_bytes(column))?;
     let at = reader.offset();
-    let size = reader.u16()?;
-    if column == 0 && size != 0 {
-        let bytes = size.to_be_bytes();
-        return Err(BodyFault::Damaged(body_damage(FormatRule::Number, at, &bytes)));
-    }
-    Ok(size)
-}
-
-// Reads `size` bytes as a value of the column's type.
-fn read_typed(
-    alloc: Global,
-    reader: &mut FieldReader,
-    types: &[ColumnType],
-    column: u16,
-    size: u16,
-) -> Result<Value, BodyFault>
-    requires { 1 ≤ column }
-    ensures passes { IfOk result (λ value. ReadsField (stored value) reader.old reader.new) }
-    ensures size { IfOk result (λ value. length (stored value) ≡ size) }
-    ensures fits { IfOk result (FitsColumn types.now column) }
-    ensures fault { IsAtValue types.now reader.old.done column size → IfErr result (IsFaultOf types.now (whole reader.old)) }
-{
-    let at = reader.offset();
-    let bytes = reader.bytes(usize::from(size))?;
-    let Some(kind) = type_of(types, usize::from(column), bytes) else {
-        return Err(BodyFault::Damaged(body_damage(FormatRule::Text, at, bytes)));
+    let bytes = take(reader, usize::from(size))?;
+    let Some(value) = value_in(alloc, kind_of(types, column), bytes)? else {
+        return Err(broken(FormatRule::Text, at, bytes));
     };
-    let value = value_of(alloc, kind, bytes)?;
     Ok(value)
+}
+
+// The most bytes of a value of the column.
+fn most_bytes(column: u16) -> u16
+    ensures { result ≡ most_bytes column }
+{
+    if column == 0 { 0 } else { u16::MAX }
+}
+
+// The type of the column, if the table has it. The marker is a text.
+fn kind_of(types: &[ColumnType], column: u16) -> Option<ColumnType>
+    ensures { result ≡ kind_of types.now column }
+{
+    if column == 0 {
+        return Some(ColumnType::Text);
+    }
+    types.get(usize::from(column)).copied()
+}
+
+// The value of the type that the bytes encode, if they do.
+fn value_in(
+    alloc: Global,
+    kind: Option<ColumnType>,
+    bytes: &[u8],
+) -> Result<Option<Value>, AllocError>
+    ensures { IfOk result (λ value. value ≡ value_in kind bytes.now) }
+{
+    let Some(kind) = kind else {
+        return Ok(None);
+    };
+    if !is_value(kind, bytes) {
+        return Ok(None);
+    }
+    Ok(Some(decode_value(alloc, kind, bytes)?))
+}
+
+// Whether the bytes encode a value of the type.
+pub fn is_value(kind: ColumnType, bytes: &[u8]) -> bool
+    ensures { result ≡ is_value kind bytes.now }
+{
+    match kind {
+        ColumnType::Text => is_text(bytes),
+        ColumnType::Int => bytes.len() == 4,
+        ColumnType::BigInt => bytes.len() == 8,
+        ColumnType::Uuid => bytes.len() == 16,
+    }
+}
+
+// Whether the bytes are UTF-8.
+fn is_text(bytes: &[u8]) -> bool
+    ensures { IsTrue result ↔ IsUtf8 bytes.now }
+{
+    str::from_utf8(bytes).is_ok()
 }

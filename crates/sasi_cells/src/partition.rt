@@ -7,6 +7,7 @@ ghost use Rattle.sasi_model.specs.Cells.{Partition as Written, empty_partition, 
 ghost use Rattle.sasi_cells.specs.Typed.{IsTyped};
 ghost use Rattle.sasi_types.specs.declared.column.ColumnType.{ColumnType};
 ghost use Rattle.sasi_cells.specs.Changes.{deletion, with_column};
+ghost use Rattle.sasi_cells.specs.Entries.{IsOrdered, partition_of};
 
 use crate::merge_sorted::merge_sorted;
 use crate::{Entry, search};
@@ -53,6 +54,14 @@ impl Partition {
             deleted: time,
             cells: Vec::new(alloc),
         }
+    }
+
+    /// The partition of a deletion, 0 for none, and of cells above it, which are in the order of their columns.
+    pub fn from_entries(deleted: u64, cells: Vec<Entry>) -> Partition
+        requires { IsOrdered deleted cells.items }
+        ensures { result ≡ partition_of deleted cells.items }
+    {
+        Partition { deleted, cells }
     }
 
     /// The time of the deletion, 0 for none.

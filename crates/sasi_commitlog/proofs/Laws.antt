@@ -1,23 +1,21 @@
 -- A segment of the log has one list of mutations.
 use Rattle.std.specs.Prelude.{◌≡◌, ℕ, ◌^◌, ◌<◌, List, [], ◌∷◌, ◌++◌, map, Some, refl}
-use Rattle.std.proofs.Common.{sym, ◌∙◌, ap, subst}
-use Rattle.std.proofs.lemmas.Nat.{from_be_bytes-to_be_bytes_4}
-use Rattle.std.specs.Int.{to_be_bytes, from_be_bytes, w32}
+use Rattle.std.proofs.Common.{◌∙◌, ap, subst}
+use Rattle.std.specs.Int.{to_be_bytes, w32}
 use Rattle.std.specs.List.{AllByRecursion}
 use Rattle.sasi_host.specs.Names.{Bytes, log_name}
 use Rattle.sasi_types.specs.declared.column.ColumnType.{ColumnType}
 use Rattle.sasi_model.specs.Cells.{Partition}
 use Rattle.sasi_gated.proofs.Laws.{records_same}
-use Rattle.sasi_body.specs.Format.{body}
-use Rattle.sasi_body.specs.Typed.{IsBodyOf}
-use Rattle.sasi_body.proofs.Laws.Unique.{parts_same, bodies_same}
+use Rattle.sasi_formats.specs.Codings.{Four}
+use Rattle.sasi_formats.proofs.NumberLaws.{same_number}
+use Rattle.sasi_body.specs.Body.{body, IsBodyOf}
+use Rattle.sasi_body.proofs.Bodies.{bodies_same}
 use Rattle.sasi_cells.specs.declared.mutation.Mutation.{Mutation}
 use Rattle.sasi_commitlog.specs.Format.{payload_of, types_in, Tables, IsMutationOf, IsLog}
 
 pub same_32 : (n m : ℕ) (a b : Bytes) → n < 2 ^ 32 → m < 2 ^ 32 → to_be_bytes w32 n ++ a ≡ to_be_bytes w32 m ++ b → (n ≡ m) × (a ≡ b)
-same_32 n m a b n_fits m_fits same =
-    let parts = parts_same (to_be_bytes w32 n) (to_be_bytes w32 m) a b refl same in
-    (sym (from_be_bytes-to_be_bytes_4 n n_fits) ∙ ap (from_be_bytes w32) parts.0 ∙ from_be_bytes-to_be_bytes_4 m m_fits, parts.1)
+same_32 n m a b n_fits m_fits same = same_number Four n m a b n_fits m_fits same
 
 -- one table has one list of types
 pub types_same : (tables : Tables) (n m : ℕ) (a b : List ColumnType) → n ≡ m → types_in tables n ≡ Some a → types_in tables m ≡ Some b → a ≡ b

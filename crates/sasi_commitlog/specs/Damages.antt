@@ -11,9 +11,11 @@ use Rattle.sasi_gated.specs.Format.{Opens}
 use Rattle.sasi_gated.specs.Gates.{IsAtGate}
 use Rattle.sasi_gated.specs.Damages.{IsGatedDamage}
 use Rattle.sasi_host.specs.Damages.{seen_bytes}
-use Rattle.sasi_body.specs.declared.fault.BodyFault.{BodyFault}
-use Rattle.sasi_body.specs.declared.fault.BodyFault.TheVariants as fault
-use Rattle.sasi_body.specs.Damages.{Breaks, HasOtherLength}
+use Rattle.sasi_formats.specs.declared.fault.FormatFault.{FormatFault}
+use Rattle.sasi_formats.specs.declared.fault.FormatFault.TheVariants as fault
+use Rattle.sasi_body.specs.Body.{body_of}
+use Rattle.sasi_formats.specs.Reader as reader
+use Rattle.sasi_formats.specs.Failures.{FailsWhole, HasOtherLength}
 use Rattle.sasi_commitlog.specs.Format.{Tables, types_in}
 
 -- the payload begins with the number of a table with these types, and goes on with this
@@ -35,18 +37,19 @@ pub record IsOfNoTable (tables : Tables) (payload seen : Bytes) : Type 0 where
 -- the payload breaks the rule at this offset, where it has the seen bytes
 pub data PayloadBreaks (tables : Tables) (payload : Bytes) (rule : FormatRule) (at : ℕ) (seen : Bytes) : Type 0 where
   no_table : rule ≡ Number → at ≡ 0 → IsOfNoTable tables payload seen → PayloadBreaks tables payload rule at seen
-  broken_body : (types : List ColumnType) (rest : Bytes) (offset : ℕ) → IsOfTable tables payload types rest → at ≡ 4 + offset → Breaks types rest rule offset seen → PayloadBreaks tables payload rule at seen
+  broken_body : (types : List ColumnType) (rest : Bytes) (offset : ℕ) → IsOfTable tables payload types rest → at ≡ 4 + offset → FailsWhole (body_of types) rest (reader.Broken rule offset seen) → PayloadBreaks tables payload rule at seen
 
 -- the payload has another length than its content: it ends within it, or goes on after it
 pub data PayloadHasOtherLength (tables : Tables) (payload : Bytes) : Type 0 where
   no_number : length payload < 4 → PayloadHasOtherLength tables payload
-  other_body : (types : List ColumnType) (rest : Bytes) → IsOfTable tables payload types rest → HasOtherLength types rest → PayloadHasOtherLength tables payload
+  other_body : (types : List ColumnType) (rest : Bytes) → IsOfTable tables payload types rest → HasOtherLength (body_of types) rest → PayloadHasOtherLength tables payload
 
 -- the fault is one that the payload shows
-abbrev pub IsPayloadFault : Tables → Bytes → BodyFault → Type 0
+abbrev pub IsPayloadFault : Tables → Bytes → FormatFault → Type 0
 IsPayloadFault tables payload fault.OutOfMemory = Unit {0}
-IsPayloadFault tables payload fault.OtherLength = PayloadHasOtherLength tables payload
-IsPayloadFault tables payload (fault.Damaged broken) = PayloadBreaks tables payload broken.rule broken.at (seen_bytes broken.seen)
+IsPayloadFault tables payload fault.Short = PayloadHasOtherLength tables payload
+IsPayloadFault tables payload fault.Long = PayloadHasOtherLength tables payload
+IsPayloadFault tables payload (fault.Broken broken) = PayloadBreaks tables payload broken.rule broken.at (seen_bytes broken.seen)
 
 -- the rules that a record after the gate at this offset can break
 pub data RecordBreaks (tables : Tables) (gate : ℕ) (payload : Bytes) (rule : FormatRule) (at : ℕ) (seen : Bytes) : Type 0 where

@@ -6,22 +6,24 @@ use Rattle.sasi_host.specs.declared.fault.ReadFault.{ReadFault}
 use Rattle.sasi_host.specs.Names.{Bytes}
 use Rattle.sasi_host.specs.Damages.{seen_bytes}
 use Rattle.sasi_host.specs.Damages.{OnDamage}
-use Rattle.sasi_body.specs.declared.fault.BodyFault.{BodyFault}
-use Rattle.sasi_body.specs.declared.fault.BodyFault.TheVariants as fault
+use Rattle.sasi_formats.specs.declared.fault.FormatFault.{FormatFault}
+use Rattle.sasi_formats.specs.declared.fault.FormatFault.TheVariants as fault
 use Rattle.sasi_commitlog.specs.Format.{Tables}
 use Rattle.sasi_commitlog.specs.Damages.{RecordBreaks}
 
 -- the offset of a broken rule is at most this one
-abbrev pub IsWithin : ℕ → BodyFault → Type 0
+abbrev pub IsWithin : ℕ → FormatFault → Type 0
 IsWithin limit fault.OutOfMemory = Unit {0}
-IsWithin limit fault.OtherLength = Unit {0}
-IsWithin limit (fault.Damaged broken) = broken.at ≤ limit
+IsWithin limit fault.Short = Unit {0}
+IsWithin limit fault.Long = Unit {0}
+IsWithin limit (fault.Broken broken) = broken.at ≤ limit
 
 -- the second fault is the first one, four bytes further on
-abbrev pub IsFaultShifted : BodyFault → BodyFault → Type 0
+abbrev pub IsFaultShifted : FormatFault → FormatFault → Type 0
 IsFaultShifted fault.OutOfMemory behind = behind ≡ fault.OutOfMemory
-IsFaultShifted fault.OtherLength behind = behind ≡ fault.OtherLength
-IsFaultShifted (fault.Damaged broken) behind = behind ≡ fault.Damaged (record { rule = broken.rule; at = broken.at + 4; seen = broken.seen })
+IsFaultShifted fault.Short behind = behind ≡ fault.Short
+IsFaultShifted fault.Long behind = behind ≡ fault.Long
+IsFaultShifted (fault.Broken broken) behind = behind ≡ fault.Broken (record { rule = broken.rule; at = broken.at + 4; seen = broken.seen })
 
 -- damage is that of the record after a gate
 pub record IsRecordDamage (tables : Tables) (file : FileName) (gate : ℕ) (payload : Bytes) (damage : Damage) : Type 0 where

@@ -5,8 +5,7 @@ use Rattle.std.specs.List.{AllByRecursion}
 use Rattle.sasi_host.specs.Names.{Bytes, log_name}
 use Rattle.sasi_types.specs.declared.column.ColumnType.{ColumnType}
 use Rattle.sasi_gated.specs.Format.{IsGated}
-use Rattle.sasi_body.specs.Format.{body}
-use Rattle.sasi_body.specs.Typed.{IsBodyOf}
+use Rattle.sasi_body.specs.Body.{body, IsBodyOf}
 use Rattle.sasi_cells.specs.declared.mutation.Mutation.{Mutation}
 
 -- the number of the table, and the body of what was written of the key

@@ -1,23 +1,24 @@
 // Faults of a payload, by their offset in the file.
 ghost use Rattle.std.specs.Prelude.{◌≡◌, ◌≢◌, ◌≤◌, ◌^◌, List, ℕ, length};
 ghost use Rattle.sasi_host.specs.declared.fault.ReadFault.TheVariants as read_fault;
-ghost use Rattle.sasi_body.specs.declared.fault.BodyFault.TheVariants as body_fault;
+ghost use Rattle.sasi_formats.specs.declared.fault.FormatFault.TheVariants as format_fault;
 ghost use Rattle.sasi_commitlog.specs.Format.{Tables};
-ghost use Rattle.sasi_commitlog.specs.Damages.{IsPayloadFault};
+ghost use Rattle.sasi_commitlog.specs.Damages.{IsPayloadFault, PayloadHasOtherLength};
 ghost use Rattle.sasi_commitlog.specs.Faults.{IsFaultShifted, IsWithin, IsRecordFault};
 
-use sasi_body::{BodyDamage, BodyFault, body_damage};
+use sasi_formats::{Broken, FormatFault, found};
 use sasi_host::{Damage, FileName, FormatRule, ReadFault};
 
 // Shifts the offset of a fault of the body past the number of the table.
-pub fn shifted_by_number(fault: BodyFault) -> BodyFault
+pub fn shifted_by_number(fault: FormatFault) -> FormatFault
     requires { IsWithin (2 ^ 62) fault }
     ensures { IsFaultShifted fault result }
 {
     match fault {
-        BodyFault::OutOfMemory => BodyFault::OutOfMemory,
-        BodyFault::OtherLength => BodyFault::OtherLength,
-        BodyFault::Damaged(broken) => BodyFault::Damaged(BodyDamage {
+        FormatFault::OutOfMemory => FormatFault::OutOfMemory,
+        FormatFault::Short => FormatFault::Short,
+        FormatFault::Long => FormatFault::Long,
+        FormatFault::Broken(broken) => FormatFault::Broken(Broken {
             rule: broken.rule,
             at: broken.at + 4,
             seen: broken.seen,
@@ -26,32 +27,37 @@ pub fn shifted_by_number(fault: BodyFault) -> BodyFault
 }
 
 // The fault of the payload after the gate at this offset, with its offset in the file.
-pub fn fault_in_file(file: FileName, gate: u64, payload: &[u8], fault: BodyFault) -> ReadFault
+pub fn fault_in_file(file: FileName, gate: u64, payload: &[u8], fault: FormatFault) -> ReadFault
     requires offset { gate ≤ 2 ^ 62 }
     requires short { length payload.now ≤ 2 ^ 30 }
     requires within { IsWithin (2 ^ 62) fault }
     ensures shown { (tables : Tables) → IsPayloadFault tables payload.now fault → IsRecordFault tables file gate payload.now result }
-    ensures memory { fault ≡ body_fault.OutOfMemory → result ≡ read_fault.OutOfMemory }
+    ensures memory { fault ≡ format_fault.OutOfMemory → result ≡ read_fault.OutOfMemory }
     ensures cause { result ≢ read_fault.Failed }
 {
     match fault {
-        BodyFault::OutOfMemory => ReadFault::OutOfMemory,
-        BodyFault::OtherLength => {
-            let bytes = (payload.len() as u32).to_be_bytes();
-            ReadFault::Damaged(damage_at(
-                file,
-                gate + 1,
-                body_damage(FormatRule::Number, 0, &bytes),
-            ))
-        }
-        BodyFault::Damaged(broken) => {
+        FormatFault::OutOfMemory => ReadFault::OutOfMemory,
+        FormatFault::Short => other_length(file, gate, payload),
+        FormatFault::Long => other_length(file, gate, payload),
+        FormatFault::Broken(broken) => {
             ReadFault::Damaged(damage_at(file, gate + 5 + broken.at as u64, broken))
         }
     }
 }
 
+// The record's length is not that of its content.
+fn other_length(file: FileName, gate: u64, payload: &[u8]) -> ReadFault
+    requires offset { gate ≤ 2 ^ 62 }
+    requires short { length payload.now ≤ 2 ^ 30 }
+    ensures shown { (tables : Tables) → PayloadHasOtherLength tables payload.now → IsRecordFault tables file gate payload.now result }
+    ensures cause { result ≢ read_fault.Failed }
+{
+    let bytes = (payload.len() as u32).to_be_bytes();
+    ReadFault::Damaged(damage_at(file, gate + 1, found(FormatRule::Number, 0, &bytes)))
+}
+
 // The damage of a file that breaks the rule at this offset.
-fn damage_at(file: FileName, at: u64, broken: BodyDamage) -> Damage
+fn damage_at(file: FileName, at: u64, broken: Broken) -> Damage
     ensures file { result.file ≡ file }
     ensures at { result.at ≡ at }
     ensures rule { result.rule ≡ broken.rule }

@@ -5,7 +5,7 @@ ghost use Rattle.sasi_host.specs.Disk.{AnyChange, Changes, IsFileDurable, LeftWi
 ghost use Rattle.sasi_host.specs.Names.{Bytes, log_name};
 ghost use Rattle.sasi_gated.specs.Causes.{ReadingCauses};
 ghost use Rattle.sasi_gated.specs.Reads.{HasHeader, GatedDamageShown, NoFalseGatedDamage};
-ghost use Rattle.sasi_body.specs.Format.{HasBody};
+ghost use Rattle.sasi_body.specs.Body.{HasBody};
 ghost use Rattle.sasi_cells.specs.declared.mutation.Mutation.{Mutation};
 ghost use Rattle.sasi_commitlog.specs.Format.{IsLog, Tables};
 ghost use Rattle.sasi_commitlog.specs.LogPosition.{IsAtLogEnd, IsLogBeforeOrAfter, IsReadingLog};

@@ -3,7 +3,7 @@ ghost use Rattle.std.specs.Prelude.{◌≡◌, ◌+◌, ◌<◌, ◌≤◌, ◌^
 ghost use Rattle.sasi_host.specs.View.{IsThere, ListCauses, Reaches};
 ghost use Rattle.sasi_host.specs.Disk.{AnyChange, Changes, LeftWith, Same, FileChange};
 ghost use Rattle.sasi_gated.specs.Causes.{ReadingCauses};
-ghost use Rattle.sasi_body.specs.Format.{HasBody};
+ghost use Rattle.sasi_body.specs.Body.{HasBody};
 ghost use Rattle.sasi_cells.specs.declared.mutation.Mutation.{Mutation};
 ghost use Rattle.sasi_commitlog.specs.LogPosition.{IsAtLogEnd, IsLogBeforeOrAfter};
 ghost use Rattle.sasi_commitlog.specs.Reads.{GainsMutation, IsLogDamageAt, IsReadOf, ReadsLogGate, ReadsMutations, NoFalseLogDamage};

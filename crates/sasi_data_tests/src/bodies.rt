@@ -1,6 +1,7 @@
 // Bodies: their bytes, what is read of each front of one, and where others break the format.
-use sasi_body::{BodyDamage, BodyFault, put_body, read_body};
+use sasi_body::{put_body, read_body};
 use sasi_cells::Partition;
+use sasi_formats::{Broken, FormatFault};
 use sasi_host::FormatRule;
 use sasi_types::{ColumnType, TypeList};
 use std::alloc::Global;
@@ -83,30 +84,34 @@ fn cells_are_those_of_the_body(rt: HostRuntime) {
     check_cell(&rt, &part);
 }
 
-/// These bytes end within a body of two texts, or go on behind it.
-fn check_other_length(rt: &impl Abort, alloc: Global, bytes: &[u8]) {
-    let read = read_body(alloc, bytes, &list_of(rt, alloc, &TEXTS));
-    assert!(rt; matches!(read, Err(BodyFault::OtherLength)));
+/// These bytes are refused as a body of two texts, with this fault.
+fn check_other_length(rt: &impl Abort, alloc: Global, bytes: &[u8], fault: FormatFault) {
+    let is_refused = match read_body(alloc, bytes, &list_of(rt, alloc, &TEXTS)) {
+        Ok(_) => false,
+        Err(reported) => reported == fault,
+    };
+    assert!(rt; is_refused);
 }
 
 #[test]
 fn other_lengths_are_refused(rt: HostRuntime) {
     let alloc = rt.alloc();
     for size in 0..INSERTED.len() {
-        check_other_length(&rt, alloc, INSERTED.get(..size).expect(&rt, "a front"));
+        let front = INSERTED.get(..size).expect(&rt, "a front");
+        check_other_length(&rt, alloc, front, FormatFault::Short);
     }
     let mut longer = INSERTED
         .as_slice()
         .to_vec(alloc)
         .expect(&rt, "memory for a body");
     longer.push(0).expect(&rt, "memory for a byte");
-    check_other_length(&rt, alloc, &longer);
+    check_other_length(&rt, alloc, &longer, FormatFault::Long);
 }
 
 /// The rule that these bytes break, as bodies of these types.
-fn broken_in(rt: &impl Abort, alloc: Global, bytes: &[u8], types: &[ColumnType]) -> BodyDamage {
+fn broken_in(rt: &impl Abort, alloc: Global, bytes: &[u8], types: &[ColumnType]) -> Broken {
     match read_body(alloc, bytes, &list_of(rt, alloc, types)) {
-        Err(BodyFault::Damaged(broken)) => broken,
+        Err(FormatFault::Broken(broken)) => broken,
         _ => panic!(rt; "no broken rule"),
     }
 }

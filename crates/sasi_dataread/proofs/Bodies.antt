@@ -1,6 +1,6 @@
 -- Bodies behind their lengths, as they are read.
 use Rattle.std.proofs.Common.{◌≡◌, ℕ, ◌+◌, ◌-◌, ◌/◌, ◌^◌, ◌<◌, ◌≤◌, List, length, take, drop, refl, sym, ◌∙◌, ap, subst, arith, lit<, length-append, Option, Some}
-use Rattle.std.specs.Int.{to_be_bytes, w16, w32}
+use Rattle.std.specs.Int.{to_be_bytes, w32}
 use Rattle.sasi_host.specs.declared.name.FileName.{FileName}
 use Rattle.sasi_host.specs.declared.fault.ReadFault.{ReadFault}
 use Rattle.sasi_host.specs.declared.fault.ReadFault.TheVariants as fault
@@ -10,12 +10,12 @@ use Rattle.sasi_host.specs.View.{View, ReadsAtMost, contents}
 use Rattle.sasi_types.specs.declared.column.ColumnType.{ColumnType}
 use Rattle.sasi_model.specs.Cells.{Partition}
 use Rattle.sasi_host.specs.Damages.{seen_bytes, OnDamage}
-use Rattle.sasi_body.specs.declared.fault.BodyFault.{BodyFault}
-use Rattle.sasi_body.specs.declared.fault.BodyFault.TheVariants as body_fault
-use Rattle.sasi_body.specs.Format.{body, key_bytes, part_bytes}
-use Rattle.sasi_body.specs.Faults.{IsFaultOf}
-use Rattle.sasi_body.specs.Typed.{IsBodyOf}
-use Rattle.sasi_body.proofs.Laws.Lengths.{body_short, place_within}
+use Rattle.sasi_formats.specs.declared.fault.FormatFault.{FormatFault}
+use Rattle.sasi_formats.specs.declared.fault.FormatFault.TheVariants as format_fault
+use Rattle.sasi_formats.specs.Whole.{IsShownBy}
+use Rattle.sasi_body.specs.Body.{body, body_of, IsBodyOf}
+use Rattle.sasi_body.proofs.BodyBytes.{body_short, body_least}
+use Rattle.sasi_body.proofs.Bodies.{offset_within}
 use Rattle.sasi_host.specs.Disk.{Changes, Same}
 use Rattle.sasi_host.specs.Contents.{contents_same}
 use Rattle.sasi_host.specs.Damages.{HasAt, DamageShown, ShowsEnd, TellsSize}
@@ -118,16 +118,16 @@ body_shown types v file end place count f stands is_length shown = shown_as (Sho
 
 -- ---- bodies of a table
 
-pub placed : (types : List ColumnType) (bytes : Bytes) (f : BodyFault) (count : ℕ) → count ≡ length bytes → IsFaultOf types bytes f → IsWithinBody count f
-placed types bytes body_fault.OutOfMemory count is shown = tt
-placed types bytes body_fault.OtherLength count is shown = tt
-placed types bytes (body_fault.Damaged broken) count is shown = omega (arith, is, place_within types bytes broken.rule broken.at (seen_bytes broken.seen) shown)
+pub placed : (types : List ColumnType) (bytes : Bytes) (f : FormatFault) (count : ℕ) → count ≡ length bytes → IsShownBy (body_of types) bytes f → IsWithinBody count f
+placed types bytes format_fault.OutOfMemory count is shown = tt
+placed types bytes format_fault.Short count is shown = tt
+placed types bytes format_fault.Long count is shown = tt
+placed types bytes (format_fault.Broken broken) count is shown = omega (arith, is, offset_within types bytes broken.rule broken.at (seen_bytes broken.seen) shown)
 
 length_of_body : (types : List ColumnType) (key : Bytes) (part : Partition) (end place : ℕ) → IsBodyOf types key part → place + 4 + length
     (body key part) ≤ end → IsLength end place (length (body key part))
-unfolding body
 length_of_body types key part end place of within = record {
-  some = omega (arith, length-append (key_bytes key) (part_bytes part), length-append (to_be_bytes w16 (length key)) key);
+  some = omega (arith, body_least key part of.has);
   short = body_short key part of.has;
   within = within;
 }
@@ -138,10 +138,10 @@ body_spares v file types end place fault.OutOfMemory no_false_damage = tt
 body_spares v file types end place (fault.Damaged damage) no_false_damage = λ bytes key part is has of within. no_false_damage bytes (body key part) is has (length_of_body types key part end place of within)
 
 -- what isn't read as a body of the table is none
-pub fault_spares : (v : View) (file : FileName) (types : List ColumnType) (end place : ℕ) (read : Bytes) (inner : BodyFault) (f : ReadFault) → length
+pub fault_spares : (v : View) (file : FileName) (types : List ColumnType) (end place : ℕ) (read : Bytes) (inner : FormatFault) (f : ReadFault) → length
     read < 2 ^ 23 → ((bytes : Bytes) → contents v file ≡ Some bytes → HasAt bytes place (length_prefixed read))
-    → ((key : Bytes) (part : Partition) → IsBodyOf types key part → read ≡ body key part → inner ≡ body_fault.OutOfMemory) →
-    (inner ≡ body_fault.OutOfMemory → f ≡ fault.OutOfMemory) → NoFalseBodyDamage v file types end place f
+    → ((key : Bytes) (part : Partition) → IsBodyOf types key part → read ≡ body key part → inner ≡ format_fault.OutOfMemory) →
+    (inner ≡ format_fault.OutOfMemory → f ≡ fault.OutOfMemory) → NoFalseBodyDamage v file types end place f
 fault_spares v file types end place read inner fault.Failed short stands no_false_damage memory = tt
 fault_spares v file types end place read inner fault.OutOfMemory short stands no_false_damage memory = tt
 fault_spares v file types end place read inner (fault.Damaged damage) short stands no_false_damage memory = λ bytes key part is has of within.

@@ -22,7 +22,7 @@ use Rattle.sasi_tokentree.specs.Damages.{ShowsTree}
 use Rattle.sasi_host.proofs.DamageLaws.{shown_as}
 use Rattle.sasi_tokentree.specs.Reads.{NoFalseTreeDamage}
 use Rattle.sasi_tokentree.specs.Scans.{ReadsEntry, ReadsNextPair, IsEntryBuffered, StepsToPair, PairScan, pair_place}
-use Rattle.sasi_body.specs.Format.{body}
+use Rattle.sasi_body.specs.Body.{body}
 use Rattle.sasi_datawrite.specs.Format.{Content, front, header, key_pairs, partitions}
 use Rattle.sasi_dataread.specs.Opened.{Opened, IsOpenedAs, StandsAt}
 use Rattle.sasi_dataread.specs.Bodies.{length_prefixed, partition_reads}

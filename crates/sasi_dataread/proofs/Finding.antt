@@ -22,7 +22,7 @@ use Rattle.sasi_types.specs.Key.{key_eq}
 use Rattle.sasi_types.specs.DecoratedKey.{decorated_cmp}
 use Rattle.sasi_types.specs.Token.{token_of}
 use Rattle.sasi_model.specs.Cells.{Partition}
-use Rattle.sasi_body.specs.Format.{body}
+use Rattle.sasi_body.specs.Body.{body}
 use Rattle.sasi_tokentree.specs.Format.{pair_at}
 use Rattle.sasi_tokentree.specs.Heights.{height}
 use Rattle.sasi_tokentree.specs.Reads.{CountsBelow}

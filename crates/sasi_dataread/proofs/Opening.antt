@@ -10,10 +10,9 @@ use Rattle.sasi_types.specs.declared.column.ColumnType.{ColumnType}
 use Rattle.sasi_types.specs.declared.partitioner.Partitioner.{Partitioner}
 use Rattle.sasi_types.specs.declared.tree.TreeRef.{TreeRef}
 use Rattle.sasi_model.specs.Cells.{Partition}
-use Rattle.sasi_body.specs.Format.{body}
-use Rattle.sasi_body.specs.Typed.{IsBodyOf}
-use Rattle.sasi_body.proofs.Laws.Unique.{bodies_same}
-use Rattle.sasi_body.proofs.Laws.Lengths.{body_short}
+use Rattle.sasi_body.specs.Body.{body, IsBodyOf}
+use Rattle.sasi_body.proofs.Bodies.{bodies_same}
+use Rattle.sasi_body.proofs.BodyBytes.{body_short}
 use Rattle.sasi_host.specs.declared.name.FileName.{FileName}
 use Rattle.sasi_host.specs.Damages.{HasAt, DamageShown}
 use Rattle.sasi_dataread.specs.Damages.{ShowsPartition}

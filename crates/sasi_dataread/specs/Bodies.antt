@@ -9,10 +9,9 @@ use Rattle.sasi_host.specs.Names.{Bytes}
 use Rattle.sasi_host.specs.Damages.{HasAt, OnDamage}
 use Rattle.sasi_host.specs.Buffered.{pages_of, unbuffered_pages}
 use Rattle.sasi_host.specs.View.{View, contents}
-use Rattle.sasi_body.specs.declared.fault.BodyFault.{BodyFault}
-use Rattle.sasi_body.specs.declared.fault.BodyFault.TheVariants as fault
-use Rattle.sasi_body.specs.Format.{body}
-use Rattle.sasi_body.specs.Typed.{IsBodyOf}
+use Rattle.sasi_formats.specs.declared.fault.FormatFault.{FormatFault}
+use Rattle.sasi_formats.specs.declared.fault.FormatFault.TheVariants as fault
+use Rattle.sasi_body.specs.Body.{body, IsBodyOf}
 
 -- length-prefixed bytes
 abbrev pub length_prefixed : Bytes → Bytes
@@ -41,8 +40,8 @@ abbrev pub NoFalseBytesDamage : View → FileName → ℕ → ℕ → ReadFault 
 NoFalseBytesDamage v file end place = OnDamage (λ _. (bytes body : Bytes) → contents v file ≡ Some bytes → HasAt bytes place (length_prefixed body) → IsLength end place (length body) → ⊥)
 
 -- the offset of a fault of a body is within so many bytes
-abbrev pub IsWithinBody : ℕ → BodyFault → Type 0
-IsWithinBody count (fault.Damaged broken) = broken.at ≤ count
+abbrev pub IsWithinBody : ℕ → FormatFault → Type 0
+IsWithinBody count (fault.Broken broken) = broken.at ≤ count
 IsWithinBody count _ = Unit {0}
 
 -- damage is reported only where the file has no partition of the table at the offset

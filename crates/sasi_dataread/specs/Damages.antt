@@ -9,7 +9,9 @@ use Rattle.sasi_host.specs.declared.damage.FormatRule.{FormatRule}
 use Rattle.sasi_host.specs.declared.damage.FormatRule.TheVariants.{Short, Magic, Version, Number, Place}
 use Rattle.sasi_host.specs.Names.{Bytes}
 use Rattle.sasi_host.specs.Damages.{HasAt, Differs, ShowsEnd, seen_bytes}
-use Rattle.sasi_body.specs.Damages.{Breaks, HasOtherLength}
+use Rattle.sasi_body.specs.Body.{body_of}
+use Rattle.sasi_formats.specs.Reader as reader
+use Rattle.sasi_formats.specs.Failures.{FailsWhole, HasOtherLength}
 use Rattle.sasi_tokentree.specs.Damages.{ShowsTree}
 use Rattle.sasi_tokentree.specs.Scans.{HasEntry}
 use Rattle.sasi_dataread.specs.Opened.{Opened}
@@ -75,7 +77,7 @@ pub record IsOfOtherLength (types : List ColumnType) (place : ℕ) (file : FileN
   pub stands : HasAt bytes place (length_prefixed body)
   pub fits : length body < 2 ^ 32
   pub told : seen_bytes damage.seen ≡ to_be_bytes w32 (length body)
-  pub other : HasOtherLength types body
+  pub other : HasOtherLength (body_of types) body
 
 -- the body behind it breaks a rule of bodies
 pub record HasBrokenBody (types : List ColumnType) (place : ℕ) (file : FileName) (bytes : Bytes) (damage : Damage) : Type 0 where
@@ -85,7 +87,7 @@ pub record HasBrokenBody (types : List ColumnType) (place : ℕ) (file : FileNam
   pub fits : length body < 2 ^ 32
   pub offset : ℕ
   pub at : damage.at ≡ place + 4 + offset
-  pub breaks : Breaks types body damage.rule offset (seen_bytes damage.seen)
+  pub breaks : FailsWhole (body_of types) body (reader.Broken damage.rule offset (seen_bytes damage.seen))
 
 -- the damage is that of this file, which has no partition of a table with these types at the offset
 pub data ShowsPartition (types : List ColumnType) (end place : ℕ) (file : FileName) (bytes : Bytes) (damage : Damage) : Type 0 where

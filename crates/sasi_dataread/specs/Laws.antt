@@ -3,16 +3,16 @@ use Rattle.std.specs.Prelude.{◌≡◌, ℕ, zero, suc, ◌+◌, ◌-◌, ◌*�
 use Rattle.std.proofs.Common.{sym, ◌∙◌, ap, subst, arith, append_assoc, length-append, ⊎_elim}
 use Rattle.std.proofs.lemmas.List.{append-nil}
 use Rattle.std.proofs.lemmas.Bool.Decides.{leb_tells}
-use Rattle.std.specs.Int.{to_be_bytes, w16, w64}
-use Rattle.std.specs.List.{flat_map, AllByRecursion}
+use Rattle.std.specs.List.{AllByRecursion}
 use Rattle.sasi_types.specs.declared.column.ColumnType.{ColumnType}
 use Rattle.sasi_types.specs.declared.partitioner.Partitioner.{Partitioner}
 use Rattle.sasi_types.specs.declared.tree.Pair.{Pair}
 use Rattle.sasi_types.specs.declared.tree.TreeRef.{TreeRef}
 use Rattle.sasi_model.specs.Cells.{Partition, max_timestamp_of, max_timestamp_in}
 use Rattle.sasi_host.specs.Names.{Bytes}
-use Rattle.sasi_body.specs.Format.{body, key_bytes, part_bytes, cells_of, cell_bytes, IsCell, HasBody}
-use Rattle.sasi_body.specs.Typed.{IsBodyOf}
+use Rattle.sasi_model.specs.Stored.{cells_of, IsCell}
+use Rattle.sasi_body.specs.Body.{body, HasBody, IsBodyOf}
+use Rattle.sasi_body.proofs.BodyBytes.{body_least}
 use Rattle.sasi_cells.specs.Entries.{Entry}
 use Rattle.sasi_tokentree.specs.Format.{tree_bytes, tree_ref, levels, level_bytes, size, top, above}
 use Rattle.sasi_tokentree.specs.Sizes.{level_length, one_level, more_levels}
@@ -129,18 +129,6 @@ footer_stands partitioner types bytes content is = record {
     regroup a b c = simp append_assoc
 
 -- ---- sizes
-
-body_least : (key : Bytes) (part : Partition) → HasBody key part → 13 ≤ length (body key part)
-unfolding body
-body_least key part has =
-    omega (
-      arith,
-      has.key_some,
-      length-append (key_bytes key) (part_bytes part),
-      length-append (to_be_bytes w16 (length key)) key,
-      length-append (to_be_bytes w64 part.deleted ++ to_be_bytes w16 (length (cells_of part))) (flat_map cell_bytes (cells_of part)),
-      length-append (to_be_bytes w64 part.deleted) (to_be_bytes w16 (length (cells_of part))),
-    )
 
 partitions_least : (content : Content) → AllByRecursion (λ one. HasBody one.0 one.1) content → 17 * length content ≤ length (partitions content)
 partitions_least [] all = omega arith

@@ -4,7 +4,7 @@ ghost use Rattle.sasi_types.specs.declared.partitioner.Partitioner.{Partitioner}
 ghost use Rattle.sasi_model.specs.Cells.{Partition as Part};
 ghost use Rattle.sasi_host.specs.Names.{Bytes};
 ghost use Rattle.sasi_host.specs.View.{ReadsAtMost};
-ghost use Rattle.sasi_body.specs.Format.{body};
+ghost use Rattle.sasi_body.specs.Body.{body};
 ghost use Rattle.sasi_tokentree.specs.Heights.{height};
 ghost use Rattle.sasi_host.specs.Damages.{DamageShown};
 ghost use Rattle.sasi_host.specs.Buffered.{IsBuffered};

@@ -10,17 +10,18 @@ ghost use Rattle.sasi_host.specs.View.{ReadsAtMost, contents};
 ghost use Rattle.sasi_host.specs.Damages.{HasAt, OnDamage, DamageShown};
 ghost use Rattle.sasi_host.specs.Buffered.{unbuffered_pages};
 ghost use Rattle.sasi_host.specs.PageReading.{CanReadOn, HasReadOn};
-ghost use Rattle.sasi_body.specs.declared.fault.BodyFault.TheVariants as body_fault;
-ghost use Rattle.sasi_body.specs.Format.{body};
-ghost use Rattle.sasi_body.specs.Faults.{IsFaultOf};
-ghost use Rattle.sasi_body.specs.Typed.{IsBodyOf};
+ghost use Rattle.sasi_formats.specs.declared.fault.FormatFault.TheVariants as format_fault;
+ghost use Rattle.sasi_formats.specs.Failures.{HasOtherLength};
+ghost use Rattle.sasi_formats.specs.Whole.{IsShownBy};
+ghost use Rattle.sasi_body.specs.Body.{body, body_of, IsBodyOf};
 ghost use Rattle.sasi_dataread.specs.Damages.{ShowsPartition};
 ghost use Rattle.sasi_dataread.specs.Bodies.{length_prefixed, partition_reads, IsLength, IsWithinBody, NoFalseLengthDamage, NoFalseBytesDamage, NoFalseBodyDamage};
 
 use crate::file_bytes::read_bytes;
-use sasi_body::{BodyFault, read_body};
+use sasi_body::read_body;
 use sasi_cells::Partition;
 use sasi_fields::FieldReader;
+use sasi_formats::FormatFault;
 use sasi_host::{
     BufferedFile, Damage, FileName, FormatRule, Host, PageReader, ReadFault, found, unexpected_end,
 };
@@ -109,23 +110,31 @@ fn read_body_bytes<H: Host, P: PageReader>(
     Ok(body)
 }
 
+// The length at this offset is not that of the body after it.
+fn other_length(file: FileName, place: u64, bytes: &[u8]) -> ReadFault
+    requires short { length bytes.now < 2 ^ 23 }
+    ensures shown { (types : List ColumnType) (end : ℕ) (whole : Bytes) → HasOtherLength (body_of types) bytes.now → HasAt whole place (length_prefixed bytes.now) → OnDamage (ShowsPartition types end place file whole) result }
+    ensures works { result ≡ read_fault.Failed → ⊥ }
+{
+    let length = bytes.len() as u32;
+    let field = length.to_be_bytes();
+    ReadFault::Damaged(found(file, place, FormatRule::Number, &field))
+}
+
 // The fault in the file, by one of the body at this offset.
-fn fault_in_file(file: FileName, place: u64, bytes: &[u8], fault: BodyFault) -> ReadFault
+fn fault_in_file(file: FileName, place: u64, bytes: &[u8], fault: FormatFault) -> ReadFault
     requires short { length bytes.now < 2 ^ 23 }
     requires place { place + 4 + length bytes.now < 2 ^ 64 }
     requires within { IsWithinBody (length bytes.now) fault }
-    ensures shown { (types : List ColumnType) (end : ℕ) (whole : Bytes) → IsFaultOf types bytes.now fault → HasAt whole place (length_prefixed bytes.now) → OnDamage (ShowsPartition types end place file whole) result }
-    ensures memory { fault ≡ body_fault.OutOfMemory → result ≡ read_fault.OutOfMemory }
+    ensures shown { (types : List ColumnType) (end : ℕ) (whole : Bytes) → IsShownBy (body_of types) bytes.now fault → HasAt whole place (length_prefixed bytes.now) → OnDamage (ShowsPartition types end place file whole) result }
+    ensures memory { fault ≡ format_fault.OutOfMemory → result ≡ read_fault.OutOfMemory }
     ensures works { result ≡ read_fault.Failed → ⊥ }
 {
     match fault {
-        BodyFault::OutOfMemory => ReadFault::OutOfMemory,
-        BodyFault::OtherLength => {
-            let length = bytes.len() as u32;
-            let field = length.to_be_bytes();
-            ReadFault::Damaged(found(file, place, FormatRule::Number, &field))
-        }
-        BodyFault::Damaged(broken) => ReadFault::Damaged(Damage {
+        FormatFault::OutOfMemory => ReadFault::OutOfMemory,
+        FormatFault::Short => other_length(file, place, bytes),
+        FormatFault::Long => other_length(file, place, bytes),
+        FormatFault::Broken(broken) => ReadFault::Damaged(Damage {
             file,
             at: place + LENGTH + broken.at as u64,
             rule: broken.rule,

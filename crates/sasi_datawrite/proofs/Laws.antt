@@ -8,7 +8,7 @@ use Rattle.sasi_types.specs.declared.tree.Pair.{Pair}
 use Rattle.sasi_types.specs.Token.{token_of}
 use Rattle.sasi_model.specs.Cells.{Partition, max_timestamp_of}
 use Rattle.sasi_host.specs.Names.{Bytes}
-use Rattle.sasi_body.specs.Format.{body}
+use Rattle.sasi_body.specs.Body.{body}
 use Rattle.sasi_datawrite.specs.Format.{Content, partition_bytes, partitions, front, header, pairs_from, content_max_timestamp}
 use Rattle.sasi_datawrite.specs.Calls.{Call, partition_calls, calls_from}
 

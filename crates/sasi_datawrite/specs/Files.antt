@@ -6,7 +6,7 @@ use Rattle.sasi_types.specs.declared.partitioner.Partitioner.{Partitioner}
 use Rattle.sasi_host.specs.declared.name.FileName.{FileName}
 use Rattle.sasi_host.specs.declared.name.Kind.TheVariants.{Data}
 use Rattle.sasi_host.specs.Names.{Bytes}
-use Rattle.sasi_body.specs.Typed.{IsBodyOf}
+use Rattle.sasi_body.specs.Body.{IsBodyOf}
 use Rattle.sasi_datawrite.specs.Format.{Content, IsContent, data_bytes}
 
 -- the bytes are the data file of this content, in a table whose columns have these types

@@ -11,7 +11,7 @@ use Rattle.sasi_types.specs.DecoratedKey.{decorated_cmp}
 use Rattle.sasi_types.specs.Token.{token_of}
 use Rattle.sasi_model.specs.Cells.{Partition, max_timestamp_of}
 use Rattle.sasi_host.specs.Names.{Bytes}
-use Rattle.sasi_body.specs.Format.{body, HasBody}
+use Rattle.sasi_body.specs.Body.{body, HasBody}
 use Rattle.sasi_tokentree.specs.Format.{tree_bytes, tree_ref}
 
 -- ---- what a file holds

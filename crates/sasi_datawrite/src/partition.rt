@@ -4,7 +4,7 @@ ghost use Rattle.std.specs.Int.{to_be_bytes, w32};
 ghost use Rattle.sasi_host.specs.Names.{Bytes};
 ghost use Rattle.sasi_host.specs.View.{Holds, ListCauses, Reaches};
 ghost use Rattle.sasi_host.specs.Disk.{AnyChange, Changes, FileChange};
-ghost use Rattle.sasi_body.specs.Format.{HasBody};
+ghost use Rattle.sasi_body.specs.Body.{HasBody};
 ghost use Rattle.sasi_datawrite.specs.Format.{partition_bytes};
 
 use sasi_body::put_body;

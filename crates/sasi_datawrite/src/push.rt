@@ -4,7 +4,7 @@ ghost use Rattle.sasi_types.specs.declared.class.Class.{Class};
 ghost use Rattle.sasi_host.specs.Names.{Bytes};
 ghost use Rattle.sasi_host.specs.View.{Holds, Reaches};
 ghost use Rattle.sasi_host.specs.Disk.{AnyChange, Changes, FileChange};
-ghost use Rattle.sasi_body.specs.Format.{HasBody};
+ghost use Rattle.sasi_body.specs.Body.{HasBody};
 ghost use Rattle.sasi_datawrite.specs.Format.{partition_bytes};
 ghost use Rattle.sasi_datawrite.specs.Calls.{Call, partition_calls};
 ghost use Rattle.sasi_datawrite.specs.Causes.{PushCauses};

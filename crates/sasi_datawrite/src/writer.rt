@@ -5,7 +5,7 @@ ghost use Rattle.sasi_types.specs.Token.{token_of};
 ghost use Rattle.sasi_host.specs.View.{DiskCauses, Holds, IsAbsent, ListCauses, Reaches};
 ghost use Rattle.sasi_host.specs.Disk.{AnyChange, Changes, IsSynced, FileChange};
 ghost use Rattle.sasi_host.specs.Names.{data_name};
-ghost use Rattle.sasi_body.specs.Format.{HasBody};
+ghost use Rattle.sasi_body.specs.Body.{HasBody};
 ghost use Rattle.sasi_datawrite.specs.Format.{Content, data_bytes};
 ghost use Rattle.sasi_datawrite.specs.Calls.{Call, partition_calls};
 ghost use Rattle.sasi_datawrite.specs.Causes.{PushCauses};

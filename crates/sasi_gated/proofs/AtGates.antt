@@ -117,14 +117,17 @@ module _ (file : FileName) (bytes : Bytes) (at : ℕ) (done : List Bytes) (rest 
           ap (from_be_bytes w32) (take_at (to_be_bytes w32 stated) (prefix ++ more) 4 refl) ∙ from_be_bytes-to_be_bytes_4 stated states.count_fits
 
       -- the file ends within it
-      pub ends_within : (damage : Damage) → length (drop (at + 5) bytes) < stated → TellsSize file bytes damage → IsGatedDamage file bytes damage
-      ends_within damage short tells = shows_size file bytes damage (inr (
+      pub ends_within : (damage : Damage) → IsLength stated → length (drop (at + 5) bytes) < stated → TellsSize file bytes damage → IsGatedDamage file bytes damage
+      ends_within damage fits short tells = shows_size file bytes damage (inr (
         at,
         done,
         rest,
         gate,
         subst EndsEarly (sym payload_begins) (
           states.is_open,
-          omega (arith, short, ap length payload_at, states_count, length-append (to_be_bytes w32 stated) (prefix ++ more)),
+          inr (record {
+            length_is = subst IsLength (sym states_count) fits;
+            short = omega (arith, short, ap length payload_at, states_count, length-append (to_be_bytes w32 stated) (prefix ++ more));
+          }),
         ),
       )) tells

@@ -37,7 +37,9 @@ not_early (gate ∷ rest) [] (tail, is) early = early.0 cc
 not_early (gate ∷ rest) (p ∷ left) (tail, opens, from) early =
     let both : gate ∷ rest ≡ opens.gate ∷ (frame p ++ tail) = opens.is in
     let same : rest ≡ frame p ++ tail = cc in
-    omega (arith, early.1, ap length same, length-append (frame p) tail, frame_length p, ap (λ (l : Bytes). from_be_bytes w32 (take 4 l)) same, frame_states p tail opens.payload_fits)
+    ⊎_elim (λ few. omega (arith, few, ap length same, length-append (frame p) tail, frame_length p))
+    (λ lacks. let short = lacks.short in omega (arith, short, ap length same, length-append (frame p) tail, frame_length p, ap (λ (l : Bytes). from_be_bytes w32 (take 4 l)) same, frame_states p tail opens.payload_fits))
+    early.1
 
 stated_same : (count : ℕ) (seen rest p tail : Bytes) → seen ≡ to_be_bytes w32 count → count < 2 ^ 32 → IsLength (length p)
     → seen ++ rest ≡ frame p ++ tail → IsLength count

@@ -10,10 +10,15 @@ pub use Rattle.sasi_host.specs.Damages.{Differs, TellsSize, seen_bytes}
 use Rattle.sasi_gated.specs.Format.{magic, IsLength}
 use Rattle.sasi_gated.specs.Gates.{IsAtGate}
 
--- from a gate on the bytes end too early: before the gate, or before the end of the record that an open gate and a length announce
+-- fewer bytes follow a length that a record may have; a length that no record has is a Number, however few follow it
+pub record LacksPayload (count : ℕ) (rest : Bytes) : Type 0 where
+  pub length_is : IsLength count
+  pub short : length rest < 4 + count
+
+-- from a gate on the bytes end too early: before the gate, within the length after an open gate, or within the payload
 abbrev pub EndsEarly : Bytes → Type 0
 EndsEarly [] = Unit {0}
-EndsEarly (gate ∷ rest) = (gate ≢ 0) × (length rest < 4 + from_be_bytes w32 (take 4 rest))
+EndsEarly (gate ∷ rest) = (gate ≢ 0) × ((length rest < 4) ⊎ LacksPayload (from_be_bytes w32 (take 4 rest)) rest)
 
 -- the file ends within its header, or too early at a gate
 abbrev pub IsTruncated : FileName → Bytes → Type 0

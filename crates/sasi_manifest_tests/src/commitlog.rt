@@ -1,6 +1,6 @@
 //! A segment with one mutation: its bytes, what is read of it and of damaged ones, and what a crash leaves of it.
 ghost use Rattle.std.specs.Prelude.{◌≡◌, IsTrue};
-ghost use Rattle.sasi_body.specs.Format.{HasBody};
+ghost use Rattle.sasi_body.specs.Body.{HasBody};
 ghost use Rattle.sasi_host.specs.Names.{log_name};
 
 use sasi_body::read_body;

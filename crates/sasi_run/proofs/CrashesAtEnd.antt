@@ -18,22 +18,10 @@ use Rattle.sasi_run.specs.declared.store.Store.{Store}
 use Rattle.sasi_run.specs.declared.status.Status.TheVariants.{ScriptFault, ScriptTooLong}
 use Rattle.sasi_run.proofs.Crashing.{leaves_both, leaves_more, durable_both}
 use Rattle.sasi_run.proofs.RepliesAtEnd as exits
-use Rattle.sasi_run.proofs.RepliesAtEnd.{all_now, pieces_on}
+use Rattle.sasi_run.proofs.RepliesAtEnd.{all_now, pieces_on, script_parts, script_whole}
 use Rattle.sasi_run.proofs.Answering.{feeds_nothing_crash_safe}
 use Rattle.sasi_run.proofs.ConsumedBytes.{consumes_nothing}
 use Rattle.sasi_run.proofs.RunParts.{state_after-append, feeds_both}
-
--- what was read is a first part of the script
-script_parts : (l l2 : Option (List ℕ)) (read : List ℕ) → Consumes l l2 read → (more : List ℕ) × (script_of l read ≡ read ++ more)
-script_parts None l2 read consumed = ([], sym (append-nil read))
-script_parts (Some script) None read consumed = absurd consumed
-script_parts (Some script) (Some left) read consumed = (left, consumed)
-
--- and the whole of it at its end
-script_whole : (l l2 : Option (List ℕ)) (read : List ℕ) → Consumes l l2 read → IsAtEnd l2 → script_of l read ≡ read
-script_whole None l2 read consumed end = refl
-script_whole (Some script) None read consumed end = absurd consumed
-script_whole (Some script) (Some left) read consumed end = consumed ∙ ap (λ (l : List ℕ). read ++ l) end ∙ append-nil read
 
 widened : (a b : View) (store : Store) (done rest all : List Piece) → all ≡ done ++ rest → CrashLeavesPieces a b store done → CrashLeavesPieces a b store all
 widened a b store done rest all is leaves = subst (λ (l : List Piece). CrashLeavesPieces a b store l) (sym is) (leaves_more a b store done rest leaves)
@@ -94,11 +82,11 @@ pub ends_last : (stop : Stop) (from mid : Session) (l l1 l2 : Option (List ℕ))
     → ReadsCrashSafe from mid l l1 a b n → n ≤ 2 ^ 40 → Consumes l1 l2 none → length none ≡ 0 → IsAtEnd l2
     → FailsCrashSafe stop mid b c (resume mid.splitter []).last → RunsCrashSafe (status_of_stop stop) from.store l l2 a c
 ends_last stop from mid l l1 l2 a b c n none fresh on few ate empty end fails =
-    let runs = exits.ends_last stop from mid l l1 l2 a.emitted b.emitted c.emitted n none fresh on.goes few ate empty fails.shown in
+    let runs = exits.ends_last stop from mid l l1 l2 a.emitted b.emitted c.emitted n none fresh on.goes few ate empty end fails.shown in
     let all = all_now from mid a.emitted b.emitted on.goes.read fresh on.goes.taken in
     let both = leaves_both a b c from.store mid.store on.goes.taken.done (resume mid.splitter []).last on.goes.taken.state on.durable
     on.crashes fails.crashes in
-    let known = exits.ends_last_read stop from mid l l1 l2 a.emitted b.emitted c.emitted n none fresh on.goes few ate empty fails.shown in
+    let known = exits.ends_last_read stop from mid l l1 l2 a.emitted b.emitted c.emitted n none fresh on.goes few ate empty end fails.shown in
     let whole = script_whole l l2 runs.read runs.consumed end in
     record {
       runs = runs;

@@ -1,6 +1,6 @@
 -- What a run has shown at each of its ends. `from` is the session at the script's start, and `mid` where it stands before
 -- the last read; `goes` tells what was read and run until then.
-use Rattle.std.proofs.Common.{◌≡◌, ℕ, ◌+◌, ◌-◌, ◌^◌, ◌≤◌, ◌<◌, min, Bool, true, false, cond, nat_eq, List, [], ◌++◌, length, take, drop, Option, refl, sym, ap, ◌∙◌, subst, arith, append_assoc, length-append, length-drop}
+use Rattle.std.proofs.Common.{◌≡◌, ℕ, ◌+◌, ◌-◌, ◌^◌, ◌≤◌, ◌<◌, min, Bool, true, false, cond, nat_eq, List, [], ◌++◌, length, take, drop, Option, None, Some, refl, sym, ap, ◌∙◌, subst, arith, append_assoc, length-append, length-drop}
 use Rattle.std.proofs.lemmas.List.{append-nil, take-append-drop, length-take-le, take-take}
 use Rattle.std.proofs.Math.Seq.{take-length, take-append_seam}
 use Rattle.std.specs.Io.KnownBytes.{Consumes, Keeps, IsAtEnd}
@@ -10,7 +10,7 @@ use Rattle.sasi_model.specs.Step.{state_after, replies, refusals}
 use Rattle.sasi_cql.specs.SplitterState.{resume, behind}
 use Rattle.sasi_cql.proofs.Resumed.{resume_nothing}
 use Rattle.sasi_run.specs.Session.{counted_by, Feeds, Stops, EmittedAtStop, ReadsScript, Finishes, IsAtScriptStart}
-use Rattle.sasi_run.specs.Headline.{Runs, EmitsByStatus, EmitsAllReplies, EmitsFirstReplies, ReadsToEnd, SCRIPT_MOST, READ_MOST, status_of_stop, status_of_count}
+use Rattle.sasi_run.specs.Headline.{Runs, EmitsByStatus, EmitsAllReplies, EmitsFirstReplies, IsFirstPart, ReadsToEnd, SCRIPT_MOST, READ_MOST, script_of, status_of_stop, status_of_count}
 use Rattle.sasi_run.specs.declared.session.Session.{Session}
 use Rattle.sasi_run.specs.declared.session.Stop.{Stop}
 use Rattle.sasi_run.specs.declared.session.Stop.TheVariants.{Disk, Output, Memory}
@@ -39,6 +39,20 @@ pub all_now : (from to : Session) (a b : Option (List ℕ)) (read : List ℕ) �
 all_now from to a b read fresh t = rw (whole_now from to a b read fresh t)
     (ap (λ (p : Pieces). t.done ++ p.last) (pieces_now from to a b read fresh t))
 
+-- ---- the script
+
+-- what was read is a first part of the script
+pub script_parts : (l l2 : Option (List ℕ)) (read : List ℕ) → Consumes l l2 read → (more : List ℕ) × (script_of l read ≡ read ++ more)
+script_parts None l2 read consumed = ([], sym (append-nil read))
+script_parts (Some script) None read consumed = absurd consumed
+script_parts (Some script) (Some left) read consumed = (left, consumed)
+
+-- and the whole of it at its end
+pub script_whole : (l l2 : Option (List ℕ)) (read : List ℕ) → Consumes l l2 read → IsAtEnd l2 → script_of l read ≡ read
+script_whole None l2 read consumed end = refl
+script_whole (Some script) None read consumed end = absurd consumed
+script_whole (Some script) (Some left) read consumed end = consumed ∙ ap (λ (l : List ℕ). read ++ l) end ∙ append-nil read
+
 -- ---- the ends
 
 -- a read failed
@@ -58,12 +72,12 @@ ends_fault from mid l l1 l2 o o1 n fresh goes few kept = record {
   bounded = omega (arith, goes.length_is);
 }
 
-pub shows_count : (s : State) (n : ℕ) (read shown : List ℕ) (left : Option (List ℕ)) → EmitsAllReplies s read shown n → IsAtEnd left → (b : Bool)
-    → nat_eq n 0 ≡ b → EmitsByStatus (cond b Done (Refused n)) s read shown × ReadsToEnd (cond b Done (Refused n)) left
-shows_count s n read shown left all end true e =
+pub shows_count : (s : State) (n : ℕ) (script read shown : List ℕ) (left : Option (List ℕ)) → EmitsAllReplies s read shown n → IsAtEnd left
+    → (b : Bool) → nat_eq n 0 ≡ b → EmitsByStatus (cond b Done (Refused n)) s script read shown × ReadsToEnd (cond b Done (Refused n)) left
+shows_count s n script read shown left all end true e =
     let is : n ≡ 0 = grind arith in
     (subst (λ m. EmitsAllReplies s read shown m) is all, end)
-shows_count s n read shown left all end false e =
+shows_count s n script read shown left all end false e =
     let some : 0 < n = grind arith in
     ((some, all), end)
 
@@ -84,8 +98,8 @@ ends_done from mid to l l1 l2 o o1 o2 n none fresh goes few ate empty end fin =
     let final : to.refused ≡ min (refusals from.store.machine (all_pieces goes.read)) (2 ^ 64 - 1) = omega (arith, fin.count, before, total) in
     let shown : EmitsAllReplies from.store.machine goes.read (replies from.store.machine t.done ++ replies mid.store.machine last)
     to.refused = record { all = sym text; count = final; short = omega (arith, goes.length_is) } in
-    let both = shows_count from.store.machine to.refused goes.read (replies from.store.machine t.done ++ replies mid.store.machine last) l2
-    shown end (nat_eq to.refused 0) refl in
+    let both = shows_count from.store.machine to.refused (script_of l goes.read) goes.read
+    (replies from.store.machine t.done ++ replies mid.store.machine last) l2 shown end (nat_eq to.refused 0) refl in
     record {
       read = goes.read;
       shown = replies from.store.machine t.done ++ replies mid.store.machine last;
@@ -96,45 +110,44 @@ ends_done from mid to l l1 l2 o o1 o2 n none fresh goes few ate empty end fin =
       bounded = omega (arith, goes.length_is);
     }
 
--- whole replies of a first part of the pieces were emitted
-replied_first : (s : State) (read : List ℕ) (done next rest more : List Piece) (before : ℕ) → all_pieces read ≡ done ++ next ++ rest
-    → length read ≤ before + READ_MOST → done ≡ (pieces (take before read)).whole ++ more → EmitsFirstReplies s read (replies s done)
-replied_first s read done next rest more before parts late has = record {
-  done = done;
-  first = record {
-    rest = next ++ rest;
-    parts = parts ∙ rw (append_assoc, append-nil) refl;
-    before = before;
-    late = late;
-    more = more;
-    has = has;
-  };
-  replied = refl;
+-- where nothing of the next reply was emitted
+without_next : (script read : List ℕ) (done next : List Piece) → IsFirstPart script read done next → IsFirstPart script read done []
+without_next script read done next first = record {
+  rest = next ++ first.rest;
+  parts = first.parts ∙ rw (append_assoc, append-nil) refl;
+  left_over = next ++ first.left_over;
+  of_read = first.of_read ∙ rw (append_assoc, append-nil) refl;
+  before = first.before;
+  last = first.last;
+  reads = first.reads;
+  short = first.short;
+  more = first.more;
+  has = first.has;
 }
 
 -- a run that stopped shows a first part
-stops_show : (stop : Stop) (s : State) (read : List ℕ) (done next rest more : List Piece) (before : ℕ) (l l2 o o2 : Option (List ℕ))
-    → Consumes l l2 read → length read ≤ SCRIPT_MOST + READ_MOST → all_pieces read ≡ done ++ next ++ rest → length read ≤ before + READ_MOST
-    → done ≡ (pieces (take before read)).whole ++ more → EmittedAtStop stop s o o2 done next → Runs (status_of_stop stop) s l l2 o o2
-stops_show Memory s read done next rest more before l l2 o o2 consumed bounded parts late has at = record {
+stops_show : (stop : Stop) (s : State) (read : List ℕ) (done next : List Piece) (l l2 o o2 : Option (List ℕ)) → Consumes l l2 read
+    → length read ≤ SCRIPT_MOST + READ_MOST → IsFirstPart (script_of l read) read done next → EmittedAtStop stop s o o2 done next
+    → Runs (status_of_stop stop) s l l2 o o2
+stops_show Memory s read done next l l2 o o2 consumed bounded first at = record {
   read = read;
   shown = replies s done;
   consumed = consumed;
   emitted = at;
   at_end = tt;
-  shows = replied_first s read done next rest more before parts late has;
+  shows = record { done = done; first = without_next (script_of l read) read done next first; replied = refl };
   bounded = bounded;
 }
-stops_show Disk s read done next rest more before l l2 o o2 consumed bounded parts late has at = record {
+stops_show Disk s read done next l l2 o o2 consumed bounded first at = record {
   read = read;
   shown = replies s done;
   consumed = consumed;
   emitted = at;
   at_end = tt;
-  shows = replied_first s read done next rest more before parts late has;
+  shows = record { done = done; first = without_next (script_of l read) read done next first; replied = refl };
   bounded = bounded;
 }
-stops_show Output s read done next rest more before l l2 o o2 consumed bounded parts late has (piece, front, back, one, reply, shown) = record {
+stops_show Output s read done next l l2 o o2 consumed bounded first (piece, front, back, one, reply, shown) = record {
   read = read;
   shown = replies s done ++ front;
   consumed = consumed;
@@ -143,7 +156,7 @@ stops_show Output s read done next rest more before l l2 o o2 consumed bounded p
   shows = record {
     done = done;
     piece = piece;
-    first = record { rest = rest; parts = parts ∙ rw one refl; before = before; late = late; more = more; has = has };
+    first = subst (λ (ps : List Piece). IsFirstPart (script_of l read) read done ps) one first;
     front = front;
     back = back;
     reply = reply;
@@ -152,38 +165,46 @@ stops_show Output s read done next rest more before l l2 o o2 consumed bounded p
   bounded = bounded;
 }
 
-stops_read : (stop : Stop) (s : State) (read : List ℕ) (done next rest more : List Piece) (before : ℕ) (l l2 o o2 : Option (List ℕ))
-    (consumed : Consumes l l2 read) (bounded : length read ≤ SCRIPT_MOST + READ_MOST) (parts : all_pieces read ≡ done ++ next ++ rest)
-    (late : length read ≤ before + READ_MOST)
-    (has : done ≡ (pieces (take before read)).whole ++ more) (at : EmittedAtStop stop s o o2 done next)
-    → (stops_show stop s read done next rest more before l l2 o o2 consumed bounded parts late has at).read ≡ read
+stops_read : (stop : Stop) (s : State) (read : List ℕ) (done next : List Piece) (l l2 o o2 : Option (List ℕ)) (consumed : Consumes l l2 read)
+    (bounded : length read ≤ SCRIPT_MOST + READ_MOST) (first : IsFirstPart (script_of l read) read done next)
+    (at : EmittedAtStop stop s o o2 done next) → (stops_show stop s read done next l l2 o o2 consumed bounded first at).read ≡ read
 unfolding stops_show
-stops_read Memory s read done next rest more before l l2 o o2 consumed bounded parts late has at = refl
-stops_read Disk s read done next rest more before l l2 o o2 consumed bounded parts late has at = refl
-stops_read Output s read done next rest more before l l2 o o2 consumed bounded parts late has (piece, front, back, one, reply, shown) = refl
+stops_read Memory s read done next l l2 o o2 consumed bounded first at = refl
+stops_read Disk s read done next l l2 o o2 consumed bounded first at = refl
+stops_read Output s read done next l l2 o o2 consumed bounded first (piece, front, back, one, reply, shown) = refl
 
 -- the last reply was not emitted
 pub ends_last : (stop : Stop) (from mid : Session) (l l1 l2 o o1 o2 : Option (List ℕ)) (n : ℕ) (none : List ℕ) → IsAtScriptStart from
-    → ReadsScript from mid l l1 o o1 n → n ≤ 2 ^ 40 → Consumes l1 l2 none → length none ≡ 0
+    → ReadsScript from mid l l1 o o1 n → n ≤ 2 ^ 40 → Consumes l1 l2 none → length none ≡ 0 → IsAtEnd l2
     → EmittedAtStop stop mid.store.machine o1 o2 [] (resume mid.splitter []).last → Runs (status_of_stop stop) from.store.machine l l2 o o2
-ends_last stop from mid l l1 l2 o o1 o2 n none fresh goes few ate empty at =
+ends_last stop from mid l l1 l2 o o1 o2 n none fresh goes few ate empty end at =
     let t = goes.taken in
-    stops_show stop from.store.machine goes.read t.done (resume mid.splitter []).last [] [] (length goes.read) l l2 o o2
-    (consumes_none l l1 l2 goes.read none goes.consumed ate empty)
+    let consumed = consumes_none l l1 l2 goes.read none goes.consumed ate empty in
+    let all : all_pieces goes.read ≡ t.done ++ (resume mid.splitter []).last ++ [] = rw append-nil (all_now from mid o o1 goes.read fresh t) in
+    stops_show stop from.store.machine goes.read t.done (resume mid.splitter []).last l l2 o o2 consumed
     (omega (arith, goes.length_is))
-    (rw append-nil (all_now from mid o o1 goes.read fresh t))
-    (omega arith)
-    (rw (take-length, append-nil) (sym (whole_now from mid o o1 goes.read fresh t)))
+    (record {
+      rest = [];
+      parts = ap all_pieces (script_whole l l2 goes.read consumed end) ∙ all;
+      left_over = [];
+      of_read = all;
+      before = goes.read;
+      last = [];
+      reads = sym (append-nil goes.read);
+      short = omega arith;
+      more = [];
+      has = rw append-nil (sym (whole_now from mid o o1 goes.read fresh t));
+    })
     (rw (← append-nil t.done)
     (stopped_later stop from.store.machine mid.store.machine t.done [] (resume mid.splitter []).last o o1 o2 t.state t.shown at))
 
 pub ends_last_read : (stop : Stop) (from mid : Session) (l l1 l2 o o1 o2 : Option (List ℕ)) (n : ℕ) (none : List ℕ) (fresh : IsAtScriptStart from)
-    (goes : ReadsScript from mid l l1 o o1 n) (few : n ≤ 2 ^ 40) (ate : Consumes l1 l2 none) (empty : length none ≡ 0)
+    (goes : ReadsScript from mid l l1 o o1 n) (few : n ≤ 2 ^ 40) (ate : Consumes l1 l2 none) (empty : length none ≡ 0) (end : IsAtEnd l2)
     (at : EmittedAtStop stop mid.store.machine o1 o2 [] (resume mid.splitter []).last)
-    → (ends_last stop from mid l l1 l2 o o1 o2 n none fresh goes few ate empty at).read ≡ goes.read
+    → (ends_last stop from mid l l1 l2 o o1 o2 n none fresh goes few ate empty end at).read ≡ goes.read
 unfolding ends_last
-ends_last_read stop from mid l l1 l2 o o1 o2 n none fresh goes few ate empty at = stops_read stop from.store.machine goes.read
-    goes.taken.done (resume mid.splitter []).last [] [] (length goes.read) l l2 o o2 _ _ _ _ _ _
+ends_last_read stop from mid l l1 l2 o o1 o2 n none fresh goes few ate empty end at = stops_read stop from.store.machine goes.read
+    goes.taken.done (resume mid.splitter []).last l l2 o o2 _ _ _ _
 
 -- the script was too long
 unfoldable pub ends_long : (from mid to : Session) (l l1 l2 o o1 o2 : Option (List ℕ)) (n : ℕ) (chunk part rest : List ℕ) → IsAtScriptStart from
@@ -206,23 +227,46 @@ ends_long from mid to l l1 l2 o o1 o2 n chunk part rest fresh goes few ate small
       bounded = omega (arith, length-append goes.read chunk, goes.length_is);
     }
 
+-- the pieces of what was read, and of more behind it, where it stopped within what a read gave
+within_cut : (stop : Stop) (from mid : Session) (l l1 o o1 o2 : Option (List ℕ)) (n : ℕ) (chunk part rest : List ℕ) → IsAtScriptStart from
+    → (goes : ReadsScript from mid l l1 o o1 n) → chunk ≡ part ++ rest → (u : Stops stop mid o1 o2 part) → (more : List ℕ)
+    → pieces ((goes.read ++ chunk) ++ more)
+    ≡ behind goes.taken.done (behind (u.done ++ u.next) (resume u.stand (u.rest ++ (rest ++ more))))
+within_cut stop from mid l l1 o o1 o2 n chunk part rest fresh goes parts u more =
+    let bytes : (goes.read ++ chunk) ++ more ≡ goes.read ++ (u.taken ++ (u.rest ++ (rest ++ more))) = rw (parts, u.parts) (simp append_assoc) in
+    ap pieces bytes ∙ pieces_on from mid o o1 goes.read fresh goes.taken (u.taken ++ (u.rest ++ (rest ++ more)))
+    ∙ ap (behind goes.taken.done) (u.reading (u.rest ++ (rest ++ more)))
+
+behind_twice : (p : Pieces) (first done next : List Piece) (q : Pieces) → p ≡ behind first (behind (done ++ next) q)
+    → p.whole ++ p.last ≡ (first ++ done) ++ next ++ (q.whole ++ q.last)
+behind_twice p first done next q is = ap (λ (x : Pieces). x.whole ++ x.last) is ∙ simp append_assoc
+
 -- it stopped within what a read gave
 pub ends_within : (stop : Stop) (from mid : Session) (l l1 l2 o o1 o2 : Option (List ℕ)) (n : ℕ) (chunk part rest : List ℕ) → IsAtScriptStart from
     → ReadsScript from mid l l1 o o1 n → n ≤ 2 ^ 40 → Consumes l1 l2 chunk → length chunk ≤ READ_MOST → chunk ≡ part ++ rest
     → Stops stop mid o1 o2 part → Runs (status_of_stop stop) from.store.machine l l2 o o2
 ends_within stop from mid l l1 l2 o o1 o2 n chunk part rest fresh goes few ate small parts u =
     let t = goes.taken in
-    let onward = resume u.stand (u.rest ++ rest) in
-    let bytes : goes.read ++ chunk ≡ goes.read ++ (u.taken ++ (u.rest ++ rest)) = rw (parts, u.parts) (simp append_assoc) in
-    let cut : pieces (goes.read ++ chunk) ≡ behind t.done (behind (u.done ++ u.next) onward) =
-    ap pieces bytes ∙ pieces_on from mid o o1 goes.read fresh t (u.taken ++ (u.rest ++ rest)) ∙ ap (behind t.done) (u.reading (u.rest ++ rest)) in
-    stops_show stop from.store.machine (goes.read ++ chunk) (t.done ++ u.done) u.next (onward.whole ++ onward.last) u.done
-    (length goes.read) l l2 o o2
-    (consumes_both l l1 l2 goes.read chunk goes.consumed ate)
+    let read = goes.read ++ chunk in
+    let consumed = consumes_both l l1 l2 goes.read chunk goes.consumed ate in
+    let script = script_parts l l2 read consumed in
+    let cut = within_cut stop from mid l l1 o o1 o2 n chunk part rest fresh goes parts u in
+    let onward = resume u.stand (u.rest ++ (rest ++ script.0)) in
+    let ended = resume u.stand (u.rest ++ (rest ++ [])) in
+    stops_show stop from.store.machine read (t.done ++ u.done) u.next l l2 o o2 consumed
     (omega (arith, length-append goes.read chunk, goes.length_is))
-    (ap (λ (p : Pieces). p.whole ++ p.last) cut ∙ simp append_assoc)
-    (omega (arith, length-append goes.read chunk))
-    (rw (take-append_seam goes.read chunk, whole_now from mid o o1 goes.read fresh t) refl)
+    (record {
+      rest = onward.whole ++ onward.last;
+      parts = ap all_pieces script.1 ∙ behind_twice (pieces (read ++ script.0)) t.done u.done u.next onward (cut script.0);
+      left_over = ended.whole ++ ended.last;
+      of_read = ap all_pieces (sym (append-nil read)) ∙ behind_twice (pieces (read ++ [])) t.done u.done u.next ended (cut []);
+      before = goes.read;
+      last = chunk;
+      reads = refl;
+      short = small;
+      more = u.done;
+      has = rw (whole_now from mid o o1 goes.read fresh t) refl;
+    })
     (stopped_later stop from.store.machine mid.store.machine t.done u.done u.next o o1 o2 t.state t.shown u.shown)
 
 pub ends_within_read : (stop : Stop) (from mid : Session) (l l1 l2 o o1 o2 : Option (List ℕ)) (n : ℕ) (chunk part rest : List ℕ)
@@ -232,7 +276,7 @@ pub ends_within_read : (stop : Stop) (from mid : Session) (l l1 l2 o o1 o2 : Opt
     → (ends_within stop from mid l l1 l2 o o1 o2 n chunk part rest fresh goes few ate small parts u).read ≡ goes.read ++ chunk
 unfolding ends_within
 ends_within_read stop from mid l l1 l2 o o1 o2 n chunk part rest fresh goes few ate small parts u = stops_read stop from.store.machine
-    (goes.read ++ chunk) (goes.taken.done ++ u.done) u.next _ u.done (length goes.read) l l2 o o2 _ _ _ _ _ _
+    (goes.read ++ chunk) (goes.taken.done ++ u.done) u.next l l2 o o2 _ _ _ _
 
 -- ---- it goes on
 

@@ -4,7 +4,7 @@ use Rattle.std.proofs.lemmas.List.{append-nil}
 use Rattle.std.specs.Io.KnownBytes.{Appends}
 use Rattle.sasi_types.specs.declared.partitioner.Partitioner.TheVariants.{Lead8}
 use Rattle.sasi_model.specs.Pieces.{Piece, all_pieces}
-use Rattle.sasi_model.specs.State.{State}
+use Rattle.sasi_model.specs.State.{State, empty_state}
 use Rattle.sasi_model.specs.Step.{replies, state_after}
 use Rattle.sasi_host.specs.declared.fault.ReadFault.{ReadFault}
 use Rattle.sasi_host.specs.declared.fault.ReadFault.TheVariants as read_fault
@@ -28,55 +28,40 @@ use Rattle.sasi_run.specs.declared.store.Store.{Store}
 use Rattle.sasi_run.proofs.Crashing.{one_of}
 use Rattle.sasi_run.proofs.Complete.{through}
 use Rattle.sasi_run.proofs.ConsumedBytes.{consumes_nothing}
-use Rattle.sasi_run.proofs.Recovering.{after_crash}
+use Rattle.sasi_run.proofs.Recovering.{after_crash, counted, nothing_shown}
 use Rattle.sasi_run.proofs.RunParts.{appends_none}
 
 -- ---- the start, and the opening
 
 module _ (a : View) (s : State) (starts : StartsFrom a s) (before : List ℕ) (emitted : a.emitted ≡ Some before) (pieces : List Piece) where
-  at_start : (folder : Folder) (out : List ℕ) → LeavesNow a folder out → Recovers a s pieces before folder out
-  at_start folder out now =
-      let stood = starts.images folder now.0 in
+  -- nothing was shown, and the folder stands for the state of an image of the start
+  from_image : (folder image : Folder) (out : List ℕ) (state : State) → a.emitted ≡ Some out → a.image image → Stands Lead8 image state
+      → Stands Lead8 folder state → Recovers a s pieces before folder out
+  from_image folder image out state said was stood stands =
+      let n = counted s pieces [] in
       record {
         shown = [];
-        went = one_of out before (sym now.1 ∙ emitted)
+        went = one_of out before (sym said ∙ emitted)
             ∙ sym (append-nil before);
-        stands = inl
-            (record { nothing = refl; image = folder; was = now.0; state = stood.0; stood = stood.1; stands = stood.1 });
+        count = n.0;
+        whole = n.1;
+        next = nothing_shown s pieces n.0 n.1;
+        state = state;
+        stands = stands;
+        after = inl (record { nothing = refl; image = image; was = was; stood = stood });
       }
+
+  at_start : (folder : Folder) (out : List ℕ) → LeavesNow a folder out → Recovers a s pieces before folder out
+  at_start folder out now =
+      let stood = starts.images folder now.0 in from_image folder folder out stood.0 now.1 now.0 stood.1 stood.1
 
   while_opening : IsSound a → (folder : Folder) (out : List ℕ) → FromImage (UnchangedOrStands Lead8 s) a folder out → Recovers a s pieces before folder out
   while_opening sound folder out (was, image, opens, said) =
       let stood = starts.images was image in
-      let none : out ≡ before ++ [] = one_of out before (sym said ∙ emitted) ∙ sym (append-nil before) in
       ⊎_elim
-      (λ same. record {
-        shown = [];
-        went = none;
-        stands = inl
-            (record {
-              nothing = refl;
-              image = was;
-              was = image;
-              state = stood.0;
-              stood = stood.1;
-              stands = subst
-                  (λ (f : Folder). Stands Lead8 f stood.0) (sym same) stood.1;
-            });
-      })
-      (λ stands. record {
-        shown = [];
-        went = none;
-        stands = inl
-            (record {
-              nothing = refl;
-              image = starts.folder;
-              was = sound.reads starts.folder starts.reads;
-              state = s;
-              stood = starts.stands;
-              stands = stands;
-            });
-      })
+      (λ same. from_image folder was out stood.0 said image stood.1
+      (subst (λ (f : Folder). Stands Lead8 f stood.0) (sym same) stood.1))
+      (λ stands. from_image folder starts.folder out s said (sound.reads starts.folder starts.reads) starts.stands stands)
       opens
 
   -- the run stopped in the opening
@@ -85,23 +70,24 @@ module _ (a : View) (s : State) (starts : StartsFrom a s) (before : List ℕ) (e
   recovers_opening b sound change folder out left = ⊎_elim (at_start folder out) (while_opening sound folder out)
       (since_start a b (FromImage (UnchangedOrStands Lead8 s) a) sound change.during folder out left)
 
+  from_moment : (folder : Folder) (out shown : List ℕ) → out ≡ before ++ shown → Crashed s before pieces folder out → Recovers a s pieces before folder out
+  from_moment folder out shown went was =
+      let n = counted s pieces shown in
+      let after = after_crash s before pieces folder out shown went n.0 n.1 was in
+      record {
+        shown = shown;
+        went = went;
+        count = n.0;
+        whole = n.1;
+        next = after.0;
+        state = after.1.0;
+        stands = inr after.1.1;
+        after = inr after.1.2;
+      }
+
   crashed : (folder : Folder) (out : List ℕ) → Crashed s before pieces folder out → Recovers a s pieces before folder out
-  crashed folder out was =
-      ⊎_elim
-      (λ quiet. record {
-        shown = replies s was.done;
-        went = quiet.went;
-        stands = inr
-            (λ n is_count. after_crash s before pieces folder out (replies s was.done) quiet.went n is_count was);
-      })
-      (λ answering. record {
-        shown = replies s was.done
-            ++ answering.front;
-        went = answering.went;
-        stands = inr
-            (λ n is_count. after_crash s before pieces folder out (replies s was.done ++ answering.front) answering.went n is_count was);
-      })
-      was.stands
+  crashed folder out was = ⊎_elim (λ quiet. from_moment folder out (replies s was.done) quiet.went was)
+      (λ answering. from_moment folder out (replies s was.done ++ answering.front) answering.went was) was.stands
 
   -- it went on behind it
   pub recovers_run : (b c : View) (store : Store) → IsSound a → Changes (UnchangedOrStands Lead8 s) a b → IsStoreDurable b store → store.machine ≡ s
@@ -159,26 +145,40 @@ ends_alone a b c s store starts before emitted change durable is sound pieces af
 -- ---- what a run does
 
 -- the words named no script
+nothing_runs : (s : State) (l o : Option (List ℕ)) → Runs Usage s l l o o
+nothing_runs s l o = record {
+  read = [];
+  shown = [];
+  consumed = consumes_nothing l;
+  emitted = appends_none o;
+  at_end = tt;
+  shows = (refl, refl);
+  bounded = omega arith;
+}
+
 pub runs_nothing : (a : View) (s : State) (l : Option (List ℕ)) → IsSound a → StartsFrom a s → RunsFrom Usage s l l a a
 runs_nothing a s l sound starts = record {
-  runs = record {
-    read = [];
-    shown = [];
-    consumed = consumes_nothing l;
-    emitted = appends_none a.emitted;
-    at_end = tt;
-    shows = (refl, refl);
-    bounded = omega arith;
-  };
+  runs = nothing_runs s l a.emitted;
   crash = λ before emitted folder out left. recovers_opening a s starts before emitted _ a sound
       (changes_as a a Same (UnchangedOrStands Lead8 s) (stays a) (λ x y same. inl same)) folder out left;
   ends = λ is. absurd is;
 }
 
-nothing_read : (s : State) → EmitsFirstReplies s [] []
-nothing_read s = record {
+nothing_read : (s : State) (script : List ℕ) → EmitsFirstReplies s script [] []
+nothing_read s script = record {
   done = [];
-  first = record { rest = all_pieces []; parts = refl; before = 0; late = omega arith; more = []; has = refl };
+  first = record {
+    rest = all_pieces script;
+    parts = refl;
+    left_over = all_pieces [];
+    of_read = refl;
+    before = [];
+    last = [];
+    reads = refl;
+    short = omega arith;
+    more = [];
+    has = refl;
+  };
   replied = refl;
 }
 
@@ -190,7 +190,7 @@ first_runs read_fault.Failed s l o o2 same = record {
   emitted = subst (λ (x : Option (List ℕ)). Appends o x []) (sym same)
       (appends_none o);
   at_end = tt;
-  shows = nothing_read s;
+  shows = nothing_read s (script_of l []);
   bounded = omega arith;
 }
 first_runs read_fault.OutOfMemory s l o o2 same = record {
@@ -200,7 +200,7 @@ first_runs read_fault.OutOfMemory s l o o2 same = record {
   emitted = subst (λ (x : Option (List ℕ)). Appends o x []) (sym same)
       (appends_none o);
   at_end = tt;
-  shows = nothing_read s;
+  shows = nothing_read s (script_of l []);
   bounded = omega arith;
 }
 first_runs (read_fault.Damaged damage) s l o o2 same = record {
@@ -228,31 +228,34 @@ runs_unopened fault a b s l sound starts change = record {
   ends = λ is. absurd (not_ended fault is);
 }
 
+-- the opening emits nothing, and finds this state
+moved : (status : Status) (l l2 : Option (List ℕ)) (t m : State) → m ≡ t → (o p q : Option (List ℕ)) → o ≡ p → Runs status m l l2 o q
+    → Runs status t l l2 p q
+moved status l l2 t m e o p q f runs = record {
+  read = runs.read;
+  shown = runs.shown;
+  consumed = runs.consumed;
+  emitted = subst (λ (x : Option (List ℕ)). Appends x q runs.shown) f runs.emitted;
+  at_end = runs.at_end;
+  shows = subst (λ (x : State). EmitsByStatus status x (script_of l runs.read) runs.read runs.shown) e runs.shows;
+  bounded = runs.bounded;
+}
+
 -- it was, and the script run
 pub runs_opened : (status : Status) (a b c : View) (s : State) (store : Store) (l l2 : Option (List ℕ)) → IsSound a → StartsFrom a s
     → Changes (UnchangedOrStands Lead8 s) a b → IsStoreDurable b store → store.machine ≡ s → IsSound c → RunsCrashSafe status store l l2 b c
     → RunsFrom status s l l2 a c
+unfolding moved
 runs_opened status a b c s store l l2 sound starts change durable is sound_c on = record {
-  runs = moved s store.machine is b.emitted a.emitted change.emitted on.runs;
+  runs = moved status l l2 s store.machine is b.emitted a.emitted c.emitted change.emitted on.runs;
   crash = λ before emitted folder out left. recovers_run a s starts before emitted
-      (all_pieces (script_of l (moved s store.machine is b.emitted a.emitted change.emitted on.runs).read)) b c store sound change durable is
+      (all_pieces (script_of l (moved status l l2 s store.machine is b.emitted a.emitted c.emitted change.emitted on.runs).read)) b c store sound change durable is
       (same_read s store.machine is b.emitted a.emitted change.emitted) folder out left;
   ends = λ ran said.
       (let out = some_out a.emitted said in ends_alone a b c s store starts out.0 out.1 change durable is sound_c
       (all_pieces (script_of l on.runs.read)) (on.ends ran));
 }
   where
-    moved : (t m : State) → m ≡ t → (o p : Option (List ℕ)) → o ≡ p → Runs status m l l2 o c.emitted → Runs status t l l2 p c.emitted
-    moved t m e o p f runs = record {
-      read = runs.read;
-      shown = runs.shown;
-      consumed = runs.consumed;
-      emitted = subst (λ (x : Option (List ℕ)). Appends x c.emitted runs.shown) f runs.emitted;
-      at_end = runs.at_end;
-      shows = subst (λ (x : State). EmitsByStatus status x runs.read runs.shown) e runs.shows;
-      bounded = runs.bounded;
-    }
-
     same_read : (t m : State) (e : m ≡ t) (o p : Option (List ℕ)) (f : o ≡ p) → CrashLeavesPieces b c store (all_pieces (script_of l on.runs.read))
     same_read t m e o p f = on.crashes
 
@@ -265,6 +268,8 @@ rose_later a b c le rose = omega (arith, le, rose)
 pub headline_unused : (words : List (List ℕ)) (script : SourceView) (a : View) → IsSound a → (IsCommandLine words → ⊥)
     → Headline words Usage script script a a
 headline_unused words script a sound none = record {
+  some_state = (empty_state Lead8, nothing_runs (empty_state Lead8) script.left a.emitted);
+  as_it_reads = λ folder s files stands. nothing_runs s script.left a.emitted;
   shows = λ s starts. runs_nothing a s script.left sound starts;
   usage = (λ is. none, λ no. refl);
   script_fault = λ is. cc;
@@ -272,7 +277,7 @@ headline_unused words script a sound none = record {
   output_fault = λ is. cc;
   damaged = λ damage is. cc;
   refused = λ folder files none. record { refusal = tt; unread = refl; silent = refl };
-  undamaged = λ s damage starts is. cc;
+  undamaged = λ folder s damage files stands is. cc;
   complete = λ are x y z. absurd (none are);
 }
 
@@ -288,6 +293,8 @@ pub headline_unopened : (words : List (List ℕ)) (fault : ReadFault) (script : 
     → ((folder : Folder) (s : State) → a.files ≡ Some folder → Stands Lead8 folder s → OnDamage (λ _. ⊥) fault)
     → Headline words (status_of_fault fault) script script a b
 headline_unopened words read_fault.Failed script a b sound are silent change failed shown undamaged = record {
+  some_state = (empty_state Lead8, first_runs read_fault.Failed (empty_state Lead8) script.left a.emitted b.emitted silent);
+  as_it_reads = λ folder s files stands. first_runs read_fault.Failed s script.left a.emitted b.emitted silent;
   shows = λ s starts. runs_unopened read_fault.Failed a b s script.left sound starts (change starts.folder s starts.reads starts.stands);
   usage = (λ is. cc, λ no. absurd (no are));
   script_fault = λ is. cc;
@@ -295,10 +302,12 @@ headline_unopened words read_fault.Failed script a b sound are silent change fai
   output_fault = λ is. cc;
   damaged = λ damage is. cc;
   refused = λ folder files none. record { refusal = tt; unread = refl; silent = silent };
-  undamaged = λ s damage starts is. cc;
+  undamaged = λ folder s damage files stands is. cc;
   complete = λ words x y disk. absurd (disk (failed refl));
 }
 headline_unopened words read_fault.OutOfMemory script a b sound are silent change failed shown undamaged = record {
+  some_state = (empty_state Lead8, first_runs read_fault.OutOfMemory (empty_state Lead8) script.left a.emitted b.emitted silent);
+  as_it_reads = λ folder s files stands. first_runs read_fault.OutOfMemory s script.left a.emitted b.emitted silent;
   shows = λ s starts. runs_unopened read_fault.OutOfMemory a b s script.left sound starts (change starts.folder s starts.reads starts.stands);
   usage = (λ is. cc, λ no. absurd (no are));
   script_fault = λ is. cc;
@@ -306,7 +315,7 @@ headline_unopened words read_fault.OutOfMemory script a b sound are silent chang
   output_fault = λ is. cc;
   damaged = λ damage is. cc;
   refused = λ folder files none. record { refusal = tt; unread = refl; silent = silent };
-  undamaged = λ s damage starts is. cc;
+  undamaged = λ folder s damage files stands is. cc;
   complete = λ words x y disk. through_memory script.left;
 }
   where
@@ -314,6 +323,8 @@ headline_unopened words read_fault.OutOfMemory script a b sound are silent chang
     through_memory None = tt
     through_memory (Some script) = λ _. tt
 headline_unopened words (read_fault.Damaged damage) script a b sound are silent change failed shown undamaged = record {
+  some_state = (empty_state Lead8, first_runs (read_fault.Damaged damage) (empty_state Lead8) script.left a.emitted b.emitted silent);
+  as_it_reads = λ folder s files stands. first_runs (read_fault.Damaged damage) s script.left a.emitted b.emitted silent;
   shows = λ s starts. runs_unopened (read_fault.Damaged damage) a b s script.left sound starts (change starts.folder s starts.reads starts.stands);
   usage = (λ is. cc, λ no. absurd (no are));
   script_fault = λ is. cc;
@@ -322,7 +333,7 @@ headline_unopened words (read_fault.Damaged damage) script a b sound are silent 
   damaged = λ told is. subst (λ (d : Damage). ReportsDamage d script script a b) (damage_same damage told is)
       (record { shows = shown; unread = refl; silent = silent });
   refused = λ folder files none. record { refusal = tt; unread = refl; silent = silent };
-  undamaged = λ s damage starts is. undamaged starts.folder s starts.reads starts.stands;
+  undamaged = λ folder s told files stands is. undamaged folder s files stands;
   complete = λ words x y disk. through_damage script.left;
 }
   where
@@ -332,7 +343,7 @@ headline_unopened words (read_fault.Damaged damage) script a b sound are silent 
 
 -- the script was run
 pub headline_opened : (words : List (List ℕ)) (status : Status) (script later : SourceView) (a b c : View) (store : Store) → IsSound a
-    → IsSound c → IsCommandLine words
+    → IsSound c → IsCommandLine words → b.emitted ≡ a.emitted
     → ((folder : Folder) (s : State) → a.files ≡ Some folder → Stands Lead8 folder s → Changes (UnchangedOrStands Lead8 s) a b)
     → a.disk_faults ≤ b.disk_faults → b.out_faults ≡ a.out_faults
     → ((folder : Folder) (s : State) → a.files ≡ Some folder → Stands Lead8 folder s → IsStoreDurable b store × (store.machine ≡ s))
@@ -340,12 +351,18 @@ pub headline_opened : (words : List (List ℕ)) (status : Status) (script later 
     → (status ≡ ScriptFault → Rose script.faults later.faults) → (status ≡ OutputFault → Rose b.out_faults c.out_faults)
     → (status ≡ FolderFault → Rose b.disk_faults c.disk_faults) → status ≢ Usage → ((damage : Damage) → status ≢ Damaged damage)
     → Headline words status script later a c
-headline_opened words status script later a b c store sound sound_c are change disk out opened stands on script_fault output_fault
+headline_opened words status script later a b c store sound sound_c are silent change disk out opened stands on script_fault output_fault
     folder_fault used undamaged =
     let output : status ≡ OutputFault → Rose a.out_faults c.out_faults = λ is. subst (λ n. Rose n c.out_faults) out (output_fault is) in
     let folder : status ≡ FolderFault → Rose a.disk_faults c.disk_faults = λ is. rose_later a.disk_faults b.disk_faults c.disk_faults disk
     (folder_fault is) in
     record {
+      some_state = (
+        store.machine,
+        moved status script.left later.left store.machine store.machine refl b.emitted a.emitted c.emitted silent on.runs,
+      );
+      as_it_reads = λ folder s files stands.
+          moved status script.left later.left s store.machine (opened folder s files stands).1 b.emitted a.emitted c.emitted silent on.runs;
       shows = λ s starts.
           (let known = opened starts.folder s starts.reads starts.stands in runs_opened status a b c s store script.left later.left sound
           starts (change starts.folder s starts.reads starts.stands) known.0 known.1 sound_c on);
@@ -355,7 +372,7 @@ headline_opened words status script later a b c store sound sound_c are change d
       output_fault = output;
       damaged = λ damage is. absurd (undamaged damage is);
       refused = λ folder files none. absurd (none store.machine (stands folder files));
-      undamaged = λ s damage starts. undamaged damage;
+      undamaged = λ folder s damage files stands. undamaged damage;
       complete = λ words x y z. through status store.machine script.left later.left b.emitted c.emitted on.runs used
           (λ is. x (script_fault is)) (λ is. y (output is)) (λ is. z (folder is));
     }

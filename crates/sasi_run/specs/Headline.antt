@@ -51,41 +51,51 @@ pub record EmitsUpToLimit (s : State) (read shown : List ℕ) : Type 0 where
   pub whole : shown ≡ replies s (pieces (take SCRIPT_MOST read)).whole
   pub long : SCRIPT_MOST < length read
 
--- `done` is a first part of the pieces, with `next` behind it, and has each that ends before the last 4,096 bytes read
-pub record IsFirstPart (read : List ℕ) (done next : List Piece) : Type 0 where
-  pub rest : List Piece
-  pub parts : all_pieces read ≡ done ++ next ++ rest
-  pub before : ℕ
-  pub late : length read ≤ before + READ_MOST
-  pub more : List Piece
-  pub has : done ≡ (pieces (take before read)).whole ++ more
+-- the script that a source tells, or else what was read of it
+abbrev pub script_of : Option (List ℕ) → List ℕ → List ℕ
+script_of None read = read
+script_of (Some script) read = script
 
--- whole replies of a first part of the pieces were emitted
-pub record EmitsFirstReplies (s : State) (read shown : List ℕ) : Type 0 where
+-- What was answered where a run broke off: `done`, and `next` behind it, are a first part of the pieces of the script, and of those of the bytes read. The last read gave `last`: each piece that ends before it is done.
+pub record IsFirstPart (script read : List ℕ) (done next : List Piece) : Type 0 where
+  pub rest : List Piece
+  pub parts : all_pieces script ≡ done ++ next ++ rest
+  pub left_over : List Piece
+  pub of_read : all_pieces read ≡ done ++ next ++ left_over
+  pub before : List ℕ
+  pub last : List ℕ
+  pub reads : read ≡ before ++ last
+  pub short : length last ≤ READ_MOST
+  pub more : List Piece
+  pub has : done ≡ (pieces before).whole ++ more
+
+-- whole replies of a first part of the pieces were emitted, and nothing behind them
+pub record EmitsFirstReplies (s : State) (script read shown : List ℕ) : Type 0 where
   pub done : List Piece
-  pub first : IsFirstPart read done []
+  pub first : IsFirstPart script read done []
   pub replied : shown ≡ replies s done
 
 -- and a first part of the next reply behind them
-pub record EmitsCutReply (s : State) (read shown : List ℕ) : Type 0 where
+pub record EmitsCutReply (s : State) (script read shown : List ℕ) : Type 0 where
   pub done : List Piece
   pub piece : Piece
-  pub first : IsFirstPart read done (piece ∷ [])
+  pub first : IsFirstPart script read done (piece ∷ [])
   pub front : List ℕ
   pub back : List ℕ
   pub reply : (step (state_after s done) piece).reply ≡ front ++ back
   pub replied : shown ≡ replies s done ++ front
 
-abbrev pub EmitsByStatus : Status → State → List ℕ → List ℕ → Type 0
-EmitsByStatus Done s read shown = EmitsAllReplies s read shown 0
-EmitsByStatus (Refused n) s read shown = (0 < n) × EmitsAllReplies s read shown n
-EmitsByStatus Usage s read shown = (read ≡ []) × (shown ≡ [])
-EmitsByStatus ScriptFault s read shown = EmitsWholePieces s read shown
-EmitsByStatus ScriptTooLong s read shown = EmitsUpToLimit s read shown
-EmitsByStatus OutOfMemory s read shown = EmitsFirstReplies s read shown
-EmitsByStatus FolderFault s read shown = EmitsFirstReplies s read shown
-EmitsByStatus (Damaged damage) s read shown = (read ≡ []) × (shown ≡ [])
-EmitsByStatus OutputFault s read shown = EmitsCutReply s read shown
+-- what was emitted, by the status, of this script of which so much was read
+abbrev pub EmitsByStatus : Status → State → List ℕ → List ℕ → List ℕ → Type 0
+EmitsByStatus Done s script read shown = EmitsAllReplies s read shown 0
+EmitsByStatus (Refused n) s script read shown = (0 < n) × EmitsAllReplies s read shown n
+EmitsByStatus Usage s script read shown = (read ≡ []) × (shown ≡ [])
+EmitsByStatus ScriptFault s script read shown = EmitsWholePieces s read shown
+EmitsByStatus ScriptTooLong s script read shown = EmitsUpToLimit s read shown
+EmitsByStatus OutOfMemory s script read shown = EmitsFirstReplies s script read shown
+EmitsByStatus FolderFault s script read shown = EmitsFirstReplies s script read shown
+EmitsByStatus (Damaged damage) s script read shown = (read ≡ []) × (shown ≡ [])
+EmitsByStatus OutputFault s script read shown = EmitsCutReply s script read shown
 
 -- the script was read to its end
 abbrev pub ReadsToEnd : Status → Option (List ℕ) → Type 0
@@ -106,7 +116,7 @@ pub record Runs (status : Status) (s : State) (left_old left_new out_old out_new
   pub consumed : Consumes left_old left_new read
   pub emitted : Appends out_old out_new shown
   pub at_end : ReadsToEnd status left_new
-  pub shows : EmitsByStatus status s read shown
+  pub shows : EmitsByStatus status s (script_of left_old read) read shown
   pub bounded : length read ≤ SCRIPT_MOST + READ_MOST
 
 -- a run that nothing outside stopped; where the folder stands for a state, it is not damaged
@@ -140,11 +150,6 @@ pub record StandsWithoutUnlisted (v : View) (s : State) : Type 0 where
   pub alone : (name : FileName) → keeps (KeepStore number listing.floor listing.last) name ≡ false → get folder name ≡ None
   pub images : (image : Folder) → v.image image → StandsSealed image s
 
--- the script that a source tells, or else what was read of it
-abbrev pub script_of : Option (List ℕ) → List ℕ → List ℕ
-script_of None read = read
-script_of (Some script) read = script
-
 -- **The replies, and what a crash leaves.** What was emitted are replies as the status says, and at each moment since the start a crash leaves the state after the pieces whose replies were emitted, or after one more. A run to the script's end leaves the state after all of them, and no other file.
 pub record RunsFrom (status : Status) (s : State) (left_old left_new : Option (List ℕ)) (host_old host_new : View) : Type 0 where
   pub runs : Runs status s left_old left_new host_old.emitted host_new.emitted
@@ -177,6 +182,11 @@ pub record RefusesFolder (status : Status) (script_old script_new : SourceView) 
 
 -- what a run does, by what its source and its host tell before it and after it
 pub record Headline (words : List (List ℕ)) (status : Status) (script_old script_new : SourceView) (host_old host_new : View) : Type 0 where
+  -- the replies from some state, on every host: also where its files aren't told, or stand for no state
+  pub some_state : (s : State) × Runs status s script_old.left script_new.left host_old.emitted host_new.emitted
+  -- and from the state for which the folder as it reads stands, whatever its images stand for
+  pub as_it_reads : (folder : Folder) (s : State) → host_old.files ≡ Some folder → Stands Lead8 folder s
+      → Runs status s script_old.left script_new.left host_old.emitted host_new.emitted
   -- the replies, and the crash
   pub shows : (s : State) → StartsFrom host_old s → RunsFrom status s script_old.left script_new.left host_old host_new
   -- the causes
@@ -186,8 +196,8 @@ pub record Headline (words : List (List ℕ)) (status : Status) (script_old scri
   pub output_fault : status ≡ OutputFault → Rose host_old.out_faults host_new.out_faults
   pub damaged : (damage : Damage) → status ≡ Damaged damage → ReportsDamage damage script_old script_new host_old host_new
   pub refused : (folder : Folder) → host_old.files ≡ Some folder → ((s : State) → ¬ Stands Lead8 folder s) → RefusesFolder status script_old script_new host_old host_new
-  pub undamaged : (s : State) (damage : Damage) → StartsFrom host_old s → status ≢ Damaged damage
-  -- completeness
+  pub undamaged : (folder : Folder) (s : State) (damage : Damage) → host_old.files ≡ Some folder → Stands Lead8 folder s → status ≢ Damaged damage
+  -- completeness, on every host
   pub complete : IsCommandLine words → ¬ (Rose script_old.faults script_new.faults) → ¬ (Rose host_old.out_faults host_new.out_faults) → ¬ (Rose host_old.disk_faults host_new.disk_faults)
       → IfSome script_old.left (λ script. length script ≤ SCRIPT_MOST → RanThrough status)
 

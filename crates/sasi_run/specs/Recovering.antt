@@ -1,5 +1,5 @@
 -- What the replies that were emitted tell of the state for which a folder stands after a crash.
-use Rattle.std.specs.Prelude.{◌≡◌, ◌⊎◌, ℕ, suc, ◌<◌, ◌≤◌, List, [], ◌++◌, length, take}
+use Rattle.std.specs.Prelude.{◌≡◌, ◌⊎◌, ℕ, suc, ◌<◌, ◌≤◌, List, [], ◌++◌, length, take, drop, Some}
 use Rattle.sasi_types.specs.declared.partitioner.Partitioner.TheVariants.{Lead8}
 use Rattle.sasi_host.specs.Names.{Folder}
 use Rattle.sasi_host.specs.View.{View}
@@ -15,21 +15,38 @@ pub record IsReplyCount (s : State) (pieces : List Piece) (shown : List ℕ) (n 
   pub begins : shown ≡ replies s (take n pieces) ++ rest
   pub no_more : (m : ℕ) (more : List ℕ) → n < m → m ≤ length pieces → shown ≡ replies s (take m pieces) ++ more → ⊥
 
--- the folder stands for the state after the first n pieces, or after one more
-abbrev pub StandsAfter : State → List Piece → ℕ → Folder → Type 0
-StandsAfter s pieces n folder = Stands Lead8 folder (state_after s (take n pieces)) ⊎ ((n < length pieces) × Stands Lead8 folder (state_after s (take (suc n) pieces)))
+-- the reply of the piece behind the first n, or nothing where there is none
+abbrev pub next_reply : State → List Piece → ℕ → List ℕ
+next_reply s pieces n = replies (state_after s (take n pieces)) (take 1 (drop n pieces))
 
--- nothing was shown, and the folder stands for what an image of the start stands for
-pub record RecoversStart (start : View) (shown : List ℕ) (folder : Folder) : Type 0 where
+-- the bytes are a first part of that reply
+pub record IsPartOfNextReply (s : State) (pieces : List Piece) (n : ℕ) (bytes : List ℕ) : Type 0 where
+  pub back : List ℕ
+  pub parts : next_reply s pieces n ≡ bytes ++ back
+
+-- the state after the first n pieces, or after one more
+abbrev pub IsStateAfter : State → List Piece → ℕ → State → Type 0
+IsStateAfter s pieces n state = (state ≡ state_after s (take n pieces)) ⊎ ((n < length pieces) × (state ≡ state_after s (take (suc n) pieces)))
+
+-- nothing was shown, and an image of the start stood for the state
+pub record IsStateOfImage (start : View) (shown : List ℕ) (state : State) : Type 0 where
   pub nothing : shown ≡ []
   pub image : Folder
   pub was : start.image image
-  pub state : State
   pub stood : Stands Lead8 image state
-  pub stands : Stands Lead8 folder state
 
--- what a crash leaves of a run of these pieces, where so much was emitted before the run: the state after those whose replies were shown, or after one more
+-- What a crash leaves of a run of these pieces, where so much was emitted before the run: the replies of the first `count` pieces, for a greatest such number, with a first part of the next reply behind them; and a folder that stands for the state after these pieces, or after one more.
 pub record Recovers (start : View) (s : State) (pieces : List Piece) (before : List ℕ) (folder : Folder) (out : List ℕ) : Type 0 where
   pub shown : List ℕ
   pub went : out ≡ before ++ shown
-  pub stands : RecoversStart start shown folder ⊎ ((n : ℕ) → IsReplyCount s pieces shown n → StandsAfter s pieces n folder)
+  pub count : ℕ
+  pub whole : IsReplyCount s pieces shown count
+  pub next : IsPartOfNextReply s pieces count whole.rest
+  pub state : State
+  pub stands : Stands Lead8 folder state
+  pub after : IsStateOfImage start shown state ⊎ IsStateAfter s pieces count state
+
+-- the host's files are this folder, with nothing pending
+pub record IsAtRest (host : View) (folder : Folder) : Type 0 where
+  pub reads : host.files ≡ Some folder
+  pub only : (image : Folder) → host.image image → image ≡ folder

@@ -6,6 +6,7 @@ mod arguments;
 mod command_line;
 mod folder_sync;
 mod new_folder;
+mod next_run;
 mod open;
 mod reading;
 mod replay;
@@ -19,5 +20,6 @@ mod unlisted_files;
 
 pub use arguments::Command;
 pub use command_line::command;
+pub use next_run::starts_again;
 pub use runner::run;
 pub use status::Status;

@@ -1,7 +1,7 @@
 // What a run finds after a crash or a fault at any call of an earlier one.
 use crate::runs::{SCRIPT, SELECT, crashed, picks, run_script};
 use sasi_host::{MemHost, Pick};
-use sasi_run::Status;
+use sasi_run::{Status, starts_again};
 use std::alloc::Global;
 use std::process::Abort;
 
@@ -42,23 +42,30 @@ fn check_state(rt: &impl Abort, alloc: Global, host: &mut MemHost, replies: usiz
     statements
 }
 
-/// A crash by this pick in an opening that is stopped after so many calls leaves the state. Tells whether the run went through.
+/// A crash by this pick of a stopped host leaves the state, from which a run starts again.
+fn check_left(rt: &impl Abort, alloc: Global, stopped: &MemHost, pick: Pick, statements: usize) {
+    let mut left = crashed(rt, stopped, pick);
+    starts_again(stopped, &left);
+    assert!(rt; statements_in(rt, alloc, &mut left) == statements);
+}
+
+/// Each crash in an opening that is stopped after so many calls leaves the state. Tells whether the run went through.
 fn check_stopped_opening(
     rt: &impl Abort,
     alloc: Global,
     mut host: MemHost,
-    pick: Pick,
     statements: usize,
 ) -> bool {
     let (status, emitted) = run_script(rt, alloc, SELECT, &mut host);
-    let mut left = crashed(rt, &host, pick);
-    assert!(rt; statements_in(rt, alloc, &mut left) == statements);
+    for pick in picks() {
+        check_left(rt, alloc, &host, pick, statements);
+    }
     let stopped = matches!(status, Status::FolderFault | Status::OutputFault);
     assert!(rt; !stopped || emitted.is_empty());
     !stopped
 }
 
-/// Crashes by this pick at each call of the opening leave the state. Nothing is pending on the host.
+/// Crashes at each call of the opening leave the state, by every pick. Nothing is pending on the host.
 pub fn check_opening(
     rt: &impl Abort,
     alloc: Global,
@@ -69,14 +76,14 @@ pub fn check_opening(
     for stop in 0..40 {
         let mut stopped = crashed(rt, host, pick);
         stopped.stop_after(stop);
-        if check_stopped_opening(rt, alloc, stopped, pick, statements) {
+        if check_stopped_opening(rt, alloc, stopped, statements) {
             return;
         }
     }
     assert!(rt; false, "the opening doesn't end");
 }
 
-/// A crash by this pick leaves the state after these replies or one statement more, also where it is opened and crashes anew.
+/// A crash by this pick leaves the state after these replies or one statement more, also where its recovery is cut off by any crash, and a run follows.
 fn check_crash(rt: &impl Abort, alloc: Global, host: &MemHost, pick: Pick, replies: usize) {
     let statements = check_state(rt, alloc, &mut crashed(rt, host, pick), replies);
     check_opening(rt, alloc, &crashed(rt, host, pick), pick, statements);

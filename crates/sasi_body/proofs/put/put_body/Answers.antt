@@ -1,10 +1,11 @@
-use Rattle.std.proofs.Common.{subst, sym, arith, rules, append_assoc, ap, List, length}
+use Rattle.std.proofs.Common.{subst, sym, arith, ap, List, length, ◌∙◌, ◌++◌, ℕ}
+use Rattle.std.specs.Int.{to_be_bytes, w64}
 use Rattle.std.proofs.lemmas.List.Elements.{All-from_recursion}
-use Rattle.std.proofs.lemmas.Result.{IfOk-equal}
 use Rattle.std.specs.List.{All}
 use Rattle.sasi_cells.specs.Entries.{Entry}
-use Rattle.sasi_body.specs.Format.{body, cells_of, HasCellBytes}
-use Rattle.sasi_body.proofs.Puts.{values_have_bytes}
+use Rattle.sasi_model.specs.Stored.{HasCellBytes}
+use Rattle.sasi_body.specs.Body.{cells_of}
+use Rattle.sasi_body.proofs.BodyBytes.{body_put, values_have_bytes}
 use Rattle.sasi_body.proofs.put.put_body.Goals as goal
 
 pub put_cells-requires-clause-few : goal.put_cells-requires-clause-few
@@ -16,5 +17,6 @@ put_cells-requires-clause-each c =
     (All-from_recursion HasCellBytes (cells_of c.args.part.now) (values_have_bytes c.args.part.now.deleted (cells_of c.args.part.now) c.requires.cells))
 
 pub returns : goal.returns
-unfolding body
-returns c = search (rules, IfOk-equal, append_assoc)
+returns c =
+    body_put c.put_cells.result c.args.key.now c.args.part.now c.cells.result.now c.args.out.now.items c.put_key.new.out.items c.put_u64.new.out.items c.put_cells.new.out.items c.in_ok-put_key.ensures
+    (c.in_ok-put_u64.ensures.ok ∙ ap (λ (n : ℕ). c.put_key.new.out.items ++ to_be_bytes w64 n) c.deleted.ensures) c.cells.ensures.entries c.put_cells.ensures

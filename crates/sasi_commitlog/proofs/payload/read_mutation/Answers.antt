@@ -10,8 +10,8 @@ use Rattle.sasi_commitlog.proofs.payload.read_mutation.Goals as goal
 pub returns-in_default-clause-shown : goal.returns-in_default-clause-shown
 returns-in_default-clause-shown c =
     let left : c.args.payload.now ≡ c.new-reader.result.left = sym (ap (λ (r : Reading). r.left) c.new-reader.ensures) in
-    let seen = c.body_damage.ensures.seen ∙ ap (λ (l : Bytes). take 8 l) c.to_be_bytes-bytes.ensures in
-    no_table c.body_damage.ensures.rule c.body_damage.ensures.at (record {
+    let seen = c.found.ensures.seen ∙ ap (λ (l : Bytes). take 8 l) c.to_be_bytes-bytes.ensures in
+    no_table c.found.ensures.rule c.found.ensures.at (record {
       table = c.in_ok-table.table;
       rest = c.u32.new.self.left;
       is = left ∙ c.in_ok-table.ensures.ok.next ∙ ap (λ (l : Bytes). l ++ c.u32.new.self.left) (sym seen);

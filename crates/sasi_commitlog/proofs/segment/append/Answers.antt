@@ -5,8 +5,8 @@ use Rattle.sasi_host.specs.Disk.{Changes, LeftWith, FileChange}
 use Rattle.sasi_host.specs.ChangeLaws.{untouched}
 use Rattle.sasi_gated.specs.Format.{IsBeforeOrAfter}
 use Rattle.sasi_gated.proofs.HandleLaws.{unmoved}
-use Rattle.sasi_body.specs.Format.{body}
-use Rattle.sasi_body.proofs.Laws.Lengths.{body_short}
+use Rattle.sasi_body.specs.Body.{body}
+use Rattle.sasi_body.proofs.BodyBytes.{body_short}
 use Rattle.sasi_commitlog.specs.Format.{payload_of}
 use Rattle.sasi_commitlog.proofs.segment.append.Goals as goal
 

@@ -1,10 +1,10 @@
-use Rattle.std.proofs.Common.{◌≡◌, map, sym, ◌∙◌, subst, inl}
+use Rattle.std.proofs.Common.{◌≡◌, ◌^◌, map, length, sym, ap, ◌∙◌, subst, inl, arith}
 use Rattle.std.proofs.lemmas.Result.{err_from_is_err_and}
 use Rattle.sasi_host.specs.Names.{Bytes}
 use Rattle.sasi_commitlog.specs.Format.{payload_of, Tables, IsMutationOf}
 use Rattle.sasi_commitlog.specs.Damages.{IsPayloadFault}
 use Rattle.sasi_commitlog.proofs.ReadMutations.{on_damage, spared, closed_gate, none_left, opened_gate, first_read, first_left, record_shown}
-use Rattle.sasi_commitlog.proofs.Payloads.{only_memory}
+use Rattle.sasi_commitlog.proofs.Payloads.{only_memory, payload_within}
 use Rattle.sasi_commitlog.proofs.segment.read_next.Goals as goal
 
 pub returns-in_err-next-clause-damaged : goal.returns-in_err-next-clause-damaged
@@ -42,6 +42,11 @@ returns-in-Ok-clause-mutations g c done left told reading =
     c.in_ok-next.field-0 c.next.new.out.items c.in-Ok.mutation c.if-not-branch.false
     (sym c.deref.ensures.value ∙ c.in-Ok.ensures.bytes) (subst (λ (t : Tables). IsMutationOf t c.in-Ok.mutation) c.as_slice.ensures c.in-Ok.ensures.of_table) reading
     (c.in_ok-next.ensures.records (map payload_of done) (map payload_of left) told reading.reading)
+
+pub fault_in_file-requires-clause-within : goal.fault_in_file-requires-clause-within
+fault_in_file-requires-clause-within g c =
+    let short = ap length c.deref.ensures.value in
+    payload_within c.as_slice.result.now c.deref.result.now (2 ^ 62) c.in-Err.fault c.in-Err.ensures.shown (omega (arith, short, c.in_ok-next.ensures.short))
 
 pub returns-in-Err-clause-damaged : goal.returns-in-Err-clause-damaged
 returns-in-Err-clause-damaged g c =

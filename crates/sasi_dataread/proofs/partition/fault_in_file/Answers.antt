@@ -1,27 +1,22 @@
-use Rattle.std.proofs.Common.{refl, ◌∙◌, subst, arith}
-use Rattle.sasi_body.specs.Faults.{IsFaultOf}
-use Rattle.sasi_dataread.specs.Damages.ShowsPartition.{other_length, broken_body}
+use Rattle.std.proofs.Common.{refl, subst, arith, inl, inr}
+use Rattle.sasi_body.specs.Body.{body_of}
+use Rattle.sasi_formats.specs.Whole.{IsShownBy}
+use Rattle.sasi_dataread.specs.Damages.ShowsPartition.{broken_body}
 use Rattle.sasi_dataread.proofs.partition.fault_in_file.Goals as goal
 
-pub returns-in-OtherLength-clause-shown : goal.returns-in-OtherLength-clause-shown
-returns-in-OtherLength-clause-shown c types end whole shown has = other_length (record {
-  named = c.found.ensures.file;
-  rule = c.found.ensures.rule;
-  at = c.found.ensures.at;
-  body = c.args.bytes.now;
-  stands = has;
-  fits = omega arith;
-  told = c.found.ensures.seen ∙ c.to_be_bytes-field.ensures;
-  other = subst (IsFaultOf types c.args.bytes.now) c.in-OtherLength.is shown;
-})
+pub returns-in-Short-clause-shown : goal.returns-in-Short-clause-shown
+returns-in-Short-clause-shown c types end whole shown has = c.other_length.ensures.shown types end whole (inl (subst (IsShownBy (body_of types) c.args.bytes.now) c.in-Short.is shown)) has
 
-pub returns-in-Damaged-clause-shown : goal.returns-in-Damaged-clause-shown
-returns-in-Damaged-clause-shown c types end whole shown has = broken_body (record {
+pub returns-in-Long-clause-shown : goal.returns-in-Long-clause-shown
+returns-in-Long-clause-shown c types end whole shown has = c.other_length-in-Long.ensures.shown types end whole (inr (subst (IsShownBy (body_of types) c.args.bytes.now) c.in-Long.is shown)) has
+
+pub returns-in-Broken-clause-shown : goal.returns-in-Broken-clause-shown
+returns-in-Broken-clause-shown c types end whole shown has = broken_body (record {
   named = refl;
   body = c.args.bytes.now;
   stands = has;
   fits = omega arith;
-  offset = c.in-Damaged.broken.at;
+  offset = c.in-Broken.broken.at;
   at = refl;
-  breaks = subst (IsFaultOf types c.args.bytes.now) c.in-Damaged.is shown;
+  breaks = subst (IsShownBy (body_of types) c.args.bytes.now) c.in-Broken.is shown;
 })

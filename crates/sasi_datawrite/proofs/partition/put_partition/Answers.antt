@@ -1,8 +1,8 @@
 use Rattle.std.proofs.Common.{◌≡◌, ◌-◌, ◌++◌, sym, ◌∙◌, ap, arith, length, drop, length-append}
 use Rattle.std.specs.Int.{to_be_bytes, w32}
 use Rattle.sasi_host.specs.Names.{Bytes}
-use Rattle.sasi_body.specs.Format.{body}
-use Rattle.sasi_body.proofs.Laws.Lengths.{body_short}
+use Rattle.sasi_body.specs.Body.{body}
+use Rattle.sasi_body.proofs.BodyBytes.{body_short}
 use Rattle.sasi_datawrite.specs.Format.{partition_bytes}
 use Rattle.sasi_datawrite.proofs.Pushes.{length_set}
 use Rattle.sasi_datawrite.proofs.partition.put_partition.Goals as goal

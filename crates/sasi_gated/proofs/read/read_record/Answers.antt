@@ -49,4 +49,4 @@ returns-in_err-complete_payload-in-Opened-clause-damaged g c =
     let begins = payload_at c.args.file bytes c.args.at done rest gate _ c.read.new.buf c.in_ok-count.count fills c.in-Opened.length c.in-Opened.prefix.now at.0 in
     let s = shows bytes _ now begins (payload_within c.args.file bytes c.args.at done rest gate _ c.read.new.buf c.in_ok-count.count fills c.in-Opened.length c.in-Opened.prefix.now at.0) in
     ends_within c.args.file bytes c.args.at done rest gate _ c.read.new.buf c.in_ok-count.count fills c.in-Opened.length c.in-Opened.prefix.now at.0
-    damage s.1 s.0) c.in_err-complete_payload-in-Opened.ensures.damaged)
+    damage at.1 s.1 s.0) c.in_err-complete_payload-in-Opened.ensures.damaged)

@@ -25,5 +25,5 @@ returns-in-Ok-clause-headline g c =
     headline_opened _ c.run_script.result (g.S.Source.view c.args.script.now) (g.S.Source.view c.run_script.new.script)
     (g.H.Host.view c.args.host.now) (g.H.Host.view c.open.new.host) (g.H.Host.view c.run_script.new.host) c.in-Ok.store
     (g.met.H.Host.sound c.args.host.now) (g.met.H.Host.sound c.run_script.new.host) (c.in-Some.field-0, c.in-Some.ensures.some)
-    c.open.ensures.any_moment c.open.ensures.causes.disk c.open.ensures.causes.out c.in-Ok.ensures.durable c.in-Ok.ensures.stands on
+    c.open.ensures.changes.emitted c.open.ensures.any_moment c.open.ensures.causes.disk c.open.ensures.causes.out c.in-Ok.ensures.durable c.in-Ok.ensures.stands on
     e.script_fault e.output_fault e.folder_fault e.words e.undamaged

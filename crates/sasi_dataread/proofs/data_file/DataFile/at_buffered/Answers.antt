@@ -2,7 +2,7 @@ use Rattle.std.proofs.Common.{◌≡◌, ◌+◌, ◌≤◌, IfOk, IfErr, length
 use Rattle.sasi_types.specs.declared.partitioner.Partitioner.{Partitioner}
 use Rattle.sasi_model.specs.Cells.{Partition}
 use Rattle.sasi_host.specs.Names.{Bytes}
-use Rattle.sasi_body.specs.Format.{body}
+use Rattle.sasi_body.specs.Body.{body}
 use Rattle.sasi_host.specs.Damages.{DamageShown}
 use Rattle.sasi_datawrite.specs.Format.{Content}
 use Rattle.sasi_dataread.specs.Opened.{Opened, StandsAt}

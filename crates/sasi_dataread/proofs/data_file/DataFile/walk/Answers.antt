@@ -1,4 +1,4 @@
-use Rattle.std.proofs.Common.{ℕ, [], None, ◌∙◌, ap}
+use Rattle.std.proofs.Common.{[], None, ◌∙◌, ap}
 use Rattle.sasi_dataread.specs.Opened.{Opened}
 use Rattle.sasi_dataread.specs.Scans.{DataScan}
 use Rattle.sasi_dataread.proofs.data_file.DataFile.walk.Goals as goal

@@ -1,0 +1,11 @@
+pub mod Explained
+pub mod Completed
+pub mod Encoding
+pub mod Agreement
+pub mod Offsets
+pub mod NumberLaws
+pub mod ItemSteps
+pub mod Tags
+pub mod WholeLaws
+pub mod Fitting
+pub mod Putting

@@ -1,0 +1,20 @@
+use Rattle.std.proofs.Common.{◌-◌, ◌+◌, arith}
+use Rattle.std.proofs.lemmas.Result.{err_from_is_err_and}
+use Rattle.sasi_formats.specs.Reader.{read}
+use Rattle.sasi_formats.proofs.ItemSteps.{items_step, items_fault, items_all}
+use Rattle.sasi_formats.proofs.items.read_items.Goals as goal
+
+pub loop-turn-preserved : goal.loop-turn-preserved
+loop-turn-preserved g c =
+    items_step (λ before. read (g.R.ReadItem.format c.args.item.now before)) c.args.count c.args.reader.now (c.args.count - c.loop-turn._turn) (c.args.count - (c.loop-turn._turn + 1)) c.loop-turn.items c.as_slice.result.now c.push.new.self c.loop-turn.reader c.in_ok-next.next c.read.new.reader
+    (omega (arith, c.loop-turn-test.true)) c.as_slice.ensures c.in_ok-next.ensures c.in_ok-push.ensures.ok c.loop-turn.invariant
+
+pub returns-in_err-next : goal.returns-in_err-next
+returns-in_err-next g c =
+    let p = err_from_is_err_and c.from_residual.result c.from_residual.ensures.1 in
+    rw (p.1, p.2)
+    (items_fault (λ before. read (g.R.ReadItem.format c.args.item.now before)) c.args.count c.args.reader.now (c.args.count - c.loop-turn._turn) (c.args.count - (c.loop-turn._turn + 1)) c.loop-turn.items c.as_slice.result.now c.loop-turn.reader c.in_err-next.field-0.0
+    (omega (arith, c.loop-turn-test.true)) c.as_slice.ensures c.in_err-next.ensures c.loop-turn.invariant)
+
+pub returns : goal.returns
+returns g c = items_all (λ before. read (g.R.ReadItem.format c.args.item.now before)) c.args.count c.args.reader.now (c.args.count - c.loop-turn._turn) c.loop-turn.items c.loop-turn.reader (omega (arith, c.loop-turn-test.false)) c.loop-turn.invariant

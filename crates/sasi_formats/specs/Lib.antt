@@ -1,0 +1,7 @@
+pub mod Formats
+pub mod Reader
+pub mod Failures
+pub mod Codings
+pub mod Fields
+pub mod Gives
+pub mod Whole

@@ -1,0 +1,17 @@
+//! Byte formats as data, with readers of their fields and lists, over `sasi_host` and `sasi_fields`. Each function gives
+//! the value that the format's reader gives, or the first corruption.
+#![tactic(auto)]
+
+mod bytes;
+mod fault;
+mod field_start;
+mod items;
+mod numbers;
+mod ranged;
+
+pub use bytes::{expect, take};
+pub use fault::{Broken, FormatFault, found};
+pub use field_start::{FieldStart, broken};
+pub use items::{Items, ReadItem, read_items};
+pub use numbers::{read_flag, read_u8, read_u16, read_u32, read_u64};
+pub use ranged::{read_u8_in_range, read_u16_in_range, read_u32_in_range, read_u64_in_range};
