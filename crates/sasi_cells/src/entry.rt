@@ -7,7 +7,7 @@ use std::alloc::{AllocError, Global};
 use std::marker::Model;
 
 // Whether a cell has a value.
-#[derive(Clone, Copy, Debug)]
+#[derive(Clone, Copy)]
 enum State {
     Live,
     Tombstone,
@@ -15,7 +15,7 @@ enum State {
 
 /// A column's number with its cell. It has 48 bytes, where a pair of the two would have 56: the mark of a
 /// tombstone stands beside the number, and not around the value.
-#[derive(Debug, Drop)]
+#[derive(Drop)]
 pub struct Entry {
     time: u64,
     column: u16,

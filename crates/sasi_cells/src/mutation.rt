@@ -3,7 +3,7 @@ use crate::Partition;
 use sasi_types::{Key, TableNumber};
 
 /// The change of one partition of a table.
-#[derive(Debug, Drop)]
+#[derive(Drop)]
 pub struct Mutation {
     /// The number of the table.
     pub table: TableNumber,

@@ -18,7 +18,7 @@ use std::mem;
 
 /// The cells of one key, and the timestamp of its deletion: each cell has a larger one. Contracts see the two, with the
 /// cells as a map from the numbers of their columns; column 0 is the marker of the row.
-#[derive(Debug, Drop)]
+#[derive(Drop)]
 pub struct Partition {
     deleted: u64,
     cells: Vec<Entry>,

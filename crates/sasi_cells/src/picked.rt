@@ -14,7 +14,7 @@ pub enum PickedColumn {
 }
 
 /// The values that are asked for, in order.
-#[derive(Debug, Drop)]
+#[derive(Drop)]
 pub struct PickedList {
     items: Vec<PickedColumn>,
 }
@@ -29,7 +29,7 @@ impl Model for PickedList {
 }
 
 /// The values that a row has to give.
-#[derive(Debug, Drop)]
+#[derive(Drop)]
 pub struct Picked {
     /// The type of the key.
     pub key: ColumnType,

@@ -76,7 +76,7 @@ pub fn decode_value(alloc: Global, kind: ColumnType, bytes: &[u8]) -> Result<Val
 {
     match kind {
         ColumnType::Text => {
-            let bytes = bytes.to_vec(alloc)?;
+            let bytes = Vec::from_slice(alloc, bytes)?;
             Ok(Value::Text(Text::new(bytes)))
         }
         ColumnType::Int => Ok(Value::Int(i32::from_be_bytes(array_of(bytes)))),

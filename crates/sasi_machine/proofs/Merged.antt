@@ -14,7 +14,7 @@ same_write m n decorated_key old new was same written q =
     ap (λ (entries : List (DecoratedKey × Partition)). lookup (is_at (decorated_cmp q)) entries) (written ∙ set_value_same (is_at (decorated_cmp decorated_key)) m.entries new (sym was ∙ ap Some (sym same)))
 
 -- a partition of a new key
-pub new_write : (m k n : BTreeMap DecoratedKey Partition) (decorated_key : DecoratedKey) (change empty new : Partition) → None ≡ get decorated_cmp m decorated_key → k ≡ m → empty ≡ empty_partition → new ≡ merge empty change
+pub new_write : (m k n : BTreeMap DecoratedKey Partition) (decorated_key : DecoratedKey) (change new : Partition) → None ≡ get decorated_cmp m decorated_key → k ≡ m → new ≡ merge empty_partition change
     → ((q : DecoratedKey) → get decorated_cmp n q ≡ cond (is_at (decorated_cmp decorated_key) q) (Some new) (get decorated_cmp k q))
     → (q : DecoratedKey) → get decorated_cmp n q ≡ (if is_at (decorated_cmp decorated_key) q then Some (merge (unwrap_or (get decorated_cmp m decorated_key) empty_partition) change) else get decorated_cmp m q)
-new_write m k n decorated_key change empty new none same is_empty is written q = written q ∙ rw (same, is, is_empty, ← none) refl
+new_write m k n decorated_key change new none same is written q = written q ∙ rw (same, is, ← none) refl

@@ -8,7 +8,7 @@ use sasi_schema::SchemaFault;
 use std::alloc::AllocError;
 
 /// Why a check does not pass.
-#[derive(Debug, Drop)]
+#[derive(Drop)]
 pub enum Fault {
     OutOfMemory,
     Refused(Refusal),

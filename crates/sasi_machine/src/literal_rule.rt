@@ -14,7 +14,7 @@ use sasi_types::{Literal, Name};
 use std::alloc::Global;
 
 /// A rule on a column and the literal that it is given.
-#[derive(Clone, Copy, Debug, PartialEq, Eq)]
+#[derive(Clone, Copy)]
 pub enum LiteralRule {
     WrongType,
     /// The same in a WHERE, where NULL is of no type.

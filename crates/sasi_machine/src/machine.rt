@@ -97,8 +97,9 @@ impl Machine {
         ensures err { OnErr result (self.new ≡ self.old) }
     {
         reserve_one(&mut self.memtables)?;
-        let memtable = Memtable::new(self.alloc, table.key_type());
+        let key_type = table.key_type();
         self.schema.restore_table(table)?;
+        let memtable = Memtable::new(self.alloc, key_type);
         add_within(&mut self.memtables, memtable);
         Ok(())
     }

@@ -1,5 +1,5 @@
 // Merging into the partitions of a table.
-ghost use Rattle.std.specs.Prelude.{◌≡◌, Some, unwrap_or, if◌then◌else◌, OnOk, OnErr};
+ghost use Rattle.std.specs.Prelude.{◌≡◌, Some, unwrap_or, if◌then◌else◌, IfOk, OnOk, OnErr};
 ghost use Rattle.std.specs.BTreeMap.{get, is_at};
 ghost use Rattle.sasi_types.specs.declared.decorated_key.DecoratedKey.{DecoratedKey};
 ghost use Rattle.sasi_types.specs.DecoratedKey.{decorated_cmp};
@@ -23,8 +23,16 @@ pub fn merge_at(
     if let Some(partition) = partitions.get_mut(&decorated_key) {
         return partition.merge_from(change);
     }
-    let mut partition = Partition::new(alloc);
-    partition.merge_from(change)?;
+    let partition = partition_of(alloc, change)?;
     partitions.insert(decorated_key, partition)?;
     Ok(())
+}
+
+// The partition of a change alone.
+fn partition_of(alloc: Global, change: Partition) -> Result<Partition, AllocError>
+    ensures { IfOk result (λ partition. partition ≡ merge empty_partition change) }
+{
+    let mut partition = Partition::new(alloc);
+    partition.merge_from(change)?;
+    Ok(partition)
 }

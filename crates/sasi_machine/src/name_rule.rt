@@ -10,7 +10,7 @@ use sasi_types::{Literal, Name};
 use std::alloc::Global;
 
 /// A rule on the name of a column.
-#[derive(Clone, Copy, Debug, PartialEq, Eq)]
+#[derive(Clone, Copy)]
 pub enum NameRule {
     NoColumn,
     /// It is no column, or the key.

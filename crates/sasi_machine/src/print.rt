@@ -3,7 +3,7 @@ ghost use Rattle.std.specs.Prelude.{◌≡◌, ◌≢◌, ◌++◌, ℕ, [], cod
 ghost use Rattle.std.specs.List.{flat_map};
 ghost use Rattle.std.specs.Fmt.{decimal, signed_decimal};
 ghost use Rattle.uuid.specs.Text.{hyphenated_text, lower};
-ghost use Rattle.sasi_model.specs.Lines.{ok_line, row_line, count_line, row_text, printed, refusal_line, refusal_text, text_printed, value_printed};
+ghost use Rattle.sasi_model.specs.Lines.{ok_line, row_line, count_line, row_text, printed, refusal_line, refusal_text, printed_byte, text_printed, value_printed};
 ghost use Rattle.sasi_machine.specs.Refusal.{refusal_of};
 ghost use Rattle.sasi_machine.specs.declared.refusal.Refusal.TheVariants.{NotUtf8};
 
@@ -84,13 +84,20 @@ impl Reply {
     pub fn refusal(&mut self, refusal: &Refusal) -> Result<(), AllocError>
         ensures ok { OnOk result (self.new ≡ self.old ++ refusal_line (refusal_of refusal.now)) }
     {
-        self.bytes.extend_from_slice(b"error ")?;
-        push_number(&mut self.bytes, refusal.number())?;
-        self.bytes.push(b' ')?;
-        push_reason(&mut self.bytes, refusal)?;
-        self.bytes.push(b'\n')?;
-        Ok(())
+        push_refusal(&mut self.bytes, refusal)
     }
+}
+
+// Adds the line of a refusal.
+fn push_refusal(reply: &mut Vec<u8>, refusal: &Refusal) -> Result<(), AllocError>
+    ensures ok { OnOk result (reply.new.items ≡ reply.old.items ++ refusal_line (refusal_of refusal.now)) }
+{
+    reply.extend_from_slice(b"error ")?;
+    push_number(reply, refusal.number())?;
+    reply.push(b' ')?;
+    push_reason(reply, refusal)?;
+    reply.push(b'\n')?;
+    Ok(())
 }
 
 // Adds a number in decimal.
@@ -147,12 +154,20 @@ fn push_text(reply: &mut Vec<u8>, text: &[u8]) -> Result<(), AllocError>
 {
     reply.push(b'\'')?;
     for byte in text {
-        if *byte == b'\'' {
-            reply.push(b'\'')?;
-        }
-        reply.push(*byte)?;
+        push_text_byte(reply, *byte)?;
     }
     reply.push(b'\'')?;
+    Ok(())
+}
+
+// Adds a byte of a text, a quote twice.
+fn push_text_byte(reply: &mut Vec<u8>, byte: u8) -> Result<(), AllocError>
+    ensures ok { OnOk result (reply.new.items ≡ reply.old.items ++ printed_byte byte) }
+{
+    if byte == b'\'' {
+        reply.push(b'\'')?;
+    }
+    reply.push(byte)?;
     Ok(())
 }
 

@@ -6,7 +6,7 @@ use sasi_schema::Limit;
 use sasi_types::Name;
 
 /// Why a piece is refused.
-#[derive(Debug, Drop)]
+#[derive(Drop)]
 pub enum Refusal {
     StatementTooLong,
     /// The length of the longest front that is UTF-8.

@@ -15,7 +15,14 @@ pub fn reply_refusal(reply: &mut Reply, refusal: Refusal) -> Result<Outcome, All
     ensures reply { OnOk result (reply.new ≡ reply.old ++ refusal_line (refusal_of refusal)) }
     ensures outcome { IfOk result (λ outcome. outcome ≡ outcome_of (Some (refusal_of refusal))) }
 {
-    reply.refusal(&refusal)?;
+    refused(reply, &refusal)
+}
+
+fn refused(reply: &mut Reply, refusal: &Refusal) -> Result<Outcome, AllocError>
+    ensures reply { OnOk result (reply.new ≡ reply.old ++ refusal_line (refusal_of refusal.now)) }
+    ensures outcome { IfOk result (λ outcome. outcome ≡ outcome_of (Some (refusal_of refusal.now))) }
+{
+    reply.refusal(refusal)?;
     Ok(Outcome::Refused(refusal.number()))
 }
 

@@ -5,7 +5,7 @@ use crate::Value;
 use std::alloc::{AllocError, Global};
 
 /// A cell: what was written to one column of one key.
-#[derive(Debug, Drop)]
+#[derive(Drop)]
 pub struct Cell {
     /// The timestamp, from 1 to 2^62; the larger one is newer.
     pub time: u64,

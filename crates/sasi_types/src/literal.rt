@@ -17,7 +17,7 @@ pub enum Number {
 }
 
 /// A value that a statement writes out.
-#[derive(Debug, Drop)]
+#[derive(Drop)]
 pub enum Literal {
     Text(Text),
     Number(Number),
@@ -26,7 +26,7 @@ pub enum Literal {
 }
 
 /// A list of literals.
-#[derive(Debug, Drop)]
+#[derive(Drop)]
 pub struct Literals {
     items: Vec<Literal>,
 }

@@ -87,7 +87,7 @@ impl PartialOrd for Name {
 }
 
 /// A list of names.
-#[derive(Debug, Drop)]
+#[derive(Drop)]
 pub struct Names {
     items: Vec<Name>,
 }

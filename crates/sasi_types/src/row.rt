@@ -6,7 +6,7 @@ use std::alloc::{AllocError, Global};
 use std::marker::Model;
 
 /// The values of a row, one for each column asked for, where it has one.
-#[derive(Debug, Drop)]
+#[derive(Drop)]
 pub struct Row {
     values: Vec<Option<Value>>,
 }

@@ -5,7 +5,7 @@ use std::alloc::{AllocError, Global};
 use std::marker::Model;
 
 /// A text, seen as its bytes.
-#[derive(Debug, Drop)]
+#[derive(Drop)]
 pub struct Text {
     bytes: Vec<u8>,
 }
@@ -36,7 +36,7 @@ impl Text {
     pub fn copy(&self, alloc: Global) -> Result<Text, AllocError>
         ensures { IfOk result (λ copy. copy ≡ self.now) }
     {
-        let bytes = self.bytes.as_slice().to_vec(alloc)?;
+        let bytes = Vec::from_slice(alloc, &self.bytes)?;
         Ok(Text { bytes })
     }
 }

@@ -14,7 +14,7 @@ pub struct Pair {
 }
 
 /// A list of pairs.
-#[derive(Debug, Drop)]
+#[derive(Drop)]
 pub struct PairList {
     items: Vec<Pair>,
 }

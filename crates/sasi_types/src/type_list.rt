@@ -6,7 +6,7 @@ use std::alloc::{AllocError, Global};
 use std::marker::Model;
 
 /// The types of a table's columns: the key's first, and then those of the regular columns in their order.
-#[derive(Debug, Drop)]
+#[derive(Drop)]
 pub struct TypeList {
     items: Vec<ColumnType>,
 }
@@ -51,7 +51,7 @@ impl TypeList {
 pub type TableNumber = u32;
 
 /// The numbers of tables, each with the types of its columns.
-#[derive(Debug, Drop)]
+#[derive(Drop)]
 pub struct TableTypes {
     items: Vec<(TableNumber, TypeList)>,
 }

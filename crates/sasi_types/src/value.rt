@@ -6,7 +6,7 @@ use crate::{ColumnType, Text};
 use std::alloc::{AllocError, Global};
 
 /// A value of a column.
-#[derive(Debug, Drop)]
+#[derive(Drop)]
 pub enum Value {
     Text(Text),
     Int(i32),
@@ -16,7 +16,7 @@ pub enum Value {
 }
 
 /// The bytes that stand for a value in files and keys: a text's own, and a number's in two's complement, big-endian.
-#[derive(Clone, Copy, Debug)]
+#[derive(Clone, Copy)]
 pub enum Stored<'a> {
     Borrowed(&'a [u8]),
     Int([u8; 4]),

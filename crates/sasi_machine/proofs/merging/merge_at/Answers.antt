@@ -11,6 +11,5 @@ returns-in-Some-clause-err c =
 
 pub returns-clause-ok : goal.returns-clause-ok
 returns-clause-ok c =
-    new_write c.args.partitions.now c.get_mut.follows.lender-at-none c.insert.new.self c.args.decorated_key c.args.change c.new-partition.result
-    c.merge_from-2.new.self c.in_default.ensures.value c.get_mut.follows.holds-at-none c.new-partition.ensures c.in_ok-merge_from.ensures.ok
-    c.in_ok-insert.ensures.updates.0
+    new_write c.args.partitions.now c.get_mut.follows.lender-at-none c.insert.new.self c.args.decorated_key c.args.change c.in_ok-partition.partition
+    c.in_default.ensures.value c.get_mut.follows.holds-at-none c.in_ok-partition.ensures c.in_ok-insert.ensures.updates.0

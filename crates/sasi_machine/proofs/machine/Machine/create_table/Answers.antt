@@ -23,7 +23,7 @@ invariant_of-self-2 c =
     let s = c.self.inside in
     let d = definition c.args.table in
     let memtables = pushed s.memtables.items c.reserve_one.new.memtables.items c.add_within.new.memtables.items c.new-memtable.result _ d
-    c.in_ok-reserve_one.ensures.items c.add_within.ensures c.new-memtable.ensures c.key_type.ensures in
+    c.in_ok-reserve_one.ensures.items c.add_within.ensures c.new-memtable.ensures c.key_type-key_type.ensures in
     rw (c.in_ok-restore_table.ensures.ok, memtables) (create_kept s.schema s.memtables.items s.max_timestamp d (empty_contents d) c.self.invariant refl nothing_held)
 
 pub returns-clause-ok : goal.returns-clause-ok
@@ -31,6 +31,6 @@ returns-clause-ok c =
     let s = c.self.inside in
     let d = definition c.args.table in
     let memtables = pushed s.memtables.items c.reserve_one.new.memtables.items c.add_within.new.memtables.items c.new-memtable.result _ d
-    c.in_ok-reserve_one.ensures.items c.add_within.ensures c.new-memtable.ensures c.key_type.ensures in
+    c.in_ok-reserve_one.ensures.items c.add_within.ensures c.new-memtable.ensures c.key_type-key_type.ensures in
     subst (λ (old : State). state_of s.partitioner c.restore_table.new.self c.add_within.new.memtables.items ≡ with_new_table old d) c.self.view_is
     (rw (c.in_ok-restore_table.ensures.ok, memtables) (created_state s.partitioner s.schema s.memtables.items s.max_timestamp d c.self.invariant))
