@@ -1,21 +1,24 @@
 -- What a crash leaves of a run, at each of its ends.
-use Rattle.std.proofs.Common.{◌≡◌, ℕ, ◌+◌, ◌≤◌, ◌<◌, ◌^◌, List, [], ◌++◌, length, Option, None, Some, refl, sym, ap, ◌∙◌, subst, append_assoc}
-use Rattle.std.proofs.lemmas.List.{append-nil}
+use Rattle.std.proofs.Common.{◌≡◌, ◌≢◌, ℕ, ◌+◌, ◌≤◌, ◌<◌, ◌^◌, List, [], ◌++◌, length, take, drop, Option, Err, IsErrOf, refl, sym, ap, ◌∙◌, subst, inl, inr, arith, append_assoc, length-drop}
+use Rattle.std.proofs.lemmas.List.{length-take-le, take-append-drop, take_all}
 use Rattle.std.specs.Io.KnownBytes.{Consumes, IsAtEnd, Keeps}
 use Rattle.sasi_model.specs.Pieces.{Piece, Pieces, pieces, all_pieces}
 use Rattle.sasi_model.specs.State.{State}
 use Rattle.sasi_model.specs.Step.{state_after}
 use Rattle.sasi_host.specs.View.{View}
 use Rattle.sasi_cql.specs.SplitterState.{resume, behind}
-use Rattle.sasi_run.specs.Crashing.{FailsCrashSafe, FinishesCrashSafe, ReadsCrashSafe, CrashLeavesPieces, RunsCrashSafe, IsDurableAfter, StopsCrashSafe, FeedsCrashSafe}
+use Rattle.sasi_host.specs.declared.damage.Damage.{Damage}
+use Rattle.sasi_run.specs.Crashing.{EndsAtRead, FailsCrashSafe, FeedsRead, FinishesCrashSafe, ReadsCrashSafe, CrashLeavesPieces, RunsCrashSafe, IsDurableAfter, StopsCrashSafe, StopsWith, FeedsCrashSafe}
 use Rattle.sasi_run.specs.Headline.{RanToEnd, script_of, READ_MOST, SCRIPT_MOST, status_of_count, status_of_stop}
-use Rattle.sasi_run.specs.Session.{IsAtScriptStart, Feeds}
+use Rattle.sasi_run.specs.Session.{IsAtScriptStart, Faults, Feeds}
+use Rattle.sasi_run.specs.StatusCauses.{HostCauses}
 use Rattle.sasi_run.specs.Storing.{IsReady}
 use Rattle.sasi_run.specs.declared.session.Session.{Session}
 use Rattle.sasi_run.specs.declared.session.Stop.{Stop}
 use Rattle.sasi_run.specs.declared.session.Stop.TheVariants.{Disk, Output, Memory}
 use Rattle.sasi_run.specs.declared.store.Store.{Store}
-use Rattle.sasi_run.specs.declared.status.Status.TheVariants.{ScriptFault, ScriptTooLong}
+use Rattle.sasi_run.specs.declared.status.Status.{Status}
+use Rattle.sasi_run.specs.declared.status.Status.TheVariants.{Damaged, ScriptFault, ScriptTooLong, Usage}
 use Rattle.sasi_run.proofs.Crashing.{leaves_both, leaves_more, durable_both}
 use Rattle.sasi_run.proofs.RepliesAtEnd as exits
 use Rattle.sasi_run.proofs.RepliesAtEnd.{all_now, pieces_on, script_parts, script_whole}
@@ -168,3 +171,70 @@ goes_on from mid to l l1 l2 a b c n m chunk on ate more is = record {
   durable = durable_both a b c from.store mid.store to.store on.goes.taken.done more.feeds.done on.goes.taken.state on.durable more.durable;
   crashes = leaves_both a b c from.store mid.store on.goes.taken.done more.feeds.done on.goes.taken.state on.durable on.crashes more.crashes;
 }
+
+-- ---- one read
+
+-- a read ended the run
+pub ends_at_read : (status : Status) (from mid : Session) (l l1 l2 : Option (List ℕ)) (a b c : View) (n room : ℕ) → IsAtScriptStart from
+    → ReadsCrashSafe from mid l l1 a b n → n ≤ 2 ^ 40 → EndsAtRead status mid l1 l2 b c room → (status ≡ ScriptFault → c ≡ b)
+    → RunsCrashSafe status from.store l l2 a c
+ends_at_read status from mid l l1 l2 a b c n room fresh on few (inl (is, kept)) unread =
+    subst (λ (v : View). RunsCrashSafe status from.store l l2 a v) (sym (unread is))
+    (subst (λ (s : Status). RunsCrashSafe s from.store l l2 a b) (sym is) (ends_fault from mid l l1 l2 a b n fresh on few kept))
+ends_at_read status from mid l l1 l2 a b c n room fresh on few (inr at) unread =
+    subst (λ (s : Status). RunsCrashSafe s from.store l l2 a c) (sym at.stops.gives)
+    (ends_within at.stops.stop from mid l l1 l2 a b c n at.read (take room at.read) (drop room at.read) fresh on few at.consumed at.short
+    (sym (take-append-drop room at.read)) at.stops.stops)
+
+stop_is_read : (stop : Stop) → status_of_stop stop ≢ Usage
+stop_is_read Disk is = cc
+stop_is_read Output is = cc
+stop_is_read Memory is = cc
+
+stop_is_undamaged : (stop : Stop) (damage : Damage) → status_of_stop stop ≢ Damaged damage
+stop_is_undamaged Disk damage is = cc
+stop_is_undamaged Output damage is = cc
+stop_is_undamaged Memory damage is = cc
+
+stop_is_of_host : (stop : Stop) → status_of_stop stop ≢ ScriptFault
+stop_is_of_host Disk is = cc
+stop_is_of_host Output is = cc
+stop_is_of_host Memory is = cc
+
+-- what stopped the session didn't fail to read
+pub stops_after_read : {T : Type 0} (status : Status) (old : Session) (a b : View) (bytes : List ℕ) → StopsWith status old a b bytes
+    → ¬ (IsErrOf {T = T} (Err status) ScriptFault)
+stops_after_read status old a b bytes s is = stop_is_of_host s.stop (let same : status ≡ ScriptFault = cc in sym s.gives ∙ same)
+
+pub stop_causes : {T : Type 0} (stop : Stop) (a b : View) → Faults {T = T} a b (Err stop) → HostCauses {T = T} a b (Err (status_of_stop stop))
+stop_causes Disk a b f = record { later = f.later; disk_later = f.disk_later; failed = λ is. cc; disk_failed = λ is. f.disk_failed refl }
+stop_causes Output a b f = record { later = f.later; disk_later = f.disk_later; failed = λ is. f.failed refl; disk_failed = λ is. cc }
+stop_causes Memory a b f = record { later = f.later; disk_later = f.disk_later; failed = λ is. cc; disk_failed = λ is. cc }
+
+-- that status is none of the words, nor of a damaged folder
+pub end_is_read : (status : Status) (mid : Session) (l1 l2 : Option (List ℕ)) (b c : View) (room : ℕ) → EndsAtRead status mid l1 l2 b c room → status ≢ Usage
+end_is_read status mid l1 l2 b c room (inl (is, kept)) usage = cc
+end_is_read status mid l1 l2 b c room (inr at) usage = stop_is_read at.stops.stop (sym at.stops.gives ∙ usage)
+
+pub end_is_undamaged : (status : Status) (mid : Session) (l1 l2 : Option (List ℕ)) (b c : View) (room : ℕ) → EndsAtRead status mid l1 l2 b c room
+    → (damage : Damage) → status ≢ Damaged damage
+end_is_undamaged status mid l1 l2 b c room (inl (is, kept)) damage damaged = cc
+end_is_undamaged status mid l1 l2 b c room (inr at) damage damaged = stop_is_undamaged at.stops.stop damage (sym at.stops.gives ∙ damaged)
+
+-- it gave more than there is room for
+pub ends_beyond : (from mid to : Session) (l l1 l2 : Option (List ℕ)) (a b c : View) (n room count : ℕ) → IsAtScriptStart from
+    → ReadsCrashSafe from mid l l1 a b n → n + room ≡ SCRIPT_MOST → FeedsRead mid to l1 l2 b c room count → room < count
+    → RunsCrashSafe ScriptTooLong from.store l l2 a c
+ends_beyond from mid to l l1 l2 a b c n room count fresh on all read more =
+    let size : length (take room read.read) ≡ room = length-take-le room read.read (omega (arith, read.length_is, more)) in
+    ends_long from mid to l l1 l2 a b c n read.read (take room read.read) (drop room read.read) fresh on (omega (arith, all)) read.consumed
+    (omega (arith, read.length_is, read.short)) (sym (take-append-drop room read.read)) (omega (arith, size, all))
+    (rw length-drop (omega (arith, read.length_is, more))) read.feeds
+
+-- the run goes on behind a read
+pub goes_on_read : (from mid to : Session) (l l1 l2 : Option (List ℕ)) (a b c : View) (n room count : ℕ) → ReadsCrashSafe from mid l l1 a b n
+    → FeedsRead mid to l1 l2 b c room count → count ≤ room → ReadsCrashSafe from to l l2 a c (n + count)
+goes_on_read from mid to l l1 l2 a b c n room count on read fits =
+    goes_on from mid to l l1 l2 a b c n count read.read on read.consumed
+    (subst (λ (bytes : List ℕ). FeedsCrashSafe mid to b c bytes) (take_all room read.read (omega (arith, read.length_is, fits))) read.feeds)
+    (sym read.length_is)

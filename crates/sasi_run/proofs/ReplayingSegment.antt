@@ -1,5 +1,5 @@
 -- A segment that is being replayed.
-use Rattle.std.proofs.Common.{◌≡◌, ℕ, ◌≤◌, IsTrue, Bool, true, false, cond, List, [], ◌∷◌, ◌++◌, map, Option, Some, None, refl, sym, ap, subst, ◌∙◌, inl, arith, append_assoc}
+use Rattle.std.proofs.Common.{◌≡◌, ℕ, ◌≤◌, IsTrue, Bool, true, false, cond, is_some, List, [], ◌∷◌, ◌++◌, map, Option, Some, None, refl, sym, ap, subst, ◌∙◌, inl, arith, append_assoc}
 use Rattle.std.proofs.lemmas.List.{append-nil, map-append}
 use Rattle.std.specs.List.{AllByRecursion}
 use Rattle.sasi_model.specs.State.{State, definitions, decorated}
@@ -29,7 +29,7 @@ use Rattle.sasi_folder.proofs.Recording.{changed_definitions}
 use Rattle.sasi_folder.specs.Replay.{after_mutation, after_segment, is_replayed}
 use Rattle.sasi_folder.proofs.ReplayLaws.{segment_more}
 use Rattle.sasi_folder.specs.Stands.{types_listed}
-use Rattle.sasi_run.specs.Replaying.{SegmentShowsDamage, KeepsSegment, ReadsSegment, ReplaysSegment, NoFalseSegmentDamage}
+use Rattle.sasi_run.specs.Replaying.{MergesNext, after_read, SegmentShowsDamage, KeepsSegment, ReadsSegment, ReplaysSegment, NoFalseSegmentDamage}
 
 -- so many mutations of a segment were merged, and these are left
 pub record MergedSome (b : View) (listing : Listing) (number at : ℕ) (before now : State) (mutations : List Mutation) : Type 0 where
@@ -184,6 +184,36 @@ module _ (a b : View) (listing : Listing) (number : ℕ) (log : Handle) (before 
         let closed = subst (λ (r : Option Mutation). ReadsMutation r (types_listed listing) (log_name number) bytes new.at (map payload_of some.done) some.rest) is (read_here bytes told some) in
         let gated = subst (λ (l : List Bytes). IsGated (log_name number) bytes l) (append-nil (map payload_of some.done)) (gated_at (log_name number) bytes log.at (map payload_of some.done) some.rest [] some.at_gate closed.1) in
         (some.done, record { gated = gated; of_tables = some.of_tables }, some.state)
+
+  -- ---- what a read merged
+
+  module _ (c : View) (new : Handle) (later : State) (is_more : Bool) (same : Changes Same b c) (next : MergesNext b c listing number log new now later is_more) where
+    state_by : (read : Option Mutation) → next.read ≡ read → later ≡ after_read listing number now read
+    state_by read is = next.state ∙ ap (after_read listing number now) is
+
+    pub replays_next : is_more ≡ true → b.disk_faults ≤ c.disk_faults → c.out_faults ≡ b.out_faults → IsReplaying a c listing number new before later
+    replays_next more disk out = by next.read refl
+      where
+        by : (read : Option Mutation) → next.read ≡ read → IsReplaying a c listing number new before later
+        by None is = (let e : true ≡ false = sym more ∙ next.more ∙ ap (λ (r : Option Mutation). is_some r) is in cc)
+        by (Some m) is = replays_more c new next.read same next.file next.gate next.mutations m is later (state_by (Some m) is) next.usable disk out
+
+    at_end : is_more ≡ false → next.read ≡ None
+    at_end none = by next.read refl
+      where
+        by : (read : Option Mutation) → next.read ≡ read → next.read ≡ None
+        by None is = is
+        by (Some m) is = (let e : false ≡ true = sym none ∙ next.more ∙ ap (λ (r : Option Mutation). is_some r) is in cc)
+
+    pub replayed_next : is_more ≡ false → ReplaysSegment a c listing number new.at before later
+    replayed_next none =
+        subst (λ (s : State). ReplaysSegment a c listing number new.at before s) (sym (state_by None (at_end none)))
+        (replayed_whole c new next.read same next.file next.gate next.mutations (at_end none))
+
+    pub reads_next : is_more ≡ false → ReadsSegment a listing number before later
+    reads_next none =
+        subst (λ (s : State). ReadsSegment a listing number before s) (sym (state_by None (at_end none)))
+        (reads_whole c new next.read same next.file next.gate next.mutations (at_end none))
 
   -- ---- damage
 

@@ -1,8 +1,8 @@
 -- What a run has shown at each of its ends. `from` is the session at the script's start, and `mid` where it stands before
 -- the last read; `goes` tells what was read and run until then.
-use Rattle.std.proofs.Common.{◌≡◌, ℕ, ◌+◌, ◌-◌, ◌^◌, ◌≤◌, ◌<◌, min, Bool, true, false, cond, nat_eq, List, [], ◌++◌, length, take, drop, Option, None, Some, refl, sym, ap, ◌∙◌, subst, arith, append_assoc, length-append, length-drop}
-use Rattle.std.proofs.lemmas.List.{append-nil, take-append-drop, length-take-le, take-take}
-use Rattle.std.proofs.Math.Seq.{take-length, take-append_seam}
+use Rattle.std.proofs.Common.{◌≡◌, ℕ, ◌+◌, ◌-◌, ◌^◌, ◌≤◌, ◌<◌, min, Bool, true, false, cond, nat_eq, List, [], ◌++◌, length, take, Option, None, Some, refl, sym, ap, ◌∙◌, subst, arith, append_assoc, length-append}
+use Rattle.std.proofs.lemmas.List.{append-nil}
+use Rattle.std.proofs.Math.Seq.{take-append_seam}
 use Rattle.std.specs.Io.KnownBytes.{Consumes, Keeps, IsAtEnd}
 use Rattle.sasi_model.specs.Pieces.{Piece, Pieces, pieces, all_pieces}
 use Rattle.sasi_model.specs.State.{State}
@@ -10,7 +10,7 @@ use Rattle.sasi_model.specs.Step.{state_after, replies, refusals}
 use Rattle.sasi_cql.specs.SplitterState.{resume, behind}
 use Rattle.sasi_cql.proofs.Resumed.{resume_nothing}
 use Rattle.sasi_run.specs.Session.{counted_by, Feeds, Stops, EmittedAtStop, ReadsScript, Finishes, IsAtScriptStart}
-use Rattle.sasi_run.specs.Headline.{Runs, EmitsByStatus, EmitsAllReplies, EmitsFirstReplies, IsFirstPart, ReadsToEnd, SCRIPT_MOST, READ_MOST, script_of, status_of_stop, status_of_count}
+use Rattle.sasi_run.specs.Headline.{Runs, EmitsByStatus, EmitsAllReplies, IsFirstPart, ReadsToEnd, SCRIPT_MOST, READ_MOST, script_of, status_of_stop, status_of_count}
 use Rattle.sasi_run.specs.declared.session.Session.{Session}
 use Rattle.sasi_run.specs.declared.session.Stop.{Stop}
 use Rattle.sasi_run.specs.declared.session.Stop.TheVariants.{Disk, Output, Memory}
@@ -288,10 +288,3 @@ goes_on from mid to l l1 l2 o o1 o2 n m chunk goes ate more is = record {
   taken = feeds_both from mid to o o1 o2 goes.read chunk goes.taken more;
   length_is = omega (arith, length-append goes.read chunk, goes.length_is);
 }
-
--- a front of a front, and what lies between
-pub front_of : (n m : ℕ) (xs : List ℕ) → n ≤ m → take m xs ≡ take n xs ++ drop n (take m xs)
-front_of n m xs le = sym (take-append-drop n (take m xs)) ∙ ap (λ ys. ys ++ drop n (take m xs)) (take-take n m xs le)
-
-pub some_left : (n m : ℕ) (xs : List ℕ) → n < m → m ≤ length xs → 0 < length (drop n (take m xs))
-some_left n m xs less few = rw (length-drop, length-take-le m xs few) (omega arith)

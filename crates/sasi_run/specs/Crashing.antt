@@ -1,5 +1,6 @@
 -- What a crash leaves of a run: the emitted bytes, and the state for which the folder stands beside them.
-use Rattle.std.specs.Prelude.{◌≡◌, ◌⊎◌, ℕ, List, [], ◌∷◌, ◌++◌, Option, Some}
+use Rattle.std.specs.Prelude.{◌≡◌, ◌⊎◌, ◌≤◌, ℕ, List, [], ◌∷◌, ◌++◌, length, take, Option, Some}
+use Rattle.std.specs.Io.KnownBytes.{Consumes, IsAtEnd, Keeps}
 use Rattle.sasi_model.specs.Pieces.{Piece, all_pieces}
 use Rattle.sasi_model.specs.State.{State}
 use Rattle.sasi_model.specs.Step.{step, state_after, replies}
@@ -11,7 +12,8 @@ use Rattle.sasi_run.specs.declared.session.Session.{Session}
 use Rattle.sasi_run.specs.declared.session.Stop.{Stop}
 use Rattle.sasi_run.specs.declared.store.Store.{Store}
 use Rattle.sasi_run.specs.declared.status.Status.{Status}
-use Rattle.sasi_run.specs.Headline.{RanToEnd, Runs, script_of}
+use Rattle.sasi_run.specs.declared.status.Status.TheVariants.{ScriptFault}
+use Rattle.sasi_run.specs.Headline.{RanToEnd, READ_MOST, Runs, script_of, status_of_stop}
 use Rattle.sasi_run.specs.Session.{Answers, Finishes, ReadsScript, EmittedAtStop, Stops, Feeds}
 use Rattle.sasi_run.specs.Storing.{IsReady, IsStoreDurable}
 
@@ -88,6 +90,34 @@ pub record ReadsCrashSafe (from to : Session) (left_old left_new : Option (List 
   pub ready : IsReady b to.store
   pub durable : StaysDurable a b from.store to.store (replies from.store.machine goes.taken.done)
   pub crashes : CrashLeavesPieces a b from.store goes.taken.done
+
+-- ---- one read of the script
+
+-- fed these bytes, the session stopped, and the run with this status
+pub record StopsWith (status : Status) (old : Session) (a b : View) (bytes : List ℕ) : Type 0 where
+  pub stop : Stop
+  pub gives : status ≡ status_of_stop stop
+  pub stops : StopsCrashSafe stop old a b bytes
+
+-- so much was read, and the session was fed what there is room for
+pub record FeedsRead (old new : Session) (left_old left_new : Option (List ℕ)) (a b : View) (room count : ℕ) : Type 0 where
+  pub read : List ℕ
+  pub consumed : Consumes left_old left_new read
+  pub length_is : length read ≡ count
+  pub short : count ≤ READ_MOST
+  pub at_end : count ≡ 0 → IsAtEnd left_new
+  pub feeds : FeedsCrashSafe old new a b (take room read)
+
+-- the session stopped within it
+pub record StopsAtRead (status : Status) (old : Session) (left_old left_new : Option (List ℕ)) (a b : View) (room : ℕ) : Type 0 where
+  pub read : List ℕ
+  pub consumed : Consumes left_old left_new read
+  pub short : length read ≤ READ_MOST
+  pub stops : StopsWith status old a b (take room read)
+
+-- a read ended the run with this status: it failed, or the session stopped within what it gave
+abbrev pub EndsAtRead : Status → Session → Option (List ℕ) → Option (List ℕ) → View → View → ℕ → Type 0
+EndsAtRead status old left_old left_new a b room = ((status ≡ ScriptFault) × Keeps left_old left_new) ⊎ StopsAtRead status old left_old left_new a b room
 
 -- ---- a run
 

@@ -1,5 +1,6 @@
 pub mod Headline
 pub mod StatusCodes
+pub mod StatusCauses
 pub mod Session
 pub mod CommandLine
 pub mod Storing

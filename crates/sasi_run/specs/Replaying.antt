@@ -1,18 +1,20 @@
 -- The segments of the log that a host keeps, and what a replay of them tells.
-use Rattle.std.specs.Prelude.{◌≡◌, ℕ, suc, ◌+◌, ◌≤◌, List, [], ◌∷◌, ◌++◌, length, Some, ⊤}
+use Rattle.std.specs.Prelude.{◌≡◌, ℕ, suc, ◌+◌, ◌^◌, ◌≤◌, ◌<◌, Bool, true, false, IsTrue, List, [], ◌∷◌, ◌++◌, length, Option, None, Some, is_some, ⊤}
 use Rattle.sasi_host.specs.declared.fault.ReadFault.{ReadFault}
 use Rattle.sasi_host.specs.Damages.{OnDamage}
 use Rattle.sasi_host.specs.Names.{Bytes, Folder, log_name}
-use Rattle.sasi_host.specs.View.{View, IsThere, IsTold, contents}
+use Rattle.sasi_host.specs.View.{View, IsThere, IsTold, Reaches, contents}
 use Rattle.sasi_host.specs.Disk.{Changes, IsFileDurable, Same}
 use Rattle.sasi_model.specs.State.{State, definitions}
 use Rattle.sasi_cells.specs.declared.mutation.Mutation.{Mutation}
 use Rattle.sasi_commitlog.specs.Damages.{ShowsLog}
 use Rattle.sasi_commitlog.specs.Format.{IsLog, Tables}
+use Rattle.sasi_gated.specs.Handles.{Handle}
 use Rattle.sasi_commitlog.specs.LogPosition.{IsAtLogEnd}
+use Rattle.sasi_commitlog.specs.Reads.{ReadsLogGate, ReadsMutations}
 use Rattle.sasi_manifest.specs.declared.listing.Listing.{Listing}
 use Rattle.sasi_manifest.specs.Listings.{listed_definitions}
-use Rattle.sasi_folder.specs.Replay.{after_segment, after_segments, listed_state, replayed_state}
+use Rattle.sasi_folder.specs.Replay.{after_mutation, after_segment, after_segments, listed_state, replayed_state}
 use Rattle.sasi_folder.specs.Stands.{HasSegments, types_listed}
 
 -- ---- what a host keeps
@@ -89,6 +91,24 @@ pub record HasListedTables (state : State) (listing : Listing) : Type 0 where
   pub tables : definitions state.tables ≡ listed_definitions listing.tables
 
 -- ---- on the way
+
+-- the state with what was read of the segment merged into it
+abbrev pub after_read : Listing → ℕ → State → Option Mutation → State
+after_read listing number s None = s
+after_read listing number s (Some mutation) = after_mutation listing.tables number s mutation
+
+-- the next mutation of the segment was read, and merged where there is one more
+pub record MergesNext (old new : View) (listing : Listing) (number : ℕ) (log log_after : Handle) (before later : State) (is_more : Bool) : Type 0 where
+  pub read : Option Mutation
+  pub more : is_more ≡ is_some read
+  pub state : later ≡ after_read listing number before read
+  pub gate : ReadsLogGate old log.file (types_listed listing) log.at log_after.at read
+  pub mutations : ReadsMutations old new log.file (types_listed listing) log.at log_after.at read
+  pub file : log_after.file ≡ log.file
+  pub usable : IsTrue log_after.usable
+  pub goes_on : is_more ≡ true → log.at < log_after.at
+  pub fits : log_after.at ≤ 2 ^ 62
+  pub room : is_more ≡ false → Reaches new log_after.file (log_after.at + 1)
 
 -- so many segments were merged, and these are left from this number on
 pub record MergedBefore (v : View) (listing : Listing) (number : ℕ) (now : State) (logs : List (List Mutation)) : Type 0 where

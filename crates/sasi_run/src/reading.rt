@@ -1,10 +1,11 @@
 // The loop over the reads of a script.
-ghost use Rattle.std.specs.Prelude.{◌≡◌, ◌≢◌};
+ghost use Rattle.std.specs.Prelude.{◌≡◌, ◌≢◌, IfErr, IfOk, IsErrOf, OnOk};
 ghost use Rattle.sasi_host.specs.View.{Rose};
 ghost use Rattle.sasi_host.specs.declared.damage.Damage.{Damage};
-ghost use Rattle.sasi_run.specs.Crashing.{RunsCrashSafe};
+ghost use Rattle.sasi_run.specs.Crashing.{EndsAtRead, FeedsCrashSafe, FeedsRead, RunsCrashSafe, StopsWith};
 ghost use Rattle.sasi_run.specs.Session.{IsAtScriptStart};
 ghost use Rattle.sasi_run.specs.Storing.{IsReady};
+ghost use Rattle.sasi_run.specs.StatusCauses.{HostCauses, ScriptCauses};
 ghost use Rattle.sasi_run.specs.Headline.{status_of_stop, status_of_count};
 
 use crate::Status;
@@ -37,6 +38,45 @@ fn end_status(refused: u64) -> Status
     }
 }
 
+// Feeds bytes of the script. At Err the run has ended.
+fn feed_bytes<H: Host>(session: &mut Session, host: &mut H, bytes: &[u8]) -> Result<(), Status>
+    requires ready { IsReady (H.view host.old) session.old.store }
+    ensures ok { OnOk result (FeedsCrashSafe session.old session.new (H.view host.old) (H.view host.new) bytes.now) }
+    ensures err { IfErr result (λ status. StopsWith status session.old (H.view host.old) (H.view host.new) bytes.now) }
+    ensures causes { HostCauses (H.view host.old) (H.view host.new) result }
+{
+    match feed(session, host, bytes) {
+        Ok(()) => Ok(()),
+        Err(stop) => Err(stop_status(stop)),
+    }
+}
+
+// Reads the script once, and feeds what there is room for. Gives how much was read; at Err the run has ended.
+fn read_once<S: Source, H: Host>(
+    session: &mut Session,
+    script: &mut S,
+    host: &mut H,
+    room: usize,
+) -> Result<usize, Status>
+    requires ready { IsReady (H.view host.old) session.old.store }
+    ensures ok { IfOk result (λ count. FeedsRead session.old session.new (S.view script.old).left (S.view script.new).left (H.view host.old) (H.view host.new) room count) }
+    ensures err { IfErr result (λ status. EndsAtRead status session.old (S.view script.old).left (S.view script.new).left (H.view host.old) (H.view host.new) room) }
+    ensures unread { IsErrOf result Status.ScriptFault → host.new ≡ host.old }
+    ensures script_causes { ScriptCauses (S.view script.old) (S.view script.new) result }
+    ensures causes { HostCauses (H.view host.old) (H.view host.new) result }
+{
+    let mut buf = [0; READ_SIZE];
+    let count = match script.read(&mut buf) {
+        Ok(count) => count,
+        Err(Failed) => return Err(Status::ScriptFault),
+    };
+    let bytes = &buf[..count];
+    match feed_bytes(session, host, &bytes[..room.min(bytes.len())]) {
+        Ok(()) => Ok(count),
+        Err(status) => Err(status),
+    }
+}
+
 /// Runs the script to its end, or until a fault stops the run.
 pub fn run_script<S: Source, H: Host>(session: &mut Session, script: &mut S, host: &mut H) -> Status
     requires fresh { IsAtScriptStart session.old }
@@ -48,12 +88,12 @@ pub fn run_script<S: Source, H: Host>(session: &mut Session, script: &mut S, hos
     ensures words { result ≢ Status.Usage }
     ensures undamaged { (damage : Damage) → result ≢ Status.Damaged damage }
 {
-    let mut buf = [0; READ_SIZE];
     let mut taken: u64 = 0;
     'reads: loop {
-        let count = match script.read(&mut buf) {
+        let room = (SCRIPT_LIMIT - taken) as usize;
+        let count = match read_once(session, script, host, room) {
             Ok(count) => count,
-            Err(Failed) => return Status::ScriptFault,
+            Err(status) => return status,
         };
         if count == 0 {
             return match finish(session, host) {
@@ -61,16 +101,9 @@ pub fn run_script<S: Source, H: Host>(session: &mut Session, script: &mut S, hos
                 Err(stop) => stop_status(stop),
             };
         }
-        let room = SCRIPT_LIMIT - taken;
-        if count as u64 > room {
-            return match feed(session, host, &buf[..room as usize]) {
-                Ok(()) => Status::ScriptTooLong,
-                Err(stop) => stop_status(stop),
-            };
+        if count > room {
+            return Status::ScriptTooLong;
         }
-        match feed(session, host, &buf[..count]) {
-            Ok(()) => taken += count as u64,
-            Err(stop) => return stop_status(stop),
-        }
+        taken += count as u64;
     }
 }

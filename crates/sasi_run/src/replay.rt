@@ -9,12 +9,13 @@ ghost use Rattle.sasi_model.specs.Changes.{empty_table};
 ghost use Rattle.sasi_schema.specs.Defined.{definition};
 ghost use Rattle.sasi_schema.specs.Numbers.{RisesFrom};
 ghost use Rattle.sasi_commitlog.specs.Format.{IsMutationOf};
+ghost use Rattle.sasi_commitlog.specs.Reads.{IsLogDamageAt, NoFalseLogDamage};
 ghost use Rattle.sasi_manifest.specs.ListedTables.{listed};
 ghost use Rattle.sasi_manifest.specs.Listings.{CanStart, listed_definitions};
 ghost use Rattle.sasi_manifest.specs.Naming.{AreApart};
 ghost use Rattle.sasi_folder.specs.Replay.{after_mutation, listed_state, is_replayed};
 ghost use Rattle.sasi_folder.specs.Stands.{types_listed};
-ghost use Rattle.sasi_run.specs.Replaying.{LiveSegmentsExist, HasReplayed, HasListedTables, ReplayShowsDamage, SegmentShowsDamage, ReadsAll, ReadsSegment, Replays, ReplaysSegment, NoFalseReplayDamage, NoFalseSegmentDamage};
+ghost use Rattle.sasi_run.specs.Replaying.{LiveSegmentsExist, MergesNext, HasReplayed, HasListedTables, ReplayShowsDamage, SegmentShowsDamage, ReadsAll, ReadsSegment, Replays, ReplaysSegment, NoFalseReplayDamage, NoFalseSegmentDamage};
 
 use sasi_cells::Mutation;
 use sasi_commitlog::Log;
@@ -139,6 +140,34 @@ fn merge(
     machine.apply(mutation)
 }
 
+// Reads the next mutation of the segment, merges it where there is one, and tells whether there was.
+fn merge_next<H: Host>(
+    host: &mut H,
+    log: &mut Log,
+    machine: &mut Machine,
+    listing: &Listing,
+    types: &TableTypes,
+    number: SegmentNumber,
+) -> Result<bool, ReadFault>
+    requires there { IsThere (H.view host.old) log.old.file }
+    requires usable { IsTrue log.old.usable }
+    requires types { types.now ≡ types_listed listing.now }
+    requires tables { definitions machine.old.tables ≡ listed_definitions listing.now.tables }
+    ensures merged { IfOk result (λ is_more. MergesNext (H.view host.old) (H.view host.new) listing.now number log.old log.new machine.old machine.new is_more) }
+    ensures damaged { IfErr result (IsLogDamageAt (H.view host.old) log.old.file (types_listed listing.now) log.old.at) }
+    ensures undamaged { IfErr result (NoFalseLogDamage (H.view host.old) log.old.file (types_listed listing.now) log.old.at) }
+    ensures changes { Changes Same (H.view host.old) (H.view host.new) }
+    ensures causes { ReadingCauses (H.view host.old) (H.view host.new) result }
+{
+    match log.next(host, types)? {
+        Some(mutation) => {
+            merge(machine, listing, number, mutation)?;
+            Ok(true)
+        }
+        None => Ok(false),
+    }
+}
+
 // Merges the mutations of the segment with this number into the listed tables. The log then stands at its closed gate.
 fn replay_segment<H: Host>(
     alloc: Global,
@@ -164,8 +193,6 @@ fn replay_segment<H: Host>(
     ensures causes { ReadingCauses (H.view host.old) (H.view host.new) result }
 {
     let mut log = Log::open(alloc, host, number)?;
-    while let Some(mutation) = log.next(host, types)? {
-        merge(machine, listing, number, mutation)?;
-    }
+    'merging: while merge_next(host, &mut log, machine, listing, types, number)? {}
     Ok(log)
 }

@@ -1,58 +1,7 @@
-use Rattle.std.proofs.Common.{arith, sym, ℕ, [], ◌-◌, ◌^◌}
-use Rattle.std.proofs.lemmas.List.{append-nil, length-take}
-use Rattle.sasi_run.proofs.CrashesAtEnd.{ends_fault, ends_done, ends_last, ends_long, ends_within, goes_on, starts_on}
-use Rattle.sasi_run.proofs.RepliesAtEnd.{front_of, some_left}
+use Rattle.std.proofs.Common.{arith, refl, [], ap, Err, ◌∙◌}
+use Rattle.sasi_run.proofs.ConsumedBytes.{consumes_nothing}
+use Rattle.sasi_run.proofs.CrashesAtEnd.{end_is_read, end_is_undamaged, ends_at_read, ends_beyond, ends_done, ends_last, goes_on_read, starts_on}
 use Rattle.sasi_run.proofs.reading.run_script.Goals as goal
-
-pub returns-in-Err-clause-runs : goal.returns-in-Err-clause-runs
-returns-in-Err-clause-runs g c =
-    ends_fault c.args.session.now c.reads.session _ _ _ _ _ _ c.requires.fresh c.reads.invariant.goes c.reads.invariant.few c.in-Err.ensures.bytes
-
-pub returns-in-Ok-finish-clause-runs : goal.returns-in-Ok-finish-clause-runs
-returns-in-Ok-finish-clause-runs g c =
-    rw c.end_status.ensures
-    (ends_done c.args.session.now c.reads.session c.finish.new.session _ _ _ _ _ _ _ _ c.requires.fresh c.reads.invariant.goes
-    c.reads.invariant.few c.in-Ok.ensures.bytes.0 (omega (arith, c.in-Ok.ensures.bound, length-take {A = ℕ}))
-    (c.in-Ok.ensures.bytes.1 (omega arith) (omega arith)) c.in-Ok-finish.ensures.ok)
-
-pub returns-in-Err-finish-clause-runs : goal.returns-in-Err-finish-clause-runs
-returns-in-Err-finish-clause-runs g c =
-    rw c.stop_status.ensures
-    (ends_last _ c.args.session.now c.reads.session _ _ _ _ _ _ _ _ c.requires.fresh c.reads.invariant.goes c.reads.invariant.few
-    c.in-Ok.ensures.bytes.0 (omega (arith, c.in-Ok.ensures.bound, length-take {A = ℕ}))
-    (c.in-Ok.ensures.bytes.1 (omega arith) (omega arith)) c.in-Err-finish.ensures.err)
-
-pub returns-in-Ok-feed-clause-runs : goal.returns-in-Ok-feed-clause-runs
-returns-in-Ok-feed-clause-runs g c =
-    ends_long c.args.session.now c.reads.session c.feed.new.session _ _ _ _ _ _ _ _ _ _ c.requires.fresh c.reads.invariant.goes
-    c.reads.invariant.few c.in-Ok.ensures.bytes.0 (omega (arith, c.in-Ok.ensures.bound, length-take {A = ℕ}))
-    (front_of (2 ^ 40 - c.reads.taken) c.in-Ok.count c.read.new.buf (omega arith))
-    (omega (arith, c.in-Ok.ensures.bound, length-take {A = ℕ})) (some_left _ _ _ (omega arith) c.in-Ok.ensures.bound.0)
-    c.in-Ok-feed.ensures.ok
-
-pub returns-in-Err-feed-clause-runs : goal.returns-in-Err-feed-clause-runs
-returns-in-Err-feed-clause-runs g c =
-    rw c.stop_status-in-Err-feed.ensures
-    (ends_within _ c.args.session.now c.reads.session _ _ _ _ _ _ _ _ _ _ c.requires.fresh c.reads.invariant.goes c.reads.invariant.few
-    c.in-Ok.ensures.bytes.0 (omega (arith, c.in-Ok.ensures.bound, length-take {A = ℕ}))
-    (front_of (2 ^ 40 - c.reads.taken) c.in-Ok.count c.read.new.buf (omega arith)) c.in-Err-feed.ensures.err)
-
-pub reads-preserved : goal.reads-preserved
-reads-preserved g c = record {
-  goes = goes_on c.args.session.now c.reads.session c.feed-in-reads.new.session _ _ _ _ _ _ _ _ _ c.reads.invariant.goes
-      c.in-Ok.ensures.bytes.0 c.in-Ok-feed-2.ensures.ok (omega (arith, c.in-Ok.ensures.bound, length-take {A = ℕ}));
-  few = omega (arith, c.in-Ok.ensures.bound);
-  script_later = omega arith;
-  host_later = omega arith;
-  disk_later = omega arith;
-}
-
-pub returns-in-Err-feed-2-clause-runs : goal.returns-in-Err-feed-2-clause-runs
-returns-in-Err-feed-2-clause-runs g c =
-    rw c.stop_status-in-Err-feed-2.ensures
-    (ends_within _ c.args.session.now c.reads.session _ _ _ _ _ _ _ _ _ [] c.requires.fresh c.reads.invariant.goes c.reads.invariant.few
-    c.in-Ok.ensures.bytes.0 (omega (arith, c.in-Ok.ensures.bound, length-take {A = ℕ})) (sym (append-nil _))
-    c.in-Err-feed-2.ensures.err)
 
 pub reads-init : goal.reads-init
 reads-init g c = record {
@@ -61,4 +10,50 @@ reads-init g c = record {
   script_later = omega arith;
   host_later = omega arith;
   disk_later = omega arith;
+}
+
+pub returns-in-Err-clause-runs : goal.returns-in-Err-clause-runs
+returns-in-Err-clause-runs g c =
+    ends_at_read c.in-Err.status c.args.session.now c.reads.session _ _ _ _ _ _ _ _ c.requires.fresh c.reads.invariant.goes c.reads.invariant.few
+    c.in-Err.ensures.err (λ is. ap (λ h. g.H.Host.view h) (c.read_once.ensures.unread (c.in-Err.is ∙ ap (λ s. Err s) is)))
+
+pub returns-in-Err-clause-words : goal.returns-in-Err-clause-words
+returns-in-Err-clause-words g c = end_is_read c.in-Err.status c.reads.session _ _ _ _ _ c.in-Err.ensures.err
+
+pub returns-in-Err-clause-undamaged : goal.returns-in-Err-clause-undamaged
+returns-in-Err-clause-undamaged g c = end_is_undamaged c.in-Err.status c.reads.session _ _ _ _ _ c.in-Err.ensures.err
+
+pub returns-in-Ok-finish-clause-runs : goal.returns-in-Ok-finish-clause-runs
+returns-in-Ok-finish-clause-runs g c =
+    let read = c.in-Ok.ensures.ok in
+    let on = goes_on_read c.args.session.now c.reads.session c.read_once.new.session _ _ _ _ _ _ c.reads.taken _ c.in-Ok.count c.reads.invariant.goes
+    read (omega (arith, c.if-count-eq0.true)) in
+    rw c.end_status.ensures
+    (ends_done c.args.session.now c.read_once.new.session c.finish.new.session _ _ _ _ _ _ _ [] c.requires.fresh on
+    (omega (arith, c.if-count-eq0.true, c.reads.invariant.few)) (consumes_nothing _) refl (read.at_end (omega (arith, c.if-count-eq0.true)))
+    c.in-Ok-finish.ensures.ok)
+
+pub returns-in-Err-finish-clause-runs : goal.returns-in-Err-finish-clause-runs
+returns-in-Err-finish-clause-runs g c =
+    let read = c.in-Ok.ensures.ok in
+    let on = goes_on_read c.args.session.now c.reads.session c.read_once.new.session _ _ _ _ _ _ c.reads.taken _ c.in-Ok.count c.reads.invariant.goes
+    read (omega (arith, c.if-count-eq0.true)) in
+    rw c.stop_status.ensures
+    (ends_last _ c.args.session.now c.read_once.new.session _ _ _ _ _ _ _ [] c.requires.fresh on
+    (omega (arith, c.if-count-eq0.true, c.reads.invariant.few)) (consumes_nothing _) refl (read.at_end (omega (arith, c.if-count-eq0.true)))
+    c.in-Err-finish.ensures.err)
+
+pub returns-then-count-room-clause-runs : goal.returns-then-count-room-clause-runs
+returns-then-count-room-clause-runs g c =
+    ends_beyond c.args.session.now c.reads.session c.read_once.new.session _ _ _ _ _ _ c.reads.taken _ c.in-Ok.count c.requires.fresh
+    c.reads.invariant.goes (omega (arith, c.reads.invariant.few)) c.in-Ok.ensures.ok (omega (arith, c.if-count-room.true))
+
+pub reads-preserved : goal.reads-preserved
+reads-preserved g c = record {
+  goes = goes_on_read c.args.session.now c.reads.session c.read_once.new.session _ _ _ _ _ _ c.reads.taken _ c.in-Ok.count c.reads.invariant.goes
+      c.in-Ok.ensures.ok (omega (arith, c.if-count-room.false));
+  few = omega (arith, c.if-count-room.false);
+  script_later = omega (arith, c.reads.invariant.script_later, c.read_once.ensures.script_causes.later);
+  host_later = omega (arith, c.reads.invariant.host_later, c.read_once.ensures.causes.later);
+  disk_later = omega (arith, c.reads.invariant.disk_later, c.read_once.ensures.causes.disk_later);
 }
