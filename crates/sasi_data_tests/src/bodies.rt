@@ -1,17 +1,14 @@
 // Bodies: their bytes, what is read of each front of one, and where others break the format.
-use sasi_body::{put_body, read_body};
+ghost use Rattle.sasi_body.specs.Body.{HasBody};
+
+use crate::fixture::{INSERTED, body_of, changed, list_of};
+use sasi_body::read_body;
 use sasi_cells::Partition;
 use sasi_formats::{Broken, FormatFault};
 use sasi_host::FormatRule;
-use sasi_types::{ColumnType, TypeList};
+use sasi_types::{ColumnType, Key};
 use std::alloc::Global;
 use std::process::Abort;
-
-// Key k1, no deletion, and two cells at time 5: the marker, and the text x in column 1.
-const INSERTED: [u8; 41] = [
-    0, 2, b'k', b'1', 0, 0, 0, 0, 0, 0, 0, 0, 0, 2, 0, 0, 0, 0, 0, 0, 0, 0, 0, 5, 1, 0, 0, 0, 1, 0,
-    0, 0, 0, 0, 0, 0, 5, 1, 0, 1, b'x',
-];
 
 // Key 7, a deletion at time 3, a tombstone, a bigint and a uuid.
 const CHANGED: [u8; 77] = [
@@ -32,15 +29,14 @@ const MIXED: [ColumnType; 4] = [
     ColumnType::Uuid,
 ];
 
-fn list_of(rt: &impl Abort, alloc: Global, types: &[ColumnType]) -> TypeList {
-    let mut list = TypeList::new(alloc);
-    for kind in types {
-        list.push(*kind).expect(rt, "memory for a type");
-    }
-    list
+/// The partition with this body, in a table of these types.
+fn read(rt: &impl Abort, alloc: Global, bytes: &[u8], types: &[ColumnType]) -> (Key, Partition)
+    ensures { HasBody result.0 result.1 }
+{
+    read_body(alloc, bytes, &list_of(rt, alloc, types)).expect(rt, "a body")
 }
 
-/// Reads a body, and puts the same bytes.
+/// A body is read, and the same bytes are put.
 fn check_body(
     rt: &impl Abort,
     alloc: Global,
@@ -49,11 +45,9 @@ fn check_body(
     deleted: u64,
     count: usize,
 ) {
-    let (key, part) = read_body(alloc, bytes, &list_of(rt, alloc, types)).expect(rt, "a body");
+    let (key, part) = read(rt, alloc, bytes, types);
     assert!(rt; (part.deleted(), part.cells().len()) == (deleted, count));
-    let mut out = Vec::new(alloc);
-    put_body(&mut out, &key, &part).expect(rt, "memory for a body");
-    assert_eq!(rt; out.as_slice(), bytes);
+    assert!(rt; body_of(rt, alloc, &key, &part).as_slice() == bytes);
 }
 
 #[test]
@@ -73,14 +67,13 @@ fn check_cell(rt: &impl Abort, part: &Partition) {
     let cell = part.cell(1).expect(rt, "a cell");
     assert!(rt; cell.time() == 5);
     let value = cell.value().expect(rt, "a value");
-    assert_eq!(rt; value.stored().as_slice(), b"x".as_slice());
+    assert!(rt; value.stored().as_slice() == b"x".as_slice());
 }
 
 #[test]
 fn cells_are_those_of_the_body(rt: HostRuntime) {
-    let types = list_of(&rt, rt.alloc(), &TEXTS);
-    let (key, part) = read_body(rt.alloc(), &INSERTED, &types).expect(&rt, "a body");
-    assert_eq!(rt; key.bytes(), b"k1".as_slice());
+    let (key, part) = read(&rt, rt.alloc(), &INSERTED, &TEXTS);
+    assert!(rt; key.bytes() == b"k1".as_slice());
     check_cell(&rt, &part);
 }
 
@@ -93,6 +86,13 @@ fn check_other_length(rt: &impl Abort, alloc: Global, bytes: &[u8], fault: Forma
     assert!(rt; is_refused);
 }
 
+/// The body with a byte more.
+fn longer(rt: &impl Abort, alloc: Global, bytes: &[u8]) -> Vec<u8> {
+    let mut longer = bytes.to_vec(alloc).expect(rt, "memory for a body");
+    longer.push(0).expect(rt, "memory for a byte");
+    longer
+}
+
 #[test]
 fn other_lengths_are_refused(rt: HostRuntime) {
     let alloc = rt.alloc();
@@ -100,11 +100,7 @@ fn other_lengths_are_refused(rt: HostRuntime) {
         let front = INSERTED.get(..size).expect(&rt, "a front");
         check_other_length(&rt, alloc, front, FormatFault::Short);
     }
-    let mut longer = INSERTED
-        .as_slice()
-        .to_vec(alloc)
-        .expect(&rt, "memory for a body");
-    longer.push(0).expect(&rt, "memory for a byte");
+    let longer = longer(&rt, alloc, &INSERTED);
     check_other_length(&rt, alloc, &longer, FormatFault::Long);
 }
 
@@ -141,21 +137,24 @@ const DAMAGES: [(usize, u8, FormatRule, usize, &[u8]); 15] = [
     (40, 0xff, FormatRule::Text, 40, &[0xff]),
 ];
 
+/// The rule that was broken there, by these bytes.
+fn check_broken(rt: &impl Abort, broken: Broken, rule: FormatRule, at: usize, seen: &[u8]) {
+    assert!(rt; (broken.rule, broken.at) == (rule, at));
+    let there = broken.seen.bytes.get(..usize::from(broken.seen.len));
+    assert!(rt; there == Some(seen), "at {at}");
+}
+
 /// The first body with this byte changed breaks a rule there.
 fn check_damage(
     rt: &impl Abort,
     alloc: Global,
-    changed: (usize, u8),
+    (offset, byte): (usize, u8),
     rule: FormatRule,
     at: usize,
     seen: &[u8],
 ) {
-    let mut bytes = INSERTED;
-    *bytes.get_mut(changed.0).expect(rt, "a byte") = changed.1;
-    let broken = broken_in(rt, alloc, &bytes, &TEXTS);
-    assert!(rt; (broken.rule, broken.at) == (rule, at));
-    let there = broken.seen.bytes.get(..usize::from(broken.seen.len));
-    assert_eq!(rt; there.expect(rt, "bytes"), seen);
+    let bytes = changed(rt, alloc, &INSERTED, offset, byte);
+    check_broken(rt, broken_in(rt, alloc, &bytes, &TEXTS), rule, at, seen);
 }
 
 #[test]
@@ -175,5 +174,5 @@ fn values_are_of_their_types(rt: HostRuntime) {
     ];
     let broken = broken_in(&rt, rt.alloc(), &CHANGED, &types);
     assert!(rt; (broken.rule, broken.at) == (FormatRule::Text, 40));
-    assert_eq!(rt; broken.seen.bytes, [0, 1, 2, 3, 4, 5, 6, 7]);
+    assert!(rt; broken.seen.bytes == [0, 1, 2, 3, 4, 5, 6, 7]);
 }

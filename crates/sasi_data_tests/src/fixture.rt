@@ -1,14 +1,14 @@
 // Data files in memory.
-ghost use Rattle.std.specs.Prelude.{◌≡◌, ◌≤◌, IsTrue, length};
-ghost use Rattle.sasi_types.specs.declared.partitioner.Partitioner.TheVariants.{Lead8};
-ghost use Rattle.sasi_host.specs.View.{Reaches};
+ghost use Rattle.std.specs.Prelude.{◌≤◌, length};
+ghost use Rattle.sasi_body.specs.Body.{HasBody};
 ghost use Rattle.sasi_host.specs.Memory.{host_view, seen};
-ghost use Rattle.sasi_datawrite.specs.Writing.{last_pair};
+ghost use Rattle.sasi_data_tests.specs.Ready.{IsReady};
 
-use sasi_body::read_body;
-use sasi_datawrite::{DataWriter, FlushObserver};
+use sasi_body::{put_body, read_body};
+use sasi_cells::Partition;
+use sasi_datawrite::{DataRef, DataWriter, FlushObserver};
 use sasi_host::{FileName, Kind, MemHost};
-use sasi_types::{ColumnType, Partitioner, Token, TypeList};
+use sasi_types::{ColumnType, Key, Partitioner, Token, TypeList};
 use std::alloc::Global;
 use std::process::Abort;
 
@@ -47,8 +47,42 @@ pub fn list_of(rt: &impl Abort, alloc: Global, types: &[ColumnType]) -> TypeList
     list
 }
 
-/// Pushes the partition with this body, in a table of two texts and an int, and gives its token.
-pub fn push<O: FlushObserver>(
+/// The bytes, with another one at this offset.
+pub fn changed(rt: &impl Abort, alloc: Global, bytes: &[u8], offset: usize, byte: u8) -> Vec<u8> {
+    let mut changed = bytes.to_vec(alloc).expect(rt, "memory for bytes");
+    *changed.get_mut(offset).expect(rt, "a byte") = byte;
+    changed
+}
+
+/// A copy of these bodies.
+pub fn bodies_of(rt: &impl Abort, alloc: Global, bodies: &[&[u8]]) -> Vec<Vec<u8>> {
+    let mut all = Vec::new(alloc);
+    for body in bodies {
+        let body = body.to_vec(alloc).expect(rt, "memory for a body");
+        all.push(body).expect(rt, "memory for a body");
+    }
+    all
+}
+
+/// The partition with this body, in a table of two texts and an int.
+fn partition_of(rt: &impl Abort, alloc: Global, body: &[u8]) -> (Key, Partition)
+    ensures { HasBody result.0 result.1 }
+{
+    let types = [ColumnType::Text, ColumnType::Text, ColumnType::Int];
+    read_body(alloc, body, &list_of(rt, alloc, &types)).expect(rt, "a body")
+}
+
+/// The body of a partition.
+pub fn body_of(rt: &impl Abort, alloc: Global, key: &Key, part: &Partition) -> Vec<u8>
+    requires { HasBody key.now part.now }
+{
+    let mut body = Vec::new(alloc);
+    put_body(&mut body, key, part).expect(rt, "memory for a body");
+    body
+}
+
+/// Pushes the partition with this body, and gives its token.
+fn push<O: FlushObserver>(
     rt: &impl Abort,
     alloc: Global,
     host: &mut MemHost,
@@ -57,31 +91,31 @@ pub fn push<O: FlushObserver>(
     last: Token,
     body: &[u8],
 ) -> Token
-    requires last { (last_pair writer.old.pairs).token ≤ last }
-    requires partitioner { writer.old.partitioner ≡ Lead8 }
-    requires room { Reaches (host_view (seen host.old)) writer.old.file writer.old.offset }
-    requires usable { IsTrue writer.old.usable }
-    ensures last { (last_pair writer.new.pairs).token ≤ result }
-    ensures partitioner { writer.new.partitioner ≡ Lead8 }
-    ensures room { Reaches (host_view (seen host.new)) writer.new.file writer.new.offset }
-    ensures usable { IsTrue writer.new.usable }
+    requires ready { IsReady (host_view (seen host.old)) writer.old last }
+    ensures ready { IsReady (host_view (seen host.new)) writer.new result }
     ensures some { 1 ≤ length writer.new.pairs }
 {
-    let types = [ColumnType::Text, ColumnType::Text, ColumnType::Int];
-    let (key, part) = read_body(alloc, body, &list_of(rt, alloc, &types)).expect(rt, "a body");
+    let (key, part) = partition_of(rt, alloc, body);
     let token = Partitioner::Lead8.token(key.bytes());
     assert!(rt; last <= token, "tokens rise");
     writer.push(host, watch, &key, &part).expect(rt, "pushed");
     token
 }
 
-/// A writer of the data file, which isn't there yet.
-pub fn begin(rt: &impl Abort, alloc: Global, host: &mut MemHost) -> DataWriter
-    ensures none { (last_pair result.pairs).token ≡ 0 }
-    ensures partitioner { result.partitioner ≡ Lead8 }
-    ensures room { Reaches (host_view (seen host.new)) result.file result.offset }
-    ensures usable { IsTrue result.usable }
-{
+/// Writes the data file of the partitions with these bodies.
+pub fn write_bodies<O: FlushObserver>(
+    rt: &impl Abort,
+    alloc: Global,
+    host: &mut MemHost,
+    watch: &mut O,
+    bodies: &[Vec<u8>],
+) -> DataRef {
     assert!(rt; host.bytes(DATA).is_none());
-    DataWriter::begin(alloc, host, 7, Partitioner::Lead8).expect(rt, "begun")
+    let mut writer = DataWriter::begin(alloc, host, 7, Partitioner::Lead8).expect(rt, "begun");
+    let (first, others) = bodies.split_first().expect(rt, "a partition");
+    let mut last = push(rt, alloc, host, watch, &mut writer, 0, first);
+    for body in others {
+        last = push(rt, alloc, host, watch, &mut writer, last, body);
+    }
+    writer.finish(host).expect(rt, "finished")
 }

@@ -1,10 +1,12 @@
-//! Tests of bodies, token trees and data files: their bytes, what is read of them, and damaged ones.
+//! Tests of formats, bodies, token trees and data files: their bytes, what is read of them, and damaged ones.
 #![tactic(auto)]
 
 #[cfg(test)]
 mod bodies;
 #[cfg(test)]
 mod fixture;
+#[cfg(test)]
+mod formats;
 #[cfg(test)]
 mod reading;
 #[cfg(test)]

@@ -1,9 +1,10 @@
 // A data file of one partition that is written and read.
 ghost use Rattle.std.specs.Prelude.{◌≡◌, IfOk};
+ghost use Rattle.sasi_body.specs.Body.{HasBody};
 ghost use Rattle.sasi_data_tests.specs.declared.fixture.TheConstants.{DATA};
 
-use crate::fixture::{DATA, INSERTED, ONE, TOKEN, begin, list_of, push};
-use sasi_body::put_body;
+use crate::fixture::{DATA, INSERTED, ONE, TOKEN, bodies_of, body_of, list_of, write_bodies};
+use sasi_cells::Partition;
 use sasi_dataread::DataFile;
 use sasi_datawrite::NoWatch;
 use sasi_host::{Damage, Direct, MemHost, ReadFault};
@@ -50,6 +51,23 @@ pub fn find(
     }
 }
 
+/// The partition at this offset.
+fn read_at(
+    rt: &impl Abort,
+    alloc: Global,
+    host: &mut MemHost,
+    opened: &DataFile,
+    place: u64,
+) -> (Key, Partition)
+    requires { opened.now.file ≡ DATA }
+    ensures { HasBody result.0 result.1 }
+{
+    assert!(rt; host.bytes(DATA).is_some());
+    opened
+        .at(alloc, host, &mut Direct, place)
+        .expect(rt, "read")
+}
+
 /// The body of the partition at this offset.
 pub fn body_at(
     rt: &impl Abort,
@@ -60,37 +78,24 @@ pub fn body_at(
 ) -> Vec<u8>
     requires { opened.now.file ≡ DATA }
 {
-    assert!(rt; host.bytes(DATA).is_some());
-    let read = opened.at(alloc, host, &mut Direct, place);
-    let (key, part) = read.expect(rt, "read");
-    let mut bytes = Vec::new(alloc);
-    put_body(&mut bytes, &key, &part).expect(rt, "memory for a body");
-    bytes
+    let (key, part) = read_at(rt, alloc, host, opened, place);
+    body_of(rt, alloc, &key, &part)
 }
 
 /// A host with the file of one partition.
 fn written(rt: &impl Abort, alloc: Global) -> MemHost {
     let mut host = MemHost::new(alloc);
-    let mut writer = begin(rt, alloc, &mut host);
-    push(
-        rt,
-        alloc,
-        &mut host,
-        &mut NoWatch,
-        &mut writer,
-        0,
-        &INSERTED,
-    );
-    writer.finish(&mut host).expect(rt, "finished");
+    let bodies = bodies_of(rt, alloc, &[&INSERTED]);
+    write_bodies(rt, alloc, &mut host, &mut NoWatch, &bodies);
     host
 }
 
 #[test]
 fn written_file_is_opened(rt: HostRuntime) {
     let mut host = written(&rt, rt.alloc());
-    assert_eq!(rt; host.bytes(DATA).expect(&rt, "a file"), ONE.as_slice());
+    assert!(rt; host.bytes(DATA) == Some(ONE.as_slice()));
     let data = open_whole(&rt, rt.alloc(), &mut host);
-    assert_eq!(rt; (data.partitions(), data.max_timestamp()), (1, 5));
+    assert!(rt; (data.partitions(), data.max_timestamp()) == (1, 5));
 }
 
 #[test]
@@ -98,7 +103,7 @@ fn partition_is_read_at_its_offset(rt: HostRuntime) {
     let mut host = written(&rt, rt.alloc());
     let data = open_whole(&rt, rt.alloc(), &mut host);
     let body = body_at(&rt, rt.alloc(), &mut host, &data, 16);
-    assert_eq!(rt; body.as_slice(), INSERTED.as_slice());
+    assert!(rt; body.as_slice() == INSERTED.as_slice());
 }
 
 #[test]
@@ -107,20 +112,18 @@ fn key_is_read_at_its_offset(rt: HostRuntime) {
     let data = open_whole(&rt, rt.alloc(), &mut host);
     assert!(rt; host.bytes(DATA).is_some());
     let key = data.key_at(rt.alloc(), &mut host, &mut Direct, 16);
-    assert_eq!(rt; key.expect(&rt, "read").bytes(), b"k1".as_slice());
+    assert!(rt; key.expect(&rt, "read").bytes() == b"k1".as_slice());
+}
+
+/// Whether the file of one partition has the key.
+fn check_find(rt: &impl Abort, alloc: Global, token: Token, key: &[u8], is_there: bool) {
+    let mut host = written(rt, alloc);
+    let data = open_whole(rt, alloc, &mut host);
+    assert!(rt; find(rt, alloc, &mut host, &data, token, key) == Ok(is_there));
 }
 
 #[test]
 fn key_is_found(rt: HostRuntime) {
-    let mut host = written(&rt, rt.alloc());
-    let data = open_whole(&rt, rt.alloc(), &mut host);
-    assert_eq!(rt;
-        find(&rt, rt.alloc(), &mut host, &data, TOKEN, b"k1"),
-        Ok(true)
-    );
-    let other = TOKEN + 0x1_0000_0000_0000;
-    assert_eq!(rt;
-        find(&rt, rt.alloc(), &mut host, &data, other, b"k2"),
-        Ok(false)
-    );
+    check_find(&rt, rt.alloc(), TOKEN, b"k1", true);
+    check_find(&rt, rt.alloc(), TOKEN + 0x1_0000_0000_0000, b"k2", false);
 }

@@ -1,5 +1,5 @@
 // Data files that were cut, and ones of which a byte changed.
-use crate::fixture::{DATA, ONE, TOKEN};
+use crate::fixture::{DATA, ONE, TOKEN, changed};
 use crate::reading::{body_at, find, open, open_whole};
 use sasi_host::{Damage, FormatRule, MemHost, found};
 use std::alloc::Global;
@@ -40,7 +40,7 @@ fn check_cut(rt: &impl Abort, alloc: Global, size: usize) {
     } else {
         damage_at(rt, cut, size - 8, size, FormatRule::Magic)
     };
-    assert_eq!(rt; find_one(rt, alloc, cut), Err(damage), "at {size}");
+    assert!(rt; find_one(rt, alloc, cut) == Err(damage), "at {size}");
 }
 
 #[test]
@@ -94,24 +94,29 @@ fn damage_of(rt: &impl Abort, bytes: &[u8], at: usize) -> Option<Damage> {
 }
 
 /// The body of the one partition in a file of these bytes.
-fn body_of(rt: &impl Abort, alloc: Global, bytes: &[u8]) -> Vec<u8> {
+fn body_in(rt: &impl Abort, alloc: Global, bytes: &[u8]) -> Vec<u8> {
     let mut host = host_of(rt, alloc, bytes);
     let data = open_whole(rt, alloc, &mut host);
     body_at(rt, alloc, &mut host, &data, 16)
 }
 
-/// A file in which the last bit of a byte is turned is damaged there, or has another partition.
-fn check_changed(rt: &impl Abort, alloc: Global, at: usize) {
-    let mut bytes = ONE;
-    *bytes.get_mut(at).expect(rt, "a byte") ^= 1;
-    let found = find_one(rt, alloc, &bytes);
-    if let Some(damage) = damage_of(rt, &bytes, at) {
-        assert_eq!(rt; found, Err(damage), "at {at}");
+/// A file of these bytes, of which this one was changed, is damaged there, or has another partition.
+fn check_bytes(rt: &impl Abort, alloc: Global, bytes: &[u8], at: usize) {
+    let found = find_one(rt, alloc, bytes);
+    if let Some(damage) = damage_of(rt, bytes, at) {
+        assert!(rt; found == Err(damage), "at {at}");
     } else {
-        assert_eq!(rt; found, Ok(at != 22 && at != 23), "at {at}");
-        let body = body_of(rt, alloc, &bytes);
-        assert!(rt; body.as_slice() == &bytes[20..61], "at {at}");
+        assert!(rt; found == Ok(at != 22 && at != 23), "at {at}");
+        let body = body_in(rt, alloc, bytes);
+        assert!(rt; bytes.get(20..61) == Some(body.as_slice()), "at {at}");
     }
+}
+
+/// So it is where the last bit of this byte is turned.
+fn check_changed(rt: &impl Abort, alloc: Global, at: usize) {
+    let byte = ONE.get(at).expect(rt, "a byte");
+    let bytes = changed(rt, alloc, &ONE, at, *byte ^ 1);
+    check_bytes(rt, alloc, &bytes, at);
 }
 
 #[test]

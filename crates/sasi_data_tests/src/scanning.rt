@@ -1,15 +1,16 @@
 // A data file of many partitions, seven of a token, that is scanned and searched.
 ghost use Rattle.std.specs.Prelude.{◌≡◌};
-ghost use Rattle.sasi_host.specs.Buffered.{IsBuffered};
 ghost use Rattle.sasi_host.specs.Memory.{host_view, seen};
+ghost use Rattle.sasi_data_tests.specs.Scan.{IsScanOf};
 ghost use Rattle.sasi_data_tests.specs.declared.fixture.TheConstants.{DATA};
 
-use crate::fixture::{DATA, begin, push};
+use crate::fixture::{DATA, write_bodies};
 use crate::reading::{find, open_whole};
+use sasi_cells::Partition;
 use sasi_dataread::{DataFile, Walk};
 use sasi_datawrite::NoWatch;
 use sasi_host::{Direct, MemHost};
-use sasi_types::Token;
+use sasi_types::{Key, Token};
 use std::alloc::Global;
 use std::process::Abort;
 
@@ -23,57 +24,66 @@ fn nth_token(k: u16) -> Token {
 
 // The eight bytes of its token, and a letter.
 fn nth_key(k: u16) -> [u8; 9] {
-    let [a, b, c, d, e, f, g, h] = nth_token(k).to_be_bytes();
-    [a, b, c, d, e, f, g, h, b'a' + (k % 7) as u8]
+    let mut key = [b'a' + (k % 7) as u8; 9];
+    key[..8].copy_from_slice(&nth_token(k).to_be_bytes());
+    key
 }
 
 // The body of a partition with this key, in which there is a deletion alone.
 fn nth_body(k: u16) -> [u8; 21] {
-    let [a, b, c, d, e, f, g, h, letter] = nth_key(k);
-    let [p, q, r, s, t, u, v, w] = (u64::from(k) + 1).to_be_bytes();
-    [
-        0, 9, a, b, c, d, e, f, g, h, letter, p, q, r, s, t, u, v, w, 0, 0,
-    ]
+    let mut body = [0; 21];
+    body[1] = 9;
+    body[2..11].copy_from_slice(&nth_key(k));
+    body[11..19].copy_from_slice(&(u64::from(k) + 1).to_be_bytes());
+    body
+}
+
+fn all_bodies(rt: &impl Abort, alloc: Global) -> Vec<Vec<u8>> {
+    let mut bodies = Vec::new(alloc);
+    for k in 0..COUNT {
+        let body = nth_body(k).as_slice().to_vec(alloc);
+        bodies
+            .push(body.expect(rt, "memory for a body"))
+            .expect(rt, "memory for a body");
+    }
+    bodies
 }
 
 /// A host with the file.
 fn written(rt: &impl Abort, alloc: Global) -> MemHost {
     let mut host = MemHost::new(alloc);
-    write_all(rt, alloc, &mut host);
+    let bodies = all_bodies(rt, alloc);
+    write_bodies(rt, alloc, &mut host, &mut NoWatch, &bodies);
     host
 }
 
-fn write_all(rt: &impl Abort, alloc: Global, host: &mut MemHost) {
-    let mut writer = begin(rt, alloc, host);
-    let mut last = push(rt, alloc, host, &mut NoWatch, &mut writer, 0, &nth_body(0));
-    for k in 1..COUNT {
-        last = push(
-            rt,
-            alloc,
-            host,
-            &mut NoWatch,
-            &mut writer,
-            last,
-            &nth_body(k),
-        );
-    }
-    writer.finish(host).expect(rt, "finished");
+/// The next partition of a scan.
+fn next(
+    rt: &impl Abort,
+    alloc: Global,
+    host: &mut MemHost,
+    scan: &mut Walk,
+) -> Option<(Token, Key, Partition)>
+    requires { IsScanOf (host_view (seen host.old)) scan.old DATA }
+    ensures { IsScanOf (host_view (seen host.new)) scan.new DATA }
+{
+    assert!(rt; host.bytes(DATA).is_some());
+    scan.next(alloc, host, &mut Direct).expect(rt, "read")
+}
+
+/// The partition is this one.
+fn check_nth(rt: &impl Abort, token: Token, key: &Key, part: &Partition, k: u16) {
+    assert!(rt; (token, part.deleted()) == (nth_token(k), u64::from(k) + 1));
+    assert!(rt; key.bytes() == nth_key(k).as_slice());
 }
 
 /// The next partition of a scan is this one.
 fn check_next(rt: &impl Abort, alloc: Global, host: &mut MemHost, scan: &mut Walk, k: u16)
-    requires file { scan.old.opened.file ≡ DATA }
-    requires pairs_buffered { IsBuffered scan.old.pairs_buffered (host_view (seen host.old)).files }
-    requires buffered { IsBuffered scan.old.buffered (host_view (seen host.old)).files }
-    ensures file { scan.new.opened.file ≡ DATA }
-    ensures pairs_buffered { IsBuffered scan.new.pairs_buffered (host_view (seen host.new)).files }
-    ensures buffered { IsBuffered scan.new.buffered (host_view (seen host.new)).files }
+    requires { IsScanOf (host_view (seen host.old)) scan.old DATA }
+    ensures { IsScanOf (host_view (seen host.new)) scan.new DATA }
 {
-    assert!(rt; host.bytes(DATA).is_some());
-    let next = scan.next(alloc, host, &mut Direct).expect(rt, "read");
-    let (token, key, part) = next.expect(rt, "a partition");
-    assert!(rt; (token, part.deleted()) == (nth_token(k), u64::from(k) + 1));
-    assert!(rt; key.bytes() == nth_key(k).as_slice());
+    let (token, key, part) = next(rt, alloc, host, scan).expect(rt, "a partition");
+    check_nth(rt, token, &key, &part, k);
 }
 
 /// A scan gives the partitions in order, and then none.
@@ -84,9 +94,7 @@ fn check_scan(rt: &impl Abort, alloc: Global, host: &mut MemHost, opened: &DataF
     for k in 0..COUNT {
         check_next(rt, alloc, host, &mut scan, k);
     }
-    assert!(rt; host.bytes(DATA).is_some());
-    let next = scan.next(alloc, host, &mut Direct).expect(rt, "read");
-    assert!(rt; next.is_none());
+    assert!(rt; next(rt, alloc, host, &mut scan).is_none());
 }
 
 #[test]
@@ -94,11 +102,27 @@ fn scan_reads_each_page_once(rt: HostRuntime) {
     let alloc = rt.alloc();
     let mut host = written(&rt, alloc);
     let data = open_whole(&rt, alloc, &mut host);
-    assert_eq!(rt; (data.partitions(), data.max_timestamp()), (300, 300));
+    assert!(rt; (data.partitions(), data.max_timestamp()) == (300, 300));
     // The header and the footer lie on two pages, the partitions on two, and the leaves of the key tree on three.
-    assert_eq!(rt; host.reads(), 2);
+    assert!(rt; host.reads() == 2);
     check_scan(&rt, alloc, &mut host, &data);
-    assert_eq!(rt; host.reads(), 7);
+    assert!(rt; host.reads() == 7);
+}
+
+/// Whether the file has the key.
+fn check_find(
+    rt: &impl Abort,
+    alloc: Global,
+    host: &mut MemHost,
+    opened: &DataFile,
+    token: Token,
+    key: &[u8],
+    is_there: bool,
+)
+    requires { opened.now.file ≡ DATA }
+{
+    let found = find(rt, alloc, host, opened, token, key);
+    assert!(rt; found == Ok(is_there), "at {token}");
 }
 
 /// The key is found, and neither a longer one of its token nor one of the token below.
@@ -106,15 +130,21 @@ fn check_key(rt: &impl Abort, alloc: Global, host: &mut MemHost, opened: &DataFi
     requires { opened.now.file ≡ DATA }
 {
     let token = nth_token(k);
-    let [a, b, c, d, e, f, g, h, letter] = nth_key(k);
-    let longer = [a, b, c, d, e, f, g, h, letter, 0];
-    let lower = [a, b, c, d, e, f, g, h.wrapping_sub(1), letter];
-    let there = find(rt, alloc, host, opened, token, &nth_key(k));
-    let behind = find(rt, alloc, host, opened, token, &longer);
-    let below = find(rt, alloc, host, opened, token.wrapping_sub(1), &lower);
-    assert!(rt;
-        (there, behind, below) == (Ok(true), Ok(false), Ok(false)),
-        "at {k}"
+    let key = nth_key(k);
+    let mut longer = [0; 10];
+    longer[..9].copy_from_slice(&key);
+    let mut lower = key;
+    lower[7] = lower[7].wrapping_sub(1);
+    check_find(rt, alloc, host, opened, token, &key, true);
+    check_find(rt, alloc, host, opened, token, &longer, false);
+    check_find(
+        rt,
+        alloc,
+        host,
+        opened,
+        token.wrapping_sub(1),
+        &lower,
+        false,
     );
 }
 
@@ -126,6 +156,5 @@ fn keys_of_shared_tokens_are_found(rt: HostRuntime) {
     for k in 0..COUNT {
         check_key(&rt, alloc, &mut host, &data, k);
     }
-    let last = find(&rt, alloc, &mut host, &data, u64::MAX, &[0xff; 8]);
-    assert_eq!(rt; last, Ok(false));
+    check_find(&rt, alloc, &mut host, &data, u64::MAX, &[0xff; 8], false);
 }

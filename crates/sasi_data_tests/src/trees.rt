@@ -4,6 +4,7 @@ ghost use Rattle.sasi_host.specs.Buffered.{IsBuffered};
 ghost use Rattle.sasi_host.specs.Memory.{host_view, seen as seen_of};
 ghost use Rattle.sasi_data_tests.specs.declared.tree_fixture.TheConstants.{FILE};
 
+use crate::fixture::changed;
 use crate::tree_fixture::{FILE, host_of, nth_pair, pairs_of, two_leaves, write_tree};
 use sasi_host::{Damage, Direct, FormatRule, MemHost, ReadFault, Seen};
 use sasi_tokentree::{Pair, Tree, TreeRef};
@@ -41,47 +42,52 @@ fn two_leaves_lie_below_a_root(rt: HostRuntime) {
     assert!(rt; has_at(&bytes, 4112, &root));
 }
 
-/// The next pair of the tree is this one.
-fn check_next(rt: &impl Abort, host: &mut MemHost, reader: &mut Tree, pair: Option<Pair>)
+/// The next pair of a reader.
+fn next(rt: &impl Abort, host: &mut MemHost, reader: &mut Tree) -> Option<Pair>
     requires file { reader.old.buffered.file ≡ FILE }
     requires buffered { IsBuffered reader.old.buffered (host_view (seen_of host.old)).files }
     ensures file { reader.new.buffered.file ≡ FILE }
     ensures buffered { IsBuffered reader.new.buffered (host_view (seen_of host.new)).files }
 {
     assert!(rt; host.bytes(FILE).is_some());
-    assert!(rt; reader.next(host, &mut Direct).expect(rt, "read") == pair);
+    reader.next(host, &mut Direct).expect(rt, "read")
 }
 
 /// A reader gives the pairs in order, and then none.
 fn check_pairs(rt: &impl Abort, host: &mut MemHost, tree: TreeRef, step: u64) {
     let mut reader = Tree::new(FILE, tree);
     for k in 0..tree.pairs {
-        check_next(rt, host, &mut reader, Some(nth_pair(k, step)));
+        assert!(rt; next(rt, host, &mut reader) == Some(nth_pair(k, step)));
     }
-    check_next(rt, host, &mut reader, None);
+    assert!(rt; next(rt, host, &mut reader).is_none());
 }
 
 // A tree: its offset, how many pairs it has, and the step of their tokens.
 type Shape = (usize, u64, u64);
 
+/// The bytes of the tree are so many, with this checksum.
+fn check_bytes(rt: &impl Abort, host: &MemHost, at: usize, size: usize, sum: u64) {
+    let written = host.bytes(FILE).expect(rt, "a file");
+    let bytes = written.get(at..).expect(rt, "a tree");
+    assert!(rt; bytes.len() == size);
+    assert!(rt; checksum(bytes) == sum);
+}
+
 /// The tree has so many bytes, this root and this checksum, and a scan of it reads so many pages.
 fn check_tree(
     rt: &impl Abort,
     alloc: Global,
-    shape: Shape,
-    size: (usize, u64),
+    (at, count, step): Shape,
+    (size, root): (usize, u64),
     sum: u64,
     pages: u64,
 ) {
-    let (at, count, step) = shape;
     let mut host = MemHost::new(alloc);
     let tree = write_tree(rt, alloc, &mut host, at, &pairs_of(rt, alloc, count, step));
-    let written = host.bytes(FILE).expect(rt, "a file");
-    let bytes = written.get(at..).expect(rt, "a tree");
-    assert!(rt; (bytes.len(), tree.root, tree.pairs) == (size.0, size.1, count));
-    assert_eq!(rt; checksum(bytes), sum);
+    assert!(rt; (tree.root, tree.pairs) == (root, count));
+    check_bytes(rt, &host, at, size, sum);
     check_pairs(rt, &mut host, tree, step);
-    assert_eq!(rt; host.reads(), pages);
+    assert!(rt; host.reads() == pages);
 }
 
 #[test]
@@ -131,8 +137,8 @@ fn check_seek(
 ) {
     let mut host = MemHost::new(alloc);
     let tree = write_tree(rt, alloc, &mut host, 0, &pairs_of(rt, alloc, count, step));
-    let found = seek(rt, &mut host, tree, token);
-    assert_eq!(rt; found, Ok(index.map(|k| nth_pair(k, step))));
+    let pair = index.map(|k| nth_pair(k, step));
+    assert!(rt; seek(rt, &mut host, tree, token) == Ok(pair), "at {token}");
 }
 
 #[test]
@@ -178,10 +184,12 @@ fn damage(at: u64, rule: FormatRule, bytes: [u8; 8], len: u8) -> Damage {
 
 /// With this byte changed, the tree of two leaves has this damage.
 fn check_changed(rt: &impl Abort, alloc: Global, offset: usize, byte: u8, damage: Damage) {
-    let (mut bytes, tree) = two_leaves(rt, alloc);
-    *bytes.get_mut(offset).expect(rt, "a byte") = byte;
-    let mut host = host_of(rt, alloc, &bytes);
-    assert_eq!(rt; seek(rt, &mut host, tree, 400), Err(damage));
+    let (bytes, tree) = two_leaves(rt, alloc);
+    let mut host = host_of(rt, alloc, &changed(rt, alloc, &bytes, offset, byte));
+    assert!(rt;
+        seek(rt, &mut host, tree, 400) == Err(damage),
+        "at {offset}"
+    );
 }
 
 #[test]
@@ -238,10 +246,9 @@ fn damage_is_reported(rt: HostRuntime) {
 #[test]
 fn cut_tree_is_too_short(rt: HostRuntime) {
     let alloc = rt.alloc();
-    let (mut bytes, tree) = two_leaves(&rt, alloc);
-    bytes.truncate(4151);
-    let mut cut = host_of(&rt, alloc, &bytes);
+    let (bytes, tree) = two_leaves(&rt, alloc);
+    let mut cut = host_of(&rt, alloc, bytes.get(..4151).expect(&rt, "a front"));
     let short = damage(4151, FormatRule::Short, [0, 0, 0, 0, 0, 0, 16, 55], 8);
-    assert_eq!(rt; seek(&rt, &mut cut, tree, 400), Err(short));
-    assert_eq!(rt; cut.reads(), 1);
+    assert!(rt; seek(&rt, &mut cut, tree, 400) == Err(short));
+    assert!(rt; cut.reads() == 1);
 }

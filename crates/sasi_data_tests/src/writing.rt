@@ -1,8 +1,8 @@
 // Data files: their bytes, and the calls that an observer gets.
-use crate::fixture::{DATA, INSERTED, ONE, TOKEN, begin, push};
+use crate::fixture::{DATA, INSERTED, ONE, TOKEN, bodies_of, write_bodies};
 use sasi_datawrite::{DataRef, FlushObserver, NoWatch};
 use sasi_host::MemHost;
-use sasi_types::{Cell, KitFault, Token};
+use sasi_types::{Cell, KitFault, Partitioner, Token};
 use std::alloc::{AllocError, Global};
 use std::process::Abort;
 
@@ -103,55 +103,40 @@ impl FlushObserver for Recorder {
     }
 }
 
-/// Writes one partition, whose token is known.
-fn write_one(rt: &impl Abort, alloc: Global, host: &mut MemHost) -> DataRef {
-    let mut writer = begin(rt, alloc, host);
-    let last = push(rt, alloc, host, &mut NoWatch, &mut writer, 0, &INSERTED);
-    assert!(rt; last == TOKEN);
-    writer.finish(host).expect(rt, "finished")
+/// A data file of these partitions has these bytes, and a reference with their count and the largest timestamp.
+fn check_file<O: FlushObserver>(
+    rt: &impl Abort,
+    alloc: Global,
+    watch: &mut O,
+    bodies: &[&[u8]],
+    greatest: u64,
+    bytes: &[u8],
+) {
+    let mut host = MemHost::new(alloc);
+    let data = write_bodies(rt, alloc, &mut host, watch, &bodies_of(rt, alloc, bodies));
+    let expected = DataRef {
+        number: 7,
+        partitions: bodies.len() as u64,
+        greatest,
+    };
+    assert!(rt; data == expected);
+    assert!(rt; host.bytes(DATA) == Some(bytes));
 }
 
 #[test]
 fn one_partition_has_these_bytes(rt: HostRuntime) {
-    let mut host = MemHost::new(rt.alloc());
-    let written = DataRef {
-        number: 7,
-        partitions: 1,
-        greatest: 5,
-    };
-    assert_eq!(rt; write_one(&rt, rt.alloc(), &mut host), written);
-    assert_eq!(rt; host.bytes(DATA).expect(&rt, "a file"), ONE.as_slice());
-}
-
-/// Writes the three partitions.
-fn write_three<O: FlushObserver>(
-    rt: &impl Abort,
-    alloc: Global,
-    host: &mut MemHost,
-    watch: &mut O,
-) -> DataRef {
-    let mut writer = begin(rt, alloc, host);
-    let last = push(rt, alloc, host, watch, &mut writer, 0, &FIRST);
-    let last = push(rt, alloc, host, watch, &mut writer, last, &SECOND);
-    push(rt, alloc, host, watch, &mut writer, last, &THIRD);
-    writer.finish(host).expect(rt, "finished")
+    assert!(rt; Partitioner::Lead8.token(b"k1") == TOKEN);
+    check_file(&rt, rt.alloc(), &mut NoWatch, &[&INSERTED], 5, &ONE);
 }
 
 #[test]
 fn three_partitions_have_these_bytes_and_are_observed(rt: HostRuntime) {
     let alloc = rt.alloc();
-    let mut host = MemHost::new(alloc);
     let mut watch = Recorder {
         calls: Vec::new(alloc),
     };
-    let data = write_three(&rt, alloc, &mut host, &mut watch);
+    let bodies: [&[u8]; 3] = [&FIRST, &SECOND, &THIRD];
+    check_file(&rt, alloc, &mut watch, &bodies, 9, &THREE);
     watch.complete().expect(&rt, "completed");
-    let written = DataRef {
-        number: 7,
-        partitions: 3,
-        greatest: 9,
-    };
-    assert_eq!(rt; data, written);
-    assert_eq!(rt; host.bytes(DATA).expect(&rt, "a file"), THREE.as_slice());
-    assert_eq!(rt; watch.calls.as_slice(), CALLS.as_slice());
+    assert!(rt; watch.calls.as_slice() == CALLS.as_slice());
 }

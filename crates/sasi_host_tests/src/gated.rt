@@ -1,4 +1,8 @@
 // A log of records: its bytes, what is read of each front of it and of damaged ones, and what a crash leaves of it.
+ghost use Rattle.std.specs.Prelude.{◌+◌, IsTrue};
+ghost use Rattle.sasi_host.specs.View.{Reaches};
+ghost use Rattle.sasi_host.specs.Memory.{host_view, seen};
+
 use sasi_gated::{Gated, Record};
 use sasi_host::{
     BytePick, Damage, FileName, FormatRule, Kind, MemHost, NamePick, Pick, ReadFault, Seen,
@@ -59,6 +63,22 @@ fn next(
     }
 }
 
+/// Appends the payload of the next record to a list, unless it is damaged; false is the log's end.
+fn take_next(
+    rt: &impl Abort,
+    alloc: Global,
+    host: &mut MemHost,
+    gated: &mut Gated,
+    records: &mut Vec<Vec<u8>>,
+) -> Result<bool, Damage> {
+    let mut out = Vec::new(alloc);
+    let more = next(rt, host, gated, &mut out)?;
+    if more {
+        records.push(out).expect(rt, "memory");
+    }
+    Ok(more)
+}
+
 /// Appends the payloads of the log's records to a list, up to its end or to damage.
 fn read_into(
     rt: &impl Abort,
@@ -68,11 +88,9 @@ fn read_into(
 ) -> Result<(), Damage> {
     let mut gated = open(rt, host)?;
     for _turn in 0..4 {
-        let mut out = Vec::new(alloc);
-        if !next(rt, host, &mut gated, &mut out)? {
+        if !take_next(rt, alloc, host, &mut gated, records)? {
             break;
         }
-        records.push(out).expect(rt, "memory");
     }
     Ok(())
 }
@@ -90,15 +108,31 @@ fn read_log(rt: &impl Abort, alloc: Global, host: &mut MemHost) -> Read {
     Read { records, damage }
 }
 
+/// Makes the log with one record.
+fn create_log(rt: &impl Abort, alloc: Global, host: &mut MemHost, first: Option<&Record>) -> Gated
+    ensures room { Reaches (host_view (seen host.new)) result.file (result.at + 1) }
+    ensures usable { IsTrue result.usable }
+{
+    assert!(rt; host.bytes(LOG).is_none());
+    Gated::create(alloc, host, LOG, first).expect(rt, "a log")
+}
+
+/// Appends a record with this payload.
+fn append(rt: &impl Abort, alloc: Global, host: &mut MemHost, gated: &mut Gated, payload: &[u8])
+    requires room { Reaches (host_view (seen host.old)) gated.old.file (gated.old.at + 1) }
+    requires usable { IsTrue gated.old.usable }
+    ensures room { Reaches (host_view (seen host.new)) gated.new.file (gated.new.at + 1) }
+    ensures usable { IsTrue gated.new.usable }
+{
+    let record = record(rt, alloc, payload);
+    gated.append(host, &record).expect(rt, "an append");
+}
+
 /// Makes the log: one record with the file, and two appended.
 fn write_log(rt: &impl Abort, alloc: Global, host: &mut MemHost) {
-    let first = record(rt, alloc, b"a");
-    assert!(rt; host.bytes(LOG).is_none());
-    let mut gated = Gated::create(alloc, host, LOG, Some(&first)).expect(rt, "a log");
-    let second = record(rt, alloc, b"bc");
-    gated.append(host, &second).expect(rt, "an append");
-    let third = record(rt, alloc, b"def");
-    gated.append(host, &third).expect(rt, "an append");
+    let mut gated = create_log(rt, alloc, host, Some(&record(rt, alloc, b"a")));
+    append(rt, alloc, host, &mut gated, b"bc");
+    append(rt, alloc, host, &mut gated, b"def");
 }
 
 #[test]
@@ -130,16 +164,21 @@ fn damage_of_front(size: usize) -> Option<Damage> {
     })
 }
 
+/// Whether these are the first payloads of a list.
+fn are_first(records: &[Vec<u8>], payloads: &[&[u8]]) -> bool {
+    records
+        .iter()
+        .zip(payloads.iter())
+        .all(|(record, payload)| record.as_slice() == *payload)
+}
+
 /// The front of so many bytes gives the records that end in it.
 fn check_front(rt: &impl Abort, alloc: Global, size: usize) {
-    assert!(rt; size <= BYTES.len());
-    let mut host = host_with(rt, alloc, &BYTES[..size]);
-    let read = read_log(rt, alloc, &mut host);
+    let front = BYTES.get(..size).expect(rt, "a front");
+    let read = read_log(rt, alloc, &mut host_with(rt, alloc, front));
     let whole = ENDS.iter().filter(|end| **end <= size).count();
     assert!(rt; read.records.len() == whole);
-    for (record, payload) in read.records.iter().zip(PAYLOADS) {
-        assert!(rt; record.as_slice() == payload);
-    }
+    assert!(rt; are_first(&read.records, &PAYLOADS));
     assert!(rt; read.damage == damage_of_front(size));
 }
 
@@ -168,7 +207,7 @@ const DAMAGES: [(usize, u8, u64, FormatRule, [u8; 8], u8); 5] = [
 
 /// The log shows this damage where this byte of it differs.
 fn check_damage(rt: &impl Abort, alloc: Global, index: usize, byte: u8, damage: Damage) {
-    let mut bytes = BYTES;
+    let mut bytes = BYTES.as_slice().to_vec(alloc).expect(rt, "memory");
     *bytes.get_mut(index).expect(rt, "a byte") = byte;
     let mut host = host_with(rt, alloc, &bytes);
     assert!(rt; read_log(rt, alloc, &mut host).damage == Some(damage));
@@ -215,21 +254,27 @@ const PAYLOAD_ONE: &[u8] = b"one";
 
 const PAYLOAD_TWO: &[u8] = b"two, longer";
 
+/// Appends two records to a log, up to the first fault: how many were appended.
+fn append_two(rt: &impl Abort, alloc: Global, host: &mut MemHost, gated: &mut Gated) -> usize
+    requires room { Reaches (host_view (seen host.old)) gated.old.file (gated.old.at + 1) }
+    requires usable { IsTrue gated.old.usable }
+{
+    if gated.append(host, &record(rt, alloc, PAYLOAD_ONE)).is_err() {
+        return 0;
+    }
+    if gated.append(host, &record(rt, alloc, PAYLOAD_TWO)).is_err() {
+        return 1;
+    }
+    2
+}
+
 /// Makes a log and appends two records, up to the first fault: how many were appended, if the log was made.
 fn appended(rt: &impl Abort, alloc: Global, host: &mut MemHost) -> Option<usize> {
     assert!(rt; host.bytes(LOG).is_none());
-    let Ok(mut gated) = Gated::create(alloc, host, LOG, None) else {
-        return None;
-    };
-    let first = record(rt, alloc, PAYLOAD_ONE);
-    if gated.append(host, &first).is_err() {
-        return Some(0);
+    match Gated::create(alloc, host, LOG, None) {
+        Ok(mut gated) => Some(append_two(rt, alloc, host, &mut gated)),
+        Err(_) => None,
     }
-    let second = record(rt, alloc, PAYLOAD_TWO);
-    if gated.append(host, &second).is_err() {
-        return Some(1);
-    }
-    Some(2)
 }
 
 const NAME_PICKS: [NamePick; 2] = [NamePick::AsNow, NamePick::AsSynced];
@@ -241,22 +286,20 @@ const BYTE_PICKS: [BytePick; 4] = [
     BytePick::Ones,
 ];
 
-/// Whether a crash may leave this: after so many appends, the records of these and perhaps the one that was under way.
-fn is_allowed(rt: &impl Abort, alloc: Global, left: &mut MemHost, made: Option<usize>) -> bool {
-    let Some(count) = made else {
-        return true;
-    };
-    if left.bytes(LOG).is_none() {
-        return false;
-    }
+/// Whether a crash may leave this after so many appends: the records of these, and perhaps the one that was under way.
+fn has_appended(rt: &impl Abort, alloc: Global, left: &mut MemHost, count: usize) -> bool {
     let read = read_log(rt, alloc, left);
     let size = read.records.len();
-    let same = read
-        .records
-        .iter()
-        .zip([PAYLOAD_ONE, PAYLOAD_TWO])
-        .all(|(record, payload)| record.as_slice() == payload);
-    read.damage.is_none() && same && count <= size && size - count <= 1 && size <= 2
+    assert!(rt; read.damage.is_none() && size <= 2);
+    count <= size && size - count <= 1 && are_first(&read.records, &[PAYLOAD_ONE, PAYLOAD_TWO])
+}
+
+/// Whether a crash may leave this, where the log was made and so many records were appended.
+fn is_allowed(rt: &impl Abort, alloc: Global, left: &mut MemHost, made: Option<usize>) -> bool {
+    match made {
+        Some(count) => left.bytes(LOG).is_some() && has_appended(rt, alloc, left, count),
+        None => true,
+    }
 }
 
 /// A host on which a log was made and appended to, up to this stop.
