@@ -1,6 +1,8 @@
 // A script file as a source.
-ghost use Rattle.std.specs.Prelude.{None};
+ghost use Rattle.std.specs.Prelude.{◌≡◌, IsErr, IfOk};
 ghost use Rattle.std.specs.Io.{ReadsAtMost};
+ghost use Rattle.sasi_host.specs.View.{SourceCauses};
+ghost use Rattle.sasi_filehost.specs.RealFiles.{source_told, IsUnopened};
 
 use sasi_host::{Failed, Source};
 use std::alloc::AllocError;
@@ -16,7 +18,9 @@ pub struct FileSource {
 
 impl FileSource {
     /// The script at this path. If it can't be opened, each read fails.
-    pub fn at(rt: HostRuntime, path: &str) -> Result<FileSource, AllocError> {
+    pub fn at(rt: HostRuntime, path: &str) -> Result<FileSource, AllocError>
+        ensures { IfOk result (λ source. (source_told source).faults ≡ 0) }
+    {
         Ok(FileSource {
             file: fs::open(&rt, path).ok(),
             faults: 0,
@@ -25,9 +29,13 @@ impl FileSource {
 }
 
 impl Source for FileSource {
-    ghost view = { λ s. record { left = None; faults = s.faults } };
+    ghost view = { source_told };
 
-    fn read(&mut self, buf: &mut [u8]) -> Result<usize, Failed> {
+    fn read(&mut self, buf: &mut [u8]) -> Result<usize, Failed>
+        ensures bound { ReadsAtMost result buf.new }
+        ensures causes { SourceCauses (source_told self.old) (source_told self.new) result }
+        ensures unopened { IsUnopened self.old → IsErr result × IsUnopened self.new }
+    {
         if let Some(file) = &mut self.file {
             if let Ok(count) = read_again(file, buf) {
                 return Ok(count);

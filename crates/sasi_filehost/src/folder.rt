@@ -5,19 +5,20 @@ ghost use Rattle.sasi_host.specs.Names.{name_cmp};
 
 use crate::name_text::MAX_NAME_LENGTH;
 use crate::open_files::OpenFiles;
+use crate::opening::open_folder;
+use crate::reading::fill_at;
 use crate::{NameText, parse_name};
 use sasi_host::{FileName, HostFault};
 use std::alloc::{AllocError, Global};
 use std::collections::BTreeSet;
 use std::fs::OpenOptions;
 use std::os::unix::fs::FileExt;
-use std::path::Path;
 use std::{fs, io};
 
 // No file has more bytes.
 const MAX_FILE_SIZE: u64 = 1 << 62;
 
-/// A folder with the files of it that are open.
+/// A folder that could be opened, with the files of it that are open.
 #[derive(Drop)]
 pub struct Folder {
     rt: HostRuntime,
@@ -25,62 +26,33 @@ pub struct Folder {
     folder: String,
     // A buffer with capacity for the path of any file in it.
     path: String,
-    // The folder itself, if it could be opened.
-    opened: Option<fs::File>,
+    // The folder itself.
+    names: fs::File,
     written: OpenFiles,
     read: OpenFiles,
-    durability: Durability,
-}
-
-// Whether what was written can still be made durable: after a sync that failed, the system may have dropped bytes, and a
-// later sync wouldn't say so.
-#[derive(Clone, Copy, Debug, PartialEq, Eq)]
-enum Durability {
-    Possible,
-    Lost,
-}
-
-// Makes the folder if it is missing, and opens it. A new folder is synced into the one that it is in.
-fn open_folder(rt: &HostRuntime, path: &str) -> io::Result<fs::File> {
-    match fs::create_dir(rt, path) {
-        Ok(()) => match Path::new(path).parent() {
-            Some(parent) => sync_parent(rt, parent)?,
-            None => {}
-        },
-        Err(error) if error.kind() == io::ErrorKind::AlreadyExists => {}
-        Err(error) => return Err(error),
-    }
-    fs::open(rt, path)
-}
-
-// Syncs the folder that a new folder is in.
-fn sync_parent(rt: &HostRuntime, parent: Path<'_>) -> io::Result<()> {
-    let parent = if parent.as_str().is_empty() {
-        "."
-    } else {
-        parent.as_str()
-    };
-    fs::File::open(rt, parent)?.sync_all()
 }
 
 impl Folder {
-    /// The folder at this path, with room for the path of any file in it.
-    pub fn at(rt: HostRuntime, path: &str) -> Result<Folder, AllocError> {
+    /// The folder at this path, with room for the path of any file in it; None where it can't be opened.
+    pub fn at(rt: HostRuntime, path: &str) -> Result<Option<Folder>, AllocError> {
         let alloc = rt.alloc();
         let mut folder = String::from_str(alloc, path)?;
         folder.push('/')?;
+        // Dots in the path or a symlink don't lead this to another folder.
+        let parent = format!(in alloc; "{folder}..")?;
         let room = folder.len().saturating_add(MAX_NAME_LENGTH);
         let path = String::with_capacity(alloc, room)?;
-        let opened = open_folder(&rt, folder.as_str()).ok();
-        Ok(Folder {
-            rt,
-            folder,
-            path,
-            opened,
-            written: OpenFiles::new(),
-            read: OpenFiles::new(),
-            durability: Durability::Possible,
-        })
+        match open_folder(&rt, folder.as_str(), parent.as_str()) {
+            Ok(names) => Ok(Some(Folder {
+                rt,
+                folder,
+                path,
+                names,
+                written: OpenFiles::new(),
+                read: OpenFiles::new(),
+            })),
+            Err(_) => Ok(None),
+        }
     }
 
     // Writes the path of a file into its buffer.
@@ -96,9 +68,6 @@ impl Folder {
 
     // Opens a file of the folder.
     fn open(&mut self, file: FileName, options: OpenOptions) -> io::Result<fs::File> {
-        if self.opened.is_none() {
-            return Err(io::ErrorKind::NotFound.into());
-        }
         self.set_path(file)?;
         options.open(&self.rt, self.path.as_str())
     }
@@ -160,7 +129,7 @@ impl Folder {
     pub fn read(&mut self, name: FileName, at: u64, buf: &mut [u8]) -> io::Result<usize>
         ensures { IfOk result (λ count. count ≤ length buf.old) }
     {
-        fill(self.open_to_read(name)?, at, buf)
+        fill_at(self.open_to_read(name)?, at, buf)
     }
 
     /// Makes an empty file.
@@ -186,8 +155,7 @@ impl Folder {
 
     /// Syncs a file's bytes and its length.
     pub fn sync(&mut self, name: FileName) -> io::Result<()> {
-        let answer = self.open_to_write(name)?.sync_data();
-        self.after_sync(answer)
+        self.open_to_write(name)?.sync_data()
     }
 
     /// Removes a file from the folder.
@@ -198,23 +166,8 @@ impl Folder {
     }
 
     /// Syncs the folder's names.
-    pub fn sync_names(&mut self) -> io::Result<()> {
-        let answer = match &self.opened {
-            Some(folder) => folder.sync_all(),
-            None => Err(io::ErrorKind::NotFound.into()),
-        };
-        self.after_sync(answer)
-    }
-
-    // The result of a sync; after one that failed, each later one fails too.
-    fn after_sync(&mut self, answer: io::Result<()>) -> io::Result<()> {
-        if answer.is_err() {
-            self.durability = Durability::Lost;
-        }
-        match self.durability {
-            Durability::Possible => answer,
-            Durability::Lost => Err(io::ErrorKind::Other.into()),
-        }
+    pub fn sync_names(&self) -> io::Result<()> {
+        self.names.sync_all()
     }
 }
 
@@ -240,23 +193,4 @@ fn in_order(names: &BTreeSet<FileName>, alloc: Global) -> Result<Vec<FileName>, 
 {
     let names = names.iter().copied().collect(alloc)?;
     Ok(names)
-}
-
-// Fills the buffer from this offset on, as far as the file reaches.
-fn fill(file: &fs::File, at: u64, buf: &mut [u8]) -> io::Result<usize>
-    ensures { IfOk result (λ count. count ≤ length buf.old) }
-{
-    let mut done = 0;
-    for _ in 0..u64::MAX {
-        if done == buf.len() {
-            break;
-        }
-        match file.read_at(&mut buf[done..], at.saturating_add(done as u64)) {
-            Ok(0) => break,
-            Ok(count) => done += count,
-            Err(error) if error.kind() == io::ErrorKind::Interrupted => {}
-            Err(error) => return Err(error),
-        }
-    }
-    Ok(done)
 }

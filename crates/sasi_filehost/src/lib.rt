@@ -1,5 +1,6 @@
 //! The host and the source of real files: a folder with the standard output, and a script file. The crate stands on
-//! sasi_host. It promises that each I/O error is counted, and nothing of what a real file holds.
+//! sasi_host. It promises that each I/O error is counted, that each call fails once a sync failed, and nothing of what a real
+//! file holds.
 #![tactic(auto)]
 
 mod file_host;
@@ -7,7 +8,11 @@ mod file_source;
 mod folder;
 mod name_text;
 mod open_files;
+mod opening;
+mod reading;
 
 pub use file_host::FileHost;
 pub use file_source::FileSource;
 pub use name_text::{NameText, parse_name};
+pub use opening::open_folder;
+pub use reading::fill_at;

@@ -11,3 +11,5 @@ mod files;
 mod gated;
 #[cfg(test)]
 mod memory;
+#[cfg(test)]
+mod real_files;
