@@ -13,7 +13,10 @@ use Rattle.sasi_model.specs.WellFormed.{IsWellFormed, IsWellFormedColumn}
 use Rattle.sasi_manifest.specs.declared.listing.Listing.{Listing}
 use Rattle.sasi_manifest.specs.Consistent.{IsConsistent}
 use Rattle.sasi_manifest.specs.ListedDefinition.{ListedDefinition}
-use Rattle.sasi_manifest.specs.Listings.{CanCreate, listed_definitions, listed_names}
+use Rattle.sasi_manifest.specs.declared.edit.Edit.TheVariants as edits
+use Rattle.sasi_manifest.specs.Edits.{Applies}
+use Rattle.sasi_manifest.specs.Listings.{listed_definitions, listed_names}
+use Rattle.sasi_manifest.proofs.Applying.{create_applies}
 use Rattle.sasi_manifest.specs.Naming.{AreApart, AreNames}
 
 -- ---- rules that don't apply
@@ -102,7 +105,7 @@ within_limit n limit is = grind (arith, nat_tests)
 
 -- **A table that a statement makes can be listed**, where what is listed are the tables of the state.
 pub can_create : (listing : Listing) (s : State) (table : List ℕ) (columns : List Column) (keys : List (List ℕ)) → IsConsistent listing → definitions s.tables ≡ listed_definitions listing.tables → IsWellFormed (CreateTable table columns keys)
-    → refusal s (CreateTable table columns keys) ≡ None → CanCreate listing (suc (length listing.tables)) table columns (key_position columns keys) listing.last
+    → refusal s (CreateTable table columns keys) ≡ None → Applies (Some listing) (edits.CreateTable (suc (length listing.tables)) table columns (key_position columns keys) listing.last)
 unfolding refusal
 can_create listing s table columns keys known same_tables written taken =
     let all = none_applies (create_rules (definitions s.tables) table columns keys) taken in
@@ -112,7 +115,7 @@ can_create listing s table columns keys known same_tables written taken =
     let count : length (definitions s.tables) ≡ length listing.tables = ap length same_tables ∙ length-map listing.tables (λ (t : ListedDefinition). t.definition) in
     let few = below_limit (length (definitions s.tables)) 256 repeated.1.1.0 in
     let free = free_of table (definitions s.tables) all.0 in
-    record {
+    create_applies listing (suc (length listing.tables)) table columns (key_position columns keys) listing.last (record {
       next = refl;
       few = omega (arith, few, count);
       name_fits = written.0;
@@ -125,4 +128,4 @@ can_create listing s table columns keys known same_tables written taken =
       since_some = omega (arith, known.start.floor_some, known.start.ordered);
       since_within = omega arith;
       since_fits = known.start.last_fits;
-    }
+    })

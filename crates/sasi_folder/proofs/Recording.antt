@@ -1,27 +1,25 @@
 -- What is recorded of a change fits the open store, and the store's parts belong together after it.
-use Rattle.std.specs.Prelude.{◌≡◌, ℕ, zero, suc, ◌+◌, ◌-◌, ◌*◌, ◌≤◌, ◌<◌, ◌^◌, true, false, nat_eq, List, [], ◌∷◌, ◌++◌, length, slice_get, Some, refl}
-use Rattle.std.proofs.Common.{sym, ap, subst, ◌∙◌, arith, length-append}
+use Rattle.std.specs.Prelude.{◌≡◌, ℕ, zero, suc, ◌+◌, ◌-◌, ◌≤◌, ◌<◌, ◌^◌, true, false, nat_eq, List, [], ◌∷◌, ◌++◌, length, slice_get, Some, refl}
+use Rattle.std.proofs.Common.{sym, ap, subst, ◌∙◌, arith}
 use Rattle.std.proofs.lemmas.Bool.Decides.{nat_tests}
 use Rattle.std.proofs.lemmas.List.{map-append}
-use Rattle.std.specs.Int.{to_be_bytes, w16, w32}
 use Rattle.sasi_types.specs.declared.decorated_key.DecoratedKey.{DecoratedKey}
 use Rattle.sasi_model.specs.Cells.{Partition}
 use Rattle.sasi_model.specs.State.{Column, Definition, State, Table, definitions}
 use Rattle.sasi_model.specs.Changes.{after_change, changed_behind, changed_tables, with_new_table}
-use Rattle.sasi_model.specs.Refusals.{names_in}
 use Rattle.sasi_model.specs.Stored.{IsBodyOf, types_of}
 use Rattle.sasi_gated.specs.Handles.{Handle}
 use Rattle.sasi_cells.specs.declared.mutation.Mutation.{Mutation}
 use Rattle.sasi_commitlog.specs.Format.{IsMutationOf, types_in}
 use Rattle.sasi_manifest.specs.declared.edit.Edit.TheVariants.{CreateTable}
 use Rattle.sasi_manifest.specs.declared.listing.Listing.{Listing}
-use Rattle.sasi_manifest.specs.Edits.{column_bytes, edits_bytes, encoded, encoded_length, name_bytes, type_code}
+use Rattle.sasi_manifest.specs.Edits.{Applies, encoded}
 use Rattle.sasi_manifest.specs.Format.{IsNext}
 use Rattle.sasi_manifest.specs.ListedDefinition.{ListedDefinition}
-use Rattle.sasi_manifest.specs.Listings.{CanCreate, created_table, listed_definitions}
-use Rattle.sasi_manifest.specs.Naming.{AreNames}
+use Rattle.sasi_manifest.specs.Listings.{created_table, listed_definitions}
 use Rattle.sasi_manifest.specs.OpenManifest.{ManifestState}
 use Rattle.sasi_manifest.specs.Types.{numbered_types}
+use Rattle.sasi_manifest.proofs.EditBytes.{create_short as short}
 use Rattle.sasi_folder.proofs.FolderChanges.{AddsTable}
 use Rattle.sasi_folder.specs.DurableStore.{BelongTogether}
 use Rattle.sasi_folder.specs.Stands.{types_listed}
@@ -72,35 +70,9 @@ adds_table listing next number name columns key since is = record {
   tables = cc;
 }
 
-name_length : (name : List ℕ) → length (name_bytes name) ≡ suc (length name)
-name_length name = refl
-
-columns_short : (columns : List Column) → AreNames (names_in columns) → length (column_bytes columns) ≤ 50 * length columns
-columns_short [] names = omega arith
-columns_short (c ∷ columns) names = omega (arith, names.0.short, columns_short columns names.1, length-append (name_bytes c.0) (type_code c.1 ∷ column_bytes columns))
-
 -- and is short
-pub create_short : (listing : Listing) (number : ℕ) (name : List ℕ) (columns : List Column) (key since : ℕ) → CanCreate listing number name columns key since → length (encoded (CreateTable number name columns key since ∷ [])) ≤ 2 ^ 30
-create_short listing number name columns key since can =
-    let at_end = to_be_bytes w16 key ++ to_be_bytes w32 since in
-    let with_columns = column_bytes columns ++ at_end in
-    let with_count = to_be_bytes w16 (length columns) ++ with_columns in
-    let with_name = name_bytes name ++ with_count in
-    let fields = to_be_bytes w32 number ++ with_name in
-    let end : length at_end ≡ 6 = refl in
-    let size : length fields ≤ 4000 = omega (
-      arith,
-      end,
-      can.name_fits.short,
-      can.few_columns,
-      columns_short columns can.column_names,
-      length-append (column_bytes columns) at_end,
-      length-append (to_be_bytes w16 (length columns)) with_columns,
-      length-append (name_bytes name) with_count,
-      length-append (to_be_bytes w32 number) with_name,
-    ) in
-    let body : length (edits_bytes (CreateTable number name columns key since ∷ [])) ≤ 4001 = omega (arith, size, length-append (2 ∷ fields) []) in
-    omega (arith, encoded_length (CreateTable number name columns key since ∷ []), body)
+pub create_short : (listing : Listing) (number : ℕ) (name : List ℕ) (columns : List Column) (key since : ℕ) → Applies (Some listing) (CreateTable number name columns key since) → length (encoded (CreateTable number name columns key since ∷ [])) ≤ 2 ^ 30
+create_short listing number name columns key since applies = omega (arith, short listing number name columns key since applies)
 
 -- ---- what belongs together afterwards
 

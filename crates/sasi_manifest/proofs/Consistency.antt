@@ -8,23 +8,30 @@ use Rattle.sasi_manifest.specs.declared.edit.Edit.TheVariants.{Start, CreateTabl
 use Rattle.sasi_manifest.specs.declared.listing.Listing.{Listing}
 use Rattle.sasi_manifest.specs.Format.{IsManifest, RecordsLeadTo}
 use Rattle.sasi_manifest.specs.ListedDefinition.{ListedDefinition}
-use Rattle.sasi_manifest.specs.Listings.{AllApply, Applies, after, after_all, with_record_counted}
+use Rattle.sasi_manifest.specs.Edits.{AllApply, Applies}
+use Rattle.sasi_manifest.specs.Listings.{after, after_all, with_record_counted}
 use Rattle.sasi_manifest.specs.Consistent.{ConsistentIf, IsConsistent}
+use Rattle.sasi_manifest.proofs.Applying.{applies_create, applies_start, no_create, no_start}
+use Rattle.sasi_manifest.proofs.Records.{ApplyInTurn, in_turn, record_applies}
 
 all_both : {A : Type 0} (P : A → Type 0) (xs ys : List A) → AllByRecursion P xs → AllByRecursion P ys → AllByRecursion P (xs ++ ys)
 all_both P [] ys first second = second
 all_both P (x ∷ xs) ys first second = (first.0, all_both P xs ys first.1 second)
 
 edit_consistent : (from : Option Listing) (edit : Edit) → Applies from edit → ConsistentIf from → ConsistentIf (after from edit)
-edit_consistent None (Start partitioner floor last) applies known = record { start = applies; since = tt }
-edit_consistent None (CreateTable number name columns key since) applies known = absurd applies
-edit_consistent (Some listing) (Start partitioner floor last) applies known = absurd applies
+edit_consistent None (Start p floor last) applies known = record { start = applies_start p floor last applies; since = tt }
+edit_consistent None (CreateTable number name columns key since) applies known = absurd (no_create number name columns key since applies)
+edit_consistent (Some listing) (Start p floor last) applies known = absurd (no_start listing p floor last applies)
 edit_consistent (Some listing) (CreateTable number name columns key since) applies known =
-    record { start = known.start; since = all_both (λ (t : ListedDefinition). t.since ≤ listing.last) listing.tables _ known.since (applies.since_within, tt) }
+    let can = applies_create listing number name columns key since applies in
+    record { start = known.start; since = all_both (λ (t : ListedDefinition). t.since ≤ listing.last) listing.tables _ known.since (can.since_within, tt) }
 
-edits_consistent : (from : Option Listing) (edits : List Edit) → AllApply from edits → ConsistentIf from → ConsistentIf (after_all from edits)
-edits_consistent from [] apply known = known
-edits_consistent from (edit ∷ edits) apply known = edits_consistent (after from edit) edits apply.1 (edit_consistent from edit apply.0 known)
+consistent_in_turn : (from : Option Listing) (es : List Edit) → ApplyInTurn from es → ConsistentIf from → ConsistentIf (after_all from es)
+consistent_in_turn from [] apply known = known
+consistent_in_turn from (e ∷ es) apply known = consistent_in_turn (after from e) es apply.1 (edit_consistent from e apply.0 known)
+
+edits_consistent : (from : Option Listing) (es : List Edit) → AllApply from es → ConsistentIf from → ConsistentIf (after_all from es)
+edits_consistent from es apply known = consistent_in_turn from es (in_turn from [] es apply) known
 
 counted_consistent : (payload : Bytes) (listed : Option Listing) → ConsistentIf listed → ConsistentIf (with_record_counted payload listed)
 counted_consistent payload None known = tt
@@ -39,7 +46,7 @@ leads_consistent : (from : Option Listing) (records : List Bytes) (to : Option L
 leads_consistent from [] to leads known = subst ConsistentIf leads known
 leads_consistent from (payload ∷ payloads) to (edits, is, more) known =
     leads_consistent (with_record_counted payload (after_all from edits)) payloads to more
-    (counted_consistent payload (after_all from edits) (edits_consistent from edits is.apply known))
+    (counted_consistent payload (after_all from edits) (edits_consistent from edits (record_applies from edits payload is).apply known))
 
 -- the listing of a manifest is consistent
 pub manifest_consistent : (number : ℕ) (bytes : Bytes) (listing : Listing) → IsManifest number bytes listing → IsConsistent listing

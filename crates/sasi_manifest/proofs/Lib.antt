@@ -1,11 +1,12 @@
+pub mod Applying
+pub mod EditBytes
+pub mod Sizes
 pub mod Consistency
-pub mod Carried
 pub mod Laws
-pub mod TextFaults
 pub mod Additions
-pub mod EditFaults
 pub mod KeyPositions
 pub mod Records
+pub mod Tagged
 pub mod CrashMoments
 pub mod Opening
 pub mod KeyWithin

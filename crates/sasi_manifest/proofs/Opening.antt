@@ -3,7 +3,6 @@ use Rattle.std.proofs.Common.{◌≡◌, ◌≤◌, ◌-◌, ◌+◌, ◌^◌, �
 use Rattle.std.proofs.lemmas.List.{append-nil}
 use Rattle.sasi_host.specs.declared.name.FileName.{FileName}
 use Rattle.sasi_host.specs.declared.damage.Damage.{Damage}
-use Rattle.sasi_host.specs.declared.damage.Seen.{Seen}
 use Rattle.sasi_host.specs.declared.damage.FormatRule.{FormatRule}
 use Rattle.sasi_host.specs.declared.damage.FormatRule.TheVariants.{Number}
 use Rattle.sasi_host.specs.declared.fault.ReadFault.{ReadFault}
@@ -24,60 +23,30 @@ use Rattle.sasi_host.specs.Damages.{OnDamage}
 use Rattle.sasi_gated.specs.Handles.{Handle}
 use Rattle.sasi_manifest.specs.declared.edit.Edit.{Edit}
 use Rattle.sasi_manifest.specs.declared.listing.Listing.{Listing}
-use Rattle.sasi_manifest.specs.declared.record_fault.RecordFault.{RecordFault}
-use Rattle.sasi_manifest.specs.declared.record_fault.RecordFault.TheVariants as record_fault
+use Rattle.sasi_formats.specs.Formats.{Encodes}
+use Rattle.sasi_formats.specs.Reader.{Short, Long, Broken}
+use Rattle.sasi_formats.specs.Whole.{IsShownBy}
+use Rattle.sasi_formats.specs.declared.fault.Broken.{Broken as ABroken}
+use Rattle.sasi_formats.specs.declared.fault.FormatFault.{FormatFault}
+use Rattle.sasi_formats.specs.declared.fault.FormatFault.TheVariants as format_fault
+use Rattle.sasi_formats.proofs.Offsets.{whole_within}
+use Rattle.sasi_manifest.specs.Edits.{edits}
 use Rattle.sasi_manifest.specs.Listings.{after_all, with_record_counted, length_of}
 use Rattle.sasi_manifest.proofs.Consistency.{record_consistent}
-use Rattle.sasi_manifest.specs.Format.{IsRecord, RecordsLeadTo}
-use Rattle.sasi_manifest.specs.Forms.{Form, number, text, too_great, ends, width_size, field_of, FormFault, NoEnd, Broken, BreaksForm, record_form, Width, One, Two, Four}
-use Rattle.sasi_manifest.specs.IsFormFault.{IsFormFault}
-use Rattle.sasi_manifest.specs.Damages.{IsManifestDamage, NoFalseManifestDamage}
+use Rattle.sasi_manifest.specs.Format.{RecordsLeadTo}
+use Rattle.sasi_manifest.specs.Damages.{IsLengthDamage, IsManifestDamage, NoFalseManifestDamage}
 use Rattle.sasi_manifest.proofs.Laws.{leads_on, manifest_undamaged}
 use Rattle.sasi_manifest.specs.Reading.{ReadingGoesOn, IsOffsetWithin, IsDamageOfRecord, ReadsWhole, ReadsListing, StandsWhereKept}
-use Rattle.sasi_manifest.proofs.Records.{sizes_stay, something_listed}
+use Rattle.sasi_manifest.proofs.Records.{record_applies, sizes_stay, something_listed}
 use Rattle.sasi_manifest.proofs.CrashMoments.{counted_sizes}
 
--- ---- where a finding lies
+-- ---- where a fault lies
 
-offset_of : FormFault → ℕ
-offset_of NoEnd = 0
-offset_of (Broken rule offset seen) = offset
-
-field_size : (width : Width) (stated : ℕ) → length (field_of width stated) ≡ width_size width
-field_size One stated = refl
-field_size Two stated = refl
-field_size Four stated = refl
-
-lacks_within : (form : Form) (at : ℕ) (bytes : Bytes) (found : FormFault) → BreaksForm form at bytes found → offset_of found ≤ at + length bytes
-unfolding offset_of
-lacks_within (number width least greatest next) at bytes found lacks =
-    ⊎_elim (λ short. omega (arith, ap offset_of short.1))
-    (λ stands. ⊎_elim (λ out. omega (arith, ap offset_of out.1))
-    (λ later. omega (
-      arith,
-      lacks_within (next stands.0) (at + width_size width) stands.1 found later.1,
-      ap length stands.2.is,
-      length-append
-          (field_of width stands.0) stands.1,
-      field_size width stands.0,
-    ))
-    stands.3)
-    lacks
-lacks_within (text size taken next) at bytes found lacks =
-    ⊎_elim (λ short. omega (arith, ap offset_of short.1))
-    (λ stands. ⊎_elim (λ out. omega (arith, ap offset_of out.1))
-    (λ later. omega (arith, lacks_within (next stands.0) (at + size) stands.1 found later.1, ap length stands.2.is, length-append stands.0 stands.1, stands.2.length_is))
-    stands.3)
-    lacks
-lacks_within (too_great before stated) at bytes found lacks = omega (arith, ap offset_of lacks)
-lacks_within (ends from) at bytes found lacks = omega (arith, ap offset_of lacks.1)
-
-pub record_fault_within : (from : Option Listing) (payload : Bytes) (most : ℕ) (m : RecordFault) → length payload ≤ most → IsFormFault
-    (record_form from) (record { done = []; left = payload }) m → IsOffsetWithin most m
-unfolding offset_of
-record_fault_within from payload most record_fault.OutOfMemory short lacks = tt
-record_fault_within from payload most record_fault.NoEnd short lacks = tt
-record_fault_within from payload most (record_fault.Broken rule at seen) short lacks = omega (arith, short, lacks_within (record_form from) 0 payload (Broken rule at (seen_bytes seen)) lacks)
+pub fault_within : (from : Option Listing) (payload : Bytes) (most : ℕ) (f : FormatFault) → length payload ≤ most → IsShownBy (edits from) payload f → IsOffsetWithin most f
+fault_within from payload most format_fault.OutOfMemory short shown = tt
+fault_within from payload most format_fault.Short short shown = tt
+fault_within from payload most format_fault.Long short shown = tt
+fault_within from payload most (format_fault.Broken broken) short shown = omega (arith, short, whole_within (edits from) payload (Broken broken.rule broken.at (seen_bytes broken.seen)) shown)
 
 -- ---- damage
 
@@ -122,7 +91,7 @@ shown_inside a b n after gated listed payload (fault.Damaged damage) on gate tel
         leads = read.leads;
         opens = opened.1;
         found = telling.found;
-        lacks = telling.lacks;
+        fails = telling.fails;
         told = telling.told;
       }),
     )
@@ -134,13 +103,15 @@ counted_then p (Some x) some = (_, refl)
 
 some_listed : (x : Option Listing) (ps : List Bytes) → (y : Listing) × (x ≡ Some y) → RecordsLeadTo x ps None → ⊥
 some_listed x [] (y, is) leads = let e : Some y ≡ None = sym is ∙ leads in cc
-some_listed x (q ∷ qs) (y, is) (edits, whole, more) = some_listed (with_record_counted q (after_all x edits)) qs (counted_then q (after_all x edits) (something_listed x edits whole.apply whole.some)) more
+some_listed x (q ∷ qs) (y, is) (es, encodes, more) =
+    let applied = record_applies x es q encodes in
+    some_listed (with_record_counted q (after_all x es)) qs (counted_then q (after_all x es) (something_listed x es applied.apply applied.some)) more
 
 none_read : (from : Option Listing) (records : List Bytes) → RecordsLeadTo from records None → records ≡ []
 none_read from [] leads = refl
-none_read from (p ∷ ps) (edits, whole, more) =
-    absurd (some_listed (with_record_counted p (after_all from edits)) ps
-    (counted_then p (after_all from edits) (something_listed from edits whole.apply whole.some)) more)
+none_read from (p ∷ ps) (es, encodes, more) =
+    let applied = record_applies from es p encodes in
+    absurd (some_listed (with_record_counted p (after_all from es)) ps (counted_then p (after_all from es) (something_listed from es applied.apply applied.some)) more)
 
 pub shown_empty : (a b : View) (n after : ℕ) (gated : Handle) (payload : Bytes) (damage : Damage) → ReadingGoesOn a b n gated None
     → ReadsGate b gated.file gated.at after false payload → damage.file ≡ manifest_name n → damage.at ≡ 16 → damage.rule ≡ Number
@@ -185,12 +156,12 @@ goes_on_first a b n file gated named there begins same offset usable of disk out
 }
 
 pub goes_on_next : (a b c : View) (n : ℕ) (old new : Handle) (listed : Option Listing) (listing : Listing) (payload : Bytes)
-    (edits : List Edit) → ReadingGoesOn a b n old listed → ReadsGate b old.file old.at new.at true payload → Changes Same b c
+    (es : List Edit) → ReadingGoesOn a b n old listed → ReadsGate b old.file old.at new.at true payload → Changes Same b c
     → new.at ≡ old.at + (5 + length payload) → new.at ≤ 2 ^ 62 → new.file ≡ old.file → IsTrue new.usable
-    → b.disk_faults ≤ c.disk_faults → c.out_faults ≡ b.out_faults → IsRecord listed payload edits → Some listing ≡ with_record_counted payload (after_all listed edits) → ReadingGoesOn a c n new (Some listing)
-goes_on_next a b c n old new listed listing payload edits on gate same offset fits file usable disk out is made =
-    let sizes = counted_sizes (after_all listed edits) payload listing made in
-    let stay = sizes_stay listed edits is.apply in
+    → b.disk_faults ≤ c.disk_faults → c.out_faults ≡ b.out_faults → Encodes (edits listed) es payload → Some listing ≡ with_record_counted payload (after_all listed es) → ReadingGoesOn a c n new (Some listing)
+goes_on_next a b c n old new listed listing payload es on gate same offset fits file usable disk out is made =
+    let sizes = counted_sizes (after_all listed es) payload listing made in
+    let stay = sizes_stay listed es (record_applies listed es payload is).apply in
     record {
       file = file ∙ on.file;
       usable = usable;
@@ -208,9 +179,9 @@ goes_on_next a b c n old new listed listing payload edits on gate same offset fi
             done = read.done ++ payload ∷ [];
             rest = opened.0;
             at_gate = subst (λ (l : FileName). IsAtGate l bytes new.at (read.done ++ payload ∷ []) opened.0) on.file opened.2;
-            leads = leads_on None listed (Some listing) read.done (payload ∷ []) read.leads (edits, is, sym made);
+            leads = leads_on None listed (Some listing) read.done (payload ∷ []) read.leads (es, is, sym made);
           };
-      consistent = record_consistent listed payload edits listing is.apply made on.consistent;
+      consistent = record_consistent listed payload es listing (record_applies listed es payload is).apply made on.consistent;
     }
 
 pub read_whole : (a b : View) (n after : ℕ) (gated : Handle) (listing : Listing) (payload : Bytes) → ReadingGoesOn a b n gated (Some listing)
@@ -246,12 +217,23 @@ no_false_damage v n fault.Failed shown = tt
 no_false_damage v n fault.OutOfMemory shown = tt
 no_false_damage v n (fault.Damaged damage) shown = λ bytes listing told is. manifest_undamaged n bytes damage listing is (shown bytes told)
 
-pub tells_broken : (n before : ℕ) (from : Option Listing) (payload : Bytes) (m : RecordFault) (rule : FormatRule) (at : ℕ) (seen : Seen)
-    (damage : Damage) → m ≡ record_fault.Broken rule at seen → IsFormFault (record_form from) (record { done = []; left = payload }) m
-    → damage.file ≡ manifest_name n → damage.rule ≡ rule → damage.at ≡ before + 5 + at → damage.seen ≡ seen → IsDamageOfRecord n before from payload damage
-tells_broken n before from payload m rule at seen damage is lacks named broken offset shown = record {
+-- the damage that a fault of a record is
+pub tells_short : (n before : ℕ) (from : Option Listing) (payload : Bytes) (f : FormatFault) (damage : Damage) → f ≡ format_fault.Short → IsShownBy (edits from) payload f
+    → damage.file ≡ manifest_name n → IsLengthDamage before payload damage.rule damage.at (seen_bytes damage.seen) → IsDamageOfRecord n before from payload damage
+tells_short n before from payload f damage is shown named told =
+    record { named = named; found = Short; fails = subst (λ (x : FormatFault). IsShownBy (edits from) payload x) is shown; told = told }
+
+pub tells_long : (n before : ℕ) (from : Option Listing) (payload : Bytes) (f : FormatFault) (damage : Damage) → f ≡ format_fault.Long → IsShownBy (edits from) payload f
+    → damage.file ≡ manifest_name n → IsLengthDamage before payload damage.rule damage.at (seen_bytes damage.seen) → IsDamageOfRecord n before from payload damage
+tells_long n before from payload f damage is shown named told =
+    record { named = named; found = Long; fails = subst (λ (x : FormatFault). IsShownBy (edits from) payload x) is shown; told = told }
+
+pub tells_broken : (n before : ℕ) (from : Option Listing) (payload : Bytes) (f : FormatFault) (broken : ABroken) (damage : Damage)
+    → f ≡ format_fault.Broken broken → IsShownBy (edits from) payload f → damage.file ≡ manifest_name n → damage.rule ≡ broken.rule
+    → damage.at ≡ before + 5 + broken.at → damage.seen ≡ broken.seen → IsDamageOfRecord n before from payload damage
+tells_broken n before from payload f broken damage is shown named rule offset seen = record {
   named = named;
-  found = Broken rule at (seen_bytes seen);
-  lacks = subst (λ (x : RecordFault). IsFormFault (record_form from) (record { done = []; left = payload }) x) is lacks;
-  told = (broken, omega (arith, offset), ap seen_bytes shown);
+  found = Broken broken.rule broken.at (seen_bytes broken.seen);
+  fails = subst (λ (x : FormatFault). IsShownBy (edits from) payload x) is shown;
+  told = (rule, omega (arith, offset), ap seen_bytes seen);
 }

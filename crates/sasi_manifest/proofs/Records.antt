@@ -1,117 +1,184 @@
 -- Records that are read, and those that aren't.
 use Rattle.std.proofs.lemmas.Bool.Decides.{nat_tests}
-use Rattle.std.proofs.Common.{Bool, true, false, ◌==◌, ◌≡◌, ◌≢◌, ◌<◌, ◌≤◌, ◌-◌, ◌+◌, ◌^◌, ℕ, suc, List, [], ◌∷◌, ◌++◌, length, Option, Some, None, refl, sym, ◌∙◌, ap, subst, arith, append_assoc, length-append}
-use Rattle.std.proofs.lemmas.List.{append-nil}
-use Rattle.std.specs.Int.{to_be_bytes, w32}
-use Rattle.sasi_fields.specs.Reading.{Reading, ReadsField}
+use Rattle.std.proofs.lemmas.List.{drop_more}
+use Rattle.std.proofs.Common.{Bool, true, false, ◌==◌, ◌≡◌, ◌≢◌, ◌<◌, ◌≤◌, ◌-◌, ◌+◌, ◌^◌, ℕ, suc, List, [], ◌∷◌, ◌++◌, length, drop, get_or, Option, Some, None, Err, refl, sym, ◌∙◌, ap, subst, arith}
 use Rattle.sasi_host.specs.Names.{Bytes}
+use Rattle.sasi_fields.specs.Reading.{Reading}
+use Rattle.sasi_formats.specs.Formats.{Encodes, fit_items}
+use Rattle.sasi_formats.specs.Codings.{Four}
+use Rattle.sasi_formats.specs.Fields.{in_range}
+use Rattle.sasi_formats.specs.Reader.{Outcome, Got, Failed, Corruption, Short, Long, Broken, ◌>>=◌, start, ended, closed, read, read_whole}
+use Rattle.sasi_formats.specs.Gives.{FailsWith}
+use Rattle.sasi_formats.specs.Whole.{IsShownBy}
+use Rattle.sasi_formats.specs.declared.fault.FormatFault.{FormatFault}
+use Rattle.sasi_formats.specs.declared.fault.FormatFault.TheVariants as fault
+use Rattle.sasi_formats.proofs.Agreement.{reads_exactly, reads_whole, is_encoded}
+use Rattle.sasi_formats.proofs.Encoding.{fits}
+use Rattle.sasi_formats.proofs.Fitting.{fits_range, range_fits}
+use Rattle.sasi_formats.proofs.ItemSteps.{SoFar, items_begin, items_more, items_fail, items_end}
+use Rattle.sasi_formats.proofs.WholeLaws.{reads_all}
 use Rattle.sasi_manifest.specs.declared.edit.Edit.{Edit}
 use Rattle.sasi_manifest.specs.declared.edit.Edit.TheVariants.{Start, CreateTable}
 use Rattle.sasi_manifest.specs.declared.listing.Listing.{Listing}
-use Rattle.sasi_manifest.specs.declared.record_fault.RecordFault.{RecordFault}
-use Rattle.sasi_manifest.specs.Edits.{edit_bytes, edits_bytes, encoded, encoded_is, encoded_length}
-use Rattle.sasi_manifest.specs.Listings.{Applies, AllApply, after, after_all, with_record_counted, records_of, length_of}
-use Rattle.sasi_manifest.specs.Format.{IsRecord}
-use Rattle.sasi_manifest.specs.Forms.{Form, Four, IsBetween, edit_form, edits_form, record_form, NoEnd, BreaksForm}
-use Rattle.sasi_manifest.specs.IsFormFault.{IsFormFault}
-use Rattle.sasi_manifest.specs.ReadEdits.{ReadsEdits}
-use Rattle.sasi_manifest.proofs.Carried.{form_fault_carries, lacks_carries, over_edits}
-use Rattle.sasi_manifest.proofs.Additions.{passes_on}
+use Rattle.sasi_manifest.specs.Edits.{edit, edits, encoded, Applies, AllApply}
+use Rattle.sasi_manifest.specs.ReadEdits.{read_edits}
+use Rattle.sasi_manifest.specs.Listings.{after, after_all, with_record_counted, records_of, length_of}
+use Rattle.sasi_manifest.proofs.Applying.{no_start, no_create}
+use Rattle.sasi_manifest.proofs.EditBytes.{edits_few, same_record}
 
--- ---- one edit more
+-- ---- edits that apply one after another
 
-edits_push : (edits : List Edit) (edit : Edit) → edits_bytes (edits ++ edit ∷ []) ≡ edits_bytes edits ++ edit_bytes edit
-edits_push [] edit = append-nil (edit_bytes edit)
-edits_push (e ∷ es) edit = ap (λ (l : Bytes). edit_bytes e ++ l) (edits_push es edit) ∙ sym (append_assoc (edit_bytes e) (edits_bytes es) (edit_bytes edit))
+-- the first applies to the listing, and the others after it
+abbrev pub ApplyInTurn : Option Listing → List Edit → Type 0
+ApplyInTurn from [] = Unit {0}
+ApplyInTurn from (e ∷ es) = Applies from e × ApplyInTurn (after from e) es
 
-apply_push : (from : Option Listing) (edits : List Edit) (edit : Edit) → AllApply from edits → Applies (after_all from edits) edit → AllApply from (edits ++ edit ∷ [])
-apply_push from [] edit all one = (one, tt)
-apply_push from (e ∷ es) edit all one = (all.0, apply_push (after from e) es edit all.1 one)
+pub after_push : (from : Option Listing) (es : List Edit) (e : Edit) → after_all from (es ++ e ∷ []) ≡ after (after_all from es) e
+after_push from [] e = refl
+after_push from (x ∷ es) e = after_push (after from x) es e
 
-after_push : (from : Option Listing) (edits : List Edit) (edit : Edit) → after_all from (edits ++ edit ∷ []) ≡ after (after_all from edits) edit
-after_push from [] edit = refl
-after_push from (e ∷ es) edit = after_push (after from e) es edit
+pub in_turn : (from : Option Listing) (before es : List Edit) → fit_items (λ before. Applies (after_all from before)) before es → ApplyInTurn (after_all from before) es
+in_turn from before [] h = tt
+in_turn from before (e ∷ es) h = (h.0, subst (λ (l : Option Listing). ApplyInTurn l es) (after_push from before e) (in_turn from (before ++ e ∷ []) es h.1))
 
-pub takes_none : (from : Option Listing) (reading : Reading) → ReadsEdits from from 0 reading reading
-takes_none from reading = record { edits = []; many = refl; apply = tt; passes = record { next = refl; done = sym (append-nil reading.done) }; makes = refl }
+-- the turn of a loop
+pub record StepsTo (listed : Option Listing) (es : List Edit) (i : ℕ) (e : Edit) : Type 0 where
+  pub applies : Applies listed e
+  pub rest_apply : ApplyInTurn (after listed e) (drop (i + 1) es)
+  pub same : after_all listed (drop i es) ≡ after_all (after listed e) (drop (i + 1) es)
 
-pub takes_push : (from listed to : Option Listing) (count : ℕ) (old new behind : Reading) (edit : Edit)
-    → ReadsEdits from listed count old new → Applies listed edit → ReadsField (edit_bytes edit) new behind → to ≡ after listed edit
-    → ReadsEdits from to (count + 1) old behind
-takes_push from listed to count old new behind edit takes applies passes is = record {
-  edits = takes.edits ++ edit ∷ [];
-  many = omega (arith, takes.many, length-append takes.edits (edit ∷ []));
-  apply = apply_push from takes.edits edit takes.apply (subst (λ (l : Option Listing). Applies l edit) (sym takes.makes) applies);
-  passes = subst (λ (l : Bytes). ReadsField l old behind) (sym (edits_push takes.edits edit)) (passes_on (edits_bytes takes.edits) (edit_bytes edit) old new behind takes.passes passes);
-  makes = after_push from takes.edits edit ∙ ap (λ (l : Option Listing). after l edit) takes.makes ∙ sym is;
-}
+pub steps_to : (listed : Option Listing) (es : List Edit) (i : ℕ) (e : Edit) → i < length es → e ≡ get_or es i e → ApplyInTurn listed (drop i es) → StepsTo listed es i e
+steps_to listed es i e within is h =
+    let parts : drop i es ≡ e ∷ drop (i + 1) es = drop_more es i e within ∙ ap (λ (x : Edit). x ∷ drop (i + 1) es) (sym is) in
+    let all : ApplyInTurn listed (e ∷ drop (i + 1) es) = subst (λ (l : List Edit). ApplyInTurn listed l) parts h in
+    record { applies = all.0; rest_apply = all.1; same = ap (λ (l : List Edit). after_all listed l) parts }
 
--- the next edit isn't read
-pub edit_fault : (from listed : Option Listing) (count turn : ℕ) (old new : Reading) (m : RecordFault) → turn < count
-    → ReadsEdits from listed turn old new → ((next : Edit → Form) → IsFormFault (edit_form listed next) new m) → IsFormFault (edits_form count from) old m
-edit_fault from listed count turn old new m more takes found =
-    over_edits (λ form reading. IsFormFault form reading m) (form_fault_carries m) takes.edits (suc (count - suc turn)) count from old new (omega (arith, more, takes.many)) takes.apply takes.passes
-    (subst (λ (l : Option Listing). IsFormFault (edits_form (suc (count - suc turn)) l) new m) (sym takes.makes) (found (λ edit. edits_form (count - suc turn) (after listed edit))))
+-- ---- edits are read
+
+-- these edits were read, and so many are left
+pub record IsReading (from : Option Listing) (count : ℕ) (old : Reading) (left : ℕ) (listed : Option Listing) (new : Reading) : Type 0 where
+  pub es : List Edit
+  pub makes : after_all from es ≡ listed
+  pub so_far : SoFar (λ before. read (edit (after_all from before))) count old left es new
+
+-- an edit that is read applies
+pub read_applies : (listed : Option Listing) (s t : Reading) (e : Edit) → read (edit listed) s ≡ Got e t → Applies listed e
+read_applies listed s t e got = let next = (reads_exactly (edit listed) s t e).0 got in fits (edit listed) e next.field next.is
+
+module _ (from : Option Listing) (count : ℕ) (old : Reading) where
+  abbrev item : List Edit → Reading → Outcome Edit
+  item before = read (edit (after_all from before))
+
+  pub reading_begins : IsReading from count old count from old
+  reading_begins = record { es = []; makes = refl; so_far = items_begin item count old }
+
+  pub reading_goes_on : (left next : ℕ) (listed to : Option Listing) (s t : Reading) (e : Edit) → left ≡ suc next → read (edit listed) s ≡ Got e t → to ≡ after listed e → IsReading from count old left listed s → IsReading from count old next to t
+  reading_goes_on left next listed to s t e counted got is on = record {
+    es = on.es ++ e ∷ [];
+    makes = after_push from on.es e ∙ ap (λ (l : Option Listing). after l e) on.makes ∙ sym is;
+    so_far = items_more item count old next on.es s e t (ap (λ (l : Option Listing). read (edit l) s) on.makes ∙ got) (subst (λ (n : ℕ). SoFar item count old n on.es s) counted on.so_far);
+  }
+
+  pub reading_fails : (left next : ℕ) (listed : Option Listing) (s : Reading) (f : FormatFault) → left ≡ suc next → FailsWith (read (edit listed) s) f → IsReading from count old left listed s → FailsWith (read_edits from count old) f
+  reading_fails left next listed s f counted fails on =
+      items_fail item count old next on.es s f (subst (λ (l : Option Listing). FailsWith (read (edit l) s) f) (sym on.makes) fails) (subst (λ (n : ℕ). SoFar item count old n on.es s) counted on.so_far)
+
+  pub reading_ends : (left : ℕ) (listed : Option Listing) (s : Reading) → left ≡ 0 → (on : IsReading from count old left listed s) → read_edits from count old ≡ Got on.es s
+  reading_ends left listed s none on = items_end item count old on.es s (subst (λ (n : ℕ). SoFar item count old n on.es s) none on.so_far)
+
+-- ---- a record is read
+
+-- a fault is handed on
+fails_as : {A B : Type 0} (f : FormatFault) (a : Outcome A) (b : Outcome B) → ((c : Corruption) → a ≡ Failed c → b ≡ Failed c) → FailsWith a f → FailsWith b f
+fails_as fault.OutOfMemory a b hands h = tt
+fails_as fault.Short a b hands h = hands Short h
+fails_as fault.Long a b hands h = hands Long h
+fails_as (fault.Broken broken) a b hands h = hands _ h
+
+shown : (from : Option Listing) (payload : Bytes) (f : FormatFault) → FailsWith (read_whole (edits from) payload) f → IsShownBy (edits from) payload f
+shown from payload f h = (reads_all (edits from) payload (Err f) h).shown
+
+-- after the number of edits
+abbrev counted_then : Option Listing → Outcome ℕ → Outcome (List Edit)
+counted_then from r = ended (r >>= λ n s. read_edits from n s)
+
+-- the number of edits isn't read
+pub count_fails : (from : Option Listing) (payload : Bytes) (f : FormatFault) → FailsWith (read (in_range Four 1 (2 ^ 32 - 1)) (start payload)) f → IsShownBy (edits from) payload f
+count_fails from payload f h = shown from payload f (fails_as f (read (in_range Four 1 (2 ^ 32 - 1)) (start payload)) (read_whole (edits from) payload) (λ c is. ap (counted_then from) is) h)
+
+whole_is : (from : Option Listing) (payload : Bytes) (count : ℕ) (t : Reading) → read (in_range Four 1 (2 ^ 32 - 1)) (start payload) ≡ Got count t → read_whole (edits from) payload ≡ ended (read_edits from count t)
+whole_is from payload count t got = ap (counted_then from) got
+
+-- the edits aren't
+pub edits_fail : (from : Option Listing) (payload : Bytes) (count : ℕ) (t : Reading) → read (in_range Four 1 (2 ^ 32 - 1)) (start payload) ≡ Got count t → (f : FormatFault) → FailsWith (read_edits from count t) f → IsShownBy (edits from) payload f
+edits_fail from payload count t got f h =
+    shown from payload f (fails_as f (read_edits from count t) (read_whole (edits from) payload) (λ c is. whole_is from payload count t got ∙ ap (λ (r : Outcome (List Edit)). ended r) is) h)
+
+closed_long : (es : List Edit) (u : Reading) (left : Bytes) → left ≢ [] → closed es u left ≡ Failed Long
+closed_long es u [] more = absurd (more refl)
+closed_long es u (b ∷ left) more = refl
+
+-- bytes follow the last edit
+pub more_left : (from : Option Listing) (payload : Bytes) (count : ℕ) (t : Reading) → read (in_range Four 1 (2 ^ 32 - 1)) (start payload) ≡ Got count t → (es : List Edit) (u : Reading) → read_edits from count t ≡ Got es u → u.left ≢ [] → IsShownBy (edits from) payload fault.Long
+more_left from payload count t got es u is more =
+    shown from payload fault.Long (whole_is from payload count t got ∙ ap (λ (r : Outcome (List Edit)). ended r) is ∙ closed_long es u u.left more)
+
+-- the edits are all the bytes
+pub all_read : (from : Option Listing) (payload : Bytes) (count : ℕ) (t : Reading) → read (in_range Four 1 (2 ^ 32 - 1)) (start payload) ≡ Got count t → (es : List Edit) (u : Reading) → read_edits from count t ≡ Got es u → u.left ≡ [] → Encodes (edits from) es payload
+all_read from payload count t got es u is none =
+    reads_whole (edits from) payload es u (whole_is from payload count t got ∙ ap (λ (r : Outcome (List Edit)). ended r) is ∙ ap (λ (l : Bytes). closed es u l) none)
 
 -- ---- a record
 
-still_listed : (listing : Listing) (edits : List Edit) → AllApply (Some listing) edits → after_all (Some listing) edits ≡ None → ⊥
+-- edits that have bytes apply, and there is one at least
+pub record IsApplied (from : Option Listing) (es : List Edit) : Type 0 where
+  pub some : 1 ≤ length es
+  pub apply : AllApply from es
+
+pub record_applies : (from : Option Listing) (es : List Edit) (payload : Bytes) → Encodes (edits from) es payload → IsApplied from es
+record_applies from es payload is =
+    let all = fits (edits from) es payload is in
+    let range = fits_range Four 1 (2 ^ 32 - 1) (length es) all.0 in
+    record { some = range.above; apply = all.1 }
+
+-- edits that apply have bytes
+pub record_encodes : (from : Option Listing) (es : List Edit) → AllApply from es → 1 ≤ length es → length (encoded es) ≤ 2 ^ 30 → Encodes (edits from) es (encoded es)
+record_encodes from es apply some short =
+    let few = edits_few es short in
+    is_encoded (edits from) es (encoded es) (range_fits Four 1 (2 ^ 32 - 1) (length es) few some (omega (arith, few)), apply) (sym (same_record from es))
+
+still_listed : (listing : Listing) (es : List Edit) → ApplyInTurn (Some listing) es → after_all (Some listing) es ≡ None → ⊥
 still_listed listing [] all none = cc
-still_listed listing (Start p floor last ∷ edits) all none = absurd all.0
-still_listed listing (CreateTable n name columns key since ∷ edits) all none = still_listed _ edits all.1 none
+still_listed listing (Start p floor last ∷ es) all none = absurd (no_start listing p floor last all.0)
+still_listed listing (CreateTable n name columns key since ∷ es) all none = still_listed _ es all.1 none
+
+listed_in_turn : (from : Option Listing) (es : List Edit) → ApplyInTurn from es → 1 ≤ length es → after_all from es ≡ None → ⊥
+listed_in_turn from [] all some none = omega (arith, some)
+listed_in_turn None (Start p floor last ∷ es) all some none = still_listed _ es all.1 none
+listed_in_turn None (CreateTable n name columns key since ∷ es) all some none = absurd (no_create n name columns key since all.0)
+listed_in_turn (Some listing) (Start p floor last ∷ es) all some none = absurd (no_start listing p floor last all.0)
+listed_in_turn (Some listing) (CreateTable n name columns key since ∷ es) all some none = still_listed _ es all.1 none
 
 -- edits list something
-pub something_listed : (from : Option Listing) (edits : List Edit) → AllApply from edits → 1 ≤ length edits → after_all from edits ≡ None → ⊥
-something_listed from [] all some none = omega (arith, some)
-something_listed None (Start p floor last ∷ es) all some none = still_listed _ es all.1 none
-something_listed None (CreateTable n name columns key since ∷ es) all some none = absurd all.0
-something_listed (Some listing) (Start p floor last ∷ es) all some none = absurd all.0
-something_listed (Some listing) (CreateTable n name columns key since ∷ es) all some none = still_listed _ es all.1 none
+pub something_listed : (from : Option Listing) (es : List Edit) → AllApply from es → 1 ≤ length es → after_all from es ≡ None → ⊥
+something_listed from es all some none = listed_in_turn from es (in_turn from [] es all) some none
+
+sizes_in_turn : (from : Option Listing) (es : List Edit) → ApplyInTurn from es → (records_of (after_all from es) ≡ records_of from) × (length_of (after_all from es) ≡ length_of from)
+sizes_in_turn from [] all = (refl, refl)
+sizes_in_turn None (Start p floor last ∷ es) all = sizes_in_turn _ es all.1
+sizes_in_turn None (CreateTable n name columns key since ∷ es) all = absurd (no_create n name columns key since all.0)
+sizes_in_turn (Some listing) (Start p floor last ∷ es) all = absurd (no_start listing p floor last all.0)
+sizes_in_turn (Some listing) (CreateTable n name columns key since ∷ es) all = sizes_in_turn _ es all.1
 
 -- edits count no record
-pub sizes_stay : (from : Option Listing) (edits : List Edit) → AllApply from edits → (records_of (after_all from edits) ≡ records_of from) × (length_of (after_all from edits) ≡ length_of from)
-sizes_stay from [] all = (refl, refl)
-sizes_stay None (Start p floor last ∷ es) all = sizes_stay _ es all.1
-sizes_stay None (CreateTable n name columns key since ∷ es) all = absurd all.0
-sizes_stay (Some listing) (Start p floor last ∷ es) all = absurd all.0
-sizes_stay (Some listing) (CreateTable n name columns key since ∷ es) all = sizes_stay _ es all.1
-
--- the bytes of a record that was read
-pub record_read : (from to : Option Listing) (payload : Bytes) (count : ℕ) (mid new : Reading) → count < 2 ^ 32 → IsBetween 1
-    (2 ^ 32 - 1) count → ReadsField (to_be_bytes w32 count) (record { done = []; left = payload }) mid
-    → (takes : ReadsEdits from to count mid new) → new.left ≡ []
-    → IsRecord from payload takes.edits
-record_read from to payload count mid new fits between first takes ended = record {
-  is =
-      first.next ∙ ap (λ (l : Bytes). to_be_bytes w32 count ++ l) (takes.passes.next ∙ ap (λ (l : Bytes). edits_bytes takes.edits ++ l) ended ∙ append-nil (edits_bytes takes.edits))
-      ∙ ap (λ n. to_be_bytes w32 n ++ edits_bytes takes.edits) (sym takes.many) ∙ sym (encoded_is takes.edits);
-  some = omega (arith, takes.many, between.above);
-  few = omega (arith, takes.many, fits);
-  apply = takes.apply;
-}
-
--- edits that aren't read
-pub edits_fault : (from : Option Listing) (payload : Bytes) (count : ℕ) (mid : Reading) (m : RecordFault) → count < 2 ^ 32 → IsBetween 1
-    (2 ^ 32 - 1) count → ReadsField (to_be_bytes w32 count) (record { done = []; left = payload }) mid → IsFormFault (edits_form count from) mid m
-    → IsFormFault (record_form from) (record { done = []; left = payload }) m
-edits_fault from payload count mid m fits between first found =
-    (form_fault_carries m).over_number Four 1 (2 ^ 32 - 1) (λ count. edits_form count from) count
-    (record { done = []; left = payload }) mid fits between first found
-
--- bytes after the last edit
-pub end_missed : (from to : Option Listing) (payload : Bytes) (count : ℕ) (mid new : Reading) → count < 2 ^ 32 → IsBetween 1
-    (2 ^ 32 - 1) count → ReadsField (to_be_bytes w32 count) (record { done = []; left = payload }) mid → ReadsEdits from to count mid new → new.left ≢ []
-    → BreaksForm (record_form from) 0 payload NoEnd
-end_missed from to payload count mid new fits between first takes more =
-    (lacks_carries NoEnd).over_number Four 1 (2 ^ 32 - 1) (λ count. edits_form count from) count (record { done = []; left = payload }) mid fits between first
-    (over_edits (λ form reading. BreaksForm form (length reading.done) reading.left NoEnd) (lacks_carries NoEnd) takes.edits 0 count from mid new
-    (omega (arith, takes.many)) takes.apply takes.passes (more, refl))
+pub sizes_stay : (from : Option Listing) (es : List Edit) → AllApply from es → (records_of (after_all from es) ≡ records_of from) × (length_of (after_all from es) ≡ length_of from)
+sizes_stay from es all = sizes_in_turn from es (in_turn from [] es all)
 
 -- what is listed then
-pub record_counts : (from : Option Listing) (payload : Bytes) (listing made : Listing) (edits : List Edit)
-    → after_all from edits ≡ Some listing → made ≡ record listing
-    { records = listing.records + 1; length = listing.length + (5 + length payload) } → Some made ≡ with_record_counted payload (after_all from edits)
-record_counts from payload listing made edits listed is = ap Some is ∙ sym (ap (with_record_counted payload) listed)
+pub record_counts : (from : Option Listing) (payload : Bytes) (listing made : Listing) (es : List Edit)
+    → after_all from es ≡ Some listing → made ≡ record listing
+    { records = listing.records + 1; length = listing.length + (5 + length payload) } → Some made ≡ with_record_counted payload (after_all from es)
+record_counts from payload listing made es listed is = ap Some is ∙ sym (ap (with_record_counted payload) listed)
 
 -- what a test for no bytes told
 pub some_left : (left shown : Bytes) (test : Bool) → shown ≡ left → test ≡ (length shown == 0) → test ≡ false → left ≢ []
@@ -124,17 +191,3 @@ zero_of n is = grind (arith, nat_tests)
 pub none_left : (left shown : Bytes) (test : Bool) → shown ≡ left → test ≡ (length shown == 0) → test ≡ true → left ≡ []
 none_left [] shown test is tested passed = refl
 none_left (b ∷ bs) shown test is tested passed = let e : length shown ≡ 0 = zero_of (length shown) (sym tested ∙ passed) in absurd (omega (arith, e, ap length is))
-
--- ---- a record that is written
-
--- an edit has a byte at least
-some_byte : (edit : Edit) → 1 ≤ length (edit_bytes edit)
-some_byte (Start p floor last) = omega arith
-some_byte (CreateTable n name columns key since) = omega arith
-
-many_bytes : (edits : List Edit) → length edits ≤ length (edits_bytes edits)
-many_bytes [] = omega arith
-many_bytes (e ∷ es) = omega (arith, some_byte e, many_bytes es, length-append (edit_bytes e) (edits_bytes es))
-
-pub edits_few : (edits : List Edit) → length (encoded edits) ≤ 2 ^ 30 → length edits < 2 ^ 32
-edits_few edits short = omega (arith, short, many_bytes edits, encoded_length edits)

@@ -10,11 +10,12 @@ use Rattle.sasi_host.specs.View.{View, contents}
 use Rattle.sasi_gated.specs.Format.{Closes, Opens}
 use Rattle.sasi_gated.specs.Gates.{IsAtGate}
 use Rattle.sasi_gated.specs.Damages.{IsGatedDamage}
-use Rattle.sasi_host.specs.Damages.{seen_bytes}
-use Rattle.sasi_host.specs.Damages.{OnDamage}
+use Rattle.sasi_host.specs.Damages.{OnDamage, seen_bytes}
+use Rattle.sasi_formats.specs.Reader.{Corruption, Short, Long, Broken}
+use Rattle.sasi_formats.specs.Failures.{FailsWhole}
 use Rattle.sasi_manifest.specs.declared.listing.Listing.{Listing}
 use Rattle.sasi_manifest.specs.Format.{IsManifest, RecordsLeadTo}
-use Rattle.sasi_manifest.specs.Forms.{FormFault, NoEnd, Broken, BreaksForm, record_form}
+use Rattle.sasi_manifest.specs.Edits.{edits}
 
 -- the first gate is closed
 pub record IsEmpty (number : ℕ) (bytes : Bytes) (rule : FormatRule) (at : ℕ) (seen : Bytes) : Type 0 where
@@ -25,10 +26,14 @@ pub record IsEmpty (number : ℕ) (bytes : Bytes) (rule : FormatRule) (at : ℕ)
   pub offset_is : at ≡ 16
   pub seen_is : seen ≡ 0 ∷ []
 
--- the damage that a fault of the record after the gate at this offset is: a record of another length than its content
--- breaks the rule on its length field
-abbrev pub IsRecordDamage : ℕ → Bytes → FormFault → FormatRule → ℕ → Bytes → Type 0
-IsRecordDamage before payload NoEnd rule at seen = (rule ≡ Number) × (at ≡ before + 1) × (seen ≡ to_be_bytes w32 (length payload))
+-- the record after the gate at this offset states another length than its content has
+abbrev pub IsLengthDamage : ℕ → Bytes → FormatRule → ℕ → Bytes → Type 0
+IsLengthDamage before payload rule at seen = (rule ≡ Number) × (at ≡ before + 1) × (seen ≡ to_be_bytes w32 (length payload))
+
+-- the damage that a corruption of this record is
+abbrev pub IsRecordDamage : ℕ → Bytes → Corruption → FormatRule → ℕ → Bytes → Type 0
+IsRecordDamage before payload Short rule at seen = IsLengthDamage before payload rule at seen
+IsRecordDamage before payload Long rule at seen = IsLengthDamage before payload rule at seen
 IsRecordDamage before payload (Broken broken offset found) rule at seen = (rule ≡ broken) × (at ≡ before + (5 + offset)) × (seen ≡ found)
 
 -- after records that apply comes one that doesn't
@@ -42,8 +47,8 @@ pub record HasBrokenRecord (number : ℕ) (bytes : Bytes) (rule : FormatRule) (a
   pub gate_stands : IsAtGate (manifest_name number) bytes before done rest
   pub leads : RecordsLeadTo None done listed
   pub opens : Opens rest payload tail
-  pub found : FormFault
-  pub lacks : BreaksForm (record_form listed) 0 payload found
+  pub found : Corruption
+  pub fails : FailsWhole (edits listed) payload found
   pub told : IsRecordDamage before payload found rule at seen
 
 -- the manifest of this number has the damage: as a gated file, or in its records

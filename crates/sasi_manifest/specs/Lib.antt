@@ -1,15 +1,12 @@
 pub mod Naming
 pub mod ListedDefinition
-pub mod Edits
 pub mod ListedTables
 pub mod Listings
+pub mod Edits
+pub mod ReadEdits
 pub mod Format
 pub mod Consistent
 pub mod Types
-pub mod Forms
-pub mod IsBroken
-pub mod IsFormFault
-pub mod ReadEdits
 pub mod Damages
 pub mod OpenManifest
 pub mod Reading

@@ -8,7 +8,7 @@ use Rattle.sasi_manifest.specs.declared.edit.Edit.{Edit}
 use Rattle.sasi_manifest.specs.declared.edit.Edit.TheVariants.{Start, CreateTable}
 use Rattle.sasi_manifest.specs.declared.listing.Listing.{Listing}
 use Rattle.sasi_manifest.specs.ListedDefinition.{ListedDefinition}
-use Rattle.sasi_manifest.specs.Naming.{IsName, IsFree, AreNames, AreApart}
+use Rattle.sasi_manifest.specs.Naming.{AreNames}
 
 -- the names of the listed tables
 abbrev pub listed_names : List ListedDefinition → List Bytes
@@ -25,28 +25,6 @@ pub record CanStart (floor last : ℕ) : Type 0 where
   pub floor_some : 1 ≤ floor
   pub ordered : floor ≤ last
   pub last_fits : last < 2 ^ 32
-
--- the next table, of a free name, with 1 to 64 columns of names of their own, one of which is the key
-pub record CanCreate (listing : Listing) (number : ℕ) (name : Bytes) (columns : List Column) (key since : ℕ) : Type 0 where
-  pub next : number ≡ suc (length listing.tables)
-  pub few : number ≤ 256
-  pub name_fits : IsName name
-  pub free : IsFree (listed_names listing.tables) name
-  pub some_columns : 1 ≤ length columns
-  pub few_columns : length columns ≤ 64
-  pub column_names : AreNames (names_in columns)
-  pub apart : AreApart [] (names_in columns)
-  pub key_within : key < length columns
-  pub since_some : 1 ≤ since
-  pub since_within : since ≤ listing.last
-  pub since_fits : since < 2 ^ 32
-
--- the edit may follow the listing; before the first edit there is none
-abbrev pub Applies : Option Listing → Edit → Type 0
-Applies None (Start partitioner floor last) = CanStart floor last
-Applies None (CreateTable number name columns key since) = ⊥
-Applies (Some listing) (Start partitioner floor last) = ⊥
-Applies (Some listing) (CreateTable number name columns key since) = CanCreate listing number name columns key since
 
 -- the fields of the edit fit their widths
 abbrev pub IsWritable : Edit → Type 0
@@ -70,11 +48,7 @@ after from (Start partitioner floor last) = Some (started partitioner floor last
 after None (CreateTable number name columns key since) = None
 after (Some listing) (CreateTable number name columns key since) = Some (with_listed_table (created_table name columns key since) listing)
 
--- edits apply one after another
-abbrev pub AllApply : Option Listing → List Edit → Type 0
-AllApply from [] = Unit {0}
-AllApply from (edit ∷ edits) = Applies from edit × AllApply (after from edit) edits
-
+-- the listing after edits
 abbrev pub after_all : Option Listing → List Edit → Option Listing
 after_all from [] = from
 after_all from (edit ∷ edits) = after_all (after from edit) edits

@@ -9,27 +9,28 @@ use Rattle.sasi_gated.specs.Format.{Closes}
 use Rattle.sasi_gated.specs.Gates.{IsAtGate}
 use Rattle.sasi_gated.specs.Handles.{Handle}
 use Rattle.sasi_manifest.specs.declared.listing.Listing.{Listing}
-use Rattle.sasi_manifest.specs.declared.record_fault.RecordFault.{RecordFault}
-use Rattle.sasi_manifest.specs.declared.record_fault.RecordFault.TheVariants as record_fault
+use Rattle.sasi_formats.specs.Reader.{Corruption}
+use Rattle.sasi_formats.specs.Failures.{FailsWhole}
+use Rattle.sasi_formats.specs.declared.fault.FormatFault.{FormatFault}
+use Rattle.sasi_formats.specs.declared.fault.FormatFault.TheVariants as fault
 use Rattle.sasi_manifest.specs.Consistent.{ConsistentIf}
 use Rattle.sasi_manifest.specs.Listings.{length_of, records_of}
 use Rattle.sasi_manifest.specs.Format.{Builds, IsManifest, RecordsLeadTo}
-use Rattle.sasi_manifest.specs.Forms.{FormFault, BreaksForm, record_form}
+use Rattle.sasi_manifest.specs.Edits.{edits}
 use Rattle.sasi_manifest.specs.Damages.{IsRecordDamage}
 use Rattle.sasi_manifest.specs.OpenManifest.{ManifestStands}
 
--- the damage is a fault of the record after the gate at this offset
+-- the damage is a corruption of the record after the gate at this offset
 pub record IsDamageOfRecord (number before : ℕ) (from : Option Listing) (payload : Bytes) (damage : Damage) : Type 0 where
   pub named : damage.file ≡ manifest_name number
-  pub found : FormFault
-  pub lacks : BreaksForm (record_form from) 0 payload found
+  pub found : Corruption
+  pub fails : FailsWhole (edits from) payload found
   pub told : IsRecordDamage before payload found damage.rule damage.at (seen_bytes damage.seen)
 
 -- the offset of the fault is at most this
-abbrev pub IsOffsetWithin : ℕ → RecordFault → Type 0
-IsOffsetWithin size record_fault.OutOfMemory = Unit {0}
-IsOffsetWithin size record_fault.NoEnd = Unit {0}
-IsOffsetWithin size (record_fault.Broken rule at seen) = at ≤ size
+abbrev pub IsOffsetWithin : ℕ → FormatFault → Type 0
+IsOffsetWithin size (fault.Broken broken) = broken.at ≤ size
+IsOffsetWithin size _ = Unit {0}
 
 -- the records before the gate at this offset build up this listing
 pub record IsReadTo (number : ℕ) (bytes : Bytes) (at : ℕ) (listed : Option Listing) : Type 0 where

@@ -5,9 +5,8 @@ ghost use Rattle.sasi_host.specs.Disk.{AnyChange, Changes, LeftWith, FileChange}
 ghost use Rattle.sasi_gated.specs.Format.{IsBeforeOrAfter};
 ghost use Rattle.sasi_gated.specs.Reads.{AppendsRecord};
 ghost use Rattle.sasi_gated.specs.Handles.{IsAtEnd};
-ghost use Rattle.sasi_manifest.specs.Edits.{encoded};
+ghost use Rattle.sasi_manifest.specs.Edits.{AllApply, encoded};
 ghost use Rattle.sasi_manifest.specs.Format.{IsNext};
-ghost use Rattle.sasi_manifest.specs.Listings.{AllApply};
 
 use crate::encode::encode;
 use crate::{Edit, Listing};

@@ -1,51 +1,77 @@
 // The columns of a table in a record.
-ghost use Rattle.std.specs.Prelude.{◌≡◌, [], ◌∷◌, ℕ, List, length, IfErr, IfOk};
-ghost use Rattle.sasi_fields.specs.Reading.{ReadsField};
-ghost use Rattle.sasi_model.specs.State.{Column};
-ghost use Rattle.sasi_model.specs.Refusals.{names_in};
-ghost use Rattle.sasi_manifest.specs.Edits.{column_bytes, type_code};
-ghost use Rattle.sasi_manifest.specs.Forms.{Form, One, number, columns_form};
-ghost use Rattle.sasi_manifest.specs.IsFormFault.{IsFormFault};
-ghost use Rattle.sasi_manifest.specs.Naming.{AreApart, AreNames};
+ghost use Rattle.std.specs.Prelude.{◌≡◌, []};
+ghost use Rattle.sasi_formats.specs.Reader.{read, read_items};
+ghost use Rattle.sasi_formats.specs.Gives.{Gives};
+ghost use Rattle.sasi_manifest.specs.Edits.{column, columns, key, type};
 
-use crate::field::ranged_u8;
-use crate::record_fault::RecordFault;
 use crate::text::read_column_name;
 use sasi_fields::FieldReader;
-use sasi_types::{ColumnType, Columns};
+use sasi_formats::{FieldStart, FormatFault, read_u8, read_u16, read_u16_in_range};
+use sasi_host::FormatRule;
+use sasi_types::{ColumnType, Columns, Name};
 use std::alloc::Global;
 
-// Reads this many columns of different names.
-pub fn read_columns(
-    alloc: Global,
-    reader: &mut FieldReader,
-    count: u16,
-) -> Result<Columns, RecordFault>
-    ensures ok { IfOk result (λ columns. ReadsField (column_bytes columns) reader.old reader.new) }
-    ensures count { IfOk result (λ columns. length columns ≡ count) }
-    ensures names { IfOk result (λ columns. AreNames (names_in columns)) }
-    ensures apart { IfOk result (λ columns. AreApart [] (names_in columns)) }
-    ensures record_fault { IfErr result (λ m. (next : List Column → Form) → IsFormFault (columns_form count [] next) reader.old m) }
+// The most columns of a table.
+const COLUMN_LIMIT: u16 = 64;
+
+// Reads the number of columns, and each column.
+pub fn read_columns(alloc: Global, reader: &mut FieldReader) -> Result<Columns, FormatFault>
+    ensures { Gives (read columns reader.old) result reader.new }
+{
+    let count = read_u16_in_range(reader, 1, COLUMN_LIMIT)?;
+    read_each(alloc, reader, count)
+}
+
+// Reads this many columns.
+fn read_each(alloc: Global, reader: &mut FieldReader, count: u16) -> Result<Columns, FormatFault>
+    ensures { Gives (read_items (λ before. read (column before)) count [] reader.old) result reader.new }
 {
     let mut columns = Columns::new(alloc);
     for _turn in 0..count {
-        let name = read_column_name(alloc, reader, columns.as_slice())?;
-        let kind = read_type(reader)?;
-        columns.push(name, kind)?;
+        let next = read_column(alloc, reader, columns.as_slice())?;
+        columns.push(next.0, next.1)?;
     }
     Ok(columns)
 }
 
-// Reads the type of a column.
-fn read_type(reader: &mut FieldReader) -> Result<ColumnType, RecordFault>
-    ensures ok { IfOk result (λ kind. ReadsField (type_code kind ∷ []) reader.old reader.new) }
-    ensures record_fault { IfErr result (λ m. (next : ℕ → Form) → IsFormFault (number One 0 3 next) reader.old m) }
+// Reads the next column after those before.
+fn read_column(
+    alloc: Global,
+    reader: &mut FieldReader,
+    before: &[(Name, ColumnType)],
+) -> Result<(Name, ColumnType), FormatFault>
+    ensures { Gives (read (column before.now) reader.old) result reader.new }
 {
-    let code = ranged_u8(reader, 0, 3)?;
-    Ok(match code {
-        0 => ColumnType::Text,
-        1 => ColumnType::Int,
-        2 => ColumnType::BigInt,
-        _ => ColumnType::Uuid,
-    })
+    let name = read_column_name(alloc, reader, before)?;
+    let kind = read_type(reader)?;
+    Ok((name, kind))
+}
+
+// Reads the type of a column.
+fn read_type(reader: &mut FieldReader) -> Result<ColumnType, FormatFault>
+    ensures { Gives (read type reader.old) result reader.new }
+{
+    let start = FieldStart::of(reader);
+    match read_u8(reader)? {
+        0 => Ok(ColumnType::Text),
+        1 => Ok(ColumnType::Int),
+        2 => Ok(ColumnType::BigInt),
+        3 => Ok(ColumnType::Uuid),
+        _ => Err(start.broken(FormatRule::Number, 1)),
+    }
+}
+
+// Reads the position of the key among the columns.
+pub fn read_key(
+    reader: &mut FieldReader,
+    columns: &[(Name, ColumnType)],
+) -> Result<u16, FormatFault>
+    ensures { Gives (read (key columns.now) reader.old) result reader.new }
+{
+    let start = FieldStart::of(reader);
+    let key = read_u16(reader)?;
+    if usize::from(key) >= columns.len() {
+        return Err(start.broken(FormatRule::Number, 2));
+    }
+    Ok(key)
 }

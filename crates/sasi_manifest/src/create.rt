@@ -4,9 +4,9 @@ ghost use Rattle.sasi_host.specs.View.{Holds, IsAbsent, ListCauses, Reaches};
 ghost use Rattle.sasi_host.specs.Disk.{Changes, IsFileDurable};
 ghost use Rattle.sasi_host.specs.Names.{manifest_name, seal_name};
 ghost use Rattle.sasi_manifest.specs.declared.listing.Listing.{Listing as AListing};
-ghost use Rattle.sasi_manifest.specs.Edits.{encoded};
+ghost use Rattle.sasi_manifest.specs.Edits.{AllApply, encoded};
 ghost use Rattle.sasi_manifest.specs.Format.{IsRewritten};
-ghost use Rattle.sasi_manifest.specs.Listings.{AllApply, edits_of};
+ghost use Rattle.sasi_manifest.specs.Listings.{edits_of};
 ghost use Rattle.sasi_manifest.specs.OpenManifest.{Creates, IsOpenManifest, IsUnsealed, ManifestStands, ChangesOnlyManifest};
 
 use crate::Listing;

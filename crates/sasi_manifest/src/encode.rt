@@ -1,7 +1,7 @@
 // The record that an append writes, and the listing after it.
 ghost use Rattle.std.specs.Prelude.{◌≡◌, ◌+◌, ◌≤◌, ◌<◌, ◌^◌, ◌++◌, length, Some, IfOk};
-ghost use Rattle.sasi_manifest.specs.Edits.{encoded};
-ghost use Rattle.sasi_manifest.specs.Listings.{AllApply, after_all, with_record_counted, length_of, records_of};
+ghost use Rattle.sasi_manifest.specs.Edits.{AllApply, encoded};
+ghost use Rattle.sasi_manifest.specs.Listings.{after_all, with_record_counted, length_of, records_of};
 
 use crate::apply::apply;
 use crate::put::put_edit;
@@ -41,7 +41,6 @@ pub fn encode(
 }
 
 // Encodes the edits, and applies them to the listing.
-#[tactic(auto, unfolding(crate::specs::Edits::encoded))]
 fn put_edits(
     alloc: Global,
     from: Option<Listing>,

@@ -7,9 +7,9 @@ ghost use Rattle.sasi_gated.specs.Causes.{ReadingCauses};
 ghost use Rattle.sasi_manifest.specs.declared.listing.Listing.{Listing as AListing};
 ghost use Rattle.sasi_manifest.specs.Consistent.{IsConsistent};
 ghost use Rattle.sasi_manifest.specs.Damages.{IsManifestDamage, NoFalseManifestDamage};
-ghost use Rattle.sasi_manifest.specs.Edits.{encoded};
+ghost use Rattle.sasi_manifest.specs.Edits.{AllApply, encoded};
 ghost use Rattle.sasi_manifest.specs.Format.{IsManifest, IsNext, IsRewritten};
-ghost use Rattle.sasi_manifest.specs.Listings.{AllApply, edits_of};
+ghost use Rattle.sasi_manifest.specs.Listings.{edits_of};
 ghost use Rattle.sasi_manifest.specs.Reading.{ReadsListing, StandsWhereKept};
 ghost use Rattle.sasi_manifest.specs.OpenManifest.{Creates, IsEither, IsUnsealed, ManifestStands, ChangesOnlyManifest};
 

@@ -5,23 +5,22 @@ ghost use Rattle.sasi_host.specs.View.{IsThere, Reaches};
 ghost use Rattle.sasi_host.specs.Disk.{Changes, Same};
 ghost use Rattle.sasi_gated.specs.Causes.{ReadingCauses};
 ghost use Rattle.sasi_host.specs.declared.damage.FormatRule.TheVariants.{Number};
-ghost use Rattle.sasi_host.specs.Damages.{seen_bytes};
-ghost use Rattle.sasi_host.specs.Damages.{OnDamage};
+ghost use Rattle.sasi_host.specs.Damages.{OnDamage, seen_bytes};
 ghost use Rattle.sasi_host.specs.Names.{manifest_name};
 ghost use Rattle.sasi_manifest.specs.declared.listing.Listing.{Listing as AListing};
 ghost use Rattle.sasi_manifest.specs.declared.edit.Edit.{Edit as AnEdit};
-ghost use Rattle.sasi_manifest.specs.Damages.{IsManifestDamage};
-ghost use Rattle.sasi_manifest.specs.Format.{IsRecord};
-ghost use Rattle.sasi_manifest.specs.Forms.{record_form};
+ghost use Rattle.sasi_manifest.specs.Damages.{IsLengthDamage, IsManifestDamage};
+ghost use Rattle.sasi_formats.specs.Formats.{Encodes};
+ghost use Rattle.sasi_formats.specs.Whole.{IsShownBy};
+ghost use Rattle.sasi_manifest.specs.Edits.{edits};
 ghost use Rattle.sasi_manifest.specs.Listings.{after_all, with_record_counted, length_of, records_of};
-ghost use Rattle.sasi_manifest.specs.IsFormFault.{IsFormFault};
 ghost use Rattle.sasi_manifest.specs.Reading.{IsOffsetWithin, IsDamageOfRecord, ReadsWhole};
 ghost use Rattle.sasi_manifest.specs.OpenManifest.{IsOpenManifest};
 
 use crate::Listing;
 use crate::create::Opened;
 use crate::read_record::read_record;
-use crate::record_fault::RecordFault;
+use sasi_formats::FormatFault;
 use sasi_gated::Gated;
 use sasi_host::{Damage, FileName, FormatRule, Host, ManifestNumber, ReadFault, Seen};
 use std::alloc::Global;
@@ -63,14 +62,14 @@ fn take_record(
     requires length { length_of listed ≤ 2 ^ 62 + 1 }
     requires some { 1 ≤ length_of listed }
     requires short { length payload.now ≤ 2 ^ 30 }
-    ensures ok { IfOk result (λ listing. (edits : List AnEdit) × IsRecord listed payload.now edits × (Some listing ≡ with_record_counted payload.now (after_all listed edits))) }
+    ensures ok { IfOk result (λ listing. (es : List AnEdit) × Encodes (edits listed) es payload.now × (Some listing ≡ with_record_counted payload.now (after_all listed es))) }
     ensures damaged { IfErr result (OnDamage (IsDamageOfRecord number (length_of listed - 1) listed payload.now)) }
     ensures not_failed { IfErr result (λ f. f ≢ read_fault.Failed) }
 {
     let before = end_of(&listed);
     match read_record(alloc, listed, payload) {
         Ok(listing) => Ok(listing),
-        Err(record_fault) => Err(record_damage(number, before, payload, record_fault)),
+        Err(fault) => Err(record_damage(number, before, payload, fault)),
     }
 }
 
@@ -90,29 +89,39 @@ fn record_damage(
     number: ManifestNumber,
     before: u64,
     payload: &[u8],
-    record_fault: RecordFault,
+    fault: FormatFault,
 ) -> ReadFault
     requires offset { before ≤ 2 ^ 62 + 1 }
-    requires within { IsOffsetWithin (2 ^ 62) record_fault }
+    requires within { IsOffsetWithin (2 ^ 62) fault }
     requires short { length payload.now ≤ 2 ^ 30 }
-    ensures damaged { (from : Option AListing) → IsFormFault (record_form from) (record { done = []; left = payload.now }) record_fault → OnDamage (IsDamageOfRecord number before from payload.now) result }
+    ensures damaged { (from : Option AListing) → IsShownBy (edits from) payload.now fault → OnDamage (IsDamageOfRecord number before from payload.now) result }
     ensures not_failed { result ≢ read_fault.Failed }
 {
-    let file = FileName::manifest(number);
-    match record_fault {
-        RecordFault::OutOfMemory => ReadFault::OutOfMemory,
-        RecordFault::NoEnd => ReadFault::Damaged(Damage {
-            file,
-            at: before + 1,
-            rule: FormatRule::Number,
-            seen: Seen::of(&(payload.len() as u32).to_be_bytes()),
+    match fault {
+        FormatFault::OutOfMemory => ReadFault::OutOfMemory,
+        FormatFault::Short => ReadFault::Damaged(other_length(number, before, payload)),
+        FormatFault::Long => ReadFault::Damaged(other_length(number, before, payload)),
+        FormatFault::Broken(broken) => ReadFault::Damaged(Damage {
+            file: FileName::manifest(number),
+            at: before + 5 + broken.at as u64,
+            rule: broken.rule,
+            seen: broken.seen,
         }),
-        RecordFault::Broken { rule, at, seen } => ReadFault::Damaged(Damage {
-            file,
-            at: before + 5 + at as u64,
-            rule,
-            seen,
-        }),
+    }
+}
+
+// The damage of the record after the gate at this offset, which states another length than its content has.
+fn other_length(number: ManifestNumber, before: u64, payload: &[u8]) -> Damage
+    requires offset { before ≤ 2 ^ 62 + 1 }
+    requires short { length payload.now ≤ 2 ^ 30 }
+    ensures file { result.file ≡ manifest_name number }
+    ensures damage { IsLengthDamage before payload.now result.rule result.at (seen_bytes result.seen) }
+{
+    Damage {
+        file: FileName::manifest(number),
+        at: before + 1,
+        rule: FormatRule::Number,
+        seen: Seen::of(&(payload.len() as u32).to_be_bytes()),
     }
 }
 

@@ -1,8 +1,8 @@
 // The encoding of edits.
-ghost use Rattle.std.specs.Prelude.{◌≡◌, ◌++◌, ◌∷◌, ◌≤◌, [], length, OnOk};
-ghost use Rattle.std.specs.Int.{to_be_bytes, w16};
+ghost use Rattle.std.specs.Prelude.{◌≡◌, ◌++◌, ◌≤◌, [], length, None, OnOk};
 ghost use Rattle.sasi_model.specs.Refusals.{names_in};
-ghost use Rattle.sasi_manifest.specs.Edits.{column_bytes, edit_bytes, name_bytes, partitioner_code, type_code};
+ghost use Rattle.sasi_formats.specs.Formats.{encoded};
+ghost use Rattle.sasi_manifest.specs.Edits.{edit as edit_format, column as column_format, columns as columns_format, name as name_format, partitioner_code, type_code};
 ghost use Rattle.sasi_manifest.specs.Naming.{AreNames};
 ghost use Rattle.sasi_manifest.specs.Listings.{IsWritable};
 
@@ -11,9 +11,10 @@ use sasi_fields::{put_bytes, put_u8, put_u16, put_u32};
 use sasi_types::{ColumnType, Name, Partitioner};
 use std::alloc::AllocError;
 
+#[tactic(auto, unfolding(crate::specs::Edits::edit))]
 pub fn put_edit(out: &mut Vec<u8>, edit: &Edit) -> Result<(), AllocError>
     requires { IsWritable edit.now }
-    ensures { OnOk result (out.new.items ≡ out.old.items ++ edit_bytes edit.now) }
+    ensures { OnOk result (out.new.items ≡ out.old.items ++ encoded (edit_format None) edit.now) }
 {
     match edit {
         Edit::Start {
@@ -55,7 +56,7 @@ fn code_of(partitioner: Partitioner) -> u8
 
 fn put_name(out: &mut Vec<u8>, name: &Name) -> Result<(), AllocError>
     requires { length name.now ≤ 48 }
-    ensures { OnOk result (out.new.items ≡ out.old.items ++ name_bytes name.now) }
+    ensures { OnOk result (out.new.items ≡ out.old.items ++ encoded (name_format []) name.now) }
 {
     let bytes = name.bytes();
     put_u8(out, bytes.len() as u8)?;
@@ -66,14 +67,21 @@ fn put_name(out: &mut Vec<u8>, name: &Name) -> Result<(), AllocError>
 fn put_columns(out: &mut Vec<u8>, columns: &[(Name, ColumnType)]) -> Result<(), AllocError>
     requires few { length columns.now ≤ 64 }
     requires names { AreNames (names_in columns.now) }
-    ensures { OnOk result (out.new.items ≡ out.old.items ++ (to_be_bytes w16 (length columns.now) ++ column_bytes columns.now)) }
+    ensures { OnOk result (out.new.items ≡ out.old.items ++ encoded columns_format columns.now) }
 {
     put_u16(out, columns.len() as u16)?;
     for column in columns {
-        put_name(out, &column.0)?;
-        put_u8(out, type_code_of(column.1))?;
+        put_column(out, column)?;
     }
     Ok(())
+}
+
+fn put_column(out: &mut Vec<u8>, column: &(Name, ColumnType)) -> Result<(), AllocError>
+    requires { length column.now.0 ≤ 48 }
+    ensures { OnOk result (out.new.items ≡ out.old.items ++ encoded (column_format []) column.now) }
+{
+    put_name(out, &column.0)?;
+    put_u8(out, type_code_of(column.1))
 }
 
 // The byte that names a type.

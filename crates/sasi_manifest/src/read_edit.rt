@@ -1,97 +1,106 @@
 // Edits of a record.
-ghost use Rattle.std.specs.Prelude.{◌≡◌, None, Some, IfErr, IfOk};
+ghost use Rattle.std.specs.Prelude.{◌≡◌, None, Some};
 ghost use Rattle.std.specs.Option.{option_copied};
-ghost use Rattle.sasi_fields.specs.Reading.{ReadsField};
-ghost use Rattle.sasi_manifest.specs.declared.edit.Edit.{Edit as AnEdit};
-ghost use Rattle.sasi_manifest.specs.Edits.{edit_bytes};
-ghost use Rattle.sasi_manifest.specs.Forms.{Form, edit_form, start_form, create_form, number, partitioner_of_code};
-ghost use Rattle.sasi_manifest.specs.Listings.{Applies};
-ghost use Rattle.sasi_manifest.specs.IsFormFault.{IsFormFault};
+ghost use Rattle.sasi_formats.specs.Reader.{read};
+ghost use Rattle.sasi_formats.specs.Gives.{Gives};
+ghost use Rattle.sasi_manifest.specs.Edits.{create, edit, partitioner, segments, shape, start};
 
-use crate::columns::read_columns;
-use crate::field::{ranged_u8, ranged_u16, ranged_u32};
-use crate::record_fault::{RecordFault, broken};
+use crate::columns::{read_columns, read_key};
 use crate::text::read_table_name;
 use crate::{Edit, Listing};
 use sasi_fields::FieldReader;
-use sasi_host::FormatRule;
-use sasi_types::Partitioner;
+use sasi_formats::{FieldStart, FormatFault, read_u8, read_u8_in_range, read_u32_in_range};
+use sasi_host::{FormatRule, SegmentNumber};
+use sasi_types::{Columns, Partitioner};
 use std::alloc::Global;
 
 // The most tables.
 const TABLE_LIMIT: u32 = 256;
-
-// The most columns of a table.
-const COLUMN_LIMIT: u16 = 64;
-
-// The largest byte that names a partitioner.
-const MAX_PARTITIONER_CODE: u8 = 1;
 
 // Reads the next edit, which applies to the listing.
 pub fn read_edit(
     alloc: Global,
     reader: &mut FieldReader,
     listed: Option<&Listing>,
-) -> Result<Edit, RecordFault>
-    ensures ok { IfOk result (λ edit. ReadsField (edit_bytes edit) reader.old reader.new) }
-    ensures applies { IfOk result (Applies (option_copied listed.entry)) }
-    ensures record_fault { IfErr result (λ m. (next : AnEdit → Form) → IsFormFault (edit_form (option_copied listed.entry) next) reader.old m) }
+) -> Result<Edit, FormatFault>
+    ensures { Gives (read (edit (option_copied listed.entry)) reader.old) result reader.new }
 {
     match listed {
-        None => read_start(reader),
-        Some(listing) => read_create(alloc, reader, listing),
+        None => read_first(reader),
+        Some(listing) => read_later(alloc, reader, listing),
     }
 }
 
 // Reads the first edit of a manifest.
-fn read_start(reader: &mut FieldReader) -> Result<Edit, RecordFault>
-    ensures ok { IfOk result (λ edit. ReadsField (edit_bytes edit) reader.old reader.new) }
-    ensures applies { IfOk result (Applies None) }
-    ensures record_fault { IfErr result (λ m. (next : AnEdit → Form) → IsFormFault (edit_form None next) reader.old m) }
+fn read_first(reader: &mut FieldReader) -> Result<Edit, FormatFault>
+    ensures { Gives (read (edit None) reader.old) result reader.new }
 {
-    ranged_u8(reader, 1, 1)?;
-    let code = ranged_u8(reader, 0, MAX_PARTITIONER_CODE)?;
-    let at = reader.offset();
-    let floor = ranged_u32(reader, 1, u32::MAX)?;
-    let last = ranged_u32(reader, 1, u32::MAX)?;
-    if last < floor {
-        return Err(broken(FormatRule::Number, at, &floor.to_be_bytes()));
-    }
+    let _tag = read_u8_in_range(reader, 1, 1)?;
+    read_start(reader)
+}
+
+// Reads an edit of a manifest that has begun.
+fn read_later(
+    alloc: Global,
+    reader: &mut FieldReader,
+    listing: &Listing,
+) -> Result<Edit, FormatFault>
+    ensures { Gives (read (edit (Some listing.now)) reader.old) result reader.new }
+{
+    let _tag = read_u8_in_range(reader, 2, 2)?;
+    read_create(alloc, reader, listing)
+}
+
+// Reads the fields of a start.
+fn read_start(reader: &mut FieldReader) -> Result<Edit, FormatFault>
+    ensures { Gives (read start reader.old) result reader.new }
+{
+    let partitioner = read_partitioner(reader)?;
+    let (floor, last) = read_segments(reader)?;
     Ok(Edit::Start {
-        partitioner: partitioner_named(code),
+        partitioner,
         floor,
         last,
     })
 }
 
-// The partitioner that the byte names.
-fn partitioner_named(code: u8) -> Partitioner
-    ensures { result ≡ partitioner_of_code code }
+// Reads the byte that names a partitioner.
+fn read_partitioner(reader: &mut FieldReader) -> Result<Partitioner, FormatFault>
+    ensures { Gives (read partitioner reader.old) result reader.new }
 {
-    match code {
-        0 => Partitioner::Lead8,
-        _ => Partitioner::Murmur3,
+    let start = FieldStart::of(reader);
+    match read_u8(reader)? {
+        0 => Ok(Partitioner::Lead8),
+        1 => Ok(Partitioner::Murmur3),
+        _ => Err(start.broken(FormatRule::Number, 1)),
     }
 }
 
-// Reads the edit that adds a table after the listed ones.
+// Reads the first and the last live segment.
+fn read_segments(reader: &mut FieldReader) -> Result<(SegmentNumber, SegmentNumber), FormatFault>
+    ensures { Gives (read segments reader.old) result reader.new }
+{
+    let start = FieldStart::of(reader);
+    let floor = read_u32_in_range(reader, 1, u32::MAX)?;
+    let last = read_u32_in_range(reader, 1, u32::MAX)?;
+    if last < floor {
+        return Err(start.broken(FormatRule::Number, 4));
+    }
+    Ok((floor, last))
+}
+
+// Reads the fields of a table after the listed ones.
 fn read_create(
     alloc: Global,
     reader: &mut FieldReader,
     listing: &Listing,
-) -> Result<Edit, RecordFault>
-    ensures ok { IfOk result (λ edit. ReadsField (edit_bytes edit) reader.old reader.new) }
-    ensures applies { IfOk result (Applies (Some listing.now)) }
-    ensures record_fault { IfErr result (λ m. (next : AnEdit → Form) → IsFormFault (edit_form (Some listing.now) next) reader.old m) }
+) -> Result<Edit, FormatFault>
+    ensures { Gives (read (create listing.now.tables listing.now.last) reader.old) result reader.new }
 {
-    ranged_u8(reader, 2, 2)?;
     let next = listing.tables.len() as u32 + 1;
-    let number = ranged_u32(reader, next, next.min(TABLE_LIMIT))?;
+    let number = read_u32_in_range(reader, next, next.min(TABLE_LIMIT))?;
     let name = read_table_name(alloc, reader, &listing.tables)?;
-    let count = ranged_u16(reader, 1, COLUMN_LIMIT)?;
-    let columns = read_columns(alloc, reader, count)?;
-    let key = ranged_u16(reader, 0, count - 1)?;
-    let since = ranged_u32(reader, 1, listing.last)?;
+    let (columns, (key, since)) = read_shape(alloc, reader, listing.last)?;
     Ok(Edit::CreateTable {
         number,
         name,
@@ -99,4 +108,18 @@ fn read_create(
         key,
         since,
     })
+}
+
+// Reads the columns, the position of the key and the first segment.
+fn read_shape(
+    alloc: Global,
+    reader: &mut FieldReader,
+    last: SegmentNumber,
+) -> Result<(Columns, (u16, SegmentNumber)), FormatFault>
+    ensures { Gives (read (shape last) reader.old) result reader.new }
+{
+    let columns = read_columns(alloc, reader)?;
+    let key = read_key(reader, columns.as_slice())?;
+    let since = read_u32_in_range(reader, 1, last)?;
+    Ok((columns, (key, since)))
 }

@@ -1,18 +1,19 @@
 // Records of a manifest.
-ghost use Rattle.std.specs.Prelude.{◌≡◌, ◌+◌, ◌≤◌, ◌^◌, [], List, length, IfErr, IfOk, Some};
+ghost use Rattle.std.specs.Prelude.{◌≡◌, ◌+◌, ◌≤◌, ◌^◌, List, length, IfErr, IfOk, Some};
+ghost use Rattle.sasi_formats.specs.Formats.{Encodes};
+ghost use Rattle.sasi_formats.specs.Reader.{Got};
+ghost use Rattle.sasi_formats.specs.Gives.{FailsWith};
+ghost use Rattle.sasi_formats.specs.Whole.{IsShownBy};
 ghost use Rattle.sasi_manifest.specs.declared.edit.Edit.{Edit as AnEdit};
-ghost use Rattle.sasi_manifest.specs.Format.{IsRecord};
-ghost use Rattle.sasi_manifest.specs.Forms.{edits_form, record_form};
+ghost use Rattle.sasi_manifest.specs.Edits.{edits};
+ghost use Rattle.sasi_manifest.specs.ReadEdits.{read_edits};
 ghost use Rattle.sasi_manifest.specs.Listings.{after_all, with_record_counted, length_of, records_of};
-ghost use Rattle.sasi_manifest.specs.IsFormFault.{IsFormFault};
-ghost use Rattle.sasi_manifest.specs.ReadEdits.{ReadsEdits};
 
 use crate::Listing;
 use crate::apply::apply;
-use crate::field::ranged_u32;
 use crate::read_edit::read_edit;
-use crate::record_fault::RecordFault;
 use sasi_fields::FieldReader;
+use sasi_formats::{FormatFault, read_u32_in_range};
 use std::alloc::Global;
 
 // Applies the record with this payload to the listing.
@@ -20,22 +21,35 @@ pub fn read_record(
     alloc: Global,
     listed: Option<Listing>,
     payload: &[u8],
-) -> Result<Listing, RecordFault>
+) -> Result<Listing, FormatFault>
     requires records { records_of listed ≤ 2 ^ 62 }
     requires length { length_of listed ≤ 2 ^ 62 + 1 }
     requires short { length payload.now ≤ 2 ^ 62 }
-    ensures ok { IfOk result (λ listing. (edits : List AnEdit) × IsRecord listed payload.now edits × (Some listing ≡ with_record_counted payload.now (after_all listed edits))) }
-    ensures record_fault { IfErr result (IsFormFault (record_form listed) (record { done = []; left = payload.now })) }
+    ensures ok { IfOk result (λ listing. (es : List AnEdit) × Encodes (edits listed) es payload.now × (Some listing ≡ with_record_counted payload.now (after_all listed es))) }
+    ensures shown { IfErr result (IsShownBy (edits listed) payload.now) }
 {
-    let mut reader = FieldReader::new(payload);
-    let count = ranged_u32(&mut reader, 1, u32::MAX)?;
-    let Some(listing) = read_edits(alloc, &mut reader, count, listed)? else {
+    let Some(listing) = read_all(alloc, payload, listed)? else {
         unreachable!();
     };
-    if !reader.left().is_empty() {
-        return Err(RecordFault::NoEnd);
-    }
     Ok(with_record(listing, payload.len() as u64))
+}
+
+// Reads the edits, which are all the bytes, and applies them one after another.
+fn read_all(
+    alloc: Global,
+    payload: &[u8],
+    listed: Option<Listing>,
+) -> Result<Option<Listing>, FormatFault>
+    ensures ok { IfOk result (λ to. (es : List AnEdit) × Encodes (edits listed) es payload.now × (after_all listed es ≡ to)) }
+    ensures shown { IfErr result (IsShownBy (edits listed) payload.now) }
+{
+    let mut reader = FieldReader::new(payload);
+    let count = read_u32_in_range(&mut reader, 1, u32::MAX)?;
+    let made = read_edits(alloc, &mut reader, count, listed)?;
+    if !reader.left().is_empty() {
+        return Err(FormatFault::Long);
+    }
+    Ok(made)
 }
 
 // Reads this many edits, and applies them one after another.
@@ -44,9 +58,9 @@ fn read_edits(
     reader: &mut FieldReader,
     count: u32,
     listed: Option<Listing>,
-) -> Result<Option<Listing>, RecordFault>
-    ensures ok { IfOk result (λ to. ReadsEdits listed to count reader.old reader.new) }
-    ensures record_fault { IfErr result (IsFormFault (edits_form count listed) reader.old) }
+) -> Result<Option<Listing>, FormatFault>
+    ensures ok { IfOk result (λ to. (es : List AnEdit) × (read_edits listed count reader.old ≡ Got es reader.new) × (after_all listed es ≡ to)) }
+    ensures fails { IfErr result (FailsWith (read_edits listed count reader.old)) }
 {
     let mut listed = listed;
     for _turn in 0..count {

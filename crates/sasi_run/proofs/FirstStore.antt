@@ -17,10 +17,12 @@ use Rattle.sasi_gated.proofs.Laws.{gated_end}
 use Rattle.sasi_commitlog.specs.LogPosition.{IsAtLogEnd}
 use Rattle.sasi_manifest.specs.declared.listing.Listing.{Listing}
 use Rattle.sasi_manifest.specs.Consistent.{IsConsistent}
+use Rattle.sasi_manifest.proofs.Applying.{start_applies}
 use Rattle.sasi_manifest.proofs.Consistency.{record_consistent}
-use Rattle.sasi_manifest.specs.Edits.{encoded, start_length}
+use Rattle.sasi_manifest.proofs.EditBytes.{start_length}
+use Rattle.sasi_manifest.specs.Edits.{AllApply, encoded}
 use Rattle.sasi_manifest.specs.Format.{IsManifest, IsRewritten}
-use Rattle.sasi_manifest.specs.Listings.{AllApply, edits_of}
+use Rattle.sasi_manifest.specs.Listings.{edits_of}
 use Rattle.sasi_manifest.specs.OpenManifest.{Creates, IsUnsealed, ChangesOnlyManifest}
 use Rattle.sasi_manifest.specs.OpenManifest as manifests
 use Rattle.sasi_folder.proofs.FolderLaws.{kinds_apart}
@@ -38,7 +40,7 @@ abbrev pub new_listing : Partitioner → Listing
 new_listing p = record { partitioner = p; floor = 1; last = 1; records = 1; length = 36; tables = [] }
 
 pub first_apply : (p : Partitioner) → AllApply None (edits_of (new_listing p))
-first_apply p = (record { floor_some = omega arith; ordered = omega arith; last_fits = omega arith }, tt)
+first_apply p = (start_applies p 1 1 (record { floor_some = omega arith; ordered = omega arith; last_fits = omega arith }), tt)
 
 pub first_short : (p : Partitioner) → length (encoded (edits_of (new_listing p))) ≤ 2 ^ 30
 first_short p = omega (arith, start_length p 1 1)

@@ -24,10 +24,10 @@ use Rattle.sasi_manifest.specs.declared.edit.Edit.{Edit}
 use Rattle.sasi_manifest.specs.declared.edit.Edit.TheVariants as edits
 use Rattle.sasi_manifest.specs.declared.listing.Listing.{Listing}
 use Rattle.sasi_manifest.proofs.Consistency.{record_consistent}
-use Rattle.sasi_manifest.specs.Edits.{encoded}
+use Rattle.sasi_manifest.specs.Edits.{Applies, encoded}
 use Rattle.sasi_manifest.specs.Format.{IsNext}
 use Rattle.sasi_manifest.specs.ListedDefinition.{ListedDefinition}
-use Rattle.sasi_manifest.specs.Listings.{CanCreate, created_table}
+use Rattle.sasi_manifest.specs.Listings.{created_table}
 use Rattle.sasi_manifest.specs.OpenManifest.{ManifestState, IsEither, ManifestStands}
 use Rattle.sasi_folder.proofs.Creating.{can_create}
 use Rattle.sasi_folder.proofs.FolderLaws.{kinds_apart}
@@ -95,7 +95,7 @@ edit_of t since = edits.CreateTable t.number t.name t.columns t.key since
 abbrev pub listed_of : Table → ℕ → ListedDefinition
 listed_of t since = created_table t.name t.columns t.key since
 
-module _ (a b : View) (sound : IsSound a) (store : Store) (t : Table) (ready : IsReady a store) (can : CanCreate store.manifest.listing t.number t.name t.columns t.key store.manifest.listing.last) where
+module _ (a b : View) (sound : IsSound a) (store : Store) (t : Table) (ready : IsReady a store) (can : Applies (Some store.manifest.listing) (edit_of t store.manifest.listing.last)) where
   adds : (next : Listing) → IsNext store.manifest.listing (edit_of t store.manifest.listing.last ∷ []) next → AddsTable store.manifest.listing next (listed_of t store.manifest.listing.last)
   adds next is = adds_table store.manifest.listing next t.number t.name t.columns t.key store.manifest.listing.last is
 
@@ -128,7 +128,7 @@ module _ (a b : View) (sound : IsSound a) (store : Store) (t : Table) (ready : I
       create_durable a b sound store.machine store.manifest store.log durable new.listing (listed_of t store.manifest.listing.last) (adds new.listing is) new number refl told (stands durable.manifest_end) change
 
 -- a table that a statement makes can be listed
-pub made_can_create : (v : View) (store : Store) (statement : Statement) (t : Table) → IsReady v store → IsWellFormed statement → CreatesTable store.machine statement t → CanCreate store.manifest.listing t.number t.name t.columns t.key store.manifest.listing.last
+pub made_can_create : (v : View) (store : Store) (statement : Statement) (t : Table) → IsReady v store → IsWellFormed statement → CreatesTable store.machine statement t → Applies (Some store.manifest.listing) (edit_of t store.manifest.listing.last)
 made_can_create v store (CreateTable table columns keys) t ready written (taken, is, number) =
     let can = can_create store.manifest.listing store.machine table columns keys ready.consistent ready.together.tables written taken in
     let name : t.name ≡ table = ap (λ (d : Definition). d.name) is in
@@ -136,7 +136,7 @@ made_can_create v store (CreateTable table columns keys) t ready written (taken,
     let key = ap (λ (d : Definition). d.key) is in
     let count : length store.machine.tables ≡ length store.manifest.listing.tables = sym (length-map store.machine.tables (λ (x : ATable). x.definition)) ∙ ap length ready.together.tables ∙ length-map store.manifest.listing.tables (λ (x : ListedDefinition). x.definition) in
     let next : suc (length store.manifest.listing.tables) ≡ t.number = omega (arith, number, count) in
-    rw (name, columns_are, key) (subst (λ n. CanCreate store.manifest.listing n table columns (new_definition table columns keys).key store.manifest.listing.last) next can)
+    rw (name, columns_are, key) (subst (λ n. Applies (Some store.manifest.listing) (edits.CreateTable n table columns (new_definition table columns keys).key store.manifest.listing.last)) next can)
 made_can_create v store (Insert table columns values time) t ready written makes = absurd makes
 made_can_create v store (Update table time sets key value) t ready written makes = absurd makes
 made_can_create v store (Delete table columns time key value) t ready written makes = absurd makes

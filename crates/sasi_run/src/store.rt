@@ -1,12 +1,12 @@
 // An open store: its tables in memory, and the manifest and the commit log, which record each change before it is applied.
-ghost use Rattle.std.specs.Prelude.{◌≡◌, ◌∷◌, [], IfErr, IfOk, OnOk};
+ghost use Rattle.std.specs.Prelude.{◌≡◌, ◌∷◌, [], IfErr, IfOk, OnOk, Some};
 ghost use Rattle.sasi_host.specs.View.{IsTold, ListCauses};
 ghost use Rattle.sasi_host.specs.Disk.{Changes};
 ghost use Rattle.sasi_model.specs.Pieces.{piece_of};
 ghost use Rattle.sasi_model.specs.Changes.{with_new_table};
 ghost use Rattle.sasi_model.specs.Step.{step};
 ghost use Rattle.sasi_schema.specs.Defined.{definition};
-ghost use Rattle.sasi_manifest.specs.Listings.{CanCreate};
+ghost use Rattle.sasi_manifest.specs.Edits.{Applies};
 ghost use Rattle.sasi_machine.specs.Outcome.{outcome_of};
 ghost use Rattle.sasi_cells.specs.Mutations.{state_with_mutation};
 ghost use Rattle.sasi_machine.specs.Prepares.{IsApplicable, IsNewTable};
@@ -86,7 +86,7 @@ fn create<H: Host>(
 ) -> Result<(), HostFault>
     requires ready { IsReady (H.view host.old) store.old }
     requires next { IsNewTable store.old.machine table }
-    requires can { CanCreate store.old.manifest.listing table.number table.name table.columns table.key store.old.manifest.listing.last }
+    requires can { Applies (Some store.old.manifest.listing) (Edit.CreateTable table.number table.name table.columns table.key store.old.manifest.listing.last) }
     ensures state { OnOk result (store.new.machine ≡ with_new_table store.old.machine (definition table)) }
     ensures ready { OnOk result (IsReady (H.view host.new) store.new) }
     ensures durable { OnOk result (IsTold (H.view host.old) → IsStoreDurable (H.view host.old) store.old → IsStoreDurable (H.view host.new) store.new) }

@@ -1,7 +1,8 @@
 use Rattle.std.proofs.Common.{length, arith, ap, sym, ◌∙◌, length-append}
-use Rattle.sasi_manifest.specs.Edits.{encoded, encoded_length}
+use Rattle.sasi_manifest.specs.Edits.{encoded}
+use Rattle.sasi_manifest.proofs.EditBytes.{edits_few, encoded_length}
 use Rattle.sasi_manifest.specs.Listings.{records_of, length_of}
-use Rattle.sasi_manifest.proofs.Records.{edits_few, something_listed, sizes_stay}
+use Rattle.sasi_manifest.proofs.Records.{something_listed, sizes_stay}
 use Rattle.sasi_manifest.proofs.encode.encode.Goals as goal
 
 pub put_edits-requires-clause-few : goal.put_edits-requires-clause-few

@@ -7,7 +7,8 @@ use Rattle.sasi_gated.specs.Reads.{ReadsGate}
 use Rattle.sasi_host.specs.Damages.{OnDamage}
 use Rattle.sasi_manifest.specs.declared.edit.Edit.{Edit}
 use Rattle.sasi_manifest.specs.declared.listing.Listing.{Listing}
-use Rattle.sasi_manifest.specs.Format.{IsRecord}
+use Rattle.sasi_formats.specs.Formats.{Encodes}
+use Rattle.sasi_manifest.specs.Edits.{edits}
 use Rattle.sasi_manifest.specs.Listings.{after_all, with_record_counted, length_of}
 use Rattle.sasi_manifest.specs.Reading.{ReadingGoesOn, IsDamageOfRecord}
 use Rattle.sasi_manifest.proofs.Opening.{shown_at_gate, shown_inside, shown_empty, goes_on_next, read_whole}
@@ -45,8 +46,8 @@ loop-listed-preserved g c =
     (g.H.Host.view c.loop-listed.host) c.loop-listed.gated.file c.loop-listed.gated.at c.next.new.self.at more c.next.new.out.items)
     c.if-branch.true next.gate in
     let offset = subst (λ (more : Bool). c.next.new.self.at ≡ (if more then c.loop-listed.gated.at + (5 + length c.next.new.out.items) else c.loop-listed.gated.at)) c.if-branch.true next.offset in
-    let took = subst (λ (l : Bytes). (edits : List Edit) × IsRecord c.loop-listed.listed l edits
-    × (Some c.in_ok-take_record.field-0 ≡ with_record_counted l (after_all c.loop-listed.listed edits))) c.deref.ensures.value
+    let took = subst (λ (l : Bytes). (es : List Edit) × Encodes (edits c.loop-listed.listed) es l
+    × (Some c.in_ok-take_record.field-0 ≡ with_record_counted l (after_all c.loop-listed.listed es))) c.deref.ensures.value
     c.in_ok-take_record.ensures.ok in
     goes_on_next (g.H.Host.view c.args.host.now) (g.H.Host.view c.loop-listed.host)
     (g.H.Host.view c.next.new.host) c.args.number c.loop-listed.gated c.next.new.self c.loop-listed.listed c.in_ok-take_record.field-0

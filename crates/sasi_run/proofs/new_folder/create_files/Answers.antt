@@ -1,15 +1,15 @@
-use Rattle.std.proofs.Common.{◌+◌, ◌≤◌, ◌^◌, length, sym, subst, arith}
+use Rattle.std.proofs.Common.{◌+◌, ◌≤◌, ◌^◌, None, length, sym, subst, arith}
 use Rattle.sasi_host.specs.Disk.{AnyChange, FileChange}
 use Rattle.sasi_host.specs.Contents.{absent_where, contents_other}
 use Rattle.sasi_host.specs.Names.{log_name, manifest_name, seal_name}
 use Rattle.sasi_manifest.specs.declared.listing.Listing.{Listing}
-use Rattle.sasi_manifest.specs.Edits.{encoded}
+use Rattle.sasi_manifest.specs.Edits.{AllApply, encoded}
 use Rattle.sasi_manifest.specs.Format.{IsRewritten}
 use Rattle.sasi_manifest.specs.Listings.{edits_of}
 use Rattle.sasi_folder.proofs.FolderLaws.{kinds_apart}
 use Rattle.sasi_run.specs.declared.store.Store.{Store}
 use Rattle.sasi_run.proofs.NoUnlistedFiles.{alone_first}
-use Rattle.sasi_run.proofs.FirstStore.{create_moments, first_ready, first_durable, first_short, fresh_moments, fresh_unsealed, is_rewritten, log_fresh, log_room, log_any_change, made_listing, made_any_change, still_fresh}
+use Rattle.sasi_run.proofs.FirstStore.{create_moments, first_ready, first_apply, first_durable, first_short, fresh_moments, fresh_unsealed, is_rewritten, log_fresh, log_room, log_any_change, made_listing, made_any_change, still_fresh}
 use Rattle.sasi_run.proofs.new_folder.create_files.Goals as goal
 
 pub returns-in_err-log-clause-any_moment : goal.returns-in_err-log-clause-any_moment
@@ -30,6 +30,9 @@ create-requires-2-clause-seal g c =
     absent_where (g.H.Host.view c.args.host.now) (g.H.Host.view c.create.new.host) (seal_name 1)
     (contents_other (g.H.Host.view c.args.host.now) (g.H.Host.view c.create.new.host) (log_name 1) (seal_name 1) AnyChange
     (kinds_apart _ _ (omega arith)) c.create.ensures.changes) (c.requires (seal_name 1))
+
+pub create-requires-2-clause-apply : goal.create-requires-2-clause-apply
+create-requires-2-clause-apply g c = subst (λ (l : Listing). AllApply None (edits_of l)) (sym c.new-listing.ensures) (first_apply c.args.partitioner)
 
 pub create-requires-2-clause-short : goal.create-requires-2-clause-short
 create-requires-2-clause-short g c = subst (λ (l : Listing). length (encoded (edits_of l)) ≤ 2 ^ 30) (sym c.new-listing.ensures)

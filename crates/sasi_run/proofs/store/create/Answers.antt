@@ -1,6 +1,6 @@
-use Rattle.std.proofs.Common.{◌≤◌, ◌^◌, ◌∷◌, ◌∙◌, [], List, ap, length, sym, subst}
+use Rattle.std.proofs.Common.{◌≤◌, ◌^◌, ◌∷◌, ◌∙◌, [], List, Some, ap, length, sym, subst}
 use Rattle.sasi_manifest.specs.declared.edit.Edit.{Edit}
-use Rattle.sasi_manifest.specs.Edits.{encoded}
+use Rattle.sasi_manifest.specs.Edits.{AllApply, encoded}
 use Rattle.sasi_folder.proofs.Recording.{create_short}
 use Rattle.sasi_manifest.specs.declared.listing.Listing.{Listing}
 use Rattle.sasi_host.specs.Names.{manifest_name}
@@ -13,6 +13,11 @@ returns-in_err-edits-clause-any_moment g c = nothing_atomic (g.H.Host.view c.arg
 
 pub returns-in_err-edits-clause-changes : goal.returns-in_err-edits-clause-changes
 returns-in_err-edits-clause-changes g c = stays_any_change (g.H.Host.view c.args.host.now)
+
+pub append-requires-clause-apply : goal.append-requires-clause-apply
+append-requires-clause-apply g c =
+    let is_edit = c.in_ok-edits.ensures.edits ∙ ap (λ (l : Listing). edit_of c.args.table l.last ∷ []) c.listing.ensures.listing in
+    subst (λ (l : List Edit). AllApply (Some c.args.store.now.manifest.listing) l) (sym is_edit) (c.requires.can, tt)
 
 pub append-requires-clause-short : goal.append-requires-clause-short
 append-requires-clause-short g c =

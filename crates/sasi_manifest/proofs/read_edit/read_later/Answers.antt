@@ -1,0 +1,11 @@
+use Rattle.std.proofs.lemmas.Result.{err_from_is_err_and}
+use Rattle.sasi_manifest.proofs.Tagged.{create_gives, later_tag_fails}
+use Rattle.sasi_manifest.proofs.read_edit.read_later.Goals as goal
+
+pub returns-in_err-_tag : goal.returns-in_err-_tag
+returns-in_err-_tag c =
+    let p = err_from_is_err_and c.from_residual.result c.from_residual.ensures.1 in
+    rw (p.1, p.2) (later_tag_fails c.args.listing.now c.args.reader.now c.in_err-_tag.field-0.0 c.in_err-_tag.ensures)
+
+pub returns : goal.returns
+returns c = create_gives c.args.listing.now _ c.args.reader.now c.read_u8_in_range.new.reader c.read_create.new.reader c.read_create.result c.in_ok-_tag.ensures c.read_create.ensures
