@@ -1,5 +1,5 @@
 -- The grammar as a relation and the function that finds the statement: the two agree.
-use Rattle.std.proofs.Common.{◌≡◌, ◌≤◌, ℕ, true, ◌==◌, List, [], ◌∷◌, ◌++◌, length, Option, None, Some, refl, ◌∙◌, leb, arith}
+use Rattle.std.proofs.Common.{◌≡◌, ◌≤◌, ℕ, true, ◌==◌, List, [], ◌∷◌, ◌++◌, length, Option, None, Some, refl, sym, ◌∙◌, leb, arith}
 use Rattle.std.specs.List.{flat_map}
 use Rattle.sasi_types.specs.declared.literal.Literal.{Literal}
 use Rattle.sasi_types.specs.declared.literal.Number.{Number}
@@ -7,7 +7,7 @@ use Rattle.sasi_types.specs.declared.statement.Select.{Select}
 use Rattle.sasi_types.specs.declared.statement.Statement.{Statement}
 use Rattle.sasi_types.specs.declared.statement.Statement.TheVariants.{CreateTable, Insert, Update, Delete, Query}
 use Rattle.sasi_model.specs.Tokens.{Token, Open, Close, Comma, Semicolon}
-use Rattle.sasi_model.specs.Statements.{word, these, ◌then◌, listed, name, literal, name_of, using_time, equation, Item, item, columns_of, keys_of, names_or_none, asked, Reads, when, expect, read_list, read_name, read_literal, read_time, read_equation, read_item, read_names_or_none, read_asked, read_where, ended, created, create_of, insert_values, insert_of, update_of, delete_of, query_of, statement_of}
+use Rattle.sasi_model.specs.Statements.{word, these, ◌then◌, listed, name, literal, name_of, using_time, equation, Item, item, columns_of, keys_of, names_or_none, asked, Reads, Parser, IsParser, when, expect, read_list, read_name, read_literal, read_time, read_equation, read_item, read_names_or_none, read_asked, read_where, ended, created, create_of, insert_values, insert_of, update_of, delete_of, query_of, statement_of}
 use Rattle.sasi_cql.proofs.Phrases.{passed, went_on, leads, joins, expected, these_lead, these_expected, Anything, one_sound, one_complete, Ends}
 use Rattle.sasi_cql.proofs.Productions.{other_front, names_sound, names_complete, literals_sound, literals_complete, time_sound, time_complete, equations_sound, equations_complete, NoKey, items_sound, items_complete, names_or_none_sound, names_or_none_complete, asked_sound, asked_complete, where_sound, where_complete}
 
@@ -243,3 +243,18 @@ found tokens (Insert table columns values time) r =
 found tokens (Update table time sets key value) r = rw (r.whole, r.starts) (update_found table time sets (key, value) r.behind r.ends)
 found tokens (Delete table columns time key value) r = rw (r.whole, r.starts) (delete_found columns table time (key, value) r.behind r.ends)
 found tokens (Query select) r = rw (r.whole, r.starts) (query_found select r.behind r.ends)
+
+-- ---- the one parser
+
+pub is_parser : IsParser statement_of
+is_parser tokens statement = (spelled tokens statement, found tokens statement)
+
+found_alike : (a b : Option Statement) → ((s : Statement) → a ≡ Some s → b ≡ Some s) → ((s : Statement) → b ≡ Some s → a ≡ Some s) → a ≡ b
+found_alike None None there back = refl
+found_alike None (Some s) there back = back s refl
+found_alike (Some s) b there back = sym (there s refl)
+
+pub one_parser : (parser : Parser) → IsParser parser → (tokens : List Token) → parser tokens ≡ statement_of tokens
+one_parser parser parses tokens = found_alike (parser tokens) (statement_of tokens)
+    (λ s is. found tokens s ((parses tokens s).0 is))
+    (λ s is. (parses tokens s).1 (spelled tokens s is))

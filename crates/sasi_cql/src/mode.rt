@@ -1,7 +1,7 @@
 // What is open after a byte of a script.
 
 /// What a byte of a script leaves open.
-#[derive(Clone, Copy, Debug, PartialEq, Eq)]
+#[derive(Clone, Copy)]
 pub enum ScanMode {
     /// Nothing.
     Plain,

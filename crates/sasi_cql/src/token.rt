@@ -2,7 +2,7 @@
 use sasi_types::Number;
 
 /// A token of a text, whose bytes it borrows.
-#[derive(Clone, Copy, Debug)]
+#[derive(Clone, Copy)]
 pub enum Token<'a> {
     /// A word as it is written, in whichever case.
     Word(&'a [u8]),

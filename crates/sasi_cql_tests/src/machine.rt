@@ -3,16 +3,24 @@ use sasi_machine::{Machine, Outcome, Reply};
 use sasi_types::{Partitioner, PieceEnd};
 use std::process::Abort;
 
+/// Steps the machine by a piece.
+fn step(
+    rt: &impl Abort,
+    machine: &mut Machine,
+    reply: &mut Reply,
+    piece: &str,
+    end: PieceEnd,
+) -> Outcome {
+    machine
+        .step(piece.as_bytes(), end, reply)
+        .expect(rt, "memory is left")
+}
+
 /// Steps the machine by a whole piece, and compares the reply and the outcome.
 fn check(rt: &impl Abort, machine: &mut Machine, reply: &mut Reply, piece: &str, wanted: &str) {
-    let outcome = machine
-        .step(piece.as_bytes(), PieceEnd::Whole, reply)
-        .expect(rt, "memory is left");
+    let outcome = step(rt, machine, reply, piece, PieceEnd::Whole);
     assert_eq!(rt; reply.bytes(), wanted.as_bytes());
-    assert_eq!(rt;
-        matches!(outcome, Outcome::Done),
-        !wanted.starts_with("error")
-    );
+    assert!(rt; matches!(outcome, Outcome::Done) != wanted.starts_with("error"));
 }
 
 #[test]
@@ -38,9 +46,13 @@ fn pieces_are_answered(rt: HostRuntime) {
     for (piece, wanted) in pieces {
         check(&rt, &mut machine, &mut reply, piece, wanted);
     }
-    let outcome = machine
-        .step(b"SELECT".as_slice(), PieceEnd::Unfinished, &mut reply)
-        .expect(&rt, "memory is left");
+    let outcome = step(
+        &rt,
+        &mut machine,
+        &mut reply,
+        "SELECT",
+        PieceEnd::Unfinished,
+    );
     assert!(rt; outcome == Outcome::Refused(25));
-    assert_eq!(rt; reply.bytes(), b"error 25 Unfinished\n".as_slice());
+    assert!(rt; reply.bytes() == b"error 25 Unfinished\n".as_slice());
 }

@@ -25,36 +25,50 @@ fn add(rt: &impl Abort, lines: &mut Vec<u8>, end: PieceEnd, text: &[u8]) {
     lines.push(b'|').expect(rt, "memory is left");
 }
 
+/// Pushes a byte, and tells the piece that it ends.
+fn pushed(rt: &impl Abort, splitter: &mut Splitter, byte: u8) -> Option<PieceEnd> {
+    splitter.push(byte).expect(rt, "memory is left")
+}
+
 /// Pushes a byte, and adds the line on the piece that it ends.
 fn push(rt: &impl Abort, splitter: &mut Splitter, lines: &mut Vec<u8>, byte: u8) {
-    if let Some(end) = splitter.push(byte).expect(rt, "memory is left") {
+    if let Some(end) = pushed(rt, splitter, byte) {
         add(rt, lines, end, splitter.piece());
     }
 }
 
-/// The lines on the pieces of `front`, then `count` times `byte`, then `back`.
-fn cut(
-    rt: &impl Abort,
-    alloc: Global,
-    front: &[u8],
-    byte: u8,
-    count: usize,
-    back: &[u8],
-) -> Vec<u8> {
+/// Adds the line on the piece that the end of the script ends.
+fn end(rt: &impl Abort, splitter: &mut Splitter, lines: &mut Vec<u8>) {
+    if let Some(end) = splitter.end() {
+        add(rt, lines, end, splitter.piece());
+    }
+}
+
+/// `front`, then the letter a so many times, then `back`.
+fn script(rt: &impl Abort, alloc: Global, front: &[u8], count: usize, back: &[u8]) -> Vec<u8> {
+    let mut script = front.to_vec(alloc).expect(rt, "memory is left");
+    script
+        .resize(front.len().saturating_add(count), b'a')
+        .expect(rt, "memory is left");
+    script.extend_from_slice(back).expect(rt, "memory is left");
+    script
+}
+
+/// The lines on the pieces of a script.
+fn cut(rt: &impl Abort, alloc: Global, script: &[u8]) -> Vec<u8> {
     let mut splitter = Splitter::new(alloc);
     let mut lines = Vec::new(alloc);
-    let script = front
-        .iter()
-        .copied()
-        .chain(std::iter::repeat_n(byte, count))
-        .chain(back.iter().copied());
     for byte in script {
-        push(rt, &mut splitter, &mut lines, byte);
+        push(rt, &mut splitter, &mut lines, *byte);
     }
-    if let Some(end) = splitter.end() {
-        add(rt, &mut lines, end, splitter.piece());
-    }
+    end(rt, &mut splitter, &mut lines);
     lines
+}
+
+/// A script is cut into pieces with these lines.
+fn check(rt: &impl Abort, alloc: Global, front: &[u8], count: usize, back: &[u8], want: &[u8]) {
+    let lines = cut(rt, alloc, &script(rt, alloc, front, count, back));
+    assert_eq!(rt; lines.as_slice(), want);
 }
 
 #[test]
@@ -84,8 +98,7 @@ fn scripts_are_cut_at_their_semicolons(rt: HostRuntime) {
         (b"-- 'a\n;'", b";|unfinished|"),
     ];
     for (script, want) in table {
-        let lines = cut(&rt, rt.alloc(), script, b' ', 0, b"");
-        assert_eq!(rt; lines.as_slice(), want);
+        check(&rt, rt.alloc(), script, 0, b"", want);
     }
 }
 
@@ -100,13 +113,13 @@ fn pieces_past_the_limit_are_too_long(rt: HostRuntime) {
         (b"/*", LIMIT, b"*/b;", b"b;|"),
     ];
     for (front, count, back, want) in table {
-        let lines = cut(&rt, rt.alloc(), front, b'a', count, back);
-        assert_eq!(rt; lines.as_slice(), want);
+        check(&rt, rt.alloc(), front, count, back, want);
     }
 }
 
 #[test]
 fn piece_of_the_limit_is_whole(rt: HostRuntime) {
-    let whole = cut(&rt, rt.alloc(), b"", b'a', LIMIT - 1, b";");
-    assert_eq!(rt; whole.len(), LIMIT + 1);
+    let script = script(&rt, rt.alloc(), b"", LIMIT - 1, b";");
+    let whole = cut(&rt, rt.alloc(), &script);
+    assert!(rt; whole.len() == LIMIT + 1);
 }

@@ -1,12 +1,14 @@
 -- Columns that are picked by their numbers.
-use Rattle.std.proofs.Common.{◌≡◌, ℕ, zero, suc, ◌+◌, List, [], ◌∷◌, ◌++◌, map, refl, sym, ap, ◌∙◌, add-one, arith}
-use Rattle.std.proofs.lemmas.List.{map-append}
+use Rattle.std.proofs.Common.{◌≡◌, ℕ, zero, suc, ◌+◌, ◌<◌, List, [], ◌∷◌, ◌++◌, length, drop, get_or, map, Option, None, Some, refl, sym, ap, ◌∙◌, add-one, append_assoc, arith}
+use Rattle.std.specs.List.{cons_option}
+use Rattle.std.proofs.Math.Seq.{drop-cons}
+use Rattle.std.proofs.lemmas.List.{append-nil, map-append}
 use Rattle.sasi_types.specs.declared.decorated_key.DecoratedKey.{DecoratedKey}
 use Rattle.sasi_cells.specs.declared.picked.PickedColumn.{PickedColumn}
 use Rattle.sasi_cells.specs.Rows.{picked_value}
 use Rattle.sasi_model.specs.Cells.{Partition}
-use Rattle.sasi_model.specs.State.{Definition, key_type}
-use Rattle.sasi_model.specs.Step.{count_up, live_rows, value_numbered}
+use Rattle.sasi_model.specs.State.{Definition, key_type, number_of_column}
+use Rattle.sasi_model.specs.Step.{count_up, live_rows, numbers_of, value_numbered}
 use Rattle.sasi_machine.specs.MemtableView.{rows_picked}
 use Rattle.sasi_machine.specs.Picks.{pick}
 
@@ -23,6 +25,21 @@ pick_push n =
 pub picked_more : (list new : List PickedColumn) (n : ℕ) (column : PickedColumn) → list ≡ map pick (count_up 0 n) → column ≡ pick n → new ≡ list ++ column ∷ [] → new ≡ map pick (count_up 0 (n + 1))
 picked_more list new n column so_far is pushed =
     pushed ∙ ap (λ l. l ++ column ∷ []) so_far ∙ ap (λ c. map pick (count_up 0 n) ++ c ∷ []) is ∙ sym (pick_push n)
+
+-- the column of a number, where there is one
+numbered : (list new : List PickedColumn) (o : Option ℕ) (numbers : List ℕ) → new ≡ list ++ map pick (cons_option o [])
+    → new ++ map pick numbers ≡ list ++ map pick (cons_option o numbers)
+numbered list new None numbers is = ap (λ (l : List PickedColumn). l ++ map pick numbers) (is ∙ append-nil list)
+numbered list new (Some n) numbers is = ap (λ (l : List PickedColumn). l ++ map pick numbers) is ∙ append_assoc list (pick n ∷ []) (map pick numbers)
+
+-- one more name
+pub picked_found : (d : Definition) (names : List (List ℕ)) (i : ℕ) (name : List ℕ) (list new all : List PickedColumn) → i < length names
+    → name ≡ get_or names i name → list ++ map pick (numbers_of d (drop i names)) ≡ all
+    → new ≡ list ++ map pick (cons_option (number_of_column d name) []) → new ++ map pick (numbers_of d (drop (i + 1) names)) ≡ all
+picked_found d names i name list new all inside is so_far pushed =
+    let next : drop i names ≡ name ∷ drop (i + 1) names = rw (add-one, drop-cons names i name inside, ← is) refl in
+    numbered list new (number_of_column d name) (numbers_of d (drop (i + 1) names)) pushed
+    ∙ ap (λ (l : List (List ℕ)). list ++ map pick (numbers_of d l)) (sym next) ∙ so_far
 
 -- the value that is picked is that of the number
 value_picked : (d : Definition) (decorated_key : DecoratedKey) (p : Partition) (n : ℕ) → picked_value (key_type d) decorated_key.key p (pick n) ≡ value_numbered d decorated_key p n

@@ -18,7 +18,7 @@ use Rattle.sasi_model.specs.Pieces.{Piece}
 use Rattle.sasi_model.specs.Refusals.{Rule, Says, TIME_LIMIT, TableExists, create_rules, first_of, read, refusal, rules}
 use Rattle.sasi_model.specs.State as model
 use Rattle.sasi_model.specs.State.{Column, Definition, State, definition_of, definitions, max_timestamp, max_timestamp_of_tables, key_type, decorated}
-use Rattle.sasi_model.specs.Step.{StepResult, new_definition, step, step_as, tables_after}
+use Rattle.sasi_model.specs.Step.{StepResult, new_definition, step, step_as, step_by, tables_after}
 use Rattle.sasi_schema.specs.Defined.{definition}
 use Rattle.sasi_schema.specs.declared.table.Table.{Table}
 use Rattle.sasi_machine.specs.declared.outcome.Outcome.{Outcome}
@@ -201,7 +201,7 @@ makes_next s statement t makes = absurd makes
 
 steps : (s : State) (piece : Piece) (statement : Statement) (state : State) (reply_old reply : List ℕ) (outcome : Outcome)
     → read piece ≡ Says statement → reply_old ≡ [] → StatementStepsTo s statement state reply_old reply outcome → StepsTo s piece state reply outcome
-unfolding step
+unfolding step_by
 steps s piece statement state reply_old reply outcome says empty takes =
     let same : step s piece ≡ step_as s (Says statement) = ap (step_as s) says in
     let replied : reply ≡ (step_as s (Says statement)).reply = takes.reply_is ∙ ap (λ (front : List ℕ). front ++ (step_as s (Says statement)).reply) empty in

@@ -11,8 +11,8 @@ use Rattle.sasi_types.specs.declared.literal.Literal.{Literal}
 use Rattle.sasi_model.specs.Cells.{Cells}
 use Rattle.sasi_model.specs.State.{Column, Definition, column_at, number_at, number_of_column, name_or_none, one_more, position_in, key_name}
 use Rattle.sasi_model.specs.Statements.{same}
-use Rattle.sasi_model.specs.Refusals.{is_column, is_key, no_regular_column}
-use Rattle.sasi_model.specs.Step.{cells_set, column_type, value_given, with_column_cell}
+use Rattle.sasi_model.specs.Refusals.{is_column, is_key, no_regular_column, type_of_column}
+use Rattle.sasi_model.specs.Step.{cells_set, value_set, with_column_cell}
 use Rattle.sasi_model.specs.Stored.{regular_types}
 use Rattle.sasi_machine.proofs.ColumnTypes.{position_inside}
 use Rattle.sasi_machine.proofs.CellCounts.{some_cell}
@@ -84,7 +84,7 @@ regular_number d name passes = by (position_in name d.columns) refl
 pub first_cell : (d : Definition) (t : ℕ) (set : List ℕ × Literal) (sets : List (List ℕ × Literal)) → (no_regular_column d set.0).0 ≡ false → 1 ≤ length (fin.entries (cells_set d t (set ∷ sets)))
 first_cell d t set sets passes =
     let n = regular_number d set.0 passes in
-    let cell : Cell = record { time = t; value = value_given (column_type d set.0) set.1 } in
+    let cell : Cell = record { time = t; value = value_set (type_of_column d set.0) set.1 } in
     let at : cells_set d t (set ∷ sets) ≡ fin.insert (cells_set d t sets) (suc n.0) cell = ap (λ (o : Option ℕ). with_column_cell o cell (cells_set d t sets)) n.1 in
     let got : fin.get (fin.insert (cells_set d t sets) (suc n.0) cell) (suc n.0) ≡ Some cell = fin.get-insert nat_cmp_total
     (cells_set d t sets) (suc n.0) cell (suc n.0) ∙ ap (λ b. cond b (Some cell) (fin.get (cells_set d t sets) (suc n.0))) (itself (suc n.0)) in

@@ -7,7 +7,7 @@ use Rattle.sasi_types.specs.declared.statement.Statement.{Statement}
 use Rattle.sasi_model.specs.Pieces.{Whole}
 use Rattle.sasi_model.specs.Tokens.{tokens}
 use Rattle.sasi_model.specs.Statements.{same, statement_of}
-use Rattle.sasi_model.specs.Refusals.{Says, Bad, NotBuilt, NotUtf8, read}
+use Rattle.sasi_model.specs.Refusals.{Says, Bad, NotBuilt, NotUtf8, read, read_by}
 
 not_utf8 : (text : List ℕ) → ¬ (IsUtf8 text) → is_utf8 text ≡ false
 not_utf8 text bad = by (is_utf8 text) refl
@@ -18,15 +18,15 @@ not_utf8 text bad = by (is_utf8 text) refl
 
 -- a piece that is no text
 pub read_bytes : (text : List ℕ) → same text (59 ∷ []) ≡ false → ¬ (IsUtf8 text) → Bad (NotUtf8 (utf8_valid_len text)) ≡ read (Whole text)
-unfolding read
+unfolding read_by
 read_bytes text more bad = rw (more, not_utf8 text bad) refl
 
 -- a piece that spells a statement
 pub read_statement : (text : List ℕ) (statement : Statement) → same text (59 ∷ []) ≡ false → IsUtf8 text → statement_of (tokens text) ≡ Some statement → Says statement ≡ read (Whole text)
-unfolding read
+unfolding read_by
 read_statement text statement more utf8 is = rw (more, is_utf8-from_IsUtf8 text utf8, is) refl
 
 -- a piece that spells none
 pub read_nothing : (text : List ℕ) → same text (59 ∷ []) ≡ false → IsUtf8 text → statement_of (tokens text) ≡ None → Bad NotBuilt ≡ read (Whole text)
-unfolding read
+unfolding read_by
 read_nothing text more utf8 is = rw (more, is_utf8-from_IsUtf8 text utf8, is) refl

@@ -12,8 +12,8 @@ use Rattle.sasi_types.specs.Value.{type_of}
 use Rattle.sasi_cells.proofs.Laws.Sorted.{equal_columns}
 use Rattle.sasi_model.specs.Cells.{Cells}
 use Rattle.sasi_model.specs.State.{Definition, number_of_column}
-use Rattle.sasi_model.specs.Refusals.{each, first_of, is_of, number_range, value_too_long, wrong_type}
-use Rattle.sasi_model.specs.Step.{cells_set, column_type, value_given, with_column_cell}
+use Rattle.sasi_model.specs.Refusals.{each, first_of, is_of, number_range, type_of_column, value_too_long, wrong_type}
+use Rattle.sasi_model.specs.Step.{cells_set, value_set, with_column_cell}
 use Rattle.sasi_model.specs.Stored.{HasBytes, types_of}
 use Rattle.sasi_model.specs.WellFormed.{IsWellFormedLiteral}
 use Rattle.sasi_schema.proofs.RuleLaws.{none_first}
@@ -43,7 +43,7 @@ is_true true e = refl
 is_true false e = cc
 
 set_good : (d : Definition) (t : ℕ) (set : List ℕ × Literal) (number : ℕ) → IsGood d set → number_of_column d set.0 ≡ Some (suc number)
-    → IsGoodCell d t (suc number) (record { time = t; value = value_given (column_type d set.0) set.1 })
+    → IsGoodCell d t (suc number) (record { time = t; value = value_set (type_of_column d set.0) set.1 })
 set_good d t set number good is =
     let r = regular d set.0 number is in
     record {
@@ -56,11 +56,11 @@ set_good d t set number good is =
     }
 
 with_good : (d : Definition) (t : ℕ) (set : List ℕ × Literal) (o : Option ℕ) (cells : Cells) → number_of_column d set.0 ≡ o → IsGood d set
-    → AreGoodCells d t cells → AreGoodCells d t (with_column_cell o (record { time = t; value = value_given (column_type d set.0) set.1 }) cells)
+    → AreGoodCells d t cells → AreGoodCells d t (with_column_cell o (record { time = t; value = value_set (type_of_column d set.0) set.1 }) cells)
 with_good d t set None cells is good goods = goods
 with_good d t set (Some zero) cells is good goods = goods
 with_good d t set (Some (suc n)) cells is good goods = λ column cell got.
-    let new : Cell = record { time = t; value = value_given (column_type d set.0) set.1 } in
+    let new : Cell = record { time = t; value = value_set (type_of_column d set.0) set.1 } in
     elim (eq_by_cmp nat_cmp column (suc n)) as (λ b. eq_by_cmp nat_cmp column (suc n) ≡ b → cond b (Some new) (fin.get cells column) ≡ Some cell → IsGoodCell d t column cell) [
       | true ↦ λ here e.
           let same_column : suc n ≡ column = sym (equal_columns column (suc n) here) in

@@ -12,7 +12,8 @@ use Rattle.sasi_types.specs.declared.statement.Statement.TheVariants.{CreateTabl
 use Rattle.sasi_cells.proofs.Laws.Times.{values_below}
 use Rattle.sasi_model.specs.Cells.{Cells, empty_partition, max_timestamp_of}
 use Rattle.sasi_model.specs.State.{Definition, number_of_column}
-use Rattle.sasi_model.specs.Step.{cells_set, column_type, marker, value_given, with_column_cell}
+use Rattle.sasi_model.specs.Refusals.{type_of_column}
+use Rattle.sasi_model.specs.Step.{cells_set, marker, value_set, with_column_cell}
 use Rattle.sasi_machine.specs.Writes.{change_in}
 
 -- no cell is later
@@ -37,7 +38,7 @@ with_within t (Some (suc n)) cells new within new_within = insert_within t (suc 
 cells_within : (d : Definition) (t : ℕ) (sets : List (List ℕ × Literal)) → AreWithin t (cells_set d t sets)
 cells_within d t [] = none_within t
 cells_within d t (set ∷ sets) =
-    let cell : Cell = record { time = t; value = value_given (column_type d set.0) set.1 } in
+    let cell : Cell = record { time = t; value = value_set (type_of_column d set.0) set.1 } in
     let soon : cell.time ≤ t = omega arith in
     with_within t (number_of_column d set.0) (cells_set d t sets) cell (cells_within d t sets) soon
 

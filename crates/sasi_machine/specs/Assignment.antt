@@ -3,12 +3,12 @@ use Rattle.std.specs.Prelude.{ℕ, List, [], ◌∷◌, if◌then◌else◌}
 use Rattle.sasi_types.specs.declared.literal.Literal.{Literal}
 use Rattle.sasi_model.specs.Cells.{Cells}
 use Rattle.sasi_model.specs.State.{Definition, number_of_column}
-use Rattle.sasi_model.specs.Refusals.{is_key_value}
-use Rattle.sasi_model.specs.Step.{column_type, value_given, with_column_cell}
+use Rattle.sasi_model.specs.Refusals.{is_key_value, type_of_column}
+use Rattle.sasi_model.specs.Step.{value_set, with_column_cell}
 
 -- the cells with that of one more column
 abbrev pub with_set : Definition → ℕ → List ℕ → Literal → Cells → Cells
-with_set d time name literal = with_column_cell (number_of_column d name) (record { time = time; value = value_given (column_type d name) literal })
+with_set d time name literal = with_column_cell (number_of_column d name) (record { time = time; value = value_set (type_of_column d name) literal })
 
 -- the cells that are set, added to these
 abbrev pub cells_over : Definition → ℕ → List (List ℕ × Literal) → Cells → Cells

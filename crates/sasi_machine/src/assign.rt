@@ -6,10 +6,10 @@ ghost use Rattle.sasi_model.specs.Step.{key_literal, update_change};
 ghost use Rattle.sasi_schema.specs.Defined.{definition};
 ghost use Rattle.sasi_machine.specs.Assignment.{with_set};
 
-use crate::literals::{is_null, value_given};
+use crate::literals::{is_null, value_set};
 use sasi_cells::Partition;
 use sasi_schema::Table;
-use sasi_types::{Cell, ColumnType, Literal, Name, Names, Sets};
+use sasi_types::{Cell, Literal, Name, Names, Sets};
 use std::alloc::{AllocError, Global};
 
 /// The literal of the key, and the cells of the regular columns.
@@ -84,11 +84,10 @@ fn set(
     ensures cells { OnOk result (change.new.cells ≡ with_set (definition table.now) time column.now literal change.old.cells) }
     ensures deleted { OnOk result (change.new.deleted ≡ change.old.deleted) }
 {
-    let kind = table.type_of(column).unwrap_or(ColumnType::Text);
     match table.number_of(column) {
         None | Some(0) => Ok(()),
         Some(number) => {
-            let value = value_given(kind, literal);
+            let value = value_set(table.type_of(column), literal);
             change.put(number, Cell { time, value })
         }
     }

@@ -1,7 +1,7 @@
 // Tests of literals.
 ghost use Rattle.std.specs.Prelude.{◌≡◌, false};
-ghost use Rattle.sasi_model.specs.Step.{value_given};
-ghost use Rattle.sasi_model.specs.Refusals.{is_empty_text, is_long_text, is_null, is_of, is_out_of_range, is_within};
+ghost use Rattle.sasi_model.specs.Step.{value_given, value_set};
+ghost use Rattle.sasi_model.specs.Refusals.{is_empty_text, is_long_text, is_null, is_of, is_out_of_range, is_within, tests};
 
 use sasi_types::{ColumnType, Literal, Number, Value};
 
@@ -89,5 +89,16 @@ pub fn value_given(kind: ColumnType, literal: Literal) -> Option<Value>
         }
         (ColumnType::Uuid, Literal::Uuid(bytes)) => Some(Value::Uuid(bytes)),
         _ => None,
+    }
+}
+
+/// The same for a column that may not be there.
+pub fn value_set(kind: Option<ColumnType>, literal: Literal) -> Option<Value>
+    requires { tests is_out_of_range kind literal ≡ false }
+    ensures { result ≡ value_set kind literal }
+{
+    match kind {
+        None => None,
+        Some(kind) => value_given(kind, literal),
     }
 }

@@ -1,5 +1,6 @@
 // The columns of a SELECT.
-ghost use Rattle.std.specs.Prelude.{◌≡◌, ◌≤◌, map, IfOk};
+ghost use Rattle.std.specs.Prelude.{◌≡◌, ◌≤◌, ◌++◌, [], map, IfOk, OnOk};
+ghost use Rattle.std.specs.List.{cons_option};
 ghost use Rattle.sasi_model.specs.Refusals.{COLUMN_LIMIT as column_limit};
 ghost use Rattle.sasi_model.specs.State.{key_type};
 ghost use Rattle.sasi_model.specs.Step.{selected_columns, count_up, numbers_of};
@@ -53,7 +54,17 @@ fn named_columns(alloc: Global, table: &Table, names: &[Name]) -> Result<PickedL
 {
     let mut list = PickedList::new(alloc);
     for name in names {
-        list.push(pick(table.number_of(name).unwrap_or(0)))?;
+        push_numbered(&mut list, table.number_of(name))?;
     }
     Ok(list)
+}
+
+// Adds the column of this number, if there is one.
+fn push_numbered(list: &mut PickedList, number: Option<u16>) -> Result<(), AllocError>
+    ensures ok { OnOk result (list.new ≡ list.old ++ map pick (cons_option number [])) }
+{
+    if let Some(number) = number {
+        list.push(pick(number))?;
+    }
+    Ok(())
 }

@@ -19,7 +19,7 @@ use std::alloc::AllocError;
 
 impl Machine {
     /// Prepares a piece. The reply is replaced; after an error it may be incomplete.
-    #[tactic(auto, unfolding(sasi_model::specs::Step::step))]
+    #[tactic(auto, unfolding(sasi_model::specs::Step::step_by))]
     pub fn prepare(
         &self,
         piece: &[u8],

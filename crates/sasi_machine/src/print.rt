@@ -3,7 +3,7 @@ ghost use Rattle.std.specs.Prelude.{◌≡◌, ◌≢◌, ◌++◌, ℕ, [], cod
 ghost use Rattle.std.specs.List.{flat_map};
 ghost use Rattle.std.specs.Fmt.{decimal, signed_decimal};
 ghost use Rattle.uuid.specs.Text.{hyphenated_text, lower};
-ghost use Rattle.sasi_model.specs.Lines.{ok_line, row_line, count_line, row_text, printed, refusal_line, refusal_text, printed_byte, text_printed, value_printed};
+ghost use Rattle.sasi_model.specs.Lines.{ok_line, row_line, count_line, row_text, printed, refusal_line, refusal_text, text_printed, value_printed};
 ghost use Rattle.sasi_machine.specs.Refusal.{refusal_of};
 ghost use Rattle.sasi_machine.specs.declared.refusal.Refusal.TheVariants.{NotUtf8};
 
@@ -154,20 +154,12 @@ fn push_text(reply: &mut Vec<u8>, text: &[u8]) -> Result<(), AllocError>
 {
     reply.push(b'\'')?;
     for byte in text {
-        push_text_byte(reply, *byte)?;
+        if *byte == b'\'' {
+            reply.push(b'\'')?;
+        }
+        reply.push(*byte)?;
     }
     reply.push(b'\'')?;
-    Ok(())
-}
-
-// Adds a byte of a text, a quote twice.
-fn push_text_byte(reply: &mut Vec<u8>, byte: u8) -> Result<(), AllocError>
-    ensures ok { OnOk result (reply.new.items ≡ reply.old.items ++ printed_byte byte) }
-{
-    if byte == b'\'' {
-        reply.push(b'\'')?;
-    }
-    reply.push(byte)?;
     Ok(())
 }
 

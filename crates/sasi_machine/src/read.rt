@@ -19,7 +19,7 @@ pub enum ParsedPiece {
 }
 
 /// Parses a piece, without a look at the tables.
-#[tactic(auto, unfolding(sasi_model::specs::Refusals::read))]
+#[tactic(auto, unfolding(sasi_model::specs::Refusals::read_by))]
 pub fn read(alloc: Global, piece: &[u8], end: PieceEnd) -> Result<ParsedPiece, AllocError>
     ensures reads { IfOk result (λ parsed. model_piece parsed ≡ read (piece_of end piece.now)) }
     ensures written { IfOk result IsReadFrom }
@@ -31,7 +31,7 @@ pub fn read(alloc: Global, piece: &[u8], end: PieceEnd) -> Result<ParsedPiece, A
     }
 }
 
-#[tactic(auto, unfolding(sasi_model::specs::Refusals::read))]
+#[tactic(auto, unfolding(sasi_model::specs::Refusals::read_by))]
 fn read_whole(alloc: Global, piece: &[u8]) -> Result<ParsedPiece, AllocError>
     ensures reads { IfOk result (λ parsed. model_piece parsed ≡ read (Whole piece.now)) }
     ensures written { IfOk result IsReadFrom }

@@ -49,44 +49,31 @@ rows_lines rows = flat_map row_line rows ++ count_line (length rows)
 
 -- ---- refusals
 
-abbrev pub refusal_number : Refusal → ℕ
-refusal_number StatementTooLong = 2
-refusal_number (NotUtf8 offset) = 3
-refusal_number (NoTable name) = 4
-refusal_number (TableExists name) = 5
-refusal_number (NoColumn name) = 6
-refusal_number (ColumnRepeated name) = 7
-refusal_number (WrongType column) = 8
-refusal_number (NumberRange column) = 9
-refusal_number (KeyMissing column) = 10
-refusal_number (KeyEmpty column) = 11
-refusal_number (ValueTooLong column) = 12
-refusal_number TimestampRange = 20
-refusal_number ClockSpent = 21
-refusal_number TooManyTables = 24
-refusal_number TooManyColumns = 24
-refusal_number ScriptEnds = 25
-refusal_number NotBuilt = 90
+-- the number of a refusal, and its name with its detail
+abbrev pub refusal_words : Refusal → ℕ × List ℕ
+refusal_words StatementTooLong = (2, codes "StatementTooLong 1048576")
+refusal_words (NotUtf8 offset) = (3, codes "NotUtf8 at " ++ decimal offset)
+refusal_words (NoTable name) = (4, codes "NoTable " ++ name)
+refusal_words (TableExists name) = (5, codes "TableExists " ++ name)
+refusal_words (NoColumn name) = (6, codes "NoColumn " ++ name)
+refusal_words (ColumnRepeated name) = (7, codes "ColumnRepeated " ++ name)
+refusal_words (WrongType column) = (8, codes "WrongType " ++ column)
+refusal_words (NumberRange column) = (9, codes "NumberRange " ++ column)
+refusal_words (KeyMissing column) = (10, codes "KeyMissing " ++ column)
+refusal_words (KeyEmpty column) = (11, codes "KeyEmpty " ++ column)
+refusal_words (ValueTooLong column) = (12, codes "ValueTooLong " ++ column)
+refusal_words TimestampRange = (20, codes "TimestampRange")
+refusal_words ClockSpent = (21, codes "ClockSpent")
+refusal_words TooManyTables = (24, codes "TooMany tables 256")
+refusal_words TooManyColumns = (24, codes "TooMany columns 64")
+refusal_words ScriptEnds = (25, codes "Unfinished")
+refusal_words NotBuilt = (90, codes "NotBuilt")
 
--- the name of a refusal, and its detail
+abbrev pub refusal_number : Refusal → ℕ
+refusal_number r = (refusal_words r).0
+
 abbrev pub refusal_text : Refusal → List ℕ
-refusal_text StatementTooLong = codes "StatementTooLong 1048576"
-refusal_text (NotUtf8 offset) = codes "NotUtf8 at " ++ decimal offset
-refusal_text (NoTable name) = codes "NoTable " ++ name
-refusal_text (TableExists name) = codes "TableExists " ++ name
-refusal_text (NoColumn name) = codes "NoColumn " ++ name
-refusal_text (ColumnRepeated name) = codes "ColumnRepeated " ++ name
-refusal_text (WrongType column) = codes "WrongType " ++ column
-refusal_text (NumberRange column) = codes "NumberRange " ++ column
-refusal_text (KeyMissing column) = codes "KeyMissing " ++ column
-refusal_text (KeyEmpty column) = codes "KeyEmpty " ++ column
-refusal_text (ValueTooLong column) = codes "ValueTooLong " ++ column
-refusal_text TimestampRange = codes "TimestampRange"
-refusal_text ClockSpent = codes "ClockSpent"
-refusal_text TooManyTables = codes "TooMany tables 256"
-refusal_text TooManyColumns = codes "TooMany columns 64"
-refusal_text ScriptEnds = codes "Unfinished"
-refusal_text NotBuilt = codes "NotBuilt"
+refusal_text r = (refusal_words r).1
 
 abbrev pub refusal_line : Refusal → List ℕ
 refusal_line r = line (codes "error " ++ decimal (refusal_number r) ++ codes " " ++ refusal_text r)

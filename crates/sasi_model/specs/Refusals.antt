@@ -15,7 +15,7 @@ use Rattle.sasi_types.specs.declared.statement.Statement.{Statement}
 use Rattle.sasi_types.specs.declared.statement.Statement.TheVariants.{CreateTable, Insert, Update, Delete, Query}
 use Rattle.sasi_model.specs.Pieces.{Piece, Whole, TooLong, Unfinished}
 use Rattle.sasi_model.specs.Tokens.{tokens}
-use Rattle.sasi_model.specs.Statements.{same, statement_of}
+use Rattle.sasi_model.specs.Statements.{Parser, same, statement_of}
 use Rattle.sasi_model.specs.State.{Column, State, Definition, definitions, definition_of, position_in, column_at, type_or_text, key_name, number_of_column, max_timestamp}
 
 pub data Refusal : Type 0 where
@@ -67,10 +67,16 @@ abbrev pub parsed_statement : Option Statement → ParsedPiece
 parsed_statement None = Bad NotBuilt
 parsed_statement (Some statement) = Says statement
 
-unfoldable pub read : Piece → ParsedPiece
-read (TooLong finished) = Bad StatementTooLong
-read Unfinished = Bad ScriptEnds
-read (Whole text) = if same text (59 ∷ []) then Nothing else if is_utf8 text then parsed_statement (statement_of (tokens text)) else Bad (NotUtf8 (utf8_valid_len text))
+-- with the statement that this parser finds
+unfoldable pub read_by : Parser → Piece → ParsedPiece
+read_by parser (TooLong finished) = Bad StatementTooLong
+read_by parser Unfinished = Bad ScriptEnds
+read_by parser (Whole text) =
+    if same text (59 ∷ []) then Nothing else if is_utf8 text then parsed_statement (parser (tokens text)) else Bad (NotUtf8 (utf8_valid_len text))
+
+-- with the statement that the function finds
+abbrev pub read : Piece → ParsedPiece
+read = read_by statement_of
 
 -- ---- rules
 

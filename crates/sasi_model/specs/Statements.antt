@@ -1,6 +1,6 @@
 -- The grammar: which statement the tokens of a piece spell. It is a relation, with a line for each production. The function
--- below it finds the statement, and a public contract says that the two agree.
-use Rattle.std.specs.Prelude.{◌≡◌, ◌≤◌, ℕ, zero, suc, Bool, true, false, not, ◌&&◌, ◌==◌, nat_eq, nat_le, if◌then◌else◌, codes, List, [], ◌∷◌, ◌++◌, length, Option, None, Some}
+-- below it is a tool of proofs: it is the one parser of this grammar.
+use Rattle.std.specs.Prelude.{◌≡◌, ◌≤◌, ◌↔◌, ℕ, zero, suc, Bool, true, false, not, ◌&&◌, ◌==◌, nat_eq, nat_le, if◌then◌else◌, codes, List, [], ◌∷◌, ◌++◌, length, Option, None, Some}
 use Rattle.std.specs.List.{flat_map, list_any}
 use Rattle.std.specs.Cmp.Lexicographic.{pointwise}
 use Prim.Native.String.{String}
@@ -185,6 +185,16 @@ Reads tokens (Insert table columns values time) = ReadsInsert tokens table colum
 Reads tokens (Update table time sets key value) = update table time sets (key, value) tokens
 Reads tokens (Delete table columns time key value) = delete columns table time (key, value) tokens
 Reads tokens (Query select) = query select tokens
+
+-- ---- parsers
+
+-- a function that may find a statement in tokens
+abbrev pub Parser : Type 0
+Parser = List Token → Option Statement
+
+-- It finds the statement that the tokens spell, and none where they spell none. There is one such function, and no other.
+abbrev pub IsParser : Parser → Type 0
+IsParser parser = (tokens : List Token) (statement : Statement) → (parser tokens ≡ Some statement) ↔ Reads tokens statement
 
 -- ---- the function: its parts
 

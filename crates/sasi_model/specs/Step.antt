@@ -1,7 +1,7 @@
--- The step of one piece: the state after it, and the reply. A write is merged into the partition of its key. A refused piece
+-- The step of one piece, by a parser: the state after it, and the reply. A write is merged into the partition of its key. A refused piece
 -- leaves the state unchanged.
 use Rattle.std.specs.Prelude.{ℕ, ◌+◌, suc, zero, List, [], ◌∷◌, ◌++◌, length, map, Option, None, Some, unwrap_or, is_some, if◌then◌else◌}
-use Rattle.std.specs.List.{zip}
+use Rattle.std.specs.List.{filter_map, zip}
 use Rattle.std.specs.Int.{w32, w64, cast_signed, from_be_bytes}
 use Rattle.std.specs.Prelude.{unsigned_abs}
 use Rattle.std.specs.FinMap as map_
@@ -22,7 +22,8 @@ use Rattle.sasi_types.specs.declared.statement.Statement.TheVariants.{CreateTabl
 use Rattle.sasi_model.specs.Pieces.{Piece}
 use Rattle.sasi_model.specs.Cells.{Cells, Partition, is_live, value_at}
 use Rattle.sasi_model.specs.State.{Column, Definition, Table, State, decorated, table_of, with_table, position_in, number_of_column, key_type, apply, max_timestamp}
-use Rattle.sasi_model.specs.Refusals.{Refusal, ParsedPiece, Nothing, Says, Bad, read, refusal, type_of_column, is_key_value}
+use Rattle.sasi_model.specs.Statements.{Parser, statement_of}
+use Rattle.sasi_model.specs.Refusals.{Refusal, ParsedPiece, Nothing, Says, Bad, read_by, refusal, type_of_column, is_key_value}
 use Rattle.sasi_model.specs.Lines.{ok_line, rows_lines, refusal_line}
 
 -- ---- values
@@ -54,9 +55,10 @@ time_of max_timestamp None = max_timestamp + 1
 time_of max_timestamp (Some Wide) = 0
 time_of max_timestamp (Some (Fits z)) = unsigned_abs z
 
--- the type of a column; text for a name that no column has
-abbrev pub column_type : Definition → List ℕ → ColumnType
-column_type d name = unwrap_or (type_of_column d name) types.Text
+-- the same of a column that may not be there
+abbrev pub value_set : Option ColumnType → Literal → Option Value
+value_set None literal = None
+value_set (Some type) literal = value_given type literal
 
 abbrev pub with_column_cell : Option ℕ → Cell → Cells → Cells
 with_column_cell None cell cells = cells
@@ -66,7 +68,7 @@ with_column_cell (Some (suc n)) cell cells = map_.insert cells (suc n) cell
 -- a cell for each regular column that is set: its value, or a tombstone for NULL
 abbrev pub cells_set : Definition → ℕ → List (List ℕ × Literal) → Cells
 cells_set d time [] = map_.empty
-cells_set d time (set ∷ sets) = with_column_cell (number_of_column d set.0) (record { time = time; value = value_given (column_type d set.0) set.1 }) (cells_set d time sets)
+cells_set d time (set ∷ sets) = with_column_cell (number_of_column d set.0) (record { time = time; value = value_set (type_of_column d set.0) set.1 }) (cells_set d time sets)
 
 -- a live marker
 abbrev pub marker : ℕ → Cell
@@ -105,9 +107,9 @@ abbrev pub count_up : ℕ → ℕ → List ℕ
 count_up from zero = []
 count_up from (suc n) = from ∷ count_up (suc from) n
 
+-- the numbers of the columns of these names
 abbrev pub numbers_of : Definition → List (List ℕ) → List ℕ
-numbers_of d [] = []
-numbers_of d (name ∷ names) = unwrap_or (number_of_column d name) 0 ∷ numbers_of d names
+numbers_of d names = filter_map (number_of_column d) names
 
 -- the numbers of the selected columns: those named, or the key and then the others in declared order
 abbrev pub selected_columns : Definition → Option (List (List ℕ)) → List ℕ
@@ -173,22 +175,36 @@ step_as s Nothing = record { state = s; reply = []; refused = None }
 step_as s (Bad r) = refused_step s r
 step_as s (Says statement) = execute_or s statement (refusal s statement)
 
-unfoldable pub step : State → Piece → StepResult
-step s piece = step_as s (read piece)
+unfoldable pub step_by : Parser → State → Piece → StepResult
+step_by parser s piece = step_as s (read_by parser piece)
 
 -- ---- pieces, one after another
 
 -- the state after them
-abbrev pub state_after : State → List Piece → State
-state_after s [] = s
-state_after s (p ∷ ps) = state_after (step s p).state ps
+abbrev pub state_by : Parser → State → List Piece → State
+state_by parser s [] = s
+state_by parser s (p ∷ ps) = state_by parser (step_by parser s p).state ps
 
 -- their replies, joined
-abbrev pub replies : State → List Piece → List ℕ
-replies s [] = []
-replies s (p ∷ ps) = (step s p).reply ++ replies (step s p).state ps
+abbrev pub replies_by : Parser → State → List Piece → List ℕ
+replies_by parser s [] = []
+replies_by parser s (p ∷ ps) = (step_by parser s p).reply ++ replies_by parser (step_by parser s p).state ps
 
 -- how many of them are refused
+abbrev pub refusals_by : Parser → State → List Piece → ℕ
+refusals_by parser s [] = 0
+refusals_by parser s (p ∷ ps) = (if is_some (step_by parser s p).refused then 1 else 0) + refusals_by parser (step_by parser s p).state ps
+
+-- ---- the same by the function
+
+abbrev pub step : State → Piece → StepResult
+step = step_by statement_of
+
+abbrev pub state_after : State → List Piece → State
+state_after = state_by statement_of
+
+abbrev pub replies : State → List Piece → List ℕ
+replies = replies_by statement_of
+
 abbrev pub refusals : State → List Piece → ℕ
-refusals s [] = 0
-refusals s (p ∷ ps) = (if is_some (step s p).refused then 1 else 0) + refusals (step s p).state ps
+refusals = refusals_by statement_of

@@ -8,6 +8,7 @@ pub mod CrashesAtEnd
 pub mod Answering
 pub mod Recovering
 pub mod WholeRun
+pub mod Causes
 pub mod ReplayingTables
 pub mod ReplayingSegment
 pub mod ReplayingAll

@@ -1,32 +1,29 @@
 -- What a crash leaves of a whole run, from its folder's opening on.
-use Rattle.std.proofs.Common.{◌≡◌, ◌≢◌, ℕ, List, [], ◌∷◌, ◌++◌, length, ◌≤◌, IfSome, Option, Some, None, IsSome, refl, sym, ◌∙◌, ap, subst, inl, inr, ⊎_elim, arith}
+use Rattle.std.proofs.Common.{◌≡◌, ℕ, List, [], ◌∷◌, ◌++◌, Option, Some, None, IsSome, refl, sym, ◌∙◌, ap, subst, inl, inr, ⊎_elim, arith}
 use Rattle.std.proofs.lemmas.List.{append-nil}
 use Rattle.std.specs.Io.KnownBytes.{Appends}
 use Rattle.sasi_types.specs.declared.partitioner.Partitioner.TheVariants.{Lead8}
 use Rattle.sasi_model.specs.Pieces.{Piece, all_pieces}
 use Rattle.sasi_model.specs.State.{State, empty_state}
+use Rattle.sasi_model.specs.Statements.{statement_of}
 use Rattle.sasi_model.specs.Step.{replies, state_after}
 use Rattle.sasi_host.specs.declared.fault.ReadFault.{ReadFault}
 use Rattle.sasi_host.specs.declared.fault.ReadFault.TheVariants as read_fault
 use Rattle.sasi_host.specs.Names.{Folder}
-use Rattle.sasi_host.specs.View.{IsSound, IsTold, LeavesNow, Rose, SourceView, View, contents_in}
-use Rattle.sasi_host.specs.Damages.{OnDamage}
-use Rattle.sasi_host.specs.declared.damage.Damage.{Damage}
+use Rattle.sasi_host.specs.View.{IsSound, IsTold, LeavesNow, SourceView, View, contents_in}
 use Rattle.sasi_host.specs.Disk.{Changes, FromImage, Same}
 use Rattle.sasi_host.specs.Contents.{told_after, told_files}
 use Rattle.sasi_host.specs.ChangeLaws.{changes_as, crash_leaves_on, since_start, stays}
-use Rattle.sasi_folder.specs.Damages.{FolderShows}
 use Rattle.sasi_folder.specs.Stands.{Stands}
 use Rattle.sasi_run.specs.Crashing.{Crashed, HasDurableStore, CrashLeavesPieces, RunsCrashSafe, IsDurableAfter}
-use Rattle.sasi_run.specs.Headline.{Headline, RanThrough, RanToEnd, Runs, RunsFrom, SCRIPT_MOST, EmitsByStatus, EmitsFirstReplies, StandsWithoutUnlisted, StartsFrom, ReportsDamage, script_of, status_of_fault}
+use Rattle.sasi_run.specs.Headline.{Headline, RanToEnd, Runs, RunsFrom, EmitsByStatus, EmitsFirstReplies, StandsWithoutUnlisted, StartsFrom, script_of, status_of_fault}
 use Rattle.sasi_run.specs.Recovering.{Recovers}
 use Rattle.sasi_run.specs.Storing.{IsReady, UnchangedOrStands, IsStoreDurable}
 use Rattle.sasi_run.specs.declared.status.Status.{Status}
-use Rattle.sasi_run.specs.declared.status.Status.TheVariants.{Usage, ScriptFault, FolderFault, OutputFault, OutOfMemory, Damaged}
-use Rattle.sasi_run.specs.CommandLine.{IsCommandLine}
+use Rattle.sasi_run.specs.declared.status.Status.TheVariants.{Usage, OutOfMemory, Damaged}
 use Rattle.sasi_run.specs.declared.store.Store.{Store}
+use Rattle.sasi_cql.proofs.Agreement.{is_parser}
 use Rattle.sasi_run.proofs.Crashing.{one_of}
-use Rattle.sasi_run.proofs.Complete.{through}
 use Rattle.sasi_run.proofs.ConsumedBytes.{consumes_nothing}
 use Rattle.sasi_run.proofs.Recovering.{after_crash, counted, nothing_shown}
 use Rattle.sasi_run.proofs.RunParts.{appends_none}
@@ -36,7 +33,7 @@ use Rattle.sasi_run.proofs.RunParts.{appends_none}
 module _ (a : View) (s : State) (starts : StartsFrom a s) (before : List ℕ) (emitted : a.emitted ≡ Some before) (pieces : List Piece) where
   -- nothing was shown, and the folder stands for the state of an image of the start
   from_image : (folder image : Folder) (out : List ℕ) (state : State) → a.emitted ≡ Some out → a.image image → Stands Lead8 image state
-      → Stands Lead8 folder state → Recovers a s pieces before folder out
+      → Stands Lead8 folder state → Recovers statement_of a s pieces before folder out
   from_image folder image out state said was stood stands =
       let n = counted s pieces [] in
       record {
@@ -51,11 +48,11 @@ module _ (a : View) (s : State) (starts : StartsFrom a s) (before : List ℕ) (e
         after = inl (record { nothing = refl; image = image; was = was; stood = stood });
       }
 
-  at_start : (folder : Folder) (out : List ℕ) → LeavesNow a folder out → Recovers a s pieces before folder out
+  at_start : (folder : Folder) (out : List ℕ) → LeavesNow a folder out → Recovers statement_of a s pieces before folder out
   at_start folder out now =
       let stood = starts.images folder now.0 in from_image folder folder out stood.0 now.1 now.0 stood.1 stood.1
 
-  while_opening : IsSound a → (folder : Folder) (out : List ℕ) → FromImage (UnchangedOrStands Lead8 s) a folder out → Recovers a s pieces before folder out
+  while_opening : IsSound a → (folder : Folder) (out : List ℕ) → FromImage (UnchangedOrStands Lead8 s) a folder out → Recovers statement_of a s pieces before folder out
   while_opening sound folder out (was, image, opens, said) =
       let stood = starts.images was image in
       ⊎_elim
@@ -66,11 +63,11 @@ module _ (a : View) (s : State) (starts : StartsFrom a s) (before : List ℕ) (e
 
   -- the run stopped in the opening
   pub recovers_opening : (b : View) → IsSound a → Changes (UnchangedOrStands Lead8 s) a b → (folder : Folder) (out : List ℕ)
-      → b.left a.moment folder out → Recovers a s pieces before folder out
+      → b.left a.moment folder out → Recovers statement_of a s pieces before folder out
   recovers_opening b sound change folder out left = ⊎_elim (at_start folder out) (while_opening sound folder out)
       (since_start a b (FromImage (UnchangedOrStands Lead8 s) a) sound change.during folder out left)
 
-  from_moment : (folder : Folder) (out shown : List ℕ) → out ≡ before ++ shown → Crashed s before pieces folder out → Recovers a s pieces before folder out
+  from_moment : (folder : Folder) (out shown : List ℕ) → out ≡ before ++ shown → Crashed s before pieces folder out → Recovers statement_of a s pieces before folder out
   from_moment folder out shown went was =
       let n = counted s pieces shown in
       let after = after_crash s before pieces folder out shown went n.0 n.1 was in
@@ -85,22 +82,22 @@ module _ (a : View) (s : State) (starts : StartsFrom a s) (before : List ℕ) (e
         after = inr after.1.2;
       }
 
-  crashed : (folder : Folder) (out : List ℕ) → Crashed s before pieces folder out → Recovers a s pieces before folder out
+  crashed : (folder : Folder) (out : List ℕ) → Crashed s before pieces folder out → Recovers statement_of a s pieces before folder out
   crashed folder out was = ⊎_elim (λ quiet. from_moment folder out (replies s was.done) quiet.went was)
       (λ answering. from_moment folder out (replies s was.done ++ answering.front) answering.went was) was.stands
 
   -- it went on behind it
   pub recovers_run : (b c : View) (store : Store) → IsSound a → Changes (UnchangedOrStands Lead8 s) a b → IsStoreDurable b store → store.machine ≡ s
       → CrashLeavesPieces b c store pieces → (folder : Folder) (out : List ℕ) → c.left a.moment folder out
-      → Recovers a s pieces before folder out
+      → Recovers statement_of a s pieces before folder out
   recovers_run b c store sound change durable is leaves folder out left =
       let told : IsTold a = subst (λ (f : Option Folder). IsSome f) (sym starts.reads) refl in
       let serving : HasDurableStore b store before = record
       { told = told_after (UnchangedOrStands Lead8 s) a b change told; durable = durable; emitted = change.emitted ∙ emitted } in
       let both = crash_leaves_on a b c (FromImage (UnchangedOrStands Lead8 s) a) (Crashed store.machine before pieces)
-      (λ x e. Recovers a s pieces before x e) change.during (leaves before serving) (while_opening sound)
+      (λ x e. Recovers statement_of a s pieces before x e) change.during (leaves before serving) (while_opening sound)
       (λ x e p. crashed x e (subst (λ (t : State). Crashed t before pieces x e) is p)) in
-      ⊎_elim (at_start folder out) (λ r. r) (since_start a c (λ x e. Recovers a s pieces before x e) sound both folder out left)
+      ⊎_elim (at_start folder out) (λ r. r) (since_start a c (λ x e. Recovers statement_of a s pieces before x e) sound both folder out left)
 
 -- ---- the end
 
@@ -145,7 +142,7 @@ ends_alone a b c s store starts before emitted change durable is sound pieces af
 -- ---- what a run does
 
 -- the words named no script
-nothing_runs : (s : State) (l o : Option (List ℕ)) → Runs Usage s l l o o
+nothing_runs : (s : State) (l o : Option (List ℕ)) → Runs statement_of Usage s l l o o
 nothing_runs s l o = record {
   read = [];
   shown = [];
@@ -156,7 +153,7 @@ nothing_runs s l o = record {
   bounded = omega arith;
 }
 
-pub runs_nothing : (a : View) (s : State) (l : Option (List ℕ)) → IsSound a → StartsFrom a s → RunsFrom Usage s l l a a
+pub runs_nothing : (a : View) (s : State) (l : Option (List ℕ)) → IsSound a → StartsFrom a s → RunsFrom statement_of Usage s l l a a
 runs_nothing a s l sound starts = record {
   runs = nothing_runs s l a.emitted;
   crash = λ before emitted folder out left. recovers_opening a s starts before emitted _ a sound
@@ -164,7 +161,7 @@ runs_nothing a s l sound starts = record {
   ends = λ is. absurd is;
 }
 
-nothing_read : (s : State) (script : List ℕ) → EmitsFirstReplies s script [] []
+nothing_read : (s : State) (script : List ℕ) → EmitsFirstReplies statement_of s script [] []
 nothing_read s script = record {
   done = [];
   first = record {
@@ -182,7 +179,7 @@ nothing_read s script = record {
   replied = refl;
 }
 
-first_runs : (fault : ReadFault) (s : State) (l o o2 : Option (List ℕ)) → o2 ≡ o → Runs (status_of_fault fault) s l l o o2
+first_runs : (fault : ReadFault) (s : State) (l o o2 : Option (List ℕ)) → o2 ≡ o → Runs statement_of (status_of_fault fault) s l l o o2
 first_runs read_fault.Failed s l o o2 same = record {
   read = [];
   shown = [];
@@ -221,7 +218,7 @@ not_ended (read_fault.Damaged damage) is = is
 
 -- the folder wasn't opened
 pub runs_unopened : (fault : ReadFault) (a b : View) (s : State) (l : Option (List ℕ)) → IsSound a → StartsFrom a s
-    → Changes (UnchangedOrStands Lead8 s) a b → RunsFrom (status_of_fault fault) s l l a b
+    → Changes (UnchangedOrStands Lead8 s) a b → RunsFrom statement_of (status_of_fault fault) s l l a b
 runs_unopened fault a b s l sound starts change = record {
   runs = first_runs fault s l a.emitted b.emitted change.emitted;
   crash = λ before emitted folder out left. recovers_opening a s starts before emitted _ b sound change folder out left;
@@ -229,22 +226,22 @@ runs_unopened fault a b s l sound starts change = record {
 }
 
 -- the opening emits nothing, and finds this state
-moved : (status : Status) (l l2 : Option (List ℕ)) (t m : State) → m ≡ t → (o p q : Option (List ℕ)) → o ≡ p → Runs status m l l2 o q
-    → Runs status t l l2 p q
+moved : (status : Status) (l l2 : Option (List ℕ)) (t m : State) → m ≡ t → (o p q : Option (List ℕ)) → o ≡ p → Runs statement_of status m l l2 o q
+    → Runs statement_of status t l l2 p q
 moved status l l2 t m e o p q f runs = record {
   read = runs.read;
   shown = runs.shown;
   consumed = runs.consumed;
   emitted = subst (λ (x : Option (List ℕ)). Appends x q runs.shown) f runs.emitted;
   at_end = runs.at_end;
-  shows = subst (λ (x : State). EmitsByStatus status x (script_of l runs.read) runs.read runs.shown) e runs.shows;
+  shows = subst (λ (x : State). EmitsByStatus statement_of status x (script_of l runs.read) runs.read runs.shown) e runs.shows;
   bounded = runs.bounded;
 }
 
 -- it was, and the script run
 pub runs_opened : (status : Status) (a b c : View) (s : State) (store : Store) (l l2 : Option (List ℕ)) → IsSound a → StartsFrom a s
     → Changes (UnchangedOrStands Lead8 s) a b → IsStoreDurable b store → store.machine ≡ s → IsSound c → RunsCrashSafe status store l l2 b c
-    → RunsFrom status s l l2 a c
+    → RunsFrom statement_of status s l l2 a c
 unfolding moved
 runs_opened status a b c s store l l2 sound starts change durable is sound_c on = record {
   runs = moved status l l2 s store.machine is b.emitted a.emitted c.emitted change.emitted on.runs;
@@ -261,118 +258,43 @@ runs_opened status a b c s store l l2 sound starts change durable is sound_c on 
 
 -- ---- the headline
 
-rose_later : (a b c : ℕ) → a ≤ b → Rose b c → Rose a c
-rose_later a b c le rose = omega (arith, le, rose)
-
 -- the words name no script
-pub headline_unused : (words : List (List ℕ)) (script : SourceView) (a : View) → IsSound a → (IsCommandLine words → ⊥)
-    → Headline words Usage script script a a
-headline_unused words script a sound none = record {
+pub headline_unused : (script : SourceView) (a : View) → IsSound a → Headline Usage script script a a
+headline_unused script a sound = record {
+  parser = statement_of;
+  parses = is_parser;
   some_state = (empty_state Lead8, nothing_runs (empty_state Lead8) script.left a.emitted);
   as_it_reads = λ folder s files stands. nothing_runs s script.left a.emitted;
   shows = λ s starts. runs_nothing a s script.left sound starts;
-  usage = (λ is. none, λ no. refl);
-  script_fault = λ is. cc;
-  folder_fault = λ is. cc;
-  output_fault = λ is. cc;
-  damaged = λ damage is. cc;
-  refused = λ folder files none. record { refusal = tt; unread = refl; silent = refl };
-  undamaged = λ folder s damage files stands is. cc;
-  complete = λ are x y z. absurd (none are);
 }
-
-damage_same : (x y : Damage) → Damaged x ≡ Damaged y → x ≡ y
-damage_same x y is = cc
 
 -- the folder wasn't opened
-pub headline_unopened : (words : List (List ℕ)) (fault : ReadFault) (script : SourceView) (a b : View) → IsSound a → IsCommandLine words
-    → b.emitted ≡ a.emitted
+pub headline_unopened : (fault : ReadFault) (script : SourceView) (a b : View) → IsSound a → b.emitted ≡ a.emitted
     → ((folder : Folder) (s : State) → a.files ≡ Some folder → Stands Lead8 folder s → Changes (UnchangedOrStands Lead8 s) a b)
-    → (fault ≡ read_fault.Failed → Rose a.disk_faults b.disk_faults)
-    → ((folder : Folder) → a.files ≡ Some folder → OnDamage (FolderShows folder) fault)
-    → ((folder : Folder) (s : State) → a.files ≡ Some folder → Stands Lead8 folder s → OnDamage (λ _. ⊥) fault)
-    → Headline words (status_of_fault fault) script script a b
-headline_unopened words read_fault.Failed script a b sound are silent change failed shown undamaged = record {
-  some_state = (empty_state Lead8, first_runs read_fault.Failed (empty_state Lead8) script.left a.emitted b.emitted silent);
-  as_it_reads = λ folder s files stands. first_runs read_fault.Failed s script.left a.emitted b.emitted silent;
-  shows = λ s starts. runs_unopened read_fault.Failed a b s script.left sound starts (change starts.folder s starts.reads starts.stands);
-  usage = (λ is. cc, λ no. absurd (no are));
-  script_fault = λ is. cc;
-  folder_fault = λ is. failed refl;
-  output_fault = λ is. cc;
-  damaged = λ damage is. cc;
-  refused = λ folder files none. record { refusal = tt; unread = refl; silent = silent };
-  undamaged = λ folder s damage files stands is. cc;
-  complete = λ words x y disk. absurd (disk (failed refl));
+    → Headline (status_of_fault fault) script script a b
+headline_unopened fault script a b sound silent change = record {
+  parser = statement_of;
+  parses = is_parser;
+  some_state = (empty_state Lead8, first_runs fault (empty_state Lead8) script.left a.emitted b.emitted silent);
+  as_it_reads = λ folder s files stands. first_runs fault s script.left a.emitted b.emitted silent;
+  shows = λ s starts. runs_unopened fault a b s script.left sound starts (change starts.folder s starts.reads starts.stands);
 }
-headline_unopened words read_fault.OutOfMemory script a b sound are silent change failed shown undamaged = record {
-  some_state = (empty_state Lead8, first_runs read_fault.OutOfMemory (empty_state Lead8) script.left a.emitted b.emitted silent);
-  as_it_reads = λ folder s files stands. first_runs read_fault.OutOfMemory s script.left a.emitted b.emitted silent;
-  shows = λ s starts. runs_unopened read_fault.OutOfMemory a b s script.left sound starts (change starts.folder s starts.reads starts.stands);
-  usage = (λ is. cc, λ no. absurd (no are));
-  script_fault = λ is. cc;
-  folder_fault = λ is. cc;
-  output_fault = λ is. cc;
-  damaged = λ damage is. cc;
-  refused = λ folder files none. record { refusal = tt; unread = refl; silent = silent };
-  undamaged = λ folder s damage files stands is. cc;
-  complete = λ words x y disk. through_memory script.left;
-}
-  where
-    through_memory : (l : Option (List ℕ)) → IfSome l (λ script. length script ≤ SCRIPT_MOST → RanThrough OutOfMemory)
-    through_memory None = tt
-    through_memory (Some script) = λ _. tt
-headline_unopened words (read_fault.Damaged damage) script a b sound are silent change failed shown undamaged = record {
-  some_state = (empty_state Lead8, first_runs (read_fault.Damaged damage) (empty_state Lead8) script.left a.emitted b.emitted silent);
-  as_it_reads = λ folder s files stands. first_runs (read_fault.Damaged damage) s script.left a.emitted b.emitted silent;
-  shows = λ s starts. runs_unopened (read_fault.Damaged damage) a b s script.left sound starts (change starts.folder s starts.reads starts.stands);
-  usage = (λ is. cc, λ no. absurd (no are));
-  script_fault = λ is. cc;
-  folder_fault = λ is. cc;
-  output_fault = λ is. cc;
-  damaged = λ told is. subst (λ (d : Damage). ReportsDamage d script script a b) (damage_same damage told is)
-      (record { shows = shown; unread = refl; silent = silent });
-  refused = λ folder files none. record { refusal = tt; unread = refl; silent = silent };
-  undamaged = λ folder s told files stands is. undamaged folder s files stands;
-  complete = λ words x y disk. through_damage script.left;
-}
-  where
-    through_damage : (l : Option (List ℕ)) → IfSome l (λ script. length script ≤ SCRIPT_MOST → RanThrough (Damaged damage))
-    through_damage None = tt
-    through_damage (Some script) = λ _. tt
 
 -- the script was run
-pub headline_opened : (words : List (List ℕ)) (status : Status) (script later : SourceView) (a b c : View) (store : Store) → IsSound a
-    → IsSound c → IsCommandLine words → b.emitted ≡ a.emitted
+pub headline_opened : (status : Status) (script later : SourceView) (a b c : View) (store : Store) → IsSound a → IsSound c → b.emitted ≡ a.emitted
     → ((folder : Folder) (s : State) → a.files ≡ Some folder → Stands Lead8 folder s → Changes (UnchangedOrStands Lead8 s) a b)
-    → a.disk_faults ≤ b.disk_faults → b.out_faults ≡ a.out_faults
     → ((folder : Folder) (s : State) → a.files ≡ Some folder → Stands Lead8 folder s → IsStoreDurable b store × (store.machine ≡ s))
-    → ((folder : Folder) → a.files ≡ Some folder → Stands Lead8 folder store.machine) → RunsCrashSafe status store script.left later.left b c
-    → (status ≡ ScriptFault → Rose script.faults later.faults) → (status ≡ OutputFault → Rose b.out_faults c.out_faults)
-    → (status ≡ FolderFault → Rose b.disk_faults c.disk_faults) → status ≢ Usage → ((damage : Damage) → status ≢ Damaged damage)
-    → Headline words status script later a c
-headline_opened words status script later a b c store sound sound_c are silent change disk out opened stands on script_fault output_fault
-    folder_fault used undamaged =
-    let output : status ≡ OutputFault → Rose a.out_faults c.out_faults = λ is. subst (λ n. Rose n c.out_faults) out (output_fault is) in
-    let folder : status ≡ FolderFault → Rose a.disk_faults c.disk_faults = λ is. rose_later a.disk_faults b.disk_faults c.disk_faults disk
-    (folder_fault is) in
-    record {
-      some_state = (
-        store.machine,
-        moved status script.left later.left store.machine store.machine refl b.emitted a.emitted c.emitted silent on.runs,
-      );
-      as_it_reads = λ folder s files stands.
-          moved status script.left later.left s store.machine (opened folder s files stands).1 b.emitted a.emitted c.emitted silent on.runs;
-      shows = λ s starts.
-          (let known = opened starts.folder s starts.reads starts.stands in runs_opened status a b c s store script.left later.left sound
-          starts (change starts.folder s starts.reads starts.stands) known.0 known.1 sound_c on);
-      usage = (λ is. absurd (used is), λ no. absurd (no are));
-      script_fault = script_fault;
-      folder_fault = folder;
-      output_fault = output;
-      damaged = λ damage is. absurd (undamaged damage is);
-      refused = λ folder files none. absurd (none store.machine (stands folder files));
-      undamaged = λ folder s damage files stands. undamaged damage;
-      complete = λ words x y z. through status store.machine script.left later.left b.emitted c.emitted on.runs used
-          (λ is. x (script_fault is)) (λ is. y (output is)) (λ is. z (folder is));
-    }
+    → RunsCrashSafe status store script.left later.left b c → Headline status script later a c
+headline_opened status script later a b c store sound sound_c silent change opened on = record {
+  parser = statement_of;
+  parses = is_parser;
+  some_state = (
+    store.machine,
+    moved status script.left later.left store.machine store.machine refl b.emitted a.emitted c.emitted silent on.runs,
+  );
+  as_it_reads = λ folder s files stands.
+      moved status script.left later.left s store.machine (opened folder s files stands).1 b.emitted a.emitted c.emitted silent on.runs;
+  shows = λ s starts.
+      (let known = opened starts.folder s starts.reads starts.stands in runs_opened status a b c s store script.left later.left sound
+      starts (change starts.folder s starts.reads starts.stands) known.0 known.1 sound_c on);
+}

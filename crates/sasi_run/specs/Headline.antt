@@ -1,27 +1,25 @@
--- The headline: what a run reads and emits, by the status that it answers. The emitted bytes are the replies that the
--- model gives to the pieces of the script; each status says how many of them, and has its cause.
-use Rattle.std.specs.Prelude.{◌≡◌, ◌≢◌, ℕ, ◌+◌, ◌-◌, ◌^◌, ◌≤◌, ◌<◌, ◌==◌, if◌then◌else◌, min, List, [], ◌∷◌, ◌++◌, length, take, Option, None, Some, IfSome, IsSome, false, ◌↔◌}
+-- The headline: what a run reads and emits, by the status that it answers, and what a crash leaves. The emitted bytes are
+-- the replies that the model gives to the pieces of the script, and each status says how many of them.
+use Rattle.std.specs.Prelude.{◌≡◌, ℕ, ◌+◌, ◌-◌, ◌^◌, ◌≤◌, ◌<◌, ◌==◌, if◌then◌else◌, min, List, [], ◌∷◌, ◌++◌, length, take, Option, None, Some, IsSome, false}
 use Rattle.std.specs.Io.KnownBytes.{Appends, Consumes, IsAtEnd}
 use Rattle.std.specs.FinMap.{get}
 use Rattle.sasi_types.specs.declared.partitioner.Partitioner.TheVariants.{Lead8}
-use Rattle.sasi_host.specs.View.{Rose, SourceView, View}
+use Rattle.sasi_host.specs.View.{SourceView, View}
 use Rattle.sasi_host.specs.declared.fault.ReadFault.{ReadFault}
 use Rattle.sasi_host.specs.declared.fault.ReadFault.TheVariants as read_fault
-use Rattle.sasi_host.specs.declared.damage.Damage.{Damage}
 use Rattle.sasi_host.specs.Names.{Folder}
 use Rattle.sasi_host.specs.declared.name.FileName.{FileName}
 use Rattle.sasi_model.specs.Pieces.{Piece, pieces, all_pieces}
 use Rattle.sasi_model.specs.State.{State}
-use Rattle.sasi_model.specs.Step.{step, state_after, replies, refusals}
+use Rattle.sasi_model.specs.Statements.{Parser, IsParser}
+use Rattle.sasi_model.specs.Step.{step_by, state_by, replies_by, refusals_by}
 use Rattle.sasi_cells.specs.declared.mutation.Mutation.{Mutation}
 use Rattle.sasi_manifest.specs.declared.listing.Listing.{Listing}
-use Rattle.sasi_folder.specs.Damages.{FolderShows}
 use Rattle.sasi_folder.specs.Replay.{replayed_state}
 use Rattle.sasi_folder.specs.Stands.{Holds, Stands, StandsSealed}
 use Rattle.sasi_run.specs.declared.unlisted_files.Keep.TheVariants.{Store as KeepStore}
 use Rattle.sasi_run.specs.Deletion.{keeps}
 use Rattle.sasi_run.specs.Recovering.{Recovers}
-use Rattle.sasi_run.specs.CommandLine.{IsCommandLine}
 use Rattle.sasi_run.specs.declared.session.Stop.{Stop}
 use Rattle.sasi_run.specs.declared.session.Stop.TheVariants.{Disk, Output, Memory}
 use Rattle.sasi_run.specs.declared.status.Status.{Status}
@@ -36,19 +34,19 @@ abbrev pub READ_MOST : ℕ
 READ_MOST = 4096
 
 -- the replies of all pieces of the script were emitted, and so many pieces are refused
-pub record EmitsAllReplies (s : State) (read shown : List ℕ) (refused : ℕ) : Type 0 where
-  pub all : shown ≡ replies s (all_pieces read)
-  pub count : refused ≡ min (refusals s (all_pieces read)) (2 ^ 64 - 1)
+pub record EmitsAllReplies (parser : Parser) (s : State) (read shown : List ℕ) (refused : ℕ) : Type 0 where
+  pub all : shown ≡ replies_by parser s (all_pieces read)
+  pub count : refused ≡ min (refusals_by parser s (all_pieces read)) (2 ^ 64 - 1)
   pub short : length read ≤ SCRIPT_MOST
 
 -- the replies of exactly the whole pieces within the bytes read were emitted
-pub record EmitsWholePieces (s : State) (read shown : List ℕ) : Type 0 where
-  pub whole : shown ≡ replies s (pieces read).whole
+pub record EmitsWholePieces (parser : Parser) (s : State) (read shown : List ℕ) : Type 0 where
+  pub whole : shown ≡ replies_by parser s (pieces read).whole
   pub short : length read ≤ SCRIPT_MOST
 
 -- the same within the first 2^40 bytes, and the source gave more
-pub record EmitsUpToLimit (s : State) (read shown : List ℕ) : Type 0 where
-  pub whole : shown ≡ replies s (pieces (take SCRIPT_MOST read)).whole
+pub record EmitsUpToLimit (parser : Parser) (s : State) (read shown : List ℕ) : Type 0 where
+  pub whole : shown ≡ replies_by parser s (pieces (take SCRIPT_MOST read)).whole
   pub long : SCRIPT_MOST < length read
 
 -- the script that a source tells, or else what was read of it
@@ -70,32 +68,32 @@ pub record IsFirstPart (script read : List ℕ) (done next : List Piece) : Type 
   pub has : done ≡ (pieces before).whole ++ more
 
 -- whole replies of a first part of the pieces were emitted, and nothing behind them
-pub record EmitsFirstReplies (s : State) (script read shown : List ℕ) : Type 0 where
+pub record EmitsFirstReplies (parser : Parser) (s : State) (script read shown : List ℕ) : Type 0 where
   pub done : List Piece
   pub first : IsFirstPart script read done []
-  pub replied : shown ≡ replies s done
+  pub replied : shown ≡ replies_by parser s done
 
 -- and a first part of the next reply behind them
-pub record EmitsCutReply (s : State) (script read shown : List ℕ) : Type 0 where
+pub record EmitsCutReply (parser : Parser) (s : State) (script read shown : List ℕ) : Type 0 where
   pub done : List Piece
   pub piece : Piece
   pub first : IsFirstPart script read done (piece ∷ [])
   pub front : List ℕ
   pub back : List ℕ
-  pub reply : (step (state_after s done) piece).reply ≡ front ++ back
-  pub replied : shown ≡ replies s done ++ front
+  pub reply : (step_by parser (state_by parser s done) piece).reply ≡ front ++ back
+  pub replied : shown ≡ replies_by parser s done ++ front
 
 -- what was emitted, by the status, of this script of which so much was read
-abbrev pub EmitsByStatus : Status → State → List ℕ → List ℕ → List ℕ → Type 0
-EmitsByStatus Done s script read shown = EmitsAllReplies s read shown 0
-EmitsByStatus (Refused n) s script read shown = (0 < n) × EmitsAllReplies s read shown n
-EmitsByStatus Usage s script read shown = (read ≡ []) × (shown ≡ [])
-EmitsByStatus ScriptFault s script read shown = EmitsWholePieces s read shown
-EmitsByStatus ScriptTooLong s script read shown = EmitsUpToLimit s read shown
-EmitsByStatus OutOfMemory s script read shown = EmitsFirstReplies s script read shown
-EmitsByStatus FolderFault s script read shown = EmitsFirstReplies s script read shown
-EmitsByStatus (Damaged damage) s script read shown = (read ≡ []) × (shown ≡ [])
-EmitsByStatus OutputFault s script read shown = EmitsCutReply s script read shown
+abbrev pub EmitsByStatus : Parser → Status → State → List ℕ → List ℕ → List ℕ → Type 0
+EmitsByStatus parser Done s script read shown = EmitsAllReplies parser s read shown 0
+EmitsByStatus parser (Refused n) s script read shown = (0 < n) × EmitsAllReplies parser s read shown n
+EmitsByStatus parser Usage s script read shown = (read ≡ []) × (shown ≡ [])
+EmitsByStatus parser ScriptFault s script read shown = EmitsWholePieces parser s read shown
+EmitsByStatus parser ScriptTooLong s script read shown = EmitsUpToLimit parser s read shown
+EmitsByStatus parser OutOfMemory s script read shown = EmitsFirstReplies parser s script read shown
+EmitsByStatus parser FolderFault s script read shown = EmitsFirstReplies parser s script read shown
+EmitsByStatus parser (Damaged damage) s script read shown = (read ≡ []) × (shown ≡ [])
+EmitsByStatus parser OutputFault s script read shown = EmitsCutReply parser s script read shown
 
 -- the script was read to its end
 abbrev pub ReadsToEnd : Status → Option (List ℕ) → Type 0
@@ -110,26 +108,14 @@ RanToEnd (Refused n) = Unit {0}
 RanToEnd _ = ⊥
 
 -- the run read these bytes, and emitted what they show
-pub record Runs (status : Status) (s : State) (left_old left_new out_old out_new : Option (List ℕ)) : Type 0 where
+pub record Runs (parser : Parser) (status : Status) (s : State) (left_old left_new out_old out_new : Option (List ℕ)) : Type 0 where
   pub read : List ℕ
   pub shown : List ℕ
   pub consumed : Consumes left_old left_new read
   pub emitted : Appends out_old out_new shown
   pub at_end : ReadsToEnd status left_new
-  pub shows : EmitsByStatus status s (script_of left_old read) read shown
+  pub shows : EmitsByStatus parser status s (script_of left_old read) read shown
   pub bounded : length read ≤ SCRIPT_MOST + READ_MOST
-
--- a run that nothing outside stopped; where the folder stands for a state, it is not damaged
-abbrev pub RanThrough : Status → Type 0
-RanThrough Done = Unit {0}
-RanThrough (Refused n) = Unit {0}
-RanThrough OutOfMemory = Unit {0}
-RanThrough Usage = ⊥
-RanThrough ScriptFault = ⊥
-RanThrough OutputFault = ⊥
-RanThrough FolderFault = ⊥
-RanThrough (Damaged damage) = Unit {0}
-RanThrough ScriptTooLong = ⊥
 
 -- A run on this host begins in this state: its folder, as it reads, stands for it, and each image of it stands for a state.
 pub record StartsFrom (host : View) (s : State) : Type 0 where
@@ -151,55 +137,23 @@ pub record StandsWithoutUnlisted (v : View) (s : State) : Type 0 where
   pub images : (image : Folder) → v.image image → StandsSealed image s
 
 -- **The replies, and what a crash leaves.** What was emitted are replies as the status says, and at each moment since the start a crash leaves the state after the pieces whose replies were emitted, or after one more. A run to the script's end leaves the state after all of them, and no other file.
-pub record RunsFrom (status : Status) (s : State) (left_old left_new : Option (List ℕ)) (host_old host_new : View) : Type 0 where
-  pub runs : Runs status s left_old left_new host_old.emitted host_new.emitted
-  pub crash : (before : List ℕ) → host_old.emitted ≡ Some before → (folder : Folder) (out : List ℕ) → host_new.left host_old.moment folder out → Recovers host_old s (all_pieces (script_of left_old runs.read)) before folder out
-  pub ends : RanToEnd status → IsSome host_old.emitted → StandsWithoutUnlisted host_new (state_after s (all_pieces (script_of left_old runs.read)))
-
--- **A damaged folder.** It shows the damage that is told, and the run took nothing of the script and emitted nothing.
-pub record ReportsDamage (damage : Damage) (script_old script_new : SourceView) (host_old host_new : View) : Type 0 where
-  pub shows : (folder : Folder) → host_old.files ≡ Some folder → FolderShows folder damage
-  pub unread : script_new ≡ script_old
-  pub silent : host_new.emitted ≡ host_old.emitted
-
--- a run that didn't begin, of words or of a folder
-abbrev pub IsRefusal : Status → Type 0
-IsRefusal Usage = Unit {0}
-IsRefusal FolderFault = Unit {0}
-IsRefusal OutOfMemory = Unit {0}
-IsRefusal (Damaged damage) = Unit {0}
-IsRefusal Done = ⊥
-IsRefusal (Refused n) = ⊥
-IsRefusal ScriptFault = ⊥
-IsRefusal OutputFault = ⊥
-IsRefusal ScriptTooLong = ⊥
-
--- **A folder that stands for no state** isn't run on.
-pub record RefusesFolder (status : Status) (script_old script_new : SourceView) (host_old host_new : View) : Type 0 where
-  pub refusal : IsRefusal status
-  pub unread : script_new ≡ script_old
-  pub silent : host_new.emitted ≡ host_old.emitted
+pub record RunsFrom (parser : Parser) (status : Status) (s : State) (left_old left_new : Option (List ℕ)) (host_old host_new : View) : Type 0 where
+  pub runs : Runs parser status s left_old left_new host_old.emitted host_new.emitted
+  pub crash : (before : List ℕ) → host_old.emitted ≡ Some before → (folder : Folder) (out : List ℕ) → host_new.left host_old.moment folder out → Recovers parser host_old s (all_pieces (script_of left_old runs.read)) before folder out
+  pub ends : RanToEnd status → IsSome host_old.emitted → StandsWithoutUnlisted host_new (state_by parser s (all_pieces (script_of left_old runs.read)))
 
 -- what a run does, by what its source and its host tell before it and after it
-pub record Headline (words : List (List ℕ)) (status : Status) (script_old script_new : SourceView) (host_old host_new : View) : Type 0 where
+pub record Headline (status : Status) (script_old script_new : SourceView) (host_old host_new : View) : Type 0 where
+  -- the parser of the grammar, by which each piece is read
+  pub parser : Parser
+  pub parses : IsParser parser
   -- the replies from some state, on every host: also where its files aren't told, or stand for no state
-  pub some_state : (s : State) × Runs status s script_old.left script_new.left host_old.emitted host_new.emitted
+  pub some_state : (s : State) × Runs parser status s script_old.left script_new.left host_old.emitted host_new.emitted
   -- and from the state for which the folder as it reads stands, whatever its images stand for
   pub as_it_reads : (folder : Folder) (s : State) → host_old.files ≡ Some folder → Stands Lead8 folder s
-      → Runs status s script_old.left script_new.left host_old.emitted host_new.emitted
+      → Runs parser status s script_old.left script_new.left host_old.emitted host_new.emitted
   -- the replies, and the crash
-  pub shows : (s : State) → StartsFrom host_old s → RunsFrom status s script_old.left script_new.left host_old host_new
-  -- the causes
-  pub usage : (status ≡ Usage) ↔ ¬ (IsCommandLine words)
-  pub script_fault : status ≡ ScriptFault → Rose script_old.faults script_new.faults
-  pub folder_fault : status ≡ FolderFault → Rose host_old.disk_faults host_new.disk_faults
-  pub output_fault : status ≡ OutputFault → Rose host_old.out_faults host_new.out_faults
-  pub damaged : (damage : Damage) → status ≡ Damaged damage → ReportsDamage damage script_old script_new host_old host_new
-  pub refused : (folder : Folder) → host_old.files ≡ Some folder → ((s : State) → ¬ Stands Lead8 folder s) → RefusesFolder status script_old script_new host_old host_new
-  pub undamaged : (folder : Folder) (s : State) (damage : Damage) → host_old.files ≡ Some folder → Stands Lead8 folder s → status ≢ Damaged damage
-  -- completeness, on every host
-  pub complete : IsCommandLine words → ¬ (Rose script_old.faults script_new.faults) → ¬ (Rose host_old.out_faults host_new.out_faults) → ¬ (Rose host_old.disk_faults host_new.disk_faults)
-      → IfSome script_old.left (λ script. length script ≤ SCRIPT_MOST → RanThrough status)
+  pub shows : (s : State) → StartsFrom host_old s → RunsFrom parser status s script_old.left script_new.left host_old host_new
 
 -- ---- the status of a run's end
 

@@ -1,4 +1,5 @@
 pub mod Headline
+pub mod Causes
 pub mod StatusCodes
 pub mod StatusCauses
 pub mod Session

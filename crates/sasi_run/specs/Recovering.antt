@@ -5,28 +5,29 @@ use Rattle.sasi_host.specs.Names.{Folder}
 use Rattle.sasi_host.specs.View.{View}
 use Rattle.sasi_model.specs.Pieces.{Piece}
 use Rattle.sasi_model.specs.State.{State}
-use Rattle.sasi_model.specs.Step.{state_after, replies}
+use Rattle.sasi_model.specs.Statements.{Parser}
+use Rattle.sasi_model.specs.Step.{state_by, replies_by}
 use Rattle.sasi_folder.specs.Stands.{Stands}
 
 -- n is the number of whole replies that were emitted: what was shown begins with the replies of the first n pieces, and of no more
-pub record IsReplyCount (s : State) (pieces : List Piece) (shown : List ℕ) (n : ℕ) : Type 0 where
+pub record IsReplyCount (parser : Parser) (s : State) (pieces : List Piece) (shown : List ℕ) (n : ℕ) : Type 0 where
   pub within : n ≤ length pieces
   pub rest : List ℕ
-  pub begins : shown ≡ replies s (take n pieces) ++ rest
-  pub no_more : (m : ℕ) (more : List ℕ) → n < m → m ≤ length pieces → shown ≡ replies s (take m pieces) ++ more → ⊥
+  pub begins : shown ≡ replies_by parser s (take n pieces) ++ rest
+  pub no_more : (m : ℕ) (more : List ℕ) → n < m → m ≤ length pieces → shown ≡ replies_by parser s (take m pieces) ++ more → ⊥
 
 -- the reply of the piece behind the first n, or nothing where there is none
-abbrev pub next_reply : State → List Piece → ℕ → List ℕ
-next_reply s pieces n = replies (state_after s (take n pieces)) (take 1 (drop n pieces))
+abbrev pub next_reply : Parser → State → List Piece → ℕ → List ℕ
+next_reply parser s pieces n = replies_by parser (state_by parser s (take n pieces)) (take 1 (drop n pieces))
 
 -- the bytes are a first part of that reply
-pub record IsPartOfNextReply (s : State) (pieces : List Piece) (n : ℕ) (bytes : List ℕ) : Type 0 where
+pub record IsPartOfNextReply (parser : Parser) (s : State) (pieces : List Piece) (n : ℕ) (bytes : List ℕ) : Type 0 where
   pub back : List ℕ
-  pub parts : next_reply s pieces n ≡ bytes ++ back
+  pub parts : next_reply parser s pieces n ≡ bytes ++ back
 
 -- the state after the first n pieces, or after one more
-abbrev pub IsStateAfter : State → List Piece → ℕ → State → Type 0
-IsStateAfter s pieces n state = (state ≡ state_after s (take n pieces)) ⊎ ((n < length pieces) × (state ≡ state_after s (take (suc n) pieces)))
+abbrev pub IsStateAfter : Parser → State → List Piece → ℕ → State → Type 0
+IsStateAfter parser s pieces n state = (state ≡ state_by parser s (take n pieces)) ⊎ ((n < length pieces) × (state ≡ state_by parser s (take (suc n) pieces)))
 
 -- nothing was shown, and an image of the start stood for the state
 pub record IsStateOfImage (start : View) (shown : List ℕ) (state : State) : Type 0 where
@@ -36,15 +37,15 @@ pub record IsStateOfImage (start : View) (shown : List ℕ) (state : State) : Ty
   pub stood : Stands Lead8 image state
 
 -- What a crash leaves of a run of these pieces, where so much was emitted before the run: the replies of the first `count` pieces, for a greatest such number, with a first part of the next reply behind them; and a folder that stands for the state after these pieces, or after one more.
-pub record Recovers (start : View) (s : State) (pieces : List Piece) (before : List ℕ) (folder : Folder) (out : List ℕ) : Type 0 where
+pub record Recovers (parser : Parser) (start : View) (s : State) (pieces : List Piece) (before : List ℕ) (folder : Folder) (out : List ℕ) : Type 0 where
   pub shown : List ℕ
   pub went : out ≡ before ++ shown
   pub count : ℕ
-  pub whole : IsReplyCount s pieces shown count
-  pub next : IsPartOfNextReply s pieces count whole.rest
+  pub whole : IsReplyCount parser s pieces shown count
+  pub next : IsPartOfNextReply parser s pieces count whole.rest
   pub state : State
   pub stands : Stands Lead8 folder state
-  pub after : IsStateOfImage start shown state ⊎ IsStateAfter s pieces count state
+  pub after : IsStateOfImage start shown state ⊎ IsStateAfter parser s pieces count state
 
 -- the host's files are this folder, with nothing pending
 pub record IsAtRest (host : View) (folder : Folder) : Type 0 where

@@ -1,6 +1,7 @@
 // The entry point: a run of a script over a folder.
 ghost use Rattle.std.specs.Prelude.{◌≡◌, map, string_bytes};
 ghost use Rattle.sasi_run.specs.Headline.{Headline, status_of_fault};
+ghost use Rattle.sasi_run.specs.Causes.{RunCauses};
 
 use crate::open::open;
 use crate::reading::run_script;
@@ -18,7 +19,8 @@ pub fn run<S: Source, H: Host>(
     script: &mut S,
     host: &mut H,
 ) -> Status
-    ensures headline { Headline (map (λ w. string_bytes w) words.now) result (S.view script.old) (S.view script.new) (H.view host.old) (H.view host.new) }
+    ensures headline { Headline result (S.view script.old) (S.view script.new) (H.view host.old) (H.view host.new) }
+    ensures causes { RunCauses (map (λ w. string_bytes w) words.now) result (S.view script.old) (S.view script.new) (H.view host.old) (H.view host.new) }
     ensures untouched { result ≡ Status.Usage → (script.new ≡ script.old) × (host.new ≡ host.old) }
 {
     match command(words) {

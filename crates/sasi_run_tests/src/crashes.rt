@@ -24,7 +24,7 @@ fn replies_in(rt: &impl Abort, emitted: &[u8]) -> usize {
 }
 
 /// After how many statements of the script the folder's state comes, by what a run answers on it.
-pub fn statements_in(rt: &impl Abort, alloc: Global, host: &mut MemHost) -> usize {
+fn statements_in(rt: &impl Abort, alloc: Global, host: &mut MemHost) -> usize {
     let (status, emitted) = run_script(rt, alloc, SELECT, host);
     ANSWERS
         .iter()
@@ -49,20 +49,35 @@ fn check_left(rt: &impl Abort, alloc: Global, stopped: &MemHost, pick: Pick, sta
     assert!(rt; statements_in(rt, alloc, &mut left) == statements);
 }
 
+/// Each crash of a stopped host leaves the state.
+fn check_each_left(rt: &impl Abort, alloc: Global, stopped: &MemHost, statements: usize) {
+    for pick in picks() {
+        check_left(rt, alloc, stopped, pick, statements);
+    }
+}
+
+/// Whether an opening of this host, which is stopped, goes through. One that doesn't emits nothing.
+fn is_opened(rt: &impl Abort, alloc: Global, host: &mut MemHost) -> bool {
+    let (status, emitted) = run_script(rt, alloc, SELECT, host);
+    let is_opened = !matches!(status, Status::FolderFault | Status::OutputFault);
+    assert!(rt; is_opened || emitted.is_empty());
+    is_opened
+}
+
 /// Each crash in an opening that is stopped after so many calls leaves the state. Tells whether the run went through.
 fn check_stopped_opening(
     rt: &impl Abort,
     alloc: Global,
-    mut host: MemHost,
+    host: &MemHost,
+    pick: Pick,
+    stop: u64,
     statements: usize,
 ) -> bool {
-    let (status, emitted) = run_script(rt, alloc, SELECT, &mut host);
-    for pick in picks() {
-        check_left(rt, alloc, &host, pick, statements);
-    }
-    let stopped = matches!(status, Status::FolderFault | Status::OutputFault);
-    assert!(rt; !stopped || emitted.is_empty());
-    !stopped
+    let mut stopped = crashed(rt, host, pick);
+    stopped.stop_after(stop);
+    let is_opened = is_opened(rt, alloc, &mut stopped);
+    check_each_left(rt, alloc, &stopped, statements);
+    is_opened
 }
 
 /// Crashes at each call of the opening leave the state, by every pick. Nothing is pending on the host.
@@ -74,34 +89,55 @@ pub fn check_opening(
     statements: usize,
 ) {
     for stop in 0..40 {
-        let mut stopped = crashed(rt, host, pick);
-        stopped.stop_after(stop);
-        if check_stopped_opening(rt, alloc, stopped, statements) {
+        if check_stopped_opening(rt, alloc, host, pick, stop, statements) {
             return;
         }
     }
-    assert!(rt; false, "the opening doesn't end");
+    panic!(rt; "the opening doesn't end");
 }
 
-/// A crash by this pick leaves the state after these replies or one statement more, also where its recovery is cut off by any crash, and a run follows.
+/// A crash by this pick leaves the state after these replies or one statement more. Gives how many.
+fn check_picked(
+    rt: &impl Abort,
+    alloc: Global,
+    host: &MemHost,
+    pick: Pick,
+    replies: usize,
+) -> usize {
+    check_state(rt, alloc, &mut crashed(rt, host, pick), replies)
+}
+
+/// So it does where its recovery is cut off by any crash, and a run follows.
 fn check_crash(rt: &impl Abort, alloc: Global, host: &MemHost, pick: Pick, replies: usize) {
-    let statements = check_state(rt, alloc, &mut crashed(rt, host, pick), replies);
+    let statements = check_picked(rt, alloc, host, pick, replies);
     check_opening(rt, alloc, &crashed(rt, host, pick), pick, statements);
 }
 
-/// Crashes of a run that is stopped after so many calls. Thirteen calls make the folder, four record a statement, and one emits
-/// its reply.
-fn check_stopped(rt: &impl Abort, alloc: Global, stop: u64) {
-    let mut host = MemHost::new(alloc);
-    host.stop_after(stop);
-    let (status, emitted) = run_script(rt, alloc, SCRIPT, &mut host);
-    let expected = match stop {
+/// The status of a run that is stopped after so many calls. Thirteen calls make the folder, four record a statement, and one
+/// emits its reply.
+fn status_after(stop: u64) -> Status {
+    match stop {
         17 | 22 => Status::OutputFault,
         23 => Status::Done,
         _ => Status::FolderFault,
-    };
-    assert!(rt; status == expected, "the status after {stop} calls");
-    let replies = replies_in(rt, &emitted);
+    }
+}
+
+/// The host of such a run, and how many replies were emitted.
+fn stopped_run(rt: &impl Abort, alloc: Global, stop: u64) -> (MemHost, usize) {
+    let mut host = MemHost::new(alloc);
+    host.stop_after(stop);
+    let (status, emitted) = run_script(rt, alloc, SCRIPT, &mut host);
+    assert!(rt;
+        status == status_after(stop),
+        "the status after {stop} calls"
+    );
+    (host, replies_in(rt, &emitted))
+}
+
+/// Crashes of a run that is stopped after so many calls.
+fn check_stopped(rt: &impl Abort, alloc: Global, stop: u64) {
+    let (host, replies) = stopped_run(rt, alloc, stop);
     assert!(rt; replies == usize::from(stop >= 18) + usize::from(stop >= 23));
     for pick in picks() {
         check_crash(rt, alloc, &host, pick, replies);
@@ -118,15 +154,7 @@ fn crash_leaves_what_was_answered_or_one_more(rt: HostRuntime) {
 /// Each crash leaves the state after these replies or one statement more.
 fn check_crashes(rt: &impl Abort, alloc: Global, host: &MemHost, replies: usize) {
     for pick in picks() {
-        check_state(rt, alloc, &mut crashed(rt, host, pick), replies);
-    }
-}
-
-/// Each crash leaves the state after so many statements.
-fn check_crashes_leave(rt: &impl Abort, alloc: Global, host: &MemHost, statements: usize) {
-    for pick in picks() {
-        let mut left = crashed(rt, host, pick);
-        assert!(rt; statements_in(rt, alloc, &mut left) == statements);
+        check_picked(rt, alloc, host, pick, replies);
     }
 }
 
@@ -136,18 +164,17 @@ fn failed_run(rt: &impl Abort, alloc: Global, failing: u64) -> (MemHost, usize) 
     host.fail_disk(vec![in alloc; failing].expect(rt, "memory"));
     let (status, emitted) = run_script(rt, alloc, SCRIPT, &mut host);
     assert!(rt; status == Status::FolderFault);
-    let replies = replies_in(rt, &emitted);
-    assert!(rt; replies == usize::from(failing > 17));
-    (host, replies)
+    (host, replies_in(rt, &emitted))
 }
 
 fn check_failing(rt: &impl Abort, alloc: Global, failing: u64) {
     let (mut host, replies) = failed_run(rt, alloc, failing);
+    assert!(rt; replies == usize::from(failing > 17));
     check_crashes(rt, alloc, &host, replies);
     // What a later run on this host finds, a crash then leaves.
     host.fail_disk(Vec::new(alloc));
     let statements = check_state(rt, alloc, &mut host, replies);
-    check_crashes_leave(rt, alloc, &host, statements);
+    check_each_left(rt, alloc, &host, statements);
 }
 
 #[test]

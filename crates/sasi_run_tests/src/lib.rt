@@ -1,14 +1,12 @@
-//! Tests of `sasi_run`: whole runs in memory, with the output, the status and the files that they must have. Cases that are
-//! text alone are the data of `sasi_scripts`.
+//! Tests of `sasi_run`: command lines, and what crashes and faults of whole runs in memory leave. Cases that are text or bytes
+//! alone are the data of `sasi_scripts`.
 #![tactic(auto)]
 
 #[cfg(test)]
-mod crashes;
+mod command_lines;
 #[cfg(test)]
-mod damages;
+mod crashes;
 #[cfg(test)]
 mod folders;
 #[cfg(test)]
 mod runs;
-#[cfg(test)]
-mod scripts;

@@ -1,57 +1,59 @@
-//! Runs each line of stdin as a script over a folder in memory, and prints its replies and its status. `\n` in a line stands
-//! for the end of a line in the script. A line that begins with `then ` runs over the folder that the line before left, and
-//! any other over a new one. A line that begins with `#` is a title, which is printed as it is.
+//! Runs scripts over a folder in memory as the lines of stdin say, and prints the replies and the status of each run. `\n` in
+//! a script stands for the end of a line. A line is a script, which runs over a new folder, unless it begins with one of these:
+//!
+//! - `# TITLE` is printed as it is.
+//! - `new` begins a new folder.
+//! - `put NAME DIGITS` puts a file of these bytes, in hexadecimal, into the folder.
+//! - `then SCRIPT` runs a script over the folder.
+//! - `cut NAME FROM TO SCRIPT` runs a script over copies of the folder in which the file is cut to each of these lengths. It
+//!   prints the length, and then whether the run left the file as it was.
+//! - `outside PIECE READ EMIT SCRIPT` runs a script over a new folder: a read gives at most so many bytes, and the read and the
+//!   emit of these numbers fail.
+//! - `fill COUNT BYTE SCRIPT` runs a script over a new folder, with so many bytes of this value in place of each `~`.
+//! - `words`, with `|` before each word, runs a command line of these words over a new folder.
+//! - `files` prints the name and the bytes of each file.
 #![tactic(auto)]
 
-use sasi_host::{MemHost, MemSource};
-use sasi_run::run;
-use std::alloc::{AllocError, Global};
-use std::io::{self, BufRead, BufReader};
-use std::str;
+mod files;
+mod runs;
 
-// The words of a command line that names a folder and a script.
-fn words(alloc: Global) -> Result<Vec<String>, AllocError> {
-    let mut words = Vec::new(alloc);
-    words.push(String::from_str(alloc, "folder")?)?;
-    words.push(String::from_str(alloc, "script")?)?;
-    Ok(words)
+use crate::files::{print_files, put_file, run_cuts};
+use crate::runs::{run_filled, run_outside, run_script, run_words};
+use sasi_host::MemHost;
+use std::alloc::Global;
+use std::io::{self, BufRead, BufReader};
+
+// Does what a line says that begins with a word of this program, or runs it as a script.
+fn take_line(rt: &impl Print, alloc: Global, host: &mut MemHost, line: &str) -> io::Result<()> {
+    let (word, rest) = line.split_once(' ').unwrap_or((line, ""));
+    match word {
+        "then" => run_script(rt, alloc, rest, host),
+        "put" => put_file(rt, alloc, rest, host),
+        "cut" => run_cuts(rt, alloc, rest, host),
+        "files" => print_files(rt, alloc, host),
+        "#" => println!(rt; "{line}"),
+        _ => take_new(rt, alloc, host, line),
+    }
 }
 
-// Runs the script over the folder of the host, and prints its replies and its status.
-fn run_script(
-    rt: &impl Print,
-    alloc: Global,
-    words: &[String],
-    script: &str,
-    host: &mut MemHost,
-) -> io::Result<()> {
-    let before = host.emitted().len();
-    let script = script.replace(alloc, "\\n", "\n")?.into_bytes();
-    let status = run(
-        alloc,
-        words,
-        &mut MemSource::new(script, 4096, Vec::new(alloc)),
-        host,
-    );
-    let replies = host.emitted().get(before..).unwrap_or(&[]);
-    let replies = str::from_utf8(replies).unwrap_or("replies that are not UTF-8\n");
-    print!(rt; "{replies}{status:?}\n")
+// So for a line that begins a new folder.
+fn take_new(rt: &impl Print, alloc: Global, host: &mut MemHost, line: &str) -> io::Result<()> {
+    *host = MemHost::new(alloc);
+    let (word, rest) = line.split_once(' ').unwrap_or((line, ""));
+    match word {
+        "new" => Ok(()),
+        "outside" => run_outside(rt, alloc, rest, host),
+        "fill" => run_filled(rt, alloc, rest, host),
+        "words" => run_words(rt, alloc, rest, host),
+        _ => run_script(rt, alloc, line, host),
+    }
 }
 
 fn main(rt: HostRuntime) -> io::Result<()> {
     let alloc = rt.alloc();
-    let words = words(alloc)?;
     let mut host = MemHost::new(alloc);
     for line in BufReader::new(alloc, rt.reader())?.lines(alloc) {
-        let line = line?;
-        if line.starts_with('#') {
-            println!(rt; "{line}")?;
-        } else if let Some(script) = line.strip_prefix("then ") {
-            run_script(&rt, alloc, &words, script, &mut host)?;
-        } else {
-            host = MemHost::new(alloc);
-            run_script(&rt, alloc, &words, &line, &mut host)?;
-        }
+        take_line(&rt, alloc, &mut host, &line?)?;
     }
     Ok(())
 }

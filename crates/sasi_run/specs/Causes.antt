@@ -1,0 +1,54 @@
+-- When each status comes: its cause, what a damaged folder shows, and completeness.
+use Rattle.std.specs.Prelude.{◌≡◌, ◌≢◌, ◌≤◌, ℕ, List, length, Some, IfSome, ◌↔◌}
+use Rattle.sasi_types.specs.declared.partitioner.Partitioner.TheVariants.{Lead8}
+use Rattle.sasi_host.specs.View.{Rose, SourceView, View}
+use Rattle.sasi_host.specs.declared.damage.Damage.{Damage}
+use Rattle.sasi_host.specs.Names.{Folder}
+use Rattle.sasi_model.specs.State.{State}
+use Rattle.sasi_folder.specs.Damages.{FolderShows}
+use Rattle.sasi_folder.specs.Stands.{Stands}
+use Rattle.sasi_run.specs.CommandLine.{IsCommandLine}
+use Rattle.sasi_run.specs.Headline.{SCRIPT_MOST}
+use Rattle.sasi_run.specs.declared.status.Status.{Status}
+use Rattle.sasi_run.specs.declared.status.Status.TheVariants.{Done, Refused, Usage, ScriptFault, FolderFault, OutputFault, OutOfMemory, Damaged}
+
+-- a run that nothing outside stopped; where the folder stands for a state, it is not damaged
+abbrev pub RanThrough : Status → Type 0
+RanThrough Done = Unit {0}
+RanThrough (Refused n) = Unit {0}
+RanThrough OutOfMemory = Unit {0}
+RanThrough (Damaged damage) = Unit {0}
+RanThrough _ = ⊥
+
+-- **A damaged folder.** It shows the damage that is told, and the run took nothing of the script and emitted nothing.
+pub record ReportsDamage (damage : Damage) (script_old script_new : SourceView) (host_old host_new : View) : Type 0 where
+  pub shows : (folder : Folder) → host_old.files ≡ Some folder → FolderShows folder damage
+  pub unread : script_new ≡ script_old
+  pub silent : host_new.emitted ≡ host_old.emitted
+
+-- a run that didn't begin, of words or of a folder
+abbrev pub IsRefusal : Status → Type 0
+IsRefusal Usage = Unit {0}
+IsRefusal FolderFault = Unit {0}
+IsRefusal OutOfMemory = Unit {0}
+IsRefusal (Damaged damage) = Unit {0}
+IsRefusal _ = ⊥
+
+-- **A folder that stands for no state** isn't run on.
+pub record RefusesFolder (status : Status) (script_old script_new : SourceView) (host_old host_new : View) : Type 0 where
+  pub refusal : IsRefusal status
+  pub unread : script_new ≡ script_old
+  pub silent : host_new.emitted ≡ host_old.emitted
+
+-- the causes of a status, by what the source and the host tell before the run and after it
+pub record RunCauses (words : List (List ℕ)) (status : Status) (script_old script_new : SourceView) (host_old host_new : View) : Type 0 where
+  pub usage : (status ≡ Usage) ↔ ¬ (IsCommandLine words)
+  pub script_fault : status ≡ ScriptFault → Rose script_old.faults script_new.faults
+  pub folder_fault : status ≡ FolderFault → Rose host_old.disk_faults host_new.disk_faults
+  pub output_fault : status ≡ OutputFault → Rose host_old.out_faults host_new.out_faults
+  pub damaged : (damage : Damage) → status ≡ Damaged damage → ReportsDamage damage script_old script_new host_old host_new
+  pub refused : (folder : Folder) → host_old.files ≡ Some folder → ((s : State) → ¬ Stands Lead8 folder s) → RefusesFolder status script_old script_new host_old host_new
+  pub undamaged : (folder : Folder) (s : State) (damage : Damage) → host_old.files ≡ Some folder → Stands Lead8 folder s → status ≢ Damaged damage
+  -- completeness, on every host
+  pub complete : IsCommandLine words → ¬ (Rose script_old.faults script_new.faults) → ¬ (Rose host_old.out_faults host_new.out_faults) → ¬ (Rose host_old.disk_faults host_new.disk_faults)
+      → IfSome script_old.left (λ script. length script ≤ SCRIPT_MOST → RanThrough status)

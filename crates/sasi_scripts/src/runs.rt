@@ -1,0 +1,125 @@
+// Runs over a host, whose replies and statuses are printed.
+use sasi_host::{MemHost, MemSource};
+use sasi_run::run;
+use std::alloc::{AllocError, Global};
+use std::{io, str};
+
+// The words of a command line that names a folder and a script.
+fn two_words(alloc: Global) -> Result<Vec<String>, AllocError> {
+    let mut words = Vec::new(alloc);
+    words.push(String::from_str(alloc, "folder")?)?;
+    words.push(String::from_str(alloc, "script")?)?;
+    Ok(words)
+}
+
+// A source of the script that gives at most so many bytes a read, and whose read of this number fails.
+fn source_of(
+    alloc: Global,
+    script: &str,
+    piece: usize,
+    failing: u64,
+) -> Result<MemSource, AllocError> {
+    let bytes = script.replace(alloc, "\\n", "\n")?.into_bytes();
+    let failing = vec![in alloc; failing]?;
+    Ok(MemSource::new(bytes, piece.max(1), failing))
+}
+
+// Runs a command line, and prints the replies and the status.
+fn run_from(
+    rt: &impl Print,
+    alloc: Global,
+    words: &[String],
+    source: &mut MemSource,
+    host: &mut MemHost,
+) -> io::Result<()> {
+    let before = host.emitted().len();
+    let status = run(alloc, words, source, host);
+    let replies = host.emitted().get(before..).unwrap_or(&[]);
+    let replies = str::from_utf8(replies).unwrap_or("replies that are not UTF-8\n");
+    print!(rt; "{replies}{status:?}\n")
+}
+
+/// Runs a script.
+pub fn run_script(
+    rt: &impl Print,
+    alloc: Global,
+    script: &str,
+    host: &mut MemHost,
+) -> io::Result<()> {
+    let mut source = source_of(alloc, script, 4096, 0)?;
+    run_from(rt, alloc, &two_words(alloc)?, &mut source, host)
+}
+
+/// The number before the first space, and what stands behind it.
+pub fn number(line: &str) -> Option<(u64, &str)> {
+    let (digits, rest) = line.split_once(' ')?;
+    match digits.parse::<u64>() {
+        Ok(number) => Some((number, rest)),
+        Err(_) => None,
+    }
+}
+
+// Three numbers, and what stands behind them.
+fn three_numbers(line: &str) -> Option<(u64, u64, u64, &str)> {
+    let (first, rest) = number(line)?;
+    let (second, rest) = number(rest)?;
+    let (third, rest) = number(rest)?;
+    Some((first, second, third, rest))
+}
+
+/// Runs a script where reads give at most so many bytes, and a read and an emit fail: `PIECE READ EMIT SCRIPT`.
+pub fn run_outside(
+    rt: &impl Print,
+    alloc: Global,
+    line: &str,
+    host: &mut MemHost,
+) -> io::Result<()> {
+    let Some((piece, failing_read, failing_emit, script)) = three_numbers(line) else {
+        return println!(rt; "numbers are missing");
+    };
+    host.fail_emits(vec![in alloc; failing_emit]?);
+    let mut source = source_of(alloc, script, piece as usize, failing_read)?;
+    run_from(rt, alloc, &two_words(alloc)?, &mut source, host)
+}
+
+// The letter that is this byte, so many times.
+fn repeated(alloc: Global, count: u64, byte: u64) -> Result<String, AllocError> {
+    let letter = (byte % 128) as u8 as char;
+    let mut text = String::new(alloc);
+    for _turn in 0..count {
+        text.push(letter)?;
+    }
+    Ok(text)
+}
+
+/// Runs a script with so many bytes in place of each `~`: `COUNT BYTE SCRIPT`.
+pub fn run_filled(
+    rt: &impl Print,
+    alloc: Global,
+    line: &str,
+    host: &mut MemHost,
+) -> io::Result<()> {
+    let Some((count, rest)) = number(line) else {
+        return println!(rt; "a number is missing");
+    };
+    let Some((byte, script)) = number(rest) else {
+        return println!(rt; "a number is missing");
+    };
+    let script = script.replace(alloc, "~", &repeated(alloc, count, byte)?)?;
+    run_script(rt, alloc, &script, host)
+}
+
+// The words behind each `|`.
+fn words_of(alloc: Global, line: &str) -> Result<Vec<String>, AllocError> {
+    let mut words = Vec::new(alloc);
+    for word in line.split('|').skip(1) {
+        words.push(String::from_str(alloc, word)?)?;
+    }
+    Ok(words)
+}
+
+/// Runs a command line of these words, with a script that creates a table.
+pub fn run_words(rt: &impl Print, alloc: Global, line: &str, host: &mut MemHost) -> io::Result<()> {
+    let mut source = source_of(alloc, "CREATE TABLE t (k text PRIMARY KEY);", 4096, 0)?;
+    run_from(rt, alloc, &words_of(alloc, line)?, &mut source, host)
+}
