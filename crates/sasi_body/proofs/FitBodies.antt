@@ -1,5 +1,6 @@
 -- A key and a partition have a body in a table exactly where they fit its format.
 use Rattle.std.proofs.Common.{◌≡◌, ◌^◌, ◌≤◌, ◌-◌, ℕ, zero, suc, Bool, true, false, ◌||◌, length, None, T, refl, sym, ap, ◌∙◌, subst, arith, rules, List, []}
+use Rattle.std.specs.Int.{w16, w64}
 use Rattle.std.specs.Prelude.{nat_lt, nat_le, slice_get}
 use Rattle.std.specs.List.{AllByRecursion}
 use Rattle.std.specs.Ordering.{nat_cmp}
@@ -13,11 +14,11 @@ use Rattle.sasi_model.specs.Cells.{Cells, Partition}
 use Rattle.sasi_model.specs.Stored.{IsCell, IsCount, IsListed}
 use Rattle.sasi_cells.specs.Entries.{Entry, IsOrdered, partition_of}
 use Rattle.sasi_formats.specs.Formats.{Fits}
-use Rattle.sasi_formats.specs.Codings.{Two, Eight}
 use Rattle.sasi_formats.specs.Fields.{number}
 use Rattle.sasi_formats.proofs.Fitting.{both_true, when_true, number_fits, checked_fits, fits_checked, range_fits, fits_range}
 use Rattle.sasi_formats.specs.Codings.{when_is}
-use Rattle.sasi_body.specs.Body.{is_typed, is_count, body_of, content, cells_of, IsBodyOf}
+use Rattle.sasi_body.specs.Body.{body_of, content, cells_of, IsBodyOf}
+use Rattle.sasi_body.specs.Abbreviations.{is_typed, is_count}
 use Rattle.sasi_body.proofs.TypedValues.{typed_is, is_typed_at}
 use Rattle.sasi_body.proofs.Rising.{sorted_chain, cells_fit, fit_cells, cells_ordered}
 
@@ -63,13 +64,13 @@ pub body_fits : (listed : List ColumnType) (key_bytes : Bytes) (part : Partition
 body_fits listed key_bytes part is =
     let chain = sorted_chain None (cells_of part) (λ e none. absurd cc) (cells_sorted part) in (
       (
-        range_fits Two 1 (2 ^ 16 - 1) (length key_bytes) is.has.key_short is.has.key_some (omega (arith, is.has.key_short)),
+        range_fits w16 1 (2 ^ 16 - 1) (length key_bytes) is.has.key_short is.has.key_some (omega (arith, is.has.key_short)),
         when_true (is_typed (slice_get listed 0) key_bytes) key_bytes (typed_is listed 0 key_bytes is.key_typed),
       ),
       (
-        range_fits Eight 0 (2 ^ 62) part.deleted (omega (arith, is.has.deleted)) (omega arith) is.has.deleted,
+        range_fits w64 0 (2 ^ 62) part.deleted (omega (arith, is.has.deleted)) (omega arith) is.has.deleted,
         (
-          checked_fits rule.Number 2 (is_count part.deleted) (number Two) (length (cells_of part)) (number_fits Two (length (cells_of part)) (omega (arith, is.has.count.few))) (count_is part.deleted (length (cells_of part)) is.has.count),
+          checked_fits rule.Number 2 (is_count part.deleted) (number w16) (length (cells_of part)) (number_fits w16 (length (cells_of part)) (omega (arith, is.has.count.few))) (count_is part.deleted (length (cells_of part)) is.has.count),
           cells_fit listed part.deleted (cells_of part) [] (record { each = is.has.cells; listed_are = is.columns; rising = chain }),
         ),
       ),
@@ -82,10 +83,10 @@ pub record FitsBody (listed : List ColumnType) (key_bytes : Bytes) (deleted : �
 
 pub fits_body : (listed : List ColumnType) (key_bytes : Bytes) (deleted : ℕ) (entries : List Entry) → Fits (body_of listed) (key_bytes, (deleted, entries)) → FitsBody listed key_bytes deleted entries
 fits_body listed key_bytes deleted entries h =
-    let key_range = fits_range Two 1 (2 ^ 16 - 1) (length key_bytes) h.0.0 in
+    let key_range = fits_range w16 1 (2 ^ 16 - 1) (length key_bytes) h.0.0 in
     let typed = (when_is (is_typed (slice_get listed 0) key_bytes) key_bytes key_bytes h.0.1).0 in
-    let deletion_range = fits_range Eight 0 (2 ^ 62) deleted h.1.0 in
-    let count = (fits_checked rule.Number 2 (is_count deleted) (number Two) (length entries) h.1.1.0).1 in
+    let deletion_range = fits_range w64 0 (2 ^ 62) deleted h.1.0 in
+    let count = (fits_checked rule.Number 2 (is_count deleted) (number w16) (length entries) h.1.1.0).1 in
     let fit = fit_cells listed deleted entries [] h.1.1.1 in
     let ordered = cells_ordered listed deleted None entries fit in
     let same : entries ≡ cells_of (partition_of deleted entries) = sym (cells_are deleted entries ordered) in

@@ -1,5 +1,6 @@
 -- A cell fits exactly where it is one of the table, above the deletion and after the cells before.
 use Rattle.std.proofs.Common.{◌≡◌, ◌-◌, ◌<◌, ◌^◌, ◌≤◌, ℕ, zero, suc, Bool, true, false, ◌&&◌, length, Option, None, Some, refl, sym, ap, ◌∙◌, subst, arith, rules, List, [], ◌∷◌}
+use Rattle.std.specs.Int.{w8, w16, w64}
 use Rattle.std.specs.Prelude.{nat_lt, nat_le, IfSome, slice_get, ◌==◌, if◌then◌else◌}
 use Rattle.std.proofs.lemmas.Bool.Decides.{nat_tests}
 use Rattle.sasi_host.specs.declared.damage.FormatRule.TheVariants as rule
@@ -11,10 +12,10 @@ use Rattle.sasi_types.specs.Value.{stored, type_of}
 use Rattle.sasi_model.specs.Stored.{HasBytes, IsCell, IsListed}
 use Rattle.sasi_cells.specs.Entries.{Entry}
 use Rattle.sasi_formats.specs.Formats.{Fits, Sized}
-use Rattle.sasi_formats.specs.Codings.{One, Two, Eight}
 use Rattle.sasi_formats.specs.Fields.{number, in_range, checked, flag, last}
 use Rattle.sasi_formats.proofs.Fitting.{both_true, number_fits, fits_number, checked_fits, fits_checked, range_fits, fits_range}
-use Rattle.sasi_body.specs.Body.{value_in, typed, is_next, may_be, tag, live, value, cell}
+use Rattle.sasi_body.specs.Body.{value_in, typed, is_next, tag, value, cell}
+use Rattle.sasi_body.specs.Abbreviations.{live, may_be}
 use Rattle.sasi_body.proofs.TypedValues.{value_decodes, value_short, value_of_type, IsOf}
 
 -- ---- values
@@ -26,21 +27,21 @@ pub record FitsColumn (listed : List ColumnType) (column : ℕ) (v : Option Valu
   pub typed_is : (x : Value) → v ≡ Some x → 1 ≤ column → slice_get listed column ≡ Some (type_of x)
 
 tag_fits : (column : ℕ) (b : Bool) → may_be column b ≡ true → Fits (tag column) b
-tag_fits column true may = checked_fits rule.Number 1 (may_be column) flag true (number_fits One 1 (omega arith), refl) may
-tag_fits column false may = checked_fits rule.Number 1 (may_be column) flag false (number_fits One 0 (omega arith), refl) may
+tag_fits column true may = checked_fits rule.Number 1 (may_be column) flag true (number_fits w8 1 (omega arith), refl) may
+tag_fits column false may = checked_fits rule.Number 1 (may_be column) flag false (number_fits w8 0 (omega arith), refl) may
 
 live_fits : (listed : List ColumnType) (column : ℕ) (x : Value) → HasBytes x → (column ≡ 0 → x ≡ Text []) → (1 ≤ column → slice_get listed column ≡ Some (type_of x)) → Fits (live listed column) x
 live_fits listed column x has marker typed_is = by_test (column == 0) refl where
-  marker_fits : (y : Value) → y ≡ Text [] → HasBytes y → Fits (Sized (in_range Two 0 0) rule.Text (typed (Some types.Text))) y
+  marker_fits : (y : Value) → y ≡ Text [] → HasBytes y → Fits (Sized (in_range w16 0 0) rule.Text (typed (Some types.Text))) y
   marker_fits y is has =
-      subst (λ (v : Value). Fits (Sized (in_range Two 0 0) rule.Text (typed (Some types.Text))) v) (sym is)
-      (range_fits Two 0 0 0 (omega arith) (omega arith) (omega arith), value_decodes (Text []) (subst HasBytes is has))
+      subst (λ (v : Value). Fits (Sized (in_range w16 0 0) rule.Text (typed (Some types.Text))) v) (sym is)
+      (range_fits w16 0 0 0 (omega arith) (omega arith) (omega arith), value_decodes (Text []) (subst HasBytes is has))
 
-  by_test : (b : Bool) → (column == 0) ≡ b → Fits (Sized (in_range Two 0 (if b then 0 else 2 ^ 16 - 1)) rule.Text (typed (if b then Some types.Text else slice_get listed column))) x
+  by_test : (b : Bool) → (column == 0) ≡ b → Fits (Sized (in_range w16 0 (if b then 0 else 2 ^ 16 - 1)) rule.Text (typed (if b then Some types.Text else slice_get listed column))) x
   by_test true p = let none : column ≡ 0 = search (rules, p) in marker_fits x (marker none) has
   by_test false p =
       let some : 1 ≤ column = grind (arith, nat_tests) in
-      (range_fits Two 0 (2 ^ 16 - 1) (length (stored x)) (value_short x has) (omega arith) (omega (arith, value_short x has)), ap (λ (k : Option ColumnType). value_in k (stored x)) (typed_is some) ∙ value_decodes x has)
+      (range_fits w16 0 (2 ^ 16 - 1) (length (stored x)) (value_short x has) (omega arith) (omega (arith, value_short x has)), ap (λ (k : Option ColumnType). value_in k (stored x)) (typed_is some) ∙ value_decodes x has)
 
 pub value_fits : (listed : List ColumnType) (column : ℕ) (v : Option Value) → FitsColumn listed column v → Fits (value listed column) v
 value_fits listed zero None h = let none : None ≡ Some (Text []) = h.marker refl in absurd cc
@@ -73,15 +74,15 @@ fits_live listed column x h = by_test (column == 0) refl h where
         typed_is = λ y same _. let one : x ≡ y = cc in at ∙ ap (λ (k : ColumnType). Some k) (sym is.type ∙ ap type_of one);
       }
 
-  by_test : (b : Bool) → (column == 0) ≡ b → Fits (Sized (in_range Two 0 (if b then 0 else 2 ^ 16 - 1)) rule.Text (typed (if b then Some types.Text else slice_get listed column))) x → FitsColumn listed column (Some x)
+  by_test : (b : Bool) → (column == 0) ≡ b → Fits (Sized (in_range w16 0 (if b then 0 else 2 ^ 16 - 1)) rule.Text (typed (if b then Some types.Text else slice_get listed column))) x → FitsColumn listed column (Some x)
   by_test true p g =
       let none : column ≡ 0 = search (rules, p) in
-      let range = fits_range Two 0 0 (length (stored x)) g.0 in
+      let range = fits_range w16 0 0 (length (stored x)) g.0 in
       let is = value_of_type types.Text x range.fits g.1 in
       record { has = is.has; marker = λ _. ap (λ (v : Value). Some v) (marker_is x is range.below); typed_is = λ y same some. absurd (omega (arith, some, none)) }
   by_test false p g =
       let some : 1 ≤ column = grind (arith, nat_tests) in
-      let range = fits_range Two 0 (2 ^ 16 - 1) (length (stored x)) g.0 in
+      let range = fits_range w16 0 (2 ^ 16 - 1) (length (stored x)) g.0 in
       of_kind some range.fits (slice_get listed column) refl g.1
 
 pub fits_value : (listed : List ColumnType) (column : ℕ) (v : Option Value) → Fits (value listed column) v → FitsColumn listed column v
@@ -104,9 +105,9 @@ cell_fits listed deleted before e h =
     let above : nat_lt deleted e.1.time ≡ true = search (rules, h.is.above) in
     let below : nat_le e.1.time (2 ^ 62) ≡ true = search (rules, h.is.time) in (
       (
-        checked_fits rule.Order 8 (is_next (last before)) (checked rule.Number 2 (λ c. nat_lt c (length listed)) (number Two)) e.0 (checked_fits rule.Number 2 (λ c. nat_lt c (length listed)) (number Two) e.0 (number_fits Two e.0 h.is.column) column) h.next,
+        checked_fits rule.Order 8 (is_next (last before)) (checked rule.Number 2 (λ c. nat_lt c (length listed)) (number w16)) e.0 (checked_fits rule.Number 2 (λ c. nat_lt c (length listed)) (number w16) e.0 (number_fits w16 e.0 h.is.column) column) h.next,
         (
-          checked_fits rule.Number 8 (λ t. nat_lt deleted t && nat_le t (2 ^ 62)) (number Eight) e.1.time (number_fits Eight e.1.time (omega (arith, h.is.time))) (ap (λ (b : Bool). b && nat_le e.1.time (2 ^ 62)) above ∙ below),
+          checked_fits rule.Number 8 (λ t. nat_lt deleted t && nat_le t (2 ^ 62)) (number w64) e.1.time (number_fits w64 e.1.time (omega (arith, h.is.time))) (ap (λ (b : Bool). b && nat_le e.1.time (2 ^ 62)) above ∙ below),
           value_fits listed e.0 e.1.value (record { has = h.is.value; marker = h.is.marker; typed_is = h.listed_is.typed }),
         ),
       ),
@@ -115,13 +116,13 @@ cell_fits listed deleted before e h =
 
 pub fits_cell : (listed : List ColumnType) (deleted : ℕ) (before : List Entry) (e : Entry) → Fits (cell listed deleted before) e → FitsCell listed deleted before e
 fits_cell listed deleted before e h =
-    let ordered = fits_checked rule.Order 8 (is_next (last before)) (checked rule.Number 2 (λ c. nat_lt c (length listed)) (number Two)) e.0 h.0.0 in
-    let column = fits_checked rule.Number 2 (λ c. nat_lt c (length listed)) (number Two) e.0 ordered.0 in
-    let time_is = fits_checked rule.Number 8 (λ t. nat_lt deleted t && nat_le t (2 ^ 62)) (number Eight) e.1.time h.0.1.0 in
+    let ordered = fits_checked rule.Order 8 (is_next (last before)) (checked rule.Number 2 (λ c. nat_lt c (length listed)) (number w16)) e.0 h.0.0 in
+    let column = fits_checked rule.Number 2 (λ c. nat_lt c (length listed)) (number w16) e.0 ordered.0 in
+    let time_is = fits_checked rule.Number 8 (λ t. nat_lt deleted t && nat_le t (2 ^ 62)) (number w64) e.1.time h.0.1.0 in
     let tests = both_true (nat_lt deleted e.1.time) (nat_le e.1.time (2 ^ 62)) time_is.1 in
     let v = fits_value listed e.0 e.1.value h.0.1.1 in
     record {
-      is = record { column = fits_number Two e.0 column.0; above = search (rules, tests.0); time = search (rules, tests.1); value = v.has; marker = v.marker };
+      is = record { column = fits_number w16 e.0 column.0; above = search (rules, tests.0); time = search (rules, tests.1); value = v.has; marker = v.marker };
       listed_is = record { column = search (rules, column.1); typed = v.typed_is };
       next = ordered.1;
     }

@@ -16,10 +16,12 @@ use Rattle.sasi_types.specs.declared.value.Value.TheVariants.{Text, Int, BigInt,
 use Rattle.sasi_types.specs.Value.{stored, type_of}
 use Rattle.sasi_model.specs.Step.{value_stored}
 use Rattle.sasi_model.specs.Stored.{HasBytes, IsValueOf, IsTypedAt}
-use Rattle.sasi_formats.specs.Codings.{when, when_is}
+use Rattle.std.specs.Bool.{then_some}
+use Rattle.sasi_formats.specs.Codings.{when_is}
 use Rattle.sasi_formats.proofs.NumberLaws.{same_self}
 use Rattle.sasi_formats.proofs.Fitting.{both_true}
-use Rattle.sasi_body.specs.Body.{is_value, is_typed, value_in}
+use Rattle.sasi_body.specs.Body.{is_value, value_in}
+use Rattle.sasi_body.specs.Abbreviations.{is_typed}
 
 -- ---- the bytes of a type
 
@@ -49,8 +51,8 @@ is_typed_at listed n bytes is = by_kind (slice_get listed n) refl is where
 decodes : (kind : ColumnType) (x : Value) → is_value kind (stored x) ≡ true → value_stored kind (stored x) ≡ x → value_in (Some kind) (stored x) ≡ Some x
 decodes kind x is same =
     let all : pointwise nat_eq (stored (value_stored kind (stored x))) (stored x) ≡ true = ap (λ (v : Value). pointwise nat_eq (stored v) (stored x)) same ∙ same_self (stored x) in
-    ap (λ (b : Bool). when (b && pointwise nat_eq (stored (value_stored kind (stored x))) (stored x)) (value_stored kind (stored x))) is
-    ∙ ap (λ (b : Bool). when b (value_stored kind (stored x))) all
+    ap (λ (b : Bool). then_some (b && pointwise nat_eq (stored (value_stored kind (stored x))) (stored x)) (value_stored kind (stored x))) is
+    ∙ ap (λ (b : Bool). then_some b (value_stored kind (stored x))) all
     ∙ ap (λ (v : Value). Some v) same
 
 pub value_decodes : (x : Value) → HasBytes x → value_in (Some (type_of x)) (stored x) ≡ Some x

@@ -1,7 +1,9 @@
 -- The bytes of a body: a key and its partition, as commit logs and data files store them. The types of a table's columns,
 -- the key's first, say which bytes a key and a value have.
 use Rattle.std.specs.Prelude.{◌≡◌, ℕ, ◌-◌, ◌^◌, Bool, true, false, ◌&&◌, ◌||◌, ◌==◌, nat_eq, nat_lt, nat_le, List, [], length, Option, None, Some, slice_get, if◌then◌else◌, refl}
+use Rattle.std.specs.Int.{w16, w64}
 use Rattle.std.proofs.Common.{ap, sym, ◌∙◌}
+use Rattle.std.specs.Option.{option_and_then, option_map_or}
 use Rattle.std.specs.Str.{is_utf8}
 use Rattle.std.specs.Cmp.Lexicographic.{pointwise, same_text}
 use Rattle.sasi_host.specs.Names.{Bytes}
@@ -12,11 +14,11 @@ use Rattle.sasi_types.specs.declared.value.Value.{Value}
 use Rattle.sasi_types.specs.Value.{stored}
 use Rattle.sasi_model.specs.Step.{value_stored}
 use Rattle.sasi_model.specs.Cells.{Partition}
-use Rattle.sasi_cells.specs.Entries.{Entry}
 use Rattle.sasi_formats.specs.Formats.{Coding, Format, Sized, Then, Counted, encoded}
-use Rattle.sasi_formats.specs.Codings.{Two, Eight, when, when_is, passing}
+use Rattle.std.specs.Bool.{then_some}
+use Rattle.sasi_formats.specs.Codings.{when_is, passing}
 use Rattle.sasi_formats.specs.Fields.{◌&◌, number, in_range, checked, mapped, flag, optional, last}
-pub use Rattle.sasi_model.specs.Stored.{cells_of, HasBody, IsBodyOf}
+pub use Rattle.sasi_model.specs.Stored.{Entry, cells_of, HasBody, IsBodyOf}
 
 -- ---- values of a type
 
@@ -27,14 +29,9 @@ is_value types.Int bytes = length bytes == 4
 is_value types.BigInt bytes = length bytes == 8
 is_value types.Uuid bytes = length bytes == 16
 
-abbrev pub is_typed : Option ColumnType → Bytes → Bool
-is_typed None bytes = false
-is_typed (Some kind) bytes = is_value kind bytes
-
 -- the value of the type that these stored bytes encode
 abbrev pub value_in : Option ColumnType → Bytes → Option Value
-value_in None bytes = None
-value_in (Some kind) bytes = when (is_value kind bytes && pointwise nat_eq (stored (value_stored kind bytes)) bytes) (value_stored kind bytes)
+value_in found bytes = option_and_then (λ kind. then_some (is_value kind bytes && pointwise nat_eq (stored (value_stored kind bytes)) bytes) (value_stored kind bytes)) found
 
 both_second : (a b : Bool) → a && b ≡ true → true ≡ b
 both_second true b h = sym h
@@ -51,39 +48,29 @@ typed kind = record { decode = value_in kind; encode = stored; canonical = value
 
 -- ---- a cell
 
--- the marker of the row, which is column 0, is an empty text
+-- the marker of the row, which is column 0, is an empty text; a column has the type at its position
 abbrev pub kind_of : List ColumnType → ℕ → Option ColumnType
 kind_of listed column = if column == 0 then Some types.Text else slice_get listed column
 
-abbrev pub most_bytes : ℕ → ℕ
-most_bytes column = if column == 0 then 0 else 2 ^ 16 - 1
-
 -- the column comes after the last one
 abbrev pub is_next : Option Entry → ℕ → Bool
-is_next None column = true
-is_next (Some entry) column = nat_lt entry.0 column
+is_next before column = option_map_or (λ entry. nat_lt entry.0 column) before true
 
 -- a column of the table, above those before
 abbrev pub column_after : List ColumnType → List Entry → Format ℕ
-column_after listed before = checked rule.Order 8 (is_next (last before)) (checked rule.Number 2 (λ column. nat_lt column (length listed)) (number Two))
+column_after listed before = checked rule.Order 8 (is_next (last before)) (checked rule.Number 2 (λ column. nat_lt column (length listed)) (number w16))
 
 -- a timestamp above that of the deletion
 abbrev pub time : ℕ → Format ℕ
-time deleted = checked rule.Number 8 (λ t. nat_lt deleted t && nat_le t (2 ^ 62)) (number Eight)
+time deleted = checked rule.Number 8 (λ t. nat_lt deleted t && nat_le t (2 ^ 62)) (number w64)
 
 -- 0 for a tombstone, which the marker never is, and 1 for a value
-abbrev pub may_be : ℕ → Bool → Bool
-may_be column live = live || nat_lt 0 column
-
 abbrev pub tag : ℕ → Format Bool
-tag column = checked rule.Number 1 (may_be column) flag
+tag column = checked rule.Number 1 (λ live. live || nat_lt 0 column) flag
 
--- a length, and the stored bytes of a value
-abbrev pub live : List ColumnType → ℕ → Format Value
-live listed column = Sized (in_range Two 0 (most_bytes column)) rule.Text (typed (kind_of listed column))
-
+-- behind the 1 a length, and the stored bytes of a value
 abbrev pub value : List ColumnType → ℕ → Format (Option Value)
-value listed column = optional (tag column) (live listed column)
+value listed column = optional (tag column) (Sized (in_range w16 0 (if column == 0 then 0 else 2 ^ 16 - 1)) rule.Text (typed (kind_of listed column)))
 
 -- the column, the timestamp, and the value
 abbrev pub cell : List ColumnType → ℕ → List Entry → Format Entry
@@ -93,31 +80,21 @@ cell listed deleted before =
 
 -- ---- a body
 
--- a length, and the key
+-- a length, and the key, whose bytes are those of a value of the first type
 abbrev pub key : List ColumnType → Format Bytes
-key listed = Sized (in_range Two 1 (2 ^ 16 - 1)) rule.Text (passing (is_typed (slice_get listed 0)))
-
--- the timestamp of the deletion, 0 for none
-abbrev pub deletion : Format ℕ
-deletion = in_range Eight 0 (2 ^ 62)
+key listed = Sized (in_range w16 1 (2 ^ 16 - 1)) rule.Text (passing (λ bytes. option_map_or (λ kind. is_value kind bytes) (slice_get listed 0) false))
 
 -- at most 64 cells, and one at least where nothing is deleted
-abbrev pub is_count : ℕ → ℕ → Bool
-is_count deleted count = nat_le count 64 && (nat_lt 0 count || nat_lt 0 deleted)
-
 abbrev pub cells : List ColumnType → ℕ → Format (List Entry)
-cells listed deleted = Counted (checked rule.Number 2 (is_count deleted) (number Two)) (cell listed deleted)
+cells listed deleted = Counted (checked rule.Number 2 (λ count. nat_le count 64 && (nat_lt 0 count || nat_lt 0 deleted)) (number w16)) (cell listed deleted)
 
-abbrev pub part : List ColumnType → Format (ℕ × List Entry)
-part listed = Then deletion (cells listed)
-
--- the key, the deletion and the cells
+-- the key, the timestamp of the deletion, 0 for none, and the cells
 abbrev pub Content : Type 0
 Content = Bytes × (ℕ × List Entry)
 
 -- the format of a body in a table with these types
 abbrev pub body_of : List ColumnType → Format Content
-body_of listed = key listed & part listed
+body_of listed = key listed & Then (in_range w64 0 (2 ^ 62)) (cells listed)
 
 -- ---- the body of a key and its partition
 

@@ -8,5 +8,6 @@ mod put;
 mod value;
 mod whole;
 
+pub use part::read_content;
 pub use put::put_body;
 pub use whole::read_body;

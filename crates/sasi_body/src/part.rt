@@ -1,11 +1,12 @@
 // Decodes the fields of a body.
 ghost use Rattle.std.specs.Prelude.{◌≡◌, ◌≤◌, ◌^◌, slice_get};
+ghost use Rattle.std.specs.Int.{w16};
 ghost use Rattle.sasi_formats.specs.Reader.{read};
-ghost use Rattle.sasi_formats.specs.Codings.{Two};
 ghost use Rattle.sasi_formats.specs.Fields.{number, checked};
 ghost use Rattle.sasi_formats.specs.Gives.{Gives};
 ghost use Rattle.sasi_host.specs.declared.damage.FormatRule.TheVariants as rule;
-ghost use Rattle.sasi_body.specs.Body.{body_of, cells, is_count, is_typed, key, part};
+ghost use Rattle.sasi_body.specs.Body.{body_of, cells, key};
+ghost use Rattle.sasi_body.specs.Abbreviations.{is_typed, is_count, part};
 
 use crate::cell::ReadCell;
 use crate::value::is_value;
@@ -22,7 +23,8 @@ use std::alloc::Global;
 // The largest timestamp.
 pub const MAX_TIME: u64 = 1 << 62;
 
-// Reads the key, the timestamp of the deletion, and the cells.
+/// Reads the fields of a body, of a table whose columns have these types: the key, the timestamp of the deletion, and the
+/// cells.
 pub fn read_content(
     alloc: Global,
     reader: &mut FieldReader,
@@ -86,7 +88,7 @@ fn read_cells(
 
 // Reads the number of cells.
 fn read_count(reader: &mut FieldReader, deleted: u64) -> Result<u16, FormatFault>
-    ensures { Gives (read (checked rule.Number 2 (is_count deleted) (number Two)) reader.old) result reader.new }
+    ensures { Gives (read (checked rule.Number 2 (is_count deleted) (number w16)) reader.old) result reader.new }
 {
     let start = FieldStart::of(reader);
     let count = read_u16(reader)?;

@@ -4,7 +4,8 @@ ghost use Rattle.std.specs.Option.{option_copied};
 ghost use Rattle.std.specs.Str.{IsUtf8};
 ghost use Rattle.sasi_formats.specs.Reader.{read};
 ghost use Rattle.sasi_formats.specs.Gives.{Gives};
-ghost use Rattle.sasi_body.specs.Body.{is_typed, is_value, kind_of, live, most_bytes, tag, value, value_in};
+ghost use Rattle.sasi_body.specs.Body.{is_value, kind_of, tag, value, value_in};
+ghost use Rattle.sasi_body.specs.Abbreviations.{is_typed, live, most_bytes};
 
 use sasi_cells::decode_value;
 use sasi_fields::FieldReader;

@@ -10,7 +10,8 @@ use Rattle.std.specs.FinMap as map
 use Rattle.std.specs.FinMap.Entries.{by_order}
 use Rattle.std.proofs.lemmas.Bool.Decides.{nat_tests}
 use Rattle.sasi_types.specs.declared.cell.Cell.{Cell}
-use Rattle.sasi_model.specs.Cells.{Cells, Partition, unshadowed, IsNormal, merge, max_timestamp_in, max_timestamp_of, any_live, is_live}
+use Rattle.sasi_model.specs.Cells.{Cells, Partition, unshadowed, IsNormal, merge, max_timestamp_of, is_live}
+use Rattle.sasi_model.specs.Abbreviations.{max_timestamp_in, any_live}
 use Rattle.sasi_cells.specs.Entries.{Entry, is_above, IsOrdered, partition_of, merged_sorted, unshadowed_entries}
 use Rattle.sasi_cells.specs.Changes.{deletion, with_column}
 use Rattle.sasi_cells.specs.Positions.{IsColumnAt, IsGapFor}

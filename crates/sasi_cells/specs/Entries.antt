@@ -6,12 +6,8 @@ use Rattle.std.specs.List.{filter, list_all}
 use Rattle.std.specs.Ordering.{nat_cmp, match_ordering}
 use Rattle.std.specs.FinMap.{is_sorted}
 use Rattle.std.specs.FinMap as map_
-use Rattle.sasi_types.specs.declared.cell.Cell.{Cell}
 use Rattle.sasi_model.specs.Cells.{Partition, newest}
-
--- a column's number, and its cell
-abbrev pub Entry : Type 0
-Entry = ℕ × Cell
+pub use Rattle.sasi_model.specs.Stored.{Entry}
 
 -- of each column the newest cell
 abbrev pub merged_sorted : List Entry → List Entry → List Entry

@@ -1,6 +1,7 @@
 // Which of two cells is newer.
 ghost use Rattle.std.specs.Prelude.{◌≡◌, Some};
-ghost use Rattle.sasi_model.specs.Cells.{value_cmp, cell_cmp, newest};
+ghost use Rattle.sasi_model.specs.Cells.{value_cmp, newest};
+ghost use Rattle.sasi_model.specs.Abbreviations.{cell_cmp};
 
 use sasi_types::{Cell, Value};
 use std::cmp::Ordering;

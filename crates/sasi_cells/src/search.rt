@@ -2,7 +2,7 @@
 ghost use Rattle.std.specs.Prelude.{◌≡◌, true, IfOk, IfErr, map, max};
 ghost use Rattle.std.specs.Ordering.{nat_cmp};
 ghost use Rattle.std.specs.FinMap.{is_sorted};
-ghost use Rattle.sasi_model.specs.Cells.{any_live, max_timestamp_in};
+ghost use Rattle.sasi_model.specs.Abbreviations.{any_live, max_timestamp_in};
 ghost use Rattle.sasi_cells.specs.Positions.{IsColumnAt, IsGapFor};
 
 use crate::Entry;

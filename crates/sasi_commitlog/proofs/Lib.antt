@@ -1,3 +1,3 @@
+pub mod Payloads
 pub mod Laws
 pub mod ReadMutations
-pub mod Payloads

@@ -1,11 +1,10 @@
 -- Faults of a payload, by their offset in the file.
-use Rattle.std.specs.Prelude.{◌≡◌, ℕ, ◌+◌, ◌≤◌}
+use Rattle.std.specs.Prelude.{◌≡◌, ℕ, ◌≤◌}
 use Rattle.sasi_host.specs.declared.name.FileName.{FileName}
 use Rattle.sasi_host.specs.declared.damage.Damage.{Damage}
 use Rattle.sasi_host.specs.declared.fault.ReadFault.{ReadFault}
 use Rattle.sasi_host.specs.Names.{Bytes}
-use Rattle.sasi_host.specs.Damages.{seen_bytes}
-use Rattle.sasi_host.specs.Damages.{OnDamage}
+use Rattle.sasi_host.specs.Damages.{OnDamage, seen_bytes}
 use Rattle.sasi_formats.specs.declared.fault.FormatFault.{FormatFault}
 use Rattle.sasi_formats.specs.declared.fault.FormatFault.TheVariants as fault
 use Rattle.sasi_commitlog.specs.Format.{Tables}
@@ -17,13 +16,6 @@ IsWithin limit fault.OutOfMemory = Unit {0}
 IsWithin limit fault.Short = Unit {0}
 IsWithin limit fault.Long = Unit {0}
 IsWithin limit (fault.Broken broken) = broken.at ≤ limit
-
--- the second fault is the first one, four bytes further on
-abbrev pub IsFaultShifted : FormatFault → FormatFault → Type 0
-IsFaultShifted fault.OutOfMemory behind = behind ≡ fault.OutOfMemory
-IsFaultShifted fault.Short behind = behind ≡ fault.Short
-IsFaultShifted fault.Long behind = behind ≡ fault.Long
-IsFaultShifted (fault.Broken broken) behind = behind ≡ fault.Broken (record { rule = broken.rule; at = broken.at + 4; seen = broken.seen })
 
 -- damage is that of the record after a gate
 pub record IsRecordDamage (tables : Tables) (file : FileName) (gate : ℕ) (payload : Bytes) (damage : Damage) : Type 0 where

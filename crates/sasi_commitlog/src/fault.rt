@@ -2,36 +2,20 @@
 ghost use Rattle.std.specs.Prelude.{◌≡◌, ◌≢◌, ◌≤◌, ◌^◌, List, ℕ, length};
 ghost use Rattle.sasi_host.specs.declared.fault.ReadFault.TheVariants as read_fault;
 ghost use Rattle.sasi_formats.specs.declared.fault.FormatFault.TheVariants as format_fault;
-ghost use Rattle.sasi_commitlog.specs.Format.{Tables};
-ghost use Rattle.sasi_commitlog.specs.Damages.{IsPayloadFault, PayloadHasOtherLength};
-ghost use Rattle.sasi_commitlog.specs.Faults.{IsFaultShifted, IsWithin, IsRecordFault};
+ghost use Rattle.sasi_formats.specs.Failures.{HasOtherLength};
+ghost use Rattle.sasi_formats.specs.Whole.{IsShownBy};
+ghost use Rattle.sasi_commitlog.specs.Format.{Tables, mutation_of};
+ghost use Rattle.sasi_commitlog.specs.Faults.{IsWithin, IsRecordFault};
 
 use sasi_formats::{Broken, FormatFault, found};
 use sasi_host::{Damage, FileName, FormatRule, ReadFault};
-
-// Shifts the offset of a fault of the body past the number of the table.
-pub fn shifted_by_number(fault: FormatFault) -> FormatFault
-    requires { IsWithin (2 ^ 62) fault }
-    ensures { IsFaultShifted fault result }
-{
-    match fault {
-        FormatFault::OutOfMemory => FormatFault::OutOfMemory,
-        FormatFault::Short => FormatFault::Short,
-        FormatFault::Long => FormatFault::Long,
-        FormatFault::Broken(broken) => FormatFault::Broken(Broken {
-            rule: broken.rule,
-            at: broken.at + 4,
-            seen: broken.seen,
-        }),
-    }
-}
 
 // The fault of the payload after the gate at this offset, with its offset in the file.
 pub fn fault_in_file(file: FileName, gate: u64, payload: &[u8], fault: FormatFault) -> ReadFault
     requires offset { gate ≤ 2 ^ 62 }
     requires short { length payload.now ≤ 2 ^ 30 }
     requires within { IsWithin (2 ^ 62) fault }
-    ensures shown { (tables : Tables) → IsPayloadFault tables payload.now fault → IsRecordFault tables file gate payload.now result }
+    ensures shown { (tables : Tables) → IsShownBy (mutation_of tables) payload.now fault → IsRecordFault tables file gate payload.now result }
     ensures memory { fault ≡ format_fault.OutOfMemory → result ≡ read_fault.OutOfMemory }
     ensures cause { result ≢ read_fault.Failed }
 {
@@ -49,7 +33,7 @@ pub fn fault_in_file(file: FileName, gate: u64, payload: &[u8], fault: FormatFau
 fn other_length(file: FileName, gate: u64, payload: &[u8]) -> ReadFault
     requires offset { gate ≤ 2 ^ 62 }
     requires short { length payload.now ≤ 2 ^ 30 }
-    ensures shown { (tables : Tables) → PayloadHasOtherLength tables payload.now → IsRecordFault tables file gate payload.now result }
+    ensures shown { (tables : Tables) → HasOtherLength (mutation_of tables) payload.now → IsRecordFault tables file gate payload.now result }
     ensures cause { result ≢ read_fault.Failed }
 {
     let bytes = (payload.len() as u32).to_be_bytes();

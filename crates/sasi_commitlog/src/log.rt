@@ -1,9 +1,11 @@
 // An open segment of the commit log.
 ghost use Rattle.std.specs.Prelude.{◌≡◌, ◌+◌, ◌<◌, ◌≤◌, ◌^◌, [], ℕ, List, IfErr, IfOk, IsSome, IsTrue, OnOk, None, is_ok};
-ghost use Rattle.sasi_host.specs.View.{IsAbsent, IsThere, ListCauses, Reaches};
+ghost use Rattle.sasi_host.specs.View.{MakesCalls, IsAbsent, IsThere, ListCauses, Reaches};
 ghost use Rattle.sasi_host.specs.Disk.{AnyChange, Changes, IsFileDurable, LeftWith, Same, FileChange};
 ghost use Rattle.sasi_host.specs.Names.{Bytes, log_name};
+ghost use Rattle.sasi_host.specs.Buffered.{IsBuffered};
 ghost use Rattle.sasi_gated.specs.Causes.{ReadingCauses};
+ghost use Rattle.sasi_gated.specs.ReadCosts.{IsSequential, OpensSequential, ReadsPagesOnce};
 ghost use Rattle.sasi_gated.specs.Reads.{HasHeader, GatedDamageShown, NoFalseGatedDamage};
 ghost use Rattle.sasi_body.specs.Body.{HasBody};
 ghost use Rattle.sasi_cells.specs.declared.mutation.Mutation.{Mutation};
@@ -20,7 +22,7 @@ use std::alloc::Global;
 use std::marker::Model;
 
 /// An open segment of the commit log: its mutations are read first, then it takes appends. Its model is the file's name,
-/// the offset of the next gate, and whether it is usable.
+/// the offset of the next gate, whether it is usable, and the page that is buffered.
 #[derive(Drop)]
 pub struct Log {
     gated: Gated,
@@ -35,7 +37,7 @@ impl Model for Log {
 
     ghost Value = { Handle };
 
-    ghost view = { λ a. record { file = a.gated.file; at = a.gated.at; usable = a.usable && a.gated.usable } };
+    ghost view = { λ a. record { file = a.gated.file; at = a.gated.at; usable = a.usable && a.gated.usable; buffered = a.gated.buffered } };
 }
 
 impl Log {
@@ -58,6 +60,8 @@ impl Log {
         ensures room { IfOk result (λ log. Reaches (H.view host.new) (log_name number) (log.at + 1)) }
         ensures usable { IfOk result (λ log. IsTrue log.usable) }
         ensures file { IfOk result (λ log. log.file ≡ log_name number) }
+        ensures buffered { IfOk result (λ log. log.buffered.page ≡ None) }
+        ensures calls { MakesCalls 4 (H.view host.old) (H.view host.new) result }
         ensures causes { ListCauses (H.view host.old) (H.view host.new) result }
     {
         let gated = Gated::create(alloc, host, FileName::log(number), None)?;
@@ -83,6 +87,9 @@ impl Log {
         ensures changes { Changes Same (H.view host.old) (H.view host.new) }
         ensures usable { IfOk result (λ log. IsTrue log.usable) }
         ensures file { IfOk result (λ log. log.file ≡ log_name number) }
+        ensures buffered { IfOk result (λ log. IsBuffered log.buffered (H.view host.new).files) }
+        ensures sequential { IfOk result (λ log. OpensSequential (H.view host.old) (H.view host.new) log) }
+        ensures reads { (H.view host.new).reads ≤ (H.view host.old).reads + 1 }
         ensures causes { ReadingCauses (H.view host.old) (H.view host.new) result }
     {
         let gated = Gated::open(host, FileName::log(number))?;
@@ -101,6 +108,7 @@ impl Log {
     ) -> Result<Option<Mutation>, ReadFault>
         requires there { IsThere (H.view host.old) self.old.file }
         requires usable { IsTrue self.old.usable }
+        requires buffered { IsBuffered self.old.buffered (H.view host.old).files }
         ensures gate { IfOk result (ReadsLogGate (H.view host.old) self.old.file tables.now self.old.at self.new.at) }
         ensures mutations { IfOk result (ReadsMutations (H.view host.old) (H.view host.new) self.old.file tables.now self.old.at self.new.at) }
         ensures of_tables { IfOk result (IsReadOf tables.now) }
@@ -112,6 +120,8 @@ impl Log {
         ensures changes { Changes Same (H.view host.old) (H.view host.new) }
         ensures usable { self.new.usable ≡ is_ok result }
         ensures file { self.new.file ≡ self.old.file }
+        ensures buffered { IsBuffered self.new.buffered (H.view host.new).files }
+        ensures once { IsSequential self.old → ReadsPagesOnce (H.view host.old) (H.view host.new) self.old self.new result }
         ensures causes { ReadingCauses (H.view host.old) (H.view host.new) result }
     {
         self.usable = false;
@@ -133,6 +143,8 @@ impl Log {
         ensures room { OnOk result (Reaches (H.view host.new) self.new.file (self.new.at + 1)) }
         ensures usable { self.new.usable ≡ is_ok result }
         ensures file { self.new.file ≡ self.old.file }
+        ensures buffered { OnOk result (self.new.buffered.page ≡ None) }
+        ensures calls { MakesCalls 4 (H.view host.old) (H.view host.new) result }
         ensures causes { ListCauses (H.view host.old) (H.view host.new) result }
     {
         self.usable = false;

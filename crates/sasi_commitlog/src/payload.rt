@@ -1,18 +1,19 @@
 // Mutations as the payloads of records.
-ghost use Rattle.std.specs.Prelude.{◌≡◌, ◌≤◌, ◌^◌, ◌++◌, length, IfErr, IfOk, OnOk};
+ghost use Rattle.std.specs.Prelude.{◌≡◌, ◌++◌, IfErr, IfOk, OnOk};
 ghost use Rattle.sasi_body.specs.Body.{HasBody};
-ghost use Rattle.sasi_formats.specs.Whole.{IsOutOfMemory};
-ghost use Rattle.sasi_commitlog.specs.Format.{payload_of, IsMutationOf};
-ghost use Rattle.sasi_commitlog.specs.Damages.{IsPayloadFault};
+ghost use Rattle.sasi_formats.specs.Reader.{read, read_whole};
+ghost use Rattle.sasi_formats.specs.Gives.{Gives};
+ghost use Rattle.sasi_formats.specs.Whole.{GivesWhole, IsShownBy};
+ghost use Rattle.sasi_commitlog.specs.Format.{payload_of, mutation_of, IsMutationOf};
 
 use crate::Mutation;
-use crate::fault::shifted_by_number;
 use crate::tables::types_of;
-use sasi_body::{put_body, read_body};
+use sasi_body::{put_body, read_content};
+use sasi_cells::{Entry, Partition};
 use sasi_fields::{FieldReader, put_u32};
-use sasi_formats::{FormatFault, found};
+use sasi_formats::{FieldStart, FormatFault, Items, read_u32};
 use sasi_host::FormatRule;
-use sasi_types::{TableNumber, TypeList};
+use sasi_types::{Key, TableNumber, TypeList};
 use std::alloc::{AllocError, Global};
 
 // Appends the number of the table, and the body.
@@ -30,19 +31,44 @@ pub fn read_mutation(
     payload: &[u8],
     tables: &[(TableNumber, TypeList)],
 ) -> Result<Mutation, FormatFault>
-    requires { length payload.now ≤ 2 ^ 30 }
     ensures bytes { IfOk result (λ mutation. payload.now ≡ payload_of mutation) }
     ensures of_table { IfOk result (IsMutationOf tables.now) }
-    ensures shown { IfErr result (IsPayloadFault tables.now payload.now) }
+    ensures shown { IfErr result (IsShownBy (mutation_of tables.now) payload.now) }
+{
+    let (table, (key, (deleted, cells))) = read_all(alloc, payload, tables)?;
+    let change = Partition::from_entries(deleted, cells.into_vec());
+    Ok(Mutation { table, key, change })
+}
+
+// Reads the fields, which are all the bytes.
+fn read_all(
+    alloc: Global,
+    payload: &[u8],
+    tables: &[(TableNumber, TypeList)],
+) -> Result<(TableNumber, (Key, (u64, Items<Entry>))), FormatFault>
+    ensures { GivesWhole (read_whole (mutation_of tables.now) payload.now) result }
 {
     let mut reader = FieldReader::new(payload);
-    let table = reader.u32()?;
-    let Some(types) = types_of(tables, table) else {
-        let bytes = table.to_be_bytes();
-        return Err(FormatFault::Broken(found(FormatRule::Number, 0, &bytes)));
-    };
-    match read_body(alloc, reader.left(), types) {
-        Ok((key, change)) => Ok(Mutation { table, key, change }),
-        Err(fault) => Err(shifted_by_number(fault)),
+    let fields = read_fields(alloc, &mut reader, tables)?;
+    if !reader.left().is_empty() {
+        return Err(FormatFault::Long);
     }
+    Ok(fields)
+}
+
+// Reads the number of one of the tables, and a body in it.
+fn read_fields(
+    alloc: Global,
+    reader: &mut FieldReader,
+    tables: &[(TableNumber, TypeList)],
+) -> Result<(TableNumber, (Key, (u64, Items<Entry>))), FormatFault>
+    ensures { Gives (read (mutation_of tables.now) reader.old) result reader.new }
+{
+    let start = FieldStart::of(reader);
+    let table = read_u32(reader)?;
+    let Some(types) = types_of(tables, table) else {
+        return Err(start.broken(FormatRule::Number, 4));
+    };
+    let content = read_content(alloc, reader, types.as_slice())?;
+    Ok((table, content))
 }

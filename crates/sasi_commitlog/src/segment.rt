@@ -1,8 +1,10 @@
 // Reads and appends at the gates of a segment.
 ghost use Rattle.std.specs.Prelude.{◌≡◌, ◌+◌, ◌<◌, ◌≤◌, ◌^◌, List, IfErr, IfOk, IsSome, IsTrue, OnOk, None, map};
-ghost use Rattle.sasi_host.specs.View.{IsThere, ListCauses, Reaches};
+ghost use Rattle.sasi_host.specs.View.{MakesCalls, IsThere, ListCauses, Reaches};
 ghost use Rattle.sasi_host.specs.Disk.{AnyChange, Changes, LeftWith, Same, FileChange};
+ghost use Rattle.sasi_host.specs.Buffered.{IsBuffered};
 ghost use Rattle.sasi_gated.specs.Causes.{ReadingCauses};
+ghost use Rattle.sasi_gated.specs.ReadCosts.{IsSequential, ReadsPagesOnce};
 ghost use Rattle.sasi_body.specs.Body.{HasBody};
 ghost use Rattle.sasi_cells.specs.declared.mutation.Mutation.{Mutation};
 ghost use Rattle.sasi_commitlog.specs.LogPosition.{IsAtLogEnd, IsLogBeforeOrAfter};
@@ -26,6 +28,7 @@ pub fn read_next<H: Host>(
 ) -> Result<Option<Mutation>, ReadFault>
     requires there { IsThere (H.view host.old) gated.old.file }
     requires usable { IsTrue gated.old.usable }
+    requires buffered { IsBuffered gated.old.buffered (H.view host.old).files }
     ensures gate { IfOk result (ReadsLogGate (H.view host.old) gated.old.file tables.now gated.old.at gated.new.at) }
     ensures mutations { IfOk result (ReadsMutations (H.view host.old) (H.view host.new) gated.old.file tables.now gated.old.at gated.new.at) }
     ensures of_tables { IfOk result (IsReadOf tables.now) }
@@ -37,6 +40,8 @@ pub fn read_next<H: Host>(
     ensures changes { Changes Same (H.view host.old) (H.view host.new) }
     ensures usable { OnOk result (IsTrue gated.new.usable) }
     ensures file { gated.new.file ≡ gated.old.file }
+    ensures buffered { IsBuffered gated.new.buffered (H.view host.new).files }
+    ensures once { IsSequential gated.old → ReadsPagesOnce (H.view host.old) (H.view host.new) gated.old gated.new result }
     ensures causes { ReadingCauses (H.view host.old) (H.view host.new) result }
 {
     let file = gated.file();
@@ -68,6 +73,8 @@ pub fn append<H: Host>(
     ensures room { OnOk result (Reaches (H.view host.new) gated.new.file (gated.new.at + 1)) }
     ensures usable { OnOk result (IsTrue gated.new.usable) }
     ensures file { gated.new.file ≡ gated.old.file }
+    ensures buffered { OnOk result (gated.new.buffered.page ≡ None) }
+    ensures calls { MakesCalls 4 (H.view host.old) (H.view host.new) result }
     ensures causes { ListCauses (H.view host.old) (H.view host.new) result }
 {
     payload.clear();

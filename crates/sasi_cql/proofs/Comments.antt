@@ -1,6 +1,7 @@
 -- Comments: where they end, and how many bytes they have.
 use Rattle.std.proofs.Common.{◌≡◌, ℕ, zero, suc, Bool, true, false, ◌&&◌, ◌||◌, ◌==◌, List, [], ◌∷◌, drop, refl, ◌∙◌}
-use Rattle.sasi_model.specs.Pieces.{starts, behind_first, to_close, closes}
+use Rattle.sasi_model.specs.Pieces.{starts, to_close, closes}
+use Rattle.sasi_model.specs.Abbreviations.{behind_first}
 
 -- a `*/` is in both or in neither, and the same comes after the first
 pub record SameClose (bytes left : List ℕ) : Type 0 where

@@ -2,9 +2,10 @@
 use Rattle.std.proofs.Common.{◌≡◌, ℕ, zero, suc, ◌+◌, ◌-◌, ◌*◌, ◌≤◌, ◌<◌, Bool, true, false, ◌==◌, List, [], ◌∷◌, ◌++◌, length, take, drop, map, Option, None, Some, refl, ap, ◌∙◌, length-take, get_or, drop-cons, leb, ltb, cond, arith}
 use Rattle.std.proofs.lemmas.List.{drop_all}
 use Rattle.uuid.specs.Text.{parsed, parsed_hyphenated}
-use Rattle.sasi_model.specs.Pieces.{behind_first, closes, opened_by, starts}
+use Rattle.sasi_model.specs.Pieces.{closes, opened_by, starts}
+use Rattle.sasi_model.specs.Abbreviations.{behind_first, starts_word, decimal_on}
 use Rattle.sasi_model.specs.Tokens as model
-use Rattle.sasi_model.specs.Tokens.{is_separator, lexeme, QuotedText, quoted_text, string_lexeme, starts_word, uuid_in_front, decimal, decimal_on, tokens_from, tokens}
+use Rattle.sasi_model.specs.Tokens.{is_separator, lexeme, QuotedText, quoted_text, string_lexeme, uuid_in_front, decimal, tokens_from, tokens}
 use Rattle.sasi_cql.specs.declared.token.Token.{Token}
 use Rattle.sasi_cql.specs.ModelTokens.{at_most, model_token, IsLexeme, quoted_size, undoubled}
 use Rattle.sasi_cql.proofs.Comments.{not_closed_behind}

@@ -1,6 +1,7 @@
 -- One more byte: the pieces of what is left, begun before the byte and after it.
 use Rattle.std.proofs.Common.{◌≡◌, ℕ, suc, ◌+◌, Bool, true, false, ◌&&◌, cond, nat_eq, nat_lt, List, [], ◌∷◌, ◌++◌, length, map, refl, sym, ap, ◌∙◌, arith, append_assoc, length-append}
-use Rattle.sasi_model.specs.Pieces.{starts, behind_first, to_close, closes, opened_by, scan, PIECE_LIMIT, is_space, Cut, in_front, byte_in_front, Piece, Whole, TooLong, Unfinished, whole_piece, last_piece, Pieces}
+use Rattle.sasi_model.specs.Pieces.{starts, to_close, closes, opened_by, scan, is_space, Cut, in_front, byte_in_front, Piece, Whole, TooLong, Unfinished, whole_piece, last_piece, Pieces}
+use Rattle.sasi_model.specs.Abbreviations.{behind_first, PIECE_LIMIT}
 use Rattle.sasi_cql.specs.SplitterState.{inside, whole_with, last_sized, pieces_with, plain_pieces, continued_pieces, open_pieces, front_pieces, pieces_at, opens, mode_after, ends_at, leads, size_after, kept, stage_after, tentative, front_size, front_fits, reported, end_at, behind, resume, SplitterState, IsSplitterState}
 use Rattle.sasi_cql.specs.declared.mode.ScanMode.{ScanMode}
 use Rattle.sasi_cql.specs.declared.mode.ScanMode.TheVariants.{Plain, Dash, Slash, Quote, QuotedName, Line, Block, Star}

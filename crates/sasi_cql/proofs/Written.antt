@@ -5,7 +5,7 @@ use Rattle.std.proofs.Math.Seq.{get_or-append_seam}
 use Rattle.std.proofs.lemmas.List.Folds.{length-prefix_len}
 use Rattle.std.proofs.lemmas.Str.{IsUtf8-append, IsUtf8-take, IsUtf8-drop, IsCharBoundary-before_ascii, IsCharBoundary-after_ascii}
 use Rattle.std.specs.List.{AllByRecursion, flat_map, list_all, list_any, prefix_len}
-use Rattle.std.specs.Prelude.{codes}
+use Rattle.std.specs.Prelude.{codes, unwrap_or}
 use Rattle.std.specs.Str.{IsUtf8}
 use Rattle.uuid.specs.Text.{by_index, parsed_hyphenated}
 use Rattle.sasi_types.specs.declared.literal.Literal.{Literal}
@@ -16,7 +16,8 @@ use Rattle.sasi_types.specs.declared.column.ColumnType.{ColumnType}
 use Rattle.sasi_types.specs.declared.literal.Number.{Number}
 use Rattle.sasi_types.specs.declared.statement.Select.{Select}
 use Rattle.sasi_model.specs.Pieces.{opened_by, starts}
-use Rattle.sasi_model.specs.Tokens.{Token, Word, QuotedName, Quoted, Integer, Uuid, Open, Close, Comma, Star, Equal, Semicolon, Unknown, QuotedText, Lexeme, is_separator, is_word_byte, is_letter, is_digit, lexeme, lexeme_or, lower, lower_byte, name_lexeme, negative_lexeme, other_lexeme, positive_lexeme, quoted_on, quoted_text, sign, starts_digit, starts_word, string_lexeme, tokens, tokens_from, uuid_in_front, word_lexeme, word_on}
+use Rattle.sasi_model.specs.Tokens.{Token, Word, QuotedName, Quoted, Integer, Uuid, Open, Close, Comma, Star, Equal, Semicolon, Unknown, QuotedText, Lexeme, is_separator, is_word_byte, is_letter, is_digit, lexeme, lower_byte, name_lexeme, negative_lexeme, other_lexeme, positive_lexeme, quoted_on, quoted_text, sign, string_lexeme, tokens, tokens_from, uuid_in_front, word_lexeme, word_on}
+use Rattle.sasi_model.specs.Abbreviations.{lexeme_or, lower, starts_digit, starts_word}
 use Rattle.sasi_model.specs.Statements.{Column, Item, Joined, Key, KeyColumn, Phrase, Reads, ReadsCreate, ReadsInsert, columns_of, delete, equation, item, keys_of, listed, literal, literal_of, name, name_of, names_or_none, query, reserved, same, update}
 use Rattle.sasi_model.specs.Naming.{IsName, IsWord}
 use Rattle.sasi_model.specs.WellFormed.{IsWellFormedToken, IsWellFormedLiteral, IsWellFormedColumn, IsWellFormedSet, IsWellFormed}
@@ -150,7 +151,7 @@ uuid_size text bytes is =
 sign_written : (b : ℕ) → IsWellFormedToken (sign b)
 sign_written b = by (b == 40) (b == 41) (b == 44) (b == 42) (b == 61) (b == 59)
   where
-    by : (c d e f g h : Bool) → IsWellFormedToken (cond c Open (cond d Close (cond e Comma (cond f Star (cond g Equal (cond h Semicolon Unknown))))))
+    by : (c d e f g h : Bool) → IsWellFormedToken (unwrap_or (cond c (Some Open) (cond d (Some Close) (cond e (Some Comma) (cond f (Some Star) (cond g (Some Equal) (cond h (Some Semicolon) None)))))) Unknown)
     by true d e f g h = tt
     by false true e f g h = tt
     by false false true f g h = tt

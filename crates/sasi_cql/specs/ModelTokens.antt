@@ -2,7 +2,8 @@
 use Rattle.std.specs.Prelude.{◌≡◌, ℕ, Bool, true, false, not, ◌&&◌, ◌==◌, nat_le, if◌then◌else◌, List, [], ◌∷◌, drop, Option, None, Some}
 use Rattle.std.specs.Borrow.{Bor}
 use Rattle.sasi_model.specs.Tokens as model
-use Rattle.sasi_model.specs.Tokens.{Lexeme, lower, QuotedText}
+use Rattle.sasi_model.specs.Tokens.{Lexeme, QuotedText}
+use Rattle.sasi_model.specs.Abbreviations.{lower}
 use Rattle.sasi_cql.specs.declared.token.Token.{Token}
 use Rattle.sasi_cql.specs.declared.token.Token.TheVariants as written
 

@@ -2,7 +2,8 @@
 use Rattle.std.specs.Prelude.{◌≡◌, ◌≤◌, ℕ, suc, ◌+◌, Bool, true, false, ◌||◌, ◌==◌, nat_lt, if◌then◌else◌, List, [], ◌∷◌, ◌++◌, length, map, Option, None, Some}
 use Rattle.sasi_types.specs.declared.piece.PieceEnd.{PieceEnd}
 use Rattle.sasi_types.specs.declared.piece.PieceEnd.TheVariants as ends
-use Rattle.sasi_model.specs.Pieces.{to_byte, starts, behind_first, to_close, closes, is_space, Cut, scan, PIECE_LIMIT, Piece, Whole, TooLong, Unfinished, piece_of, whole_piece, last_piece, Pieces}
+use Rattle.sasi_model.specs.Pieces.{to_byte, starts, to_close, closes, is_space, Cut, scan, Piece, Whole, TooLong, Unfinished, piece_of, whole_piece, last_piece, Pieces}
+use Rattle.sasi_model.specs.Abbreviations.{behind_first, PIECE_LIMIT}
 use Rattle.sasi_cql.specs.declared.mode.ScanMode.{ScanMode}
 use Rattle.sasi_cql.specs.declared.mode.ScanMode.TheVariants.{Plain, Dash, Slash, Quote, QuotedName, Line, Block, Star}
 use Rattle.sasi_cql.specs.declared.stage.PieceStage.{PieceStage}

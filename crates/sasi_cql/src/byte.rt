@@ -1,7 +1,8 @@
 // Tests of the bytes of a text.
 ghost use Rattle.std.specs.Prelude.{◌≡◌};
 ghost use Rattle.sasi_model.specs.Pieces.{is_space, starts};
-ghost use Rattle.sasi_model.specs.Tokens.{is_digit, is_letter, is_word_byte, lower_byte, starts_digit, starts_word};
+ghost use Rattle.sasi_model.specs.Tokens.{is_digit, is_letter, is_word_byte, lower_byte};
+ghost use Rattle.sasi_model.specs.Abbreviations.{starts_digit, starts_word};
 
 pub fn is_space(byte: u8) -> bool
     ensures { result ≡ is_space byte }

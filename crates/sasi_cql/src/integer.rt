@@ -1,6 +1,7 @@
 // Integers: the value of their digits, as far as it has 128 bits.
 ghost use Rattle.std.specs.Prelude.{◌≡◌, ◌+◌, ◌-◌, ◌*◌, ◌≤◌, ◌∷◌, length};
-ghost use Rattle.sasi_model.specs.Tokens.{decimal, digits_on, negative, negative_lexeme, NUMBER_LIMIT, positive, positive_lexeme};
+ghost use Rattle.sasi_model.specs.Tokens.{decimal, digits_on, negative, negative_lexeme, positive, positive_lexeme};
+ghost use Rattle.sasi_model.specs.Abbreviations.{NUMBER_LIMIT};
 ghost use Rattle.sasi_cql.specs.ModelTokens.{at_most, IsLexeme};
 
 use crate::byte::is_digit;

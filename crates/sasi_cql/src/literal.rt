@@ -1,6 +1,6 @@
 // The name, the literal, the number or the type of one token.
 ghost use Rattle.std.specs.Prelude.{◌≡◌, IfOk};
-ghost use Rattle.sasi_model.specs.Tokens.{lower};
+ghost use Rattle.sasi_model.specs.Abbreviations.{lower};
 ghost use Rattle.sasi_model.specs.Statements.{literal_of, name_of, number_of, type_named, type_of};
 ghost use Rattle.sasi_cql.specs.Finds.{Finds};
 ghost use Rattle.sasi_cql.specs.ModelTokens.{model_token};

@@ -1,6 +1,7 @@
 // Spaces and comments between tokens.
 ghost use Rattle.std.specs.Prelude.{◌≡◌, ◌&&◌, ◌||◌, drop, true, false};
-ghost use Rattle.sasi_model.specs.Pieces.{behind_first, closes, is_block, is_line, is_space, opened_by, to_byte, to_close};
+ghost use Rattle.sasi_model.specs.Pieces.{closes, is_block, is_line, is_space, opened_by, to_byte, to_close};
+ghost use Rattle.sasi_model.specs.Abbreviations.{behind_first};
 ghost use Rattle.sasi_model.specs.Tokens.{is_separator};
 ghost use Rattle.sasi_cql.specs.ModelTokens.{SkipsIf};
 

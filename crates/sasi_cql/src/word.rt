@@ -1,7 +1,7 @@
 // Words: keywords, in upper or lower case, and names.
 ghost use Rattle.std.specs.Prelude.{◌≡◌, IfOk};
 ghost use Rattle.std.specs.List.{list_any};
-ghost use Rattle.sasi_model.specs.Tokens.{lower};
+ghost use Rattle.sasi_model.specs.Abbreviations.{lower};
 ghost use Rattle.sasi_model.specs.Statements.{is_name, reserved, same};
 
 use crate::byte::lower_byte;

@@ -1,11 +1,10 @@
-// Bodies: their bytes, what is read of each front of one, and where others break the format.
+// Bodies: their bytes, and what is read of each front of one.
 ghost use Rattle.sasi_body.specs.Body.{HasBody};
 
-use crate::fixture::{INSERTED, body_of, changed, list_of};
+use crate::fixture::{INSERTED, body_of, list_of};
 use sasi_body::read_body;
 use sasi_cells::Partition;
-use sasi_formats::{Broken, FormatFault};
-use sasi_host::FormatRule;
+use sasi_formats::FormatFault;
 use sasi_types::{ColumnType, Key};
 use std::alloc::Global;
 use std::process::Abort;
@@ -62,21 +61,6 @@ fn bodies_are_read_and_put(rt: HostRuntime) {
     }
 }
 
-/// Column 1 has the text x at time 5.
-fn check_cell(rt: &impl Abort, part: &Partition) {
-    let cell = part.cell(1).expect(rt, "a cell");
-    assert!(rt; cell.time() == 5);
-    let value = cell.value().expect(rt, "a value");
-    assert!(rt; value.stored().as_slice() == b"x".as_slice());
-}
-
-#[test]
-fn cells_are_those_of_the_body(rt: HostRuntime) {
-    let (key, part) = read(&rt, rt.alloc(), &INSERTED, &TEXTS);
-    assert!(rt; key.bytes() == b"k1".as_slice());
-    check_cell(&rt, &part);
-}
-
 /// These bytes are refused as a body of two texts, with this fault.
 fn check_other_length(rt: &impl Abort, alloc: Global, bytes: &[u8], fault: FormatFault) {
     let is_refused = match read_body(alloc, bytes, &list_of(rt, alloc, &TEXTS)) {
@@ -102,77 +86,4 @@ fn other_lengths_are_refused(rt: HostRuntime) {
     }
     let longer = longer(&rt, alloc, &INSERTED);
     check_other_length(&rt, alloc, &longer, FormatFault::Long);
-}
-
-/// The rule that these bytes break, as bodies of these types.
-fn broken_in(rt: &impl Abort, alloc: Global, bytes: &[u8], types: &[ColumnType]) -> Broken {
-    match read_body(alloc, bytes, &list_of(rt, alloc, types)) {
-        Err(FormatFault::Broken(broken)) => broken,
-        _ => panic!(rt; "no broken rule"),
-    }
-}
-
-// A byte of the first body that differs, and the damage: the rule, the offset, and the bytes there.
-const DAMAGES: [(usize, u8, FormatRule, usize, &[u8]); 15] = [
-    (1, 0, FormatRule::Number, 0, &[0, 0]),
-    (2, 0xff, FormatRule::Text, 2, &[0xff, b'1']),
-    (4, 0x41, FormatRule::Number, 4, &[0x41, 0, 0, 0, 0, 0, 0, 0]),
-    (13, 65, FormatRule::Number, 12, &[0, 65]),
-    (13, 0, FormatRule::Number, 12, &[0, 0]),
-    (15, 3, FormatRule::Number, 14, &[0, 3]),
-    (
-        16,
-        0x40,
-        FormatRule::Number,
-        16,
-        &[0x40, 0, 0, 0, 0, 0, 0, 5],
-    ),
-    (23, 0, FormatRule::Number, 16, &[0, 0, 0, 0, 0, 0, 0, 0]),
-    (24, 0, FormatRule::Number, 24, &[0]),
-    (24, 2, FormatRule::Number, 24, &[2]),
-    (26, 1, FormatRule::Number, 25, &[0, 1]),
-    (28, 0, FormatRule::Order, 27, &[0, 0, 0, 0, 0, 0, 0, 0]),
-    (28, 2, FormatRule::Number, 27, &[0, 2]),
-    (37, 2, FormatRule::Number, 37, &[2]),
-    (40, 0xff, FormatRule::Text, 40, &[0xff]),
-];
-
-/// The rule that was broken there, by these bytes.
-fn check_broken(rt: &impl Abort, broken: Broken, rule: FormatRule, at: usize, seen: &[u8]) {
-    assert!(rt; (broken.rule, broken.at) == (rule, at));
-    let there = broken.seen.bytes.get(..usize::from(broken.seen.len));
-    assert!(rt; there == Some(seen), "at {at}");
-}
-
-/// The first body with this byte changed breaks a rule there.
-fn check_damage(
-    rt: &impl Abort,
-    alloc: Global,
-    (offset, byte): (usize, u8),
-    rule: FormatRule,
-    at: usize,
-    seen: &[u8],
-) {
-    let bytes = changed(rt, alloc, &INSERTED, offset, byte);
-    check_broken(rt, broken_in(rt, alloc, &bytes, &TEXTS), rule, at, seen);
-}
-
-#[test]
-fn damage_is_reported_where_it_is(rt: HostRuntime) {
-    for (offset, byte, rule, at, seen) in DAMAGES {
-        check_damage(&rt, rt.alloc(), (offset, byte), rule, at, seen);
-    }
-}
-
-#[test]
-fn values_are_of_their_types(rt: HostRuntime) {
-    let types = [
-        ColumnType::Int,
-        ColumnType::Text,
-        ColumnType::Int,
-        ColumnType::Uuid,
-    ];
-    let broken = broken_in(&rt, rt.alloc(), &CHANGED, &types);
-    assert!(rt; (broken.rule, broken.at) == (FormatRule::Text, 40));
-    assert!(rt; broken.seen.bytes == [0, 1, 2, 3, 4, 5, 6, 7]);
 }

@@ -38,6 +38,13 @@ pub const ONE: [u8; 125] = [
     0, 0, 0, 0, 61, b'S', b'A', b'S', b'I', b'D', b'E', b'N', b'D',
 ];
 
+/// A host with a file of these bytes.
+pub fn host_of(rt: &impl Abort, alloc: Global, bytes: &[u8]) -> MemHost {
+    let mut host = MemHost::new(alloc);
+    host.put(DATA, bytes).expect(rt, "memory for a file");
+    host
+}
+
 /// A list of these types.
 pub fn list_of(rt: &impl Abort, alloc: Global, types: &[ColumnType]) -> TypeList {
     let mut list = TypeList::new(alloc);

@@ -1,12 +1,11 @@
-// A data file of one partition that is written and read.
+// A data file of one partition that is read.
 ghost use Rattle.std.specs.Prelude.{◌≡◌, IfOk};
 ghost use Rattle.sasi_body.specs.Body.{HasBody};
 ghost use Rattle.sasi_data_tests.specs.declared.fixture.TheConstants.{DATA};
 
-use crate::fixture::{DATA, INSERTED, ONE, TOKEN, bodies_of, body_of, list_of, write_bodies};
+use crate::fixture::{DATA, INSERTED, ONE, TOKEN, body_of, host_of, list_of};
 use sasi_cells::Partition;
 use sasi_dataread::DataFile;
-use sasi_datawrite::NoWatch;
 use sasi_host::{Damage, Direct, MemHost, ReadFault};
 use sasi_types::{ColumnType, Key, Token};
 use std::alloc::Global;
@@ -51,6 +50,27 @@ pub fn find(
     }
 }
 
+/// Whether the file on the host has the key, or the damage.
+pub fn find_in(
+    rt: &impl Abort,
+    alloc: Global,
+    host: &mut MemHost,
+    token: Token,
+    key: &[u8],
+) -> Result<bool, Damage> {
+    let data = open(rt, alloc, host)?;
+    find(rt, alloc, host, &data, token, key)
+}
+
+/// The key at this offset.
+fn key_at(rt: &impl Abort, alloc: Global, host: &mut MemHost, opened: &DataFile, place: u64) -> Key
+    requires { opened.now.file ≡ DATA }
+{
+    assert!(rt; host.bytes(DATA).is_some());
+    let key = opened.key_at(alloc, host, &mut Direct, place);
+    key.expect(rt, "read")
+}
+
 /// The partition at this offset.
 fn read_at(
     rt: &impl Abort,
@@ -82,44 +102,28 @@ pub fn body_at(
     body_of(rt, alloc, &key, &part)
 }
 
-/// A host with the file of one partition.
-fn written(rt: &impl Abort, alloc: Global) -> MemHost {
-    let mut host = MemHost::new(alloc);
-    let bodies = bodies_of(rt, alloc, &[&INSERTED]);
-    write_bodies(rt, alloc, &mut host, &mut NoWatch, &bodies);
-    host
-}
-
-#[test]
-fn written_file_is_opened(rt: HostRuntime) {
-    let mut host = written(&rt, rt.alloc());
-    assert!(rt; host.bytes(DATA) == Some(ONE.as_slice()));
-    let data = open_whole(&rt, rt.alloc(), &mut host);
-    assert!(rt; (data.partitions(), data.max_timestamp()) == (1, 5));
-}
-
-#[test]
-fn partition_is_read_at_its_offset(rt: HostRuntime) {
-    let mut host = written(&rt, rt.alloc());
-    let data = open_whole(&rt, rt.alloc(), &mut host);
-    let body = body_at(&rt, rt.alloc(), &mut host, &data, 16);
+/// The key at offset 16 is k1, and the body there is that of the one partition.
+fn check_partition(rt: &impl Abort, alloc: Global, host: &mut MemHost, opened: &DataFile)
+    requires { opened.now.file ≡ DATA }
+{
+    let key = key_at(rt, alloc, host, opened, 16);
+    assert!(rt; key.bytes() == b"k1".as_slice());
+    let body = body_at(rt, alloc, host, opened, 16);
     assert!(rt; body.as_slice() == INSERTED.as_slice());
 }
 
 #[test]
-fn key_is_read_at_its_offset(rt: HostRuntime) {
-    let mut host = written(&rt, rt.alloc());
+fn partition_is_read_at_its_offset(rt: HostRuntime) {
+    let mut host = host_of(&rt, rt.alloc(), &ONE);
     let data = open_whole(&rt, rt.alloc(), &mut host);
-    assert!(rt; host.bytes(DATA).is_some());
-    let key = data.key_at(rt.alloc(), &mut host, &mut Direct, 16);
-    assert!(rt; key.expect(&rt, "read").bytes() == b"k1".as_slice());
+    assert!(rt; (data.partitions(), data.max_timestamp()) == (1, 5));
+    check_partition(&rt, rt.alloc(), &mut host, &data);
 }
 
 /// Whether the file of one partition has the key.
 fn check_find(rt: &impl Abort, alloc: Global, token: Token, key: &[u8], is_there: bool) {
-    let mut host = written(rt, alloc);
-    let data = open_whole(rt, alloc, &mut host);
-    assert!(rt; find(rt, alloc, &mut host, &data, token, key) == Ok(is_there));
+    let mut host = host_of(rt, alloc, &ONE);
+    assert!(rt; find_in(rt, alloc, &mut host, token, key) == Ok(is_there));
 }
 
 #[test]

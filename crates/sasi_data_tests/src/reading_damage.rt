@@ -1,7 +1,7 @@
 // Data files that were cut, and ones of which a byte changed.
-use crate::fixture::{DATA, ONE, TOKEN, changed};
-use crate::reading::{body_at, find, open, open_whole};
-use sasi_host::{Damage, FormatRule, MemHost, found};
+use crate::fixture::{DATA, ONE, TOKEN, changed, host_of};
+use crate::reading::{body_at, find_in, open_whole};
+use sasi_host::{Damage, FormatRule, found};
 use std::alloc::Global;
 use std::process::Abort;
 
@@ -16,20 +16,10 @@ fn damage_at(rt: &impl Abort, bytes: &[u8], from: usize, to: usize, rule: Format
     found(DATA, from as u64, rule, seen)
 }
 
-/// A host with a file of these bytes.
-fn host_of(rt: &impl Abort, alloc: Global, bytes: &[u8]) -> MemHost {
-    let mut host = MemHost::new(alloc);
-    host.put(DATA, bytes).expect(rt, "memory for a file");
-    host
-}
-
 /// Whether a file of these bytes has key k1, or the damage.
 fn find_one(rt: &impl Abort, alloc: Global, bytes: &[u8]) -> Result<bool, Damage> {
     let mut host = host_of(rt, alloc, bytes);
-    match open(rt, alloc, &mut host) {
-        Err(damage) => Err(damage),
-        Ok(data) => find(rt, alloc, &mut host, &data, TOKEN, b"k1"),
-    }
+    find_in(rt, alloc, &mut host, TOKEN, b"k1")
 }
 
 /// The file of one partition, cut to this size, is damaged.
@@ -52,7 +42,7 @@ fn cut_file_is_damaged(rt: HostRuntime) {
 
 // Where the last bit of a byte from the first of these offsets up to the second is turned: the offsets between which the
 // damage is seen, and its rule.
-const DAMAGES: [(usize, usize, usize, usize, FormatRule); 28] = [
+const DAMAGES: [(usize, usize, usize, usize, FormatRule); 27] = [
     (0, 8, 0, 8, FormatRule::Magic),
     (8, 12, 8, 12, FormatRule::Version),
     (12, 16, 12, 16, FormatRule::Number),
@@ -72,10 +62,9 @@ const DAMAGES: [(usize, usize, usize, usize, FormatRule); 28] = [
     (62, 63, 62, 63, FormatRule::Number),
     (63, 65, 63, 65, FormatRule::Number),
     (65, 69, 65, 69, FormatRule::Number),
-    (77, 84, 0, 0, FormatRule::Short),
+    (77, 84, 77, 85, FormatRule::Place),
     (84, 85, 17, 21, FormatRule::Number),
-    (85, 92, 0, 0, FormatRule::Short),
-    (92, 93, 60, 61, FormatRule::Number),
+    (85, 93, 85, 93, FormatRule::Place),
     (93, 100, 0, 0, FormatRule::Short),
     (100, 101, 93, 101, FormatRule::Number),
     (109, 116, 109, 117, FormatRule::Place),
@@ -123,5 +112,49 @@ fn check_changed(rt: &impl Abort, alloc: Global, at: usize) {
 fn changed_byte_is_damage_or_read(rt: HostRuntime) {
     for at in (0..69).chain(77..125) {
         check_changed(&rt, rt.alloc(), at);
+    }
+}
+
+// Offsets that can't be right in the file of one partition, and where they stand: those of the key tree's root, which can
+// only be 61, and those of a partition, which ends by 61.
+const WRONG_PLACES: [(usize, u64); 8] = [
+    (85, 0),
+    (85, 60),
+    (85, 62),
+    (85, 1_000_000_000),
+    (85, u64::MAX),
+    (77, 15),
+    (77, 45),
+    (77, u64::MAX),
+];
+
+/// The file of one partition, with this number of eight bytes at an offset.
+fn with_number(rt: &impl Abort, alloc: Global, at: usize, number: u64) -> Vec<u8> {
+    let front = ONE.get(..at).expect(rt, "a front");
+    let rest = ONE.get(at.saturating_add(8)..).expect(rt, "a rest");
+    let mut bytes = front.to_vec(alloc).expect(rt, "memory for bytes");
+    bytes
+        .extend_from_slice(&number.to_be_bytes())
+        .expect(rt, "memory for a number");
+    bytes
+        .extend_from_slice(rest)
+        .expect(rt, "memory for the rest");
+    bytes
+}
+
+/// The file with this offset in it is damaged there.
+fn check_place(rt: &impl Abort, alloc: Global, at: usize, place: u64) {
+    let bytes = with_number(rt, alloc, at, place);
+    let damage = damage_at(rt, &bytes, at, at.saturating_add(8), FormatRule::Place);
+    assert!(rt;
+        find_one(rt, alloc, &bytes) == Err(damage),
+        "{place} at {at}"
+    );
+}
+
+#[test]
+fn wrong_place_is_damage_where_it_stands(rt: HostRuntime) {
+    for (at, place) in WRONG_PLACES {
+        check_place(&rt, rt.alloc(), at, place);
     }
 }

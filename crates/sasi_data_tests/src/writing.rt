@@ -37,33 +37,21 @@ const THREE: [u8; 234] = [
     b'I', b'D', b'E', b'N', b'D',
 ];
 
-// A call that an observer got.
-#[derive(Clone, Copy, Debug, PartialEq, Eq)]
-enum Observed {
-    Partition { token: Token, place: u64 },
-    Cell { column: u16, time: u64 },
-    End,
-}
+// A call that an observer got: the token and the offset of a partition, the column and the time of a cell, or the end.
+type Observed = (u64, u64);
+
+const END: Observed = (u64::MAX, u64::MAX);
 
 // Those of the three.
 const CALLS: [Observed; 8] = [
-    Observed::Partition {
-        token: 0x6162_6364_6566_6768,
-        place: 16,
-    },
-    Observed::Cell { column: 0, time: 5 },
-    Observed::Cell { column: 1, time: 5 },
-    Observed::Partition {
-        token: 0x6162_6364_6566_6768,
-        place: 68,
-    },
-    Observed::Partition {
-        token: 0x6200_0000_0000_0000,
-        place: 93,
-    },
-    Observed::Cell { column: 1, time: 4 },
-    Observed::Cell { column: 2, time: 9 },
-    Observed::End,
+    (0x6162_6364_6566_6768, 16),
+    (0, 5),
+    (1, 5),
+    (0x6162_6364_6566_6768, 68),
+    (0x6200_0000_0000_0000, 93),
+    (1, 4),
+    (2, 9),
+    END,
 ];
 
 // Keeps the calls that it got.
@@ -85,20 +73,17 @@ impl FlushObserver for Recorder {
     ghost lacks = { λ _ _. ⊥ };
 
     fn start_partition(&mut self, token: Token, place: u64) -> Result<(), KitFault> {
-        self.note(Observed::Partition { token, place })?;
+        self.note((token, place))?;
         Ok(())
     }
 
     fn cell(&mut self, column: u16, cell: &Cell) -> Result<(), KitFault> {
-        self.note(Observed::Cell {
-            column,
-            time: cell.time,
-        })?;
+        self.note((u64::from(column), cell.time))?;
         Ok(())
     }
 
     fn complete(&mut self) -> Result<(), KitFault> {
-        self.note(Observed::End)?;
+        self.note(END)?;
         Ok(())
     }
 }

@@ -1,5 +1,5 @@
 -- Bodies behind their lengths, as they are read.
-use Rattle.std.proofs.Common.{◌≡◌, ℕ, ◌+◌, ◌-◌, ◌/◌, ◌^◌, ◌<◌, ◌≤◌, List, length, take, drop, refl, sym, ◌∙◌, ap, subst, arith, lit<, length-append, Option, Some}
+use Rattle.std.proofs.Common.{Ok, ◌≡◌, ℕ, ◌+◌, ◌-◌, ◌/◌, ◌^◌, ◌<◌, ◌≤◌, List, length, take, drop, refl, sym, ◌∙◌, ap, subst, arith, lit<, length-append, Option, Some}
 use Rattle.std.specs.Int.{to_be_bytes, w32}
 use Rattle.sasi_host.specs.declared.name.FileName.{FileName}
 use Rattle.sasi_host.specs.declared.fault.ReadFault.{ReadFault}
@@ -27,7 +27,7 @@ use Rattle.sasi_dataread.specs.Damages.ShowsPartition.{no_length, no_body}
 use Rattle.sasi_dataread.specs.Bodies.{length_prefixed, partition_reads, IsLength, IsWithinBody, NoFalseLengthDamage, NoFalseBytesDamage, NoFalseBodyDamage}
 use Rattle.sasi_dataread.proofs.Numbers.{number_at}
 use Rattle.sasi_dataread.proofs.Pages.{few_pages, fresh_on}
-use Rattle.sasi_dataread.proofs.ReadChains.{causes_on}
+use Rattle.sasi_host.specs.CauseLaws.{reads_on}
 
 -- ---- what is read
 
@@ -55,14 +55,14 @@ reads_cost bytes body buffered after place count r0 r1 r2 count_fits body_fits h
     omega (arith, first, second, more, fresh_on buffered place 4 (length body) (lit< tt))
 
 -- a length and its body, one read after the other
-pub both_causes : {S T : Type 0} (a b c : View) (buffered after : Option ℕ) (place count : ℕ) (first : Result S ReadFault) (second : Result T ReadFault) →
+pub both_causes : {S T : Type 0} (a b c : View) (buffered after : Option ℕ) (place count : ℕ) (first : S) (second : Result T ReadFault) →
     count < 2 ^ 23 → after ≡ Some ((place + 3) / 4096)
-    → ReadsAtMost (unbuffered_pages buffered place 4) a b first → ReadsAtMost (unbuffered_pages after (place + 4) count) b c second → ReadsAtMost 2050 a c second
+    → ReadsAtMost (unbuffered_pages buffered place 4) a b (Ok first) → ReadsAtMost (unbuffered_pages after (place + 4) count) b c second → ReadsAtMost 2050 a c second
 both_causes a b c buffered after place count first second short after_is one two =
     let more : unbuffered_pages after (place + 4) count ≡ unbuffered_pages (Some ((place + 4 - 1) / 4096)) (place + 4) count =
     ap (λ (o : Option ℕ). unbuffered_pages o (place + 4) count) (after_is ∙ ap (λ (n : ℕ). Some (n / 4096)) (omega arith))
     in
-    causes_on a b c (unbuffered_pages buffered place 4) (unbuffered_pages after (place + 4) count) 2050 first second
+    reads_on a b c (unbuffered_pages buffered place 4) (unbuffered_pages after (place + 4) count) 2050 first second
     (omega (arith, more, fresh_on buffered place 4 count (lit< tt), few_pages buffered place (4 + count) (omega (arith, short)))) one two
 
 -- ---- what shows damage

@@ -29,10 +29,10 @@ use Rattle.sasi_dataread.specs.Bodies.{length_prefixed, partition_reads}
 use Rattle.sasi_dataread.specs.Laws.{partition_stands}
 use Rattle.sasi_dataread.specs.ReadCosts.{ReadsEachPageOnce, IsSequential, scan_of}
 use Rattle.sasi_dataread.proofs.Pages.{goes_on}
-use Rattle.sasi_dataread.specs.Damages.{ShowsData, ShowsPartition}
-use Rattle.sasi_dataread.specs.Damages.ShowsData.{in_tree, in_partition}
+use Rattle.sasi_dataread.specs.Damages.{ShowsData, ShowsPair}
+use Rattle.sasi_dataread.specs.Damages.ShowsData.{in_tree, at_pair}
 use Rattle.sasi_dataread.specs.Reads.{ReadsPartition, IsOpenOn, NoFalsePartitionDamage}
-use Rattle.sasi_dataread.specs.Scans.{TokensFit, NoFalseOpenedDamage}
+use Rattle.sasi_dataread.specs.Scans.{KeysAreBytes, NoFalseOpenedDamage}
 use Rattle.sasi_dataread.proofs.Pairs.{has_tree, nth, nth_stands, nth_token, left_behind}
 
 -- no file is longer
@@ -44,14 +44,14 @@ open_same a b opened partitioner content same is = record { bytes = is.bytes; re
 
 -- the tree that one reads is the key tree
 pub tree_there : (v : View) (opened : Opened) (tree : TreeRef) → tree ≡ opened.tree → IsShort v opened.file → (partitioner : Partitioner)
-    (content : Content) (is : IsOpenOn v opened partitioner content) → TokensFit partitioner content → HasTree is.bytes tree
+    (content : Content) (is : IsOpenOn v opened partitioner content) → KeysAreBytes content → HasTree is.bytes tree
     (key_pairs partitioner content)
 tree_there v opened tree tree_is short partitioner content is have =
     subst (λ (t : TreeRef). HasTree is.bytes t (key_pairs partitioner content)) (sym tree_is) (has_tree v opened partitioner content is have (short is.bytes is.reads))
 
 pub next_takes : (v : View) (opened : Opened) (file : FileName) (tree : TreeRef) (before after : ℕ) (found : Option Pair) → file ≡ opened.file → tree
     ≡ opened.tree → IsShort v opened.file → ReadsNextPair v file tree before after found
-    → (partitioner : Partitioner) (content : Content) → IsOpenOn v opened partitioner content → TokensFit partitioner content → StepsToPair (key_pairs partitioner content) before after found
+    → (partitioner : Partitioner) (content : Content) → IsOpenOn v opened partitioner content → KeysAreBytes content → StepsToPair (key_pairs partitioner content) before after found
 next_takes v opened file tree before after found file_is tree_is short gives partitioner content is have =
     gives is.bytes (key_pairs partitioner content) (ap (λ (f : FileName). contents v f) file_is ∙ is.reads) (tree_there v opened tree tree_is short partitioner content is have)
 
@@ -76,7 +76,7 @@ took_partition v w opened before after pair key part partitioner content is chan
     )
 
 pub place_spares : (v w : View) (opened : Opened) (before after : ℕ) (pair : Pair) (f : ReadFault) →
-    ((partitioner : Partitioner) (content : Content) → IsOpenOn v opened partitioner content → TokensFit partitioner content → StepsToPair
+    ((partitioner : Partitioner) (content : Content) → IsOpenOn v opened partitioner content → KeysAreBytes content → StepsToPair
     (key_pairs partitioner content) before after (Some pair))
     → Changes Same v w → NoFalsePartitionDamage w opened pair.place f → NoFalseOpenedDamage v opened f
 place_spares v w opened before after pair fault.Failed takes change no_false_damage = tt
@@ -103,9 +103,11 @@ entry_before v w file tree passed None change gives = tt
 entry_before v w file tree passed (Some pair) change gives = (gives.0, gives.1, λ bytes is. gives.2 bytes (contents_same v w file change ∙ is))
 
 pub partition_shown : (v : View) (opened : Opened) (passed : ℕ) (pair : Pair) (f : ReadFault) → ReadsEntry v opened.file opened.tree passed
-    (Some pair) → DamageShown v opened.file (ShowsPartition opened.types opened.end pair.place opened.file) f → DamageShown v opened.file (ShowsData opened) f
+    (Some pair) → DamageShown v opened.file (ShowsPair opened (passed - 1) pair.place) f → DamageShown v opened.file (ShowsData opened) f
 partition_shown v opened passed pair f gives shown =
-    shown_as (ShowsPartition opened.types opened.end pair.place opened.file) (ShowsData opened) v opened.file f (λ bytes damage is shows. in_partition gives.0 pair (gives.2 bytes is) shows) shown
+    let index : passed - 1 ≡ gives.0 = omega (arith, gives.1) in
+    shown_as (ShowsPair opened (passed - 1) pair.place) (ShowsData opened) v opened.file f
+    (λ bytes damage is shows. at_pair gives.0 pair (gives.2 bytes is) (subst (λ (n : ℕ). ShowsPair opened n pair.place bytes damage) index shows)) shown
 
 -- ---- the pages of a walk
 

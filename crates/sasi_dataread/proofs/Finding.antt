@@ -1,5 +1,5 @@
 -- A key looked for among the partitions of a data file.
-use Rattle.std.proofs.Common.{◌≡◌, ◌≢◌, ◌⊎◌, ℕ, zero, suc, ◌+◌, ◌-◌, ◌*◌, ◌<◌, ◌≤◌, List, ◌∷◌, [], length, take, drop, map, refl, sym, ◌∙◌, ap, subst, arith, length-append, ⊎_elim, Option, Some, None, is_some, Bool, true, false, cond}
+use Rattle.std.proofs.Common.{Ok, ◌≡◌, ◌≢◌, ◌⊎◌, ℕ, zero, suc, ◌+◌, ◌-◌, ◌*◌, ◌<◌, ◌≤◌, List, ◌∷◌, [], length, take, drop, map, refl, sym, ◌∙◌, ap, subst, arith, length-append, ⊎_elim, Option, Some, None, is_some, Bool, true, false, cond}
 use Rattle.std.specs.Prelude.{nat_eq, if◌then◌else◌}
 use Rattle.std.specs.declared.result.Result.{Result}
 use Rattle.std.specs.List.{AllByRecursion}
@@ -33,10 +33,11 @@ use Rattle.sasi_datawrite.proofs.Laws.{pairs_length}
 use Rattle.sasi_dataread.specs.Opened.{Opened, StandsAt}
 use Rattle.sasi_dataread.specs.Reads.{IsOpenOn, ReadsWithin, NoFalsePartitionDamage}
 use Rattle.sasi_dataread.specs.Bodies.{partition_pages}
-use Rattle.sasi_dataread.specs.Scans.{TokensFit, NoFalseOpenedDamage}
+use Rattle.sasi_dataread.specs.Scans.{KeysAreBytes, NoFalseOpenedDamage}
 use Rattle.sasi_dataread.specs.Finds.{partition_of, token_reads, LeadsTo, ReadsPartitionOfKey}
 use Rattle.sasi_dataread.proofs.Pairs.{nth, nth_stands, as_many_left, left_behind, none_left, less_token}
-use Rattle.sasi_dataread.proofs.ReadChains.{causes_within, passes_none, passes_on}
+use Rattle.sasi_host.specs.CauseLaws.{reads_within}
+use Rattle.sasi_dataread.proofs.ReadChains.{passes_none, passes_on}
 use Rattle.sasi_dataread.proofs.DataScan.{IsShort, open_same, tree_there}
 
 -- ---- keys and tokens
@@ -183,7 +184,7 @@ first_causes v w opened tree result tree_is causes = subst (λ (t : TreeRef). (m
 pub starts : {T : Type 0} (v w : View) (opened : Opened) (tree : PairScan) (token : ℕ) (key : Bytes) (passed : ℕ) (next : Option Pair)
     (result : Result T ReadFault) → tree ≡ begun opened → IsShort v opened.file → ReadsFirstPair v tree.buffered.file tree.tree token passed next
     → ((most : ℕ) → tree.tree.pairs ≤ most → ReadsAtMost (2 * height most tree.tree.pairs + 2) v w result)
-    → (most : ℕ) (partitioner : Partitioner) (content : Content) → opened.tree.pairs ≤ most → IsOpenOn v opened partitioner content → TokensFit partitioner content
+    → (most : ℕ) (partitioner : Partitioner) (content : Content) → opened.tree.pairs ≤ most → IsOpenOn v opened partitioner content → KeysAreBytes content
     → Searches partitioner content token key 0 passed next w.reads (v.reads + (2 * height most opened.tree.pairs + 2 + token_reads partitioner token (length header) content))
 starts v w opened tree token key passed next result tree_is short gives causes most partitioner content le is have =
     let file_is : tree.buffered.file ≡ opened.file = ap (λ (t : PairScan). t.buffered.file) tree_is in
@@ -193,8 +194,8 @@ starts v w opened tree token key passed next result tree_is short gives causes m
     begins partitioner content token key passed next w.reads (v.reads +
     (2 * height most opened.tree.pairs + 2 + token_reads partitioner token (length header) content)) from.0 from.1 from.2 (omega (arith, first))
 
-pub first_passes : {T : Type 0} (v w : View) (n m : ℕ) (result : Result T ReadFault) → Changes Same v w → ReadsAtMost n v w result → n ≤ m → ReadsWithin m v w
-first_passes v w n m result change causes le = passes_on v v w 0 n m result (passes_none v) causes change (omega (arith, le))
+pub first_passes : {T : Type 0} (v w : View) (n m : ℕ) (x : T) → Changes Same v w → ReadsAtMost n v w (Ok x) → n ≤ m → ReadsWithin m v w
+first_passes v w n m x change causes le = passes_on v v w 0 n m x (passes_none v) causes change (omega (arith, le))
 
 -- ---- the partition to which the pair leads
 
@@ -288,7 +289,7 @@ pub one_more : {T : Type 0} (view a b : View) (file : FileName) (ref : TreeRef) 
 one_more view a b file ref tree token place next result leads gives entry_buffered causes =
     let pair : Pair = record { token = token; place = place } in
     let entry = subst (λ (o : Option Pair). ReadsEntry view file ref tree.passed o) leads gives in
-    causes_within a b (unbuffered_pages tree.buffered.page (pair_place tree.tree tree.passed) 16) 1 result
+    reads_within a b (unbuffered_pages tree.buffered.page (pair_place tree.tree tree.passed) 16) 1 result
     (next_entry_cost tree pair (omega (arith, entry.1)) (subst (λ (o : Option Pair). IsEntryBuffered tree o) leads entry_buffered)) causes
 
 -- ---- none is left
@@ -326,7 +327,7 @@ all_passed partitioner content token key turns passed next reads most s le same 
 -- ---- damage
 
 pub here_spares : (v w : View) (opened : Opened) (place : ℕ) (f : ReadFault) →
-    ((partitioner : Partitioner) (content : Content) → IsOpenOn v opened partitioner content → TokensFit partitioner content →
+    ((partitioner : Partitioner) (content : Content) → IsOpenOn v opened partitioner content → KeysAreBytes content →
     (one : Bytes × Partition) × StandsAt content place one.0 one.1)
     → Changes Same v w → NoFalsePartitionDamage w opened place f → NoFalseOpenedDamage v opened f
 here_spares v w opened place fault.Failed stands change no_false_damage = tt

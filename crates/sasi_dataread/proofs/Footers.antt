@@ -23,9 +23,9 @@ use Rattle.sasi_datawrite.specs.Format.{Content, header, footer, front, content_
 use Rattle.sasi_datawrite.specs.Files.{IsDataFile}
 use Rattle.sasi_datawrite.proofs.Laws.{header_length}
 use Rattle.sasi_dataread.specs.Reads.{NoFalseDataDamage}
-use Rattle.sasi_dataread.specs.Laws.{AreInRange, in_range, tree_of, footer_of, footer_length, header_stands, footer_stands, least_size}
+use Rattle.sasi_dataread.specs.Laws.{in_range, tree_of, footer_of, footer_length, header_stands, footer_stands, least_size}
 use Rattle.sasi_dataread.specs.Damages.{HeaderOrFooterBreaks, ShowsHeaderOrFooter, end_mark, magic}
-use Rattle.sasi_dataread.specs.HeaderAndFooter.{NoFalseHeaderDamage, NoFalseFooterDamage}
+use Rattle.sasi_dataread.specs.HeaderAndFooter.{AreInRange, NoFalseHeaderDamage, NoFalseFooterDamage}
 use Rattle.sasi_dataread.proofs.Numbers.{same_64}
 
 -- ---- what is shown
@@ -74,14 +74,30 @@ field_there whole bytes seen at offset place number long le has place_is seen_is
 pub end_field_shown : (file : FileName) (whole bytes : Bytes) (at end : ℕ) (damage : Damage) → length bytes ≡ 40 → length whole ≡ at + 40 → HasAt
     whole at bytes → damage.file ≡ file → damage.rule ≡ Place → damage.at ≡ at + 24
     → seen_bytes damage.seen ≡ take 8 (drop 24 bytes) → to_be_bytes w64 end ≡ take 8 (drop 24 bytes) → end < 2 ^ 64 → (end < 33) ⊎ (at < end) → ShowsHeaderOrFooter file whole damage
-end_field_shown file whole bytes at end damage long length_prefixed has named rule place seen told fits wrong = breaks_shown file whole Place damage named rule (record {
+end_field_shown file whole bytes at end damage long length_prefixed has named rule place seen told fits wrong = breaks_shown file whole Place damage named rule (inl (record {
   offset_is = omega (arith, place, length_prefixed);
   stands = field_there whole bytes (seen_bytes damage.seen) at 24 damage.at end long (lit≤ tt) has place seen;
   end = end;
   told = seen ∙ sym told;
   fits = fits;
   wrong = ⊎_elim (λ few. inl few) (λ far. inr (omega (arith, far, length_prefixed))) wrong;
-})
+}))
+
+pub root_field_shown : (file : FileName) (whole bytes : Bytes) (at root end : ℕ) (damage : Damage) → length bytes ≡ 40 → length whole ≡ at + 40 → HasAt
+    whole at bytes → damage.file ≡ file → damage.rule ≡ Place → damage.at ≡ at
+    → seen_bytes damage.seen ≡ take 8 bytes → to_be_bytes w64 root ≡ take 8 bytes → root < 2 ^ 64 → to_be_bytes w64 end ≡ take 8 (drop 24 bytes) → end < 2 ^ 64
+    → (root < end) ⊎ (at < root + 24) → ShowsHeaderOrFooter file whole damage
+root_field_shown file whole bytes at root end damage long length_prefixed has named rule place seen told fits end_told end_fits wrong = breaks_shown file whole Place damage named rule (inr (record {
+  offset_is = omega (arith, place, length_prefixed);
+  stands = field_there whole bytes (seen_bytes damage.seen) at 0 damage.at root long (lit≤ tt) has (omega (arith, place)) seen;
+  root = root;
+  told = seen ∙ sym told;
+  fits = fits;
+  end = end;
+  ends = field_there whole bytes (to_be_bytes w64 end) at 24 (damage.at + 24) end long (lit≤ tt) has (omega (arith, place)) end_told;
+  end_fits = end_fits;
+  wrong = λ can. ⊎_elim (λ low. omega (arith, low, can.behind)) (λ high. omega (arith, high, can.within, place)) wrong;
+}))
 
 pub count_field_shown : (file : FileName) (whole bytes : Bytes) (at pairs : ℕ) (damage : Damage) → length bytes ≡ 40 → length whole ≡ at + 40 → HasAt
     whole at bytes → damage.file ≡ file → damage.rule ≡ Number → damage.at ≡ at + 8

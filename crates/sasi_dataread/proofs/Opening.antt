@@ -1,5 +1,6 @@
 -- A data file that was opened: what its footer and its partitions say of its content.
-use Rattle.std.proofs.Common.{◌≡◌, ℕ, ◌+◌, ◌-◌, ◌^◌, ◌<◌, ◌≤◌, List, ◌++◌, [], length, take, drop, sym, ◌∙◌, ap, subst, arith, Option, Some, IfOk, IfErr}
+use Rattle.std.proofs.Common.{◌≡◌, ◌⊎◌, ℕ, ◌+◌, ◌-◌, ◌^◌, ◌<◌, ◌≤◌, List, ◌++◌, [], length, length-append, take, drop, sym, ◌∙◌, ap, subst, arith, ⊎_elim, Option, Some, IfOk, IfErr}
+use Rattle.std.specs.Int.{to_be_bytes, w64}
 use Rattle.std.specs.declared.result.Result.{Result}
 use Rattle.std.specs.declared.result.Result.TheVariants.{Ok, Err}
 use Rattle.sasi_host.specs.declared.fault.ReadFault.{ReadFault}
@@ -12,18 +13,24 @@ use Rattle.sasi_types.specs.declared.tree.TreeRef.{TreeRef}
 use Rattle.sasi_model.specs.Cells.{Partition}
 use Rattle.sasi_body.specs.Body.{body, IsBodyOf}
 use Rattle.sasi_body.proofs.Bodies.{bodies_same}
-use Rattle.sasi_body.proofs.BodyBytes.{body_short}
+use Rattle.sasi_body.proofs.BodyBytes.{body_least, body_short}
 use Rattle.sasi_host.specs.declared.name.FileName.{FileName}
-use Rattle.sasi_host.specs.Damages.{HasAt, DamageShown}
-use Rattle.sasi_dataread.specs.Damages.{ShowsPartition}
+use Rattle.sasi_host.specs.declared.damage.Damage.{Damage}
+use Rattle.sasi_host.specs.declared.damage.FormatRule.TheVariants.{Place}
+use Rattle.sasi_host.specs.Damages.{HasAt, DamageShown, seen_bytes}
+use Rattle.sasi_host.proofs.DamageLaws.{shown_as}
+use Rattle.sasi_tokentree.specs.Scans.{pair_place}
+use Rattle.sasi_dataread.specs.Damages.{ShowsPair, ShowsPartition}
+use Rattle.sasi_dataread.specs.Damages.ShowsPair.{leads_nowhere, in_partition}
 use Rattle.sasi_host.proofs.Offsets.{same_at}
-use Rattle.sasi_datawrite.specs.Format.{Content, footer, front, content_max_timestamp}
+use Rattle.sasi_datawrite.specs.Format.{Content, header, partitions, footer, front, content_max_timestamp}
 use Rattle.sasi_datawrite.specs.Files.{IsDataFile}
+use Rattle.sasi_datawrite.proofs.Laws.{header_length}
 use Rattle.sasi_dataread.specs.Opened.{Opened, StandsAt}
 use Rattle.sasi_dataread.specs.Reads.{ReadsPartition, IsOpenOn, NoFalsePartitionDamage}
-use Rattle.sasi_dataread.specs.Bodies.{length_prefixed, partition_reads, NoFalseBodyDamage}
-use Rattle.sasi_dataread.specs.Laws.{AreInRange, in_range, tree_of, footer_of, footer_length, footer_stands, partition_stands, partition_typed, partition_within}
-use Rattle.sasi_dataread.specs.HeaderAndFooter.{HasHeaderAndFooter}
+use Rattle.sasi_dataread.specs.Bodies.{length_prefixed, partition_reads, IsPartitionPlace, NoFalseBodyDamage}
+use Rattle.sasi_dataread.specs.Laws.{in_range, tree_of, footer_of, footer_length, footer_stands, partition_stands, partition_typed, partition_within}
+use Rattle.sasi_dataread.specs.HeaderAndFooter.{AreInRange, HasHeaderAndFooter}
 use Rattle.sasi_dataread.proofs.Numbers.{same_64}
 use Rattle.sasi_dataread.proofs.Bodies.{sized_same}
 use Rattle.sasi_dataread.proofs.Footers.{footer_root, footer_pairs, footer_latest, footer_end}
@@ -74,6 +81,41 @@ spares_at v opened place (fault.Damaged damage) no_false_damage = λ partitioner
     no_false_damage is.bytes key part is.reads (partition_stands partitioner opened.types is.bytes content place key part is.data_file at)
     (partition_typed partitioner opened.types is.bytes content place key part is.data_file at)
     (omega (arith, partition_within content place key part at, is.of.end))
+
+-- no partition of a data file is at an offset where none can begin
+pub can_begin : (v : View) (opened : Opened) (partitioner : Partitioner) (content : Content) (place : ℕ) (key : Bytes) (part : Partition) → IsOpenOn v opened
+    partitioner content → StandsAt content place key part → IsPartitionPlace opened.end place
+can_begin v opened partitioner content place key part is at =
+    let typed = partition_typed partitioner opened.types is.bytes content place key part is.data_file at in
+    record {
+      behind = omega (arith, at.begins, header_length, length-append header (partitions at.before));
+      within = omega (arith, partition_within content place key part at, body_least key part typed.has, is.of.end);
+    }
+
+pub nowhere_spares : (v : View) (opened : Opened) (place : ℕ) (damage : Damage) → (place < 16) ⊎ (opened.end < place + 17) → NoFalsePartitionDamage v
+    opened place (fault.Damaged damage)
+nowhere_spares v opened place damage wrong partitioner content key part is at =
+    let can = can_begin v opened partitioner content place key part is at in
+    ⊎_elim (λ low. omega (arith, low, can.behind)) (λ high. omega (arith, high, can.within)) wrong
+
+-- such an offset is blamed at its pair
+pub nowhere_shown : (opened : Opened) (index place : ℕ) (bytes : Bytes) (damage : Damage) → damage.file ≡ opened.file → damage.rule ≡ Place
+    → damage.at ≡ pair_place opened.tree index + 8 → seen_bytes damage.seen ≡ to_be_bytes w64 place → (place < 16) ⊎ (opened.end < place + 17)
+    → ShowsPair opened index place bytes damage
+nowhere_shown opened index place bytes damage named rule at told wrong = leads_nowhere (record {
+  named = named;
+  rule = rule;
+  at = at;
+  told = told;
+  wrong = λ can. ⊎_elim (λ low. omega (arith, low, can.behind)) (λ high. omega (arith, high, can.within)) wrong;
+})
+
+-- what is at one where one can begin is damage of its partition
+pub there_shown : {T : Type 0} (v : View) (opened : Opened) (index place : ℕ) (result : Result T ReadFault) → IsPartitionPlace opened.end place → IfErr result
+    (DamageShown v opened.file (ShowsPartition opened.types opened.end place opened.file)) → IfErr result (DamageShown v opened.file (ShowsPair opened index place))
+there_shown v opened index place (Ok read) can shown = tt
+there_shown v opened index place (Err f) can shown = shown_as (ShowsPartition opened.types opened.end place opened.file) (ShowsPair opened index place) v
+    opened.file f (λ bytes damage is shows. in_partition can shows) shown
 
 reads_at : (v : View) (opened : Opened) (page : Option ℕ) (place reads : ℕ) →
     ((bytes part : Bytes) → contents v opened.file ≡ Some bytes → HasAt bytes place (length_prefixed part) → length part < 2 ^ 32 → reads ≤ v.reads + partition_reads

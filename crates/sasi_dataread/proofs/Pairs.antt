@@ -14,6 +14,7 @@ use Rattle.sasi_types.specs.declared.tree.Pair.{Pair}
 use Rattle.sasi_types.specs.Key.{key_cmp}
 use Rattle.sasi_types.specs.DecoratedKey.{decorated_cmp}
 use Rattle.sasi_types.specs.Token.{token_of}
+use Rattle.sasi_types.proofs.Tokens.{token_fits}
 use Rattle.sasi_model.specs.Cells.{Partition}
 use Rattle.sasi_host.specs.Names.{Bytes}
 use Rattle.sasi_host.specs.View.{View}
@@ -23,7 +24,7 @@ use Rattle.sasi_datawrite.proofs.Laws.{partition_length, pairs_length}
 use Rattle.sasi_dataread.specs.Opened.{Opened, StandsAt}
 use Rattle.sasi_dataread.specs.Reads.{IsOpenOn}
 use Rattle.sasi_dataread.specs.Laws.{file_is, end_within, footer_of}
-use Rattle.sasi_dataread.specs.Scans.{TokensFit}
+use Rattle.sasi_dataread.specs.Scans.{KeysAreBytes}
 
 -- ---- they rise
 
@@ -59,17 +60,16 @@ rising_from partitioner at (one ∷ two ∷ others) sorted (suc index) next is l
 
 -- ---- their numbers fit
 
-fits_from : (partitioner : Partitioner) (at : ℕ) (content : Content) → TokensFit partitioner content → at + length (partitions content) < 2 ^ 64 → (index : ℕ)
+fits_from : (partitioner : Partitioner) (at : ℕ) (content : Content) → KeysAreBytes content → at + length (partitions content) < 2 ^ 64 → (index : ℕ)
     → ((pair_at (pairs_from partitioner at content) index).token < 2 ^ 64) × ((pair_at (pairs_from partitioner at content) index).place < 2 ^ 64)
 fits_from partitioner at [] have lt zero = (lit< tt, lit< tt)
 fits_from partitioner at [] have lt (suc index) = (lit< tt, lit< tt)
-fits_from partitioner at (one ∷ others) have lt zero = (have.0, omega (arith, lt))
+fits_from partitioner at (one ∷ others) have lt zero = (token_fits partitioner one.0 have.0, omega (arith, lt))
 fits_from partitioner at (one ∷ others) have lt (suc index) =
     fits_from partitioner (at + length (partition_bytes one.0 one.1)) others have.1 (omega (arith, lt, length-append (partition_bytes one.0 one.1) (partitions others))) index
 
 -- the file has the key tree
-pub has_tree : (v : View) (opened : Opened) (partitioner : Partitioner) (content : Content) (is : IsOpenOn v opened partitioner content) → TokensFit
-    partitioner content → length is.bytes ≤ 2 ^ 62 → HasTree is.bytes opened.tree (key_pairs partitioner content)
+pub has_tree : (v : View) (opened : Opened) (partitioner : Partitioner) (content : Content) (is : IsOpenOn v opened partitioner content) → KeysAreBytes content → length is.bytes ≤ 2 ^ 62 → HasTree is.bytes opened.tree (key_pairs partitioner content)
 has_tree v opened partitioner content is have short = record {
   front = front content;
   rest = footer_of partitioner content;

@@ -12,10 +12,10 @@ use Rattle.sasi_host.specs.Damages.{HasAt, Differs, ShowsEnd, seen_bytes}
 use Rattle.sasi_body.specs.Body.{body_of}
 use Rattle.sasi_formats.specs.Reader as reader
 use Rattle.sasi_formats.specs.Failures.{FailsWhole, HasOtherLength}
-use Rattle.sasi_tokentree.specs.Damages.{ShowsTree}
-use Rattle.sasi_tokentree.specs.Scans.{HasEntry}
+use Rattle.sasi_tokentree.specs.Damages.{IsNodePlace, ShowsTree}
+use Rattle.sasi_tokentree.specs.Scans.{HasEntry, pair_place}
 use Rattle.sasi_dataread.specs.Opened.{Opened}
-use Rattle.sasi_dataread.specs.Bodies.{length_prefixed, IsLength}
+use Rattle.sasi_dataread.specs.Bodies.{length_prefixed, IsLength, IsPartitionPlace}
 
 -- ---- the header and the footer
 
@@ -35,6 +35,18 @@ pub record IsWrongEnd (bytes : Bytes) (at : ℕ) (seen : Bytes) : Type 0 where
   pub fits : end < 2 ^ 64
   pub wrong : (end < 33) ⊎ (length bytes < end + 40)
 
+-- the key tree's root can't stand at its offset, between where the partitions end and the footer
+pub record IsWrongRoot (bytes : Bytes) (at : ℕ) (seen : Bytes) : Type 0 where
+  pub offset_is : at + 40 ≡ length bytes
+  pub stands : HasAt bytes at seen
+  pub root : ℕ
+  pub told : seen ≡ to_be_bytes w64 root
+  pub fits : root < 2 ^ 64
+  pub end : ℕ
+  pub ends : HasAt bytes (at + 24) (to_be_bytes w64 end)
+  pub end_fits : end < 2 ^ 64
+  pub wrong : ¬ IsNodePlace end at root
+
 -- the number of partitions is 0
 pub record HasNoPartitions (bytes : Bytes) (at : ℕ) (seen : Bytes) : Type 0 where
   pub offset_is : at + 32 ≡ length bytes
@@ -47,7 +59,7 @@ HeaderOrFooterBreaks bytes Short at seen = (length bytes < 97) × (at ≡ length
 HeaderOrFooterBreaks bytes Magic at seen = ((at ≡ 0) × Differs bytes at seen magic) ⊎ ((at + 8 ≡ length bytes) × Differs bytes at seen end_mark)
 HeaderOrFooterBreaks bytes Version at seen = (at ≡ 8) × Differs bytes at seen (to_be_bytes w32 1)
 HeaderOrFooterBreaks bytes Number at seen = ((at ≡ 12) × Differs bytes at seen (to_be_bytes w32 0)) ⊎ HasNoPartitions bytes at seen
-HeaderOrFooterBreaks bytes Place at seen = IsWrongEnd bytes at seen
+HeaderOrFooterBreaks bytes Place at seen = IsWrongEnd bytes at seen ⊎ IsWrongRoot bytes at seen
 HeaderOrFooterBreaks bytes _ at seen = ⊥
 
 -- the damage is that of this file, whose header or footer breaks the rule
@@ -100,7 +112,20 @@ pub data ShowsPartition (types : List ColumnType) (end place : ℕ) (file : File
 
 -- ---- an open file
 
--- the damage is that of the key tree, or of the partition to which one of its pairs leads
+-- no partition can begin at the offset to which the pair with this index leads
+pub record LeadsNowhere (opened : Opened) (index place : ℕ) (damage : Damage) : Type 0 where
+  pub named : damage.file ≡ opened.file
+  pub rule : damage.rule ≡ Place
+  pub at : damage.at ≡ pair_place opened.tree index + 8
+  pub told : seen_bytes damage.seen ≡ to_be_bytes w64 place
+  pub wrong : ¬ IsPartitionPlace opened.end place
+
+-- the damage is that of the pair with this index, which leads to this offset, or of the partition there
+pub data ShowsPair (opened : Opened) (index place : ℕ) (bytes : Bytes) (damage : Damage) : Type 0 where
+  leads_nowhere : LeadsNowhere opened index place damage → ShowsPair opened index place bytes damage
+  in_partition : IsPartitionPlace opened.end place → ShowsPartition opened.types opened.end place opened.file bytes damage → ShowsPair opened index place bytes damage
+
+-- the damage is that of the key tree, or of one of its pairs and the partition to which it leads
 pub data ShowsData (opened : Opened) (bytes : Bytes) (damage : Damage) : Type 0 where
   in_tree : ShowsTree opened.file opened.tree bytes damage → ShowsData opened bytes damage
-  in_partition : (index : ℕ) (pair : Pair) → HasEntry bytes opened.tree index pair → ShowsPartition opened.types opened.end pair.place opened.file bytes damage → ShowsData opened bytes damage
+  at_pair : (index : ℕ) (pair : Pair) → HasEntry bytes opened.tree index pair → ShowsPair opened index pair.place bytes damage → ShowsData opened bytes damage

@@ -13,7 +13,7 @@ use Rattle.sasi_datawrite.specs.Format.{Content, partition_bytes}
 use Rattle.sasi_dataread.specs.Opened.{Opened, StandsAt}
 use Rattle.sasi_dataread.specs.Reads.{IsOpenOn}
 use Rattle.sasi_dataread.specs.Bodies.{partition_pages}
-use Rattle.sasi_dataread.specs.Scans.{TokensFit}
+use Rattle.sasi_dataread.specs.Scans.{KeysAreBytes}
 
 -- the partition of a key
 abbrev pub partition_of : Content → Bytes → Option Partition
@@ -22,7 +22,7 @@ partition_of content key = lookup (key_eq key) content
 -- where the file is the data file of a content, and this the token of the key, it is the partition of the key
 abbrev pub FindsKey : View → Opened → ℕ → Bytes → Option Partition → Type 0
 FindsKey v opened token key found =
-    (partitioner : Partitioner) (content : Content) → IsOpenOn v opened partitioner content → TokensFit partitioner content → token ≡ token_of partitioner key → found ≡ partition_of content key
+    (partitioner : Partitioner) (content : Content) → IsOpenOn v opened partitioner content → KeysAreBytes content → token ≡ token_of partitioner key → found ≡ partition_of content key
 
 -- the pages of the partitions with a token, and one for the pair behind each, where the first partition is at this offset
 abbrev pub token_reads : Partitioner → ℕ → ℕ → Content → ℕ

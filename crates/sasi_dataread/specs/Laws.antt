@@ -1,28 +1,28 @@
 -- The offsets of the parts of a data file.
-use Rattle.std.specs.Prelude.{◌≡◌, ℕ, zero, suc, ◌+◌, ◌-◌, ◌*◌, ◌^◌, ◌<◌, ◌≤◌, List, [], ◌∷◌, ◌++◌, length, map, refl}
-use Rattle.std.proofs.Common.{sym, ◌∙◌, ap, subst, arith, append_assoc, length-append, ⊎_elim}
+use Rattle.std.specs.Prelude.{◌≡◌, ℕ, ◌+◌, ◌-◌, ◌*◌, ◌^◌, ◌≤◌, List, [], ◌∷◌, ◌++◌, length, map, refl}
+use Rattle.std.proofs.Common.{sym, ◌∙◌, ap, subst, arith, append_assoc, length-append}
 use Rattle.std.proofs.lemmas.List.{append-nil}
-use Rattle.std.proofs.lemmas.Bool.Decides.{leb_tells}
 use Rattle.std.specs.List.{AllByRecursion}
 use Rattle.sasi_types.specs.declared.column.ColumnType.{ColumnType}
 use Rattle.sasi_types.specs.declared.partitioner.Partitioner.{Partitioner}
-use Rattle.sasi_types.specs.declared.tree.Pair.{Pair}
 use Rattle.sasi_types.specs.declared.tree.TreeRef.{TreeRef}
-use Rattle.sasi_model.specs.Cells.{Partition, max_timestamp_of, max_timestamp_in}
+use Rattle.sasi_model.specs.Cells.{Partition, max_timestamp_of}
+use Rattle.sasi_model.specs.Abbreviations.{max_timestamp_in}
 use Rattle.sasi_host.specs.Names.{Bytes}
 use Rattle.sasi_model.specs.Stored.{cells_of, IsCell}
 use Rattle.sasi_body.specs.Body.{body, HasBody, IsBodyOf}
 use Rattle.sasi_body.proofs.BodyBytes.{body_least}
 use Rattle.sasi_cells.specs.Entries.{Entry}
-use Rattle.sasi_tokentree.specs.Format.{tree_bytes, tree_ref, levels, level_bytes, size, top, above}
-use Rattle.sasi_tokentree.specs.Sizes.{level_length, one_level, more_levels}
-use Rattle.sasi_tokentree.specs.Heights.{top_is, below_root_short}
+use Rattle.sasi_tokentree.specs.Format.{tree_bytes, tree_ref}
+use Rattle.sasi_tokentree.specs.Damages.{IsNodePlace}
+use Rattle.sasi_tokentree.proofs.Laws.{root_place}
 use Rattle.sasi_host.specs.Damages.{HasAt}
 use Rattle.sasi_datawrite.specs.Format.{Content, IsContent, header, footer, front, trailer, content_max_timestamp, key_pairs, partition_bytes, partitions, data_bytes}
 use Rattle.sasi_datawrite.specs.Files.{IsDataFile}
 use Rattle.sasi_datawrite.proofs.Laws.{header_length, partition_length, pairs_length}
 use Rattle.sasi_dataread.specs.Opened.{StandsAt}
 use Rattle.sasi_dataread.specs.Bodies.{length_prefixed}
+use Rattle.sasi_dataread.specs.HeaderAndFooter.{AreInRange}
 
 -- ---- partitions
 
@@ -138,26 +138,16 @@ partitions_least (one ∷ others) all =
 pub front_least : (partitioner : Partitioner) (content : Content) → IsContent partitioner content → 16 + 17 * length content ≤ length (front content)
 front_least partitioner content is = omega (arith, header_length, length-append header (partitions content), partitions_least content is.bodies)
 
-levels_least : (most level at : ℕ) (entries : List Pair) → 0 < length entries → length entries ≤ most → 24 ≤ length (levels most level at entries)
-levels_least zero level at entries some enough = absurd (omega arith)
-levels_least (suc most) level at entries some enough = ⊎_elim
-    (λ one. omega (arith, some, ap length (one_level most level at entries one.1), level_length level entries))
-    (λ more. omega (
-      arith,
-      some,
-      ap length (more_levels most level at entries more.1),
-      level_length level entries,
-      length-append
-          (level_bytes level entries) (levels most (suc level) (at + size (length entries)) (above at entries)),
-    ))
-    (leb_tells (length entries) 255)
-
 count_is : (partitioner : Partitioner) (content : Content) → length (key_pairs partitioner content) ≡ length content
 count_is partitioner content = pairs_length partitioner (length header) content
 
+-- the root of the key tree stands within the tree
+tree_place : (partitioner : Partitioner) (content : Content) → IsContent partitioner content
+    → IsNodePlace (length (front content)) (length (front content) + length (tree_part partitioner content)) (tree_of partitioner content).root
+tree_place partitioner content is = root_place (length (front content)) (key_pairs partitioner content) (omega (arith, is.some, count_is partitioner content))
+
 tree_least : (partitioner : Partitioner) (content : Content) → IsContent partitioner content → 24 ≤ length (tree_part partitioner content)
-tree_least partitioner content is = levels_least (length (key_pairs partitioner content)) 0 (length (front content)) (key_pairs partitioner content)
-    (omega (arith, is.some, count_is partitioner content)) (omega arith)
+tree_least partitioner content is = let place = tree_place partitioner content is in omega (arith, place.behind, place.within)
 
 -- a data file has 97 bytes or more
 pub least_size : (partitioner : Partitioner) (types : List ColumnType) (bytes : Bytes) (content : Content) → IsDataFile partitioner types bytes content → 97 ≤ length bytes
@@ -173,9 +163,6 @@ end_within partitioner types bytes content is = omega (arith, whole_length parti
 pub pairs_are : (partitioner : Partitioner) (content : Content) → (tree_of partitioner content).pairs ≡ length content
 pairs_are partitioner content = count_is partitioner content
 
-root_is : (at n : ℕ) → 0 < n → top n at n ≤ at + 17 * n
-root_is at n some = omega (arith, top_is n at n some (omega arith), below_root_short n n (omega arith))
-
 times_fit : (deleted : ℕ) (entries : List Entry) → AllByRecursion (IsCell deleted) entries → max_timestamp_in (map (λ e. e.1) entries) ≤ 2 ^ 62
 times_fit deleted [] all = omega arith
 times_fit deleted (entry ∷ entries) all = omega (arith, all.0.time, times_fit deleted entries all.1)
@@ -187,30 +174,21 @@ greatest_fits : (content : Content) → AllByRecursion (λ one. HasBody one.0 on
 greatest_fits [] all = omega arith
 greatest_fits (one ∷ others) all = omega (arith, part_fits one.0 one.1 all.0, greatest_fits others all.1)
 
--- the numbers of a footer fit their fields, and lie in their ranges
-pub record AreInRange (size : ℕ) (tree : TreeRef) (max_timestamp end : ℕ) : Type 0 where
-  pub root : tree.root < 2 ^ 64
-  pub pairs : tree.pairs < 2 ^ 64
-  pub latest_fits : max_timestamp < 2 ^ 64
-  pub end_fits : end < 2 ^ 64
-  pub some : 0 < tree.pairs
-  pub behind : 33 ≤ end
-  pub within : end ≤ size - 40
-
 pub in_range : (partitioner : Partitioner) (types : List ColumnType) (bytes : Bytes) (content : Content) → IsDataFile partitioner types bytes content
     → length bytes ≤ 2 ^ 62 → AreInRange (length bytes) (tree_of partitioner content) (content_max_timestamp content) (length (front content))
 in_range partitioner types bytes content is short =
     let count = count_is partitioner content in
     let first = front_least partitioner content is.content_is in
     let end = end_within partitioner types bytes content is in
-    let n = length (key_pairs partitioner content) in
-    let root = root_is (length (front content)) n (omega (arith, is.content_is.some, count)) in
+    let place = tree_place partitioner content is.content_is in
+    let whole = whole_length partitioner types bytes content is in
     record {
-      root = omega (arith, root, count, first, end, short);
+      root = omega (arith, place.within, whole, short);
       pairs = omega (arith, count, first, end, short);
       latest_fits = omega (arith, greatest_fits content is.content_is.bodies);
       end_fits = omega (arith, end, short);
       some = omega (arith, count, is.content_is.some);
       behind = omega (arith, first, is.content_is.some);
       within = end;
+      place = record { behind = place.behind; within = omega (arith, place.within, whole) };
     }

@@ -13,10 +13,10 @@ use Rattle.sasi_datawrite.specs.Files.{IsDataFile}
 use Rattle.sasi_dataread.specs.Opened.{Opened, IsOpenedAs, StandsAt}
 use Rattle.sasi_host.specs.Disk.{Changes, Same}
 
--- the folder is unchanged, no count of faults falls, and at most so many reads were made
+-- the folder is unchanged, no call failed, and at most so many reads were made
 pub record ReadsWithin (most : ℕ) (old new : View) : Type 0 where
   pub changes : Changes Same old new
-  pub disk : old.disk_faults ≤ new.disk_faults
+  pub disk : new.disk_faults ≡ old.disk_faults
   pub out : new.out_faults ≡ old.out_faults
   pub reads : new.reads ≤ old.reads + most
 

@@ -1,8 +1,8 @@
 -- Scans of a data file.
-use Rattle.std.specs.Prelude.{◌≡◌, ℕ, ◌^◌, ◌<◌, [], ◌∷◌, drop, Option, None, Some}
+use Rattle.std.specs.Prelude.{◌≡◌, ℕ, [], ◌∷◌, drop, Option, None, Some}
 use Rattle.std.specs.List.{AllByRecursion}
 use Rattle.sasi_types.specs.declared.partitioner.Partitioner.{Partitioner}
-use Rattle.sasi_types.specs.Token.{token_of}
+use Rattle.sasi_types.specs.Token.{token_of, AreBytes}
 use Rattle.sasi_model.specs.Cells.{Partition}
 use Rattle.sasi_host.specs.declared.fault.ReadFault.{ReadFault}
 use Rattle.sasi_host.specs.Names.{Bytes}
@@ -21,9 +21,9 @@ pub record DataScan : Type 0 where
   pub pairs_buffered : Buffered
   pub buffered : Buffered
 
--- the token of each key fits its field
-abbrev pub TokensFit : Partitioner → Content → Type 0
-TokensFit partitioner content = AllByRecursion (λ one. token_of partitioner one.0 < 2 ^ 64) content
+-- the keys are bytes, as those of each file are; then the tokens of the key tree fit their fields
+abbrev pub KeysAreBytes : Content → Type 0
+KeysAreBytes content = AllByRecursion (λ one. AreBytes one.0) content
 
 -- the scan steps to the first of the partitions from an index on, with its token, and those behind it are left; to none where none is left
 abbrev pub StepsToPartition : Partitioner → Content → ℕ → ℕ → Option (ℕ × Bytes × Partition) → Type 0
@@ -32,9 +32,8 @@ StepsToPartition partitioner content before after (Some found) = (drop before co
 
 -- where the file is the data file of a content, this is the next of its partitions
 abbrev pub ReadsNextPartition : View → Opened → ℕ → ℕ → Option (ℕ × Bytes × Partition) → Type 0
-ReadsNextPartition v opened before after found = (partitioner : Partitioner) (content : Content) → IsOpenOn v opened partitioner content → TokensFit
-    partitioner content → StepsToPartition partitioner content before after found
+ReadsNextPartition v opened before after found = (partitioner : Partitioner) (content : Content) → IsOpenOn v opened partitioner content → KeysAreBytes content → StepsToPartition partitioner content before after found
 
 -- damage is reported only where the file isn't the data file that was opened
 abbrev pub NoFalseOpenedDamage : View → Opened → ReadFault → Type 0
-NoFalseOpenedDamage v opened = OnDamage (λ _. (partitioner : Partitioner) (content : Content) → IsOpenOn v opened partitioner content → TokensFit partitioner content → ⊥)
+NoFalseOpenedDamage v opened = OnDamage (λ _. (partitioner : Partitioner) (content : Content) → IsOpenOn v opened partitioner content → KeysAreBytes content → ⊥)

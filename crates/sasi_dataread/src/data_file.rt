@@ -16,8 +16,8 @@ ghost use Rattle.sasi_dataread.specs.Opened.{IsOpenedAs, StandsAt};
 ghost use Rattle.sasi_dataread.specs.Reads.{ReadsPartition, ReadsKey, IsOpenOn, NoFalseDataDamage, NoFalsePartitionDamage};
 ghost use Rattle.sasi_dataread.specs.Bodies.{partition_pages, partition_reads};
 ghost use Rattle.sasi_dataread.specs.Damages.{ShowsData, ShowsHeaderOrFooter, ShowsPartition};
-ghost use Rattle.sasi_dataread.specs.HeaderAndFooter.{HasHeaderAndFooter};
-ghost use Rattle.sasi_dataread.specs.Scans.{TokensFit, NoFalseOpenedDamage};
+ghost use Rattle.sasi_dataread.specs.HeaderAndFooter.{AreInRange, HasHeaderAndFooter};
+ghost use Rattle.sasi_dataread.specs.Scans.{KeysAreBytes, NoFalseOpenedDamage};
 ghost use Rattle.sasi_dataread.specs.Finds.{FindsKey, token_reads};
 
 use crate::Walk;
@@ -62,6 +62,7 @@ impl DataFile {
         requires read { CanRead (P.agrees pages.old) (H.view host.old) file }
         ensures ok { IfOk result (λ opened. (bytes : Bytes) (partitioner : Partitioner) (content : Content) → contents (H.view host.old) file ≡ Some bytes → IsDataFile partitioner types.now bytes content → IsOpenedAs opened partitioner content) }
         ensures header_and_footer { IfOk result (λ opened. (bytes : Bytes) → contents (H.view host.old) file ≡ Some bytes → HasHeaderAndFooter bytes opened.tree opened.max_timestamp opened.end) }
+        ensures in_range { IfOk result (λ opened. (bytes : Bytes) → contents (H.view host.old) file ≡ Some bytes → AreInRange (length bytes) opened.tree opened.max_timestamp opened.end) }
         ensures file { IfOk result (λ opened. opened.file ≡ file) }
         ensures types { IfOk result (λ opened. opened.types ≡ types.now) }
         ensures damaged { IfErr result (DamageShown (H.view host.old) file (ShowsHeaderOrFooter file)) }
@@ -113,6 +114,13 @@ impl DataFile {
         ensures { result ≡ self.now.max_timestamp }
     {
         self.max_timestamp
+    }
+
+    // Where the partitions end.
+    pub(crate) fn end(&self) -> u64
+        ensures { result ≡ self.now.end }
+    {
+        self.end
     }
 
     /// A scan of the key tree, from tokens to offsets of partitions, before its first pair.
@@ -215,7 +223,7 @@ impl DataFile {
         ensures causes { (most : ℕ) → self.now.tree.pairs ≤ most → ReadsAtMost (2 * height most self.now.tree.pairs + 2 + 2051 * self.now.tree.pairs) (H.view host.old) (H.view host.new) result }
         // It reads at most two pages a level and two more, and the pages of the partitions with the token and one for each,
         // where the file is a data file.
-        ensures reads { (most : ℕ) (partitioner : Partitioner) (content : Content) → self.now.tree.pairs ≤ most → IsOpenOn (H.view host.old) self.now partitioner content → TokensFit partitioner content
+        ensures reads { (most : ℕ) (partitioner : Partitioner) (content : Content) → self.now.tree.pairs ≤ most → IsOpenOn (H.view host.old) self.now partitioner content → KeysAreBytes content
             → (H.view host.new).reads ≤ (H.view host.old).reads + (2 * height most self.now.tree.pairs + 2 + token_reads partitioner token (length header) content) }
     {
         find_partition(alloc, host, pages, self, token, key)

@@ -1,11 +1,12 @@
 // Searches for a partition by its key.
-ghost use Rattle.std.specs.Prelude.{◌≡◌, ◌+◌, ◌*◌, ◌≤◌, ℕ, length, IfErr, IfOk};
+ghost use Rattle.std.specs.Prelude.{◌≡◌, ◌+◌, ◌-◌, ◌*◌, ◌≤◌, ℕ, length, IfErr, IfOk};
 ghost use Rattle.sasi_types.specs.declared.partitioner.Partitioner.{Partitioner};
 ghost use Rattle.sasi_model.specs.Cells.{Partition as Part};
 ghost use Rattle.sasi_host.specs.Names.{Bytes};
 ghost use Rattle.sasi_host.specs.View.{ReadsAtMost};
 ghost use Rattle.sasi_body.specs.Body.{body};
 ghost use Rattle.sasi_tokentree.specs.Heights.{height};
+ghost use Rattle.sasi_tokentree.specs.Scans.{HasPassed};
 ghost use Rattle.sasi_host.specs.Damages.{DamageShown};
 ghost use Rattle.sasi_host.specs.Buffered.{IsBuffered};
 ghost use Rattle.sasi_host.specs.PageReading.{CanRead, HasRead};
@@ -13,13 +14,15 @@ ghost use Rattle.sasi_datawrite.specs.Format.{Content, header};
 ghost use Rattle.sasi_dataread.specs.Opened.{StandsAt};
 ghost use Rattle.sasi_dataread.specs.Reads.{IsOpenOn, NoFalsePartitionDamage};
 ghost use Rattle.sasi_dataread.specs.Bodies.{partition_reads};
-ghost use Rattle.sasi_dataread.specs.Damages.{ShowsData, ShowsPartition};
-ghost use Rattle.sasi_dataread.specs.Scans.{TokensFit, NoFalseOpenedDamage};
+ghost use Rattle.sasi_dataread.specs.Damages.{ShowsData, ShowsPair};
+ghost use Rattle.sasi_dataread.specs.Scans.{KeysAreBytes, NoFalseOpenedDamage};
 ghost use Rattle.sasi_dataread.specs.Finds.{FindsKey, ReadsPartitionOfKey, LeadsTo, token_reads};
 
 use crate::DataFile;
+use crate::pair::partition_of_pair;
 use sasi_cells::Partition;
 use sasi_host::{BufferedFile, Host, PageReader, ReadFault};
+use sasi_tokentree::Tree;
 use sasi_types::{Key, Pair, Token};
 use std::alloc::Global;
 
@@ -34,12 +37,13 @@ fn offset_for(next: Option<Pair>, token: Token) -> Option<u64>
     Some(pair.place)
 }
 
-// Reads the partition at this offset, if it has this key.
+// Reads the partition at this offset, to which the tree's last pair leads, if it has this key.
 fn partition_with_key<H: Host, P: PageReader>(
     alloc: Global,
     host: &mut H,
     pages: &mut P,
     opened: &DataFile,
+    tree: &Tree,
     buffered: &mut BufferedFile,
     place: u64,
     key: &Key,
@@ -47,8 +51,10 @@ fn partition_with_key<H: Host, P: PageReader>(
     requires read { CanRead (P.agrees pages.old) (H.view host.old) opened.now.file }
     requires buffered { IsBuffered buffered.old (H.view host.old).files }
     requires named { buffered.old.file ≡ opened.now.file }
+    requires tree { tree.now.tree ≡ opened.now.tree }
+    requires passed { HasPassed tree.now.tree tree.now.passed }
     ensures ok { IfOk result (λ found. ReadsPartitionOfKey (H.view host.old) opened.now place key.now found) }
-    ensures damaged { IfErr result (DamageShown (H.view host.old) opened.now.file (ShowsPartition opened.now.types opened.now.end place opened.now.file)) }
+    ensures damaged { IfErr result (DamageShown (H.view host.old) opened.now.file (ShowsPair opened.now (tree.now.passed - 1) place)) }
     ensures undamaged { IfErr result (NoFalsePartitionDamage (H.view host.old) opened.now place) }
     ensures named { buffered.new.file ≡ opened.now.file }
     ensures buffered { IsBuffered buffered.new (H.view host.new).files }
@@ -56,7 +62,7 @@ fn partition_with_key<H: Host, P: PageReader>(
     ensures causes { ReadsAtMost 2050 (H.view host.old) (H.view host.new) result }
     ensures reads { (partitioner : Partitioner) (content : Content) (key : Bytes) (part : Part) → IsOpenOn (H.view host.old) opened.now partitioner content → StandsAt content place key part → (H.view host.new).reads ≤ (H.view host.old).reads + partition_reads buffered.old.page place (length (body key part)) }
 {
-    let (other, part) = opened.at_buffered(alloc, host, pages, buffered, place)?;
+    let (other, part) = partition_of_pair(alloc, host, pages, opened, tree, buffered, place)?;
     if *key != other {
         return Ok(None);
     }
@@ -78,7 +84,7 @@ pub fn find_partition<H: Host, P: PageReader>(
     ensures undamaged { IfErr result (NoFalseOpenedDamage (H.view host.old) opened.now) }
     ensures read { HasRead (P.agrees pages.new) (P.covers pages.old) (P.covers pages.new) (H.view host.old) (H.view host.new) opened.now.file }
     ensures causes { (most : ℕ) → opened.now.tree.pairs ≤ most → ReadsAtMost (2 * height most opened.now.tree.pairs + 2 + 2051 * opened.now.tree.pairs) (H.view host.old) (H.view host.new) result }
-    ensures reads { (most : ℕ) (partitioner : Partitioner) (content : Content) → opened.now.tree.pairs ≤ most → IsOpenOn (H.view host.old) opened.now partitioner content → TokensFit partitioner content
+    ensures reads { (most : ℕ) (partitioner : Partitioner) (content : Content) → opened.now.tree.pairs ≤ most → IsOpenOn (H.view host.old) opened.now partitioner content → KeysAreBytes content
         → (H.view host.new).reads ≤ (H.view host.old).reads + (2 * height most opened.now.tree.pairs + 2 + token_reads partitioner token (length header) content) }
 {
     let mut tree = opened.tree();
@@ -88,7 +94,16 @@ pub fn find_partition<H: Host, P: PageReader>(
         let Some(place) = offset_for(next, token) else {
             return Ok(None);
         };
-        let found = partition_with_key(alloc, host, pages, opened, &mut buffered, place, key)?;
+        let found = partition_with_key(
+            alloc,
+            host,
+            pages,
+            opened,
+            &tree,
+            &mut buffered,
+            place,
+            key,
+        )?;
         if found.is_some() {
             return Ok(found);
         }

@@ -7,16 +7,17 @@ ghost use Rattle.sasi_host.specs.Names.{Bytes};
 ghost use Rattle.sasi_host.specs.View.{ReadsAtMost, contents};
 ghost use Rattle.sasi_host.specs.Damages.{HasAt, DamageShown};
 ghost use Rattle.sasi_host.specs.PageReading.{CanRead, HasRead, CanReadOn, HasReadOn};
+ghost use Rattle.sasi_tokentree.specs.Damages.{IsNodePlace};
 ghost use Rattle.sasi_datawrite.specs.Format.{header, footer};
 ghost use Rattle.sasi_dataread.specs.Reads.{NoFalseDataDamage};
-ghost use Rattle.sasi_dataread.specs.Laws.{AreInRange};
 ghost use Rattle.sasi_dataread.specs.Damages.{ShowsHeaderOrFooter, end_mark};
-ghost use Rattle.sasi_dataread.specs.HeaderAndFooter.{HasHeaderAndFooter, NoFalseFooterDamage, NoFalseHeaderDamage};
+ghost use Rattle.sasi_dataread.specs.HeaderAndFooter.{AreInRange, HasHeaderAndFooter, NoFalseFooterDamage, NoFalseHeaderDamage};
 
 use sasi_fields::FieldReader;
 use sasi_host::{
     BufferedFile, Damage, FileName, FormatRule, Host, PageReader, ReadFault, check_part, found,
 };
+use sasi_tokentree::is_node_place;
 use sasi_types::TreeRef;
 
 // The bytes of a header.
@@ -123,6 +124,14 @@ fn is_wrong_end(end: u64, at: u64) -> bool
     end < MIN_PARTITIONS_END || end > at
 }
 
+// Whether no root of the key tree can stand at this offset, between the end of the partitions and the footer at `at`.
+fn is_wrong_root(root: u64, end: u64, at: u64) -> bool
+    ensures place { result ≡ false → IsNodePlace end at root }
+    ensures wrong { IsTrue result → (root < end) ⊎ (at < root + 24) }
+{
+    !is_node_place(end, at, root)
+}
+
 // Decodes the footer from these bytes, at this offset of the file.
 fn footer_in(file: FileName, at: u64, bytes: &[u8]) -> Result<Footer, Damage>
     requires whole { length bytes.now ≡ 40 }
@@ -137,11 +146,14 @@ fn footer_in(file: FileName, at: u64, bytes: &[u8]) -> Result<Footer, Damage>
     if is_wrong_end(end, at) {
         return Err(found(file, at + 24, FormatRule::Place, &bytes[24..32]));
     }
+    let root = number_in(&bytes[..8]);
+    if is_wrong_root(root, end, at) {
+        return Err(found(file, at, FormatRule::Place, &bytes[..8]));
+    }
     let pairs = number_in(&bytes[8..16]);
     if pairs == 0 {
         return Err(found(file, at + 8, FormatRule::Number, &bytes[8..16]));
     }
-    let root = number_in(&bytes[..8]);
     let max_timestamp = number_in(&bytes[16..24]);
     Ok(Footer {
         tree: TreeRef { root, pairs },

@@ -6,6 +6,7 @@ mod data_file;
 mod file_bytes;
 mod find;
 mod footer;
+mod pair;
 mod partition;
 mod types;
 mod walk;

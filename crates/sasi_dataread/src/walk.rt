@@ -10,9 +10,10 @@ ghost use Rattle.sasi_datawrite.specs.Format.{Content};
 ghost use Rattle.sasi_dataread.specs.Reads.{IsOpenOn};
 ghost use Rattle.sasi_dataread.specs.ReadCosts.{ReadsEachPageOnce, IsSequential, scan_of};
 ghost use Rattle.sasi_dataread.specs.Damages.{ShowsData};
-ghost use Rattle.sasi_dataread.specs.Scans.{ReadsNextPartition, TokensFit, NoFalseOpenedDamage};
+ghost use Rattle.sasi_dataread.specs.Scans.{ReadsNextPartition, KeysAreBytes, NoFalseOpenedDamage};
 
 use crate::DataFile;
+use crate::pair::partition_of_pair;
 use sasi_cells::Partition;
 use sasi_host::{BufferedFile, FileName, Host, PageReader, ReadFault};
 use sasi_tokentree::Tree;
@@ -73,7 +74,7 @@ impl Walk {
         ensures buffered { IsBuffered self.new.buffered (H.view host.new).files }
         ensures causes { ReadsAtMost 2052 (H.view host.old) (H.view host.new) result }
         // A sequential scan reads each page once.
-        ensures reads { IfOk result (λ _. (partitioner : Partitioner) (content : Content) (is : IsOpenOn (H.view host.old) self.old.opened partitioner content) → TokensFit partitioner content → IsSequential is.bytes content self.old → ReadsEachPageOnce is.bytes content (H.view host.old).reads (H.view host.new).reads self.old self.new) }
+        ensures reads { IfOk result (λ _. (partitioner : Partitioner) (content : Content) (is : IsOpenOn (H.view host.old) self.old.opened partitioner content) → KeysAreBytes content → IsSequential is.bytes content self.old → ReadsEachPageOnce is.bytes content (H.view host.old).reads (H.view host.new).reads self.old self.new) }
         ensures opened { self.new.opened ≡ self.old.opened }
     {
         next_partition(
@@ -109,7 +110,7 @@ fn next_partition<H: Host, P: PageReader>(
     ensures pairs_buffered { IsBuffered tree.new.buffered (H.view host.new).files }
     ensures buffered { IsBuffered buffered.new (H.view host.new).files }
     ensures causes { ReadsAtMost 2052 (H.view host.old) (H.view host.new) result }
-    ensures reads { IfOk result (λ _. (partitioner : Partitioner) (content : Content) (is : IsOpenOn (H.view host.old) opened.now partitioner content) → TokensFit partitioner content → IsSequential is.bytes content (scan_of opened.now tree.old buffered.old)
+    ensures reads { IfOk result (λ _. (partitioner : Partitioner) (content : Content) (is : IsOpenOn (H.view host.old) opened.now partitioner content) → KeysAreBytes content → IsSequential is.bytes content (scan_of opened.now tree.old buffered.old)
         → ReadsEachPageOnce is.bytes content (H.view host.old).reads (H.view host.new).reads (scan_of opened.now tree.old buffered.old) (scan_of opened.now tree.new buffered.new)) }
     ensures file { tree.new.buffered.file ≡ tree.old.buffered.file }
     ensures named { buffered.new.file ≡ buffered.old.file }
@@ -119,6 +120,6 @@ fn next_partition<H: Host, P: PageReader>(
         None => return Ok(None),
         Some(pair) => pair,
     };
-    let (key, part) = opened.at_buffered(alloc, host, pages, buffered, pair.place)?;
+    let (key, part) = partition_of_pair(alloc, host, pages, opened, tree, buffered, pair.place)?;
     Ok(Some((pair.token, key, part)))
 }

@@ -1,10 +1,8 @@
 -- Data files of a table, and their names.
-use Rattle.std.specs.Prelude.{◌≡◌, ℕ, List}
+use Rattle.std.specs.Prelude.{◌≡◌, List}
 use Rattle.std.specs.List.{AllByRecursion}
 use Rattle.sasi_types.specs.declared.column.ColumnType.{ColumnType}
 use Rattle.sasi_types.specs.declared.partitioner.Partitioner.{Partitioner}
-use Rattle.sasi_host.specs.declared.name.FileName.{FileName}
-use Rattle.sasi_host.specs.declared.name.Kind.TheVariants.{Data}
 use Rattle.sasi_host.specs.Names.{Bytes}
 use Rattle.sasi_body.specs.Body.{IsBodyOf}
 use Rattle.sasi_datawrite.specs.Format.{Content, IsContent, data_bytes}

@@ -1,1 +1,2 @@
 mod Dashes
+pub mod HostCalls

@@ -1,16 +1,18 @@
 // A folder of real files and the standard output as a host.
-ghost use Rattle.std.specs.Prelude.{◌≡◌, ◌+◌, ◌^◌, ◌≤◌, length, Ok, IsNone, IsErr, IfOk, OnOk, OnErr};
+ghost use Rattle.std.specs.Prelude.{◌≡◌, ◌+◌, ◌^◌, ◌≤◌, length, Ok, IsNone, IsErr, IfOk, OnOk, OnErr, is_err};
 ghost use Rattle.std.specs.List.Sorted.{IsStrictlySortedBy};
 ghost use Rattle.sasi_host.specs.Names.{name_cmp};
-ghost use Rattle.sasi_host.specs.View.{Rose, DiskCauses, ReadCauses, ListCauses, OutCauses};
-ghost use Rattle.sasi_filehost.specs.RealFiles.{told, HasFailed, StaysFailed};
+ghost use Rattle.sasi_host.specs.View.{IsCall, IsEmit, has_failed, DiskCauses, ReadCauses, ListCauses, OutCauses, Emits};
+ghost use Rattle.sasi_host.specs.Disk.{Changes, Same, FileChange, InPlace, Torn, MaybeCreated, MaybeDeleted};
+ghost use Rattle.sasi_filehost.specs.RealFiles.{told, IsUncalled, HasFailed, StaysFailed};
 
 use crate::folder::Folder;
+use crate::tally::Tally;
 use sasi_host::{Failed, FileName, Host, HostFault};
 use std::alloc::{AllocError, Global};
 use std::io;
 
-/// A folder of real files, and the standard output for the replies. It tells how often its calls failed and it was read,
+/// A folder of real files, and the standard output for the replies. It tells how often it was called and failed,
 /// and nothing of what it holds.
 #[derive(Drop)]
 pub struct FileHost {
@@ -18,41 +20,28 @@ pub struct FileHost {
     // None where it couldn't be opened or a sync failed: the system may then have dropped bytes, and a later sync wouldn't
     // say so.
     folder: Option<Folder>,
-    disk_faults: u64,
-    out_faults: u64,
-    reads: u64,
+    tally: Tally,
 }
 
 impl FileHost {
     /// The host of the folder at this path, which is made if it is missing. If it can't be opened, or the folder that it is
     /// in can't be synced, each call fails. No later call but `list` takes memory.
     pub fn at(rt: HostRuntime, path: &str) -> Result<FileHost, AllocError>
-        ensures { IfOk result (λ host. ((told host).disk_faults ≡ 0) × ((told host).out_faults ≡ 0) × ((told host).reads ≡ 0)) }
+        ensures { IfOk result IsUncalled }
     {
         Ok(FileHost {
             rt,
             folder: Folder::at(rt, path)?,
-            disk_faults: 0,
-            out_faults: 0,
-            reads: 0,
+            tally: Tally::new(),
         })
     }
 }
 
-// The result of a call; its I/O error is counted, up to the last value of the count.
-fn counted<T, E: Drop>(faults: &mut u64, answer: Result<T, E>) -> Result<T, Failed>
-    ensures same { IfOk result (λ value. answer ≡ Ok value) }
-    ensures failed { OnErr result (IsErr answer) }
-    ensures later { faults.old ≤ faults.new }
-    ensures rose { OnErr result (Rose faults.old faults.new) }
+// Whether the call itself failed, and didn't only lack memory.
+fn is_failed<T>(answer: &Result<T, HostFault>) -> bool
+    ensures { result ≡ has_failed answer.now }
 {
-    match answer {
-        Ok(value) => Ok(value),
-        Err(_) => {
-            *faults = faults.saturating_add(1);
-            Err(Failed)
-        }
-    }
+    matches!(answer, Err(HostFault::Failed))
 }
 
 // The error of a folder that can't be used.
@@ -75,13 +64,16 @@ fn after_sync(folder: &mut Option<Folder>, answer: io::Result<()>) -> io::Result
 impl Host for FileHost {
     ghost use Rattle.std.specs.Prelude.{None};
     ghost use Rattle.sasi_host.specs.Opaque.{opaque_sound};
+    ghost use Rattle.sasi_filehost.specs.HostCounts.{counts_of};
 
     ghost view = { told };
 
-    ghost sound = { λ h. opaque_sound None h.disk_faults h.out_faults h.reads };
+    ghost sound = { λ h. opaque_sound None (counts_of h.tally) };
 
     fn list(&mut self, alloc: Global) -> Result<Vec<FileName>, HostFault>
         ensures sorted { IfOk result (λ names. IsStrictlySortedBy name_cmp names.items) }
+        ensures changes { Changes Same (told self.old) (told self.new) }
+        ensures call { IsCall (told self.old) (told self.new) (has_failed result) }
         ensures causes { ListCauses (told self.old) (told self.new) result }
         ensures unusable { StaysFailed self.old self.new result }
     {
@@ -89,16 +81,13 @@ impl Host for FileHost {
             Some(folder) => folder.list(alloc),
             None => Err(HostFault::Failed),
         };
-        match answer {
-            Err(HostFault::Failed) => {
-                self.disk_faults = self.disk_faults.saturating_add(1);
-                Err(HostFault::Failed)
-            }
-            answer => answer,
-        }
+        self.tally.count_call(is_failed(&answer));
+        answer
     }
 
     fn size(&mut self, file: FileName) -> Result<u64, Failed>
+        ensures changes { Changes Same (told self.old) (told self.new) }
+        ensures call { IsCall (told self.old) (told self.new) (is_err result) }
         ensures causes { DiskCauses (told self.old) (told self.new) result }
         ensures unusable { StaysFailed self.old self.new result }
     {
@@ -106,23 +95,27 @@ impl Host for FileHost {
             Some(folder) => folder.size(file),
             None => Err(unusable()),
         };
-        counted(&mut self.disk_faults, answer)
+        self.tally.call(answer)
     }
 
     fn read(&mut self, file: FileName, at: u64, buf: &mut [u8]) -> Result<usize, Failed>
         ensures within { IfOk result (λ n. n ≤ length buf.old) }
+        ensures changes { Changes Same (told self.old) (told self.new) }
+        ensures call { IsCall (told self.old) (told self.new) (is_err result) }
         ensures causes { ReadCauses (told self.old) (told self.new) result }
         ensures unusable { StaysFailed self.old self.new result }
     {
-        self.reads = self.reads.saturating_add(1);
+        self.tally.reads = self.tally.reads.saturating_add(1);
         let answer = match &mut self.folder {
             Some(folder) => folder.read(file, at, buf),
             None => Err(unusable()),
         };
-        counted(&mut self.disk_faults, answer)
+        self.tally.call(answer)
     }
 
     fn create(&mut self, file: FileName) -> Result<(), Failed>
+        ensures changes { Changes (FileChange file MaybeCreated) (told self.old) (told self.new) }
+        ensures call { IsCall (told self.old) (told self.new) (is_err result) }
         ensures causes { DiskCauses (told self.old) (told self.new) result }
         ensures unusable { StaysFailed self.old self.new result }
     {
@@ -130,11 +123,13 @@ impl Host for FileHost {
             Some(folder) => folder.create(file),
             None => Err(unusable()),
         };
-        counted(&mut self.disk_faults, answer)
+        self.tally.call(answer)
     }
 
     fn write(&mut self, file: FileName, at: u64, bytes: &[u8]) -> Result<(), Failed>
         ensures fits { OnOk result (at + length bytes.now ≤ 2 ^ 62) }
+        ensures changes { Changes (FileChange file (InPlace (Torn at (length bytes.now)))) (told self.old) (told self.new) }
+        ensures call { IsCall (told self.old) (told self.new) (is_err result) }
         ensures causes { DiskCauses (told self.old) (told self.new) result }
         ensures unusable { StaysFailed self.old self.new result }
     {
@@ -142,10 +137,12 @@ impl Host for FileHost {
             Some(folder) => folder.write(file, at, bytes),
             None => Err(unusable()),
         };
-        counted(&mut self.disk_faults, answer)
+        self.tally.call(answer)
     }
 
     fn sync(&mut self, file: FileName) -> Result<(), Failed>
+        ensures changes { Changes Same (told self.old) (told self.new) }
+        ensures call { IsCall (told self.old) (told self.new) (is_err result) }
         ensures causes { DiskCauses (told self.old) (told self.new) result }
         ensures unusable { StaysFailed self.old self.new result }
         ensures failed { OnErr result (HasFailed self.new) }
@@ -155,10 +152,12 @@ impl Host for FileHost {
             None => Err(unusable()),
         };
         let answer = after_sync(&mut self.folder, answer);
-        counted(&mut self.disk_faults, answer)
+        self.tally.call(answer)
     }
 
     fn delete(&mut self, file: FileName) -> Result<(), Failed>
+        ensures changes { Changes (FileChange file MaybeDeleted) (told self.old) (told self.new) }
+        ensures call { IsCall (told self.old) (told self.new) (is_err result) }
         ensures causes { DiskCauses (told self.old) (told self.new) result }
         ensures unusable { StaysFailed self.old self.new result }
     {
@@ -166,10 +165,12 @@ impl Host for FileHost {
             Some(folder) => folder.delete(file),
             None => Err(unusable()),
         };
-        counted(&mut self.disk_faults, answer)
+        self.tally.call(answer)
     }
 
     fn sync_folder(&mut self) -> Result<(), Failed>
+        ensures changes { Changes Same (told self.old) (told self.new) }
+        ensures call { IsCall (told self.old) (told self.new) (is_err result) }
         ensures causes { DiskCauses (told self.old) (told self.new) result }
         ensures unusable { StaysFailed self.old self.new result }
         ensures failed { OnErr result (HasFailed self.new) }
@@ -179,10 +180,12 @@ impl Host for FileHost {
             None => Err(unusable()),
         };
         let answer = after_sync(&mut self.folder, answer);
-        counted(&mut self.disk_faults, answer)
+        self.tally.call(answer)
     }
 
     fn emit(&mut self, bytes: &[u8]) -> Result<(), Failed>
+        ensures emits { Emits bytes.now (told self.old) (told self.new) }
+        ensures call { IsEmit (told self.old) (told self.new) (is_err result) }
         ensures causes { OutCauses (told self.old) (told self.new) result }
         ensures unusable { StaysFailed self.old self.new result }
     {
@@ -190,6 +193,6 @@ impl Host for FileHost {
             Some(_) => self.rt.write_all(bytes),
             None => Err(unusable()),
         };
-        counted(&mut self.out_faults, answer)
+        self.tally.emit(answer)
     }
 }

@@ -13,17 +13,21 @@ use std::io::{self, Read};
 #[derive(Drop)]
 pub struct FileSource {
     file: Option<fs::File>,
+    reads: u64,
     faults: u64,
+    failed_last: bool,
 }
 
 impl FileSource {
     /// The script at this path. If it can't be opened, each read fails.
     pub fn at(rt: HostRuntime, path: &str) -> Result<FileSource, AllocError>
-        ensures { IfOk result (λ source. (source_told source).faults ≡ 0) }
+        ensures { IfOk result (λ source. ((source_told source).reads ≡ 0) × ((source_told source).faults ≡ 0)) }
     {
         Ok(FileSource {
             file: fs::open(&rt, path).ok(),
+            reads: 0,
             faults: 0,
+            failed_last: false,
         })
     }
 }
@@ -36,11 +40,14 @@ impl Source for FileSource {
         ensures causes { SourceCauses (source_told self.old) (source_told self.new) result }
         ensures unopened { IsUnopened self.old → IsErr result × IsUnopened self.new }
     {
+        self.reads = self.reads.saturating_add(1);
+        self.failed_last = false;
         if let Some(file) = &mut self.file {
             if let Ok(count) = read_again(file, buf) {
                 return Ok(count);
             }
         }
+        self.failed_last = true;
         self.faults = self.faults.saturating_add(1);
         Err(Failed)
     }

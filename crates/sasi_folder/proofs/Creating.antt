@@ -6,8 +6,9 @@ use Rattle.std.proofs.lemmas.List.{length-map}
 use Rattle.std.specs.List.{AllByRecursion, list_any}
 use Rattle.sasi_types.specs.declared.statement.Statement.TheVariants.{CreateTable}
 use Rattle.sasi_model.specs.Statements.{same}
-use Rattle.sasi_model.specs.State.{Column, Definition, State, definition_of, definitions, one_more, position_in}
-use Rattle.sasi_model.specs.Refusals.{Rule, create_rules, first_of, names_in, refusal, repeat_rules, NoColumn}
+use Rattle.sasi_model.specs.State.{Column, Definition, State, definition_of, position_in}
+use Rattle.sasi_model.specs.Abbreviations.{definitions, one_more, NoColumn, first_of}
+use Rattle.sasi_model.specs.Refusals.{Rule, create_rules, names_in, refusal, repeat_rules}
 use Rattle.sasi_model.specs.Step.{key_position}
 use Rattle.sasi_model.specs.WellFormed.{IsWellFormed, IsWellFormedColumn}
 use Rattle.sasi_manifest.specs.declared.listing.Listing.{Listing}
@@ -15,7 +16,8 @@ use Rattle.sasi_manifest.specs.Consistent.{IsConsistent}
 use Rattle.sasi_manifest.specs.ListedDefinition.{ListedDefinition}
 use Rattle.sasi_manifest.specs.declared.edit.Edit.TheVariants as edits
 use Rattle.sasi_manifest.specs.Edits.{Applies}
-use Rattle.sasi_manifest.specs.Listings.{listed_definitions, listed_names}
+use Rattle.sasi_manifest.specs.Listings.{listed_definitions}
+use Rattle.sasi_manifest.specs.Abbreviations.{listed_names}
 use Rattle.sasi_manifest.proofs.Applying.{create_applies}
 use Rattle.sasi_manifest.specs.Naming.{AreApart, AreNames}
 

@@ -15,6 +15,7 @@ use Rattle.sasi_model.specs.Stored.{types_of}
 use Rattle.sasi_gated.specs.Format.{IsGated}
 use Rattle.sasi_cells.specs.declared.mutation.Mutation.{Mutation}
 use Rattle.sasi_commitlog.specs.Format.{IsMutationOf, Tables, payload_of, types_in}
+use Rattle.sasi_commitlog.proofs.Payloads.{listed_mutation, opened_mutation}
 use Rattle.sasi_commitlog.specs.LogPosition.{IsLogBeforeOrAfter}
 use Rattle.sasi_manifest.specs.declared.listing.Listing.{Listing}
 use Rattle.sasi_manifest.specs.Consistent.{IsConsistent}
@@ -22,7 +23,8 @@ use Rattle.sasi_manifest.specs.Format.{IsManifest}
 use Rattle.sasi_manifest.specs.ListedDefinition.{ListedDefinition}
 use Rattle.sasi_manifest.specs.Types.{numbered_types}
 use Rattle.sasi_manifest.specs.OpenManifest.{IsEither}
-use Rattle.sasi_folder.specs.Replay.{listed_state, reaches, replayed_state, is_replayed}
+use Rattle.sasi_folder.specs.Replay.{listed_state, replayed_state, is_replayed}
+use Rattle.sasi_folder.proofs.Reached.{reaches}
 use Rattle.sasi_folder.proofs.ReplayLaws.{AreOfFirst, last_more, segments_new}
 use Rattle.sasi_folder.specs.Stands.{HasSegment, HasSegments, Holds, types_listed}
 use Rattle.sasi_folder.proofs.FolderLaws.{kinds_apart, numbers_apart, sealed_kept, segments_kept}
@@ -127,9 +129,10 @@ inside_of [] index t got = cc
 inside_of (x ∷ tables) zero t got = omega arith
 inside_of (x ∷ tables) (suc index) t got = omega (arith, inside_of tables index t got)
 
-pub mutation_listed : (listing : Listing) (m : Mutation) → (fits : IsMutationOf (types_listed listing) m) → IsListedAt listing.tables m.table fits.types
+pub mutation_listed : (listing : Listing) (m : Mutation) → (fits : IsMutationOf (types_listed listing) m) → IsListedAt listing.tables m.table (opened_mutation (types_listed listing) m fits).types
 mutation_listed listing m fits =
-    let found = listed_from 1 listing.tables m.table fits.types fits.listed in
+    let opened = opened_mutation (types_listed listing) m fits in
+    let found = listed_from 1 listing.tables m.table opened.types opened.listed in
     let index : m.table - 1 ≡ found.0 = omega (arith, found.1) in
     record {
       some = omega (arith, found.1);
@@ -161,7 +164,7 @@ unfolding replayed_state
 mutation_made listing older ms m known fits live =
     let last : listing.floor + length older ≡ listing.last = omega (arith, live, length-append older (ms ∷ [])) in
     let s = replayed_state listing (older ++ ms ∷ []) in
-    let taken = is_replayed_last listing m.table fits.types known (mutation_listed listing m fits) in
+    let taken = is_replayed_last listing m.table (opened_mutation (types_listed listing) m fits).types known (mutation_listed listing m fits) in
     last_more listing.tables listing.floor listing.last (listed_state listing) older ms m last
     ∙ ap (λ b. cond b (after_change s m.table (decorated s.partitioner m.key) m.change) s) taken
 
@@ -189,7 +192,9 @@ types_kept ((n, ts) ∷ tables) more number types is =
     ] is
 
 mutation_kept : (tables more : Tables) (m : Mutation) → IsMutationOf tables m → IsMutationOf (tables ++ more) m
-mutation_kept tables more m is = record { types = is.types; number = is.number; listed = types_kept tables more m.table is.types is.listed; body_is = is.body_is }
+mutation_kept tables more m is =
+    let opened = opened_mutation tables m is in
+    listed_mutation (tables ++ more) m (record { types = opened.types; number = opened.number; listed = types_kept tables more m.table opened.types opened.listed; body_is = opened.body_is })
 
 segments_of_more : (x : Folder) (tables more : Tables) (number : ℕ) (logs : List (List Mutation)) → HasSegments x tables number logs → HasSegments x (tables ++ more) number logs
 segments_of_more x tables more number [] has = tt

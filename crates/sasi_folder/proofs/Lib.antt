@@ -1,3 +1,4 @@
+pub mod Reached
 pub mod ReplayLaws
 pub mod FolderLaws
 pub mod FolderChanges

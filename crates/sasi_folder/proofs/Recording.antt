@@ -5,18 +5,21 @@ use Rattle.std.proofs.lemmas.Bool.Decides.{nat_tests}
 use Rattle.std.proofs.lemmas.List.{map-append}
 use Rattle.sasi_types.specs.declared.decorated_key.DecoratedKey.{DecoratedKey}
 use Rattle.sasi_model.specs.Cells.{Partition}
-use Rattle.sasi_model.specs.State.{Column, Definition, State, Table, definitions}
+use Rattle.sasi_model.specs.State.{Column, Definition, State, Table}
+use Rattle.sasi_model.specs.Abbreviations.{definitions}
 use Rattle.sasi_model.specs.Changes.{after_change, changed_behind, changed_tables, with_new_table}
 use Rattle.sasi_model.specs.Stored.{IsBodyOf, types_of}
 use Rattle.sasi_gated.specs.Handles.{Handle}
 use Rattle.sasi_cells.specs.declared.mutation.Mutation.{Mutation}
 use Rattle.sasi_commitlog.specs.Format.{IsMutationOf, types_in}
+use Rattle.sasi_commitlog.proofs.Payloads.{listed_mutation}
 use Rattle.sasi_manifest.specs.declared.edit.Edit.TheVariants.{CreateTable}
 use Rattle.sasi_manifest.specs.declared.listing.Listing.{Listing}
 use Rattle.sasi_manifest.specs.Edits.{Applies, encoded}
 use Rattle.sasi_manifest.specs.Format.{IsNext}
 use Rattle.sasi_manifest.specs.ListedDefinition.{ListedDefinition}
-use Rattle.sasi_manifest.specs.Listings.{created_table, listed_definitions}
+use Rattle.sasi_manifest.specs.Listings.{listed_definitions}
+use Rattle.sasi_manifest.specs.Abbreviations.{created_table}
 use Rattle.sasi_manifest.specs.OpenManifest.{ManifestState}
 use Rattle.sasi_manifest.specs.Types.{numbered_types}
 use Rattle.sasi_manifest.proofs.EditBytes.{create_short as short}
@@ -52,12 +55,12 @@ mutation_fits listing s m t same some small there body =
     let found = same_definition s.tables listing.tables (m.table - 1) t same there in
     let number : 1 + (m.table - 1) ≡ m.table = omega (arith, some) in
     let types = subst (λ n. types_in (types_listed listing) n ≡ Some (types_of found.0.definition)) number (types_at 1 (m.table - 1) listing.tables found.0 found.1) in
-    record {
+    listed_mutation (types_listed listing) m (record {
       types = types_of t.definition;
       number = small;
       listed = types ∙ ap (λ (d : Definition). Some (types_of d)) found.2;
       body_is = body;
-    }
+    })
 
 -- ---- tables
 

@@ -8,7 +8,8 @@ use Rattle.sasi_model.specs.State.{Definition, State, Table, decorated}
 use Rattle.sasi_model.specs.Changes.{after_change, changed_behind, changed_tables, empty_table, with_new_table}
 use Rattle.sasi_cells.specs.declared.mutation.Mutation.{Mutation}
 use Rattle.sasi_manifest.specs.ListedDefinition.{ListedDefinition}
-use Rattle.sasi_folder.specs.Replay.{after_mutation, after_segment, after_segments, reaches, is_replayed}
+use Rattle.sasi_folder.specs.Replay.{after_mutation, after_segment, after_segments, is_replayed}
+use Rattle.sasi_folder.proofs.Reached.{reaches}
 
 -- ---- one more mutation
 

@@ -3,7 +3,8 @@ use Rattle.std.specs.Prelude.{◌≡◌, ◌⊎◌, ◌+◌, List, [], ◌∷◌
 use Rattle.sasi_host.specs.Names.{Folder, log_name}
 use Rattle.sasi_host.specs.View.{View}
 use Rattle.sasi_host.specs.ChangeLaws.{Each}
-use Rattle.sasi_model.specs.State.{State, definitions}
+use Rattle.sasi_model.specs.State.{State}
+use Rattle.sasi_model.specs.Abbreviations.{definitions}
 use Rattle.sasi_gated.specs.Handles.{Handle}
 use Rattle.sasi_cells.specs.declared.mutation.Mutation.{Mutation}
 use Rattle.sasi_commitlog.specs.LogPosition.{IsAtLogEnd}

@@ -5,7 +5,7 @@ use Rattle.std.specs.FinMap.{get}
 use Rattle.sasi_types.specs.declared.partitioner.Partitioner.{Partitioner}
 use Rattle.sasi_host.specs.declared.name.FileName.{FileName}
 use Rattle.sasi_host.specs.Names.{Bytes, Folder, log_name, manifest_name, seal_name}
-use Rattle.sasi_model.specs.State.{State, empty_state}
+use Rattle.sasi_model.specs.State.{State}
 use Rattle.sasi_cells.specs.declared.mutation.Mutation.{Mutation}
 use Rattle.sasi_commitlog.specs.Format.{IsLog, Tables}
 use Rattle.sasi_manifest.specs.declared.listing.Listing.{Listing}
@@ -20,10 +20,6 @@ abbrev pub IsFresh : Folder → Type 0
 IsFresh folder = (name : FileName) → name ≢ manifest_name 1 → name ≢ log_name 1 → get folder name ≡ None
 
 -- ---- a sealed folder
-
--- the types of the tables' columns, by the numbers of the tables
-abbrev pub types_listed : Listing → Tables
-types_listed listing = numbered_types 1 listing.tables
 
 -- the folder has the segment with this number, and it has these mutations
 abbrev pub HasSegment : Folder → Tables → ℕ → List Mutation → Type 0
@@ -44,7 +40,7 @@ pub record Holds (folder : Folder) (number : ℕ) (listing : Listing) (logs : Li
   pub sealed : IsSealed folder number
   pub manifest : (bytes : Bytes) × (get folder (manifest_name number) ≡ Some bytes) × IsManifest number bytes listing
   pub live : listing.floor + length logs ≡ suc listing.last
-  pub segments : HasSegments folder (types_listed listing) listing.floor logs
+  pub segments : HasSegments folder (numbered_types 1 listing.tables) listing.floor logs
 
 -- ---- both
 
@@ -58,4 +54,10 @@ pub record StandsSealed (folder : Folder) (s : State) : Type 0 where
 
 -- The folder stands for the state. A new one stands for the state without tables, under the partitioner that it will have.
 abbrev pub Stands : Partitioner → Folder → State → Type 0
-Stands partitioner folder s = (IsFresh folder × (s ≡ empty_state partitioner)) ⊎ StandsSealed folder s
+Stands partitioner folder s = (IsFresh folder × (s ≡ record { partitioner = partitioner; tables = [] })) ⊎ StandsSealed folder s
+
+-- ---- short names, which contracts and proofs cite
+
+-- the types of the tables' columns, by the numbers of the tables
+abbrev pub types_listed : Listing → Tables
+types_listed listing = numbered_types 1 listing.tables

@@ -1,6 +1,7 @@
 pub mod Explained
 pub mod Completed
 pub mod Encoding
+pub mod EncodingsAgree
 pub mod Agreement
 pub mod Offsets
 pub mod NumberLaws

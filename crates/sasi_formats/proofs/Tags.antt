@@ -5,7 +5,8 @@ use Rattle.sasi_host.specs.declared.damage.FormatRule.TheVariants as rule
 use Rattle.sasi_fields.specs.Reading.{Reading}
 use Rattle.sasi_formats.specs.Formats.{Format}
 use Rattle.sasi_formats.specs.Reader.{Outcome, Got, Failed, Corruption, ◌>>=◌, outcome_as, tried, read}
-use Rattle.sasi_formats.specs.Codings.{when, own_tag}
+use Rattle.std.specs.Bool.{then_some}
+use Rattle.sasi_formats.specs.Codings.{own_tag}
 use Rattle.sasi_formats.specs.Fields.{tagged}
 use Rattle.sasi_formats.specs.declared.fault.FormatFault.{FormatFault}
 use Rattle.sasi_formats.specs.declared.fault.FormatFault.TheVariants.{OutOfMemory, Short, Long, Broken}
@@ -18,7 +19,7 @@ module _ {B : Type 0} (tag : Format ℕ) (tag_of : B → ℕ) (next : ℕ → Fo
   own_is : (b : B) → tag_of b ≡ n → own_tag tag_of (n, b) ≡ Some b
   own_is b is =
       let same : nat_eq n n ≡ true = search rules in
-      ap (λ (m : ℕ). when (nat_eq n m) b) is ∙ ap (λ (x : Bool). when x b) same
+      ap (λ (m : ℕ). then_some (nat_eq n m) b) is ∙ ap (λ (x : Bool). then_some x b) same
 
   failed_behind : (f : Corruption) → read (next n) t ≡ Failed f → read (tagged tag tag_of next) s ≡ Failed f
   failed_behind f is = behind_tag ∙ ap (λ (r : Outcome B). outcome_as (λ b. (n, b)) r >>= λ a behind. tried (own_tag tag_of a) rule.Number (length s.done) (take 1 s.left) behind) is

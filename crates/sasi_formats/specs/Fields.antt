@@ -1,10 +1,11 @@
 -- The fields of which formats are made.
-use Rattle.std.specs.Prelude.{◌≡◌, ℕ, ◌-◌, Bool, true, false, ◌&&◌, nat_le, List, length, Option, slice_get, refl}
+use Rattle.std.specs.Prelude.{◌≡◌, ℕ, ◌-◌, Bool, true, false, ◌&&◌, nat_le, List, [], ◌∷◌, length, Option, slice_get, refl}
+use Rattle.std.specs.Int.{Width, w8, byte_len, from_bool}
 use Rattle.sasi_host.specs.Names.{Bytes}
 use Rattle.sasi_host.specs.declared.damage.FormatRule.{FormatRule}
 use Rattle.sasi_host.specs.declared.damage.FormatRule.TheVariants as rule
 use Rattle.sasi_formats.specs.Formats.{Format, Empty, Sized, Then, Decoded, Choice}
-use Rattle.sasi_formats.specs.Codings.{Width, One, size_of, passing, renamed, number_of, flag_of, only, option_of, option_back, option_law, tagging}
+use Rattle.sasi_formats.specs.Codings.{passing, renamed, number_of, one_of, only, option_of, option_back, option_law, tagging}
 
 -- one format after another
 infixr 30 ◌&◌
@@ -25,15 +26,15 @@ mapped f g law format = Decoded rule.Number 0 (renamed f g law) format
 
 -- a number of this width, big-endian
 abbrev pub number : Width → Format ℕ
-number width = Sized (Empty (size_of width)) rule.Number (number_of width)
+number width = Sized (Empty (byte_len width)) rule.Number (number_of width)
 
 -- one from the least to the most
 abbrev pub in_range : Width → ℕ → ℕ → Format ℕ
-in_range width least most = checked rule.Number (size_of width) (λ n. nat_le least n && nat_le n most) (number width)
+in_range width least most = checked rule.Number (byte_len width) (λ n. nat_le least n && nat_le n most) (number width)
 
 -- a byte, 0 or 1
 abbrev pub flag : Format Bool
-flag = Decoded rule.Number 1 flag_of (number One)
+flag = Decoded rule.Number 1 (one_of from_bool (false ∷ true ∷ [])) (number w8)
 
 -- these bytes
 abbrev pub fixed : FormatRule → Bytes → Format (Unit {0})

@@ -1,4 +1,5 @@
 pub mod Formats
+pub mod Encodings
 pub mod Reader
 pub mod Failures
 pub mod Codings

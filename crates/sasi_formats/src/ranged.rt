@@ -1,7 +1,7 @@
 // Reads numbers of a range.
 ghost use Rattle.std.specs.Prelude.{◌≡◌};
+ghost use Rattle.std.specs.Int.{w8, w16, w32, w64};
 ghost use Rattle.sasi_formats.specs.Reader.{read};
-ghost use Rattle.sasi_formats.specs.Codings.{One, Two, Four, Eight};
 ghost use Rattle.sasi_formats.specs.Fields.{in_range};
 ghost use Rattle.sasi_formats.specs.Gives.{Gives};
 
@@ -13,7 +13,7 @@ use sasi_host::FormatRule;
 
 /// Reads a number of one byte, from the least to the most.
 pub fn read_u8_in_range(reader: &mut FieldReader, least: u8, most: u8) -> Result<u8, FormatFault>
-    ensures { Gives (read (in_range One least most) reader.old) result reader.new }
+    ensures { Gives (read (in_range w8 least most) reader.old) result reader.new }
 {
     let start = FieldStart::of(reader);
     let number = read_u8(reader)?;
@@ -29,7 +29,7 @@ pub fn read_u16_in_range(
     least: u16,
     most: u16,
 ) -> Result<u16, FormatFault>
-    ensures { Gives (read (in_range Two least most) reader.old) result reader.new }
+    ensures { Gives (read (in_range w16 least most) reader.old) result reader.new }
 {
     let start = FieldStart::of(reader);
     let number = read_u16(reader)?;
@@ -45,7 +45,7 @@ pub fn read_u32_in_range(
     least: u32,
     most: u32,
 ) -> Result<u32, FormatFault>
-    ensures { Gives (read (in_range Four least most) reader.old) result reader.new }
+    ensures { Gives (read (in_range w32 least most) reader.old) result reader.new }
 {
     let start = FieldStart::of(reader);
     let number = read_u32(reader)?;
@@ -61,7 +61,7 @@ pub fn read_u64_in_range(
     least: u64,
     most: u64,
 ) -> Result<u64, FormatFault>
-    ensures { Gives (read (in_range Eight least most) reader.old) result reader.new }
+    ensures { Gives (read (in_range w64 least most) reader.old) result reader.new }
 {
     let start = FieldStart::of(reader);
     let number = read_u64(reader)?;

@@ -10,4 +10,5 @@ pub mod Windows
 pub mod Opens
 pub mod Pieces
 pub mod AtGates
+pub mod Costs
 pub mod Nexts

@@ -3,6 +3,7 @@ use Rattle.std.specs.Prelude.{Bool, true, false, [], ◌≡◌, ℕ, List, ◌�
 use Rattle.sasi_host.specs.declared.name.FileName.{FileName}
 use Rattle.sasi_host.specs.Names.{Bytes}
 use Rattle.sasi_host.specs.View.{View}
+use Rattle.sasi_host.specs.Buffered.{Buffered}
 use Rattle.sasi_host.specs.Disk.{IsFileDurable}
 use Rattle.sasi_gated.specs.Format.{Closes, FromGate}
 use Rattle.sasi_gated.specs.Gates.{IsAtGate}
@@ -14,6 +15,8 @@ pub record Handle : Type 0 where
   pub at : ℕ
   -- no call on it has failed
   pub usable : Bool
+  -- the page that is buffered
+  pub buffered : Buffered
 
 -- The file is durable. These records stand before the gate at this offset, and these from it on.
 pub record IsReading (v : View) (file : FileName) (at : ℕ) (done left : List Bytes) : Type 0 where

@@ -1,6 +1,6 @@
 // The four host calls of an append.
 ghost use Rattle.std.specs.Prelude.{◌≡◌, ◌+◌, ◌≤◌, ◌^◌, ◌∷◌, ◌++◌, [], ℕ, List, length, OnOk, IfOk};
-ghost use Rattle.sasi_host.specs.View.{DiskCauses, Reaches};
+ghost use Rattle.sasi_host.specs.View.{DiskCauses, MakesCalls, Reaches};
 ghost use Rattle.sasi_host.specs.Disk.{AnyChange, Becomes, Changes, InPlace, IsFileDurable, LeftWith, FileChange, Torn, overlay};
 ghost use Rattle.sasi_gated.specs.Format.{IsBeforeOrAfter};
 ghost use Rattle.sasi_gated.specs.Handles.{IsAtEnd};
@@ -25,6 +25,7 @@ pub fn append_at<H: Host>(
     ensures offset { IfOk result (λ next. next ≡ at + (5 + length item.now)) }
     ensures fits { IfOk result (λ next. next ≤ 2 ^ 62) }
     ensures room { IfOk result (λ next. Reaches (H.view host.new) file (next + 1)) }
+    ensures calls { MakesCalls 4 (H.view host.old) (H.view host.new) result }
     ensures causes { DiskCauses (H.view host.old) (H.view host.new) result }
 {
     let bytes = item.bytes();
@@ -41,6 +42,7 @@ fn write_record<H: Host>(host: &mut H, file: FileName, at: u64, bytes: &[u8]) ->
     ensures reads { OnOk result (Becomes file (λ old. overlay old (at + 1) bytes.now) (H.view host.old) (H.view host.new)) }
     ensures fits { OnOk result (at + 1 + length bytes.now ≤ 2 ^ 62) }
     ensures changes { Changes (FileChange file (InPlace (Torn (at + 1) (length bytes.now)))) (H.view host.old) (H.view host.new) }
+    ensures calls { MakesCalls 2 (H.view host.old) (H.view host.new) result }
     ensures causes { DiskCauses (H.view host.old) (H.view host.new) result }
 {
     write_durably(host, file, at + 1, bytes)
@@ -51,6 +53,7 @@ fn open_gate<H: Host>(host: &mut H, file: FileName, at: u64) -> Result<(), Faile
     requires { Reaches (H.view host.old) file at }
     ensures ok { OnOk result ((old : _) → IsFileDurable (H.view host.old) file old → IsFileDurable (H.view host.new) file (overlay old at (1 ∷ []))) }
     ensures changes { Changes (FileChange file (InPlace (Torn at 1))) (H.view host.old) (H.view host.new) }
+    ensures calls { MakesCalls 2 (H.view host.old) (H.view host.new) result }
     ensures causes { DiskCauses (H.view host.old) (H.view host.new) result }
 {
     write_durably(host, file, at, &[1])

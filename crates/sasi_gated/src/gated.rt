@@ -1,7 +1,7 @@
 // An open gated file.
-ghost use Rattle.std.specs.Prelude.{◌≡◌, ◌+◌, ◌≤◌, ◌^◌, ◌∷◌, ◌++◌, [], ℕ, List, length, if◌then◌else◌, IfErr, IfOk, OnOk, IsTrue, is_ok, false, Some};
+ghost use Rattle.std.specs.Prelude.{◌≡◌, ◌+◌, ◌≤◌, ◌^◌, ◌∷◌, ◌++◌, [], ℕ, List, length, if◌then◌else◌, IfErr, IfOk, OnOk, IsTrue, is_ok, false, None, Some};
 ghost use Rattle.std.specs.Option.{option_copied, option_to_list};
-ghost use Rattle.sasi_host.specs.View.{DiskCauses, ListCauses, Reaches, IsAbsent, IsThere, IsTold, contents};
+ghost use Rattle.sasi_host.specs.View.{MakesCalls, DiskCauses, ListCauses, Reaches, IsAbsent, IsThere, IsTold, contents};
 ghost use Rattle.sasi_host.specs.Disk.{AnyChange, Changes, IsFileDurable, LeftWith, Same, FileChange};
 ghost use Rattle.sasi_gated.specs.Format.{IsBeforeOrAfter, IsGated, new_file};
 ghost use Rattle.sasi_gated.specs.Gates.{IsAtGate, ReadsAt};
@@ -9,7 +9,9 @@ ghost use Rattle.sasi_gated.specs.Damages.{IsGatedDamage};
 ghost use Rattle.sasi_gated.specs.Causes.{ReadingCauses};
 ghost use Rattle.sasi_gated.specs.Reads.{GatedDamageShown, GatedDamageShownAt, NoFalseGatedDamage, NoFalseRecordDamage, ReadsGate, ReadsRecords, HasHeader, AppendsRecord};
 ghost use Rattle.sasi_host.specs.Damages.{OnDamage};
+ghost use Rattle.sasi_host.specs.Buffered.{IsBuffered};
 ghost use Rattle.sasi_gated.specs.Handles.{IsAtEnd, IsReading, ReadsOn};
+ghost use Rattle.sasi_gated.specs.ReadCosts.{IsSequential, OpensSequential, ReadsPagesOnce};
 
 use crate::Record;
 use crate::append::append_at;
@@ -17,15 +19,15 @@ use crate::create::new_file_bytes;
 use crate::header::HEADER_LENGTH;
 use crate::next::read_next;
 use crate::read::read_header;
-use sasi_host::{Failed, FileName, Host, HostFault, ReadFault, make_file};
+use sasi_host::{BufferedFile, Failed, FileName, Host, HostFault, ReadFault, make_file};
 use std::alloc::Global;
 use std::marker::Model;
 
 /// An open gated file, which is read from gate to gate, and then appended to. Contracts see its name, the offset of the
-/// gate before which it stands, and whether it is usable.
+/// gate before which it stands, whether it is usable, and the page that is buffered.
 #[derive(Drop)]
 pub struct Gated {
-    file: FileName,
+    buffered: BufferedFile,
     at: u64,
     usable: bool,
 }
@@ -36,7 +38,7 @@ impl Model for Gated {
 
     ghost Value = { Handle };
 
-    ghost view = { λ a. record { file = a.file; at = a.at; usable = a.usable } };
+    ghost view = { λ a. record { file = a.buffered.file; at = a.at; usable = a.usable; buffered = a.buffered } };
 
     ghost invariant = { λ a. a.at ≤ 2 ^ 62 };
 }
@@ -53,7 +55,7 @@ impl Gated {
     pub fn file(&self) -> FileName
         ensures { result ≡ self.now.file }
     {
-        self.file
+        self.buffered.file()
     }
 
     /// The offset of the gate before which it stands.
@@ -79,12 +81,14 @@ impl Gated {
         ensures fits { IfOk result (λ gated. gated.at ≤ 2 ^ 62) }
         ensures usable { IfOk result (λ gated. IsTrue gated.usable) }
         ensures file { IfOk result (λ gated. gated.file ≡ file) }
+        ensures buffered { IfOk result (λ gated. gated.buffered.page ≡ None) }
+        ensures calls { MakesCalls 4 (H.view host.old) (H.view host.new) result }
         ensures causes { ListCauses (H.view host.old) (H.view host.new) result }
     {
         let bytes = new_file_bytes(alloc, file, first)?;
         make_file(host, file, &bytes)?;
         Ok(Gated {
-            file,
+            buffered: BufferedFile::new(file),
             at: bytes.len() as u64 - 1,
             usable: true,
         })
@@ -102,11 +106,15 @@ impl Gated {
         ensures offset { IfOk result (λ gated. gated.at ≡ 16) }
         ensures usable { IfOk result (λ gated. IsTrue gated.usable) }
         ensures file { IfOk result (λ gated. gated.file ≡ file) }
+        ensures buffered { IfOk result (λ gated. IsBuffered gated.buffered (H.view host.new).files) }
+        ensures sequential { IfOk result (λ gated. OpensSequential (H.view host.old) (H.view host.new) gated) }
+        ensures reads { (H.view host.new).reads ≤ (H.view host.old).reads + 1 }
         ensures causes { ReadingCauses (H.view host.old) (H.view host.new) result }
     {
-        read_header(host, file)?;
+        let mut buffered = BufferedFile::new(file);
+        read_header(host, &mut buffered)?;
         Ok(Gated {
-            file,
+            buffered,
             at: HEADER_LENGTH,
             usable: true,
         })
@@ -117,6 +125,7 @@ impl Gated {
     pub fn next<H: Host>(&mut self, host: &mut H, out: &mut Vec<u8>) -> Result<bool, ReadFault>
         requires there { IsThere (H.view host.old) self.old.file }
         requires usable { IsTrue self.old.usable }
+        requires buffered { IsBuffered self.old.buffered (H.view host.old).files }
         ensures gate { IfOk result (λ more. ReadsGate (H.view host.old) self.old.file self.old.at self.new.at more out.new.items) }
         ensures records { IfOk result (λ more. ReadsRecords (H.view host.old) (H.view host.new) self.old.file self.old.at self.new.at more out.new.items) }
         ensures room { IfOk result (λ more. more ≡ false → Reaches (H.view host.new) self.new.file (self.new.at + 1)) }
@@ -128,10 +137,12 @@ impl Gated {
         ensures fits { OnOk result (self.new.at ≤ 2 ^ 62) }
         ensures usable { self.new.usable ≡ is_ok result }
         ensures file { self.new.file ≡ self.old.file }
+        ensures buffered { IsBuffered self.new.buffered (H.view host.new).files }
+        ensures once { IsSequential self.old → ReadsPagesOnce (H.view host.old) (H.view host.new) self.old self.new result }
         ensures causes { ReadingCauses (H.view host.old) (H.view host.new) result }
     {
         self.usable = false;
-        let next = read_next(host, self.file, self.at, out)?;
+        let next = read_next(host, &mut self.buffered, self.at, out)?;
         self.at = next.at;
         self.usable = true;
         Ok(next.more)
@@ -151,10 +162,13 @@ impl Gated {
         ensures fits { OnOk result (self.new.at ≤ 2 ^ 62) }
         ensures usable { self.new.usable ≡ is_ok result }
         ensures file { self.new.file ≡ self.old.file }
+        ensures buffered { self.new.buffered.page ≡ None }
+        ensures calls { MakesCalls 4 (H.view host.old) (H.view host.new) result }
         ensures causes { DiskCauses (H.view host.old) (H.view host.new) result }
     {
         self.usable = false;
-        self.at = append_at(host, self.file, self.at, item)?;
+        self.buffered.forget();
+        self.at = append_at(host, self.buffered.file(), self.at, item)?;
         self.usable = true;
         Ok(())
     }

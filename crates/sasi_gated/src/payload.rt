@@ -1,67 +1,79 @@
-// Reads of bytes that a file has to have.
-ghost use Rattle.std.specs.Prelude.{◌≡◌, ◌+◌, ◌<◌, ◌≤◌, ◌^◌, ◌++◌, length, take, drop, IfErr, OnOk};
+// Reads of a payload, page by page.
+ghost use Rattle.std.specs.Prelude.{◌≡◌, ◌+◌, ◌<◌, ◌≤◌, ◌^◌, ◌++◌, [], List, ℕ, length, take, drop, IfErr, IfOk, OnOk};
 ghost use Rattle.sasi_host.specs.View.{IsThere, contents};
 ghost use Rattle.sasi_host.specs.Disk.{Changes, Same};
+ghost use Rattle.sasi_host.specs.Buffered.{IsBuffered};
+ghost use Rattle.sasi_host.specs.Sequential.{BeginsBy, ReachesTo, ReadsEachOnce, ReadsNoFurther};
+ghost use Rattle.sasi_host.specs.Damages.{DamageShown, OnDamage};
 ghost use Rattle.sasi_gated.specs.Damages.{TellsSize};
 ghost use Rattle.sasi_gated.specs.Causes.{ReadingCauses};
-ghost use Rattle.sasi_gated.specs.Reads.{GatedDamageShown, GatedDamageShownAt, NoFalseGatedDamage, NoFalseRecordDamage, ReadsGate, ReadsRecords, HasHeader, AppendsRecord};
-ghost use Rattle.sasi_host.specs.Damages.{OnDamage};
 
 use crate::damage::truncated;
-use sasi_host::{FileName, Host, ReadFault};
+use sasi_host::{BufferedFile, Direct, Host, ReadFault};
 
-// Appends so many bytes of the file from this offset on, at most as many as one read of the host gives.
-fn read_piece<H: Host>(
+// Appends at most so many bytes of the file from this offset on, those of one page, and gives how many there were.
+fn read_part<H: Host>(
     host: &mut H,
-    file: FileName,
+    buffered: &mut BufferedFile,
     at: u64,
     want: usize,
     out: &mut Vec<u8>,
-) -> Result<(), ReadFault>
-    requires there { IsThere (H.view host.old) file }
-    requires offset { at ≤ 2 ^ 63 }
+) -> Result<usize, ReadFault>
+    requires there { IsThere (H.view host.old) buffered.old.file }
+    requires buffered { IsBuffered buffered.old (H.view host.old).files }
     requires some { 0 < want }
-    requires page { want ≤ 4096 }
-    ensures ok { OnOk result ((bytes : _) → contents (H.view host.old) file ≡ Some bytes → out.new.items ≡ out.old.items ++ take want (drop at bytes)) }
-    ensures len { OnOk result (length out.new.items ≡ length out.old.items + want) }
-    ensures damaged { IfErr result (OnDamage (λ damage. (bytes : _) → contents (H.view host.old) file ≡ Some bytes → at ≤ length bytes
-        → TellsSize file bytes damage × (length (drop at bytes) < want))) }
+    ensures ok { IfOk result (λ count. (bytes : List ℕ) → contents (H.view host.old) buffered.old.file ≡ Some bytes → out.new.items ≡ out.old.items ++ take count (drop at bytes)) }
+    ensures len { IfOk result (λ count. length out.new.items ≡ length out.old.items + count) }
+    ensures some { IfOk result (λ count. 0 < count) }
+    ensures most { IfOk result (λ count. count ≤ want) }
+    ensures within { IfOk result (λ count. ReachesTo (H.view host.old) buffered.old.file (at + count)) }
+    ensures damaged { IfErr result (OnDamage (λ damage. (bytes : List ℕ) → contents (H.view host.old) buffered.old.file ≡ Some bytes → at ≤ length bytes
+        → TellsSize buffered.old.file bytes damage × (length bytes ≡ at))) }
+    ensures file { buffered.new.file ≡ buffered.old.file }
+    ensures buffered { IsBuffered buffered.new (H.view host.new).files }
+    ensures once { IfOk result (λ count. BeginsBy buffered.old.page at → ReadsEachOnce (H.view host.old) (H.view host.new) buffered.old.file buffered.old.page buffered.new.page (at + count)) }
+    ensures no_further { BeginsBy buffered.old.page at → ReadsNoFurther (H.view host.old) (H.view host.new) buffered.old.file buffered.old.page at }
     ensures changes { Changes Same (H.view host.old) (H.view host.new) }
     ensures causes { ReadingCauses (H.view host.old) (H.view host.new) result }
 {
-    let mut page = [0; 4096];
-    let count = host.read(file, at, &mut page[..want])?;
-    if count < want {
-        return Err(ReadFault::Damaged(truncated(file, at + count as u64)));
+    buffered.load_page(host, &mut Direct, at / 4096)?;
+    let part = buffered.bytes_from((at % 4096) as usize);
+    let count = part.len().min(want);
+    if count == 0 {
+        return Err(ReadFault::Damaged(truncated(buffered.file(), at)));
     }
-    out.extend_from_slice(&page[..want])?;
-    Ok(())
+    out.extend_from_slice(&part[..count])?;
+    Ok(count)
 }
 
-// Appends the file's bytes from this offset on, until `out` has so many. It begins with those that `out` has.
+// Reads so many bytes of the file from this offset on. No memory is taken for bytes that aren't there.
 pub fn read_payload<H: Host>(
     host: &mut H,
-    file: FileName,
+    buffered: &mut BufferedFile,
     at: u64,
     count: usize,
     out: &mut Vec<u8>,
 ) -> Result<(), ReadFault>
-    requires there { IsThere (H.view host.old) file }
+    requires there { IsThere (H.view host.old) buffered.old.file }
+    requires buffered { IsBuffered buffered.old (H.view host.old).files }
     requires offset { at ≤ 2 ^ 62 + 5 }
     requires count { count ≤ 2 ^ 30 }
-    requires prefix { length out.old.items ≤ count }
-    ensures ok { OnOk result ((bytes : _) → contents (H.view host.old) file ≡ Some bytes → out.old.items ≡ take (length out.old.items) (drop at bytes) → out.new.items ≡ take count (drop at bytes)) }
+    requires empty { out.old.items ≡ [] }
+    ensures ok { OnOk result ((bytes : List ℕ) → contents (H.view host.old) buffered.old.file ≡ Some bytes → out.new.items ≡ take count (drop at bytes)) }
     ensures len { OnOk result (length out.new.items ≡ count) }
-    ensures damaged { IfErr result (OnDamage (λ damage. (bytes : _) → contents (H.view host.old) file ≡ Some bytes → at + length out.old.items ≤ length bytes
-        → TellsSize file bytes damage × (length (drop at bytes) < count))) }
+    ensures damaged { IfErr result (OnDamage (λ damage. (bytes : List ℕ) → contents (H.view host.old) buffered.old.file ≡ Some bytes → at ≤ length bytes
+        → TellsSize buffered.old.file bytes damage × (length (drop at bytes) < count))) }
+    ensures file { buffered.new.file ≡ buffered.old.file }
+    ensures buffered { IsBuffered buffered.new (H.view host.new).files }
+    ensures once { OnOk result (BeginsBy buffered.old.page at → ReachesTo (H.view host.old) buffered.old.file at
+        → ReadsEachOnce (H.view host.old) (H.view host.new) buffered.old.file buffered.old.page buffered.new.page (at + count)) }
+    ensures no_further { BeginsBy buffered.old.page at → ReadsNoFurther (H.view host.old) (H.view host.new) buffered.old.file buffered.old.page at }
     ensures changes { Changes Same (H.view host.old) (H.view host.new) }
     ensures causes { ReadingCauses (H.view host.old) (H.view host.new) result }
 {
-    let mut done = out.len();
+    let mut done = 0;
     while done < count {
-        let want = (count - done).min(4096);
-        read_piece(host, file, at + done as u64, want, out)?;
-        done += want;
+        done += read_part(host, buffered, at + done as u64, count - done, out)?;
     }
     Ok(())
 }

@@ -1,5 +1,5 @@
 -- What each call of a host in memory changes.
-use Rattle.std.proofs.Common.{◌≡◌, inl, inr, ℕ, true, false, List, [], ◌∷◌, ◌++◌, length, take, sym, ◌∙◌, ap, subst, arith, Option, Some, refl, Result, Ok, Err, OnOk, OnErr, is_err, length-append}
+use Rattle.std.proofs.Common.{◌≡◌, inl, inr, true, false, List, [], ◌∷◌, ◌++◌, length, take, sym, ◌∙◌, ap, subst, arith, Option, Some, refl, Result, Ok, Err, OnOk, OnErr, is_err, length-append}
 use Rattle.std.proofs.lemmas.List.{append-nil, take_all}
 use Rattle.std.specs.FinMap.{get}
 use Rattle.sasi_host.specs.declared.name.FileName.{FileName}
@@ -8,8 +8,10 @@ use Rattle.sasi_host.specs.declared.call.Call.TheVariants.{Emitted}
 use Rattle.sasi_host.specs.Names.{Bytes, Folder}
 use Rattle.sasi_host.specs.View.{KeepsMoments, TellsPrefixes, Emits}
 use Rattle.sasi_host.specs.Disk.{Changes, FileChange}
+use Rattle.sasi_host.specs.Counts.{Counts}
+use Rattle.sasi_host.specs.FailingLaws.{told_none}
 use Rattle.sasi_host.specs.Calls.{Medium, apply, Effect, output, step, replay, opened, view_after, LeftSince}
-use Rattle.sasi_host.specs.CallLaws.{since_keeps, fronts_since, some_same, pushed, replay_push, since_push}
+use Rattle.sasi_host.specs.CallLaws.{told_same, since_keeps, fronts_since, some_same, pushed, replay_push, since_push}
 
 -- a clause on a result that is known to be Ok
 pub ok_from : {T E P : Type 0} (r : Result T E) → is_err r ≡ false → OnOk r P → P
@@ -22,14 +24,16 @@ err_from (Ok x) is p = cc
 err_from (Err x) is p = p
 
 -- a call that isn't in the log
-pub unmoved : (start : Folder) → (S : Folder → Folder → Type 0) → ((x : Folder) → S x x) → (old new : List Call) → new ≡ old → (d o r d2 o2 r2 : ℕ)
-    → Changes S (view_after start old d o r) (view_after start new d2 o2 r2)
-unmoved start S same old new is d o r d2 o2 r2 = subst (λ (calls : List Call). Changes S (view_after start old d o r) (view_after start calls d2 o2 r2)) (sym is) (record {
+pub unmoved : (start : Folder) → (S : Folder → Folder → Type 0) → ((x : Folder) → S x x) → (old new : List Call) → new ≡ old → (m : Counts)
+    → Changes S (view_after start old m) (view_after start new m)
+unmoved start S same old new is m = subst (λ (calls : List Call). Changes S (view_after start old m) (view_after start calls m)) (sym is) (record {
   seen = λ f told. (f, told, same f);
   untold = λ told. told;
   image = λ c now. (c, now, same c);
   during = record { later = omega arith; left = λ t c e le gone. inl gone };
   emitted = refl;
+  emits = refl;
+  told = told_none (view_after start old m);
 })
 
 -- a file that stays as it was, and all others
@@ -37,12 +41,12 @@ pub step_same : (file : FileName) (R : Option Bytes → Option Bytes → Type 0)
 step_same file R same f = record { others = λ name apart. refl; this = same (get f file) }
 
 -- a call that is in the log
-pub noted : (start : Folder) → (old new : List Call) (call : Call) → new ≡ old ++ call ∷ [] → output call ≡ [] → (d o r d2 o2 r2 : ℕ)
-    → Changes (Effect call (replay (opened start) old).folder) (view_after start old d o r) (view_after start new d2 o2 r2)
-noted start old new call is quiet d o r d2 o2 r2 =
+pub noted : (start : Folder) → (old new : List Call) (call : Call) → new ≡ old ++ call ∷ [] → output call ≡ [] → (m : Counts)
+    → Changes (Effect call (replay (opened start) old).folder) (view_after start old m) (view_after start new m)
+noted start old new call is quiet m =
     subst
-    (λ (calls : List Call). Changes (Effect call (replay (opened start) old).folder) (view_after start old d o r) (view_after start calls d2 o2 r2))
-    (sym is) (pushed start old d o r call d2 o2 r2 quiet)
+    (λ (calls : List Call). Changes (Effect call (replay (opened start) old).folder) (view_after start old m) (view_after start calls m))
+    (sym is) (pushed start old m call quiet)
 
 -- what the folder reads after one more call
 pub folder_on : (start : Folder) → (old new : List Call) (call : Call) → new ≡ old ++ call ∷ []
@@ -63,9 +67,9 @@ image_on start old new call is c now =
     subst (λ (m : Medium). m.image c) (ap (λ (calls : List Call). replay (opened start) calls) is ∙ replay_push (opened start) old call) now
 
 -- an emit that is in the log
-pub emits_all : (start : Folder) → (bytes : Bytes) (old new : List Call) → new ≡ old ++ Emitted bytes ∷ [] → (d o r d2 o2 r2 : ℕ)
-    → Emits bytes (view_after start old d o r) (view_after start new d2 o2 r2)
-emits_all start bytes old new is d o r d2 o2 r2 = subst (λ (calls : List Call). Emits bytes (view_after start old d o r) (view_after start calls d2 o2 r2)) (sym is) (record {
+pub emits_all : (start : Folder) → (bytes : Bytes) (old new : List Call) → new ≡ old ++ Emitted bytes ∷ [] → (m : Counts)
+    → Emits bytes (view_after start old m) (view_after start new m)
+emits_all start bytes old new is m = subst (λ (calls : List Call). Emits bytes (view_after start old m) (view_after start calls m)) (sym is) (record {
   front = bytes;
   back = [];
   parts = sym (append-nil bytes);
@@ -82,6 +86,7 @@ emits_all start bytes old new is d o r d2 o2 r2 = subst (λ (calls : List Call).
       ]
     ];
   };
+  told = told_same start start old (old ++ Emitted bytes ∷ []) m;
 })
   where
     before : Medium
@@ -94,15 +99,15 @@ emits_all start bytes old new is d o r d2 o2 r2 = subst (λ (calls : List Call).
     after = replay_push (opened start) old (Emitted bytes)
 
 -- one more call keeps the earlier moments
-pub keeps : (start : Folder) (old new : List Call) (call : Call) → new ≡ old ++ call ∷ [] → (d o r d2 o2 r2 : ℕ)
-    → KeepsMoments (view_after start old d o r) (view_after start new d2 o2 r2)
-keeps start old new call is d o r d2 o2 r2 t c e le left =
+pub keeps : (start : Folder) (old new : List Call) (call : Call) → new ≡ old ++ call ∷ [] → (m n : Counts)
+    → KeepsMoments (view_after start old m) (view_after start new n)
+keeps start old new call is m n t c e le left =
     subst (λ (calls : List Call). LeftSince (opened start) calls t c e) (sym is) (since_keeps (opened start) old call t c e left)
 
 -- and each first part of what it emits counts
-pub tells_prefixes : (start : Folder) (old new : List Call) (bytes : Bytes) → new ≡ old ++ Emitted bytes ∷ [] → (d o r d2 o2 r2 : ℕ)
-    → TellsPrefixes bytes (view_after start old d o r) (view_after start new d2 o2 r2)
-tells_prefixes start old new bytes is d o r d2 o2 r2 t c b k le now told =
+pub tells_prefixes : (start : Folder) (old new : List Call) (bytes : Bytes) → new ≡ old ++ Emitted bytes ∷ [] → (m n : Counts)
+    → TellsPrefixes bytes (view_after start old m) (view_after start new n)
+tells_prefixes start old new bytes is m n t c b k le now told =
     subst (λ (calls : List Call). LeftSince (opened start) calls t c (b ++ take k bytes)) (sym is)
     (subst (λ (w : Bytes). LeftSince (opened start) (old ++ Emitted bytes ∷ []) t c (w ++ take k bytes)) (some_same _ _ told) (fronts_since (opened start) old (Emitted bytes) t c k le now))
 

@@ -1,21 +1,21 @@
 -- Runs of a file's bytes, made of what its pages gave.
-use Rattle.std.proofs.Common.{◌≡◌, ℕ, ◌+◌, ◌-◌, ◌*◌, ◌/◌, ◌%◌, ◌<◌, ◌≤◌, Option, Some, None, ◌++◌, length, take, drop, sym, ◌∙◌, ap, subst, arith, length-drop}
+use Rattle.std.proofs.Common.{◌≡◌, ◌≢◌, ◌⊎◌, inl, inr, ⊎_elim, refl, ℕ, zero, suc, ◌+◌, ◌-◌, ◌*◌, ◌/◌, ◌%◌, ◌<◌, ◌≤◌, Option, Some, None, ◌++◌, length, take, drop, sym, ◌∙◌, ap, subst, arith, length-drop}
 use Rattle.std.specs.Prelude.{Bool, true, false, min, nat_eq, if◌then◌else◌}
-use Rattle.std.specs.declared.result.Result.TheVariants.{Err}
-use Rattle.std.proofs.lemmas.List.{take_all, take-take, drop-take, drop-drop, length-take}
+use Rattle.std.proofs.lemmas.List.{drop_all, take_all, take-take, drop-take, drop-drop, length-take}
 use Rattle.std.proofs.lemmas.Slice.{take-put_mid}
-use Rattle.std.proofs.lemmas.Bool.Decides.{nat_tests}
+use Rattle.std.proofs.lemmas.Bool.Decides.{eqb_tells, leb_tells, nat_tests}
 use Rattle.std.proofs.Math.Seq.{take-add}
 use borrow.Rule.Slice.PartMut.{put_mid}
 use Rattle.sasi_host.specs.declared.name.FileName.{FileName}
 use Rattle.sasi_host.specs.declared.fault.ReadFault.{ReadFault}
 use Rattle.sasi_host.specs.Names.{Bytes}
-use Rattle.sasi_host.specs.View.{View, IsThere, contents, Rose, ReadsAtMost}
+use Rattle.sasi_host.specs.View.{View, IsThere, contents}
 use Rattle.sasi_host.specs.Disk.{Changes, Same, Fills}
 use Rattle.sasi_host.specs.Contents.{contents_same, there_where}
 use Rattle.sasi_host.specs.Damages.{DamageShown, ShowsEnd}
 use Rattle.sasi_host.proofs.DamageLaws.{shown_before, end_later}
-use Rattle.sasi_host.specs.Buffered.{pages_of, buffered_at, unbuffered_pages}
+use Rattle.sasi_host.specs.Buffered.{pages_of, buffered_at, reached, unbuffered_pages}
+use Rattle.sasi_host.specs.Sequential.{BeginsBy}
 
 -- what was read of a page is all that the file has there
 pub page_read : (bytes old new : Bytes) (page count : ℕ) → length old ≡ 4096 → Fills bytes (page * 4096) old new count
@@ -49,6 +49,23 @@ page_long bytes page at is =
 -- how long a part of a buffer is
 pub part_long : (out : Bytes) (filled part : ℕ) → filled + part ≤ length out → length (take (filled + part - filled) (drop filled out)) ≡ part
 part_long out filled part le = omega (arith, le, length-take (filled + part - filled) (drop filled out), length-drop filled out)
+
+-- what a buffer has from an offset on
+pub rest_of_page : (bytes : Bytes) (offset filled from : ℕ) → from ≡ min offset filled → take (filled - from) (drop from bytes) ≡ drop offset (take filled bytes)
+rest_of_page bytes offset filled from is = ⊎_elim (λ yes. whole yes.1) (λ no. none no.1) (leb_tells offset filled)
+  where
+    whole : offset ≤ filled → take (filled - from) (drop from bytes) ≡ drop offset (take filled bytes)
+    whole le =
+        let at_offset : from ≡ offset = omega arith in
+        let all : offset + (filled - from) ≡ filled = omega arith in
+        ap (λ (n : ℕ). take (filled - from) (drop n bytes)) at_offset
+        ∙ sym (drop-take offset (filled - from) bytes)
+        ∙ ap (λ (n : ℕ). drop offset (take n bytes)) all
+
+    none : filled < offset → take (filled - from) (drop from bytes) ≡ drop offset (take filled bytes)
+    none lt =
+        let nothing : filled - from ≡ 0 = omega arith in
+        ap (λ (n : ℕ). take n (drop from bytes)) nothing ∙ sym (drop_all offset (take filled bytes) (omega (arith, length-take filled bytes)))
 
 -- one part more
 pub part_more : (bytes out part : Bytes) (at filled n k m : ℕ) → take filled out ≡ take filled (drop at bytes) → filled ≤ length out
@@ -119,6 +136,40 @@ spend_first buffered here part left n some is long =
 pub spend_none : (buffered : Option ℕ) (at whole : ℕ) → unbuffered_pages buffered (at + 0) (whole - 0) ≡ unbuffered_pages buffered at whole
 spend_none buffered at whole = ap (λ (i : ℕ). unbuffered_pages buffered i (whole - 0)) (omega arith) ∙ ap (λ (i : ℕ). unbuffered_pages buffered at i) (omega arith)
 
+-- ---- how far a sequential reader reads
+
+-- a page is that of an offset, or another
+at_page : (page at : ℕ) → ((page ≡ at / 4096) × (buffered_at (Some page) at ≡ 1)) ⊎ ((page ≢ at / 4096) × (buffered_at (Some page) at ≡ 0))
+at_page page at =
+    ⊎_elim (λ yes. inl (yes.1, ap (λ (b : Bool). if b then 1 else 0) yes.0)) (λ no. inr (no.1, ap (λ (b : Bool). if b then 1 else 0) no.0))
+    (eqb_tells page (at / 4096))
+
+-- behind its buffered page it reads no more pages than those that it comes to
+pub fresh_reaches : (buffered : Option ℕ) (at n : ℕ) → 0 < n → BeginsBy buffered at → unbuffered_pages buffered at n + reached buffered ≤ (at + n - 1) / 4096 + 1
+fresh_reaches None at n some begins = omega arith
+fresh_reaches (Some page) at n some begins =
+    let before = begins page refl in
+    ⊎_elim (λ yes. omega (arith, before, yes.0, yes.1)) (λ no. omega (arith, before, no.0, no.1)) (at_page page at)
+
+-- and with a part on one page that one alone
+pub part_reaches : (buffered : Option ℕ) (here part left n before after : ℕ) → 0 < part → part ≡ min (4096 - here % 4096) left → n ≡ part
+    → BeginsBy buffered here → after ≤ before + unbuffered_pages buffered here n → after + reached buffered ≤ before + (here / 4096 + 1)
+part_reaches buffered here part left n before after some is long begins spent =
+    over (unbuffered_pages buffered here n) (reached buffered) (fresh_reaches buffered here n (omega arith) begins) spent
+  where
+    over : (cost back : ℕ) → cost + back ≤ (here + n - 1) / 4096 + 1 → after ≤ before + cost → after + back ≤ before + (here / 4096 + 1)
+    over cost back fresh all = omega arith
+
+-- what was read so far ends within the file, where it begins there
+pub ends_within : (bytes : Bytes) (at filled : ℕ) → at ≤ length bytes → (0 < filled → at + filled ≤ length bytes) → at + filled ≤ length bytes
+ends_within bytes at zero le within = omega arith
+ends_within bytes at (suc filled) le within = within (omega arith)
+
+-- so the page that is read next begins there
+pub no_further_here : (bytes : Bytes) (at filled start before after first now : ℕ) → at ≤ length bytes → (0 < filled → at + filled ≤ length bytes)
+    → before + first ≤ start + now → after + now ≤ before + ((at + filled) / 4096 + 1) → after + first ≤ start + (length bytes / 4096 + 1)
+no_further_here bytes at filled start before after first now le within once more = let ends = ends_within bytes at filled le within in omega (arith, ends)
+
 -- ---- one read after another
 
 -- a file reads as before after a change that leaves the folder as it is
@@ -136,16 +187,3 @@ pub end_before : (a b : View) (was now : FileName) (near far : ℕ) (f : ReadFau
     → DamageShown b now (ShowsEnd near now) f → DamageShown a was (ShowsEnd far was) f
 end_before a b was now near far f change same le shown =
     subst (λ (name : FileName). DamageShown a name (ShowsEnd far name) f) same (end_later a now near far f le (shown_before (ShowsEnd near now) a b now f change shown))
-
--- what made a call fail made a longer one fail
-pub fault_after : {S T : Type 0} (a b c : View) (n most : ℕ) (f : ReadFault) → a.disk_faults ≤ b.disk_faults → b.out_faults ≡ a.out_faults
-    → b.reads + n ≤ a.reads + most → ReadsAtMost {T = S} n b c (Err f) → ReadsAtMost {T = T} most a c (Err f)
-fault_after a b c n most f disk out credit causes = record {
-  disk = omega (arith, disk, causes.disk);
-  out = causes.out ∙ out;
-  reads = omega (arith, credit, causes.reads);
-  failed = λ failed. rose_before a.disk_faults b.disk_faults c.disk_faults disk (causes.failed failed);
-}
-  where
-    rose_before : (a b c : ℕ) → a ≤ b → Rose b c → Rose a c
-    rose_before a b c le rose = omega (arith, rose)

@@ -12,6 +12,7 @@ use Rattle.sasi_host.specs.declared.pick.BytePick.TheVariants as bytes
 use Rattle.sasi_host.specs.Names.{Bytes, Folder, name_cmp}
 use Rattle.sasi_host.specs.NameLaws.{insert_here, insert_apart, remove_here, remove_apart, name_cases, test_here}
 use Rattle.sasi_host.specs.Disk.{IsCrashOf, FileChange, InPlace, Torn, MaybeCreated, MaybeDeleted}
+use Rattle.sasi_host.specs.Counts.{Counts}
 use Rattle.sasi_host.specs.Calls.{opened, view_after, Medium, apply, Effect, step, replay}
 use Rattle.sasi_host.specs.Files.{overwritten, written}
 use Rattle.sasi_host.specs.CallLaws.{writes_well, stays_on, some_same}
@@ -210,9 +211,9 @@ pub agrees_itself : (f : Folder) (calls : List Call) → Agrees f f calls
 agrees_itself f calls = record { contents = λ q a b later is has. some_same _ _ (sym has ∙ is); listed = λ q later. refl }
 
 -- a host that begins with what a pick leaves
-pub crash_of : (pick : Pick) (start kept : Folder) (calls none : List Call) (d o r : ℕ) → kept ≡ picked pick calls start → none ≡ []
-    → IsCrashOf (view_after start calls d o r) (view_after kept none 0 0 0)
-crash_of pick start kept calls none d o r is empty = subst (λ (cs : List Call). IsCrashOf (view_after start calls d o r) (view_after kept cs 0 0 0)) (sym empty) (record {
+pub crash_of : (pick : Pick) (start kept : Folder) (calls none : List Call) (m n : Counts) → kept ≡ picked pick calls start → none ≡ []
+    → IsCrashOf (view_after start calls m) (view_after kept none n)
+crash_of pick start kept calls none m n is empty = subst (λ (cs : List Call). IsCrashOf (view_after start calls m) (view_after kept cs n)) (sym empty) (record {
   folder = kept;
   reads = refl;
   was = subst (replay (opened start) calls).image (sym is) (picked_image pick (opened start) calls start refl (agrees_itself start calls));

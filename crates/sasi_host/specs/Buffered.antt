@@ -1,5 +1,5 @@
 -- A buffered file.
-use Rattle.std.specs.Prelude.{◌≡◌, ℕ, ◌+◌, ◌-◌, ◌*◌, ◌/◌, ◌%◌, nat_eq, if◌then◌else◌, take, drop, Option, Some, None}
+use Rattle.std.specs.Prelude.{◌≡◌, ℕ, suc, ◌+◌, ◌-◌, ◌*◌, ◌/◌, ◌%◌, nat_eq, if◌then◌else◌, take, drop, Option, Some, None}
 use Rattle.std.proofs.Common.{sym, ◌∙◌}
 use Rattle.sasi_host.specs.declared.name.FileName.{FileName}
 use Rattle.sasi_host.specs.Names.{Bytes, Folder}
@@ -34,9 +34,18 @@ buffered_at (Some page) at = if nat_eq page (at / 4096) then 1 else 0
 abbrev pub unbuffered_pages : Option ℕ → ℕ → ℕ → ℕ
 unbuffered_pages buffered at count = pages_of at count - buffered_at buffered at
 
+-- the pages up to the buffered one
+abbrev pub reached : Option ℕ → ℕ
+reached None = 0
+reached (Some page) = suc page
+
 -- the buffer stays right while the file is unchanged
 pub buffered_same : (buffered : Buffered) (old new : Option Folder) → IsBuffered buffered old → contents_in new buffered.file ≡ contents_in old buffered.file → IsBuffered buffered new
 buffered_same buffered old new right same = λ page bytes this is. right page bytes this (sym same ∙ is)
+
+-- an empty one is right
+pub nothing_buffered : (buffered : Buffered) (files : Option Folder) → buffered.page ≡ None → IsBuffered buffered files
+nothing_buffered buffered files none = λ page bytes this is. absurd (let no : None ≡ Some page = sym none ∙ this in cc)
 
 -- and so where the folder is unchanged
 pub buffered_after : (buffered : Buffered) (a b : View) → Changes Same a b → IsBuffered buffered a.files → IsBuffered buffered b.files

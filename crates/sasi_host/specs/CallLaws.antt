@@ -7,8 +7,9 @@ use Rattle.sasi_host.specs.declared.name.FileName.{FileName}
 use Rattle.sasi_host.specs.declared.call.Call.{Call}
 use Rattle.sasi_host.specs.declared.call.Call.TheVariants.{Created, Wrote, Synced, Deleted, FolderSynced, Emitted, Put}
 use Rattle.sasi_host.specs.Names.{Bytes, Folder}
-use Rattle.sasi_host.specs.View.{View, IsSound}
-use Rattle.sasi_host.specs.Disk.{Changes, FileChange, InPlace, Torn, overlay}
+use Rattle.sasi_host.specs.View.{FailsOnlyAsTold, View, IsSound}
+use Rattle.sasi_host.specs.Disk.{Changes, Relation, FileChange, InPlace, Torn, overlay}
+use Rattle.sasi_host.specs.Counts.{Counts}
 use Rattle.sasi_host.specs.Files.{FitsAll, overwritten, written}
 use Rattle.sasi_host.specs.NameLaws.{insert_here, insert_apart, remove_here, remove_apart}
 use Rattle.std.proofs.lemmas.Bool.{leb-true}
@@ -142,9 +143,33 @@ take_none (suc k) = refl
 pub some_same : {T : Type 0} (a b : T) → Some a ≡ Some b → a ≡ b
 some_same a b is = cc
 
-module _ (start : Folder) (calls : List Call) (disk_faults out_faults reads : ℕ) where
+-- other counts beside the same folder
+pub recounted : (S : Relation) (start begin : Folder) (old new : List Call) (m n k : Counts) → Changes S (view_after start old m) (view_after begin new n)
+    → k.emits ≡ m.emits → FailsOnlyAsTold (view_after start old m) (view_after begin new k) → Changes S (view_after start old m) (view_after begin new k)
+recounted S start begin old new m n k change emits told = record {
+  seen = change.seen;
+  untold = change.untold;
+  image = change.image;
+  during = record { later = change.during.later; left = change.during.left };
+  emitted = change.emitted;
+  emits = emits;
+  told = told;
+}
+
+-- the same counts tell of no call that failed
+pub told_same : (start begin : Folder) (old new : List Call) (m : Counts) → FailsOnlyAsTold (view_after start old m) (view_after begin new m)
+told_same start begin old new m = record {
+  failing = refl;
+  calls = omega arith;
+  emits = omega arith;
+  refused = omega arith;
+  disk = inl refl;
+  out = inl refl;
+}
+
+module _ (start : Folder) (calls : List Call) (counts : Counts) where
   -- the laws of what is told
-  pub sound : FitsAll (replay (opened start) calls).folder → IsSound (view_after start calls disk_faults out_faults reads)
+  pub sound : FitsAll (replay (opened start) calls).folder → IsSound (view_after start calls counts)
   sound fits = record {
     told = λ c now. refl;
     reads = λ f is. subst (λ (g : Folder). (replay (opened start) calls).image g) (some_same _ _ is) (reads_image applies_well (opened start) calls refl);
@@ -154,28 +179,33 @@ module _ (start : Folder) (calls : List Call) (disk_faults out_faults reads : �
   }
 
   -- one more call, which emits nothing
-  pub pushed : (call : Call) (d2 o2 r2 : ℕ) → output call ≡ []
-      → Changes (Effect call (replay (opened start) calls).folder) (view_after start calls disk_faults out_faults reads) (view_after start (calls ++ call ∷ []) d2 o2 r2)
-  pushed call d2 o2 r2 quiet =
-      subst (λ (m : Medium). Changes (Effect call before.folder) (view_after start calls disk_faults out_faults reads) (told m)) (sym (replay_push (opened start) calls call)) changes
+  pub pushed : (call : Call) → output call ≡ []
+      → Changes (Effect call (replay (opened start) calls).folder) (view_after start calls counts) (view_after start (calls ++ call ∷ []) counts)
+  pushed call quiet =
+      subst (λ (m : Medium). Changes (Effect call before.folder) (view_after start calls counts) (tells m)) (sym (replay_push (opened start) calls call)) changes
     where
       before : Medium
       before = replay (opened start) calls
 
-      told : Medium → View
-      told m = record {
+      tells : Medium → View
+      tells m = record {
         files = Some m.folder;
         emitted = Some m.emitted;
         image = m.image;
         moment = length (calls ++ call ∷ []);
         left = LeftSince
             (opened start) (calls ++ call ∷ []);
-        disk_faults = d2;
-        out_faults = o2;
-        reads = r2;
+        disk_faults = counts.disk_faults;
+        out_faults = counts.out_faults;
+        reads = counts.reads;
+        calls = counts.calls;
+        emits = counts.emits;
+        failed_last = counts.failed_last;
+        refused = counts.refused;
+        failing = counts.failing;
       }
 
-      changes : Changes (Effect call before.folder) (view_after start calls disk_faults out_faults reads) (told (step before call))
+      changes : Changes (Effect call before.folder) (view_after start calls counts) (tells (step before call))
       changes = record {
         seen = λ f is. (apply call before.folder, refl, subst (λ (g : Folder). Effect call before.folder g (apply call before.folder)) (some_same _ _ is) (applies_well call before.folder));
         untold = λ is. cc;
@@ -191,6 +221,15 @@ module _ (start : Folder) (calls : List Call) (disk_faults out_faults reads : �
           ];
         };
         emitted = ap (λ (b : Bytes). Some b) all_out;
+        emits = refl;
+        told = record {
+          failing = refl;
+          calls = omega arith;
+          emits = omega arith;
+          refused = omega arith;
+          disk = inl refl;
+          out = inl refl;
+        };
       }
         where
           all_out : before.emitted ++ output call ≡ before.emitted

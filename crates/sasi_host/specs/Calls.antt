@@ -7,6 +7,7 @@ use Rattle.sasi_host.specs.declared.call.Call.TheVariants.{Created, Wrote, Synce
 use Rattle.sasi_host.specs.Names.{Bytes, Folder}
 use Rattle.sasi_host.specs.View.{View}
 use Rattle.sasi_host.specs.Disk.{FileChange, InPlace, Torn, MaybeCreated, MaybeDeleted}
+use Rattle.sasi_host.specs.Counts.{Counts}
 use Rattle.sasi_host.specs.Files.{written}
 
 -- what the folder reads, the bytes that were emitted, and what a crash now may leave
@@ -78,14 +79,19 @@ abbrev pub opened : Folder → Medium
 opened start = record { folder = start; emitted = []; image = λ image. image ≡ start }
 
 -- what a host tells that began with this folder, after these calls
-abbrev pub view_after : Folder → List Call → ℕ → ℕ → ℕ → View
-view_after start calls disk_faults out_faults reads = record {
+abbrev pub view_after : Folder → List Call → Counts → View
+view_after start calls counts = record {
   files = Some (replay (opened start) calls).folder;
   emitted = Some (replay (opened start) calls).emitted;
   image = (replay (opened start) calls).image;
   moment = length calls;
   left = LeftSince (opened start) calls;
-  disk_faults = disk_faults;
-  out_faults = out_faults;
-  reads = reads;
+  disk_faults = counts.disk_faults;
+  out_faults = counts.out_faults;
+  reads = counts.reads;
+  calls = counts.calls;
+  emits = counts.emits;
+  failed_last = counts.failed_last;
+  refused = counts.refused;
+  failing = counts.failing;
 }

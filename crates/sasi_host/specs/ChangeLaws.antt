@@ -5,6 +5,7 @@ use Rattle.std.specs.FinMap.{get}
 use Rattle.sasi_host.specs.declared.name.FileName.{FileName}
 use Rattle.sasi_host.specs.Names.{Bytes, Folder}
 use Rattle.sasi_host.specs.View.{View, LeavesNow, CrashLeaves, IsSound}
+use Rattle.sasi_host.specs.FailingLaws.{told_none, told_on}
 use Rattle.sasi_host.specs.Disk.{Relation, Same, FromImage, Changes, FileChange, Within, AnyChange}
 
 -- one stretch of moments after another
@@ -26,6 +27,8 @@ stays v = record {
   image = λ c now. (c, now, refl);
   during = record { later = omega arith; left = λ t x e le gone. inl gone };
   emitted = refl;
+  emits = refl;
+  told = told_none v;
 }
 
 -- one change after another
@@ -47,6 +50,8 @@ changes_on a b c S T U first second early both = record {
       let start = first.image since.0 since.1 in
       (start.0, start.1, both start.0 since.0 x start.2 since.2, sym first.emitted ∙ since.3));
   emitted = second.emitted ∙ first.emitted;
+  emits = second.emits ∙ first.emits;
+  told = told_on a b c first.told second.told;
 }
 
 -- a change satisfies each wider relation
@@ -59,6 +64,8 @@ changes_as a b S U change wider = record {
       crash_leaves_on a a b (FromImage U a) (FromImage S a) (FromImage U a) (stays_during a) change.during (λ x e p. p)
       (λ x e since. (since.0, since.1, wider since.0 x since.2, since.3));
   emitted = change.emitted;
+  emits = change.emits;
+  told = change.told;
 }
   where
     stays_during : (v : View) → CrashLeaves v v (FromImage U a)
@@ -85,6 +92,8 @@ changes_among a b I S U sound known change more = record {
       (record { later = omega arith; left = λ t x e le gone. inl gone }) change.during (λ x e p. p)
       (λ x e since. (since.0, since.1, more since.0 x (known since.0 since.1) since.2, since.3));
   emitted = change.emitted;
+  emits = change.emits;
+  told = change.told;
 }
 
 -- what a crash since a start leaves: an image at the start, or what some moment since leaves

@@ -3,7 +3,7 @@ use Rattle.std.specs.Prelude.{◌≡◌, ◌≢◌, ◌⊎◌, ◌↔◌, Bool, 
 use Rattle.std.specs.FinMap.{get}
 use Rattle.sasi_host.specs.declared.name.FileName.{FileName}
 use Rattle.sasi_host.specs.Names.{Bytes, Folder}
-use Rattle.sasi_host.specs.View.{View, IsTold, contents, CrashLeaves}
+use Rattle.sasi_host.specs.View.{View, IsTold, contents, CrashLeaves, FailsOnlyAsTold}
 
 -- a change of a folder
 abbrev pub Relation : Type 1
@@ -13,13 +13,15 @@ Relation = Folder → Folder → Type 0
 abbrev pub FromImage : Relation → View → Folder → Bytes → Type 0
 FromImage S old folder out = (was : Folder) × old.image was × S was folder × (old.emitted ≡ Some out)
 
--- From one moment to a later one the folder changes by S: as it reads, in each image, and in what a crash leaves meanwhile. Nothing is emitted.
+-- From one moment to a later one the folder changes by S: as it reads, in each image, and in what a crash leaves meanwhile. No emit is made.
 pub record Changes (S : Relation) (old new : View) : Type 0 where
   pub seen : (was : Folder) → old.files ≡ Some was → (now : Folder) × (new.files ≡ Some now) × S was now
   pub untold : old.files ≡ None → new.files ≡ None
   pub image : (folder : Folder) → new.image folder → (was : Folder) × old.image was × S was folder
   pub during : CrashLeaves old new (FromImage S old)
   pub emitted : new.emitted ≡ old.emitted
+  pub emits : new.emits ≡ old.emits
+  pub told : FailsOnlyAsTold old new
 
 -- the folder stays as it is
 abbrev pub Same : Relation

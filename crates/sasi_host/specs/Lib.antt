@@ -1,8 +1,11 @@
 pub mod Names
 pub mod Faults
 pub mod View
+pub mod Counts
 pub mod Disk
 pub mod NameLaws
+pub mod FailingLaws
+pub mod CauseLaws
 pub mod ChangeLaws
 pub mod Contents
 pub mod Files
@@ -14,4 +17,5 @@ pub mod Opaque
 pub mod Picks
 pub mod Damages
 pub mod Buffered
+pub mod Sequential
 pub mod PageReading

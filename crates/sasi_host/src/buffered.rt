@@ -5,6 +5,7 @@ ghost use Rattle.sasi_host.specs.View.{IsThere, contents, PageCauses, ReadsAtMos
 ghost use Rattle.sasi_host.specs.Disk.{Changes, Same};
 ghost use Rattle.sasi_host.specs.Damages.{DamageShown, ShowsEnd};
 ghost use Rattle.sasi_host.specs.Buffered.{IsBuffered, unbuffered_pages};
+ghost use Rattle.sasi_host.specs.Sequential.{BeginsBy, ReadsNoFurther};
 
 use crate::{FileName, Host, HostFault, PageReader, ReadFault, unexpected_end};
 use std::marker::Model;
@@ -51,6 +52,14 @@ impl BufferedFile {
         self.file
     }
 
+    /// Empties the buffer, as before the file is written.
+    pub fn forget(&mut self)
+        ensures { self.new ≡ record { file = self.old.file; page = None; bytes = [] } }
+    {
+        self.page = None;
+        self.filled = 0;
+    }
+
     /// Fills `out` with the file's bytes from this offset on.
     pub fn read_into<H: Host, P: PageReader>(
         &mut self,
@@ -73,6 +82,8 @@ impl BufferedFile {
         ensures covers { (name : FileName) → P.covers pages.new name → P.covers pages.old name ⊎ (name ≡ self.old.file) }
         ensures changes { Changes Same (H.view host.old) (H.view host.new) }
         ensures causes { ReadsAtMost (unbuffered_pages self.old.page at (length out.old)) (H.view host.old) (H.view host.new) result }
+        // A sequential reader reads no page beyond the end of the file.
+        ensures no_further { BeginsBy self.old.page at → ReadsNoFurther (H.view host.old) (H.view host.new) self.old.file self.old.page at }
     {
         let mut filled = 0;
         while filled < out.len() {
@@ -117,8 +128,8 @@ impl BufferedFile {
         Ok(())
     }
 
-    // Loads the page into the buffer, unless it is there.
-    fn load_page<H: Host, P: PageReader>(
+    /// Loads the page into the buffer, unless it is there.
+    pub fn load_page<H: Host, P: PageReader>(
         &mut self,
         host: &mut H,
         pages: &mut P,
@@ -144,6 +155,14 @@ impl BufferedFile {
         self.filled = pages.page(host, self.file, page, &mut self.bytes)?;
         self.page = Some(page);
         Ok(())
+    }
+
+    /// The bytes of the buffered page from this offset of the page on. Only the last page of a file has fewer than 4,096.
+    pub fn bytes_from(&self, offset: usize) -> &[u8]
+        ensures { result.now ≡ drop offset self.now.bytes }
+    {
+        let from = offset.min(self.filled);
+        &self.bytes[from..self.filled]
     }
 
     // So many bytes of the buffered page, if it has them.

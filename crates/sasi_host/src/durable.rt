@@ -1,6 +1,6 @@
 // Writes that are durable when they return.
 ghost use Rattle.std.specs.Prelude.{◌≡◌, ◌+◌, ◌≤◌, ◌^◌, length, OnOk};
-ghost use Rattle.sasi_host.specs.View.{IsAbsent, Holds, Reaches, DiskCauses};
+ghost use Rattle.sasi_host.specs.View.{IsAbsent, Holds, Reaches, DiskCauses, MakesCalls};
 ghost use Rattle.sasi_host.specs.Disk.{Changes, FileChange, InPlace, Torn, AnyChange, Becomes, overlay, IsFileDurable, IsSynced};
 
 use crate::{Failed, FileName, Host};
@@ -18,6 +18,7 @@ pub fn write_durably<H: Host>(
     ensures synced { OnOk result (IsSynced (H.view host.new) file) }
     ensures fits { OnOk result (at + length bytes.now ≤ 2 ^ 62) }
     ensures changes { Changes (FileChange file (InPlace (Torn at (length bytes.now)))) (H.view host.old) (H.view host.new) }
+    ensures calls { MakesCalls 2 (H.view host.old) (H.view host.new) result }
     ensures causes { DiskCauses (H.view host.old) (H.view host.new) result }
 {
     host.write(file, at, bytes)?;
@@ -31,6 +32,7 @@ pub fn make_file<H: Host>(host: &mut H, file: FileName, bytes: &[u8]) -> Result<
     ensures reads { OnOk result (Holds (H.view host.new) file bytes.now) }
     ensures fits { OnOk result (length bytes.now ≤ 2 ^ 62) }
     ensures changes { Changes (FileChange file AnyChange) (H.view host.old) (H.view host.new) }
+    ensures calls { MakesCalls 4 (H.view host.old) (H.view host.new) result }
     ensures causes { DiskCauses (H.view host.old) (H.view host.new) result }
 {
     host.create(file)?;

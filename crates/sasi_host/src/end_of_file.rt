@@ -1,7 +1,8 @@
 // A file that ends too early.
-ghost use Rattle.std.specs.Prelude.{◌≡◌, ◌≤◌};
+ghost use Rattle.std.specs.Prelude.{◌≡◌, ◌≢◌, ◌≤◌};
+ghost use Rattle.sasi_host.specs.declared.damage.Damage.{Damage};
 ghost use Rattle.sasi_host.specs.declared.fault.ReadFault.TheVariants as fault;
-ghost use Rattle.sasi_host.specs.View.{IsThere, KeepsMoments, Rose};
+ghost use Rattle.sasi_host.specs.View.{FailedAtLast, IsThere, KeepsMoments};
 ghost use Rattle.sasi_host.specs.Disk.{Changes, Same};
 ghost use Rattle.sasi_host.specs.Damages.{DamageShown, TellsSize};
 
@@ -16,7 +17,9 @@ pub fn unexpected_end<H: Host>(host: &mut H, file: FileName) -> ReadFault
     ensures disk { (H.view host.old).disk_faults ≤ (H.view host.new).disk_faults }
     ensures out { (H.view host.new).out_faults ≡ (H.view host.old).out_faults }
     ensures reads { (H.view host.new).reads ≡ (H.view host.old).reads }
-    ensures failed { result ≡ fault.Failed → Rose (H.view host.old).disk_faults (H.view host.new).disk_faults }
+    ensures failed { result ≡ fault.Failed → FailedAtLast (H.view host.old).disk_faults (H.view host.new).disk_faults (H.view host.new).failed_last }
+    ensures memory { result ≢ fault.OutOfMemory }
+    ensures told { (damage : Damage) → result ≡ fault.Damaged damage → (H.view host.new).disk_faults ≡ (H.view host.old).disk_faults }
 {
     match host.size(file) {
         Err(_) => ReadFault::Failed,

@@ -1,8 +1,8 @@
 // The host: files and replies.
-ghost use Rattle.std.specs.Prelude.{◌≡◌, ◌+◌, ◌^◌, ◌<◌, ◌≤◌, [], length, IfOk, OnOk};
+ghost use Rattle.std.specs.Prelude.{◌≡◌, ◌+◌, ◌^◌, ◌<◌, ◌≤◌, [], length, is_err, IfOk, OnOk};
 ghost use Rattle.std.specs.List.Sorted.{IsStrictlySortedBy};
 ghost use Rattle.sasi_host.specs.Names.{name_cmp};
-ghost use Rattle.sasi_host.specs.View.{View, IsThere, IsAbsent, Holds, Reaches, contents, KeepsMoments, IsSound, DiskCauses, ReadCauses, ListCauses, OutCauses, AllOut, Emits, TellsPrefixes};
+ghost use Rattle.sasi_host.specs.View.{View, IsCall, IsEmit, has_failed, IsThere, IsAbsent, Holds, Reaches, contents, KeepsMoments, IsSound, DiskCauses, ReadCauses, ListCauses, OutCauses, AllOut, Emits, TellsPrefixes};
 ghost use Rattle.sasi_host.specs.Disk.{Changes, Same, FileChange, InPlace, Torn, MaybeCreated, MaybeDeleted, Becomes, overlay, IsSynced, IsFolderSynced, Lists, Fills};
 
 use crate::{Failed, FileName, HostFault};
@@ -19,6 +19,7 @@ pub trait Host {
         ensures sorted { IfOk result (λ names. IsStrictlySortedBy name_cmp names.items) }
         ensures changes { Changes Same (view self.old) (view self.new) }
         ensures moments { KeepsMoments (view self.old) (view self.new) }
+        ensures call { IsCall (view self.old) (view self.new) (has_failed result) }
         ensures causes { ListCauses (view self.old) (view self.new) result };
 
     /// How many bytes the file has.
@@ -27,6 +28,7 @@ pub trait Host {
         ensures ok { IfOk result (λ n. (bytes : _) → contents (view self.old) file ≡ Some bytes → n ≡ length bytes) }
         ensures changes { Changes Same (view self.old) (view self.new) }
         ensures moments { KeepsMoments (view self.old) (view self.new) }
+        ensures call { IsCall (view self.old) (view self.new) (is_err result) }
         ensures causes { DiskCauses (view self.old) (view self.new) result };
 
     /// Fills the buffer with the file's bytes from this offset on, and gives how many there were.
@@ -38,6 +40,7 @@ pub trait Host {
         ensures within { IfOk result (λ n. n ≤ length buf.old) }
         ensures changes { Changes Same (view self.old) (view self.new) }
         ensures moments { KeepsMoments (view self.old) (view self.new) }
+        ensures call { IsCall (view self.old) (view self.new) (is_err result) }
         ensures causes { ReadCauses (view self.old) (view self.new) result };
 
     /// Makes an empty file. Once it and the folder are synced, each image has it.
@@ -46,6 +49,7 @@ pub trait Host {
         ensures ok { OnOk result (Holds (view self.new) file []) }
         ensures changes { Changes (FileChange file MaybeCreated) (view self.old) (view self.new) }
         ensures moments { KeepsMoments (view self.old) (view self.new) }
+        ensures call { IsCall (view self.old) (view self.new) (is_err result) }
         ensures causes { DiskCauses (view self.old) (view self.new) result };
 
     /// Writes over the file's bytes from this offset on, and past its end where they reach further.
@@ -55,6 +59,7 @@ pub trait Host {
         ensures fits { OnOk result (at + length bytes.now ≤ 2 ^ 62) }
         ensures changes { Changes (FileChange file (InPlace (Torn at (length bytes.now)))) (view self.old) (view self.new) }
         ensures moments { KeepsMoments (view self.old) (view self.new) }
+        ensures call { IsCall (view self.old) (view self.new) (is_err result) }
         ensures causes { DiskCauses (view self.old) (view self.new) result };
 
     /// Makes the file's bytes durable. Its name becomes durable by a sync of the folder.
@@ -63,6 +68,7 @@ pub trait Host {
         ensures ok { OnOk result (IsSynced (view self.new) file) }
         ensures changes { Changes Same (view self.old) (view self.new) }
         ensures moments { KeepsMoments (view self.old) (view self.new) }
+        ensures call { IsCall (view self.old) (view self.new) (is_err result) }
         ensures causes { DiskCauses (view self.old) (view self.new) result };
 
     /// Deletes the file. Once the folder is synced, no image has it.
@@ -71,6 +77,7 @@ pub trait Host {
         ensures ok { OnOk result (IsAbsent (view self.new) file) }
         ensures changes { Changes (FileChange file MaybeDeleted) (view self.old) (view self.new) }
         ensures moments { KeepsMoments (view self.old) (view self.new) }
+        ensures call { IsCall (view self.old) (view self.new) (is_err result) }
         ensures causes { DiskCauses (view self.old) (view self.new) result };
 
     /// Makes the folder's names durable.
@@ -78,6 +85,7 @@ pub trait Host {
         ensures ok { OnOk result (IsFolderSynced (view self.new)) }
         ensures changes { Changes Same (view self.old) (view self.new) }
         ensures moments { KeepsMoments (view self.old) (view self.new) }
+        ensures call { IsCall (view self.old) (view self.new) (is_err result) }
         ensures causes { DiskCauses (view self.old) (view self.new) result };
 
     /// Appends all the bytes to the replies. After an I/O error a prefix of them was appended.
@@ -86,6 +94,7 @@ pub trait Host {
         ensures emits { Emits bytes.now (view self.old) (view self.new) }
         ensures moments { KeepsMoments (view self.old) (view self.new) }
         ensures prefixes { OnOk result (TellsPrefixes bytes.now (view self.old) (view self.new)) }
+        ensures call { IsEmit (view self.old) (view self.new) (is_err result) }
         ensures causes { OutCauses (view self.old) (view self.new) result };
 
     /// The laws of the host's record.

@@ -1,5 +1,5 @@
 // A host in memory.
-ghost use Rattle.std.specs.Prelude.{◌≡◌, ◌⊎◌, ◌<◌, ◌≤◌, ◌↔◌, IsTrue, IsErr, OnOk, OnErr, IfOk, IfSome, IfNone, Some, None, Contains};
+ghost use Rattle.std.specs.Prelude.{◌≡◌, ◌⊎◌, ◌-◌, ◌^◌, ◌<◌, ◌≤◌, ◌↔◌, IsTrue, IsErr, OnOk, OnErr, IfOk, IfSome, IfNone, Some, None, Contains};
 ghost use Rattle.std.specs.FinMap as map;
 ghost use Rattle.sasi_host.specs.View.{contents};
 ghost use Rattle.sasi_host.specs.Disk.{IsCrashOf};
@@ -22,7 +22,7 @@ pub struct MemHost {
     pub(crate) stop: u64,
     pub(crate) disk_calls: u64,
     pub(crate) emits: u64,
-    pub(crate) all_calls: u64,
+    pub(crate) failed_last: bool,
     pub(crate) disk_faults: u64,
     pub(crate) out_faults: u64,
     pub(crate) reads: u64,
@@ -52,7 +52,7 @@ impl MemHost {
             stop: u64::MAX,
             disk_calls: 0,
             emits: 0,
-            all_calls: 0,
+            failed_last: false,
             disk_faults: 0,
             out_faults: 0,
             reads: 0,
@@ -133,15 +133,12 @@ impl MemHost {
         ensures ok { OnOk result (seen self.new ≡ begun_disk (seen self.old)) }
         ensures err { OnErr result (seen self.new ≡ disk_failed (begun_disk (seen self.old))) }
         ensures later { self.old.disk_faults ≤ self.new.disk_faults }
+        ensures few { self.old.disk_calls ≤ 2 ^ 64 - 1 }
     {
         self.disk_calls = self.disk_calls.saturating_add(1);
-        self.all_calls = self.all_calls.saturating_add(1);
-        if is_to_fail(
-            &self.failing_disk,
-            self.disk_calls,
-            self.all_calls,
-            self.stop,
-        ) {
+        let all_calls = self.disk_calls.saturating_add(self.emits);
+        self.failed_last = is_to_fail(&self.failing_disk, self.disk_calls, all_calls, self.stop);
+        if self.failed_last {
             self.disk_faults = self.disk_faults.saturating_add(1);
             return Err(Failed);
         }
@@ -152,8 +149,10 @@ impl MemHost {
     pub(crate) fn refuse_disk(&mut self) -> Failed
         ensures counts { seen self.new ≡ disk_refused (seen self.old) }
         ensures later { self.old.disk_faults ≤ self.new.disk_faults }
+        ensures few { self.old.refused ≤ 2 ^ 64 - 1 }
     {
         self.disk_faults = self.disk_faults.saturating_add(1);
+        self.failed_last = true;
         self.refused = self.refused.saturating_add(1);
         Failed
     }
@@ -164,10 +163,12 @@ impl MemHost {
         ensures ok { OnOk result (seen self.new ≡ begun_emit (seen self.old)) }
         ensures err { OnErr result (seen self.new ≡ emit_failed (begun_emit (seen self.old))) }
         ensures later { self.old.out_faults ≤ self.new.out_faults }
+        ensures few { self.old.emits ≤ 2 ^ 64 - 1 }
     {
         self.emits = self.emits.saturating_add(1);
-        self.all_calls = self.all_calls.saturating_add(1);
-        if is_to_fail(&self.failing_emits, self.emits, self.all_calls, self.stop) {
+        let all_calls = self.disk_calls.saturating_add(self.emits);
+        self.failed_last = is_to_fail(&self.failing_emits, self.emits, all_calls, self.stop);
+        if self.failed_last {
             self.out_faults = self.out_faults.saturating_add(1);
             return Err(Failed);
         }
@@ -178,8 +179,10 @@ impl MemHost {
     pub(crate) fn refuse_emit(&mut self) -> Failed
         ensures counts { seen self.new ≡ emit_refused (seen self.old) }
         ensures later { self.old.out_faults ≤ self.new.out_faults }
+        ensures few { self.old.refused ≤ 2 ^ 64 - 1 }
     {
         self.out_faults = self.out_faults.saturating_add(1);
+        self.failed_last = true;
         self.refused = self.refused.saturating_add(1);
         Failed
     }

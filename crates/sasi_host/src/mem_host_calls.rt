@@ -1,9 +1,9 @@
 // What a host in memory does at each call.
-ghost use Rattle.std.specs.Prelude.{◌≡◌, ◌⊎◌, ◌+◌, ◌^◌, ◌≤◌, ◌<◌, [], length, IsErr, IfOk, IfErr, OnOk, OnErr};
+ghost use Rattle.std.specs.Prelude.{◌≡◌, ◌⊎◌, ◌+◌, ◌^◌, ◌≤◌, ◌<◌, [], length, is_err, IsErr, IfOk, IfErr, OnOk, OnErr};
 ghost use Rattle.std.specs.List.Sorted.{IsStrictlySortedBy};
 ghost use Rattle.sasi_host.specs.declared.call.Call.{Call};
 ghost use Rattle.sasi_host.specs.Names.{name_cmp};
-ghost use Rattle.sasi_host.specs.View.{IsThere, IsAbsent, Holds, Reaches, contents, KeepsMoments, DiskCauses, ReadCauses, ListCauses, OutCauses, AllOut, Emits, TellsPrefixes};
+ghost use Rattle.sasi_host.specs.View.{IsCall, IsEmit, has_failed, IsThere, IsAbsent, Holds, Reaches, contents, KeepsMoments, DiskCauses, ReadCauses, ListCauses, OutCauses, AllOut, Emits, TellsPrefixes};
 ghost use Rattle.sasi_host.specs.Disk.{Changes, Same, FileChange, InPlace, Torn, MaybeCreated, MaybeDeleted, Becomes, overlay, IsSynced, IsFolderSynced, Lists, Fills};
 ghost use Rattle.sasi_host.specs.Memory.{seen, host_view, done, begun_disk, begun_read, IsDiskToFail, disk_failed, disk_refused, begun_emit, IsEmitToFail, emit_failed, emit_refused};
 ghost use Rattle.sasi_host.specs.MemoryLaws.{host_sound};
@@ -21,6 +21,7 @@ impl Host for MemHost {
         ensures sorted { IfOk result (λ names. IsStrictlySortedBy name_cmp names.items) }
         ensures changes { Changes Same (host_view (seen self.old)) (host_view (seen self.new)) }
         ensures moments { KeepsMoments (host_view (seen self.old)) (host_view (seen self.new)) }
+        ensures call { IsCall (host_view (seen self.old)) (host_view (seen self.new)) (has_failed result) }
         ensures causes { ListCauses (host_view (seen self.old)) (host_view (seen self.new)) result }
         ensures done { OnOk result (seen self.new ≡ begun_disk (seen self.old)) }
         ensures to_fail { IsDiskToFail (seen self.old) → (result ≡ Err HostFault.Failed) × (seen self.new ≡ disk_failed (begun_disk (seen self.old))) }
@@ -36,6 +37,7 @@ impl Host for MemHost {
         ensures ok { IfOk result (λ n. (bytes : _) → contents (host_view (seen self.old)) file ≡ Some bytes → n ≡ length bytes) }
         ensures changes { Changes Same (host_view (seen self.old)) (host_view (seen self.new)) }
         ensures moments { KeepsMoments (host_view (seen self.old)) (host_view (seen self.new)) }
+        ensures call { IsCall (host_view (seen self.old)) (host_view (seen self.new)) (is_err result) }
         ensures causes { DiskCauses (host_view (seen self.old)) (host_view (seen self.new)) result }
         ensures done { OnOk result (seen self.new ≡ begun_disk (seen self.old)) }
         ensures to_fail { IsDiskToFail (seen self.old) → IsErr result × (seen self.new ≡ disk_failed (begun_disk (seen self.old))) }
@@ -53,6 +55,7 @@ impl Host for MemHost {
         ensures within { IfOk result (λ n. n ≤ length buf.old) }
         ensures changes { Changes Same (host_view (seen self.old)) (host_view (seen self.new)) }
         ensures moments { KeepsMoments (host_view (seen self.old)) (host_view (seen self.new)) }
+        ensures call { IsCall (host_view (seen self.old)) (host_view (seen self.new)) (is_err result) }
         ensures causes { ReadCauses (host_view (seen self.old)) (host_view (seen self.new)) result }
         ensures done { OnOk result (seen self.new ≡ begun_read (seen self.old)) }
         ensures to_fail { IsDiskToFail (seen self.old) → IsErr result × (seen self.new ≡ disk_failed (begun_read (seen self.old))) }
@@ -68,6 +71,7 @@ impl Host for MemHost {
         ensures ok { OnOk result (Holds (host_view (seen self.new)) file []) }
         ensures changes { Changes (FileChange file MaybeCreated) (host_view (seen self.old)) (host_view (seen self.new)) }
         ensures moments { KeepsMoments (host_view (seen self.old)) (host_view (seen self.new)) }
+        ensures call { IsCall (host_view (seen self.old)) (host_view (seen self.new)) (is_err result) }
         ensures causes { DiskCauses (host_view (seen self.old)) (host_view (seen self.new)) result }
         ensures done { OnOk result (seen self.new ≡ done (Call.Created file) (begun_disk (seen self.old))) }
         ensures to_fail { IsDiskToFail (seen self.old) → IsErr result × (seen self.new ≡ disk_failed (begun_disk (seen self.old))) }
@@ -86,6 +90,7 @@ impl Host for MemHost {
         ensures fits { OnOk result (at + length bytes.now ≤ 2 ^ 62) }
         ensures changes { Changes (FileChange file (InPlace (Torn at (length bytes.now)))) (host_view (seen self.old)) (host_view (seen self.new)) }
         ensures moments { KeepsMoments (host_view (seen self.old)) (host_view (seen self.new)) }
+        ensures call { IsCall (host_view (seen self.old)) (host_view (seen self.new)) (is_err result) }
         ensures causes { DiskCauses (host_view (seen self.old)) (host_view (seen self.new)) result }
         ensures done { OnOk result (seen self.new ≡ done (Call.Wrote file at bytes.now) (begun_disk (seen self.old))) }
         ensures to_fail { IsDiskToFail (seen self.old) → IsErr result × (seen self.new ≡ disk_failed (begun_disk (seen self.old))) }
@@ -103,6 +108,7 @@ impl Host for MemHost {
         ensures ok { OnOk result (IsSynced (host_view (seen self.new)) file) }
         ensures changes { Changes Same (host_view (seen self.old)) (host_view (seen self.new)) }
         ensures moments { KeepsMoments (host_view (seen self.old)) (host_view (seen self.new)) }
+        ensures call { IsCall (host_view (seen self.old)) (host_view (seen self.new)) (is_err result) }
         ensures causes { DiskCauses (host_view (seen self.old)) (host_view (seen self.new)) result }
         ensures done { OnOk result (seen self.new ≡ done (Call.Synced file) (begun_disk (seen self.old))) }
         ensures to_fail { IsDiskToFail (seen self.old) → IsErr result × (seen self.new ≡ disk_failed (begun_disk (seen self.old))) }
@@ -120,6 +126,7 @@ impl Host for MemHost {
         ensures ok { OnOk result (IsAbsent (host_view (seen self.new)) file) }
         ensures changes { Changes (FileChange file MaybeDeleted) (host_view (seen self.old)) (host_view (seen self.new)) }
         ensures moments { KeepsMoments (host_view (seen self.old)) (host_view (seen self.new)) }
+        ensures call { IsCall (host_view (seen self.old)) (host_view (seen self.new)) (is_err result) }
         ensures causes { DiskCauses (host_view (seen self.old)) (host_view (seen self.new)) result }
         ensures done { OnOk result (seen self.new ≡ done (Call.Deleted file) (begun_disk (seen self.old))) }
         ensures to_fail { IsDiskToFail (seen self.old) → IsErr result × (seen self.new ≡ disk_failed (begun_disk (seen self.old))) }
@@ -136,6 +143,7 @@ impl Host for MemHost {
         ensures ok { OnOk result (IsFolderSynced (host_view (seen self.new))) }
         ensures changes { Changes Same (host_view (seen self.old)) (host_view (seen self.new)) }
         ensures moments { KeepsMoments (host_view (seen self.old)) (host_view (seen self.new)) }
+        ensures call { IsCall (host_view (seen self.old)) (host_view (seen self.new)) (is_err result) }
         ensures causes { DiskCauses (host_view (seen self.old)) (host_view (seen self.new)) result }
         ensures done { OnOk result (seen self.new ≡ done Call.FolderSynced (begun_disk (seen self.old))) }
         ensures to_fail { IsDiskToFail (seen self.old) → IsErr result × (seen self.new ≡ disk_failed (begun_disk (seen self.old))) }
@@ -153,6 +161,7 @@ impl Host for MemHost {
         ensures emits { Emits bytes.now (host_view (seen self.old)) (host_view (seen self.new)) }
         ensures moments { KeepsMoments (host_view (seen self.old)) (host_view (seen self.new)) }
         ensures prefixes { OnOk result (TellsPrefixes bytes.now (host_view (seen self.old)) (host_view (seen self.new))) }
+        ensures call { IsEmit (host_view (seen self.old)) (host_view (seen self.new)) (is_err result) }
         ensures causes { OutCauses (host_view (seen self.old)) (host_view (seen self.new)) result }
         ensures done { OnOk result (seen self.new ≡ done (Call.Emitted bytes.now) (begun_emit (seen self.old))) }
         ensures to_fail { IsEmitToFail (seen self.old) → IsErr result × (seen self.new ≡ emit_failed (begun_emit (seen self.old))) }

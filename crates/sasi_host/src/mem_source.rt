@@ -1,5 +1,5 @@
 // A source in memory.
-ghost use Rattle.std.specs.Prelude.{◌≡◌, ◌<◌, ◌↔◌, ℕ, List, length, min, drop, take, IsErr, IfOk, OnErr, Contains};
+ghost use Rattle.std.specs.Prelude.{◌≡◌, ◌<◌, ◌↔◌, false, ℕ, List, length, min, drop, take, IsErr, IfOk, OnErr, Contains};
 ghost use Rattle.std.specs.Io.{ReadsAtMost};
 ghost use Rattle.std.specs.Io.KnownBytes.{ReadConsumes};
 ghost use Rattle.sasi_host.specs.View.{SourceCauses, counted};
@@ -17,6 +17,7 @@ pub struct MemSource {
     failing: Vec<u64>,
     reads: u64,
     faults: u64,
+    failed_last: bool,
 }
 
 impl Model for MemSource {
@@ -25,7 +26,7 @@ impl Model for MemSource {
 
     ghost Value = { MemorySource };
 
-    ghost view = { λ a. record { left = drop a.at a.bytes.items; piece = a.piece; failing = a.failing.items; reads = a.reads; faults = a.faults } };
+    ghost view = { λ a. record { left = drop a.at a.bytes.items; piece = a.piece; failing = a.failing.items; reads = a.reads; faults = a.faults; failed_last = a.failed_last } };
 
     ghost invariant = { λ a. (a.at ≤ length a.bytes.items) × (0 < a.piece) };
 }
@@ -34,7 +35,7 @@ impl MemSource {
     /// A source of these bytes that gives at most `piece` of them at a read and fails at the reads listed, counted from 1.
     pub fn new(bytes: Vec<u8>, piece: usize, failing: Vec<u64>) -> MemSource
         requires { 0 < piece }
-        ensures { result ≡ record { left = bytes.items; piece = piece; failing = failing.items; reads = 0; faults = 0 } }
+        ensures { result ≡ record { left = bytes.items; piece = piece; failing = failing.items; reads = 0; faults = 0; failed_last = false } }
     {
         MemSource {
             bytes,
@@ -43,6 +44,7 @@ impl MemSource {
             failing,
             reads: 0,
             faults: 0,
+            failed_last: false,
         }
     }
 }
@@ -67,11 +69,12 @@ impl Source for MemSource {
         ensures causes { SourceCauses (source_view self.old) (source_view self.new) result }
         ensures listed { IsErr result ↔ Contains self.old.failing (counted self.old.reads) }
         ensures count { IfOk result (λ n. n ≡ count_given self.old (length buf.old)) }
-        ensures ok { IfOk result (λ n. self.new ≡ record self.old { left = drop n self.old.left; reads = counted self.old.reads }) }
+        ensures ok { IfOk result (λ n. self.new ≡ record self.old { left = drop n self.old.left; reads = counted self.old.reads; failed_last = false }) }
         ensures err { OnErr result (self.new ≡ failed_read self.old) }
     {
         self.reads = self.reads.saturating_add(1);
-        if self.failing.contains(&self.reads) {
+        self.failed_last = self.failing.contains(&self.reads);
+        if self.failed_last {
             self.faults = self.faults.saturating_add(1);
             return Err(Failed);
         }

@@ -1,12 +1,11 @@
-//! Tests of the hosts: sasi_host in memory, sasi_filehost on real files, and sasi_gated on the host in memory.
+//! Tests of the hosts: sasi_host in memory, sasi_filehost on real files, and sasi_gated on the host in memory. What a run shows of
+//! them is data of sasi_scripts.
 #![tactic(auto)]
 
 #[cfg(test)]
 mod buffered;
 #[cfg(test)]
 mod crashes;
-#[cfg(test)]
-mod files;
 #[cfg(test)]
 mod gated;
 #[cfg(test)]

@@ -50,48 +50,6 @@ fn host_fails_where_it_is_told_to(rt: HostRuntime) {
     assert!(rt; host.refused() == 0);
 }
 
-// A name, whose index and part are those of a segment.
-const fn name(kind: Kind, number: u32, index: u32, part: u32) -> FileName {
-    FileName {
-        kind,
-        number,
-        index,
-        part,
-    }
-}
-
-/// Names in their order.
-const fn names() -> [FileName; 10] {
-    [
-        name(Kind::Manifest, 2, 0, 0),
-        name(Kind::Manifest, 10, 0, 0),
-        name(Kind::Seal, 1, 0, 0),
-        name(Kind::Log, 1, 0, 0),
-        name(Kind::Data, 4_294_967_295, 0, 0),
-        name(Kind::Index, 1, 2, 10),
-        name(Kind::Index, 1, 3, 1),
-        name(Kind::Index, 2, 1, 1),
-        name(Kind::Segment, 1, 1, 1),
-        name(Kind::Segment, 1, 1, 2),
-    ]
-}
-
-/// A host with these files, which were put in the order of the names from the last to the first.
-fn host_with_names(rt: &impl Abort, alloc: Global) -> MemHost {
-    let mut host = MemHost::new(alloc);
-    for file in names().iter().rev() {
-        host.put(*file, b"").expect(rt, "memory");
-    }
-    host
-}
-
-#[test]
-fn files_are_listed_in_their_order(rt: HostRuntime) {
-    let mut host = host_with_names(&rt, rt.alloc());
-    let listed = host.list(rt.alloc()).expect(&rt, "a list");
-    assert_eq!(rt; listed.as_slice(), names().as_slice());
-}
-
 const LOG: FileName = FileName {
     kind: Kind::Log,
     number: 1,

@@ -1,6 +1,6 @@
 // Real folders: how they are opened and read, and what a later host reads of them.
-use sasi_filehost::{FileHost, fill_at, open_folder};
-use sasi_host::{FileName, Host, Kind};
+use sasi_filehost::{FileHost, FileSource, fill_at, open_folder};
+use sasi_host::{FileName, Host, HostFault, Kind, Source};
 use std::alloc::{Allocator, Global};
 use std::cell::Cell;
 use std::fs::{Metadata, OpenFile, OpenOptions};
@@ -235,15 +235,29 @@ fn check_page(rt: &impl Abort, host: &mut FileHost, at: u64, wanted: &[u8]) {
     let mut page = [0; 4096];
     let count = host.read(DATA, at, &mut page).expect(rt, "a read");
     assert!(rt; &page[..count] == wanted);
+    assert!(rt; page[count..] == [0; 4096][count..]);
 }
 
-/// The host lists both files and reads the data file's bytes, a page at a time.
-fn check_data(rt: &impl Abort, alloc: Global, host: &mut FileHost, bytes: &[u8; 6000]) {
+/// The host lists both files, and no foreign one.
+fn check_names(rt: &impl Abort, alloc: Global, host: &mut FileHost) {
     let names = host.list(alloc).expect(rt, "a list");
     assert!(rt; names.as_slice() == [LOG, DATA].as_slice());
+}
+
+/// The host reads the data file's bytes, a page at a time and from an offset on.
+fn check_data(rt: &impl Abort, host: &mut FileHost, bytes: &[u8; 6000]) {
     check_page(rt, host, 0, &bytes[..4096]);
     check_page(rt, host, 4096, &bytes[4096..]);
-    assert!(rt; host.size(LOG).expect(rt, "a size") == 0);
+    check_page(rt, host, 5999, &bytes[5999..]);
+    assert!(rt; host.size(DATA).expect(rt, "a size") == 6000);
+}
+
+/// After its deletion the data file can't be read, and once it is made again it is empty.
+fn check_deletion(rt: &impl Abort, host: &mut FileHost) {
+    host.delete(DATA).expect(rt, "a deletion");
+    assert!(rt; host.read(DATA, 0, &mut [0; 8]).is_err());
+    host.create(DATA).expect(rt, "the name once more");
+    assert!(rt; host.size(DATA).expect(rt, "a size") == 0);
 }
 
 #[test]
@@ -253,19 +267,28 @@ fn second_host_reads_what_was_written(rt: HostRuntime) {
     fill(&mut bytes);
     let mut host = FileHost::at(rt, FOLDER).expect(&rt, "memory");
     write_data(&rt, &mut host, &bytes);
+    fs::write(&rt, "sasi_real_files_test/other", b"foreign".as_slice()).expect(&rt, "a file");
     let mut second = FileHost::at(rt, FOLDER).expect(&rt, "memory");
-    check_data(&rt, rt.alloc(), &mut second, &bytes);
+    check_names(&rt, rt.alloc(), &mut second);
+    check_data(&rt, &mut second, &bytes);
+    check_deletion(&rt, &mut second);
     fs::remove_dir_all(&rt, FOLDER).expect(&rt, "a deletion");
 }
 
 /// Each call of a host fails.
 fn check_failed(rt: &impl Abort, alloc: Global, host: &mut FileHost) {
     let mut page = [0; 8];
-    assert!(rt; host.list(alloc).is_err() && host.size(DATA).is_err());
+    assert!(rt; matches!(host.list(alloc), Err(HostFault::Failed)));
+    assert!(rt; host.size(DATA).is_err());
     assert!(rt; host.read(DATA, 0, &mut page).is_err() && host.write(DATA, 0, b"x").is_err());
     assert!(rt; host.create(LOG).is_err() && host.delete(DATA).is_err());
     assert!(rt; host.sync(DATA).is_err() && host.sync_folder().is_err());
     assert!(rt; host.emit(b"x").is_err());
+}
+
+/// What another host reads of the folder after the failed sync is the file that was made.
+fn check_second(rt: &impl Abort, host: &mut FileHost) {
+    assert!(rt; host.size(DATA).expect(rt, "a size") == 0);
 }
 
 #[test]
@@ -276,6 +299,18 @@ fn each_call_fails_after_a_failed_sync(rt: HostRuntime) {
     assert!(rt; host.sync(LOG).is_err());
     check_failed(&rt, rt.alloc(), &mut host);
     let mut second = FileHost::at(rt, "sasi_failed_sync_test").expect(&rt, "memory");
-    assert!(rt; second.size(DATA).expect(&rt, "a size") == 0);
+    check_second(&rt, &mut second);
     fs::remove_dir_all(&rt, "sasi_failed_sync_test").expect(&rt, "a deletion");
+}
+
+#[test]
+fn each_call_fails_where_nothing_can_be_opened(rt: HostRuntime) {
+    let mut host = FileHost::at(rt, "sasi_filehost_none/folder").expect(&rt, "memory");
+    check_failed(&rt, rt.alloc(), &mut host);
+}
+
+#[test]
+fn script_that_is_not_there_is_not_read(rt: HostRuntime) {
+    let mut script = FileSource::at(rt, "sasi_filehost_none").expect(&rt, "memory");
+    assert!(rt; script.read(&mut [0; 8]).is_err());
 }

@@ -5,13 +5,15 @@ use Rattle.sasi_types.specs.declared.literal.Literal.{Literal}
 use Rattle.sasi_types.specs.declared.literal.Number.{Number}
 use Rattle.sasi_model.specs.Statements.{same}
 use Rattle.sasi_model.specs.State.{Definition, key_name, key_type}
-use Rattle.sasi_model.specs.Refusals.{delete_rules, each, first_of, gives_key, is_column, is_empty_text, is_key, is_key_value, is_null, is_of, key_empty, no_column, no_regular_column, number_range, other_key, repeat_rules, tests, time_rules, type_of_column, update_rules, value_too_long, wrong_type, wrong_where}
+use Rattle.sasi_model.specs.Refusals.{delete_rules, each, is_column, is_key, is_key_value, is_null, is_of, key_empty, no_column, no_regular_column, number_range, other_key, repeat_rules, tests, time_rules, type_of_column, update_rules, value_too_long, wrong_type, wrong_where}
+use Rattle.sasi_model.specs.Abbreviations.{first_of, gives_key, is_empty_text}
 use Rattle.sasi_model.specs.Step.{key_literal}
 use Rattle.sasi_schema.proofs.RuleLaws.{none_first, none_parts}
 use Rattle.sasi_schema.specs.Numbers.{IsKeyAt}
 use Rattle.sasi_machine.specs.declared.relation.KeyRelation.{KeyRelation}
 use Rattle.sasi_machine.specs.Checks.{given_key_rules, given_rules, kind_rules, length_rules, missing_rule, range_rules, where_rules}
 use Rattle.sasi_machine.specs.KeyLiteral.{IsKeyLiteral}
+use Rattle.sasi_machine.proofs.ColumnTypes.{position_inside}
 
 -- ---- tests
 
@@ -43,7 +45,8 @@ other_true false b e is = cc
 key_typed : (d : Definition) (name : List ℕ) → IsKeyAt d.key d.columns → is_key d name ≡ true → type_of_column d name ≡ Some (key_type d)
 key_typed d name at is =
     let named : name ≡ key_name d = same_text name (key_name d) (sym (and_parts (is_column d name) (same name (key_name d)) is).1) in
-    rw (named, at) refl
+    let there = position_inside (key_name d) d.columns d.key at in
+    rw (named, at, there.1) refl
 
 -- what the rules say of the key's literal
 key_passes : (d : Definition) (name : List ℕ) (literal : Literal) → IsKeyAt d.key d.columns → is_key d name ≡ true → is_null literal ≡ false

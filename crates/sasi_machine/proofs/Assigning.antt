@@ -10,7 +10,8 @@ use Rattle.sasi_types.specs.declared.literal.Literal.TheVariants.{Null}
 use Rattle.sasi_model.specs.Cells.{Cells, Partition}
 use Rattle.sasi_model.specs.Statements.{same}
 use Rattle.sasi_model.specs.State.{Definition, key_name, number_of_column}
-use Rattle.sasi_model.specs.Refusals.{Rule, each, first_of, is_column, is_key, is_key_value, is_out_of_range, number_range, tests, type_of_column}
+use Rattle.sasi_model.specs.Refusals.{Rule, each, is_column, is_key, is_key_value, is_out_of_range, number_range, tests, type_of_column}
+use Rattle.sasi_model.specs.Abbreviations.{first_of}
 use Rattle.sasi_model.specs.Step.{cells_set, key_literal}
 use Rattle.sasi_schema.proofs.RuleLaws.{none_first}
 use Rattle.sasi_schema.specs.Numbers.{IsKeyAt}

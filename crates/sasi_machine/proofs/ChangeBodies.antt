@@ -14,8 +14,9 @@ use Rattle.sasi_types.specs.Value.{type_of}
 use Rattle.sasi_cells.proofs.Laws.Sorted.{equal_columns}
 use Rattle.sasi_model.specs.Cells.{Cells}
 use Rattle.sasi_model.specs.State.{Definition}
-use Rattle.sasi_model.specs.Refusals.{TIME_LIMIT, each}
-use Rattle.sasi_model.specs.Step.{cells_set, marker}
+use Rattle.sasi_model.specs.Refusals.{each}
+use Rattle.sasi_model.specs.Abbreviations.{TIME_LIMIT, marker}
+use Rattle.sasi_model.specs.Step.{cells_set}
 use Rattle.sasi_model.specs.Stored.{HasBytes, IsBodyOf, IsCell, IsListed, IsTypedAt, types_of}
 use Rattle.sasi_machine.proofs.CellEntries.{cells_by}
 use Rattle.sasi_machine.proofs.WriteCells.{IsGood, IsGoodCell, cells_good}

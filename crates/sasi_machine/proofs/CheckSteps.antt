@@ -3,7 +3,8 @@ use Rattle.std.proofs.Common.{◌≡◌, ◌++◌, ◌∷◌, List, [], Option, 
 use Rattle.std.specs.Prelude.{Result}
 use Rattle.std.specs.Result.{IsErrAnd}
 use Rattle.std.proofs.lemmas.List.{append_assoc}
-use Rattle.sasi_model.specs.Refusals.{Refusal, Rule, first_of}
+use Rattle.sasi_model.specs.Refusals.{Refusal, Rule}
+use Rattle.sasi_model.specs.Abbreviations.{first_of}
 use Rattle.sasi_schema.specs.Answers.{Answers, IsFirstRefusal}
 use Rattle.sasi_schema.proofs.RuleLaws.{refused_before, answers_behind, answers_exit}
 

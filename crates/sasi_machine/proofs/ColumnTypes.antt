@@ -1,12 +1,27 @@
 -- The types of regular columns, by their numbers.
-use Rattle.std.proofs.Common.{◌≡◌, ◌≢◌, ℕ, zero, suc, ◌-◌, Bool, true, false, cond, nat_eq, nat_lt, List, [], ◌∷◌, map, slice_get, Option, None, Some, refl, ap, subst, arith}
+use Rattle.std.proofs.Common.{◌≡◌, ◌≢◌, ℕ, zero, suc, ◌-◌, Bool, true, false, cond, nat_eq, nat_lt, List, [], ◌∷◌, map, slice_get, Option, None, Some, refl, sym, ap, subst, arith}
 use Rattle.std.proofs.lemmas.Bool.Decides.{nat_tests}
 use Rattle.sasi_types.specs.declared.column.ColumnType.{ColumnType}
 use Rattle.sasi_cells.proofs.Laws.Sorted.{first}
-use Rattle.sasi_model.specs.State.{Column, Definition, number_at, number_of_column, numbered_at, one_more, position_in, type_or_text}
+use Rattle.sasi_model.specs.State.{Column, Definition, number_at, number_of_column, position_in}
+use Rattle.sasi_model.specs.Abbreviations.{numbered_at, one_more}
+use Rattle.std.specs.List.{remove}
+use Rattle.std.specs.Option.{option_map}
 use Rattle.sasi_model.specs.Statements.{same}
 use Rattle.sasi_model.specs.Refusals.{type_of_column}
-use Rattle.sasi_model.specs.Stored.{regular_types, types_of}
+use Rattle.sasi_model.specs.Stored.{types_of}
+
+-- the types of the regular columns, which are all but the key
+abbrev pub regular_types : ℕ → List Column → List ColumnType
+regular_types key [] = []
+regular_types zero (column ∷ columns) = map (λ c. c.1) columns
+regular_types (suc key) (column ∷ columns) = column.1 ∷ regular_types key columns
+
+pub regular_are : (key : ℕ) (columns : List Column) → map (λ (c : Column). c.1) (remove columns key) ≡ regular_types key columns
+regular_are zero [] = refl
+regular_are (suc key) [] = refl
+regular_are zero (c ∷ cs) = refl
+regular_are (suc key) (c ∷ cs) = ap (λ (rest : List ColumnType). c.1 ∷ rest) (regular_are key cs)
 
 -- the position of a regular column among these
 abbrev regular_position : ℕ → ℕ → ℕ
@@ -40,7 +55,8 @@ regular_at (suc key) (suc position) (x ∷ columns) c got other =
 
 -- the number of a regular column is its position among the types
 numbered_type : (d : Definition) (position number : ℕ) (c : Column) → slice_get d.columns position ≡ Some c → number_at d.key position ≡ suc number → slice_get (types_of d) (suc number) ≡ Some c.1
-numbered_type d position number c got is = by (nat_eq position d.key) (nat_lt position d.key) refl refl is
+numbered_type d position number c got is =
+    subst (λ (types : List ColumnType). slice_get types number ≡ Some c.1) (sym (regular_are d.key d.columns)) (by (nat_eq position d.key) (nat_lt position d.key) refl refl is)
   where
     by : (same before : Bool) → nat_eq position d.key ≡ same → nat_lt position d.key ≡ before → cond same 0
         (cond before (suc position) position) ≡ suc number → slice_get (regular_types d.key d.columns) number ≡ Some c.1
@@ -83,6 +99,6 @@ regular d name number is = by (position_in name d.columns) refl is
         let there = position_inside name d.columns position found in
         record {
           type = there.0.1;
-          typed = rw found (ap (λ (o : Option Column). Some (type_or_text o)) there.1);
+          typed = rw found (ap (λ (o : Option Column). option_map (λ (c : Column). c.1) o) there.1);
           listed = numbered_type d position number there.0 there.1 at;
         }

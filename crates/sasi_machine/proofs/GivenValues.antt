@@ -12,7 +12,8 @@ use Rattle.sasi_types.specs.declared.literal.Number.TheVariants.{Fits, Wide}
 use Rattle.sasi_types.specs.declared.value.Value.{Value}
 use Rattle.sasi_types.specs.declared.value.Value.TheVariants.{Text, Int, BigInt, Uuid}
 use Rattle.sasi_types.specs.Value.{type_of}
-use Rattle.sasi_model.specs.Refusals.{TEXT_LIMIT, is_long_text, is_of, is_out_of_range, is_within}
+use Rattle.sasi_model.specs.Refusals.{is_of, is_out_of_range, is_within}
+use Rattle.sasi_model.specs.Abbreviations.{TEXT_LIMIT, is_long_text}
 use Rattle.sasi_model.specs.Step.{value_given}
 use Rattle.sasi_model.specs.Stored.{HasBytes}
 use Rattle.sasi_model.specs.WellFormed.{IsWellFormedLiteral}

@@ -9,7 +9,8 @@ use Rattle.sasi_types.specs.declared.literal.Literal.TheVariants as literals
 use Rattle.sasi_types.specs.declared.literal.Number.TheVariants.{Fits, Wide}
 use Rattle.sasi_types.specs.declared.value.Value.TheVariants.{Text, Int, BigInt, Uuid}
 use Rattle.sasi_model.specs.State.{Definition, key_type}
-use Rattle.sasi_model.specs.Step.{stored_of, value_given}
+use Rattle.sasi_model.specs.Step.{value_given}
+use Rattle.sasi_model.specs.Abbreviations.{stored_of}
 use Rattle.sasi_model.specs.Stored.{IsTypedAt, IsValueOf, types_of}
 use Rattle.sasi_model.specs.WellFormed.{IsWellFormedLiteral}
 use Rattle.sasi_machine.proofs.GivenValues.{short_text}

@@ -8,7 +8,7 @@ use Rattle.sasi_types.specs.declared.literal.Literal.TheVariants.{Text, Number a
 use Rattle.sasi_types.specs.declared.literal.Number.TheVariants.{Fits, Wide}
 use Rattle.sasi_types.specs.declared.value.Value.{Value}
 use Rattle.sasi_types.specs.Value.{type_of}
-use Rattle.sasi_model.specs.Refusals.{TEXT_LIMIT}
+use Rattle.sasi_model.specs.Abbreviations.{TEXT_LIMIT}
 use Rattle.sasi_model.specs.Step.{value_given}
 use Rattle.sasi_machine.specs.KeyLiteral.{IsKeyLiteral, IsKeyValue}
 

@@ -2,7 +2,8 @@
 use Rattle.std.proofs.Common.{◌≡◌, ℕ, suc, ◌<◌, List, [], ◌∷◌, length, drop, get_or, Option, None, Some, ◌∙◌}
 use Rattle.std.proofs.Math.Seq.{drop-cons}
 use Rattle.sasi_types.specs.declared.literal.Literal.{Literal}
-use Rattle.sasi_model.specs.Refusals.{Refusal, Rule, first_of, each}
+use Rattle.sasi_model.specs.Refusals.{Refusal, Rule, each}
+use Rattle.sasi_model.specs.Abbreviations.{first_of}
 use Rattle.sasi_schema.specs.Answers.{IsFirstRefusal}
 use Rattle.sasi_schema.proofs.RuleLaws.{refused_before}
 

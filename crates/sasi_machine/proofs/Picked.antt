@@ -8,13 +8,14 @@ use Rattle.sasi_cells.specs.declared.picked.PickedColumn.{PickedColumn}
 use Rattle.sasi_cells.specs.Rows.{picked_value}
 use Rattle.sasi_model.specs.Cells.{Partition}
 use Rattle.sasi_model.specs.State.{Definition, key_type, number_of_column}
-use Rattle.sasi_model.specs.Step.{count_up, live_rows, numbers_of, value_numbered}
+use Rattle.sasi_model.specs.Step.{live_rows, value_numbered}
+use Rattle.sasi_model.specs.Abbreviations.{count_up, numbers_of}
 use Rattle.sasi_machine.specs.MemtableView.{rows_picked}
 use Rattle.sasi_machine.specs.Picks.{pick}
 
 count_push : (from n : ℕ) → count_up from (suc n) ≡ count_up from n ++ (from + n) ∷ []
 count_push from zero = ap (λ m. m ∷ []) (omega arith)
-count_push from (suc n) = ap (λ ms. from ∷ ms) (count_push (suc from) n ∙ ap (λ m. count_up (suc from) n ++ m ∷ []) (omega arith))
+count_push from (suc n) = ap (λ ms. from ∷ ms) (count_push (from + 1) n ∙ ap (λ m. count_up (from + 1) n ++ m ∷ []) (omega arith))
 
 pick_push : (n : ℕ) → map pick (count_up 0 (n + 1)) ≡ map pick (count_up 0 n) ++ pick n ∷ []
 pick_push n =

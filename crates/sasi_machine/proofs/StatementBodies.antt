@@ -17,8 +17,9 @@ use Rattle.sasi_types.specs.declared.literal.Literal.{Literal}
 use Rattle.sasi_types.specs.declared.literal.Literal.TheVariants as literals
 use Rattle.sasi_types.specs.declared.value.Value.TheVariants.{Text, Int, BigInt, Uuid}
 use Rattle.sasi_model.specs.State.{Definition, key_type}
-use Rattle.sasi_model.specs.Refusals.{Rule, TIME_LIMIT, delete_rules, each, first_of, insert_rules, is_key_value, is_long_text, is_of, is_out_of_range, key_empty, no_column, no_regular_column, number_range, other_key, repeat_rules, time_rules, type_of_column, update_rules, value_too_long, wrong_type, wrong_where}
-use Rattle.sasi_model.specs.Step.{cells_set, delete_change, insert_change, key_literal, marker, stored_of, update_change, value_given}
+use Rattle.sasi_model.specs.Refusals.{Rule, delete_rules, each, insert_rules, is_key_value, is_of, is_out_of_range, key_empty, no_column, no_regular_column, number_range, other_key, repeat_rules, time_rules, type_of_column, update_rules, value_too_long, wrong_type, wrong_where}
+use Rattle.sasi_model.specs.Abbreviations.{first_of, TIME_LIMIT, is_long_text, marker, stored_of, update_change}
+use Rattle.sasi_model.specs.Step.{cells_set, delete_change, insert_change, key_literal, value_given}
 use Rattle.sasi_model.specs.Stored.{IsBodyOf, types_of}
 use Rattle.sasi_model.specs.WellFormed.{IsWellFormed, IsWellFormedLiteral, IsWellFormedSet}
 use Rattle.sasi_schema.proofs.RuleLaws.{none_first, none_parts}

@@ -5,7 +5,8 @@ use Rattle.sasi_types.specs.declared.partitioner.Partitioner.{Partitioner}
 use Rattle.sasi_types.specs.declared.statement.Statement.{Statement}
 use Rattle.sasi_types.specs.declared.statement.Statement.TheVariants.{CreateTable, Insert, Update, Delete, Query}
 use Rattle.sasi_cells.specs.Rows.{IsStored}
-use Rattle.sasi_model.specs.Cells.{Partition, max_timestamp_of, max_timestamp_in}
+use Rattle.sasi_model.specs.Cells.{Partition, max_timestamp_of}
+use Rattle.sasi_model.specs.Abbreviations.{max_timestamp_in, max_timestamp_of_tables, definitions, ok_line, TIME_LIMIT, TableExists, first_of, new_definition}
 use Rattle.sasi_model.specs.Stored.{Entry, IsBodyOf, IsCell, IsValueOf, cells_of, types_of}
 use Rattle.sasi_model.specs.WellFormed.{IsWellFormed}
 use Rattle.sasi_types.specs.declared.column.ColumnType.{ColumnType}
@@ -13,12 +14,11 @@ use Rattle.sasi_types.specs.declared.column.ColumnType.TheVariants as types
 use Rattle.std.specs.List.{AllByRecursion}
 use Rattle.sasi_machine.proofs.StatementBodies.{change_fits, write_rules}
 use Rattle.sasi_model.specs.Changes.{changed_tables, with_new_table}
-use Rattle.sasi_model.specs.Lines.{ok_line}
 use Rattle.sasi_model.specs.Pieces.{Piece}
-use Rattle.sasi_model.specs.Refusals.{Rule, Says, TIME_LIMIT, TableExists, create_rules, first_of, read, refusal, rules}
+use Rattle.sasi_model.specs.Refusals.{Rule, Says, create_rules, read, refusal, rules}
 use Rattle.sasi_model.specs.State as model
-use Rattle.sasi_model.specs.State.{Column, Definition, State, definition_of, definitions, max_timestamp, max_timestamp_of_tables, key_type, decorated}
-use Rattle.sasi_model.specs.Step.{StepResult, new_definition, step, step_as, step_by, tables_after}
+use Rattle.sasi_model.specs.State.{Column, Definition, State, definition_of, max_timestamp, key_type, decorated}
+use Rattle.sasi_model.specs.Step.{StepResult, step, step_as, step_by, tables_after}
 use Rattle.sasi_schema.specs.Defined.{definition}
 use Rattle.sasi_schema.specs.declared.table.Table.{Table}
 use Rattle.sasi_machine.specs.declared.outcome.Outcome.{Outcome}
@@ -31,7 +31,7 @@ use Rattle.sasi_cells.specs.Mutations.{state_with_mutation}
 use Rattle.sasi_machine.specs.Prepares.{StatementPrepares, IsApplicable, IsNewTable, CreatesTable, Prepares, StepsTo, WritesTo}
 use Rattle.sasi_machine.specs.Tables.{AreMemtables, IsMachineState, HasMemtableFor, IsWrittenAt, state_of, table_with, tables_of, written}
 use Rattle.sasi_machine.specs.StatementSteps.{StatementStepsTo}
-use Rattle.sasi_machine.specs.Writes.{IsWrite, IsWriting, key_in, table_named}
+use Rattle.sasi_machine.specs.Writes.{IsWrite, IsWriting, table_named}
 use Rattle.sasi_machine.proofs.MaxTimestamps.{greatest_put, greatest_set}
 use Rattle.sasi_machine.proofs.TablesOfMemtables.{changed_at, memtable_at, memtable_inside, definitions_of, memtables_set, length_tables, tables_push}
 use Rattle.sasi_machine.proofs.StatementStepping.{answers_ok, empty_contents, max_timestamp_kept, has_memtable, rules_kept, takes, write_tables}

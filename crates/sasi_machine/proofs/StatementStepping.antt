@@ -10,10 +10,11 @@ use Rattle.sasi_types.specs.declared.statement.Statement.{Statement}
 use Rattle.sasi_types.specs.declared.statement.Statement.TheVariants.{CreateTable, Insert, Update, Delete, Query}
 use Rattle.sasi_cells.specs.Rows.{IsStored}
 use Rattle.sasi_model.specs.Cells.{max_timestamp_of}
-use Rattle.sasi_model.specs.State.{Column, Definition, State, Table, apply, definition_of, definitions, max_timestamp, max_timestamp_of_tables, max_timestamp_of_partitions, key_type, decorated, table_of, with_table}
-use Rattle.sasi_model.specs.Refusals.{NoTable, Refusal, create_rules, first_of, refusal, rules, select_rules}
-use Rattle.sasi_model.specs.Lines.{ok_line, refusal_line, rows_lines}
-use Rattle.sasi_model.specs.Step.{answer_of, selected_columns, execute, new_definition, decorated_given, live_rows, selected_rows, stored_of, tables_after, time_of, value_given}
+use Rattle.sasi_model.specs.State.{Column, Definition, State, Table, apply, definition_of, max_timestamp, key_type, decorated, table_of, with_table}
+use Rattle.sasi_model.specs.Abbreviations.{definitions, max_timestamp_of_tables, max_timestamp_of_partitions, stored_of, selected_rows, ok_line, NoTable, first_of, new_definition}
+use Rattle.sasi_model.specs.Refusals.{Refusal, create_rules, refusal, rules, select_rules}
+use Rattle.sasi_model.specs.Lines.{refusal_line, rows_lines}
+use Rattle.sasi_model.specs.Step.{answer_of, selected_columns, execute, decorated_given, live_rows, tables_after, time_of, value_given}
 use Rattle.sasi_schema.specs.Answers.{IsFirstRefusal}
 use Rattle.sasi_schema.specs.Numbers.{number_of_table}
 use Rattle.sasi_machine.specs.declared.outcome.Outcome.{Outcome}

@@ -13,7 +13,7 @@ use Rattle.sasi_types.specs.DecoratedKey.{decorated_cmp, decorated_total}
 use Rattle.sasi_cells.specs.declared.picked.PickedColumn.{PickedColumn}
 use Rattle.sasi_cells.specs.Rows.{IsStored, picked_value}
 use Rattle.sasi_model.specs.Cells.{Partition, empty_partition, is_live, merge}
-use Rattle.sasi_model.specs.State.{Partitions}
+use Rattle.sasi_model.specs.Abbreviations.{Partitions}
 use Rattle.sasi_machine.specs.MemtableView.{MemtableView, KeysStored, partition_at, rows_picked}
 use Rattle.sasi_machine.proofs.Ordered.{get-from_partitions, place_exact, put_is_insert}
 

@@ -9,12 +9,12 @@ use Rattle.std.specs.Ordering.{nat_cmp, eq_by_cmp}
 use Rattle.sasi_types.specs.declared.cell.Cell.{Cell}
 use Rattle.sasi_types.specs.declared.literal.Literal.{Literal}
 use Rattle.sasi_model.specs.Cells.{Cells}
-use Rattle.sasi_model.specs.State.{Column, Definition, column_at, number_at, number_of_column, name_or_none, one_more, position_in, key_name}
+use Rattle.sasi_model.specs.State.{Column, Definition, number_at, number_of_column, position_in, key_name}
+use Rattle.sasi_model.specs.Abbreviations.{column_at, name_or_none, one_more, value_set}
 use Rattle.sasi_model.specs.Statements.{same}
 use Rattle.sasi_model.specs.Refusals.{is_column, is_key, no_regular_column, type_of_column}
-use Rattle.sasi_model.specs.Step.{cells_set, value_set, with_column_cell}
-use Rattle.sasi_model.specs.Stored.{regular_types}
-use Rattle.sasi_machine.proofs.ColumnTypes.{position_inside}
+use Rattle.sasi_model.specs.Step.{cells_set, with_column_cell}
+use Rattle.sasi_machine.proofs.ColumnTypes.{position_inside, regular_are, regular_types}
 use Rattle.sasi_machine.proofs.CellCounts.{some_cell}
 use Rattle.sasi_machine.proofs.ChangeBodies.{IsSmall}
 
@@ -32,7 +32,7 @@ pub small : (d : Definition) → IsKeyAt d.key d.columns → length d.columns �
 small d at few =
     let there = position_inside _ d.columns d.key at in
     let inside = column_inside d.columns d.key there.0 there.1 in
-    record { types = omega (arith, regular_length d.key d.columns inside) }
+    record { types = omega (arith, ap length (regular_are d.key d.columns), regular_length d.key d.columns inside) }
 
 -- the column at a position has its name
 named_by : (here : Bool) (o : Option ℕ) (name : List ℕ) (x : Column) (columns : List Column) (position : ℕ) → same name x.0 ≡ here

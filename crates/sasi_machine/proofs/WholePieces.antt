@@ -7,7 +7,8 @@ use Rattle.sasi_types.specs.declared.statement.Statement.{Statement}
 use Rattle.sasi_model.specs.Pieces.{Whole}
 use Rattle.sasi_model.specs.Tokens.{tokens}
 use Rattle.sasi_model.specs.Statements.{same, statement_of}
-use Rattle.sasi_model.specs.Refusals.{Says, Bad, NotBuilt, NotUtf8, read, read_by}
+use Rattle.sasi_model.specs.Refusals.{Says, Bad, read, read_by}
+use Rattle.sasi_model.specs.Abbreviations.{NotBuilt, NotUtf8}
 
 not_utf8 : (text : List ℕ) → ¬ (IsUtf8 text) → is_utf8 text ≡ false
 not_utf8 text bad = by (is_utf8 text) refl

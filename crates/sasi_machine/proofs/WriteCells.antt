@@ -12,8 +12,9 @@ use Rattle.sasi_types.specs.Value.{type_of}
 use Rattle.sasi_cells.proofs.Laws.Sorted.{equal_columns}
 use Rattle.sasi_model.specs.Cells.{Cells}
 use Rattle.sasi_model.specs.State.{Definition, number_of_column}
-use Rattle.sasi_model.specs.Refusals.{each, first_of, is_of, number_range, type_of_column, value_too_long, wrong_type}
-use Rattle.sasi_model.specs.Step.{cells_set, value_set, with_column_cell}
+use Rattle.sasi_model.specs.Refusals.{each, is_of, number_range, type_of_column, value_too_long, wrong_type}
+use Rattle.sasi_model.specs.Abbreviations.{first_of, value_set}
+use Rattle.sasi_model.specs.Step.{cells_set, with_column_cell}
 use Rattle.sasi_model.specs.Stored.{HasBytes, types_of}
 use Rattle.sasi_model.specs.WellFormed.{IsWellFormedLiteral}
 use Rattle.sasi_schema.proofs.RuleLaws.{none_first}

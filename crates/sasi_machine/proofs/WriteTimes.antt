@@ -13,7 +13,8 @@ use Rattle.sasi_cells.proofs.Laws.Times.{values_below}
 use Rattle.sasi_model.specs.Cells.{Cells, empty_partition, max_timestamp_of}
 use Rattle.sasi_model.specs.State.{Definition, number_of_column}
 use Rattle.sasi_model.specs.Refusals.{type_of_column}
-use Rattle.sasi_model.specs.Step.{cells_set, marker, value_set, with_column_cell}
+use Rattle.sasi_model.specs.Step.{cells_set, with_column_cell}
+use Rattle.sasi_model.specs.Abbreviations.{marker, value_set}
 use Rattle.sasi_machine.specs.Writes.{change_in}
 
 -- no cell is later

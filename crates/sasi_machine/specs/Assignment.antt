@@ -4,7 +4,8 @@ use Rattle.sasi_types.specs.declared.literal.Literal.{Literal}
 use Rattle.sasi_model.specs.Cells.{Cells}
 use Rattle.sasi_model.specs.State.{Definition, number_of_column}
 use Rattle.sasi_model.specs.Refusals.{is_key_value, type_of_column}
-use Rattle.sasi_model.specs.Step.{value_set, with_column_cell}
+use Rattle.sasi_model.specs.Step.{with_column_cell}
+use Rattle.sasi_model.specs.Abbreviations.{value_set}
 
 -- the cells with that of one more column
 abbrev pub with_set : Definition → ℕ → List ℕ → Literal → Cells → Cells

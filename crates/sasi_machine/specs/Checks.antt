@@ -3,7 +3,8 @@ use Rattle.std.specs.Prelude.{◌≡◌, ℕ, ◌<◌, ◌≤◌, not, List, ◌
 use Rattle.sasi_types.specs.declared.literal.Literal.{Literal}
 use Rattle.sasi_types.specs.declared.literal.Number.{Number}
 use Rattle.sasi_model.specs.State.{Definition, key_name}
-use Rattle.sasi_model.specs.Refusals.{Rule, KeyMissing, TIME_LIMIT, each, gives_key, key_empty, number_range, other_key, time_rules, value_too_long, wrong_type, wrong_where}
+use Rattle.sasi_model.specs.Refusals.{Rule, each, key_empty, number_range, other_key, time_rules, value_too_long, wrong_type, wrong_where}
+use Rattle.sasi_model.specs.Abbreviations.{KeyMissing, TIME_LIMIT, gives_key}
 use Rattle.sasi_model.specs.Step.{time_of}
 use Rattle.sasi_machine.specs.declared.relation.KeyRelation.{KeyRelation}
 

@@ -4,7 +4,8 @@ use Rattle.sasi_types.specs.declared.column.ColumnType.{ColumnType}
 use Rattle.sasi_types.specs.declared.literal.Literal.{Literal}
 use Rattle.sasi_types.specs.declared.value.Value.{Value}
 use Rattle.sasi_types.specs.declared.value.Value.TheVariants.{Text, Int, BigInt, Uuid}
-use Rattle.sasi_model.specs.Refusals.{TEXT_LIMIT, is_empty_text, is_long_text, is_null, is_of, is_out_of_range}
+use Rattle.sasi_model.specs.Refusals.{is_null, is_of, is_out_of_range}
+use Rattle.sasi_model.specs.Abbreviations.{TEXT_LIMIT, is_empty_text, is_long_text}
 
 -- no rule refuses the literal of the key
 pub record IsKeyLiteral (type : ColumnType) (literal : Literal) : Type 0 where

@@ -11,7 +11,7 @@ use Rattle.sasi_cells.specs.declared.picked.PickedColumn.{PickedColumn}
 use Rattle.sasi_cells.specs.Rows.{IsStored, picked_value}
 use Rattle.sasi_model.specs.Cells.{Partition, is_live}
 use Rattle.sasi_model.specs.Codes.{coded_column_type, coded_partitions}
-use Rattle.sasi_model.specs.State.{Partitions}
+use Rattle.sasi_model.specs.Abbreviations.{Partitions}
 
 -- the type of its key, and its partitions
 pub record MemtableView : Type 0 where

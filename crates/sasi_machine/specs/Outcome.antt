@@ -1,7 +1,7 @@
 -- How pieces are answered.
 use Rattle.std.specs.Prelude.{Option, None, Some}
 use Rattle.sasi_model.specs.Refusals.{Refusal}
-use Rattle.sasi_model.specs.Lines.{refusal_number}
+use Rattle.sasi_model.specs.Abbreviations.{refusal_number}
 use Rattle.sasi_machine.specs.declared.outcome.Outcome.{Outcome}
 use Rattle.sasi_machine.specs.declared.outcome.Outcome.TheVariants.{Done, Refused}
 

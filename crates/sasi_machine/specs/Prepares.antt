@@ -8,10 +8,11 @@ use Rattle.sasi_schema.specs.Defined.{definition}
 use Rattle.sasi_schema.specs.declared.table.Table.{Table}
 use Rattle.sasi_model.specs.Pieces.{Piece}
 use Rattle.sasi_model.specs.State as model
-use Rattle.sasi_model.specs.State.{State, definition_of, definitions, max_timestamp}
+use Rattle.sasi_model.specs.State.{State, definition_of, max_timestamp}
+use Rattle.sasi_model.specs.Abbreviations.{definitions, new_definition}
 use Rattle.sasi_model.specs.Changes.{with_new_table}
 use Rattle.sasi_model.specs.Refusals.{Says, read, refusal}
-use Rattle.sasi_model.specs.Step.{new_definition, step}
+use Rattle.sasi_model.specs.Step.{step}
 use Rattle.sasi_model.specs.Stored.{IsBodyOf, types_of}
 use Rattle.sasi_model.specs.WellFormed.{IsWellFormed}
 use Rattle.sasi_machine.specs.Outcome.{outcome_of}

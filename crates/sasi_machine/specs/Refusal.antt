@@ -1,11 +1,12 @@
 -- Refusals, as the model's.
 use Rattle.sasi_schema.specs.Faults.{limit_refusal}
-use Rattle.sasi_model.specs.Refusals as model
+use Rattle.sasi_model.specs.Refusals as rules
+use Rattle.sasi_model.specs.Abbreviations as model
 use Rattle.sasi_machine.specs.declared.refusal.Refusal.{Refusal}
 use Rattle.sasi_machine.specs.declared.refusal.Refusal.TheVariants.{StatementTooLong, NotUtf8, NoTable, TableExists, NoColumn, ColumnRepeated, WrongType, NumberRange, KeyMissing, KeyEmpty, ValueTooLong, TimestampRange, ClockSpent, TooMany, ScriptEnds, NotBuilt}
 
 -- the model's refusal of that name
-abbrev pub refusal_of : Refusal → model.Refusal
+abbrev pub refusal_of : Refusal → rules.Refusal
 refusal_of StatementTooLong = model.StatementTooLong
 refusal_of (NotUtf8 offset) = model.NotUtf8 offset
 refusal_of (NoTable name) = model.NoTable name

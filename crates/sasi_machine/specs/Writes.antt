@@ -9,8 +9,8 @@ use Rattle.sasi_types.specs.declared.statement.Statement.TheVariants.{CreateTabl
 use Rattle.sasi_cells.specs.Rows.{IsStored}
 use Rattle.sasi_model.specs.Cells.{Partition, empty_partition}
 use Rattle.sasi_model.specs.State.{Definition, definition_of, key_type}
-use Rattle.sasi_model.specs.Step.{delete_change, insert_change, key_literal, stored_of, update_change, value_given}
-use Rattle.sasi_model.specs.Refusals.{COLUMN_LIMIT}
+use Rattle.sasi_model.specs.Step.{delete_change, insert_change, key_literal, value_given}
+use Rattle.sasi_model.specs.Abbreviations.{update_change, stored_of, COLUMN_LIMIT}
 use Rattle.sasi_schema.specs.Numbers.{IsKeyAt, number_of_table}
 use Rattle.sasi_machine.specs.Checks.{IsTimeOf}
 use Rattle.sasi_cells.specs.declared.mutation.Mutation.{Mutation}

@@ -2,7 +2,8 @@
 ghost use Rattle.std.specs.Prelude.{◌≡◌, ◌≤◌, IfOk, Some, [], map};
 ghost use Rattle.std.specs.List.{zip};
 ghost use Rattle.sasi_types.specs.declared.statement.Statement.TheVariants.{Insert, Update, Delete};
-ghost use Rattle.sasi_model.specs.Refusals.{TIME_LIMIT as time_limit, delete_rules, insert_rules, update_rules};
+ghost use Rattle.sasi_model.specs.Refusals.{delete_rules, insert_rules, update_rules};
+ghost use Rattle.sasi_model.specs.Abbreviations.{TIME_LIMIT as time_limit};
 ghost use Rattle.sasi_model.specs.Step.{insert_change, key_literal};
 ghost use Rattle.sasi_schema.specs.Answers.{Answers};
 ghost use Rattle.sasi_schema.specs.Defined.{definition};

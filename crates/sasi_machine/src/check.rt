@@ -1,6 +1,7 @@
 // The rules of writes on an existing table, in their order.
 ghost use Rattle.std.specs.Prelude.{◌≡◌, ◌≤◌, ◌∷◌, ◌++◌, [], IfOk, map, Some};
-ghost use Rattle.sasi_model.specs.Refusals.{TIME_LIMIT as time_limit, delete_rules, each, gives_key, other_key, repeat_rules, update_rules};
+ghost use Rattle.sasi_model.specs.Refusals.{delete_rules, each, other_key, repeat_rules, update_rules};
+ghost use Rattle.sasi_model.specs.Abbreviations.{TIME_LIMIT as time_limit, gives_key};
 ghost use Rattle.sasi_schema.specs.Answers.{Answers};
 ghost use Rattle.sasi_schema.specs.Defined.{definition};
 ghost use Rattle.sasi_machine.specs.Checks.{IsTimeOf, given_key_rules, given_rules, kind_rules, length_rules, missing_rule, range_rules, where_rules};

@@ -3,7 +3,8 @@ ghost use Rattle.std.specs.Prelude.{◌≡◌, ◌≢◌, ◌≤◌, [], IfOk, l
 ghost use Rattle.sasi_types.specs.Value.{stored, type_of};
 ghost use Rattle.sasi_cells.specs.Rows.{IsStored};
 ghost use Rattle.sasi_model.specs.State.{decorated};
-ghost use Rattle.sasi_model.specs.Step.{stored_of, value_given};
+ghost use Rattle.sasi_model.specs.Step.{value_given};
+ghost use Rattle.sasi_model.specs.Abbreviations.{stored_of};
 ghost use Rattle.sasi_machine.specs.KeyLiteral.{IsKeyLiteral, IsKeyValue};
 
 use crate::literals::{TEXT_LIMIT, value_given};

@@ -1,7 +1,8 @@
 // Tests of literals.
 ghost use Rattle.std.specs.Prelude.{◌≡◌, false};
-ghost use Rattle.sasi_model.specs.Step.{value_given, value_set};
-ghost use Rattle.sasi_model.specs.Refusals.{is_empty_text, is_long_text, is_null, is_of, is_out_of_range, is_within, tests};
+ghost use Rattle.sasi_model.specs.Step.{value_given};
+ghost use Rattle.sasi_model.specs.Abbreviations.{value_set, is_empty_text, is_long_text};
+ghost use Rattle.sasi_model.specs.Refusals.{is_null, is_of, is_out_of_range, is_within, tests};
 
 use sasi_types::{ColumnType, Literal, Number, Value};
 

@@ -1,7 +1,7 @@
 // The machine.
 ghost use Rattle.std.specs.Prelude.{◌≡◌, IfOk, OnOk, OnErr};
 ghost use Rattle.sasi_model.specs.Pieces.{piece_of};
-ghost use Rattle.sasi_model.specs.State.{empty_state};
+ghost use Rattle.sasi_model.specs.Abbreviations.{empty_state};
 ghost use Rattle.sasi_model.specs.Changes.{with_new_table};
 ghost use Rattle.sasi_model.specs.Step.{step};
 ghost use Rattle.sasi_schema.specs.Defined.{definition};

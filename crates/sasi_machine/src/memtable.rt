@@ -6,7 +6,8 @@ ghost use Rattle.std.specs.List.{flat_map};
 ghost use Rattle.sasi_types.specs.DecoratedKey.{decorated_cmp};
 ghost use Rattle.sasi_cells.specs.Rows.{IsStored};
 ghost use Rattle.sasi_model.specs.Cells.{empty_partition, merge};
-ghost use Rattle.sasi_model.specs.Lines.{row_line, rows_lines};
+ghost use Rattle.sasi_model.specs.Lines.{rows_lines};
+ghost use Rattle.sasi_model.specs.Abbreviations.{row_line};
 ghost use Rattle.sasi_machine.specs.MemtableView.{KeysStored, rows_picked};
 
 use crate::Reply;

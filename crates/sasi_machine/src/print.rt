@@ -3,7 +3,8 @@ ghost use Rattle.std.specs.Prelude.{◌≡◌, ◌≢◌, ◌++◌, ℕ, [], cod
 ghost use Rattle.std.specs.List.{flat_map};
 ghost use Rattle.std.specs.Fmt.{decimal, signed_decimal};
 ghost use Rattle.uuid.specs.Text.{hyphenated_text, lower};
-ghost use Rattle.sasi_model.specs.Lines.{ok_line, row_line, count_line, row_text, printed, refusal_line, refusal_text, text_printed, value_printed};
+ghost use Rattle.sasi_model.specs.Lines.{printed, refusal_line, value_printed};
+ghost use Rattle.sasi_model.specs.Abbreviations.{ok_line, row_line, count_line, text_printed, row_text, refusal_text};
 ghost use Rattle.sasi_machine.specs.Refusal.{refusal_of};
 ghost use Rattle.sasi_machine.specs.declared.refusal.Refusal.TheVariants.{NotUtf8};
 

@@ -1,6 +1,6 @@
 // Why pieces are refused.
 ghost use Rattle.std.specs.Prelude.{◌≡◌};
-ghost use Rattle.sasi_model.specs.Lines.{refusal_number};
+ghost use Rattle.sasi_model.specs.Abbreviations.{refusal_number};
 
 use sasi_schema::Limit;
 use sasi_types::Name;

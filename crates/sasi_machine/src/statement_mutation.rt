@@ -1,7 +1,8 @@
 // The mutations of statements, or their refusals.
 ghost use Rattle.std.specs.Prelude.{◌≡◌, ◌≤◌, IfOk};
 ghost use Rattle.sasi_types.specs.declared.statement.Statement.TheVariants.{Insert, Update, Delete};
-ghost use Rattle.sasi_model.specs.Refusals.{TIME_LIMIT as time_limit, rules};
+ghost use Rattle.sasi_model.specs.Refusals.{rules};
+ghost use Rattle.sasi_model.specs.Abbreviations.{TIME_LIMIT as time_limit};
 ghost use Rattle.sasi_schema.specs.Answers.{Answers};
 ghost use Rattle.sasi_machine.specs.Faults.{refusal_of_fault};
 ghost use Rattle.sasi_machine.specs.Writes.{IsWrite, IsWriting};

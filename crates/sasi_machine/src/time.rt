@@ -1,6 +1,7 @@
 // The timestamps of writes.
 ghost use Rattle.std.specs.Prelude.{◌≡◌, ◌≤◌, IfOk};
-ghost use Rattle.sasi_model.specs.Refusals.{TIME_LIMIT as time_limit, is_time, time_rules};
+ghost use Rattle.sasi_model.specs.Refusals.{is_time, time_rules};
+ghost use Rattle.sasi_model.specs.Abbreviations.{TIME_LIMIT as time_limit};
 ghost use Rattle.sasi_types.specs.declared.literal.Number.TheVariants.{Fits};
 ghost use Rattle.sasi_schema.specs.Answers.{Answers};
 ghost use Rattle.sasi_machine.specs.Checks.{IsTimeOf};

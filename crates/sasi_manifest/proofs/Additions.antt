@@ -5,7 +5,7 @@ use Rattle.sasi_host.specs.Names.{Bytes}
 use Rattle.sasi_schema.specs.Numbers.{RisesFrom}
 use Rattle.sasi_manifest.specs.declared.listed.ListedTable.{ListedTable}
 use Rattle.sasi_manifest.specs.Naming.{IsFree, AreApart}
-use Rattle.sasi_manifest.specs.Listings.{listed_names}
+use Rattle.sasi_manifest.specs.Abbreviations.{listed_names}
 use Rattle.sasi_manifest.specs.ListedTables.{IsInOrder, listed}
 
 apart_push : (taken names : List Bytes) (name : Bytes) → AreApart taken names → IsFree (taken ++ names) name → AreApart taken (names ++ name ∷ [])

@@ -1,6 +1,7 @@
 -- When an edit applies.
 use Rattle.std.proofs.Common.{◌≡◌, ◌<◌, ◌≤◌, ◌+◌, ◌^◌, ◌-◌, ℕ, suc, Bool, true, false, not, ◌&&◌, List, [], ◌∷◌, ◌++◌, length, min, Option, None, Some, refl, sym, ap, ◌∙◌, subst, arith, rules}
-use Rattle.std.specs.Prelude.{nat_lt, nat_le, nat_eq}
+use Rattle.std.specs.Int.{w8, w16, w32}
+use Rattle.std.specs.Prelude.{nat_lt, nat_le}
 use Rattle.std.proofs.lemmas.List.{map-append}
 use Rattle.std.specs.List.{list_any, list_all}
 use Rattle.sasi_types.specs.declared.column.ColumnType.{ColumnType}
@@ -14,14 +15,15 @@ use Rattle.sasi_model.specs.Refusals.{names_in}
 use Rattle.sasi_model.specs.Statements.{same}
 use Rattle.sasi_model.specs.Tokens.{is_word_byte}
 use Rattle.sasi_formats.specs.Formats.{Fits, fit_items}
-use Rattle.sasi_formats.specs.Codings.{One, Two, Four, when_is}
+use Rattle.sasi_formats.specs.Codings.{when_is}
 use Rattle.sasi_formats.specs.Fields.{◌&◌, number, in_range}
 use Rattle.sasi_formats.proofs.Fitting.{both_true, when_true, number_fits, checked_fits, fits_checked, range_fits, fits_range}
 use Rattle.sasi_manifest.specs.declared.edit.Edit.{Edit}
 use Rattle.sasi_manifest.specs.declared.edit.Edit.TheVariants.{Start, CreateTable}
 use Rattle.sasi_manifest.specs.declared.listing.Listing.{Listing}
-use Rattle.sasi_manifest.specs.Edits.{is_open_name, name, type, partitioner, column, segments, shape, edit, Applies}
-use Rattle.sasi_manifest.specs.Listings.{CanStart, IsWritable, listed_names}
+use Rattle.sasi_manifest.specs.Edits.{name, type, partitioner, shape, edit, Applies}
+use Rattle.sasi_manifest.specs.Abbreviations.{column, is_open_name, listed_names}
+use Rattle.sasi_manifest.specs.Listings.{CanStart, IsWritable}
 use Rattle.sasi_manifest.specs.Naming.{IsName, IsFree, AreNames, AreApart}
 
 -- ---- names and types
@@ -33,7 +35,7 @@ not_any false h = refl
 open_name_fits : (taken : List Bytes) (n : Bytes) → IsName n → IsFree taken n → Fits (name taken) n
 open_name_fits taken n is free =
     let open_name : is_open_name taken n ≡ true = ap (λ (b : Bool). b && not (list_any (same n) taken)) is.word ∙ ap not free in
-    (range_fits One 1 48 (length n) (omega (arith, is.short)) is.some is.short, when_true (is_open_name taken n) n open_name)
+    (range_fits w8 1 48 (length n) (omega (arith, is.short)) is.some is.short, when_true (is_open_name taken n) n open_name)
 
 record FitsName (taken : List Bytes) (n : Bytes) : Type 0 where
   pub is : IsName n
@@ -41,19 +43,19 @@ record FitsName (taken : List Bytes) (n : Bytes) : Type 0 where
 
 fits_name : (taken : List Bytes) (n : Bytes) → Fits (name taken) n → FitsName taken n
 fits_name taken n h =
-    let range = fits_range One 1 48 (length n) h.0 in
+    let range = fits_range w8 1 48 (length n) h.0 in
     let tests = both_true (list_all is_word_byte n) (not (list_any (same n) taken)) (when_is (is_open_name taken n) n n h.1).0 in
     record { is = record { some = range.above; short = range.below; word = tests.0 }; free = not_any (list_any (same n) taken) tests.1 }
 
 type_fits : (t : ColumnType) → Fits type t
-type_fits types.Text = (number_fits One 0 (omega arith), refl)
-type_fits types.Int = (number_fits One 1 (omega arith), refl)
-type_fits types.BigInt = (number_fits One 2 (omega arith), refl)
-type_fits types.Uuid = (number_fits One 3 (omega arith), refl)
+type_fits types.Text = (number_fits w8 0 (omega arith), refl)
+type_fits types.Int = (number_fits w8 1 (omega arith), refl)
+type_fits types.BigInt = (number_fits w8 2 (omega arith), refl)
+type_fits types.Uuid = (number_fits w8 3 (omega arith), refl)
 
 partitioner_fits : (p : Partitioner) → Fits partitioner p
-partitioner_fits Lead8 = (number_fits One 0 (omega arith), refl)
-partitioner_fits Murmur3 = (number_fits One 1 (omega arith), refl)
+partitioner_fits Lead8 = (number_fits w8 0 (omega arith), refl)
+partitioner_fits Murmur3 = (number_fits w8 1 (omega arith), refl)
 
 -- ---- columns
 
@@ -82,28 +84,28 @@ fit_columns before (c ∷ columns) h =
 pub start_applies : (p : Partitioner) (floor last : ℕ) → CanStart floor last → Applies None (Start p floor last)
 unfolding edit
 start_applies p floor last can =
-    let both = in_range Four 1 (2 ^ 32 - 1) & in_range Four 1 (2 ^ 32 - 1) in
-    let first = range_fits Four 1 (2 ^ 32 - 1) floor (omega (arith, can.ordered, can.last_fits)) can.floor_some (omega (arith, can.ordered, can.last_fits)) in
-    let second = range_fits Four 1 (2 ^ 32 - 1) last can.last_fits (omega (arith, can.ordered, can.floor_some)) (omega (arith, can.last_fits)) in
+    let both = in_range w32 1 (2 ^ 32 - 1) & in_range w32 1 (2 ^ 32 - 1) in
+    let first = range_fits w32 1 (2 ^ 32 - 1) floor (omega (arith, can.ordered, can.last_fits)) can.floor_some (omega (arith, can.ordered, can.last_fits)) in
+    let second = range_fits w32 1 (2 ^ 32 - 1) last can.last_fits (omega (arith, can.ordered, can.floor_some)) (omega (arith, can.last_fits)) in
     let ordered : nat_le floor last ≡ true = search (rules, can.ordered) in
-    ((range_fits One 1 1 1 (omega arith) (omega arith) (omega arith), ((partitioner_fits p, checked_fits rule.Number 4 (λ s. nat_le s.0 s.1) both (floor, last) (first, second) ordered), refl)), refl)
+    ((range_fits w8 1 1 1 (omega arith) (omega arith) (omega arith), ((partitioner_fits p, checked_fits rule.Number 4 (λ s. nat_le s.0 s.1) both (floor, last) (first, second) ordered), refl)), refl)
 
 pub applies_start : (p : Partitioner) (floor last : ℕ) → Applies None (Start p floor last) → CanStart floor last
 unfolding edit
 applies_start p floor last h =
-    let both = in_range Four 1 (2 ^ 32 - 1) & in_range Four 1 (2 ^ 32 - 1) in
+    let both = in_range w32 1 (2 ^ 32 - 1) & in_range w32 1 (2 ^ 32 - 1) in
     let checked_is = fits_checked rule.Number 4 (λ s. nat_le s.0 s.1) both (floor, last) h.0.1.0.1 in
-    let first = fits_range Four 1 (2 ^ 32 - 1) floor checked_is.0.0 in
-    let second = fits_range Four 1 (2 ^ 32 - 1) last checked_is.0.1 in
+    let first = fits_range w32 1 (2 ^ 32 - 1) floor checked_is.0.0 in
+    let second = fits_range w32 1 (2 ^ 32 - 1) last checked_is.0.1 in
     record { floor_some = first.above; ordered = search (rules, checked_is.1); last_fits = second.fits }
 
 pub no_start : (listing : Listing) (p : Partitioner) (floor last : ℕ) → Applies (Some listing) (Start p floor last) → ⊥
 unfolding edit
-no_start listing p floor last h = let range = fits_range One 2 2 1 h.0.0 in omega (arith, range.above)
+no_start listing p floor last h = let range = fits_range w8 2 2 1 h.0.0 in omega (arith, range.above)
 
 pub no_create : (number : ℕ) (name : Bytes) (columns : List Column) (key since : ℕ) → Applies None (CreateTable number name columns key since) → ⊥
 unfolding edit
-no_create number title columns position since h = let range = fits_range One 1 1 2 h.0.0 in omega (arith, range.below)
+no_create number title columns position since h = let range = fits_range w8 1 1 2 h.0.0 in omega (arith, range.below)
 
 -- ---- a new table
 
@@ -126,24 +128,24 @@ pub create_applies : (listing : Listing) (number : ℕ) (name : Bytes) (columns 
 unfolding edit
 create_applies listing table title columns position since can =
     let count = length listing.tables + 1 in
-    let numbered = range_fits Four count (min count 256) table (omega (arith, can.few)) (omega (arith, can.next)) (omega (arith, can.next, can.few)) in
+    let numbered = range_fits w32 count (min count 256) table (omega (arith, can.few)) (omega (arith, can.next)) (omega (arith, can.next, can.few)) in
     let keyed : nat_lt position (length columns) ≡ true = search (rules, can.key_within) in
-    let key_is = checked_fits rule.Number 2 (λ key. nat_lt key (length columns)) (number Two) position (number_fits Two position (omega (arith, can.key_within, can.few_columns))) keyed in
-    let many = range_fits Two 1 64 (length columns) (omega (arith, can.few_columns)) can.some_columns can.few_columns in
-    let shaped : Fits (shape listing.last) (columns, (position, since)) = ((many, columns_fit [] columns can.column_names can.apart), (key_is, range_fits Four 1 listing.last since can.since_fits can.since_some can.since_within)) in
-    ((range_fits One 2 2 2 (omega arith) (omega arith) (omega arith), ((numbered, (open_name_fits (listed_names listing.tables) title can.name_fits can.free, shaped)), refl)), refl)
+    let key_is = checked_fits rule.Number 2 (λ key. nat_lt key (length columns)) (number w16) position (number_fits w16 position (omega (arith, can.key_within, can.few_columns))) keyed in
+    let many = range_fits w16 1 64 (length columns) (omega (arith, can.few_columns)) can.some_columns can.few_columns in
+    let shaped : Fits (shape listing.last) (columns, (position, since)) = ((many, columns_fit [] columns can.column_names can.apart), (key_is, range_fits w32 1 listing.last since can.since_fits can.since_some can.since_within)) in
+    ((range_fits w8 2 2 2 (omega arith) (omega arith) (omega arith), ((numbered, (open_name_fits (listed_names listing.tables) title can.name_fits can.free, shaped)), refl)), refl)
 
 pub applies_create : (listing : Listing) (number : ℕ) (name : Bytes) (columns : List Column) (key since : ℕ) → Applies (Some listing) (CreateTable number name columns key since) → CanCreate listing number name columns key since
 unfolding edit
 applies_create listing table title columns position since h =
     let fields = h.0.1.0 in
     let count = length listing.tables + 1 in
-    let numbered = fits_range Four count (min count 256) table fields.0 in
+    let numbered = fits_range w32 count (min count 256) table fields.0 in
     let named = fits_name (listed_names listing.tables) title fields.1.0 in
-    let many = fits_range Two 1 64 (length columns) fields.1.1.0.0 in
+    let many = fits_range w16 1 64 (length columns) fields.1.1.0.0 in
     let are = fit_columns [] columns fields.1.1.0.1 in
-    let keyed = fits_checked rule.Number 2 (λ key. nat_lt key (length columns)) (number Two) position fields.1.1.1.0 in
-    let first = fits_range Four 1 listing.last since fields.1.1.1.1 in
+    let keyed = fits_checked rule.Number 2 (λ key. nat_lt key (length columns)) (number w16) position fields.1.1.1.0 in
+    let first = fits_range w32 1 listing.last since fields.1.1.1.1 in
     record {
       next = omega (arith, numbered.above, numbered.below);
       few = omega (arith, numbered.below);

@@ -13,6 +13,8 @@ use Rattle.sasi_manifest.specs.Listings.{after, after_all, with_record_counted}
 use Rattle.sasi_manifest.specs.Consistent.{ConsistentIf, IsConsistent}
 use Rattle.sasi_manifest.proofs.Applying.{applies_create, applies_start, no_create, no_start}
 use Rattle.sasi_manifest.proofs.Records.{ApplyInTurn, in_turn, record_applies}
+use Rattle.sasi_formats.proofs.EncodingsAgree.{encodes_of}
+use Rattle.sasi_manifest.specs.Edits.{edits as edits_after}
 
 all_both : {A : Type 0} (P : A → Type 0) (xs ys : List A) → AllByRecursion P xs → AllByRecursion P ys → AllByRecursion P (xs ++ ys)
 all_both P [] ys first second = second
@@ -46,7 +48,7 @@ leads_consistent : (from : Option Listing) (records : List Bytes) (to : Option L
 leads_consistent from [] to leads known = subst ConsistentIf leads known
 leads_consistent from (payload ∷ payloads) to (edits, is, more) known =
     leads_consistent (with_record_counted payload (after_all from edits)) payloads to more
-    (counted_consistent payload (after_all from edits) (edits_consistent from edits (record_applies from edits payload is).apply known))
+    (counted_consistent payload (after_all from edits) (edits_consistent from edits (record_applies from edits payload (encodes_of (edits_after from) edits payload is)).apply known))
 
 -- the listing of a manifest is consistent
 pub manifest_consistent : (number : ℕ) (bytes : Bytes) (listing : Listing) → IsManifest number bytes listing → IsConsistent listing

@@ -1,5 +1,5 @@
 -- What each moment of a call leaves of a manifest and its seal.
-use Rattle.std.proofs.Common.{◌≡◌, ◌≢◌, ◌≤◌, ◌+◌, ◌^◌, ℕ, List, [], ◌∷◌, ◌++◌, length, Option, Some, None, refl, sym, ◌∙◌, ap, subst, arith, inl, inr, ⊎_elim, true, false, IsTrue, length-append}
+use Rattle.std.proofs.Common.{◌≡◌, ◌≢◌, ◌≤◌, ◌+◌, ◌^◌, ℕ, List, [], ◌∷◌, ◌++◌, length, Option, Some, None, sym, ◌∙◌, ap, subst, arith, inl, inr, ⊎_elim, true, false, IsTrue, length-append}
 use Rattle.std.specs.FinMap.{get}
 use Rattle.sasi_host.specs.declared.name.FileName.{FileName}
 use Rattle.sasi_host.specs.declared.name.Kind.TheVariants.{Manifest, Seal}
@@ -17,9 +17,11 @@ use Rattle.sasi_manifest.specs.declared.edit.Edit.{Edit}
 use Rattle.sasi_manifest.specs.declared.listing.Listing.{Listing}
 use Rattle.sasi_manifest.specs.Consistent.{IsConsistent}
 use Rattle.sasi_manifest.proofs.Consistency.{record_consistent}
-use Rattle.sasi_manifest.specs.Edits.{AllApply, encoded}
+use Rattle.sasi_formats.proofs.EncodingsAgree.{is_encoded_of}
+use Rattle.sasi_manifest.specs.Edits.{AllApply, encoded, edits as edits_after}
 use Rattle.sasi_manifest.specs.Listings.{after_all, with_record_counted, edits_of, records_of, length_of}
-use Rattle.sasi_manifest.specs.Format.{Builds, IsNext, IsRewritten}
+use Rattle.sasi_manifest.specs.Format.{IsNext, IsRewritten}
+use Rattle.sasi_manifest.specs.Abbreviations.{Builds}
 use Rattle.sasi_manifest.specs.OpenManifest.{ManifestState, IsOpenManifest, IsAtListingEnd, ManifestStands, IsEither, IsUnsealed, ChangesOnlyManifest, Creates}
 use Rattle.sasi_manifest.proofs.Laws.{leads_on}
 use Rattle.sasi_manifest.proofs.Records.{record_encodes, sizes_stay}
@@ -29,7 +31,7 @@ use Rattle.sasi_manifest.proofs.Records.{record_encodes, sizes_stay}
 next_builds : (listing next : Listing) (edits : List Edit) (records : List Bytes) → AllApply (Some listing) edits → 1 ≤ length edits
     → length (encoded edits) ≤ 2 ^ 30 → IsNext listing edits next → Builds records listing → Builds (records ++ encoded edits ∷ []) next
 next_builds listing next edits records apply some short is builds =
-    leads_on None (Some listing) (Some next) records (encoded edits ∷ []) builds (edits, record_encodes (Some listing) edits apply some short, sym is)
+    leads_on None (Some listing) (Some next) records (encoded edits ∷ []) builds (edits, is_encoded_of (edits_after (Some listing)) edits (encoded edits) (record_encodes (Some listing) edits apply some short), sym is)
 
 pub appended : (a b : View) (n at after : ℕ) (file : FileName) (listing next : Listing) (edits : List Edit) → file ≡ manifest_name n
     → AllApply (Some listing) edits → 1 ≤ length edits → length (encoded edits) ≤ 2 ^ 30 → IsNext listing edits next
@@ -110,7 +112,7 @@ still_unsealed a b n change unsealed = each_on a b (FileChange (manifest_name n)
 pub new_builds : (listing made : Listing) (payload : Bytes) → AllApply None (edits_of listing) → length
     (encoded (edits_of listing)) ≤ 2 ^ 30 → payload ≡ encoded (edits_of listing) → IsRewritten listing made → Builds (payload ∷ []) made
 new_builds listing made payload apply short is rewritten =
-    subst (λ (l : Bytes). Builds (l ∷ []) made) (sym is) (edits_of listing, record_encodes None (edits_of listing) apply (omega arith) short, sym rewritten)
+    subst (λ (l : Bytes). Builds (l ∷ []) made) (sym is) (edits_of listing, is_encoded_of (edits_after None) (edits_of listing) (encoded (edits_of listing)) (record_encodes None (edits_of listing) apply (omega arith) short), sym rewritten)
 
 made_seal : (a b : View) (n at : ℕ) (listing : Listing) (records : List Bytes) → IsSound a → IsUnsealed a n → IsAtEnd a
     (manifest_name n) at records → Builds records listing → Changes (FileChange (seal_name n) MaybeCreated) a b → Changes (Creates n listing) a b

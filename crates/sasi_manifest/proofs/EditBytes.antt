@@ -2,7 +2,7 @@
 use Rattle.std.proofs.Common.{◌≡◌, ◌<◌, ◌≤◌, ◌+◌, ◌*◌, ◌^◌, ℕ, List, [], ◌∷◌, ◌++◌, length, drop, get_or, Option, None, Some, refl, sym, ap, ◌∙◌, arith, length-append, append-nil, append_assoc, subst}
 use Rattle.std.proofs.lemmas.List.{drop_all, drop_more}
 use Rattle.std.specs.List.{flat_map}
-use Rattle.std.specs.Int.{to_be_bytes, w16, w32}
+use Rattle.std.specs.Int.{to_be_bytes, w8, w16, w32}
 use Rattle.sasi_types.specs.declared.partitioner.Partitioner.{Partitioner}
 use Rattle.sasi_host.specs.Names.{Bytes}
 use Rattle.sasi_model.specs.State.{Column}
@@ -12,7 +12,8 @@ use Rattle.sasi_formats.specs.Formats as formats
 use Rattle.sasi_manifest.specs.declared.edit.Edit.{Edit}
 use Rattle.sasi_manifest.specs.declared.edit.Edit.TheVariants.{Start, CreateTable}
 use Rattle.sasi_manifest.specs.declared.listing.Listing.{Listing}
-use Rattle.sasi_manifest.specs.Edits.{column, columns, type_code, edit, edits, encoded, Applies}
+use Rattle.sasi_manifest.specs.Edits.{columns, type_code, edit, edits, encoded, Applies}
+use Rattle.sasi_manifest.specs.Abbreviations.{column}
 use Rattle.sasi_manifest.specs.Listings.{after_all}
 use Rattle.sasi_manifest.specs.Naming.{AreNames, IsName}
 use Rattle.sasi_manifest.proofs.Applying.{applies_create}
@@ -26,10 +27,10 @@ items_flat item f each before (a ∷ items) =
 -- ---- columns
 
 abbrev pub name_bytes : Bytes → Bytes
-name_bytes name = length name ∷ name
+name_bytes name = to_be_bytes w8 (length name) ++ name
 
 abbrev pub column_bytes : Column → Bytes
-column_bytes c = name_bytes c.0 ++ (type_code c.1 ∷ [])
+column_bytes c = name_bytes c.0 ++ to_be_bytes w8 (type_code c.1)
 
 pub columns_bytes : (all : List Column) → formats.encoded columns all ≡ to_be_bytes w16 (length all) ++ flat_map column_bytes all
 columns_bytes all = ap (λ (l : Bytes). to_be_bytes w16 (length all) ++ l) (items_flat (λ before. formats.encoded (column before)) column_bytes (λ before c. refl) [] all)
@@ -43,8 +44,9 @@ edit_bytes e = formats.encoded (edit None) e
 -- are the same whatever is listed
 same_edit : (from : Option Listing) (e : Edit) → formats.encoded (edit from) e ≡ edit_bytes e
 unfolding edit
-same_edit from (Start _ _ _) = refl
-same_edit from (CreateTable _ _ _ _ _) = refl
+same_edit None e = refl
+same_edit (Some listing) (Start _ _ _) = refl
+same_edit (Some listing) (CreateTable _ _ _ _ _) = refl
 
 -- a record in its parts
 pub record_parts : (from : Option Listing) (es : List Edit) → formats.encoded (edits from) es ≡ to_be_bytes w32 (length es) ++ flat_map edit_bytes es
@@ -77,7 +79,7 @@ create_length number name all key since =
 
 columns_size : (all : List Column) → AreNames (names_in all) → length (flat_map column_bytes all) ≤ 50 * length all
 columns_size [] names = omega arith
-columns_size (c ∷ all) names = omega (arith, names.0.short, columns_size all names.1, length-append (column_bytes c) (flat_map column_bytes all), length-append c.0 (type_code c.1 ∷ []))
+columns_size (c ∷ all) names = omega (arith, names.0.short, columns_size all names.1, length-append (column_bytes c) (flat_map column_bytes all), length-append c.0 (to_be_bytes w8 (type_code c.1)))
 
 -- is small
 pub create_short : (listing : Listing) (number : ℕ) (name : Bytes) (all : List Column) (key since : ℕ) → Applies (Some listing) (CreateTable number name all key since) → length (encoded (CreateTable number name all key since ∷ [])) ≤ 4096

@@ -6,7 +6,8 @@ use Rattle.std.specs.Prelude.{◌||◌}
 use Rattle.std.specs.List.{list_any}
 use Rattle.sasi_host.specs.Names.{Bytes}
 use Rattle.sasi_model.specs.Statements.{same}
-use Rattle.sasi_model.specs.State.{Column, position_in, column_at, name_or_none, one_more}
+use Rattle.sasi_model.specs.State.{Column, position_in}
+use Rattle.sasi_model.specs.Abbreviations.{column_at, name_or_none, one_more}
 use Rattle.sasi_model.specs.Refusals.{names_in}
 use Rattle.sasi_schema.specs.Numbers.{IsKeyAt}
 use Rattle.sasi_manifest.specs.Naming.{IsFree, AreApart}

@@ -2,7 +2,8 @@
 use Rattle.std.proofs.Common.{◌≡◌, ◌<◌, ℕ, suc, true, false, List, [], ◌∷◌, length, Option, Some, None, refl, arith, if◌then◌else◌}
 use Rattle.sasi_host.specs.Names.{Bytes}
 use Rattle.sasi_model.specs.Statements.{same}
-use Rattle.sasi_model.specs.State.{Column, position_in, one_more}
+use Rattle.sasi_model.specs.State.{Column, position_in}
+use Rattle.sasi_model.specs.Abbreviations.{one_more}
 use Rattle.sasi_schema.specs.Numbers.{IsKeyAt}
 
 within_more : (o : Option ℕ) (count k : ℕ) → ((j : ℕ) → o ≡ Some j → j < count) → one_more o ≡ Some k → k < suc count

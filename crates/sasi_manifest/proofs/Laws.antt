@@ -7,21 +7,24 @@ use Rattle.sasi_gated.specs.Format.{Opens, Closes, FromGate}
 use Rattle.sasi_gated.proofs.Laws.{records_same, left_at, opens_same, opens_not_closes}
 use Rattle.sasi_gated.proofs.Undamaged.{gated_undamaged}
 use Rattle.sasi_formats.specs.Formats.{Encodes}
+use Rattle.sasi_formats.specs.Encodings.{IsEncoded}
 use Rattle.sasi_formats.specs.Reader.{Corruption}
 use Rattle.sasi_formats.specs.Failures.{FailsWhole}
 use Rattle.sasi_formats.proofs.Agreement.{one_content, never_both}
+use Rattle.sasi_formats.proofs.EncodingsAgree.{encodes_of}
 use Rattle.sasi_manifest.specs.declared.edit.Edit.{Edit}
 use Rattle.sasi_manifest.specs.declared.listing.Listing.{Listing}
 use Rattle.sasi_manifest.specs.Edits.{edits}
 use Rattle.sasi_manifest.specs.Listings.{after_all, with_record_counted}
-use Rattle.sasi_manifest.specs.Format.{RecordsLeadTo, Builds, IsManifest}
+use Rattle.sasi_manifest.specs.Format.{RecordsLeadTo, IsManifest}
+use Rattle.sasi_manifest.specs.Abbreviations.{Builds}
 use Rattle.sasi_manifest.specs.Damages.{ShowsDamage}
 
 -- ---- records
 
 -- a record builds up one listing
-pub record_same : (from : Option Listing) (payload : Bytes) (a b : List Edit) → Encodes (edits from) a payload → Encodes (edits from) b payload → after_all from a ≡ after_all from b
-record_same from payload a b first second = ap (after_all from) (one_content (edits from) a b payload first second)
+pub record_same : (from : Option Listing) (payload : Bytes) (a b : List Edit) → IsEncoded (edits from) a payload → IsEncoded (edits from) b payload → after_all from a ≡ after_all from b
+record_same from payload a b first second = ap (after_all from) (one_content (edits from) a b payload (encodes_of (edits from) a payload first) (encodes_of (edits from) b payload second))
 
 -- records lead to one listing
 pub leads_same : (from : Option Listing) (records : List Bytes) (a b : Option Listing) → RecordsLeadTo from records a → RecordsLeadTo from records b → a ≡ b
@@ -62,7 +65,7 @@ fits_there listing listed done (p ∷ left) rest payload tail found builds (tail
     let parts = leads_apart None (Some listing) done (p ∷ left) builds in
     let same : parts.0 ≡ listed = leads_same None done parts.0 listed parts.1 leads in
     let es = parts.2.0 in
-    let is : Encodes (edits listed) es p = subst (λ (l : Option Listing). Encodes (edits l) es p) same parts.2.1 in
+    let is : Encodes (edits listed) es p = subst (λ (l : Option Listing). Encodes (edits l) es p) same (encodes_of (edits parts.0) es p parts.2.1) in
     let here : p ≡ payload = (opens_same rest p payload tail' tail opens' opens).0 in
     never_both (edits listed) payload es found (subst (λ (l : Bytes). Encodes (edits listed) es l) here is) fails
 

@@ -10,4 +10,3 @@ pub mod Tagged
 pub mod CrashMoments
 pub mod Opening
 pub mod KeyWithin
-pub mod TypesApart

@@ -1,14 +1,13 @@
 -- The reading of a manifest, record by record.
-use Rattle.std.proofs.Common.{◌≡◌, ◌≤◌, ◌-◌, ◌+◌, ◌^◌, ℕ, true, false, IsTrue, List, [], ◌∷◌, ◌++◌, length, Option, Some, None, refl, sym, ◌∙◌, ap, subst, arith, inl, inr, ⊎_elim, length-append}
+use Rattle.std.proofs.Common.{◌≡◌, ◌≤◌, ◌-◌, ◌+◌, ◌^◌, ℕ, true, false, IsTrue, List, [], ◌∷◌, ◌++◌, length, Option, Some, None, refl, sym, ◌∙◌, ap, subst, arith, inl, inr}
 use Rattle.std.proofs.lemmas.List.{append-nil}
 use Rattle.sasi_host.specs.declared.name.FileName.{FileName}
 use Rattle.sasi_host.specs.declared.damage.Damage.{Damage}
-use Rattle.sasi_host.specs.declared.damage.FormatRule.{FormatRule}
 use Rattle.sasi_host.specs.declared.damage.FormatRule.TheVariants.{Number}
 use Rattle.sasi_host.specs.declared.fault.ReadFault.{ReadFault}
 use Rattle.sasi_host.specs.declared.fault.ReadFault.TheVariants as fault
 use Rattle.sasi_host.specs.Names.{Bytes, manifest_name}
-use Rattle.sasi_host.specs.View.{View, IsSound, IsThere, contents}
+use Rattle.sasi_host.specs.View.{View, IsSound, contents}
 use Rattle.sasi_host.specs.Disk.{Changes, Same}
 use Rattle.sasi_host.specs.ChangeLaws.{then_same}
 use Rattle.sasi_host.specs.Contents.{contents_same, there_where}
@@ -18,12 +17,16 @@ use Rattle.sasi_host.specs.Damages.{seen_bytes}
 use Rattle.sasi_gated.specs.Format.{IsGated}
 use Rattle.sasi_gated.specs.Gates.{IsAtGate}
 use Rattle.sasi_gated.proofs.Laws.{gated_at}
-use Rattle.sasi_gated.specs.Reads.{GatedDamageShown, GatedDamageShownAt, ReadsGate, HasHeader}
+use Rattle.sasi_gated.specs.Reads.{GatedDamageShown, GatedDamageShownAt, ReadsGate}
 use Rattle.sasi_host.specs.Damages.{OnDamage}
 use Rattle.sasi_gated.specs.Handles.{Handle}
+use Rattle.sasi_host.specs.Buffered.{IsBuffered}
+use Rattle.sasi_host.specs.Sequential.{ReadsEachOnce, ReadsNoFurther, ReadsWithinPages}
+use Rattle.sasi_gated.specs.ReadCosts.{fails_within, opens_on, opens_within}
 use Rattle.sasi_manifest.specs.declared.edit.Edit.{Edit}
 use Rattle.sasi_manifest.specs.declared.listing.Listing.{Listing}
 use Rattle.sasi_formats.specs.Formats.{Encodes}
+use Rattle.sasi_formats.proofs.EncodingsAgree.{is_encoded_of, encodes_of}
 use Rattle.sasi_formats.specs.Reader.{Short, Long, Broken}
 use Rattle.sasi_formats.specs.Whole.{IsShownBy}
 use Rattle.sasi_formats.specs.declared.fault.Broken.{Broken as ABroken}
@@ -103,14 +106,14 @@ counted_then p (Some x) some = (_, refl)
 
 some_listed : (x : Option Listing) (ps : List Bytes) → (y : Listing) × (x ≡ Some y) → RecordsLeadTo x ps None → ⊥
 some_listed x [] (y, is) leads = let e : Some y ≡ None = sym is ∙ leads in cc
-some_listed x (q ∷ qs) (y, is) (es, encodes, more) =
-    let applied = record_applies x es q encodes in
+some_listed x (q ∷ qs) (y, is) (es, is_encoded, more) =
+    let applied = record_applies x es q (encodes_of (edits x) es q is_encoded) in
     some_listed (with_record_counted q (after_all x es)) qs (counted_then q (after_all x es) (something_listed x es applied.apply applied.some)) more
 
 none_read : (from : Option Listing) (records : List Bytes) → RecordsLeadTo from records None → records ≡ []
 none_read from [] leads = refl
-none_read from (p ∷ ps) (es, encodes, more) =
-    let applied = record_applies from es p encodes in
+none_read from (p ∷ ps) (es, is_encoded, more) =
+    let applied = record_applies from es p (encodes_of (edits from) es p is_encoded) in
     absurd (some_listed (with_record_counted p (after_all from es)) ps (counted_then p (after_all from es) (something_listed from es applied.apply applied.some)) more)
 
 pub shown_empty : (a b : View) (n after : ℕ) (gated : Handle) (payload : Bytes) (damage : Damage) → ReadingGoesOn a b n gated None
@@ -136,30 +139,12 @@ shown_empty a b n after gated payload damage on gate named offset rule seen byte
 
 -- ---- what was read
 
-pub goes_on_first : (a b : View) (n : ℕ) (file : FileName) (gated : Handle) → file ≡ manifest_name n → IsThere a (manifest_name n)
-    → HasHeader a file gated.at → Changes Same a b → gated.at ≡ 16 → IsTrue gated.usable → gated.file ≡ file → a.disk_faults ≤ b.disk_faults
-    → b.out_faults ≡ a.out_faults → ReadingGoesOn a b n gated None
-goes_on_first a b n file gated named there begins same offset usable of disk out = record {
-  file = of ∙ named;
-  usable = usable;
-  fits = omega (arith, offset);
-  reaches = omega (arith, offset);
-  few_records = omega arith;
-  there = there_where a b Same (manifest_name n) same (contents_same a b (manifest_name n) same) there;
-  same = same;
-  disk = disk;
-  out = out;
-  reads = λ bytes is.
-      let at = begins bytes (ap (λ (l : FileName). contents a l) named ∙ is) in
-      record { done = []; rest = at.0; at_gate = subst (λ (l : FileName). IsAtGate l bytes gated.at [] at.0) named at.1; leads = refl };
-  consistent = tt;
-}
-
 pub goes_on_next : (a b c : View) (n : ℕ) (old new : Handle) (listed : Option Listing) (listing : Listing) (payload : Bytes)
     (es : List Edit) → ReadingGoesOn a b n old listed → ReadsGate b old.file old.at new.at true payload → Changes Same b c
     → new.at ≡ old.at + (5 + length payload) → new.at ≤ 2 ^ 62 → new.file ≡ old.file → IsTrue new.usable
-    → b.disk_faults ≤ c.disk_faults → c.out_faults ≡ b.out_faults → Encodes (edits listed) es payload → Some listing ≡ with_record_counted payload (after_all listed es) → ReadingGoesOn a c n new (Some listing)
-goes_on_next a b c n old new listed listing payload es on gate same offset fits file usable disk out is made =
+    → c.disk_faults ≡ b.disk_faults → c.out_faults ≡ b.out_faults → IsBuffered new.buffered c.files
+    → ReadsEachOnce b c old.file old.buffered.page new.buffered.page new.at → Encodes (edits listed) es payload → Some listing ≡ with_record_counted payload (after_all listed es) → ReadingGoesOn a c n new (Some listing)
+goes_on_next a b c n old new listed listing payload es on gate same offset fits file usable disk out buffered once is made =
     let sizes = counted_sizes (after_all listed es) payload listing made in
     let stay = sizes_stay listed es (record_applies listed es payload is).apply in
     record {
@@ -170,8 +155,10 @@ goes_on_next a b c n old new listed listing payload es on gate same offset fits 
       few_records = omega (arith, sizes.0, stay.0, offset, on.few_records);
       there = there_where b c Same (manifest_name n) same (contents_same b c (manifest_name n) same) on.there;
       same = then_same a b c Same on.same same;
-      disk = omega (arith, on.disk, disk);
+      disk = disk ∙ on.disk;
       out = out ∙ on.out;
+      buffered = buffered;
+      once = opens_on a b c old new (contents_same a b old.file on.same) file on.once once;
       reads = λ bytes told.
           let read = on.reads bytes told in
           let opened = gate bytes read.done read.rest (still a b n old listed bytes on told) (subst (λ (l : FileName). IsAtGate l bytes old.at read.done read.rest) (sym on.file) read.at_gate) in
@@ -179,10 +166,22 @@ goes_on_next a b c n old new listed listing payload es on gate same offset fits 
             done = read.done ++ payload ∷ [];
             rest = opened.0;
             at_gate = subst (λ (l : FileName). IsAtGate l bytes new.at (read.done ++ payload ∷ []) opened.0) on.file opened.2;
-            leads = leads_on None listed (Some listing) read.done (payload ∷ []) read.leads (es, is, sym made);
+            leads = leads_on None listed (Some listing) read.done (payload ∷ []) read.leads (es, is_encoded_of (edits listed) es payload is, sym made);
           };
       consistent = record_consistent listed payload es listing (record_applies listed es payload is).apply made on.consistent;
     }
+
+-- the pages that were read up to the end, and up to an error
+pub reads_within : (a b c : View) (n : ℕ) (old new : Handle) (listed : Option Listing) → ReadingGoesOn a b n old listed → new.file ≡ old.file
+    → ReadsEachOnce b c old.file old.buffered.page new.buffered.page new.at → ReadsWithinPages a c (manifest_name n)
+reads_within a b c n old new listed on file once =
+    subst (λ (f : FileName). ReadsWithinPages a c f) (file ∙ on.file)
+    (opens_within a c new (opens_on a b c old new (contents_same a b old.file on.same) file on.once once))
+
+pub reads_no_further : (a b c : View) (n : ℕ) (old : Handle) (listed : Option Listing) → ReadingGoesOn a b n old listed
+    → ReadsNoFurther b c old.file old.buffered.page old.at → ReadsWithinPages a c (manifest_name n)
+reads_no_further a b c n old listed on further =
+    subst (λ (f : FileName). ReadsWithinPages a c f) on.file (fails_within a b c old (contents_same a b old.file on.same) on.once further)
 
 pub read_whole : (a b : View) (n after : ℕ) (gated : Handle) (listing : Listing) (payload : Bytes) → ReadingGoesOn a b n gated (Some listing)
     → ReadsGate b gated.file gated.at after false payload → ReadsWhole a n after listing

@@ -1,11 +1,11 @@
 -- Records that are read, and those that aren't.
 use Rattle.std.proofs.lemmas.Bool.Decides.{nat_tests}
+use Rattle.std.specs.Int.{w32}
 use Rattle.std.proofs.lemmas.List.{drop_more}
 use Rattle.std.proofs.Common.{Bool, true, false, ◌==◌, ◌≡◌, ◌≢◌, ◌<◌, ◌≤◌, ◌-◌, ◌+◌, ◌^◌, ℕ, suc, List, [], ◌∷◌, ◌++◌, length, drop, get_or, Option, Some, None, Err, refl, sym, ◌∙◌, ap, subst, arith}
 use Rattle.sasi_host.specs.Names.{Bytes}
 use Rattle.sasi_fields.specs.Reading.{Reading}
 use Rattle.sasi_formats.specs.Formats.{Encodes, fit_items}
-use Rattle.sasi_formats.specs.Codings.{Four}
 use Rattle.sasi_formats.specs.Fields.{in_range}
 use Rattle.sasi_formats.specs.Reader.{Outcome, Got, Failed, Corruption, Short, Long, Broken, ◌>>=◌, start, ended, closed, read, read_whole}
 use Rattle.sasi_formats.specs.Gives.{FailsWith}
@@ -103,14 +103,14 @@ abbrev counted_then : Option Listing → Outcome ℕ → Outcome (List Edit)
 counted_then from r = ended (r >>= λ n s. read_edits from n s)
 
 -- the number of edits isn't read
-pub count_fails : (from : Option Listing) (payload : Bytes) (f : FormatFault) → FailsWith (read (in_range Four 1 (2 ^ 32 - 1)) (start payload)) f → IsShownBy (edits from) payload f
-count_fails from payload f h = shown from payload f (fails_as f (read (in_range Four 1 (2 ^ 32 - 1)) (start payload)) (read_whole (edits from) payload) (λ c is. ap (counted_then from) is) h)
+pub count_fails : (from : Option Listing) (payload : Bytes) (f : FormatFault) → FailsWith (read (in_range w32 1 (2 ^ 32 - 1)) (start payload)) f → IsShownBy (edits from) payload f
+count_fails from payload f h = shown from payload f (fails_as f (read (in_range w32 1 (2 ^ 32 - 1)) (start payload)) (read_whole (edits from) payload) (λ c is. ap (counted_then from) is) h)
 
-whole_is : (from : Option Listing) (payload : Bytes) (count : ℕ) (t : Reading) → read (in_range Four 1 (2 ^ 32 - 1)) (start payload) ≡ Got count t → read_whole (edits from) payload ≡ ended (read_edits from count t)
+whole_is : (from : Option Listing) (payload : Bytes) (count : ℕ) (t : Reading) → read (in_range w32 1 (2 ^ 32 - 1)) (start payload) ≡ Got count t → read_whole (edits from) payload ≡ ended (read_edits from count t)
 whole_is from payload count t got = ap (counted_then from) got
 
 -- the edits aren't
-pub edits_fail : (from : Option Listing) (payload : Bytes) (count : ℕ) (t : Reading) → read (in_range Four 1 (2 ^ 32 - 1)) (start payload) ≡ Got count t → (f : FormatFault) → FailsWith (read_edits from count t) f → IsShownBy (edits from) payload f
+pub edits_fail : (from : Option Listing) (payload : Bytes) (count : ℕ) (t : Reading) → read (in_range w32 1 (2 ^ 32 - 1)) (start payload) ≡ Got count t → (f : FormatFault) → FailsWith (read_edits from count t) f → IsShownBy (edits from) payload f
 edits_fail from payload count t got f h =
     shown from payload f (fails_as f (read_edits from count t) (read_whole (edits from) payload) (λ c is. whole_is from payload count t got ∙ ap (λ (r : Outcome (List Edit)). ended r) is) h)
 
@@ -119,12 +119,12 @@ closed_long es u [] more = absurd (more refl)
 closed_long es u (b ∷ left) more = refl
 
 -- bytes follow the last edit
-pub more_left : (from : Option Listing) (payload : Bytes) (count : ℕ) (t : Reading) → read (in_range Four 1 (2 ^ 32 - 1)) (start payload) ≡ Got count t → (es : List Edit) (u : Reading) → read_edits from count t ≡ Got es u → u.left ≢ [] → IsShownBy (edits from) payload fault.Long
+pub more_left : (from : Option Listing) (payload : Bytes) (count : ℕ) (t : Reading) → read (in_range w32 1 (2 ^ 32 - 1)) (start payload) ≡ Got count t → (es : List Edit) (u : Reading) → read_edits from count t ≡ Got es u → u.left ≢ [] → IsShownBy (edits from) payload fault.Long
 more_left from payload count t got es u is more =
     shown from payload fault.Long (whole_is from payload count t got ∙ ap (λ (r : Outcome (List Edit)). ended r) is ∙ closed_long es u u.left more)
 
 -- the edits are all the bytes
-pub all_read : (from : Option Listing) (payload : Bytes) (count : ℕ) (t : Reading) → read (in_range Four 1 (2 ^ 32 - 1)) (start payload) ≡ Got count t → (es : List Edit) (u : Reading) → read_edits from count t ≡ Got es u → u.left ≡ [] → Encodes (edits from) es payload
+pub all_read : (from : Option Listing) (payload : Bytes) (count : ℕ) (t : Reading) → read (in_range w32 1 (2 ^ 32 - 1)) (start payload) ≡ Got count t → (es : List Edit) (u : Reading) → read_edits from count t ≡ Got es u → u.left ≡ [] → Encodes (edits from) es payload
 all_read from payload count t got es u is none =
     reads_whole (edits from) payload es u (whole_is from payload count t got ∙ ap (λ (r : Outcome (List Edit)). ended r) is ∙ ap (λ (l : Bytes). closed es u l) none)
 
@@ -138,14 +138,14 @@ pub record IsApplied (from : Option Listing) (es : List Edit) : Type 0 where
 pub record_applies : (from : Option Listing) (es : List Edit) (payload : Bytes) → Encodes (edits from) es payload → IsApplied from es
 record_applies from es payload is =
     let all = fits (edits from) es payload is in
-    let range = fits_range Four 1 (2 ^ 32 - 1) (length es) all.0 in
+    let range = fits_range w32 1 (2 ^ 32 - 1) (length es) all.0 in
     record { some = range.above; apply = all.1 }
 
 -- edits that apply have bytes
 pub record_encodes : (from : Option Listing) (es : List Edit) → AllApply from es → 1 ≤ length es → length (encoded es) ≤ 2 ^ 30 → Encodes (edits from) es (encoded es)
 record_encodes from es apply some short =
     let few = edits_few es short in
-    is_encoded (edits from) es (encoded es) (range_fits Four 1 (2 ^ 32 - 1) (length es) few some (omega (arith, few)), apply) (sym (same_record from es))
+    is_encoded (edits from) es (encoded es) (range_fits w32 1 (2 ^ 32 - 1) (length es) few some (omega (arith, few)), apply) (sym (same_record from es))
 
 still_listed : (listing : Listing) (es : List Edit) → ApplyInTurn (Some listing) es → after_all (Some listing) es ≡ None → ⊥
 still_listed listing [] all none = cc

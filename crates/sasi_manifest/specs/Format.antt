@@ -2,7 +2,7 @@
 use Rattle.std.specs.Prelude.{◌≡◌, ℕ, List, [], ◌∷◌, Option, Some, None}
 use Rattle.sasi_host.specs.Names.{Bytes, manifest_name}
 use Rattle.sasi_gated.specs.Format.{IsGated}
-use Rattle.sasi_formats.specs.Formats.{Encodes}
+use Rattle.sasi_formats.specs.Encodings.{IsEncoded}
 use Rattle.sasi_manifest.specs.declared.edit.Edit.{Edit}
 use Rattle.sasi_manifest.specs.declared.listing.Listing.{Listing}
 use Rattle.sasi_manifest.specs.Edits.{edits, encoded}
@@ -11,15 +11,11 @@ use Rattle.sasi_manifest.specs.Listings.{after_all, with_record_counted, edits_o
 -- the records build the second listing from the first
 abbrev pub RecordsLeadTo : Option Listing → List Bytes → Option Listing → Type 0
 RecordsLeadTo from [] to = from ≡ to
-RecordsLeadTo from (payload ∷ payloads) to = (es : List Edit) × Encodes (edits from) es payload × RecordsLeadTo (with_record_counted payload (after_all from es)) payloads to
-
--- the records build up the listing
-abbrev pub Builds : List Bytes → Listing → Type 0
-Builds records listing = RecordsLeadTo None records (Some listing)
+RecordsLeadTo from (payload ∷ payloads) to = (es : List Edit) × IsEncoded (edits from) es payload × RecordsLeadTo (with_record_counted payload (after_all from es)) payloads to
 
 -- the bytes are the manifest of this number, with this listing
 abbrev pub IsManifest : ℕ → Bytes → Listing → Type 0
-IsManifest number bytes listing = (records : List Bytes) × IsGated (manifest_name number) bytes records × Builds records listing
+IsManifest number bytes listing = (records : List Bytes) × IsGated (manifest_name number) bytes records × RecordsLeadTo None records (Some listing)
 
 -- the listing of a manifest that was written anew: the same tables, in one record
 abbrev pub IsRewritten : Listing → Listing → Type 0

@@ -10,3 +10,4 @@ pub mod Types
 pub mod Damages
 pub mod OpenManifest
 pub mod Reading
+pub mod Abbreviations

@@ -1,18 +1,15 @@
 -- The listing of a manifest, and the effect of edits on it.
-use Rattle.std.specs.Prelude.{◌≡◌, ℕ, suc, ◌+◌, ◌<◌, ◌≤◌, ◌^◌, List, [], ◌∷◌, ◌++◌, length, map, Option, Some, None}
-use Rattle.sasi_types.specs.declared.partitioner.Partitioner.{Partitioner}
+use Rattle.std.specs.Prelude.{ℕ, suc, ◌+◌, ◌<◌, ◌≤◌, ◌^◌, List, [], ◌∷◌, ◌++◌, length, map, Option, Some, None}
+use Rattle.std.specs.List.{fold}
+use Rattle.std.specs.Option.{option_map}
 use Rattle.sasi_host.specs.Names.{Bytes}
-use Rattle.sasi_model.specs.State.{Column, Definition}
+use Rattle.sasi_model.specs.State.{Definition}
 use Rattle.sasi_model.specs.Refusals.{names_in}
 use Rattle.sasi_manifest.specs.declared.edit.Edit.{Edit}
 use Rattle.sasi_manifest.specs.declared.edit.Edit.TheVariants.{Start, CreateTable}
 use Rattle.sasi_manifest.specs.declared.listing.Listing.{Listing}
 use Rattle.sasi_manifest.specs.ListedDefinition.{ListedDefinition}
 use Rattle.sasi_manifest.specs.Naming.{AreNames}
-
--- the names of the listed tables
-abbrev pub listed_names : List ListedDefinition → List Bytes
-listed_names tables = map (λ t. t.definition.name) tables
 
 -- the definitions of the listed tables
 abbrev pub listed_definitions : List ListedDefinition → List Definition
@@ -31,32 +28,20 @@ abbrev pub IsWritable : Edit → Type 0
 IsWritable (Start partitioner floor last) = Unit {0}
 IsWritable (CreateTable number name columns key since) = (length name ≤ 48) × (length columns ≤ 64) × AreNames (names_in columns)
 
--- no tables and no record yet; the header and the closed gate have 17 bytes
-abbrev pub started : Partitioner → ℕ → ℕ → Listing
-started partitioner floor last = record { partitioner = partitioner; floor = floor; last = last; records = 0; length = 17; tables = [] }
-
--- a table as an edit makes it
-abbrev pub created_table : Bytes → List Column → ℕ → ℕ → ListedDefinition
-created_table name columns key since = record { definition = record { name = name; columns = columns; key = key }; since = since }
-
-abbrev pub with_listed_table : ListedDefinition → Listing → Listing
-with_listed_table table listing = record listing { tables = listing.tables ++ table ∷ [] }
-
--- the listing after an edit
+-- The listing after an edit. A start has no tables and no record yet; the header and the closed gate have 17 bytes.
 abbrev pub after : Option Listing → Edit → Option Listing
-after from (Start partitioner floor last) = Some (started partitioner floor last)
+after from (Start partitioner floor last) = Some (record { partitioner = partitioner; floor = floor; last = last; records = 0; length = 17; tables = [] })
 after None (CreateTable number name columns key since) = None
-after (Some listing) (CreateTable number name columns key since) = Some (with_listed_table (created_table name columns key since) listing)
+after (Some listing) (CreateTable number name columns key since) =
+    Some (record listing { tables = listing.tables ++ record { definition = record { name = name; columns = columns; key = key }; since = since } ∷ [] })
 
 -- the listing after edits
 abbrev pub after_all : Option Listing → List Edit → Option Listing
-after_all from [] = from
-after_all from (edit ∷ edits) = after_all (after from edit) edits
+after_all from edits = fold after from edits
 
 -- the listing counts one record more: its gate, its length and its payload
 abbrev pub with_record_counted : Bytes → Option Listing → Option Listing
-with_record_counted payload None = None
-with_record_counted payload (Some listing) = Some (record listing { records = listing.records + 1; length = listing.length + (5 + length payload) })
+with_record_counted payload from = option_map (λ (l : Listing). record l { records = l.records + 1; length = l.length + (5 + length payload) }) from
 
 -- the number of records, and the length of the manifest
 abbrev pub records_of : Option Listing → ℕ

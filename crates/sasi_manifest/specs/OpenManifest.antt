@@ -8,7 +8,8 @@ use Rattle.sasi_host.specs.ChangeLaws.{Each}
 use Rattle.sasi_gated.specs.Handles.{Handle, IsAtEnd}
 use Rattle.sasi_manifest.specs.declared.listing.Listing.{Listing}
 use Rattle.sasi_manifest.specs.Consistent.{IsConsistent}
-use Rattle.sasi_manifest.specs.Format.{Builds, IsManifest}
+use Rattle.sasi_manifest.specs.Format.{IsManifest}
+use Rattle.sasi_manifest.specs.Abbreviations.{Builds}
 
 -- the model of an open manifest
 pub record ManifestState : Type 0 where

@@ -5,9 +5,11 @@ use Rattle.sasi_host.specs.Names.{Bytes, manifest_name}
 use Rattle.sasi_host.specs.View.{View, IsThere, IsTold, contents}
 use Rattle.sasi_host.specs.Disk.{Changes, Same, IsFileDurable}
 use Rattle.sasi_host.specs.Damages.{seen_bytes}
+use Rattle.sasi_host.specs.Buffered.{IsBuffered}
 use Rattle.sasi_gated.specs.Format.{Closes}
 use Rattle.sasi_gated.specs.Gates.{IsAtGate}
 use Rattle.sasi_gated.specs.Handles.{Handle}
+use Rattle.sasi_gated.specs.ReadCosts.{OpensSequential}
 use Rattle.sasi_manifest.specs.declared.listing.Listing.{Listing}
 use Rattle.sasi_formats.specs.Reader.{Corruption}
 use Rattle.sasi_formats.specs.Failures.{FailsWhole}
@@ -15,7 +17,8 @@ use Rattle.sasi_formats.specs.declared.fault.FormatFault.{FormatFault}
 use Rattle.sasi_formats.specs.declared.fault.FormatFault.TheVariants as fault
 use Rattle.sasi_manifest.specs.Consistent.{ConsistentIf}
 use Rattle.sasi_manifest.specs.Listings.{length_of, records_of}
-use Rattle.sasi_manifest.specs.Format.{Builds, IsManifest, RecordsLeadTo}
+use Rattle.sasi_manifest.specs.Format.{IsManifest, RecordsLeadTo}
+use Rattle.sasi_manifest.specs.Abbreviations.{Builds}
 use Rattle.sasi_manifest.specs.Edits.{edits}
 use Rattle.sasi_manifest.specs.Damages.{IsRecordDamage}
 use Rattle.sasi_manifest.specs.OpenManifest.{ManifestStands}
@@ -71,7 +74,9 @@ pub record ReadingGoesOn (a b : View) (number : ℕ) (gated : Handle) (listed : 
   pub few_records : records_of listed ≤ gated.at
   pub there : IsThere b (manifest_name number)
   pub same : Changes Same a b
-  pub disk : a.disk_faults ≤ b.disk_faults
+  pub disk : b.disk_faults ≡ a.disk_faults
   pub out : b.out_faults ≡ a.out_faults
+  pub buffered : IsBuffered gated.buffered b.files
+  pub once : OpensSequential a b gated
   pub reads : ReadsTo a number gated.at listed
   pub consistent : ConsistentIf listed

@@ -1,6 +1,6 @@
 // Appends edits to the file of a manifest.
 ghost use Rattle.std.specs.Prelude.{◌≡◌, ◌+◌, ◌≤◌, ◌^◌, ℕ, List, length, Some, IsTrue, is_ok, OnErr, OnOk};
-ghost use Rattle.sasi_host.specs.View.{ListCauses, Reaches};
+ghost use Rattle.sasi_host.specs.View.{MakesCalls, ListCauses, Reaches};
 ghost use Rattle.sasi_host.specs.Disk.{AnyChange, Changes, LeftWith, FileChange};
 ghost use Rattle.sasi_gated.specs.Format.{IsBeforeOrAfter};
 ghost use Rattle.sasi_gated.specs.Reads.{AppendsRecord};
@@ -40,6 +40,7 @@ pub fn append_edits<H: Host>(
     ensures room { OnOk result (Reaches (H.view host.new) gated.new.file (gated.new.at + 1)) }
     ensures usable { OnOk result (IsTrue gated.new.usable) }
     ensures file { gated.new.file ≡ gated.old.file }
+    ensures calls { MakesCalls 4 (H.view host.old) (H.view host.new) result }
     ensures causes { ListCauses (H.view host.old) (H.view host.new) result }
 {
     let copy = listing.copy(alloc)?;

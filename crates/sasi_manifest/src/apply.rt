@@ -3,7 +3,8 @@ ghost use Rattle.std.specs.Prelude.{◌≡◌, ◌+◌, ◌<◌, ◌++◌, ◌�
 ghost use Rattle.sasi_schema.specs.Defined.{definition};
 ghost use Rattle.sasi_manifest.specs.Naming.{IsFree};
 ghost use Rattle.sasi_manifest.specs.Edits.{Applies};
-ghost use Rattle.sasi_manifest.specs.Listings.{after, listed_names, started, with_listed_table};
+ghost use Rattle.sasi_manifest.specs.Listings.{after};
+ghost use Rattle.sasi_manifest.specs.Abbreviations.{listed_names, started, with_listed_table};
 
 use crate::{Edit, ListedTables, Listing};
 use sasi_host::SegmentNumber;

@@ -2,7 +2,8 @@
 ghost use Rattle.std.specs.Prelude.{◌≡◌, []};
 ghost use Rattle.sasi_formats.specs.Reader.{read, read_items};
 ghost use Rattle.sasi_formats.specs.Gives.{Gives};
-ghost use Rattle.sasi_manifest.specs.Edits.{column, columns, key, type};
+ghost use Rattle.sasi_manifest.specs.Edits.{columns, type};
+ghost use Rattle.sasi_manifest.specs.Abbreviations.{column, key};
 
 use crate::text::read_column_name;
 use sasi_fields::FieldReader;

@@ -1,6 +1,6 @@
 // A new manifest and its seal.
 ghost use Rattle.std.specs.Prelude.{◌≡◌, ◌+◌, ◌≤◌, ◌^◌, [], length, None, true, IfOk, OnOk};
-ghost use Rattle.sasi_host.specs.View.{Holds, IsAbsent, ListCauses, Reaches};
+ghost use Rattle.sasi_host.specs.View.{MakesCalls, Holds, IsAbsent, ListCauses, Reaches};
 ghost use Rattle.sasi_host.specs.Disk.{Changes, IsFileDurable};
 ghost use Rattle.sasi_host.specs.Names.{manifest_name, seal_name};
 ghost use Rattle.sasi_manifest.specs.declared.listing.Listing.{Listing as AListing};
@@ -41,6 +41,7 @@ pub fn create_sealed<H: Host>(
     ensures changes { Changes (ChangesOnlyManifest number) (H.view host.old) (H.view host.new) }
     ensures room { IfOk result (λ o. Reaches (H.view host.new) (manifest_name number) (o.gated.at + 1)) }
     ensures is_open { IfOk result (λ o. IsOpenManifest number o.gated o.listing true) }
+    ensures calls { MakesCalls 6 (H.view host.old) (H.view host.new) result }
     ensures causes { ListCauses (H.view host.old) (H.view host.new) result }
 {
     let edits = edits_of(alloc, listing)?;

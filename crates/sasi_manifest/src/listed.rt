@@ -43,7 +43,7 @@ impl ListedTables {
     ghost use Rattle.std.specs.List.{list_any};
     ghost use Rattle.sasi_model.specs.Statements.{same};
     ghost use Rattle.sasi_manifest.specs.ListedTables.{listed};
-    ghost use Rattle.sasi_manifest.specs.Listings.{listed_names};
+    ghost use Rattle.sasi_manifest.specs.Abbreviations.{listed_names};
 
     /// No tables.
     pub fn new(alloc: Global) -> ListedTables

@@ -1,8 +1,9 @@
 // Open manifests.
 ghost use Rattle.std.specs.Prelude.{◌≡◌, ◌+◌, ◌≤◌, ◌^◌, [], length, None, Some, IsTrue, IfErr, IfOk, OnErr, OnOk, is_ok};
-ghost use Rattle.sasi_host.specs.View.{Holds, IsAbsent, IsThere, IsTold, ListCauses, Reaches, contents};
+ghost use Rattle.sasi_host.specs.View.{MakesCalls, Holds, IsAbsent, IsThere, IsTold, ListCauses, Reaches, contents};
 ghost use Rattle.sasi_host.specs.Disk.{AnyChange, Changes, IsFileDurable, LeftWith, Same, FileChange};
 ghost use Rattle.sasi_host.specs.Names.{manifest_name, seal_name};
+ghost use Rattle.sasi_host.specs.Sequential.{ReadsWithinPages};
 ghost use Rattle.sasi_gated.specs.Causes.{ReadingCauses};
 ghost use Rattle.sasi_manifest.specs.declared.listing.Listing.{Listing as AListing};
 ghost use Rattle.sasi_manifest.specs.Consistent.{IsConsistent};
@@ -85,6 +86,7 @@ impl Manifest {
         ensures room { IfOk result (λ m. Reaches (H.view host.new) (manifest_name number) (m.at + 1)) }
         ensures number { IfOk result (λ m. m.number ≡ number) }
         ensures usable { IfOk result (λ m. IsTrue m.usable) }
+        ensures calls { MakesCalls 6 (H.view host.old) (H.view host.new) result }
         ensures causes { ListCauses (H.view host.old) (H.view host.new) result }
     {
         let made = create_sealed(alloc, host, number, listing)?;
@@ -112,6 +114,7 @@ impl Manifest {
         ensures changes { Changes Same (H.view host.old) (H.view host.new) }
         ensures number { IfOk result (λ m. m.number ≡ number) }
         ensures usable { IfOk result (λ m. IsTrue m.usable) }
+        ensures reads { ReadsWithinPages (H.view host.old) (H.view host.new) (manifest_name number) }
         ensures causes { ReadingCauses (H.view host.old) (H.view host.new) result }
     {
         let opened = open_manifest(alloc, host, number)?;
@@ -140,6 +143,7 @@ impl Manifest {
         ensures room { OnOk result (Reaches (H.view host.new) (manifest_name self.new.number) (self.new.at + 1)) }
         ensures usable { self.new.usable ≡ is_ok result }
         ensures number { self.new.number ≡ self.old.number }
+        ensures calls { MakesCalls 4 (H.view host.old) (H.view host.new) result }
         ensures causes { ListCauses (H.view host.old) (H.view host.new) result }
     {
         self.usable = false;

@@ -3,6 +3,7 @@ ghost use Rattle.std.specs.Prelude.{◌≡◌, ◌≢◌, ◌+◌, ◌-◌, ◌�
 ghost use Rattle.sasi_host.specs.declared.fault.ReadFault.TheVariants as read_fault;
 ghost use Rattle.sasi_host.specs.View.{IsThere, Reaches};
 ghost use Rattle.sasi_host.specs.Disk.{Changes, Same};
+ghost use Rattle.sasi_host.specs.Sequential.{ReadsWithinPages};
 ghost use Rattle.sasi_gated.specs.Causes.{ReadingCauses};
 ghost use Rattle.sasi_host.specs.declared.damage.FormatRule.TheVariants.{Number};
 ghost use Rattle.sasi_host.specs.Damages.{OnDamage, seen_bytes};
@@ -37,6 +38,7 @@ pub fn open_manifest<H: Host>(
     ensures is_open { IfOk result (λ o. IsOpenManifest number o.gated o.listing true) }
     ensures damaged { IfErr result (IsManifestDamage (H.view host.old) number) }
     ensures changes { Changes Same (H.view host.old) (H.view host.new) }
+    ensures reads { ReadsWithinPages (H.view host.old) (H.view host.new) (manifest_name number) }
     ensures causes { ReadingCauses (H.view host.old) (H.view host.new) result }
 {
     let mut gated = Gated::open(host, FileName::manifest(number))?;

@@ -2,7 +2,8 @@
 ghost use Rattle.std.specs.Prelude.{◌≡◌, ◌++◌, ◌≤◌, [], length, None, OnOk};
 ghost use Rattle.sasi_model.specs.Refusals.{names_in};
 ghost use Rattle.sasi_formats.specs.Formats.{encoded};
-ghost use Rattle.sasi_manifest.specs.Edits.{edit as edit_format, column as column_format, columns as columns_format, name as name_format, partitioner_code, type_code};
+ghost use Rattle.sasi_manifest.specs.Edits.{edit as edit_format, columns as columns_format, name as name_format, partitioner_code, type_code};
+ghost use Rattle.sasi_manifest.specs.Abbreviations.{column as column_format};
 ghost use Rattle.sasi_manifest.specs.Naming.{AreNames};
 ghost use Rattle.sasi_manifest.specs.Listings.{IsWritable};
 

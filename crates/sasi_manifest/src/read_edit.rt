@@ -3,7 +3,8 @@ ghost use Rattle.std.specs.Prelude.{◌≡◌, None, Some};
 ghost use Rattle.std.specs.Option.{option_copied};
 ghost use Rattle.sasi_formats.specs.Reader.{read};
 ghost use Rattle.sasi_formats.specs.Gives.{Gives};
-ghost use Rattle.sasi_manifest.specs.Edits.{create, edit, partitioner, segments, shape, start};
+ghost use Rattle.sasi_manifest.specs.Edits.{create, edit, partitioner, shape, start};
+ghost use Rattle.sasi_manifest.specs.Abbreviations.{segments};
 
 use crate::columns::{read_columns, read_key};
 use crate::text::read_table_name;

@@ -1,7 +1,8 @@
 // The length of a record of edits.
 ghost use Rattle.std.specs.Prelude.{◌≡◌, ◌+◌, ◌^◌, ◌-◌, [], min, length, None};
 ghost use Rattle.sasi_formats.specs.Formats as formats;
-ghost use Rattle.sasi_manifest.specs.Edits.{column as column_format, columns as columns_format, edit as edit_format, encoded};
+ghost use Rattle.sasi_manifest.specs.Edits.{columns as columns_format, edit as edit_format, encoded};
+ghost use Rattle.sasi_manifest.specs.Abbreviations.{column as column_format};
 
 use crate::Edit;
 use sasi_types::{ColumnType, Columns, Name};

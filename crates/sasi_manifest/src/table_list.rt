@@ -3,7 +3,7 @@ ghost use Rattle.std.specs.Prelude.{◌≡◌, map, IfOk};
 ghost use Rattle.std.specs.List.{list_any};
 ghost use Rattle.sasi_model.specs.Statements.{same};
 ghost use Rattle.sasi_manifest.specs.ListedTables.{listed};
-ghost use Rattle.sasi_manifest.specs.Listings.{listed_names};
+ghost use Rattle.sasi_manifest.specs.Abbreviations.{listed_names};
 
 use crate::ListedTable;
 use std::alloc::{AllocError, Global};

@@ -6,8 +6,8 @@ ghost use Rattle.sasi_model.specs.Statements.{same};
 ghost use Rattle.sasi_model.specs.Tokens.{is_word_byte};
 ghost use Rattle.sasi_formats.specs.Reader.{read};
 ghost use Rattle.sasi_formats.specs.Gives.{Gives};
-ghost use Rattle.sasi_manifest.specs.Edits.{is_open_name, name};
-ghost use Rattle.sasi_manifest.specs.Listings.{listed_names};
+ghost use Rattle.sasi_manifest.specs.Edits.{name};
+ghost use Rattle.sasi_manifest.specs.Abbreviations.{is_open_name, listed_names};
 
 use crate::ListedTables;
 use sasi_fields::FieldReader;

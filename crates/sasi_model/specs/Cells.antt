@@ -1,11 +1,13 @@
 -- Cells and partitions. A cell is a timestamp with a value or a tombstone; of two cells of one column the newest wins. A
 -- partition is the content of one key: a deletion, which shadows each cell up to its timestamp, and at most one cell a
 -- column. Column 0 is the row marker. Merging keeps the newest deletion and cells, in whatever order they come.
-use Rattle.std.specs.Prelude.{◌≡◌, ℕ, Bool, false, ◌||◌, nat_le, max, if◌then◌else◌, List, [], ◌∷◌, ◌++◌, Option, None, Some, is_some}
+use Rattle.std.specs.Prelude.{◌≡◌, ℕ, Bool, nat_le, max, if◌then◌else◌, List, [], ◌∷◌, ◌++◌, map, Option, None, Some, is_some}
 use Rattle.std.specs.declared.cmp.Ordering.{Ordering}
 use Rattle.std.specs.Ordering.{nat_cmp, ordering_then, is_lt}
 use Rattle.std.specs.Cmp.Lexicographic.{slice_cmp}
 use Rattle.std.specs.FinMap as map_
+use Rattle.std.specs.List.{filter_map, list_any}
+use Rattle.std.specs.Option.{option_and_then, option_map}
 use Rattle.sasi_types.specs.declared.cell.Cell.{Cell}
 use Rattle.sasi_types.specs.declared.value.Value.{Value}
 use Rattle.sasi_types.specs.Value.{stored}
@@ -19,12 +21,9 @@ value_cmp None (Some b) = nat_cmp 1 0
 value_cmp (Some a) None = nat_cmp 0 1
 value_cmp (Some a) (Some b) = slice_cmp nat_cmp (stored a) (stored b)
 
--- which of two cells is newer: by timestamp, then by value
-abbrev pub cell_cmp : Cell → Cell → Ordering
-cell_cmp a b = ordering_then (nat_cmp a.time b.time) (value_cmp a.value b.value)
-
+-- the newer of two cells: by timestamp, then by value
 abbrev pub newest : Cell → Cell → Cell
-newest a b = if is_lt (cell_cmp a b) then b else a
+newest a b = if is_lt (ordering_then (nat_cmp a.time b.time) (value_cmp a.value b.value)) then b else a
 
 abbrev pub newest_of : Option Cell → Option Cell → Option Cell
 newest_of None b = b
@@ -58,14 +57,9 @@ IsNormal p = (column : ℕ) → unshadowed p.deleted (map_.get p.cells column) �
 abbrev pub merged_cell : ℕ → Partition → Partition → ℕ → Option Cell
 merged_cell deleted p q column = unshadowed deleted (newest_of (map_.get p.cells column) (map_.get q.cells column))
 
-abbrev pub with_entry : ℕ → Option Cell → List (ℕ × Cell) → List (ℕ × Cell)
-with_entry column None cells = cells
-with_entry column (Some cell) cells = (column, cell) ∷ cells
-
 -- the same of some columns
 abbrev pub merged_cells : ℕ → Partition → Partition → List ℕ → List (ℕ × Cell)
-merged_cells deleted p q [] = []
-merged_cells deleted p q (column ∷ columns) = with_entry column (merged_cell deleted p q column) (merged_cells deleted p q columns)
+merged_cells deleted p q columns = filter_map (λ column. option_map (λ cell. (column, cell)) (merged_cell deleted p q column)) columns
 
 -- the later deletion, and the newest cell of each column, unless that deletion shadows it
 unfoldable pub merge : Partition → Partition → Partition
@@ -73,31 +67,21 @@ merge p q = record { deleted = max p.deleted q.deleted; cells = map_.from_entrie
 
 -- ---- live rows
 
-abbrev pub is_live_cell : Cell → Bool
-is_live_cell cell = is_some cell.value
-
-abbrev pub any_live : List Cell → Bool
-any_live [] = false
-any_live (cell ∷ cells) = is_live_cell cell || any_live cells
-
--- the row exists: its marker or another cell is live
+-- the row exists: its marker or another cell has a value
 abbrev pub is_live : Partition → Bool
-is_live p = any_live (map_.values p.cells)
-
-abbrev pub value_of : Option Cell → Option Value
-value_of None = None
-value_of (Some cell) = cell.value
+is_live p = list_any (λ cell. is_some cell.value) (map_.values p.cells)
 
 -- the value of a column, where the row has one
 abbrev pub value_at : Partition → ℕ → Option Value
-value_at p column = value_of (map_.get p.cells column)
+value_at p column = option_and_then (λ cell. cell.value) (map_.get p.cells column)
 
 -- ---- times
 
-abbrev pub max_timestamp_in : List Cell → ℕ
-max_timestamp_in [] = 0
-max_timestamp_in (cell ∷ cells) = max cell.time (max_timestamp_in cells)
+-- the largest of these numbers, 0 if there is none
+abbrev pub largest : List ℕ → ℕ
+largest [] = 0
+largest (n ∷ ns) = max n (largest ns)
 
 -- the largest timestamp of the deletion and the cells, 0 if there is none
 abbrev pub max_timestamp_of : Partition → ℕ
-max_timestamp_of p = max p.deleted (max_timestamp_in (map_.values p.cells))
+max_timestamp_of p = max p.deleted (largest (map (λ cell. cell.time) (map_.values p.cells)))

@@ -11,7 +11,8 @@ use Rattle.sasi_types.specs.declared.decorated_key.DecoratedKey.{DecoratedKey}
 use Rattle.sasi_types.specs.declared.value.Value.{Value}
 use Rattle.sasi_types.specs.declared.value.Value.TheVariants as values
 use Rattle.sasi_model.specs.Cells.{Cells, Partition}
-use Rattle.sasi_model.specs.State.{Column, Definition, Partitions, Table, State}
+use Rattle.sasi_model.specs.State.{Column, Definition, Table, State}
+use Rattle.sasi_model.specs.Abbreviations.{Partitions}
 
 abbrev pub ValueCode : Type 0
 ValueCode = ℕ × (ℤ × List ℕ)

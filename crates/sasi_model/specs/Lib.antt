@@ -10,4 +10,5 @@ pub mod Stored
 pub mod Refusals
 pub mod Lines
 pub mod Step
+pub mod Abbreviations
 pub mod Codes

@@ -1,7 +1,7 @@
 -- A script is a list of bytes, cut into pieces, one for each statement. A piece ends at the next `;` outside strings, quoted
 -- names and comments. Spaces and comments before it are no part of it. The definitions look ahead: for each byte they say
 -- how many bytes after it belong to the string, quoted name or comment that it opens.
-use Rattle.std.specs.Prelude.{◌++◌, ◌^◌, ℕ, zero, suc, Bool, true, false, ◌||◌, ◌&&◌, ◌==◌, nat_lt, if◌then◌else◌, List, [], ◌∷◌, length, map}
+use Rattle.std.specs.Prelude.{◌++◌, ◌^◌, ℕ, zero, suc, Bool, true, false, ◌||◌, ◌&&◌, ◌==◌, nat_lt, if◌then◌else◌, List, [], ◌∷◌, length, map, drop}
 use Rattle.sasi_types.specs.declared.piece.PieceEnd.{PieceEnd}
 use Rattle.sasi_types.specs.declared.piece.PieceEnd.TheVariants as ends
 
@@ -12,14 +12,14 @@ abbrev pub to_byte : ℕ → List ℕ → ℕ
 to_byte c [] = 0
 to_byte c (b ∷ bs) = if b == c then 1 else suc (to_byte c bs)
 
+-- there is a first byte, and it passes the test
+abbrev pub begins : (ℕ → Bool) → List ℕ → Bool
+begins test [] = false
+begins test (b ∷ bs) = test b
+
 -- the first byte is c
 abbrev pub starts : ℕ → List ℕ → Bool
-starts c [] = false
-starts c (b ∷ bs) = b == c
-
-abbrev pub behind_first : List ℕ → List ℕ
-behind_first [] = []
-behind_first (b ∷ bs) = bs
+starts c bytes = begins (λ b. b == c) bytes
 
 -- the number of bytes up to the first `*/`, which counts too; all of them without one
 abbrev pub to_close : List ℕ → ℕ
@@ -45,7 +45,7 @@ opened_by b behind =
     if b == 39 then to_byte 39 behind
     else if b == 34 then to_byte 34 behind
     else if is_line b behind then to_byte 10 behind
-    else if is_block b behind then suc (to_close (behind_first behind))
+    else if is_block b behind then suc (to_close (drop 1 behind))
     else 0
 
 -- a space, a tab, CR or LF
@@ -81,20 +81,16 @@ scan true zero (b ∷ bs) = if b == 59 then ended_by b (scan false 0 bs) else in
 scan false zero (b ∷ bs) =
     if is_space b then scan false 0 bs
     else if is_line b bs then scan false (opened_by b bs) bs
-    else if is_block b bs && closes (behind_first bs) then scan false (opened_by b bs) bs
+    else if is_block b bs && closes (drop 1 bs) then scan false (opened_by b bs) bs
     else if b == 59 then ended_by b (scan false 0 bs)
     else in_front b (scan true (opened_by b bs) bs)
 
 -- ---- the pieces
 
--- the most bytes that a piece has
-abbrev pub PIECE_LIMIT : ℕ
-PIECE_LIMIT = 2 ^ 20
-
--- a piece with its text, or why it has none
+-- a piece with its text, which has at most 2^20 bytes, or why it has none
 pub data Piece : Type 0 where
   Whole : List ℕ → Piece
-  -- more than 2^20 bytes; true where a `;` ends it, false where the script does
+  -- more bytes; true where a `;` ends it, false where the script does
   TooLong : Bool → Piece
   -- the script ends inside it
   Unfinished : Piece
@@ -106,12 +102,12 @@ piece_of (ends.TooLong finished) text = TooLong finished
 piece_of ends.Unfinished text = Unfinished
 
 abbrev pub whole_piece : List ℕ → Piece
-whole_piece text = if nat_lt PIECE_LIMIT (length text) then TooLong true else Whole text
+whole_piece text = if nat_lt (2 ^ 20) (length text) then TooLong true else Whole text
 
 -- the piece of the bytes after the last `;`
 abbrev pub last_piece : List ℕ → List Piece
 last_piece [] = []
-last_piece (b ∷ bs) = (if nat_lt PIECE_LIMIT (length (b ∷ bs)) then TooLong false else Unfinished) ∷ []
+last_piece (b ∷ bs) = (if nat_lt (2 ^ 20) (length (b ∷ bs)) then TooLong false else Unfinished) ∷ []
 
 -- the pieces of a script: those that end with a `;`, and at most one after them
 pub record Pieces : Type 0 where

@@ -1,8 +1,11 @@
 -- Which pieces are refused, and why. A piece is parsed first, then the rules of its statement are tried: the first rule that
 -- applies gives the refusal. Rules are in the order of their numbers, and those of one number in the order of the text.
-use Rattle.std.specs.Prelude.{ℕ, pos, negsuc, ◌-◌, ◌^◌, Bool, true, false, not, ◌==◌, nat_lt, nat_le, ◌||◌, ◌&&◌, if◌then◌else◌, List, [], ◌∷◌, ◌++◌, length, map, Option, None, Some, is_some}
+use Rattle.std.specs.Prelude.{ℕ, codes, pos, negsuc, ◌-◌, ◌^◌, Bool, true, false, not, ◌==◌, nat_lt, nat_le, ◌||◌, ◌&&◌, if◌then◌else◌, List, [], ◌∷◌, ◌++◌, length, map, Option, None, Some, is_some, slice_get}
 use Rattle.std.specs.List.{list_any, zip}
+use Rattle.std.specs.Option.{option_and_then, option_map, option_map_or}
 use Rattle.std.specs.Prelude.{int_le}
+use Rattle.std.specs.Fmt.{decimal}
+use Rattle.std.specs.Map.{lookup}
 use Rattle.std.specs.Str.{is_utf8}
 use Rattle.std.specs.Str.Lossy.{utf8_valid_len}
 use Rattle.sasi_types.specs.declared.column.ColumnType.{ColumnType}
@@ -16,43 +19,11 @@ use Rattle.sasi_types.specs.declared.statement.Statement.TheVariants.{CreateTabl
 use Rattle.sasi_model.specs.Pieces.{Piece, Whole, TooLong, Unfinished}
 use Rattle.sasi_model.specs.Tokens.{tokens}
 use Rattle.sasi_model.specs.Statements.{Parser, same, statement_of}
-use Rattle.sasi_model.specs.State.{Column, State, Definition, definitions, definition_of, position_in, column_at, type_or_text, key_name, number_of_column, max_timestamp}
+use Rattle.sasi_model.specs.State.{Column, State, Definition, definition_of, position_in, key_name, number_of_column, max_timestamp}
 
-pub data Refusal : Type 0 where
-  StatementTooLong : Refusal
-  -- the length of the longest front that is UTF-8
-  NotUtf8 : ℕ → Refusal
-  NoTable : List ℕ → Refusal
-  TableExists : List ℕ → Refusal
-  NoColumn : List ℕ → Refusal
-  ColumnRepeated : List ℕ → Refusal
-  WrongType : List ℕ → Refusal
-  NumberRange : List ℕ → Refusal
-  KeyMissing : List ℕ → Refusal
-  KeyEmpty : List ℕ → Refusal
-  ValueTooLong : List ℕ → Refusal
-  TimestampRange : Refusal
-  ClockSpent : Refusal
-  TooManyTables : Refusal
-  TooManyColumns : Refusal
-  ScriptEnds : Refusal
-  NotBuilt : Refusal
-
--- ---- limits
-
-abbrev pub TABLE_LIMIT : ℕ
-TABLE_LIMIT = 256
-
--- the key column included
-abbrev pub COLUMN_LIMIT : ℕ
-COLUMN_LIMIT = 64
-
--- bytes of a key or a text
-abbrev pub TEXT_LIMIT : ℕ
-TEXT_LIMIT = 65535
-
-abbrev pub TIME_LIMIT : ℕ
-TIME_LIMIT = 2 ^ 62
+-- the number of a refusal, and its name with what it is about
+abbrev pub Refusal : Type 0
+Refusal = ℕ × List ℕ
 
 -- ---- reading a piece
 
@@ -63,16 +34,14 @@ pub data ParsedPiece : Type 0 where
   Says : Statement → ParsedPiece
   Bad : Refusal → ParsedPiece
 
-abbrev pub parsed_statement : Option Statement → ParsedPiece
-parsed_statement None = Bad NotBuilt
-parsed_statement (Some statement) = Says statement
-
--- with the statement that this parser finds
+-- with the statement that this parser finds; a text that isn't UTF-8 is refused with the length of its longest front that is
 unfoldable pub read_by : Parser → Piece → ParsedPiece
-read_by parser (TooLong finished) = Bad StatementTooLong
-read_by parser Unfinished = Bad ScriptEnds
+read_by parser (TooLong finished) = Bad (2, codes "StatementTooLong 1048576")
+read_by parser Unfinished = Bad (25, codes "Unfinished")
 read_by parser (Whole text) =
-    if same text (59 ∷ []) then Nothing else if is_utf8 text then parsed_statement (parser (tokens text)) else Bad (NotUtf8 (utf8_valid_len text))
+    if same text (59 ∷ []) then Nothing
+    else if is_utf8 text then option_map_or Says (parser (tokens text)) (Bad (90, codes "NotBuilt"))
+    else Bad (3, codes "NotUtf8 at " ++ decimal (utf8_valid_len text))
 
 -- with the statement that the function finds
 abbrev pub read : Piece → ParsedPiece
@@ -84,15 +53,10 @@ read = read_by statement_of
 abbrev pub Rule : Type 0
 Rule = Bool × Refusal
 
--- the first rule that applies
-abbrev pub first_of : List Rule → Option Refusal
-first_of [] = None
-first_of (rule ∷ others) = if rule.0 then Some rule.1 else first_of others
-
 -- a name that is in the list already
 abbrev pub repeat_rules : List (List ℕ) → List (List ℕ) → List Rule
 repeat_rules before [] = []
-repeat_rules before (name ∷ names) = (list_any (same name) before, ColumnRepeated name) ∷ repeat_rules (before ++ name ∷ []) names
+repeat_rules before (name ∷ names) = (list_any (same name) before, (7, codes "ColumnRepeated " ++ name)) ∷ repeat_rules (before ++ name ∷ []) names
 
 -- ---- literals
 
@@ -120,35 +84,24 @@ is_out_of_range types.Int (Integer number) = not (is_within 31 number)
 is_out_of_range types.BigInt (Integer number) = not (is_within 63 number)
 is_out_of_range type literal = false
 
--- an empty text
-abbrev pub is_empty_text : ColumnType → Literal → Bool
-is_empty_text types.Text (Text text) = length text == 0
-is_empty_text type literal = false
-
--- a text of more bytes than a value has
-abbrev pub is_long_text : ColumnType → Literal → Bool
-is_long_text types.Text (Text text) = nat_lt TEXT_LIMIT (length text)
-is_long_text type literal = false
+-- a text that passes the test
+abbrev pub is_text_with : (List ℕ → Bool) → ColumnType → Literal → Bool
+is_text_with test types.Text (Text text) = test text
+is_text_with test type literal = false
 
 -- ---- columns with their literals
 
 -- the type of a column, if the table has it
-abbrev pub typed_at : Definition → Option ℕ → Option ColumnType
-typed_at d None = None
-typed_at d (Some position) = Some (type_or_text (column_at position d.columns))
-
 abbrev pub type_of_column : Definition → List ℕ → Option ColumnType
-type_of_column d name = typed_at d (position_in name d.columns)
+type_of_column d name = option_and_then (λ position. option_map (λ column. column.1) (slice_get d.columns position)) (position_in name d.columns)
 
 -- the test of the literal, if the column exists
 abbrev pub tests : (ColumnType → Literal → Bool) → Option ColumnType → Literal → Bool
-tests test None literal = false
-tests test (Some type) literal = test type literal
+tests test column literal = option_map_or (λ type. test type literal) column false
 
 -- a rule for each column with its literal
 abbrev pub each : (List ℕ → Literal → Rule) → List (List ℕ × Literal) → List Rule
-each rule [] = []
-each rule (given ∷ others) = rule given.0 given.1 ∷ each rule others
+each rule given = map (λ g. rule g.0 g.1) given
 
 abbrev pub is_column : Definition → List ℕ → Bool
 is_column d name = is_some (number_of_column d name)
@@ -157,83 +110,84 @@ abbrev pub is_key : Definition → List ℕ → Bool
 is_key d name = is_column d name && same name (key_name d)
 
 abbrev pub wrong_type : Definition → List ℕ → Literal → Rule
-wrong_type d name literal = (tests (λ type given. not (is_of type given)) (type_of_column d name) literal, WrongType name)
+wrong_type d name literal = (tests (λ type given. not (is_of type given)) (type_of_column d name) literal, (8, codes "WrongType " ++ name))
 
 -- the same in a WHERE, where NULL is of no type
 abbrev pub wrong_where : Definition → List ℕ → Literal → Rule
-wrong_where d name literal = (tests (λ type given. not (is_of type given) || is_null given) (type_of_column d name) literal, WrongType name)
+wrong_where d name literal = (tests (λ type given. not (is_of type given) || is_null given) (type_of_column d name) literal, (8, codes "WrongType " ++ name))
 
 abbrev pub number_range : Definition → List ℕ → Literal → Rule
-number_range d name literal = (tests is_out_of_range (type_of_column d name) literal, NumberRange name)
+number_range d name literal = (tests is_out_of_range (type_of_column d name) literal, (9, codes "NumberRange " ++ name))
 
 abbrev pub key_empty : Definition → List ℕ → Literal → Rule
-key_empty d name literal = (is_key d name && tests is_empty_text (type_of_column d name) literal, KeyEmpty name)
+key_empty d name literal = (is_key d name && tests (is_text_with (λ text. length text == 0)) (type_of_column d name) literal, (11, codes "KeyEmpty " ++ name))
 
+-- a text has at most 65,535 bytes
 abbrev pub value_too_long : Definition → List ℕ → Literal → Rule
-value_too_long d name literal = (tests is_long_text (type_of_column d name) literal, ValueTooLong name)
+value_too_long d name literal = (tests (is_text_with (λ text. nat_lt 65535 (length text))) (type_of_column d name) literal, (12, codes "ValueTooLong " ++ name))
 
 abbrev pub no_column : Definition → List ℕ → Rule
-no_column d name = (not (is_column d name), NoColumn name)
+no_column d name = (not (is_column d name), (6, codes "NoColumn " ++ name))
 
 -- the name is no column, or the key
 abbrev pub no_regular_column : Definition → List ℕ → Rule
-no_regular_column d name = (not (is_column d name) || is_key d name, NoColumn name)
+no_regular_column d name = (not (is_column d name) || is_key d name, (6, codes "NoColumn " ++ name))
 
 -- ---- times
 
 abbrev pub is_time : Number → Bool
-is_time (Fits z) = int_le (pos 1) z && int_le z (pos TIME_LIMIT)
+is_time (Fits z) = int_le (pos 1) z && int_le z (pos (2 ^ 62))
 is_time Wide = false
 
--- the first argument is the largest timestamp of the state
+-- A timestamp is from 1 to 2^62. The first argument is the largest one of the state.
 abbrev pub time_rules : ℕ → Option Number → List Rule
-time_rules max_timestamp None = (max_timestamp == TIME_LIMIT, ClockSpent) ∷ []
-time_rules max_timestamp (Some time) = (not (is_time time), TimestampRange) ∷ []
+time_rules max_timestamp None = (max_timestamp == 2 ^ 62, (21, codes "ClockSpent")) ∷ []
+time_rules max_timestamp (Some time) = (not (is_time time), (20, codes "TimestampRange")) ∷ []
 
 -- ---- the rules of each statement
 
 abbrev pub names_in : List Column → List (List ℕ)
 names_in columns = map (λ column. column.0) columns
 
+-- at most 256 tables, and in each 64 columns, the key column included
 abbrev pub create_rules : List Definition → List ℕ → List Column → List (List ℕ) → List Rule
 create_rules tables table columns keys =
-    (is_some (definition_of table tables), TableExists table)
-    ∷ (map (λ key. (not (list_any (same key) (names_in columns)), NoColumn key)) keys ++ (repeat_rules [] (names_in columns)
-    ++ (length keys == 0, KeyMissing table) ∷ (nat_le TABLE_LIMIT (length tables), TooManyTables) ∷ (nat_lt COLUMN_LIMIT (length columns), TooManyColumns) ∷ []))
+    (is_some (definition_of table tables), (5, codes "TableExists " ++ table))
+    ∷ (map (λ key. (not (list_any (same key) (names_in columns)), (6, codes "NoColumn " ++ key))) keys ++ (repeat_rules [] (names_in columns)
+    ++ (length keys == 0, (10, codes "KeyMissing " ++ table))
+    ∷ (nat_le 256 (length tables), (24, codes "TooMany tables 256")) ∷ (nat_lt 64 (length columns), (24, codes "TooMany columns 64")) ∷ []))
 
 -- a value for the key
 abbrev pub is_key_value : Definition → List ℕ → Literal → Bool
 is_key_value d name literal = is_key d name && not (is_null literal)
 
 -- an INSERT gives the key a value
-abbrev pub gives_key : Definition → List (List ℕ × Literal) → Bool
-gives_key d given = list_any (λ g. is_key_value d g.0 g.1) given
-
 abbrev pub insert_rules : ℕ → List ℕ → List (List ℕ) → List (List ℕ × Literal) → Option Number → Option Definition → List Rule
-insert_rules max_timestamp table columns given time None = (true, NoTable table) ∷ []
+insert_rules max_timestamp table columns given time None = (true, (4, codes "NoTable " ++ table)) ∷ []
 insert_rules max_timestamp table columns given time (Some d) =
     map (no_column d) columns ++ (repeat_rules [] columns ++ (each (wrong_type d) given ++ (each (number_range d) given
-    ++ (not (gives_key d given), KeyMissing (key_name d)) ∷ (each (key_empty d) given ++ (each (value_too_long d) given ++ time_rules max_timestamp time)))))
+    ++ (not (list_any (λ g. is_key_value d g.0 g.1) given), (10, codes "KeyMissing " ++ key_name d))
+    ∷ (each (key_empty d) given ++ (each (value_too_long d) given ++ time_rules max_timestamp time)))))
 
 -- the WHERE of an UPDATE or a DELETE names a column that isn't the key
 abbrev pub other_key : Definition → List ℕ → Rule
-other_key d key = (is_column d key && not (is_key d key), KeyMissing (key_name d))
+other_key d key = (is_column d key && not (is_key d key), (10, codes "KeyMissing " ++ key_name d))
 
 abbrev pub update_rules : ℕ → List ℕ → List (List ℕ × Literal) → List ℕ → Literal → Option Number → Option Definition → List Rule
-update_rules max_timestamp table sets key value time None = (true, NoTable table) ∷ []
+update_rules max_timestamp table sets key value time None = (true, (4, codes "NoTable " ++ table)) ∷ []
 update_rules max_timestamp table sets key value time (Some d) =
     map (λ set. no_regular_column d set.0) sets ++ no_column d key ∷ (repeat_rules [] (map (λ set. set.0) sets)
     ++ (each (wrong_type d) sets ++ wrong_where d key value ∷ (each (number_range d) sets ++ number_range d key value
     ∷ other_key d key ∷ key_empty d key value ∷ (each (value_too_long d) sets ++ value_too_long d key value ∷ time_rules max_timestamp time))))
 
 abbrev pub delete_rules : ℕ → List ℕ → List (List ℕ) → List ℕ → Literal → Option Number → Option Definition → List Rule
-delete_rules max_timestamp table columns key value time None = (true, NoTable table) ∷ []
+delete_rules max_timestamp table columns key value time None = (true, (4, codes "NoTable " ++ table)) ∷ []
 delete_rules max_timestamp table columns key value time (Some d) =
     map (no_regular_column d) columns ++ no_column d key ∷ (repeat_rules [] columns ++ wrong_where d key value ∷ number_range d key value ∷ other_key d key
     ∷ key_empty d key value ∷ value_too_long d key value ∷ time_rules max_timestamp time)
 
 abbrev pub select_rules : List ℕ → Option (List (List ℕ)) → Option Definition → List Rule
-select_rules table columns None = (true, NoTable table) ∷ []
+select_rules table columns None = (true, (4, codes "NoTable " ++ table)) ∷ []
 select_rules table None (Some d) = []
 select_rules table (Some columns) (Some d) = map (no_column d) columns
 
@@ -245,5 +199,6 @@ rules tables max_timestamp (Update table time sets key value) = update_rules max
 rules tables max_timestamp (Delete table columns time key value) = delete_rules max_timestamp table columns key value time (definition_of table tables)
 rules tables max_timestamp (Query select) = select_rules select.table select.columns (definition_of select.table tables)
 
+-- that of the first rule that applies
 unfoldable pub refusal : State → Statement → Option Refusal
-refusal s statement = first_of (rules (definitions s.tables) (max_timestamp s) statement)
+refusal s statement = lookup (λ applies. applies) (rules (map (λ t. t.definition) s.tables) (max_timestamp s) statement)

@@ -1,7 +1,8 @@
 -- The grammar: which statement the tokens of a piece spell. It is a relation, with a line for each production. The function
 -- below it is a tool of proofs: it is the one parser of this grammar.
-use Rattle.std.specs.Prelude.{◌≡◌, ◌≤◌, ◌↔◌, ℕ, zero, suc, Bool, true, false, not, ◌&&◌, ◌==◌, nat_eq, nat_le, if◌then◌else◌, codes, List, [], ◌∷◌, ◌++◌, length, Option, None, Some}
+use Rattle.std.specs.Prelude.{◌≡◌, ◌≤◌, ◌↔◌, ℕ, zero, suc, Bool, true, false, not, ◌&&◌, ◌==◌, nat_eq, nat_le, if◌then◌else◌, codes, List, [], ◌∷◌, ◌++◌, length, map, Option, None, Some}
 use Rattle.std.specs.List.{flat_map, list_any}
+use Rattle.std.specs.Map.{lookup}
 use Rattle.std.specs.Cmp.Lexicographic.{pointwise}
 use Prim.Native.String.{String}
 use Rattle.sasi_types.specs.declared.column.ColumnType.{ColumnType}
@@ -22,8 +23,7 @@ same = pointwise nat_eq
 
 -- these words are no names
 abbrev pub reserved : List (List ℕ)
-reserved =
-    codes "allow" ∷ codes "and" ∷ codes "at" ∷ codes "from" ∷ codes "like" ∷ codes "limit" ∷ codes "null" ∷ codes "on" ∷ codes "or" ∷ codes "primary" ∷ codes "set" ∷ codes "using" ∷ codes "values" ∷ codes "where" ∷ []
+reserved = map codes ("allow" ∷ "and" ∷ "at" ∷ "from" ∷ "like" ∷ "limit" ∷ "null" ∷ "on" ∷ "or" ∷ "primary" ∷ "set" ∷ "using" ∷ "values" ∷ "where" ∷ [])
 
 -- a word is a name: it has at most 48 bytes and isn't reserved
 abbrev pub is_name : List ℕ → Bool
@@ -46,13 +46,8 @@ number_of (Integer number) = Some number
 number_of _ = None
 
 abbrev pub type_named : List ℕ → Option ColumnType
-type_named word =
-    if same word (codes "text") then Some types.Text
-    else if same word (codes "varchar") then Some types.Text
-    else if same word (codes "int") then Some types.Int
-    else if same word (codes "bigint") then Some types.BigInt
-    else if same word (codes "uuid") then Some types.Uuid
-    else None
+type_named word = lookup (same word)
+    ((codes "text", types.Text) ∷ (codes "varchar", types.Text) ∷ (codes "int", types.Int) ∷ (codes "bigint", types.BigInt) ∷ (codes "uuid", types.Uuid) ∷ [])
 
 abbrev pub type_of : Token → Option ColumnType
 type_of (Word word) = type_named word

@@ -1,8 +1,8 @@
 -- Partitions that can be stored: the ranges that the formats of logs and data files allow, and in a table the types of its
 -- columns.
-use Rattle.std.specs.Prelude.{◌≡◌, ℕ, zero, suc, ◌^◌, ◌<◌, ◌≤◌, List, [], ◌∷◌, length, map, Some, IfSome, FitsSigned, slice_get}
+use Rattle.std.specs.Prelude.{◌≡◌, ℕ, ◌^◌, ◌<◌, ◌≤◌, List, [], ◌∷◌, length, map, Some, IfSome, FitsSigned, slice_get}
 use Rattle.std.specs.Int.{w32, w64}
-use Rattle.std.specs.List.{AllByRecursion}
+use Rattle.std.specs.List.{AllByRecursion, remove}
 use Rattle.std.specs.Str.{IsUtf8}
 use Rattle.std.specs.FinMap as map_
 use Rattle.sasi_types.specs.declared.cell.Cell.{Cell}
@@ -12,7 +12,7 @@ use Rattle.sasi_types.specs.declared.value.Value.{Value}
 use Rattle.sasi_types.specs.declared.value.Value.TheVariants.{Text, Int, BigInt, Uuid}
 use Rattle.sasi_types.specs.Value.{type_of}
 use Rattle.sasi_model.specs.Cells.{Partition}
-use Rattle.sasi_model.specs.State.{Column, Definition, key_type}
+use Rattle.sasi_model.specs.State.{Definition, key_type}
 
 -- ---- ranges
 
@@ -58,15 +58,9 @@ pub record HasBody (key : List ℕ) (part : Partition) : Type 0 where
 
 -- ---- in a table
 
--- the types of the regular columns, which are all but the key
-abbrev pub regular_types : ℕ → List Column → List ColumnType
-regular_types key [] = []
-regular_types zero (column ∷ columns) = map (λ c. c.1) columns
-regular_types (suc key) (column ∷ columns) = column.1 ∷ regular_types key columns
-
 -- the types of a table's columns: the key's first, and then those of the regular columns in order
 abbrev pub types_of : Definition → List ColumnType
-types_of d = key_type d ∷ regular_types d.key d.columns
+types_of d = key_type d ∷ map (λ column. column.1) (remove d.columns d.key)
 
 -- the bytes are those of a value of the type
 abbrev pub IsValueOf : ColumnType → List ℕ → Type 0

@@ -1,12 +1,14 @@
 -- The text of a piece as a list of tokens: words, names, literals and signs, with spaces and comments between them. As
 -- with pieces, the definitions look ahead: for each token they say how many bytes after its first belong to it. A byte
 -- that begins no token is the token Unknown, which no statement has.
-use Rattle.std.specs.Prelude.{◌+◌, ◌-◌, ◌*◌, ◌^◌, ℕ, zero, suc, Bool, false, ◌||◌, ◌&&◌, ◌==◌, nat_lt, nat_le, if◌then◌else◌, pos, neg_ℤ, List, [], ◌∷◌, take, drop, map, Option, None, Some}
-use Rattle.std.specs.List.{prefix_len}
+use Rattle.std.specs.Prelude.{◌+◌, ◌-◌, ◌*◌, ◌^◌, ℕ, zero, suc, Bool, ◌||◌, ◌&&◌, ◌==◌, nat_lt, nat_le, if◌then◌else◌, pos, neg_ℤ, List, [], ◌∷◌, take, drop, map, Option, None, Some}
+use Rattle.std.specs.List.{fold, prefix_len}
+use Rattle.std.specs.Map.{lookup}
+use Rattle.std.specs.Option.{option_map, option_map_or, unwrap_or}
 use Rattle.uuid.specs.Text.{parsed_hyphenated}
 use Rattle.sasi_types.specs.declared.literal.Number.{Number}
 use Rattle.sasi_types.specs.declared.literal.Number.TheVariants.{Fits, Wide}
-use Rattle.sasi_model.specs.Pieces.{is_space, is_line, is_block, closes, opened_by, starts, behind_first}
+use Rattle.sasi_model.specs.Pieces.{is_space, is_line, is_block, closes, opened_by, begins, starts}
 
 pub data Token : Type 0 where
   -- a letter, and the letters, digits and `_` after it, in lower case
@@ -49,15 +51,12 @@ is_word_byte b = is_letter b || is_digit b || b == 95
 abbrev pub lower_byte : ℕ → ℕ
 lower_byte b = if is_upper b then b + 32 else b
 
-abbrev pub lower : List ℕ → List ℕ
-lower word = map lower_byte word
-
 -- the number of letters, digits and `_` at the start
 abbrev pub word_on : List ℕ → ℕ
 word_on behind = prefix_len is_word_byte behind
 
 abbrev pub word_lexeme : ℕ → List ℕ → Lexeme
-word_lexeme b behind = record { token = Word (lower (b ∷ take (word_on behind) behind)); inside = word_on behind }
+word_lexeme b behind = record { token = Word (map lower_byte (b ∷ take (word_on behind) behind)); inside = word_on behind }
 
 -- ---- quoted names
 
@@ -76,8 +75,7 @@ pub record QuotedText : Type 0 where
   pub size : ℕ
 
 abbrev pub quoted_on : ℕ → ℕ → Option QuotedText → Option QuotedText
-quoted_on b bytes None = None
-quoted_on b bytes (Some q) = Some (record { text = b ∷ q.text; size = bytes + q.size })
+quoted_on b bytes found = option_map (λ q. record { text = b ∷ q.text; size = bytes + q.size }) found
 
 -- none where no quote closes it
 abbrev pub quoted_text : List ℕ → Option QuotedText
@@ -88,28 +86,20 @@ quoted_text (b ∷ c ∷ bs) =
     else quoted_on b 1 (quoted_text (c ∷ bs))
 
 abbrev pub string_lexeme : Option QuotedText → Lexeme
-string_lexeme None = record { token = Unknown; inside = 0 }
-string_lexeme (Some q) = record { token = Quoted q.text; inside = q.size }
+string_lexeme found = option_map_or (λ q. record { token = Quoted q.text; inside = q.size }) found (record { token = Unknown; inside = 0 })
 
 -- ---- integers
 
--- the value of decimal digits that follow those of n
-abbrev pub decimal_on : ℕ → List ℕ → ℕ
-decimal_on n [] = n
-decimal_on n (b ∷ bs) = decimal_on (10 * n + (b - 48)) bs
-
+-- the value of decimal digits
 abbrev pub decimal : List ℕ → ℕ
-decimal digits = decimal_on 0 digits
+decimal digits = fold (λ n b. 10 * n + (b - 48)) 0 digits
 
 -- 128 bits have the numbers from -2^127 to 2^127 - 1
-abbrev pub NUMBER_LIMIT : ℕ
-NUMBER_LIMIT = 2 ^ 127
-
 abbrev pub positive : ℕ → Number
-positive n = if nat_lt n NUMBER_LIMIT then Fits (pos n) else Wide
+positive n = if nat_lt n (2 ^ 127) then Fits (pos n) else Wide
 
 abbrev pub negative : ℕ → Number
-negative n = if nat_le n NUMBER_LIMIT then Fits (neg_ℤ (pos n)) else Wide
+negative n = if nat_le n (2 ^ 127) then Fits (neg_ℤ (pos n)) else Wide
 
 -- the number of digits at the start
 abbrev pub digits_on : List ℕ → ℕ
@@ -124,53 +114,33 @@ negative_lexeme behind = record { token = Integer (negative (decimal (take (digi
 
 -- ---- uuids
 
--- the first byte is a letter, a digit or `_`
-abbrev pub starts_word : List ℕ → Bool
-starts_word [] = false
-starts_word (b ∷ bs) = is_word_byte b
-
 -- the sixteen bytes of the uuid at the start: 8-4-4-4-12 hexadecimal digits, and then no letter, digit or `_`
 unfoldable pub uuid_in_front : List ℕ → Option (List ℕ)
-uuid_in_front bytes = if starts_word (drop 36 bytes) then None else parsed_hyphenated (take 36 bytes)
+uuid_in_front bytes = if begins is_word_byte (drop 36 bytes) then None else parsed_hyphenated (take 36 bytes)
 
 -- ---- the tokens
 
 -- the token of a sign
 abbrev pub sign : ℕ → Token
-sign b =
-    if b == 40 then Open
-    else if b == 41 then Close
-    else if b == 44 then Comma
-    else if b == 42 then Star
-    else if b == 61 then Equal
-    else if b == 59 then Semicolon
-    else Unknown
-
-abbrev pub starts_digit : List ℕ → Bool
-starts_digit [] = false
-starts_digit (b ∷ bs) = is_digit b
+sign b = unwrap_or (lookup (λ c. b == c) ((40, Open) ∷ (41, Close) ∷ (44, Comma) ∷ (42, Star) ∷ (61, Equal) ∷ (59, Semicolon) ∷ [])) Unknown
 
 -- the token of a byte and those after it, where it is no uuid
 unfoldable pub other_lexeme : ℕ → List ℕ → Lexeme
 other_lexeme b behind =
     if is_letter b then word_lexeme b behind
     else if is_digit b then positive_lexeme b behind
-    else if b == 45 && starts_digit behind then negative_lexeme behind
+    else if b == 45 && begins is_digit behind then negative_lexeme behind
     else if b == 39 then string_lexeme (quoted_text behind)
     else if b == 34 then name_lexeme behind
     else record { token = sign b; inside = 0 }
 
 -- a uuid is tried first
-abbrev pub lexeme_or : Option (List ℕ) → Lexeme → Lexeme
-lexeme_or None other = other
-lexeme_or (Some bytes) other = record { token = Uuid bytes; inside = 35 }
-
 unfoldable pub lexeme : ℕ → List ℕ → Lexeme
-lexeme b behind = lexeme_or (uuid_in_front (b ∷ behind)) (other_lexeme b behind)
+lexeme b behind = option_map_or (λ bytes. record { token = Uuid bytes; inside = 35 }) (uuid_in_front (b ∷ behind)) (other_lexeme b behind)
 
 -- the byte is a space or begins a comment. A `/*` without a `*/` is no comment
 unfoldable pub is_separator : ℕ → List ℕ → Bool
-is_separator b behind = is_space b || is_line b behind || (is_block b behind && closes (behind_first behind))
+is_separator b behind = is_space b || is_line b behind || (is_block b behind && closes (drop 1 behind))
 
 -- the tokens of bytes of which the first `inside` belong to the token or the comment before them
 abbrev pub tokens_from : ℕ → List ℕ → List Token

@@ -4,7 +4,7 @@ use Rattle.std.proofs.lemmas.List.{append-nil}
 use Rattle.std.specs.Io.KnownBytes.{Appends}
 use Rattle.sasi_host.specs.declared.fault.HostFault.{HostFault}
 use Rattle.sasi_host.specs.declared.fault.HostFault.TheVariants as host_fault
-use Rattle.sasi_host.specs.View.{AllOut, Emits, IsTold, View}
+use Rattle.sasi_host.specs.View.{AllOut, Emits, IsTold, View, counted, counted_by}
 use Rattle.sasi_host.specs.Disk.{Changes}
 use Rattle.sasi_model.specs.Pieces.{Piece}
 use Rattle.sasi_model.specs.Refusals.{Refusal}
@@ -13,13 +13,17 @@ use Rattle.sasi_cql.specs.SplitterState.{resume, behind}
 use Rattle.sasi_machine.specs.declared.outcome.Outcome.{Outcome}
 use Rattle.sasi_machine.specs.Outcome.{outcome_of}
 use Rattle.sasi_run.specs.Crashing.{AnswersCrashSafe, FailsCrashSafe, FinishesCrashSafe, CrashLeavesPieces, StaysDurable, StopsCrashSafe, FeedsCrashSafe}
-use Rattle.sasi_run.specs.Session.{counted_by, counted_outcome, refused_by, stop_of}
+use Rattle.sasi_run.specs.EmitCounts.{MakesEmits, emits_failed, emits_of}
+use Rattle.sasi_run.specs.FileCalls.{emits_after}
+use Rattle.sasi_run.specs.Headline.{status_of_stop}
+use Rattle.sasi_run.specs.Session.{counted_outcome, refused_by, stop_of}
 use Rattle.sasi_run.specs.Storing.{IsAtomic, IsReady, IsStoreDurable, AnyFolderChange}
 use Rattle.sasi_run.specs.declared.session.Session.{Session}
 use Rattle.sasi_run.specs.declared.session.Stop.{Stop}
 use Rattle.sasi_run.specs.declared.session.Stop.TheVariants.{Memory, Output}
 use Rattle.sasi_run.specs.declared.store.Store.{Store}
 use Rattle.sasi_run.proofs.Crashing.{leaves_answered, leaves_both, leaves_nothing, leaves_recorded, ready_still, durable_answered, durable_both, durable_nothing}
+use Rattle.sasi_run.proofs.EmitLaws.{makes_alone, makes_behind_none, makes_more, makes_more_and, makes_none, makes_one, makes_reply}
 use Rattle.sasi_run.proofs.RunParts.{appends_none, stops_at, stops_before, stops_later, feeds_answer, feeds_both, feeds_nothing, feeds_no_end}
 
 -- ---- the answer
@@ -31,10 +35,16 @@ unmoved a b same = subst (λ (l : Option (List ℕ)). Appends a.emitted l []) (s
 pub fails_recorded : (fault : HostFault) (session : Session) (a b : View) (piece : Piece) → Changes AnyFolderChange a b
     → (IsStoreDurable a session.store → IsAtomic a b session.store.machine (step session.store.machine piece).state)
     → FailsCrashSafe (stop_of fault) session a b (piece ∷ [])
-fails_recorded host_fault.Failed session a b piece change moves = record
-    { shown = unmoved a b change.emitted; crashes = leaves_recorded a b session.store session.store piece moves }
-fails_recorded host_fault.OutOfMemory session a b piece change moves = record
-    { shown = unmoved a b change.emitted; crashes = leaves_recorded a b session.store session.store piece moves }
+fails_recorded host_fault.Failed session a b piece change moves = record {
+  shown = unmoved a b change.emitted;
+  crashes = leaves_recorded a b session.store session.store piece moves;
+  emits = makes_none a.emits b.emits change.emits;
+}
+fails_recorded host_fault.OutOfMemory session a b piece change moves = record {
+  shown = unmoved a b change.emitted;
+  crashes = leaves_recorded a b session.store session.store piece moves;
+  emits = makes_none a.emits b.emits change.emits;
+}
 
 module _ (session : Session) (a b d : View) (later : Store) (piece : Piece) (reply : List ℕ)
     (said : reply ≡ (step session.store.machine piece).reply) (made : later.machine ≡ (step session.store.machine piece).state)
@@ -42,8 +52,8 @@ module _ (session : Session) (a b d : View) (later : Store) (piece : Piece) (rep
     (moves : IsStoreDurable a session.store → IsAtomic a b session.store.machine (step session.store.machine piece).state)
     (durable : IsTold a → IsStoreDurable a session.store → IsStoreDurable b later) (emits : Emits reply b d) where
   -- the reply was not emitted whole
-  pub fails_shown : FailsCrashSafe Output session a d (piece ∷ [])
-  fails_shown = record {
+  pub fails_shown : d.emits ≡ counted b.emits → FailsCrashSafe Output session a d (piece ∷ [])
+  fails_shown once = record {
     shown = (
       piece,
       emits.front,
@@ -54,6 +64,7 @@ module _ (session : Session) (a b d : View) (later : Store) (piece : Piece) (rep
       subst (λ (l : Option (List ℕ)). Appends l d.emitted emits.front) change.emitted emits.out,
     );
     crashes = leaves_answered a b session.store later piece moves d reply said made durable emits;
+    emits = makes_one a.emits d.emits (once ∙ ap counted change.emits);
   }
 
   counts : (refused : ℕ) (o : Option Refusal) → refused < 2 ^ 64
@@ -63,8 +74,9 @@ module _ (session : Session) (a b d : View) (later : Store) (piece : Piece) (rep
 
   pub answers_on : (new : Session) (outcome : Outcome) → new.store ≡ later → session.refused < 2 ^ 64
       → outcome ≡ outcome_of (step session.store.machine piece).refused → new.refused ≡ counted_outcome session.refused outcome
-      → new.splitter ≡ session.splitter → IsReady b later → AllOut reply b d → AnswersCrashSafe session new a d piece
-  answers_on new outcome store_is small outcome_is count reading ready all = record {
+      → new.splitter ≡ session.splitter → IsReady b later → AllOut reply b d
+      → d.emits ≡ emits_after a.emits (step session.store.machine piece).reply → AnswersCrashSafe session new a d piece
+  answers_on new outcome store_is small outcome_is count reading ready all call = record {
     answers = record {
       state = ap (λ (s : Store). s.machine) store_is ∙ made;
       shown = subst (λ (l : Option (List ℕ)). Appends l d.emitted (step session.store.machine piece).reply) change.emitted
@@ -77,6 +89,7 @@ module _ (session : Session) (a b d : View) (later : Store) (piece : Piece) (rep
         (subst (λ (l : List ℕ). StaysDurable a d session.store later l) said
         (durable_answered a b session.store later piece moves d reply said made durable emits all));
     crashes = leaves_answered a b session.store later piece moves d reply said made durable emits;
+    emits = makes_reply a.emits d.emits (step session.store.machine piece).reply call;
   }
 
 -- ---- one byte
@@ -91,7 +104,16 @@ feeds_no_end_crash_safe old new a byte ready small next store count = record {
   ready = subst (λ (s : Store). IsReady a s) (sym store) ready;
   durable = subst (λ (s : Store). StaysDurable a a old.store s []) (sym store) (durable_nothing a old.store);
   crashes = leaves_nothing a old.store [];
+  emits = makes_none a.emits a.emits refl;
 }
+
+-- the emits of the reply to one piece
+one_emit : (old stand : Session) (a b : View) (piece : Piece) → stand.store ≡ old.store
+    → MakesEmits (emits_of (step stand.store.machine piece).reply) a.emits b.emits
+    → MakesEmits (emits_of (step old.store.machine piece).reply + 0) a.emits b.emits
+one_emit old stand a b piece store makes =
+    subst (λ (s : Store). MakesEmits (emits_of (step s.machine piece).reply + 0) a.emits b.emits) store
+    (makes_alone (emits_of (step stand.store.machine piece).reply) a.emits b.emits makes)
 
 -- a piece ended, and was answered
 pub feeds_answer_crash_safe : (old stand new : Session) (a b : View) (byte : ℕ) (piece : Piece)
@@ -105,12 +127,17 @@ feeds_answer_crash_safe old stand new a b byte piece next store count answered =
       (subst (λ (l : List ℕ). StaysDurable a b stand.store new.store l) (sym (append-nil (step stand.store.machine piece).reply))
       answered.durable);
   crashes = subst (λ (s : Store). CrashLeavesPieces a b s (piece ∷ [])) store answered.crashes;
+  emits = one_emit old stand a b piece store answered.emits;
 }
 
 -- it stopped before the byte was taken
 pub stops_before_on : (old : Session) (a : View) (bytes : List ℕ) → StopsCrashSafe Memory old a a bytes
 unfolding stops_before
-stops_before_on old a bytes = record { stops = stops_before old a.emitted bytes; crashes = leaves_nothing a old.store [] }
+stops_before_on old a bytes = record {
+  stops = stops_before old a.emitted bytes;
+  crashes = leaves_nothing a old.store [];
+  emits = makes_none a.emits a.emits refl;
+}
 
 -- it stopped at the answer
 pub stops_at_on : (stop : Stop) (old stand : Session) (a b : View) (byte : ℕ) (piece : Piece)
@@ -120,6 +147,7 @@ unfolding stops_at
 stops_at_on stop old stand a b byte piece next store fails = record {
   stops = stops_at stop old stand a.emitted b.emitted byte piece next (ap (λ (s : Store). s.machine) store) fails.shown;
   crashes = subst (λ (s : Store). CrashLeavesPieces a b s (piece ∷ [])) store fails.crashes;
+  emits = makes_behind_none (emits_failed (status_of_stop stop)) a.emits b.emits fails.emits;
 }
 
 -- ---- more bytes
@@ -130,8 +158,8 @@ feeds_nothing_crash_safe session a ready small = record {
   feeds = feeds_nothing session a.emitted small;
   ready = ready;
   durable = durable_nothing a session.store;
-  crashes = leaves_nothing a
-      session.store [];
+  crashes = leaves_nothing a session.store [];
+  emits = makes_none a.emits a.emits refl;
 }
 
 pub feeds_both_crash_safe : (old mid new : Session) (a b c : View) (xs ys : List ℕ) → FeedsCrashSafe old mid a b xs → FeedsCrashSafe mid new b c ys
@@ -142,6 +170,7 @@ feeds_both_crash_safe old mid new a b c xs ys t u = record {
   ready = u.ready;
   durable = durable_both a b c old.store mid.store new.store t.feeds.done u.feeds.done t.feeds.state t.durable u.durable;
   crashes = leaves_both a b c old.store mid.store t.feeds.done u.feeds.done t.feeds.state t.durable t.crashes u.crashes;
+  emits = makes_more old.store.machine mid.store.machine t.feeds.done u.feeds.done a.emits b.emits c.emits t.feeds.state t.emits u.emits;
 }
 
 pub stops_later_on : (stop : Stop) (old mid : Session) (a b c : View) (bytes xs ys rest : List ℕ) → FeedsCrashSafe old mid a b xs
@@ -151,6 +180,8 @@ stops_later_on stop old mid a b c bytes xs ys rest t u parts = record {
   stops = stops_later stop old mid a.emitted b.emitted c.emitted bytes xs ys rest t.feeds u.stops parts;
   crashes = subst (λ (l : List Piece). CrashLeavesPieces a c old.store l) (sym (append_assoc t.feeds.done u.stops.done u.stops.next))
       (leaves_both a b c old.store mid.store t.feeds.done (u.stops.done ++ u.stops.next) t.feeds.state t.durable t.crashes u.crashes);
+  emits = makes_more_and old.store.machine mid.store.machine t.feeds.done u.stops.done a.emits b.emits c.emits t.feeds.state t.emits
+      (emits_failed (status_of_stop stop)) u.emits;
 }
 
 -- ---- the last piece
@@ -163,6 +194,7 @@ finishes_nothing old new a last store count small ready = record {
   ready = subst (λ (s : Store). IsReady a s) (sym store) ready;
   durable = rw last (subst (λ (s : Store). StaysDurable a a old.store s []) (sym store) (durable_nothing a old.store));
   crashes = rw last (leaves_nothing a old.store []);
+  emits = rw last (makes_none a.emits a.emits refl);
 }
 
 pub finishes_answer : (old stand new : Session) (a b : View) (piece : Piece) → (resume old.splitter []).last ≡ piece ∷ []
@@ -179,4 +211,5 @@ finishes_answer old stand new a b piece last store count answered = record {
   ready = answered.ready;
   durable = rw (last, append-nil) (subst (λ (s : Store). StaysDurable a b s new.store (step s.machine piece).reply) store answered.durable);
   crashes = rw last (subst (λ (s : Store). CrashLeavesPieces a b s (piece ∷ [])) store answered.crashes);
+  emits = rw last (one_emit old stand a b piece store answered.emits);
 }

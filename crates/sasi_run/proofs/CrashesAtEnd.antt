@@ -1,27 +1,29 @@
 -- What a crash leaves of a run, at each of its ends.
-use Rattle.std.proofs.Common.{◌≡◌, ◌≢◌, ℕ, ◌+◌, ◌≤◌, ◌<◌, ◌^◌, List, [], ◌++◌, length, take, drop, Option, Err, IsErrOf, refl, sym, ap, ◌∙◌, subst, inl, inr, arith, append_assoc, length-drop}
+use Rattle.std.proofs.Common.{◌≡◌, ◌≢◌, ℕ, ◌+◌, ◌≤◌, ◌<◌, ◌^◌, ◌==◌, Bool, true, false, if◌then◌else◌, List, [], ◌++◌, length, take, drop, Option, Err, IsErrOf, refl, sym, ap, ◌∙◌, subst, inl, inr, arith, append_assoc, length-drop}
 use Rattle.std.proofs.lemmas.List.{length-take-le, take-append-drop, take_all}
 use Rattle.std.specs.Io.KnownBytes.{Consumes, IsAtEnd, Keeps}
 use Rattle.sasi_model.specs.Pieces.{Piece, Pieces, pieces, all_pieces}
 use Rattle.sasi_model.specs.State.{State}
+use Rattle.sasi_model.specs.Statements.{statement_of}
 use Rattle.sasi_model.specs.Step.{state_after}
 use Rattle.sasi_host.specs.View.{View}
 use Rattle.sasi_cql.specs.SplitterState.{resume, behind}
 use Rattle.sasi_host.specs.declared.damage.Damage.{Damage}
 use Rattle.sasi_run.specs.Crashing.{EndsAtRead, FailsCrashSafe, FeedsRead, FinishesCrashSafe, ReadsCrashSafe, CrashLeavesPieces, RunsCrashSafe, IsDurableAfter, StopsCrashSafe, StopsWith, FeedsCrashSafe}
+use Rattle.sasi_run.specs.EmitCounts.{EmitsCounted, MakesEmits, emits_failed, emits_for}
 use Rattle.sasi_run.specs.Headline.{RanToEnd, script_of, READ_MOST, SCRIPT_MOST, status_of_count, status_of_stop}
-use Rattle.sasi_run.specs.Session.{IsAtScriptStart, Faults, Feeds}
-use Rattle.sasi_run.specs.StatusCauses.{HostCauses}
+use Rattle.sasi_run.specs.Session.{IsAtScriptStart, Feeds}
 use Rattle.sasi_run.specs.Storing.{IsReady}
 use Rattle.sasi_run.specs.declared.session.Session.{Session}
 use Rattle.sasi_run.specs.declared.session.Stop.{Stop}
 use Rattle.sasi_run.specs.declared.session.Stop.TheVariants.{Disk, Output, Memory}
 use Rattle.sasi_run.specs.declared.store.Store.{Store}
 use Rattle.sasi_run.specs.declared.status.Status.{Status}
-use Rattle.sasi_run.specs.declared.status.Status.TheVariants.{Damaged, ScriptFault, ScriptTooLong, Usage}
+use Rattle.sasi_run.specs.declared.status.Status.TheVariants.{Damaged, Done, Refused, ScriptFault, ScriptTooLong, Usage}
 use Rattle.sasi_run.proofs.Crashing.{leaves_both, leaves_more, durable_both}
 use Rattle.sasi_run.proofs.RepliesAtEnd as exits
-use Rattle.sasi_run.proofs.RepliesAtEnd.{all_now, pieces_on, script_parts, script_whole}
+use Rattle.sasi_run.proofs.RepliesAtEnd.{all_now, pieces_on, script_parts, script_whole, whole_long, whole_now}
+use Rattle.sasi_run.proofs.EmitLaws.{makes_alone, makes_both, makes_more, makes_more_and}
 use Rattle.sasi_run.proofs.Answering.{feeds_nothing_crash_safe}
 use Rattle.sasi_run.proofs.ConsumedBytes.{consumes_nothing}
 use Rattle.sasi_run.proofs.RunParts.{state_after-append, feeds_both}
@@ -47,6 +49,15 @@ stopped Disk is = is
 stopped Output is = is
 stopped Memory is = is
 
+-- all pieces were answered
+ended_emits : (n : ℕ) (s : State) (script read shown : List ℕ) (a c : ℕ) → MakesEmits (emits_for s (all_pieces read)) a c
+    → EmitsCounted statement_of (status_of_count n) s script read shown a c
+ended_emits n s script read shown a c makes = by_test (n == 0)
+  where
+    by_test : (none : Bool) → EmitsCounted statement_of (if none then Done else Refused n) s script read shown a c
+    by_test true = record { answered = all_pieces read; by_status = refl; emits = makes_alone _ a c makes }
+    by_test false = record { answered = all_pieces read; by_status = refl; emits = makes_alone _ a c makes }
+
 -- a read failed
 pub ends_fault : (from mid : Session) (l l1 l2 : Option (List ℕ)) (a b : View) (n : ℕ) → IsAtScriptStart from → ReadsCrashSafe from mid l l1 a b n
     → n ≤ 2 ^ 40 → Keeps l1 l2 → RunsCrashSafe ScriptFault from.store l l2 a b
@@ -54,7 +65,16 @@ unfolding exits.ends_fault
 ends_fault from mid l l1 l2 a b n fresh on few kept =
     let runs = exits.ends_fault from mid l l1 l2 a.emitted b.emitted n fresh on.goes few kept in
     let first = answered_first from mid l l2 a.emitted b.emitted on.goes.read fresh on.goes.taken runs.consumed in
-    record { runs = runs; crashes = widened a b from.store on.goes.taken.done first.0 _ first.1 on.crashes; ends = λ is. absurd is }
+    record {
+      runs = runs;
+      crashes = widened a b from.store on.goes.taken.done first.0 _ first.1 on.crashes;
+      ends = λ is. absurd is;
+      emits = record {
+        answered = on.goes.taken.done;
+        by_status = sym (whole_now from mid a.emitted b.emitted on.goes.read fresh on.goes.taken);
+        emits = makes_alone _ a.emits b.emits on.emits;
+      };
+    }
 
 -- the script ended
 pub ends_done : (from mid to : Session) (l l1 l2 : Option (List ℕ)) (a b c : View) (n : ℕ) (none : List ℕ) → IsAtScriptStart from
@@ -78,6 +98,10 @@ ends_done from mid to l l1 l2 a b c n none fresh on few ate empty end fin =
         durable = durable_both a b c from.store mid.store to.store on.goes.taken.done (resume mid.splitter []).last on.goes.taken.state
             on.durable fin.durable;
       });
+      emits = ended_emits to.refused from.store.machine (script_of l on.goes.read) on.goes.read runs.shown a.emits c.emits
+          (subst (λ (l : List Piece). MakesEmits (emits_for from.store.machine l) a.emits c.emits) (sym all)
+          (makes_more from.store.machine mid.store.machine on.goes.taken.done (resume mid.splitter []).last a.emits b.emits c.emits
+          on.goes.taken.state on.emits fin.emits));
     }
 
 -- the last reply was not emitted
@@ -96,6 +120,12 @@ ends_last stop from mid l l1 l2 a b c n none fresh on few ate empty end fails =
       crashes = subst (λ (l : List Piece). CrashLeavesPieces a c from.store l) (sym (ap all_pieces (whole ∙ known) ∙ all))
           both;
       ends = λ is. absurd (stopped stop is);
+      emits = record {
+        answered = on.goes.taken.done;
+        by_status = exits.ends_last_answered stop from mid l l1 l2 a.emitted b.emitted c.emitted n none fresh on.goes few ate empty end fails.shown;
+        emits = makes_both (emits_for from.store.machine on.goes.taken.done) (emits_failed (status_of_stop stop)) a.emits b.emits c.emits on.emits
+            fails.emits;
+      };
     }
 
 -- the script was too long
@@ -118,6 +148,13 @@ ends_long from mid to l l1 l2 a b c n chunk part rest fresh on few ate small par
       crashes = widened a c from.store t.done _ _ cut
           (leaves_both a b c from.store mid.store on.goes.taken.done more.feeds.done on.goes.taken.state on.durable on.crashes more.crashes);
       ends = λ is. absurd is;
+      emits = record {
+        answered = t.done;
+        by_status = whole_long from mid to l l1 a.emitted b.emitted c.emitted n chunk part rest fresh on.goes parts full more.feeds;
+        emits = makes_alone _ a.emits c.emits
+            (makes_more from.store.machine mid.store.machine on.goes.taken.done more.feeds.done a.emits b.emits c.emits on.goes.taken.state
+            on.emits more.emits);
+      };
     }
 
 -- it stopped within what a read gave
@@ -144,8 +181,14 @@ ends_within stop from mid l l1 l2 a b c n chunk part rest fresh on few ate small
       runs = runs;
       crashes = widened a c from.store (t.done ++ (u.stops.done ++ u.stops.next)) _ _ all
           (leaves_both a b c from.store mid.store t.done (u.stops.done ++ u.stops.next) t.state on.durable on.crashes u.crashes);
-      ends = λ is.
-          absurd (stopped stop is);
+      ends = λ is. absurd (stopped stop is);
+      emits = record {
+        answered = t.done ++ u.stops.done;
+        by_status = exits.ends_within_answered stop from mid l l1 l2 a.emitted b.emitted c.emitted n chunk part rest fresh on.goes few ate small parts
+            u.stops;
+        emits = makes_more_and from.store.machine mid.store.machine t.done u.stops.done a.emits b.emits c.emits t.state on.emits
+            (emits_failed (status_of_stop stop)) u.emits;
+      };
     }
 
 -- ---- it goes on
@@ -160,6 +203,7 @@ starts_on session l a ready small =
       ready = t.ready;
       durable = t.durable;
       crashes = t.crashes;
+      emits = t.emits;
     }
 
 pub goes_on : (from mid to : Session) (l l1 l2 : Option (List ℕ)) (a b c : View) (n m : ℕ) (chunk : List ℕ) → ReadsCrashSafe from mid l l1 a b n
@@ -170,6 +214,8 @@ goes_on from mid to l l1 l2 a b c n m chunk on ate more is = record {
   ready = more.ready;
   durable = durable_both a b c from.store mid.store to.store on.goes.taken.done more.feeds.done on.goes.taken.state on.durable more.durable;
   crashes = leaves_both a b c from.store mid.store on.goes.taken.done more.feeds.done on.goes.taken.state on.durable on.crashes more.crashes;
+  emits = makes_more from.store.machine mid.store.machine on.goes.taken.done more.feeds.done a.emits b.emits c.emits on.goes.taken.state on.emits
+      more.emits;
 }
 
 -- ---- one read
@@ -205,11 +251,6 @@ stop_is_of_host Memory is = cc
 pub stops_after_read : {T : Type 0} (status : Status) (old : Session) (a b : View) (bytes : List ℕ) → StopsWith status old a b bytes
     → ¬ (IsErrOf {T = T} (Err status) ScriptFault)
 stops_after_read status old a b bytes s is = stop_is_of_host s.stop (let same : status ≡ ScriptFault = cc in sym s.gives ∙ same)
-
-pub stop_causes : {T : Type 0} (stop : Stop) (a b : View) → Faults {T = T} a b (Err stop) → HostCauses {T = T} a b (Err (status_of_stop stop))
-stop_causes Disk a b f = record { later = f.later; disk_later = f.disk_later; failed = λ is. cc; disk_failed = λ is. f.disk_failed refl }
-stop_causes Output a b f = record { later = f.later; disk_later = f.disk_later; failed = λ is. f.failed refl; disk_failed = λ is. cc }
-stop_causes Memory a b f = record { later = f.later; disk_later = f.disk_later; failed = λ is. cc; disk_failed = λ is. cc }
 
 -- that status is none of the words, nor of a damaged folder
 pub end_is_read : (status : Status) (mid : Session) (l1 l2 : Option (List ℕ)) (b c : View) (room : ℕ) → EndsAtRead status mid l1 l2 b c room → status ≢ Usage

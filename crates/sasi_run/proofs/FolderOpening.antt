@@ -3,7 +3,8 @@ use Rattle.std.proofs.Common.{◌≡◌, ◌⊎◌, ℕ, zero, suc, ◌+◌, ◌
 use Rattle.std.specs.FinMap.{get}
 use Rattle.std.specs.declared.result.Result.{Result}
 use Rattle.sasi_types.specs.declared.partitioner.Partitioner.{Partitioner}
-use Rattle.sasi_model.specs.State.{State, definitions, empty_state}
+use Rattle.sasi_model.specs.State.{State}
+use Rattle.sasi_model.specs.Abbreviations.{definitions, empty_state}
 use Rattle.sasi_host.specs.declared.name.FileName.{FileName}
 use Rattle.sasi_host.specs.declared.fault.ReadFault.{ReadFault}
 use Rattle.sasi_host.specs.declared.fault.ReadFault.TheVariants as read_fault

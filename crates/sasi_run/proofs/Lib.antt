@@ -1,6 +1,8 @@
 pub mod ConsumedBytes
 pub mod RunParts
 pub mod RepliesAtEnd
+pub mod FileCallLaws
+pub mod EmitLaws
 pub mod Complete
 pub mod Storing
 pub mod Crashing
@@ -8,6 +10,8 @@ pub mod CrashesAtEnd
 pub mod Answering
 pub mod Recovering
 pub mod WholeRun
+pub mod FailedCalls
+pub mod CountedEmits
 pub mod Causes
 pub mod ReplayingTables
 pub mod ReplayingSegment
@@ -18,7 +22,10 @@ pub mod DeletedFiles
 pub mod FirstStore
 pub mod Foreign
 pub mod SealedStore
+pub mod ReadsOfOpening
 pub mod FolderOpening
 pub mod NoUnlistedFiles
 pub mod Damaged
 pub mod OpenedState
+pub mod NothingFails
+pub mod NotKept

@@ -5,7 +5,8 @@ use Rattle.std.proofs.lemmas.List.Elements.{All-contains}
 use Rattle.std.specs.FinMap.{get}
 use Rattle.std.specs.declared.result.Result.{Result}
 use Rattle.sasi_types.specs.declared.partitioner.Partitioner.{Partitioner}
-use Rattle.sasi_model.specs.State.{State, empty_state}
+use Rattle.sasi_model.specs.State.{State}
+use Rattle.sasi_model.specs.Abbreviations.{empty_state}
 use Rattle.sasi_host.specs.declared.fault.ReadFault.{ReadFault}
 use Rattle.sasi_host.specs.declared.name.FileName.{FileName}
 use Rattle.sasi_host.specs.Names.{Folder, name_eq, rank, log_name, manifest_name}
@@ -52,7 +53,7 @@ sealed_stands a b folder number listing state files sealed there reads deletes a
     }
 
 -- the test of names tells equal ones
-name_same : (name other : FileName) → name_eq name other ≡ true → name ≡ other
+pub name_same : (name other : FileName) → name_eq name other ≡ true → name ≡ other
 name_same name other is =
     let kind : rank name.kind ≡ rank other.kind = grind (arith, nat_tests, is) in
     let number : name.number ≡ other.number = grind (arith, nat_tests, is) in

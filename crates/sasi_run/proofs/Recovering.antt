@@ -9,7 +9,8 @@ use Rattle.sasi_model.specs.Pieces.{Piece}
 use Rattle.sasi_model.specs.Refusals.{ParsedPiece, Nothing, Says, Bad, Refusal, read, refusal}
 use Rattle.sasi_model.specs.State.{State}
 use Rattle.sasi_model.specs.Statements.{statement_of}
-use Rattle.sasi_model.specs.Step.{execute_or, step, step_as, step_by, state_after, replies}
+use Rattle.sasi_model.specs.Step.{step, step_as, step_by, state_after, replies}
+use Rattle.sasi_model.specs.Abbreviations.{execute_or}
 use Rattle.sasi_folder.specs.Stands.{StandsSealed}
 use Rattle.sasi_run.specs.Crashing.{Crashed, IsAnswering, IsBetweenPieces}
 use Rattle.sasi_run.specs.Recovering.{IsReplyCount, IsPartOfNextReply, next_reply, IsStateAfter}

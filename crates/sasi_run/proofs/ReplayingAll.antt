@@ -1,6 +1,7 @@
 -- The live segments, one after another.
 use Rattle.std.proofs.Common.{◌≡◌, ℕ, suc, ◌+◌, ◌≤◌, List, [], ◌∷◌, ◌++◌, Some, length, map, refl, sym, ap, subst, ◌∙◌, arith, append_assoc, length-append}
-use Rattle.sasi_model.specs.State.{Definition, State, definitions}
+use Rattle.sasi_model.specs.State.{Definition, State}
+use Rattle.sasi_model.specs.Abbreviations.{definitions}
 use Rattle.sasi_model.specs.Changes.{empty_table}
 use Rattle.sasi_host.specs.declared.fault.ReadFault.{ReadFault}
 use Rattle.sasi_host.specs.declared.fault.ReadFault.TheVariants as fault
@@ -9,6 +10,7 @@ use Rattle.sasi_host.specs.Disk.{Changes, Same}
 use Rattle.sasi_host.proofs.Durability.{file_durable_same}
 use Rattle.sasi_host.specs.ChangeLaws.{stays, then_same}
 use Rattle.sasi_host.specs.Names.{Folder, log_name}
+use Rattle.sasi_host.specs.Sequential.{ReadsWithinPages}
 use Rattle.sasi_host.specs.View.{View, IsThere, IsTold}
 use Rattle.sasi_cells.specs.declared.mutation.Mutation.{Mutation}
 use Rattle.sasi_commitlog.specs.LogPosition.{IsAtLogEnd}
@@ -20,6 +22,8 @@ use Rattle.sasi_folder.proofs.ReplayLaws.{segments_last}
 use Rattle.sasi_folder.proofs.FolderChanges.{segments_join}
 use Rattle.sasi_folder.specs.Stands.{HasSegment, types_listed}
 use Rattle.sasi_run.specs.Replaying.{LiveSegmentsExist, HasRead, HasReplayed, ReplayShowsDamage, SegmentShowsDamage, KeepsSegment, KeepsSegments, MergedBefore, ReadsAll, ReadsSegment, Replays, ReplaysSegment, NoFalseReplayDamage, NoFalseSegmentDamage}
+use Rattle.sasi_run.specs.OpeningReads.{ReadsLiveOnce}
+use Rattle.sasi_run.proofs.ReadsOfOpening.{live_more, live_within}
 use Rattle.sasi_run.proofs.SealedStore.{bytes_there, reads_of}
 
 -- ---- the beginning
@@ -32,8 +36,9 @@ pub none_replayed : (v : View) (listing : Listing) (s : State) → s ≡ listed_
 none_replayed v listing s is = record {
   from_floor = omega arith;
   same = stays v;
-  disk = omega arith;
+  disk = refl;
   out = refl;
+  reads_left = λ folder files there. omega arith;
   of_listing = record { partitioner = ap (λ (s : State). s.partitioner) is; tables = ap (λ (s : State). definitions s.tables) is ∙ empty_definitions listing.tables };
   read = λ folder files there. record { logs = []; count = omega arith; segments = tt; state = is };
   merged = λ logs told live kept. record { done = []; left = logs; parts = refl; count = omega arith; kept = kept; state = is };
@@ -109,12 +114,13 @@ module _ (a b : View) (listing : Listing) (number : ℕ) (now : State) (on : Has
           segment.1,
         )
 
-    pub replayed_more : b.disk_faults ≤ c.disk_faults → c.out_faults ≡ b.out_faults → later.partitioner ≡ now.partitioner → definitions later.tables ≡ listed_definitions listing.tables → ReadsSegment b listing number now later → HasReplayed a c listing (number + 1) later
-    replayed_more disk out partitioner tables reads = record {
+    pub replayed_more : c.disk_faults ≡ b.disk_faults → c.out_faults ≡ b.out_faults → ReadsWithinPages b c (log_name number) → later.partitioner ≡ now.partitioner → definitions later.tables ≡ listed_definitions listing.tables → ReadsSegment b listing number now later → HasReplayed a c listing (number + 1) later
+    replayed_more disk out once partitioner tables reads = record {
       from_floor = omega (arith, on.from_floor);
       same = then_same a b c Same on.same same;
-      disk = omega (arith, on.disk, disk);
+      disk = disk ∙ on.disk;
       out = out ∙ on.out;
+      reads_left = λ folder files there. live_more a b c listing number within on.same folder files (there number on.from_floor within) (on.reads_left folder files there) once;
       of_listing = record { partitioner = partitioner ∙ on.of_listing.partitioner; tables = tables };
       read = λ folder files there. (let following : suc number ≡ number + 1 = omega arith in subst (λ k. HasRead folder listing k later) following (read_more later reads folder files there));
       merged = λ logs told live kept. (
@@ -140,6 +146,12 @@ module _ (a b : View) (listing : Listing) (number : ℕ) (now : State) (on : Has
         let none : n.others ≡ [] = no_more n.others (omega (arith, last, live, n.count, ap length n.parts, length-append n.done (n.next ∷ n.others))) in
         let all : n.done ++ n.next ∷ [] ≡ logs = sym (n.parts ∙ ap (λ l. n.done ++ n.next ∷ l) none) in
         (merged.0 ∙ ap (after_segments listing.tables listing.floor (listed_state listing)) all, (n.done, n.next, sym all, subst (λ k. IsAtLogEnd c (log_name k) at n.next) last merged.1))
+
+  -- ---- reads
+
+  -- after one segment more, to its end or to an error, the live segments were read within their pages
+  pub live_once : (c : View) → LiveSegmentsExist a listing → ReadsWithinPages b c (log_name number) → ReadsLiveOnce a c listing
+  live_once c there once folder files = live_within a b c listing number within on.same folder files (there number on.from_floor within) (on.reads_left folder files there) once
 
   -- ---- damage
 

@@ -1,23 +1,27 @@
 -- A segment that is being replayed.
-use Rattle.std.proofs.Common.{◌≡◌, ℕ, ◌≤◌, IsTrue, Bool, true, false, cond, is_some, List, [], ◌∷◌, ◌++◌, map, Option, Some, None, refl, sym, ap, subst, ◌∙◌, inl, arith, append_assoc}
+use Rattle.std.proofs.Common.{◌≡◌, ℕ, IsTrue, Bool, true, false, cond, is_some, List, [], ◌∷◌, ◌++◌, map, Option, Some, None, refl, sym, ap, subst, ◌∙◌, inl, append_assoc}
 use Rattle.std.proofs.lemmas.List.{append-nil, map-append}
 use Rattle.std.specs.List.{AllByRecursion}
-use Rattle.sasi_model.specs.State.{State, definitions, decorated}
+use Rattle.sasi_model.specs.State.{State, decorated}
+use Rattle.sasi_model.specs.Abbreviations.{definitions}
 use Rattle.sasi_model.specs.Changes.{after_change}
 use Rattle.sasi_host.specs.declared.name.FileName.{FileName}
 use Rattle.sasi_host.specs.declared.fault.ReadFault.{ReadFault}
 use Rattle.sasi_host.specs.declared.fault.ReadFault.TheVariants as fault
 use Rattle.sasi_host.specs.Names.{Bytes, log_name}
+use Rattle.sasi_host.specs.Buffered.{IsBuffered}
+use Rattle.sasi_host.specs.Sequential.{ReadsEachOnce, ReadsNoFurther, ReadsWithinPages}
 use Rattle.sasi_host.specs.Contents.{contents_same, there_where, told_after}
 use Rattle.sasi_host.specs.Disk.{Changes, IsFileDurable, Same}
 use Rattle.sasi_host.proofs.Durability.{file_durable_contents}
 use Rattle.sasi_host.specs.ChangeLaws.{then_same}
-use Rattle.sasi_host.specs.View.{View, IsSound, IsThere, IsTold, Rose, contents}
+use Rattle.sasi_host.specs.View.{View, IsSound, IsThere, IsTold, contents}
 use Rattle.sasi_gated.specs.Format.{IsGated}
 use Rattle.sasi_gated.specs.Gates.{IsAtGate}
 use Rattle.sasi_gated.proofs.Laws.{gated_at}
 use Rattle.sasi_gated.specs.Reads.{HasHeader, GatedDamageShown, NoFalseGatedDamage}
 use Rattle.sasi_gated.specs.Handles.{Handle}
+use Rattle.sasi_gated.specs.ReadCosts.{OpensSequential, fails_within, opens_on, opens_within}
 use Rattle.sasi_cells.specs.declared.mutation.Mutation.{Mutation}
 use Rattle.sasi_commitlog.specs.Damages.{ShowsLog}
 use Rattle.sasi_commitlog.specs.Format.{IsLog, IsMutationOf, Tables, payload_of}
@@ -53,16 +57,14 @@ pub record IsReplaying (a b : View) (listing : Listing) (number : ℕ) (log : Ha
   pub usable : IsTrue log.usable
   pub there : IsThere b (log_name number)
   pub same : Changes Same a b
-  pub disk : a.disk_faults ≤ b.disk_faults
+  pub disk : b.disk_faults ≡ a.disk_faults
   pub out : b.out_faults ≡ a.out_faults
+  pub buffered : IsBuffered log.buffered b.files
+  pub once : OpensSequential a b log
   pub partitioner : now.partitioner ≡ before.partitioner
   pub tables : definitions now.tables ≡ listed_definitions listing.tables
   pub read : (bytes : Bytes) → contents a (log_name number) ≡ Some bytes → ReadSome bytes listing number log.at before now
   pub merged : (mutations : List Mutation) → IsTold a → KeepsSegment a (types_listed listing) number mutations → MergedSome b listing number log.at before now mutations
-
--- a count that rose since a later moment rose since an earlier one
-pub failed_later : (first before later : ℕ) (f : ReadFault) → first ≤ before → (f ≡ fault.Failed → Rose before later) → f ≡ fault.Failed → Rose first later
-failed_later first before later f le rose is = grind (arith, le, rose is)
 
 all_join : {A : Type 0} (P : A → Type 0) (xs : List A) (x : A) → AllByRecursion P xs → P x → AllByRecursion P (xs ++ x ∷ [])
 all_join P [] x all one = (one, tt)
@@ -86,16 +88,18 @@ after_partitioner listing number s m = by (is_replayed listing.tables number m.t
 
 -- ---- the beginning
 
-pub begins_replay : (a b : View) (listing : Listing) (number : ℕ) (log : Handle) (s : State) → IsThere a (log_name number) → log.file ≡ log_name number → IsTrue log.usable → Changes Same a b → a.disk_faults ≤ b.disk_faults → b.out_faults ≡ a.out_faults → definitions s.tables ≡ listed_definitions listing.tables
+pub begins_replay : (a b : View) (listing : Listing) (number : ℕ) (log : Handle) (s : State) → IsThere a (log_name number) → log.file ≡ log_name number → IsTrue log.usable → Changes Same a b → b.disk_faults ≡ a.disk_faults → b.out_faults ≡ a.out_faults → IsBuffered log.buffered b.files → OpensSequential a b log → definitions s.tables ≡ listed_definitions listing.tables
     → HasHeader a (log_name number) log.at → ((tables : Tables) (bytes : Bytes) (mutations : List Mutation) → IsFileDurable a (log_name number) bytes → IsLog number tables bytes mutations → IsReadingLog b (log_name number) log.at tables [] mutations)
     → IsReplaying a b listing number log s s
-begins_replay a b listing number log s there file usable same disk out tables begins mutations_are = record {
+begins_replay a b listing number log s there file usable same disk out buffered once tables begins mutations_are = record {
   file = file;
   usable = usable;
   there = there_where a b Same (log_name number) same (contents_same a b (log_name number) same) there;
   same = same;
   disk = disk;
   out = out;
+  buffered = buffered;
+  once = once;
   partitioner = refl;
   tables = tables;
   read = λ bytes is. (let at = begins bytes is in record { done = []; rest = at.0; at_gate = at.1; of_tables = tt; state = refl });
@@ -111,6 +115,23 @@ module _ (a b : View) (listing : Listing) (number : ℕ) (log : Handle) (before 
 
   gate_here : (bytes : Bytes) → contents a (log_name number) ≡ Some bytes → (done : List Bytes) × (rest : Bytes) × IsAtGate log.file bytes log.at done rest
   gate_here bytes is = let some = on.read bytes is in (map payload_of some.done, some.rest, subst (λ (f : FileName). IsAtGate f bytes log.at (map payload_of some.done) some.rest) (sym on.file) some.at_gate)
+
+  -- ---- reads
+
+  -- each page was read once, so far and by one read more
+  once_more : (c : View) (new : Handle) → new.file ≡ log.file → ReadsEachOnce b c log.file log.buffered.page new.buffered.page new.at → OpensSequential a c new
+  once_more c new file once = opens_on a b c log new (contents_same a b log.file on.same) file on.once once
+
+  -- and so up to the end, and up to an error
+  pub once_to_end : (c : View) (new : Handle) → new.file ≡ log.file → ReadsEachOnce b c log.file log.buffered.page new.buffered.page new.at
+      → ReadsWithinPages a c (log_name number)
+  once_to_end c new file once = subst (λ (f : FileName). ReadsWithinPages a c f) (file ∙ on.file) (opens_within a c new (once_more c new file once))
+
+  pub once_to_error : (c : View) → ReadsNoFurther b c log.file log.buffered.page log.at → ReadsWithinPages a c (log_name number)
+  once_to_error c further = subst (λ (f : FileName). ReadsWithinPages a c f) on.file
+      (fails_within a b c log (contents_same a b log.file on.same) on.once further)
+
+  -- ---- one read more
 
   module _ (c : View) (new : Handle) (read : Option Mutation) (same : Changes Same b c) (file : new.file ≡ log.file) (gate : ReadsLogGate b log.file (types_listed listing) log.at new.at read) (reads : ReadsMutations b c log.file (types_listed listing) log.at new.at read) where
     next_read : (mutations : List Mutation) (told : IsTold a) (kept : KeepsSegment a (types_listed listing) number mutations) → (some : MergedSome b listing number log.at before now mutations) → ReadsNext read c (log_name number) new.at (types_listed listing) some.done some.left
@@ -147,14 +168,17 @@ module _ (a b : View) (listing : Listing) (number : ℕ) (log : Handle) (before 
           state = became ∙ ap (λ s. after_mutation listing.tables number s m) some.state ∙ sym (segment_more listing.tables number before some.done m);
         }
 
-    pub replays_more : (m : Mutation) → read ≡ Some m → (later : State) → later ≡ after_mutation listing.tables number now m → IsTrue new.usable → b.disk_faults ≤ c.disk_faults → c.out_faults ≡ b.out_faults → IsReplaying a c listing number new before later
-    replays_more m is later became usable disk out = record {
+    pub replays_more : (m : Mutation) → read ≡ Some m → (later : State) → later ≡ after_mutation listing.tables number now m → IsTrue new.usable → c.disk_faults ≡ b.disk_faults → c.out_faults ≡ b.out_faults → IsBuffered new.buffered c.files
+        → ReadsEachOnce b c log.file log.buffered.page new.buffered.page new.at → IsReplaying a c listing number new before later
+    replays_more m is later became usable disk out buffered once = record {
       file = file ∙ on.file;
       usable = usable;
       there = there_where b c Same (log_name number) same (contents_same b c (log_name number) same) on.there;
       same = then_same a b c Same on.same same;
-      disk = omega (arith, on.disk, disk);
+      disk = disk ∙ on.disk;
       out = out ∙ on.out;
+      buffered = buffered;
+      once = once_more c new file once;
       partitioner = ap (λ (s : State). s.partitioner) became ∙ after_partitioner listing number now m ∙ on.partitioner;
       tables = ap (λ (s : State). definitions s.tables) became ∙ after_definitions listing number now m ∙ on.tables;
       read = λ bytes told. read_more m is later became bytes told;
@@ -191,12 +215,13 @@ module _ (a b : View) (listing : Listing) (number : ℕ) (log : Handle) (before 
     state_by : (read : Option Mutation) → next.read ≡ read → later ≡ after_read listing number now read
     state_by read is = next.state ∙ ap (after_read listing number now) is
 
-    pub replays_next : is_more ≡ true → b.disk_faults ≤ c.disk_faults → c.out_faults ≡ b.out_faults → IsReplaying a c listing number new before later
-    replays_next more disk out = by next.read refl
+    pub replays_next : is_more ≡ true → c.disk_faults ≡ b.disk_faults → c.out_faults ≡ b.out_faults → IsBuffered new.buffered c.files
+        → ReadsEachOnce b c log.file log.buffered.page new.buffered.page new.at → IsReplaying a c listing number new before later
+    replays_next more disk out buffered once = by next.read refl
       where
         by : (read : Option Mutation) → next.read ≡ read → IsReplaying a c listing number new before later
         by None is = (let e : true ≡ false = sym more ∙ next.more ∙ ap (λ (r : Option Mutation). is_some r) is in cc)
-        by (Some m) is = replays_more c new next.read same next.file next.gate next.mutations m is later (state_by (Some m) is) next.usable disk out
+        by (Some m) is = replays_more c new next.read same next.file next.gate next.mutations m is later (state_by (Some m) is) next.usable disk out buffered once
 
     at_end : is_more ≡ false → next.read ≡ None
     at_end none = by next.read refl

@@ -8,7 +8,8 @@ use Rattle.std.specs.Option.{option_map}
 use Rattle.sasi_types.specs.declared.column.ColumnType.{ColumnType}
 use Rattle.sasi_types.specs.declared.partitioner.Partitioner.{Partitioner}
 use Rattle.sasi_model.specs.Statements.{same}
-use Rattle.sasi_model.specs.State.{Definition, State, Table, definition_of, definitions}
+use Rattle.sasi_model.specs.State.{Definition, State, Table, definition_of}
+use Rattle.sasi_model.specs.Abbreviations.{definitions}
 use Rattle.sasi_model.specs.Changes.{empty_table, with_new_table}
 use Rattle.sasi_model.specs.Stored.{types_of}
 use Rattle.sasi_schema.specs.declared.table.Table as schema
@@ -16,6 +17,7 @@ use Rattle.sasi_schema.specs.Defined.{definition}
 use Rattle.sasi_schema.specs.Numbers.{RisesFrom}
 use Rattle.sasi_cells.specs.declared.mutation.Mutation.{Mutation}
 use Rattle.sasi_commitlog.specs.Format.{IsMutationOf, types_in}
+use Rattle.sasi_commitlog.proofs.Payloads.{opened_mutation}
 use Rattle.sasi_manifest.specs.declared.listed.ListedTable.{ListedTable}
 use Rattle.sasi_manifest.specs.declared.listing.Listing.{Listing}
 use Rattle.sasi_manifest.specs.ListedDefinition.{ListedDefinition}
@@ -25,7 +27,8 @@ use Rattle.sasi_manifest.specs.Naming.{AreApart, IsFree}
 use Rattle.sasi_manifest.specs.Types.{numbered_types}
 use Rattle.sasi_machine.specs.Prepares.{IsApplicable, IsNewTable}
 use Rattle.sasi_folder.proofs.Creating.{same_sym}
-use Rattle.sasi_folder.specs.Replay.{reaches, is_replayed}
+use Rattle.sasi_folder.specs.Replay.{is_replayed}
+use Rattle.sasi_folder.proofs.Reached.{reaches}
 use Rattle.sasi_folder.specs.Stands.{types_listed}
 
 -- ---- tables are made
@@ -139,13 +142,14 @@ table_found (t ∷ tables) (x ∷ all) (suc index) l same there = let rest : def
 -- and the mutation can be merged there
 pub mutation_fit : (listing : Listing) (s : State) (m : Mutation) → IsMutationOf (types_listed listing) m → definitions s.tables ≡ listed_definitions listing.tables → IsApplicable s m
 mutation_fit listing s m of same =
-    let found = types_found 1 m.table listing.tables of.types of.listed in
+    let opened = opened_mutation (types_listed listing) m of in
+    let found = types_found 1 m.table listing.tables opened.types opened.listed in
     let t = table_found s.tables listing.tables found.0 found.1 same found.3 in
     let number : m.table - 1 ≡ found.0 = omega (arith, found.2) in
-    let types : types_of t.0.definition ≡ of.types = ap (λ (d : Definition). types_of d) t.2 ∙ found.4 in
+    let types : types_of t.0.definition ≡ opened.types = ap (λ (d : Definition). types_of d) t.2 ∙ found.4 in
     record {
       some = omega (arith, found.2);
       table = t.0;
       there = ap (slice_get s.tables) number ∙ t.1;
-      body = rw types of.body_is;
+      body = rw types opened.body_is;
     }

@@ -10,11 +10,14 @@ use Rattle.sasi_model.specs.Statements.{statement_of}
 use Rattle.sasi_model.specs.Step.{state_after, replies, refusals}
 use Rattle.sasi_cql.specs.SplitterState.{resume, behind}
 use Rattle.sasi_cql.proofs.Resumed.{resume_nothing}
-use Rattle.sasi_run.specs.Session.{counted_by, Feeds, Stops, EmittedAtStop, ReadsScript, Finishes, IsAtScriptStart}
+use Rattle.sasi_host.specs.View.{counted_by}
+use Rattle.sasi_run.specs.Session.{Feeds, Stops, EmittedAtStop, ReadsScript, Finishes, IsAtScriptStart}
+use Rattle.sasi_run.specs.EmitCounts.{AnsweredByStatus}
 use Rattle.sasi_run.specs.Headline.{Runs, EmitsByStatus, EmitsAllReplies, IsFirstPart, ReadsToEnd, SCRIPT_MOST, READ_MOST, script_of, status_of_stop, status_of_count}
 use Rattle.sasi_run.specs.declared.session.Session.{Session}
 use Rattle.sasi_run.specs.declared.session.Stop.{Stop}
 use Rattle.sasi_run.specs.declared.session.Stop.TheVariants.{Disk, Output, Memory}
+use Rattle.sasi_run.specs.declared.status.Status.{Status}
 use Rattle.sasi_run.specs.declared.status.Status.TheVariants.{Done, Refused, ScriptFault, ScriptTooLong}
 use Rattle.sasi_run.proofs.ConsumedBytes.{consumes_both, consumes_kept, consumes_none}
 use Rattle.sasi_run.proofs.RunParts.{feeds_both, replies-append, refusals-append, appends_both, stopped_later}
@@ -55,6 +58,10 @@ script_whole (Some script) None read consumed end = absurd consumed
 script_whole (Some script) (Some left) read consumed end = consumed ∙ ap (λ (l : List ℕ). read ++ l) end ∙ append-nil read
 
 -- ---- the ends
+
+-- the pieces that a run answered
+abbrev pub AnsweredIn : (status : Status) (s : State) (l l2 o o2 : Option (List ℕ)) → Runs statement_of status s l l2 o o2 → List Piece → Type 0
+AnsweredIn status s l l2 o o2 runs answered = AnsweredByStatus statement_of status s (script_of l runs.read) runs.read runs.shown answered
 
 -- a read failed
 unfoldable pub ends_fault : (from mid : Session) (l l1 l2 o o1 : Option (List ℕ)) (n : ℕ) → IsAtScriptStart from → ReadsScript from mid l l1 o o1 n
@@ -174,6 +181,18 @@ stops_read Memory s read done next l l2 o o2 consumed bounded first at = refl
 stops_read Disk s read done next l l2 o o2 consumed bounded first at = refl
 stops_read Output s read done next l l2 o o2 consumed bounded first (piece, front, back, one, reply, shown) = refl
 
+stops_answered : (stop : Stop) (s : State) (read : List ℕ) (done next : List Piece) (l l2 o o2 : Option (List ℕ)) (consumed : Consumes l l2 read)
+    (bounded : length read ≤ SCRIPT_MOST + READ_MOST) (first : IsFirstPart (script_of l read) read done next)
+    (at : EmittedAtStop stop s o o2 done next)
+    → AnsweredIn (status_of_stop stop) s l l2 o o2 (stops_show stop s read done next l l2 o o2 consumed bounded first at) done
+unfolding stops_show
+stops_answered Memory s read done next l l2 o o2 consumed bounded first at =
+    ((stops_show Memory s read done next l l2 o o2 consumed bounded first at).shows, refl)
+stops_answered Disk s read done next l l2 o o2 consumed bounded first at =
+    ((stops_show Disk s read done next l l2 o o2 consumed bounded first at).shows, refl)
+stops_answered Output s read done next l l2 o o2 consumed bounded first (piece, front, back, one, reply, shown) =
+    ((stops_show Output s read done next l l2 o o2 consumed bounded first (piece, front, back, one, reply, shown)).shows, refl)
+
 -- the last reply was not emitted
 pub ends_last : (stop : Stop) (from mid : Session) (l l1 l2 o o1 o2 : Option (List ℕ)) (n : ℕ) (none : List ℕ) → IsAtScriptStart from
     → ReadsScript from mid l l1 o o1 n → n ≤ 2 ^ 40 → Consumes l1 l2 none → length none ≡ 0 → IsAtEnd l2
@@ -207,6 +226,26 @@ unfolding ends_last
 ends_last_read stop from mid l l1 l2 o o1 o2 n none fresh goes few ate empty end at = stops_read stop from.store.machine goes.read
     goes.taken.done (resume mid.splitter []).last l l2 o o2 _ _ _ _
 
+pub ends_last_answered : (stop : Stop) (from mid : Session) (l l1 l2 o o1 o2 : Option (List ℕ)) (n : ℕ) (none : List ℕ) (fresh : IsAtScriptStart from)
+    (goes : ReadsScript from mid l l1 o o1 n) (few : n ≤ 2 ^ 40) (ate : Consumes l1 l2 none) (empty : length none ≡ 0) (end : IsAtEnd l2)
+    (at : EmittedAtStop stop mid.store.machine o1 o2 [] (resume mid.splitter []).last)
+    → AnsweredIn (status_of_stop stop) from.store.machine l l2 o o2 (ends_last stop from mid l l1 l2 o o1 o2 n none fresh goes few ate empty end at)
+    goes.taken.done
+unfolding ends_last
+ends_last_answered stop from mid l l1 l2 o o1 o2 n none fresh goes few ate empty end at = stops_answered stop from.store.machine goes.read
+    goes.taken.done (resume mid.splitter []).last l l2 o o2 _ _ _ _
+
+-- the pieces answered of the first 2^40 bytes
+pub whole_long : (from mid to : Session) (l l1 o o1 o2 : Option (List ℕ)) (n : ℕ) (chunk part rest : List ℕ) → IsAtScriptStart from
+    → (goes : ReadsScript from mid l l1 o o1 n) → chunk ≡ part ++ rest → n + length part ≡ SCRIPT_MOST → (more : Feeds mid to o1 o2 part)
+    → (feeds_both from mid to o o1 o2 goes.read part goes.taken more).done ≡ (pieces (take SCRIPT_MOST (goes.read ++ chunk))).whole
+whole_long from mid to l l1 o o1 o2 n chunk part rest fresh goes parts full more =
+    let t = feeds_both from mid to o o1 o2 goes.read part goes.taken more in
+    let size : length (goes.read ++ part) ≡ SCRIPT_MOST = omega (arith, length-append goes.read part, goes.length_is, full) in
+    let all : goes.read ++ chunk ≡ (goes.read ++ part) ++ rest = rw parts (sym (append_assoc goes.read part rest)) in
+    let first : take SCRIPT_MOST (goes.read ++ chunk) ≡ goes.read ++ part = rw (all, ← size) (take-append_seam (goes.read ++ part) rest) in
+    sym (rw first (whole_now from to o o2 (goes.read ++ part) fresh t))
+
 -- the script was too long
 unfoldable pub ends_long : (from mid to : Session) (l l1 l2 o o1 o2 : Option (List ℕ)) (n : ℕ) (chunk part rest : List ℕ) → IsAtScriptStart from
     → ReadsScript from mid l l1 o o1 n → n ≤ 2 ^ 40 → Consumes l1 l2 chunk → length chunk ≤ READ_MOST → chunk ≡ part ++ rest
@@ -216,7 +255,6 @@ ends_long from mid to l l1 l2 o o1 o2 n chunk part rest fresh goes few ate small
     let t = feeds_both from mid to o o1 o2 goes.read part goes.taken more in
     let size : length (goes.read ++ part) ≡ SCRIPT_MOST = omega (arith, length-append goes.read part, goes.length_is) in
     let all : goes.read ++ chunk ≡ (goes.read ++ part) ++ rest = rw parts (sym (append_assoc goes.read part rest)) in
-    let first : take SCRIPT_MOST (goes.read ++ chunk) ≡ goes.read ++ part = rw (all, ← size) (take-append_seam (goes.read ++ part) rest) in
     let long : SCRIPT_MOST < length (goes.read ++ chunk) = rw all (omega (arith, length-append (goes.read ++ part) rest, size)) in
     record {
       read = goes.read ++ chunk;
@@ -224,7 +262,10 @@ ends_long from mid to l l1 l2 o o1 o2 n chunk part rest fresh goes few ate small
       consumed = consumes_both l l1 l2 goes.read chunk goes.consumed ate;
       emitted = t.shown;
       at_end = tt;
-      shows = record { whole = ap (replies from.store.machine) (sym (rw first (whole_now from to o o2 (goes.read ++ part) fresh t))); long = long };
+      shows = record {
+        whole = ap (replies from.store.machine) (whole_long from mid to l l1 o o1 o2 n chunk part rest fresh goes parts full more);
+        long = long;
+      };
       bounded = omega (arith, length-append goes.read chunk, goes.length_is);
     }
 
@@ -277,6 +318,15 @@ pub ends_within_read : (stop : Stop) (from mid : Session) (l l1 l2 o o1 o2 : Opt
     → (ends_within stop from mid l l1 l2 o o1 o2 n chunk part rest fresh goes few ate small parts u).read ≡ goes.read ++ chunk
 unfolding ends_within
 ends_within_read stop from mid l l1 l2 o o1 o2 n chunk part rest fresh goes few ate small parts u = stops_read stop from.store.machine
+    (goes.read ++ chunk) (goes.taken.done ++ u.done) u.next l l2 o o2 _ _ _ _
+
+pub ends_within_answered : (stop : Stop) (from mid : Session) (l l1 l2 o o1 o2 : Option (List ℕ)) (n : ℕ) (chunk part rest : List ℕ)
+    (fresh : IsAtScriptStart from) (goes : ReadsScript from mid l l1 o o1 n) (few : n ≤ 2 ^ 40) (ate : Consumes l1 l2 chunk)
+    (small : length chunk ≤ READ_MOST) (parts : chunk ≡ part ++ rest) (u : Stops stop mid o1 o2 part)
+    → AnsweredIn (status_of_stop stop) from.store.machine l l2 o o2
+    (ends_within stop from mid l l1 l2 o o1 o2 n chunk part rest fresh goes few ate small parts u) (goes.taken.done ++ u.done)
+unfolding ends_within
+ends_within_answered stop from mid l l1 l2 o o1 o2 n chunk part rest fresh goes few ate small parts u = stops_answered stop from.store.machine
     (goes.read ++ chunk) (goes.taken.done ++ u.done) u.next l l2 o o2 _ _ _ _
 
 -- ---- it goes on

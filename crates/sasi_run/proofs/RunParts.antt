@@ -6,7 +6,8 @@ use Rattle.sasi_model.specs.Pieces.{Piece, Pieces}
 use Rattle.sasi_model.specs.State.{State}
 use Rattle.sasi_model.specs.Step.{step, state_after, replies, refusals}
 use Rattle.sasi_cql.specs.SplitterState.{SplitterState, resume, behind}
-use Rattle.sasi_run.specs.Session.{counted_by, refused_by, Answers, Feeds, Stops, EmittedAtStop}
+use Rattle.sasi_host.specs.View.{counted_by}
+use Rattle.sasi_run.specs.Session.{refused_by, Answers, Feeds, Stops, EmittedAtStop}
 use Rattle.sasi_run.specs.declared.session.Session.{Session}
 use Rattle.sasi_run.specs.declared.session.Stop.{Stop}
 use Rattle.sasi_run.specs.declared.session.Stop.TheVariants.{Disk, Output, Memory}

@@ -5,7 +5,7 @@ use Rattle.sasi_types.specs.declared.statement.Statement.{Statement}
 use Rattle.sasi_types.specs.declared.statement.Statement.TheVariants.{CreateTable, Insert, Update, Delete, Query}
 use Rattle.sasi_model.specs.State.{Definition, State, decorated}
 use Rattle.sasi_model.specs.State.{Table as ATable}
-use Rattle.sasi_model.specs.Step.{new_definition}
+use Rattle.sasi_model.specs.Abbreviations.{new_definition}
 use Rattle.sasi_model.specs.Changes.{with_new_table}
 use Rattle.sasi_model.specs.WellFormed.{IsWellFormed}
 use Rattle.sasi_host.specs.declared.name.FileName.{FileName}
@@ -27,7 +27,7 @@ use Rattle.sasi_manifest.proofs.Consistency.{record_consistent}
 use Rattle.sasi_manifest.specs.Edits.{Applies, encoded}
 use Rattle.sasi_manifest.specs.Format.{IsNext}
 use Rattle.sasi_manifest.specs.ListedDefinition.{ListedDefinition}
-use Rattle.sasi_manifest.specs.Listings.{created_table}
+use Rattle.sasi_manifest.specs.Abbreviations.{created_table}
 use Rattle.sasi_manifest.specs.OpenManifest.{ManifestState, IsEither, ManifestStands}
 use Rattle.sasi_folder.proofs.Creating.{can_create}
 use Rattle.sasi_folder.proofs.FolderLaws.{kinds_apart}

@@ -4,7 +4,8 @@ use Rattle.std.proofs.lemmas.List.{append-nil}
 use Rattle.std.specs.Io.KnownBytes.{Appends}
 use Rattle.sasi_types.specs.declared.partitioner.Partitioner.TheVariants.{Lead8}
 use Rattle.sasi_model.specs.Pieces.{Piece, all_pieces}
-use Rattle.sasi_model.specs.State.{State, empty_state}
+use Rattle.sasi_model.specs.State.{State}
+use Rattle.sasi_model.specs.Abbreviations.{empty_state}
 use Rattle.sasi_model.specs.Statements.{statement_of}
 use Rattle.sasi_model.specs.Step.{replies, state_after}
 use Rattle.sasi_host.specs.declared.fault.ReadFault.{ReadFault}
@@ -20,13 +21,14 @@ use Rattle.sasi_run.specs.Headline.{Headline, RanToEnd, Runs, RunsFrom, EmitsByS
 use Rattle.sasi_run.specs.Recovering.{Recovers}
 use Rattle.sasi_run.specs.Storing.{IsReady, UnchangedOrStands, IsStoreDurable}
 use Rattle.sasi_run.specs.declared.status.Status.{Status}
-use Rattle.sasi_run.specs.declared.status.Status.TheVariants.{Usage, OutOfMemory, Damaged}
+use Rattle.sasi_run.specs.declared.status.Status.TheVariants.{Usage}
 use Rattle.sasi_run.specs.declared.store.Store.{Store}
 use Rattle.sasi_cql.proofs.Agreement.{is_parser}
 use Rattle.sasi_run.proofs.Crashing.{one_of}
 use Rattle.sasi_run.proofs.ConsumedBytes.{consumes_nothing}
 use Rattle.sasi_run.proofs.Recovering.{after_crash, counted, nothing_shown}
 use Rattle.sasi_run.proofs.RunParts.{appends_none}
+use Rattle.sasi_run.proofs.NotKept.{not_kept}
 
 -- ---- the start, and the opening
 
@@ -112,12 +114,15 @@ alone_there v store sound told ready durable =
     record {
       folder = files.0;
       reads = files.1;
-      number = store.manifest.number;
-      listing = store.manifest.listing;
-      logs = durable.older ++ durable.current ∷ [];
-      holds = durable.held files.0 (sound.reads files.0 files.1);
-      makes = durable.makes;
-      alone = λ name other. sym (ap (λ (o : Option Folder). contents_in o name) files.1) ∙ ready.no_other name other;
+      stands = record {
+        number = store.manifest.number;
+        listing = store.manifest.listing;
+        logs = durable.older ++ durable.current ∷ [];
+        holds = durable.held files.0 (sound.reads files.0 files.1);
+        makes = durable.makes;
+      };
+      alone = λ name no_manifest no_seal no_log. sym (ap (λ (o : Option Folder). contents_in o name) files.1)
+          ∙ ready.no_other name (not_kept store.manifest.number store.manifest.listing.floor store.manifest.listing.last name no_manifest no_seal no_log);
       images = λ image now. record {
         number = store.manifest.number;
         listing = store.manifest.listing;
@@ -142,7 +147,7 @@ ends_alone a b c s store starts before emitted change durable is sound pieces af
 -- ---- what a run does
 
 -- the words named no script
-nothing_runs : (s : State) (l o : Option (List ℕ)) → Runs statement_of Usage s l l o o
+pub nothing_runs : (s : State) (l o : Option (List ℕ)) → Runs statement_of Usage s l l o o
 nothing_runs s l o = record {
   read = [];
   shown = [];
@@ -161,7 +166,7 @@ runs_nothing a s l sound starts = record {
   ends = λ is. absurd is;
 }
 
-nothing_read : (s : State) (script : List ℕ) → EmitsFirstReplies statement_of s script [] []
+unfoldable pub nothing_read : (s : State) (script : List ℕ) → EmitsFirstReplies statement_of s script [] []
 nothing_read s script = record {
   done = [];
   first = record {
@@ -179,7 +184,7 @@ nothing_read s script = record {
   replied = refl;
 }
 
-first_runs : (fault : ReadFault) (s : State) (l o o2 : Option (List ℕ)) → o2 ≡ o → Runs statement_of (status_of_fault fault) s l l o o2
+unfoldable pub first_runs : (fault : ReadFault) (s : State) (l o o2 : Option (List ℕ)) → o2 ≡ o → Runs statement_of (status_of_fault fault) s l l o o2
 first_runs read_fault.Failed s l o o2 same = record {
   read = [];
   shown = [];
@@ -226,7 +231,7 @@ runs_unopened fault a b s l sound starts change = record {
 }
 
 -- the opening emits nothing, and finds this state
-moved : (status : Status) (l l2 : Option (List ℕ)) (t m : State) → m ≡ t → (o p q : Option (List ℕ)) → o ≡ p → Runs statement_of status m l l2 o q
+unfoldable pub moved : (status : Status) (l l2 : Option (List ℕ)) (t m : State) → m ≡ t → (o p q : Option (List ℕ)) → o ≡ p → Runs statement_of status m l l2 o q
     → Runs statement_of status t l l2 p q
 moved status l l2 t m e o p q f runs = record {
   read = runs.read;

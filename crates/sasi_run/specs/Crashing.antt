@@ -1,5 +1,5 @@
 -- What a crash leaves of a run: the emitted bytes, and the state for which the folder stands beside them.
-use Rattle.std.specs.Prelude.{◌≡◌, ◌⊎◌, ◌≤◌, ℕ, List, [], ◌∷◌, ◌++◌, length, take, Option, Some}
+use Rattle.std.specs.Prelude.{◌≡◌, ◌⊎◌, ◌≤◌, ℕ, ◌+◌, List, [], ◌∷◌, ◌++◌, length, take, Option, Some}
 use Rattle.std.specs.Io.KnownBytes.{Consumes, IsAtEnd, Keeps}
 use Rattle.sasi_model.specs.Pieces.{Piece, all_pieces}
 use Rattle.sasi_model.specs.State.{State}
@@ -14,6 +14,7 @@ use Rattle.sasi_run.specs.declared.session.Stop.{Stop}
 use Rattle.sasi_run.specs.declared.store.Store.{Store}
 use Rattle.sasi_run.specs.declared.status.Status.{Status}
 use Rattle.sasi_run.specs.declared.status.Status.TheVariants.{ScriptFault}
+use Rattle.sasi_run.specs.EmitCounts.{EmitsCounted, MakesEmits, emits_failed, emits_for, emits_of}
 use Rattle.sasi_run.specs.Headline.{RanToEnd, READ_MOST, Runs, script_of, status_of_stop}
 use Rattle.sasi_run.specs.Session.{Answers, Finishes, ReadsScript, EmittedAtStop, Stops, Feeds}
 use Rattle.sasi_run.specs.Storing.{IsReady, IsStoreDurable}
@@ -57,27 +58,31 @@ CrashLeavesPieces a b store pieces = (out : List ℕ) → HasDurableStore a stor
 abbrev pub StaysDurable : View → View → Store → Store → List ℕ → Type 0
 StaysDurable a b old new shown = (out : List ℕ) → HasDurableStore a old out → HasDurableStore b new (out ++ shown)
 
--- ---- parts of a run, with what a crash leaves meanwhile
+-- ---- parts of a run, with what a crash leaves meanwhile, and how many emits they made
 
 pub record AnswersCrashSafe (old new : Session) (a b : View) (piece : Piece) : Type 0 where
   pub answers : Answers old new a.emitted b.emitted piece
   pub ready : IsReady b new.store
   pub durable : StaysDurable a b old.store new.store (step old.store.machine piece).reply
   pub crashes : CrashLeavesPieces a b old.store (piece ∷ [])
+  pub emits : MakesEmits (emits_of (step old.store.machine piece).reply) a.emits b.emits
 
 pub record FailsCrashSafe (stop : Stop) (old : Session) (a b : View) (next : List Piece) : Type 0 where
   pub shown : EmittedAtStop stop old.store.machine a.emitted b.emitted [] next
   pub crashes : CrashLeavesPieces a b old.store next
+  pub emits : MakesEmits (emits_failed (status_of_stop stop)) a.emits b.emits
 
 pub record FeedsCrashSafe (old new : Session) (a b : View) (bytes : List ℕ) : Type 0 where
   pub feeds : Feeds old new a.emitted b.emitted bytes
   pub ready : IsReady b new.store
   pub durable : StaysDurable a b old.store new.store (replies old.store.machine feeds.done)
   pub crashes : CrashLeavesPieces a b old.store feeds.done
+  pub emits : MakesEmits (emits_for old.store.machine feeds.done) a.emits b.emits
 
 pub record StopsCrashSafe (stop : Stop) (old : Session) (a b : View) (bytes : List ℕ) : Type 0 where
   pub stops : Stops stop old a.emitted b.emitted bytes
   pub crashes : CrashLeavesPieces a b old.store (stops.done ++ stops.next)
+  pub emits : MakesEmits (emits_for old.store.machine stops.done + emits_failed (status_of_stop stop)) a.emits b.emits
 
 pub record FinishesCrashSafe (old new : Session) (a b : View) : Type 0 where
   pub finishes : Finishes old new a.emitted b.emitted
@@ -85,12 +90,14 @@ pub record FinishesCrashSafe (old new : Session) (a b : View) : Type 0 where
   pub ready : IsReady b new.store
   pub durable : StaysDurable a b old.store new.store (replies old.store.machine (resume old.splitter []).last)
   pub crashes : CrashLeavesPieces a b old.store (resume old.splitter []).last
+  pub emits : MakesEmits (emits_for old.store.machine (resume old.splitter []).last) a.emits b.emits
 
 pub record ReadsCrashSafe (from to : Session) (left_old left_new : Option (List ℕ)) (a b : View) (count : ℕ) : Type 0 where
   pub goes : ReadsScript from to left_old left_new a.emitted b.emitted count
   pub ready : IsReady b to.store
   pub durable : StaysDurable a b from.store to.store (replies from.store.machine goes.taken.done)
   pub crashes : CrashLeavesPieces a b from.store goes.taken.done
+  pub emits : MakesEmits (emits_for from.store.machine goes.taken.done) a.emits b.emits
 
 -- ---- one read of the script
 
@@ -129,8 +136,9 @@ pub record IsDurableAfter (store : Store) (a b : View) (pieces : List Piece) : T
   pub ready : IsReady b last
   pub durable : StaysDurable a b store last (replies store.machine pieces)
 
--- the run shows what its status says, and a crash meanwhile leaves no more than the pieces of the script do
+-- the run shows what its status says, by so many emits, and a crash meanwhile leaves no more than the pieces of the script do
 pub record RunsCrashSafe (status : Status) (store : Store) (left_old left_new : Option (List ℕ)) (a b : View) : Type 0 where
   pub runs : Runs statement_of status store.machine left_old left_new a.emitted b.emitted
   pub crashes : CrashLeavesPieces a b store (all_pieces (script_of left_old runs.read))
   pub ends : RanToEnd status → IsDurableAfter store a b (all_pieces (script_of left_old runs.read))
+  pub emits : EmitsCounted statement_of status store.machine (script_of left_old runs.read) runs.read runs.shown a.emits b.emits

@@ -1,24 +1,19 @@
 -- The headline: what a run reads and emits, by the status that it answers, and what a crash leaves. The emitted bytes are
 -- the replies that the model gives to the pieces of the script, and each status says how many of them.
-use Rattle.std.specs.Prelude.{◌≡◌, ℕ, ◌+◌, ◌-◌, ◌^◌, ◌≤◌, ◌<◌, ◌==◌, if◌then◌else◌, min, List, [], ◌∷◌, ◌++◌, length, take, Option, None, Some, IsSome, false}
+use Rattle.std.specs.Prelude.{◌≡◌, ◌≢◌, ℕ, ◌+◌, ◌-◌, ◌^◌, ◌≤◌, ◌<◌, ◌==◌, if◌then◌else◌, min, List, [], ◌∷◌, ◌++◌, length, take, Option, None, Some, IsSome, unwrap_or}
 use Rattle.std.specs.Io.KnownBytes.{Appends, Consumes, IsAtEnd}
 use Rattle.std.specs.FinMap.{get}
 use Rattle.sasi_types.specs.declared.partitioner.Partitioner.TheVariants.{Lead8}
 use Rattle.sasi_host.specs.View.{SourceView, View}
 use Rattle.sasi_host.specs.declared.fault.ReadFault.{ReadFault}
 use Rattle.sasi_host.specs.declared.fault.ReadFault.TheVariants as read_fault
-use Rattle.sasi_host.specs.Names.{Folder}
+use Rattle.sasi_host.specs.Names.{Folder, log_name, manifest_name, seal_name}
 use Rattle.sasi_host.specs.declared.name.FileName.{FileName}
 use Rattle.sasi_model.specs.Pieces.{Piece, pieces, all_pieces}
 use Rattle.sasi_model.specs.State.{State}
 use Rattle.sasi_model.specs.Statements.{Parser, IsParser}
 use Rattle.sasi_model.specs.Step.{step_by, state_by, replies_by, refusals_by}
-use Rattle.sasi_cells.specs.declared.mutation.Mutation.{Mutation}
-use Rattle.sasi_manifest.specs.declared.listing.Listing.{Listing}
-use Rattle.sasi_folder.specs.Replay.{replayed_state}
-use Rattle.sasi_folder.specs.Stands.{Holds, Stands, StandsSealed}
-use Rattle.sasi_run.specs.declared.unlisted_files.Keep.TheVariants.{Store as KeepStore}
-use Rattle.sasi_run.specs.Deletion.{keeps}
+use Rattle.sasi_folder.specs.Stands.{Stands, StandsSealed}
 use Rattle.sasi_run.specs.Recovering.{Recovers}
 use Rattle.sasi_run.specs.declared.session.Stop.{Stop}
 use Rattle.sasi_run.specs.declared.session.Stop.TheVariants.{Disk, Output, Memory}
@@ -48,11 +43,6 @@ pub record EmitsWholePieces (parser : Parser) (s : State) (read shown : List ℕ
 pub record EmitsUpToLimit (parser : Parser) (s : State) (read shown : List ℕ) : Type 0 where
   pub whole : shown ≡ replies_by parser s (pieces (take SCRIPT_MOST read)).whole
   pub long : SCRIPT_MOST < length read
-
--- the script that a source tells, or else what was read of it
-abbrev pub script_of : Option (List ℕ) → List ℕ → List ℕ
-script_of None read = read
-script_of (Some script) read = script
 
 -- What was answered where a run broke off: `done`, and `next` behind it, are a first part of the pieces of the script, and of those of the bytes read. The last read gave `last`: each piece that ends before it is done.
 pub record IsFirstPart (script read : List ℕ) (done next : List Piece) : Type 0 where
@@ -107,14 +97,14 @@ RanToEnd Done = Unit {0}
 RanToEnd (Refused n) = Unit {0}
 RanToEnd _ = ⊥
 
--- the run read these bytes, and emitted what they show
+-- The run read these bytes, and emitted what they show. The script is the one that the source tells, or else what was read of it.
 pub record Runs (parser : Parser) (status : Status) (s : State) (left_old left_new out_old out_new : Option (List ℕ)) : Type 0 where
   pub read : List ℕ
   pub shown : List ℕ
   pub consumed : Consumes left_old left_new read
   pub emitted : Appends out_old out_new shown
   pub at_end : ReadsToEnd status left_new
-  pub shows : EmitsByStatus parser status s (script_of left_old read) read shown
+  pub shows : EmitsByStatus parser status s (unwrap_or left_old read) read shown
   pub bounded : length read ≤ SCRIPT_MOST + READ_MOST
 
 -- A run on this host begins in this state: its folder, as it reads, stands for it, and each image of it stands for a state.
@@ -128,19 +118,16 @@ pub record StartsFrom (host : View) (s : State) : Type 0 where
 pub record StandsWithoutUnlisted (v : View) (s : State) : Type 0 where
   pub folder : Folder
   pub reads : v.files ≡ Some folder
-  pub number : ℕ
-  pub listing : Listing
-  pub logs : List (List Mutation)
-  pub holds : Holds folder number listing logs
-  pub makes : s ≡ replayed_state listing logs
-  pub alone : (name : FileName) → keeps (KeepStore number listing.floor listing.last) name ≡ false → get folder name ≡ None
+  pub stands : StandsSealed folder s
+  pub alone : (name : FileName) → name ≢ manifest_name stands.number → name ≢ seal_name stands.number
+      → ((segment : ℕ) → stands.listing.floor ≤ segment → segment ≤ stands.listing.last → name ≢ log_name segment) → get folder name ≡ None
   pub images : (image : Folder) → v.image image → StandsSealed image s
 
 -- **The replies, and what a crash leaves.** What was emitted are replies as the status says, and at each moment since the start a crash leaves the state after the pieces whose replies were emitted, or after one more. A run to the script's end leaves the state after all of them, and no other file.
 pub record RunsFrom (parser : Parser) (status : Status) (s : State) (left_old left_new : Option (List ℕ)) (host_old host_new : View) : Type 0 where
   pub runs : Runs parser status s left_old left_new host_old.emitted host_new.emitted
-  pub crash : (before : List ℕ) → host_old.emitted ≡ Some before → (folder : Folder) (out : List ℕ) → host_new.left host_old.moment folder out → Recovers parser host_old s (all_pieces (script_of left_old runs.read)) before folder out
-  pub ends : RanToEnd status → IsSome host_old.emitted → StandsWithoutUnlisted host_new (state_by parser s (all_pieces (script_of left_old runs.read)))
+  pub crash : (before : List ℕ) → host_old.emitted ≡ Some before → (folder : Folder) (out : List ℕ) → host_new.left host_old.moment folder out → Recovers parser host_old s (all_pieces (unwrap_or left_old runs.read)) before folder out
+  pub ends : RanToEnd status → IsSome host_old.emitted → StandsWithoutUnlisted host_new (state_by parser s (all_pieces (unwrap_or left_old runs.read)))
 
 -- what a run does, by what its source and its host tell before it and after it
 pub record Headline (status : Status) (script_old script_new : SourceView) (host_old host_new : View) : Type 0 where
@@ -154,6 +141,12 @@ pub record Headline (status : Status) (script_old script_new : SourceView) (host
       → Runs parser status s script_old.left script_new.left host_old.emitted host_new.emitted
   -- the replies, and the crash
   pub shows : (s : State) → StartsFrom host_old s → RunsFrom parser status s script_old.left script_new.left host_old host_new
+
+-- ---- short names, which contracts and proofs cite
+
+-- the script that a source tells, or else what was read of it
+abbrev pub script_of : Option (List ℕ) → List ℕ → List ℕ
+script_of script read = unwrap_or script read
 
 -- ---- the status of a run's end
 

@@ -9,6 +9,10 @@ pub mod Crashing
 pub mod Recovering
 pub mod Replaying
 pub mod Opening
+pub mod OpeningReads
 pub mod Deletion
 pub mod NewFolder
 pub mod SealedFolder
+pub mod FileCalls
+pub mod EmitCounts
+pub mod InMemory

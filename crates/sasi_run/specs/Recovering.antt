@@ -16,14 +16,10 @@ pub record IsReplyCount (parser : Parser) (s : State) (pieces : List Piece) (sho
   pub begins : shown ≡ replies_by parser s (take n pieces) ++ rest
   pub no_more : (m : ℕ) (more : List ℕ) → n < m → m ≤ length pieces → shown ≡ replies_by parser s (take m pieces) ++ more → ⊥
 
--- the reply of the piece behind the first n, or nothing where there is none
-abbrev pub next_reply : Parser → State → List Piece → ℕ → List ℕ
-next_reply parser s pieces n = replies_by parser (state_by parser s (take n pieces)) (take 1 (drop n pieces))
-
--- the bytes are a first part of that reply
+-- the bytes are a first part of the reply of the piece behind the first n, or of nothing where there is none
 pub record IsPartOfNextReply (parser : Parser) (s : State) (pieces : List Piece) (n : ℕ) (bytes : List ℕ) : Type 0 where
   pub back : List ℕ
-  pub parts : next_reply parser s pieces n ≡ bytes ++ back
+  pub parts : replies_by parser (state_by parser s (take n pieces)) (take 1 (drop n pieces)) ≡ bytes ++ back
 
 -- the state after the first n pieces, or after one more
 abbrev pub IsStateAfter : Parser → State → List Piece → ℕ → State → Type 0
@@ -51,3 +47,9 @@ pub record Recovers (parser : Parser) (start : View) (s : State) (pieces : List 
 pub record IsAtRest (host : View) (folder : Folder) : Type 0 where
   pub reads : host.files ≡ Some folder
   pub only : (image : Folder) → host.image image → image ≡ folder
+
+-- ---- short names, which contracts and proofs cite
+
+-- the reply of the piece behind the first n, or nothing where there is none
+abbrev pub next_reply : Parser → State → List Piece → ℕ → List ℕ
+next_reply parser s pieces n = replies_by parser (state_by parser s (take n pieces)) (take 1 (drop n pieces))

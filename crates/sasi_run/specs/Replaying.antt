@@ -1,11 +1,12 @@
 -- The segments of the log that a host keeps, and what a replay of them tells.
-use Rattle.std.specs.Prelude.{◌≡◌, ℕ, suc, ◌+◌, ◌^◌, ◌≤◌, ◌<◌, Bool, true, false, IsTrue, List, [], ◌∷◌, ◌++◌, length, Option, None, Some, is_some, ⊤}
+use Rattle.std.specs.Prelude.{◌≡◌, ℕ, suc, ◌+◌, ◌-◌, ◌^◌, ◌≤◌, ◌<◌, Bool, true, false, IsTrue, List, [], ◌∷◌, ◌++◌, length, Option, None, Some, is_some, ⊤}
 use Rattle.sasi_host.specs.declared.fault.ReadFault.{ReadFault}
 use Rattle.sasi_host.specs.Damages.{OnDamage}
 use Rattle.sasi_host.specs.Names.{Bytes, Folder, log_name}
 use Rattle.sasi_host.specs.View.{View, IsThere, IsTold, Reaches, contents}
 use Rattle.sasi_host.specs.Disk.{Changes, IsFileDurable, Same}
-use Rattle.sasi_model.specs.State.{State, definitions}
+use Rattle.sasi_model.specs.State.{State}
+use Rattle.sasi_model.specs.Abbreviations.{definitions}
 use Rattle.sasi_cells.specs.declared.mutation.Mutation.{Mutation}
 use Rattle.sasi_commitlog.specs.Damages.{ShowsLog}
 use Rattle.sasi_commitlog.specs.Format.{IsLog, Tables}
@@ -16,6 +17,7 @@ use Rattle.sasi_manifest.specs.declared.listing.Listing.{Listing}
 use Rattle.sasi_manifest.specs.Listings.{listed_definitions}
 use Rattle.sasi_folder.specs.Replay.{after_mutation, after_segment, after_segments, listed_state, replayed_state}
 use Rattle.sasi_folder.specs.Stands.{HasSegments, types_listed}
+use Rattle.sasi_run.specs.OpeningReads.{live_reads, segment_reads}
 
 -- ---- what a host keeps
 
@@ -123,8 +125,9 @@ pub record MergedBefore (v : View) (listing : Listing) (number : ℕ) (now : Sta
 pub record HasReplayed (a b : View) (listing : Listing) (number : ℕ) (now : State) : Type 0 where
   pub from_floor : listing.floor ≤ number
   pub same : Changes Same a b
-  pub disk : a.disk_faults ≤ b.disk_faults
+  pub disk : b.disk_faults ≡ a.disk_faults
   pub out : b.out_faults ≡ a.out_faults
+  pub reads_left : (folder : Folder) → a.files ≡ Some folder → LiveSegmentsExist a listing → b.reads + segment_reads folder number (suc listing.last - number) ≤ a.reads + live_reads folder listing
   pub of_listing : HasListedTables now listing
   pub read : (folder : Folder) → a.files ≡ Some folder → LiveSegmentsExist a listing → HasRead folder listing number now
   pub merged : (logs : List (List Mutation)) → IsTold a → listing.floor + length logs ≡ suc listing.last → KeepsSegments a (types_listed listing) listing.floor logs → MergedBefore a listing number now logs

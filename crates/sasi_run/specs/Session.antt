@@ -1,10 +1,10 @@
 -- What a part of a run does: it is fed bytes of the script, and emits the replies of the pieces that end in them. Each
 -- word speaks of whatever may follow in the script, so that parts join to a run.
-use Rattle.std.specs.Prelude.{◌≡◌, ℕ, ◌+◌, ◌-◌, ◌^◌, min, if◌then◌else◌, length, List, [], ◌∷◌, ◌++◌, Option, Ok, Err, is_some, IsErrOf, ◌≤◌}
+use Rattle.std.specs.Prelude.{◌≡◌, ℕ, if◌then◌else◌, length, List, [], ◌∷◌, ◌++◌, Option, Ok, Err, is_some, IfErr, OnOk}
 use Rattle.std.specs.declared.result.Result.{Result}
 use Rattle.sasi_host.specs.declared.fault.HostFault.{HostFault}
 use Rattle.sasi_host.specs.declared.fault.HostFault.TheVariants as host_fault
-use Rattle.sasi_host.specs.View.{View, Rose, counted}
+use Rattle.sasi_host.specs.View.{View, FailedAtLast, counted, counted_by}
 use Rattle.std.specs.Io.KnownBytes.{Appends, Consumes}
 use Rattle.sasi_model.specs.Pieces.{Piece, pieces}
 use Rattle.sasi_model.specs.State.{State}
@@ -20,10 +20,6 @@ use Rattle.sasi_run.specs.declared.session.Stop.TheVariants.{Output, Memory, Dis
 abbrev pub stop_of : HostFault → Stop
 stop_of host_fault.Failed = Disk
 stop_of host_fault.OutOfMemory = Memory
-
--- so many more, where a count stays at its type's last value
-abbrev pub counted_by : ℕ → ℕ → ℕ
-counted_by count more = min (count + more) (2 ^ 64 - 1)
 
 abbrev pub counted_outcome : ℕ → Outcome → ℕ
 counted_outcome count outcomes.Done = count
@@ -71,12 +67,31 @@ pub record Stops (stop : Stop) (old : Session) (out_old out_new : Option (List �
   pub reading : (left : List ℕ) → resume old.splitter (taken ++ left) ≡ behind (done ++ next) (resume stand left)
   pub shown : EmittedAtStop stop old.store.machine out_old out_new done next
 
--- the counts of failures don't fall, and that of emits rose where the output stopped the run, and that of the disk where the folder did
+-- no call failed
+pub record NoneFailed (old new : View) : Type 0 where
+  pub disk : new.disk_faults ≡ old.disk_faults
+  pub out : new.out_faults ≡ old.out_faults
+
+-- only the last file call failed
+pub record DiskFailed (old new : View) : Type 0 where
+  pub disk : FailedAtLast old.disk_faults new.disk_faults new.failed_last
+  pub out : new.out_faults ≡ old.out_faults
+
+-- only the last emit failed
+pub record OutputFailed (old new : View) : Type 0 where
+  pub disk : new.disk_faults ≡ old.disk_faults
+  pub out : FailedAtLast old.out_faults new.out_faults new.failed_last
+
+-- what failed where a run stopped: the last call, where the folder or the output stopped it, and else none
+abbrev pub StopFaults : Stop → View → View → Type 0
+StopFaults Memory old new = NoneFailed old new
+StopFaults Disk old new = DiskFailed old new
+StopFaults Output old new = OutputFailed old new
+
+-- the same of a part of a run, where nothing failed if it went on
 pub record Faults {T : Type 0} (old new : View) (result : Result T Stop) : Type 0 where
-  pub later : old.out_faults ≤ new.out_faults
-  pub disk_later : old.disk_faults ≤ new.disk_faults
-  pub failed : IsErrOf result Output → Rose old.out_faults new.out_faults
-  pub disk_failed : IsErrOf result Disk → Rose old.disk_faults new.disk_faults
+  pub ok : OnOk result (NoneFailed old new)
+  pub stopped : IfErr result (λ stop. StopFaults stop old new)
 
 -- the session has run the last piece, if anything was left of one
 pub record Finishes (old new : Session) (out_old out_new : Option (List ℕ)) : Type 0 where

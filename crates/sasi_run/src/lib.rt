@@ -5,6 +5,7 @@
 mod arguments;
 mod command_line;
 mod folder_sync;
+mod in_memory;
 mod new_folder;
 mod next_run;
 mod open;
@@ -20,6 +21,7 @@ mod unlisted_files;
 
 pub use arguments::Command;
 pub use command_line::command;
+pub use in_memory::run_in_memory;
 pub use next_run::starts_again;
 pub use runner::run;
 pub use status::Status;

@@ -8,7 +8,7 @@ ghost use Rattle.sasi_host.specs.View.{IsAbsent, IsTold, ListCauses};
 ghost use Rattle.sasi_host.specs.Disk.{Changes, Lists, Same};
 ghost use Rattle.sasi_host.specs.ChangeLaws.{Each};
 ghost use Rattle.sasi_gated.specs.Causes.{ReadingCauses};
-ghost use Rattle.sasi_model.specs.State.{empty_state};
+ghost use Rattle.sasi_model.specs.Abbreviations.{empty_state};
 ghost use Rattle.sasi_folder.specs.Stands.{IsFresh};
 ghost use Rattle.sasi_run.specs.NewFolder.{ReportsForeign, NoFalseFreshDamage, StandsEmpty, is_initial};
 ghost use Rattle.sasi_run.specs.Storing.{IsReady, IsStoreDurable, AnyFolderChange};
@@ -41,6 +41,7 @@ pub fn create_store<H: Host>(
     ensures undamaged { IfErr result (OnDamage (λ damage. NoFalseFreshDamage (H.view host.old))) }
     ensures untouched { IfErr result (OnDamage (λ damage. Changes Same (H.view host.old) (H.view host.new))) }
     ensures changes { Changes AnyFolderChange (H.view host.old) (H.view host.new) }
+    ensures reads { (H.view host.new).reads ≡ (H.view host.old).reads }
     ensures causes { ReadingCauses (H.view host.old) (H.view host.new) result }
 {
     check_new(names)?;

@@ -13,6 +13,7 @@ ghost use Rattle.sasi_folder.specs.Damages.{FolderShows, ShowsListed};
 ghost use Rattle.sasi_folder.specs.Replay.{replayed_state};
 ghost use Rattle.sasi_folder.specs.Stands.{Holds, IsSealed, Stands, StandsSealed};
 ghost use Rattle.sasi_run.specs.Opening.{IsFolderDurable};
+ghost use Rattle.sasi_run.specs.OpeningReads.{OpensReadingOnce, ReadsStoreOnce};
 ghost use Rattle.sasi_run.specs.Storing.{IsReady, UnchangedOrStands, IsStoreDurable, AnyFolderChange};
 
 use crate::folder_sync::sync_all;
@@ -38,6 +39,7 @@ pub fn open<H: Host>(
     ensures damaged { (folder : Folder) → (H.view host.old).files ≡ Some folder → IfErr result (OnDamage (FolderShows folder)) }
     ensures undamaged { (folder : Folder) (s : State) → (H.view host.old).files ≡ Some folder → Stands partitioner folder s → IfErr result (OnDamage (λ _. ⊥)) }
     ensures changes { Changes AnyFolderChange (H.view host.old) (H.view host.new) }
+    ensures once { (folder : Folder) → (H.view host.old).files ≡ Some folder → OpensReadingOnce folder (H.view host.old) (H.view host.new) }
     ensures causes { ReadingCauses (H.view host.old) (H.view host.new) result }
 {
     let names = sync_all(alloc, host)?;
@@ -64,6 +66,7 @@ fn open_sealed<H: Host>(
     ensures damaged { (folder : Folder) → (H.view host.old).files ≡ Some folder → IfErr result (OnDamage (ShowsListed folder number)) }
     ensures undamaged { (folder : Folder) (listing : Listing) (logs : List (List Mutation)) → (H.view host.old).files ≡ Some folder → Holds folder number listing logs → IfErr result (OnDamage (λ _. ⊥)) }
     ensures changes { Changes AnyFolderChange (H.view host.old) (H.view host.new) }
+    ensures once { (folder : Folder) → (H.view host.old).files ≡ Some folder → ReadsStoreOnce folder number (H.view host.old) (H.view host.new) }
     ensures causes { ReadingCauses (H.view host.old) (H.view host.new) result }
 {
     let manifest = open_listed(alloc, host, names, number)?;

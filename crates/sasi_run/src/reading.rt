@@ -1,11 +1,12 @@
 // The loop over the reads of a script.
 ghost use Rattle.std.specs.Prelude.{◌≡◌, ◌≢◌, IfErr, IfOk, IsErrOf, OnOk};
-ghost use Rattle.sasi_host.specs.View.{Rose};
+ghost use Rattle.sasi_host.specs.View.{FailsOnlyAsTold};
 ghost use Rattle.sasi_host.specs.declared.damage.Damage.{Damage};
 ghost use Rattle.sasi_run.specs.Crashing.{EndsAtRead, FeedsCrashSafe, FeedsRead, RunsCrashSafe, StopsWith};
 ghost use Rattle.sasi_run.specs.Session.{IsAtScriptStart};
 ghost use Rattle.sasi_run.specs.Storing.{IsReady};
-ghost use Rattle.sasi_run.specs.StatusCauses.{HostCauses, ScriptCauses};
+ghost use Rattle.sasi_run.specs.Causes.{FailedCalls};
+ghost use Rattle.sasi_run.specs.StatusCauses.{HostCauses, NothingFailed};
 ghost use Rattle.sasi_run.specs.Headline.{status_of_stop, status_of_count};
 
 use crate::Status;
@@ -44,6 +45,8 @@ fn feed_bytes<H: Host>(session: &mut Session, host: &mut H, bytes: &[u8]) -> Res
     ensures ok { OnOk result (FeedsCrashSafe session.old session.new (H.view host.old) (H.view host.new) bytes.now) }
     ensures err { IfErr result (λ status. StopsWith status session.old (H.view host.old) (H.view host.new) bytes.now) }
     ensures causes { HostCauses (H.view host.old) (H.view host.new) result }
+    ensures told { FailsOnlyAsTold (H.view host.old) (H.view host.new) }
+    ensures reads { (H.view host.new).reads ≡ (H.view host.old).reads }
 {
     match feed(session, host, bytes) {
         Ok(()) => Ok(()),
@@ -62,8 +65,9 @@ fn read_once<S: Source, H: Host>(
     ensures ok { IfOk result (λ count. FeedsRead session.old session.new (S.view script.old).left (S.view script.new).left (H.view host.old) (H.view host.new) room count) }
     ensures err { IfErr result (λ status. EndsAtRead status session.old (S.view script.old).left (S.view script.new).left (H.view host.old) (H.view host.new) room) }
     ensures unread { IsErrOf result Status.ScriptFault → host.new ≡ host.old }
-    ensures script_causes { ScriptCauses (S.view script.old) (S.view script.new) result }
-    ensures causes { HostCauses (H.view host.old) (H.view host.new) result }
+    ensures unfailed { OnOk result (NothingFailed (S.view script.old) (S.view script.new) (H.view host.old) (H.view host.new)) }
+    ensures calls { IfErr result (λ status. FailedCalls status (S.view script.old) (S.view script.new) (H.view host.old) (H.view host.new)) }
+    ensures reads { (H.view host.new).reads ≡ (H.view host.old).reads }
 {
     let mut buf = [0; READ_SIZE];
     let count = match script.read(&mut buf) {
@@ -82,9 +86,8 @@ pub fn run_script<S: Source, H: Host>(session: &mut Session, script: &mut S, hos
     requires fresh { IsAtScriptStart session.old }
     requires ready { IsReady (H.view host.old) session.old.store }
     ensures runs { RunsCrashSafe result session.old.store (S.view script.old).left (S.view script.new).left (H.view host.old) (H.view host.new) }
-    ensures script_fault { result ≡ Status.ScriptFault → Rose (S.view script.old).faults (S.view script.new).faults }
-    ensures output_fault { result ≡ Status.OutputFault → Rose (H.view host.old).out_faults (H.view host.new).out_faults }
-    ensures folder_fault { result ≡ Status.FolderFault → Rose (H.view host.old).disk_faults (H.view host.new).disk_faults }
+    ensures calls { FailedCalls result (S.view script.old) (S.view script.new) (H.view host.old) (H.view host.new) }
+    ensures reads { (H.view host.new).reads ≡ (H.view host.old).reads }
     ensures words { result ≢ Status.Usage }
     ensures undamaged { (damage : Damage) → result ≢ Status.Damaged damage }
 {

@@ -3,8 +3,11 @@ ghost use Rattle.std.specs.Prelude.{◌≡◌, [], map, IfErr, IfOk, IsTrue, OnE
 ghost use Rattle.sasi_host.specs.View.{IsThere, Reaches};
 ghost use Rattle.sasi_host.specs.Disk.{Changes, Same};
 ghost use Rattle.sasi_host.specs.Names.{log_name};
+ghost use Rattle.sasi_host.specs.Buffered.{IsBuffered};
+ghost use Rattle.sasi_host.specs.Sequential.{ReadsWithinPages};
 ghost use Rattle.sasi_gated.specs.Causes.{ReadingCauses};
-ghost use Rattle.sasi_model.specs.State.{definitions};
+ghost use Rattle.sasi_gated.specs.ReadCosts.{IsSequential, ReadsPagesOnce};
+ghost use Rattle.sasi_model.specs.Abbreviations.{definitions};
 ghost use Rattle.sasi_model.specs.Changes.{empty_table};
 ghost use Rattle.sasi_schema.specs.Defined.{definition};
 ghost use Rattle.sasi_schema.specs.Numbers.{RisesFrom};
@@ -15,6 +18,7 @@ ghost use Rattle.sasi_manifest.specs.Listings.{CanStart, listed_definitions};
 ghost use Rattle.sasi_manifest.specs.Naming.{AreApart};
 ghost use Rattle.sasi_folder.specs.Replay.{after_mutation, listed_state, is_replayed};
 ghost use Rattle.sasi_folder.specs.Stands.{types_listed};
+ghost use Rattle.sasi_run.specs.OpeningReads.{ReadsLiveOnce};
 ghost use Rattle.sasi_run.specs.Replaying.{LiveSegmentsExist, MergesNext, HasReplayed, HasListedTables, ReplayShowsDamage, SegmentShowsDamage, ReadsAll, ReadsSegment, Replays, ReplaysSegment, NoFalseReplayDamage, NoFalseSegmentDamage};
 
 use sasi_cells::Mutation;
@@ -49,6 +53,7 @@ pub fn replay<H: Host>(
     ensures damaged { IfErr result (ReplayShowsDamage (H.view host.old) listing.now) }
     ensures undamaged { IfErr result (NoFalseReplayDamage (H.view host.old) listing.now) }
     ensures changes { Changes Same (H.view host.old) (H.view host.new) }
+    ensures once { ReadsLiveOnce (H.view host.old) (H.view host.new) listing.now }
     ensures causes { ReadingCauses (H.view host.old) (H.view host.new) result }
 {
     let types = listing.table_types(alloc)?;
@@ -74,6 +79,7 @@ fn replay_older<H: Host>(
     ensures damaged { IfErr result (ReplayShowsDamage (H.view host.old) listing.now) }
     ensures undamaged { IfErr result (NoFalseReplayDamage (H.view host.old) listing.now) }
     ensures changes { Changes Same (H.view host.old) (H.view host.new) }
+    ensures once { ReadsLiveOnce (H.view host.old) (H.view host.new) listing.now }
     ensures causes { ReadingCauses (H.view host.old) (H.view host.new) result }
 {
     for number in listing.floor..listing.last {
@@ -151,12 +157,15 @@ fn merge_next<H: Host>(
 ) -> Result<bool, ReadFault>
     requires there { IsThere (H.view host.old) log.old.file }
     requires usable { IsTrue log.old.usable }
+    requires buffered { IsBuffered log.old.buffered (H.view host.old).files }
     requires types { types.now ≡ types_listed listing.now }
     requires tables { definitions machine.old.tables ≡ listed_definitions listing.now.tables }
     ensures merged { IfOk result (λ is_more. MergesNext (H.view host.old) (H.view host.new) listing.now number log.old log.new machine.old machine.new is_more) }
     ensures damaged { IfErr result (IsLogDamageAt (H.view host.old) log.old.file (types_listed listing.now) log.old.at) }
     ensures undamaged { IfErr result (NoFalseLogDamage (H.view host.old) log.old.file (types_listed listing.now) log.old.at) }
     ensures changes { Changes Same (H.view host.old) (H.view host.new) }
+    ensures buffered { IsBuffered log.new.buffered (H.view host.new).files }
+    ensures once { IsSequential log.old → ReadsPagesOnce (H.view host.old) (H.view host.new) log.old log.new result }
     ensures causes { ReadingCauses (H.view host.old) (H.view host.new) result }
 {
     match log.next(host, types)? {
@@ -190,6 +199,7 @@ fn replay_segment<H: Host>(
     ensures damaged { IfErr result (SegmentShowsDamage (H.view host.old) listing.now number) }
     ensures undamaged { IfErr result (NoFalseSegmentDamage (H.view host.old) listing.now number) }
     ensures changes { Changes Same (H.view host.old) (H.view host.new) }
+    ensures once { ReadsWithinPages (H.view host.old) (H.view host.new) (log_name number) }
     ensures causes { ReadingCauses (H.view host.old) (H.view host.new) result }
 {
     let mut log = Log::open(alloc, host, number)?;

@@ -1,7 +1,9 @@
 // The entry point: a run of a script over a folder.
-ghost use Rattle.std.specs.Prelude.{◌≡◌, map, string_bytes};
+ghost use Rattle.std.specs.Prelude.{◌≡◌, map, string_bytes, Some};
+ghost use Rattle.sasi_host.specs.Names.{Folder};
 ghost use Rattle.sasi_run.specs.Headline.{Headline, status_of_fault};
 ghost use Rattle.sasi_run.specs.Causes.{RunCauses};
+ghost use Rattle.sasi_run.specs.OpeningReads.{OpensReadingOnce};
 
 use crate::open::open;
 use crate::reading::run_script;
@@ -21,6 +23,7 @@ pub fn run<S: Source, H: Host>(
 ) -> Status
     ensures headline { Headline result (S.view script.old) (S.view script.new) (H.view host.old) (H.view host.new) }
     ensures causes { RunCauses (map (λ w. string_bytes w) words.now) result (S.view script.old) (S.view script.new) (H.view host.old) (H.view host.new) }
+    ensures reads { (folder : Folder) → (H.view host.old).files ≡ Some folder → OpensReadingOnce folder (H.view host.old) (H.view host.new) }
     ensures untouched { result ≡ Status.Usage → (script.new ≡ script.old) × (host.new ≡ host.old) }
 {
     match command(words) {

@@ -14,6 +14,7 @@ ghost use Rattle.sasi_manifest.specs.Reading.{ReadsListing, StandsWhereKept};
 ghost use Rattle.sasi_folder.specs.Damages.{ShowsListed};
 ghost use Rattle.sasi_folder.specs.Stands.{Holds};
 ghost use Rattle.sasi_run.specs.Deletion.{Deletes, keeps};
+ghost use Rattle.sasi_run.specs.OpeningReads.{ReadsFileOnce};
 ghost use Rattle.sasi_run.specs.Replaying.{LiveSegmentsExist};
 ghost use Rattle.sasi_run.specs.SealedFolder.{NoFalseStoreDamage, ReportsMissing, ReportsMissingSegment, none_kept};
 ghost use Rattle.sasi_run.specs.Storing.{HasNoUnlisted};
@@ -50,6 +51,7 @@ pub fn open_listed<H: Host>(
     ensures undamaged { IfErr result (NoFalseStoreDamage (H.view host.old) number) }
     ensures untouched { IfErr result (OnDamage (λ damage. Changes Same (H.view host.old) (H.view host.new))) }
     ensures changes { Changes (Deletes none_kept) (H.view host.old) (H.view host.new) }
+    ensures once { ReadsFileOnce (H.view host.old) (H.view host.new) (manifest_name number) }
     ensures causes { ReadingCauses (H.view host.old) (H.view host.new) result }
 {
     let manifest = read_listed(alloc, host, names, number)?;
@@ -86,6 +88,7 @@ fn read_listed<H: Host>(
     ensures damaged { (folder : Folder) → (H.view host.old).files ≡ Some folder → IfErr result (OnDamage (ShowsListed folder number)) }
     ensures undamaged { IfErr result (NoFalseStoreDamage (H.view host.old) number) }
     ensures changes { Changes Same (H.view host.old) (H.view host.new) }
+    ensures once { ReadsFileOnce (H.view host.old) (H.view host.new) (manifest_name number) }
     ensures causes { ReadingCauses (H.view host.old) (H.view host.new) result }
 {
     check_there(names, FileName::manifest(number))?;

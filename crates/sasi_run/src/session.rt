@@ -1,11 +1,13 @@
 // A session: a run between two reads of its script.
-ghost use Rattle.std.specs.Prelude.{◌≡◌, OnOk, IfErr, ◌∷◌, []};
-ghost use Rattle.sasi_host.specs.View.{AllOut, Emits, OutCauses};
+ghost use Rattle.std.specs.Prelude.{◌≡◌, OnErr, OnOk, IfErr, ◌∷◌, []};
+ghost use Rattle.sasi_host.specs.View.{AllOut, Emits, FailsOnlyAsTold, OutCauses, counted};
 ghost use Rattle.sasi_host.specs.declared.fault.HostFault.TheVariants as host_fault;
 ghost use Rattle.sasi_model.specs.Pieces.{piece_of};
+ghost use Rattle.sasi_model.specs.Step.{step};
 ghost use Rattle.sasi_cql.specs.SplitterState.{resume};
 ghost use Rattle.sasi_run.specs.declared.session.Stop.TheVariants.{Disk, Memory, Output};
 ghost use Rattle.sasi_run.specs.Crashing.{AnswersCrashSafe, FailsCrashSafe, FinishesCrashSafe, StopsCrashSafe, FeedsCrashSafe};
+ghost use Rattle.sasi_run.specs.FileCalls.{NeedsNoFile, emits_after, emits_by};
 ghost use Rattle.sasi_run.specs.Session.{counted_outcome, EmitAppends, Faults};
 ghost use Rattle.sasi_run.specs.Storing.{IsReady};
 
@@ -79,6 +81,8 @@ fn emit_reply<H: Host>(host: &mut H, reply: &[u8]) -> Result<(), Failed>
     ensures bytes { EmitAppends (H.view host.old).emitted (H.view host.new).emitted result reply.now }
     ensures all { OnOk result (AllOut reply.now (H.view host.old) (H.view host.new)) }
     ensures emits { Emits reply.now (H.view host.old) (H.view host.new) }
+    ensures call { (H.view host.new).emits ≡ emits_after (H.view host.old).emits reply.now }
+    ensures failed_call { OnErr result ((H.view host.new).emits ≡ counted (H.view host.old).emits) }
     ensures causes { OutCauses (H.view host.old) (H.view host.new) result }
 {
     if reply.is_empty() {
@@ -92,7 +96,11 @@ pub fn answer<H: Host>(session: &mut Session, host: &mut H, end: PieceEnd) -> Re
     requires ready { IsReady (H.view host.old) session.old.store }
     ensures ok { OnOk result (AnswersCrashSafe session.old session.new (H.view host.old) (H.view host.new) (piece_of end session.old.splitter.text)) }
     ensures err { IfErr result (λ stop. FailsCrashSafe stop session.old (H.view host.old) (H.view host.new) (piece_of end session.old.splitter.text ∷ [])) }
+    ensures emits { (H.view host.new).emits ≡ emits_by result (H.view host.old).emits (step session.old.store.machine (piece_of end session.old.splitter.text)).reply }
+    ensures spared { NeedsNoFile session.old.store.machine (piece_of end session.old.splitter.text) → (H.view host.new).calls ≡ (H.view host.old).calls }
     ensures causes { Faults (H.view host.old) (H.view host.new) result }
+    ensures told { FailsOnlyAsTold (H.view host.old) (H.view host.new) }
+    ensures reads { (H.view host.new).reads ≡ (H.view host.old).reads }
 {
     let outcome = step(
         session.alloc,
@@ -113,6 +121,8 @@ fn feed_byte<H: Host>(session: &mut Session, host: &mut H, byte: u8) -> Result<(
     ensures ok { OnOk result (FeedsCrashSafe session.old session.new (H.view host.old) (H.view host.new) (byte ∷ [])) }
     ensures err { IfErr result (λ stop. StopsCrashSafe stop session.old (H.view host.old) (H.view host.new) (byte ∷ [])) }
     ensures causes { Faults (H.view host.old) (H.view host.new) result }
+    ensures told { FailsOnlyAsTold (H.view host.old) (H.view host.new) }
+    ensures reads { (H.view host.new).reads ≡ (H.view host.old).reads }
 {
     let _refused = session.refused;
     match session.splitter.push(byte)? {
@@ -127,6 +137,8 @@ pub fn feed<H: Host>(session: &mut Session, host: &mut H, bytes: &[u8]) -> Resul
     ensures ok { OnOk result (FeedsCrashSafe session.old session.new (H.view host.old) (H.view host.new) bytes.now) }
     ensures err { IfErr result (λ stop. StopsCrashSafe stop session.old (H.view host.old) (H.view host.new) bytes.now) }
     ensures causes { Faults (H.view host.old) (H.view host.new) result }
+    ensures told { FailsOnlyAsTold (H.view host.old) (H.view host.new) }
+    ensures reads { (H.view host.new).reads ≡ (H.view host.old).reads }
 {
     for byte in bytes {
         feed_byte(session, host, *byte)?;
@@ -140,6 +152,8 @@ pub fn finish<H: Host>(session: &mut Session, host: &mut H) -> Result<(), Stop>
     ensures ok { OnOk result (FinishesCrashSafe session.old session.new (H.view host.old) (H.view host.new)) }
     ensures err { IfErr result (λ stop. FailsCrashSafe stop session.old (H.view host.old) (H.view host.new) (resume session.old.splitter []).last) }
     ensures causes { Faults (H.view host.old) (H.view host.new) result }
+    ensures told { FailsOnlyAsTold (H.view host.old) (H.view host.new) }
+    ensures reads { (H.view host.new).reads ≡ (H.view host.old).reads }
 {
     let _refused = session.refused;
     match session.splitter.end() {

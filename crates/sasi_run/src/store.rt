@@ -1,6 +1,6 @@
 // An open store: its tables in memory, and the manifest and the commit log, which record each change before it is applied.
-ghost use Rattle.std.specs.Prelude.{◌≡◌, ◌∷◌, [], IfErr, IfOk, OnOk, Some};
-ghost use Rattle.sasi_host.specs.View.{IsTold, ListCauses};
+ghost use Rattle.std.specs.Prelude.{◌≡◌, ◌+◌, ◌≤◌, ◌∷◌, [], IfErr, IfOk, OnOk, Some};
+ghost use Rattle.sasi_host.specs.View.{IsTold, ListCauses, MakesCalls};
 ghost use Rattle.sasi_host.specs.Disk.{Changes};
 ghost use Rattle.sasi_model.specs.Pieces.{piece_of};
 ghost use Rattle.sasi_model.specs.Changes.{with_new_table};
@@ -10,6 +10,7 @@ ghost use Rattle.sasi_manifest.specs.Edits.{Applies};
 ghost use Rattle.sasi_machine.specs.Outcome.{outcome_of};
 ghost use Rattle.sasi_cells.specs.Mutations.{state_with_mutation};
 ghost use Rattle.sasi_machine.specs.Prepares.{IsApplicable, IsNewTable};
+ghost use Rattle.sasi_run.specs.FileCalls.{NeedsNoFile};
 ghost use Rattle.sasi_run.specs.Storing.{IsAtomic, IsReady, IsStoreDurable, AnyFolderChange};
 
 use sasi_cells::Mutation;
@@ -42,6 +43,8 @@ pub fn step<H: Host>(
     ensures state { OnOk result (store.new.machine ≡ (step store.old.machine (piece_of end piece.now)).state) }
     ensures reply { OnOk result (reply.new ≡ (step store.old.machine (piece_of end piece.now)).reply) }
     ensures outcome { IfOk result (λ o. o ≡ outcome_of (step store.old.machine (piece_of end piece.now)).refused) }
+    ensures spared { NeedsNoFile store.old.machine (piece_of end piece.now) → host.new ≡ host.old }
+    ensures calls { (H.view host.new).calls ≤ (H.view host.old).calls + 4 }
     ensures ready { OnOk result (IsReady (H.view host.new) store.new) }
     ensures durable { OnOk result (IsTold (H.view host.old) → IsStoreDurable (H.view host.old) store.old → IsStoreDurable (H.view host.new) store.new) }
     ensures any_moment { IsStoreDurable (H.view host.old) store.old → IsAtomic (H.view host.old) (H.view host.new) store.old.machine (step store.old.machine (piece_of end piece.now)).state }
@@ -70,6 +73,7 @@ fn write<H: Host>(store: &mut Store, host: &mut H, mutation: Mutation) -> Result
     ensures durable { OnOk result (IsTold (H.view host.old) → IsStoreDurable (H.view host.old) store.old → IsStoreDurable (H.view host.new) store.new) }
     ensures any_moment { IsStoreDurable (H.view host.old) store.old → IsAtomic (H.view host.old) (H.view host.new) store.old.machine (state_with_mutation store.old.machine mutation) }
     ensures changes { Changes AnyFolderChange (H.view host.old) (H.view host.new) }
+    ensures calls { MakesCalls 4 (H.view host.old) (H.view host.new) result }
     ensures causes { ListCauses (H.view host.old) (H.view host.new) result }
 {
     store.log.append(host, &mutation)?;
@@ -92,6 +96,7 @@ fn create<H: Host>(
     ensures durable { OnOk result (IsTold (H.view host.old) → IsStoreDurable (H.view host.old) store.old → IsStoreDurable (H.view host.new) store.new) }
     ensures any_moment { IsStoreDurable (H.view host.old) store.old → IsAtomic (H.view host.old) (H.view host.new) store.old.machine (with_new_table store.old.machine (definition table)) }
     ensures changes { Changes AnyFolderChange (H.view host.old) (H.view host.new) }
+    ensures calls { MakesCalls 4 (H.view host.old) (H.view host.new) result }
     ensures causes { ListCauses (H.view host.old) (H.view host.new) result }
 {
     let edits = edits_of(alloc, &table, store.manifest.listing().last)?;

@@ -81,13 +81,7 @@ fn check_stopped_opening(
 }
 
 /// Crashes at each call of the opening leave the state, by every pick. Nothing is pending on the host.
-pub fn check_opening(
-    rt: &impl Abort,
-    alloc: Global,
-    host: &MemHost,
-    pick: Pick,
-    statements: usize,
-) {
+fn check_opening(rt: &impl Abort, alloc: Global, host: &MemHost, pick: Pick, statements: usize) {
     for stop in 0..40 {
         if check_stopped_opening(rt, alloc, host, pick, stop, statements) {
             return;

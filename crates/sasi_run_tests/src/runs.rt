@@ -4,14 +4,17 @@ use sasi_run::{Status, run};
 use std::alloc::Global;
 use std::process::Abort;
 
-/// The words as a command line has them.
-pub fn words_of(rt: &impl Abort, alloc: Global, words: &[&str]) -> Vec<String> {
-    let mut all = Vec::new(alloc);
-    for word in words {
-        let word = String::from_str(alloc, word).expect(rt, "memory");
-        all.push(word).expect(rt, "memory");
-    }
-    all
+/// A word of a command line.
+fn word(rt: &impl Abort, alloc: Global, word: &str) -> String {
+    String::from_str(alloc, word).expect(rt, "memory")
+}
+
+/// The words of a command line.
+fn words(rt: &impl Abort, alloc: Global) -> Vec<String> {
+    let mut words = Vec::new(alloc);
+    words.push(word(rt, alloc, "folder")).expect(rt, "memory");
+    words.push(word(rt, alloc, "script")).expect(rt, "memory");
+    words
 }
 
 /// A source of the script that doesn't fail.
@@ -22,8 +25,8 @@ fn source_of(rt: &impl Abort, alloc: Global, script: &str) -> MemSource {
 
 /// The status of a run of a script.
 fn status_of(rt: &impl Abort, alloc: Global, script: &str, host: &mut MemHost) -> Status {
-    let words = words_of(rt, alloc, &["folder", "script"]);
-    run(alloc, &words, &mut source_of(rt, alloc, script), host)
+    let mut source = source_of(rt, alloc, script);
+    run(alloc, &words(rt, alloc), &mut source, host)
 }
 
 /// The status of a run of a script, and what it emitted.

@@ -3,7 +3,8 @@ use Rattle.std.proofs.Common.{◌≡◌, ℕ, ◌<◌, ◌≤◌, ◌==◌, fals
 use Rattle.std.proofs.lemmas.List.{length-map}
 use Rattle.std.proofs.lemmas.Bool.Decides.{nat_tests}
 use Rattle.sasi_model.specs.State.{Column, Definition}
-use Rattle.sasi_model.specs.Refusals.{KeyMissing, TooManyTables, TooManyColumns, first_of, create_rules, repeat_rules, names_in, TABLE_LIMIT, COLUMN_LIMIT}
+use Rattle.sasi_model.specs.Refusals.{create_rules, repeat_rules, names_in}
+use Rattle.sasi_model.specs.Abbreviations.{first_of, KeyMissing, TooManyTables, TooManyColumns, TABLE_LIMIT, COLUMN_LIMIT}
 use Rattle.sasi_model.specs.Step.{key_position}
 use Rattle.sasi_schema.specs.declared.table.Table.{Table}
 use Rattle.sasi_schema.proofs.RuleLaws.{none_first, none_parts}

@@ -5,8 +5,9 @@ use Rattle.std.specs.Cmp.Lexicographic.{same_text}
 use Rattle.std.proofs.Math.Seq.{drop-cons}
 use Rattle.std.proofs.lemmas.Option.{slice_get_read}
 use Rattle.sasi_model.specs.Statements.{same}
-use Rattle.sasi_model.specs.State.{Column, Definition, position_in, numbered_at, number_of_column, column_at, name_or_none, type_or_text, key_name}
-use Rattle.sasi_model.specs.Refusals.{NoColumn, is_key, first_of, names_in}
+use Rattle.sasi_model.specs.State.{Column, Definition, position_in, number_of_column, key_name}
+use Rattle.sasi_model.specs.Abbreviations.{numbered_at, column_at, name_or_none, type_or_text, NoColumn, first_of}
+use Rattle.sasi_model.specs.Refusals.{is_key, names_in}
 use Rattle.sasi_model.specs.Step.{key_position}
 use Rattle.sasi_schema.specs.Checks.{key_rules}
 use Rattle.sasi_schema.specs.Numbers.{IsKeyAt}

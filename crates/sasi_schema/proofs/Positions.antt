@@ -4,7 +4,8 @@ use Rattle.std.specs.List.{list_any}
 use Rattle.std.specs.Cmp.Lexicographic.{same_text}
 use Rattle.std.proofs.Math.Seq.{drop-cons}
 use Rattle.sasi_model.specs.Statements.{same}
-use Rattle.sasi_model.specs.State.{Column, one_more, position_in, column_at, name_or_none}
+use Rattle.sasi_model.specs.State.{Column, position_in}
+use Rattle.sasi_model.specs.Abbreviations.{one_more, column_at, name_or_none}
 use Rattle.sasi_schema.specs.Numbers.{IsKeyAt}
 
 -- a position, counted from a later one

@@ -9,7 +9,8 @@ use Rattle.std.proofs.lemmas.List.Folds.{list_any-append}
 use Rattle.std.proofs.lemmas.Map.Text.{is_eq-slice_cmp}
 use Rattle.sasi_types.specs.Key.{key_cmp}
 use Rattle.sasi_model.specs.Statements.{same}
-use Rattle.sasi_model.specs.Refusals.{ColumnRepeated, first_of, repeat_rules}
+use Rattle.sasi_model.specs.Refusals.{repeat_rules}
+use Rattle.sasi_model.specs.Abbreviations.{first_of, ColumnRepeated}
 
 -- a name that doesn't stand before
 pub repeat_past : (names : List (List ℕ)) (i : ℕ) (name : List ℕ) → i < length names → name ≡ get_or names i name → list_any (same name) (take i names) ≡ false

@@ -2,7 +2,8 @@
 use Rattle.std.specs.Prelude.{◌≡◌, List, [], ◌∷◌, ◌++◌, true, false, if◌then◌else◌, Option, None, Some, Result, Ok, Err}
 use Rattle.std.specs.Result.{IsErrAnd}
 use Rattle.std.proofs.Common.{refl, ◌∙◌}
-use Rattle.sasi_model.specs.Refusals.{Refusal, Rule, first_of}
+use Rattle.sasi_model.specs.Refusals.{Refusal, Rule}
+use Rattle.sasi_model.specs.Abbreviations.{first_of}
 use Rattle.sasi_schema.specs.Answers.{Answers, IsFirstRefusal}
 
 -- ---- the rules of one check, and then those of another

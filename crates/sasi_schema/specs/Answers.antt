@@ -1,6 +1,7 @@
 -- What a check answers by its rules: it passes where none applies, and else it tells the first that does.
 use Rattle.std.specs.Prelude.{◌≡◌, List, Option, None, Some, Result, Ok, Err, ⊤}
-use Rattle.sasi_model.specs.Refusals.{Refusal, Rule, first_of}
+use Rattle.sasi_model.specs.Refusals.{Refusal, Rule}
+use Rattle.sasi_model.specs.Abbreviations.{first_of}
 
 -- the refusal is that of the first rule that applies; where memory was short there is none
 abbrev pub IsFirstRefusal : Option Refusal → List Rule → Type 0

@@ -3,7 +3,8 @@ use Rattle.std.specs.Prelude.{ℕ, ◌==◌, not, nat_lt, nat_le, List, [], ◌�
 use Rattle.std.specs.List.{list_any}
 use Rattle.sasi_model.specs.Statements.{same}
 use Rattle.sasi_model.specs.State.{Column, Definition, definition_of}
-use Rattle.sasi_model.specs.Refusals.{Rule, TableExists, NoColumn, KeyMissing, TooManyTables, TooManyColumns, TABLE_LIMIT, COLUMN_LIMIT, names_in}
+use Rattle.sasi_model.specs.Refusals.{Rule, names_in}
+use Rattle.sasi_model.specs.Abbreviations.{TableExists, NoColumn, KeyMissing, TooManyTables, TooManyColumns, TABLE_LIMIT, COLUMN_LIMIT}
 
 -- the name is free
 abbrev pub name_rules : List Definition → List ℕ → List Rule

@@ -1,17 +1,18 @@
 -- Faults of the schema, as refusals.
 use Rattle.std.specs.Prelude.{Option, None, Some}
-use Rattle.sasi_model.specs.Refusals as model
+use Rattle.sasi_model.specs.Refusals.{Refusal}
+use Rattle.sasi_model.specs.Abbreviations as model
 use Rattle.sasi_schema.specs.declared.fault.Limit.{Limit}
 use Rattle.sasi_schema.specs.declared.fault.Limit.TheVariants.{Tables, Columns}
 use Rattle.sasi_schema.specs.declared.fault.SchemaFault.{SchemaFault}
 use Rattle.sasi_schema.specs.declared.fault.SchemaFault.TheVariants.{OutOfMemory, TableExists, NoColumn, ColumnRepeated, KeyMissing, TooMany}
 
-abbrev pub limit_refusal : Limit → model.Refusal
+abbrev pub limit_refusal : Limit → Refusal
 limit_refusal Tables = model.TooManyTables
 limit_refusal Columns = model.TooManyColumns
 
 -- the refusal that a fault is; want of memory is none
-abbrev pub refusal_of_fault : SchemaFault → Option model.Refusal
+abbrev pub refusal_of_fault : SchemaFault → Option Refusal
 refusal_of_fault OutOfMemory = None
 refusal_of_fault (TableExists name) = Some (model.TableExists name)
 refusal_of_fault (NoColumn name) = Some (model.NoColumn name)

@@ -1,7 +1,8 @@
 -- The numbers of tables: from 1, in the order of their creation.
 use Rattle.std.specs.Prelude.{◌≡◌, ℕ, suc, List, [], ◌∷◌, Option, None, Some, if◌then◌else◌, ⊤}
 use Rattle.sasi_model.specs.Statements.{same}
-use Rattle.sasi_model.specs.State.{Definition, Column, one_more, position_in, column_at, name_or_none}
+use Rattle.sasi_model.specs.State.{Definition, Column, position_in}
+use Rattle.sasi_model.specs.Abbreviations.{one_more, column_at, name_or_none}
 
 -- the number of the table of a name
 abbrev pub number_of_table : List ℕ → List Definition → Option ℕ

@@ -1,6 +1,6 @@
 // The numbers of columns.
 ghost use Rattle.std.specs.Prelude.{◌≡◌, ◌<◌};
-ghost use Rattle.sasi_model.specs.Refusals.{COLUMN_LIMIT as column_limit};
+ghost use Rattle.sasi_model.specs.Abbreviations.{COLUMN_LIMIT as column_limit};
 ghost use Rattle.sasi_model.specs.State.{number_at};
 
 /// The number of the column at a position: 0 for the key, and the others from 1, without the key.

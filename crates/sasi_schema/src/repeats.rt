@@ -1,7 +1,8 @@
 // Names that stand twice in a list. The search takes a set of the names before, so that it is no slower for long lists.
 ghost use Rattle.std.specs.Prelude.{◌≡◌, [], IfOk, map};
 ghost use Rattle.std.specs.Option.{option_map};
-ghost use Rattle.sasi_model.specs.Refusals.{ColumnRepeated, first_of, repeat_rules};
+ghost use Rattle.sasi_model.specs.Refusals.{repeat_rules};
+ghost use Rattle.sasi_model.specs.Abbreviations.{first_of, ColumnRepeated};
 
 use sasi_types::Name;
 use std::alloc::{AllocError, Global};

@@ -1,7 +1,7 @@
 // Where names stand among tables and columns.
 ghost use Rattle.std.specs.Prelude.{◌≡◌, ◌<◌, IfSome, length, map};
 ghost use Rattle.std.specs.Option.{option_copied, option_map};
-ghost use Rattle.sasi_model.specs.Refusals.{COLUMN_LIMIT as column_limit};
+ghost use Rattle.sasi_model.specs.Abbreviations.{COLUMN_LIMIT as column_limit};
 ghost use Rattle.sasi_model.specs.State.{definition_of, number_at, position_in};
 ghost use Rattle.sasi_schema.specs.Defined.{definition, definitions};
 ghost use Rattle.sasi_schema.specs.Numbers.{RisesFrom, number_of_table};

@@ -1,6 +1,6 @@
 // Tables, as they are defined.
 ghost use Rattle.std.specs.Prelude.{◌≡◌, ◌≤◌, length, IfOk};
-ghost use Rattle.sasi_model.specs.Refusals.{COLUMN_LIMIT as column_limit};
+ghost use Rattle.sasi_model.specs.Abbreviations.{COLUMN_LIMIT as column_limit};
 ghost use Rattle.sasi_schema.specs.Numbers.{IsKeyAt};
 
 use crate::number::number_at;

@@ -1,8 +1,8 @@
-// The files of a host in memory: put, cut and printed.
-use crate::runs::{number, run_script};
+// The files of a host in memory: put, cut, changed and printed.
+use crate::runs::{run_script, two_numbers};
 use sasi_filehost::{NameText, parse_name};
 use sasi_host::{BytePick, FileName, Host, MemHost, NamePick, Pick};
-use std::alloc::Global;
+use std::alloc::{AllocError, Global};
 use std::io;
 
 /// Puts a file: `NAME DIGITS`.
@@ -31,52 +31,80 @@ pub fn print_files(rt: &impl Print, alloc: Global, host: &mut MemHost) -> io::Re
     Ok(())
 }
 
-// A file, two lengths, and a script.
-fn file_and_lengths(line: &str) -> Option<(FileName, u64, u64, &str)> {
+// A file, two numbers, and a script.
+fn file_and_numbers(line: &str) -> Option<(FileName, u64, u64, &str)> {
     let (name, rest) = line.split_once(' ')?;
     let file = parse_name(name)?;
-    let (from, rest) = number(rest)?;
-    let (to, script) = number(rest)?;
-    Some((file, from, to, script))
+    let (first, second, script) = two_numbers(rest)?;
+    Some((file, first, second, script))
 }
 
 /// Runs a script over copies of the folder in which a file is cut: `NAME FROM TO SCRIPT`.
-pub fn run_cuts(rt: &impl Print, alloc: Global, line: &str, host: &mut MemHost) -> io::Result<()> {
-    let Some((file, from, to, script)) = file_and_lengths(line) else {
-        return println!(rt; "no file and lengths");
+pub fn run_cuts(rt: &impl Print, alloc: Global, line: &str, host: &MemHost) -> io::Result<()> {
+    let Some((file, from, to, script)) = file_and_numbers(line) else {
+        return println!(rt; "no file and numbers");
     };
     for length in from..=to {
-        run_cut(rt, alloc, host, file, length as usize, script)?;
+        print!(rt; "{length} ")?;
+        run_over(rt, alloc, host, file, front(host, file, length), script)?;
     }
     Ok(())
 }
 
 // The file's bytes up to this length.
-fn front(host: &MemHost, file: FileName, length: usize) -> &[u8] {
+fn front(host: &MemHost, file: FileName, length: u64) -> &[u8] {
     let bytes = host.bytes(file).unwrap_or(&[]);
-    bytes.get(..length).unwrap_or(bytes)
+    bytes.get(..length as usize).unwrap_or(bytes)
 }
 
-// Runs a script over a copy of the folder in which the file is cut to this length.
-fn run_cut(
+/// Runs a script over a copy of the folder in which a byte of a file is another one: `NAME OFFSET BYTE SCRIPT`.
+pub fn run_changed(rt: &impl Print, alloc: Global, line: &str, host: &MemHost) -> io::Result<()> {
+    let Some((file, offset, byte, script)) = file_and_numbers(line) else {
+        return println!(rt; "no file and numbers");
+    };
+    let bytes = changed(alloc, host.bytes(file).unwrap_or(&[]), offset, byte)?;
+    print!(rt; "{offset} ")?;
+    run_over(rt, alloc, host, file, &bytes, script)
+}
+
+// The bytes, with another one at this offset.
+fn changed(alloc: Global, bytes: &[u8], offset: u64, byte: u64) -> Result<Vec<u8>, AllocError> {
+    let mut changed = bytes.to_vec(alloc)?;
+    if let Some(old) = changed.get_mut(offset as usize) {
+        *old = (byte % 256) as u8;
+    }
+    Ok(changed)
+}
+
+/// A copy of the folder.
+pub fn copy_of(host: &MemHost) -> Result<MemHost, AllocError> {
+    host.crash(Pick {
+        names: NamePick::AsNow,
+        bytes: BytePick::AsNow,
+    })
+}
+
+// Runs a script over a copy of the folder in which the file has these bytes.
+fn run_over(
     rt: &impl Print,
     alloc: Global,
     host: &MemHost,
     file: FileName,
-    length: usize,
+    bytes: &[u8],
     script: &str,
 ) -> io::Result<()> {
-    let bytes = front(host, file, length);
-    let mut cut = host.crash(Pick {
-        names: NamePick::AsNow,
-        bytes: BytePick::AsNow,
-    })?;
-    cut.put(file, bytes)?;
-    print!(rt; "{length} ")?;
-    run_script(rt, alloc, script, &mut cut)?;
-    if cut.bytes(file) == Some(bytes) {
-        println!(rt; "the file is as it was")
+    let mut copy = copy_of(host)?;
+    copy.put(file, bytes)?;
+    run_script(rt, alloc, script, &mut copy)?;
+    print_change(rt, &copy, file, bytes)
+}
+
+// Prints whether the file has these bytes.
+fn print_change(rt: &impl Print, host: &MemHost, file: FileName, bytes: &[u8]) -> io::Result<()> {
+    let change = if host.bytes(file) == Some(bytes) {
+        "is as it was"
     } else {
-        println!(rt; "the file has changed")
-    }
+        "has changed"
+    };
+    println!(rt; "the file {change}")
 }

@@ -7,6 +7,10 @@
 //! - `then SCRIPT` runs a script over the folder.
 //! - `cut NAME FROM TO SCRIPT` runs a script over copies of the folder in which the file is cut to each of these lengths. It
 //!   prints the length, and then whether the run left the file as it was.
+//! - `change NAME OFFSET BYTE SCRIPT` does so with a copy in which the file has this byte at this offset.
+//! - `crash FROM TO SCRIPT` runs a script over copies of the folder which stop after each of these numbers of calls. It prints
+//!   the number, and for each crash what it makes of the names and of the bytes, and the files that it leaves.
+//! - `recover FROM TO SCRIPT` does so, and runs the script again over these files in place of printing them.
 //! - `outside PIECE READ EMIT SCRIPT` runs a script over a new folder: a read gives at most so many bytes, and the read and the
 //!   emit of these numbers fail.
 //! - `fill COUNT BYTE SCRIPT` runs a script over a new folder, with so many bytes of this value in place of each `~`.
@@ -14,10 +18,12 @@
 //! - `files` prints the name and the bytes of each file.
 #![tactic(auto)]
 
+mod crashes;
 mod files;
 mod runs;
 
-use crate::files::{print_files, put_file, run_cuts};
+use crate::crashes::{Shown, run_crashes};
+use crate::files::{print_files, put_file, run_changed, run_cuts};
 use crate::runs::{run_filled, run_outside, run_script, run_words};
 use sasi_host::MemHost;
 use std::alloc::Global;
@@ -30,6 +36,9 @@ fn take_line(rt: &impl Print, alloc: Global, host: &mut MemHost, line: &str) -> 
         "then" => run_script(rt, alloc, rest, host),
         "put" => put_file(rt, alloc, rest, host),
         "cut" => run_cuts(rt, alloc, rest, host),
+        "change" => run_changed(rt, alloc, rest, host),
+        "crash" => run_crashes(rt, alloc, rest, host, Shown::Files),
+        "recover" => run_crashes(rt, alloc, rest, host, Shown::Replies),
         "files" => print_files(rt, alloc, host),
         "#" => println!(rt; "{line}"),
         _ => take_new(rt, alloc, host, line),

@@ -50,8 +50,8 @@ pub fn run_script(
     run_from(rt, alloc, &two_words(alloc)?, &mut source, host)
 }
 
-/// The number before the first space, and what stands behind it.
-pub fn number(line: &str) -> Option<(u64, &str)> {
+// The number before the first space, and what stands behind it.
+fn number(line: &str) -> Option<(u64, &str)> {
     let (digits, rest) = line.split_once(' ')?;
     match digits.parse::<u64>() {
         Ok(number) => Some((number, rest)),
@@ -59,11 +59,17 @@ pub fn number(line: &str) -> Option<(u64, &str)> {
     }
 }
 
+/// Two numbers, and what stands behind them.
+pub fn two_numbers(line: &str) -> Option<(u64, u64, &str)> {
+    let (first, rest) = number(line)?;
+    let (second, rest) = number(rest)?;
+    Some((first, second, rest))
+}
+
 // Three numbers, and what stands behind them.
 fn three_numbers(line: &str) -> Option<(u64, u64, u64, &str)> {
     let (first, rest) = number(line)?;
-    let (second, rest) = number(rest)?;
-    let (third, rest) = number(rest)?;
+    let (second, third, rest) = two_numbers(rest)?;
     Some((first, second, third, rest))
 }
 
@@ -99,11 +105,8 @@ pub fn run_filled(
     line: &str,
     host: &mut MemHost,
 ) -> io::Result<()> {
-    let Some((count, rest)) = number(line) else {
-        return println!(rt; "a number is missing");
-    };
-    let Some((byte, script)) = number(rest) else {
-        return println!(rt; "a number is missing");
+    let Some((count, byte, script)) = two_numbers(line) else {
+        return println!(rt; "numbers are missing");
     };
     let script = script.replace(alloc, "~", &repeated(alloc, count, byte)?)?;
     run_script(rt, alloc, &script, host)

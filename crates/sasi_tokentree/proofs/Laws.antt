@@ -1,11 +1,15 @@
--- A file to which a tree was written has it.
-use Rattle.std.specs.Prelude.{◌≡◌, ℕ, ◌+◌, ◌≤◌, List, ◌++◌, length, take, drop}
-use Rattle.std.proofs.Common.{sym, ap}
+-- A file to which a tree was written has it, and its root stands within the tree.
+use Rattle.std.specs.Prelude.{◌≡◌, ℕ, zero, suc, ◌+◌, ◌<◌, ◌≤◌, List, ◌++◌, length, take, drop}
+use Rattle.std.proofs.Common.{sym, ap, subst, arith, ⊎_elim, length-append}
 use Rattle.std.proofs.lemmas.List.{length-take-le}
+use Rattle.std.proofs.lemmas.Bool.Decides.{leb_tells}
 use Rattle.sasi_types.specs.declared.tree.Pair.{Pair}
 use Rattle.sasi_host.specs.Names.{Bytes}
 use Rattle.sasi_host.specs.Disk.{overlay}
-use Rattle.sasi_tokentree.specs.Format.{tree_bytes, tree_ref, IsRising, AreFit, HasTree}
+use Rattle.sasi_tokentree.specs.Format.{above, levels, level_bytes, nodes, size, top, tree_bytes, tree_ref, IsRising, AreFit, HasTree}
+use Rattle.sasi_tokentree.specs.Sizes.{first_above_length, level_length, more_levels, one_level, top_more, top_one}
+use Rattle.sasi_tokentree.specs.Heights.{top_is}
+use Rattle.sasi_tokentree.specs.Damages.{IsNodePlace}
 
 -- a file in which the tree was written has it
 pub has_written : (old : Bytes) (at : ℕ) (pairs : List Pair) → at ≤ length old → IsRising pairs → AreFit pairs → HasTree (overlay old at (tree_bytes at pairs)) (tree_ref at pairs) pairs
@@ -19,3 +23,29 @@ has_written old at pairs within rising fit =
       rising = rising;
       fit = fit;
     }
+
+top_within : (most level at : ℕ) (entries : List Pair) → 0 < length entries → length entries ≤ most → top most at (length entries) + 24 ≤ at + length (levels most level at entries)
+top_within zero level at entries some enough = absurd (omega arith)
+top_within (suc most) level at entries some enough = ⊎_elim
+    (λ one. omega (arith, some, top_one most at (length entries) one.1, ap length (one_level most level at entries one.1), level_length level entries))
+    (λ more.
+    let next = at + size (length entries) in
+    let count : length (above at entries) ≡ nodes (length entries) = first_above_length at entries (nodes (length entries)) in
+    let higher = subst (λ (n : ℕ). top most next n + 24 ≤ next + length (levels most (suc level) next (above at entries))) count
+    (top_within most (suc level) next (above at entries) (omega (arith, more.1, count)) (omega (arith, more.1, count, enough))) in
+    omega (
+      arith,
+      higher,
+      top_more most at (length entries) more.1,
+      ap length (more_levels most level at entries more.1),
+      level_length level entries,
+      length-append (level_bytes level entries) (levels most (suc level) next (above at entries)),
+    ))
+    (leb_tells (length entries) 255)
+
+-- the root of a tree stands within the tree's bytes
+pub root_place : (at : ℕ) (pairs : List Pair) → 0 < length pairs → IsNodePlace at (at + length (tree_bytes at pairs)) (tree_ref at pairs).root
+root_place at pairs some = record {
+  behind = omega (arith, top_is (length pairs) at (length pairs) some (omega arith));
+  within = top_within (length pairs) 0 at pairs some (omega arith);
+}

@@ -1,14 +1,14 @@
 -- A fault at a node is one of the tree; and the cost of one read after another.
-use Rattle.std.proofs.Common.{◌≡◌, ℕ, zero, suc, ◌+◌, ◌-◌, ◌*◌, ◌<◌, ◌≤◌, min, List, length, refl, sym, ◌∙◌, ap, subst, arith, ⊎_elim, IfErr, Ok, Err}
+use Rattle.std.proofs.Common.{◌≡◌, ℕ, zero, suc, ◌+◌, ◌-◌, ◌*◌, ◌<◌, ◌≤◌, min, List, length, refl, sym, ◌∙◌, ap, subst, arith, ⊎_elim, Ok}
 use Rattle.std.proofs.lemmas.Bool.Decides.{leb_tells}
 use Rattle.std.specs.declared.result.Result.{Result}
 use Rattle.sasi_types.specs.declared.tree.Pair.{Pair}
 use Rattle.sasi_host.specs.declared.name.FileName.{FileName}
-use Rattle.sasi_host.specs.declared.damage.Damage.{Damage}
 use Rattle.sasi_host.specs.declared.fault.ReadFault.{ReadFault}
 use Rattle.sasi_host.specs.declared.fault.ReadFault.TheVariants as fault
 use Rattle.sasi_host.specs.Names.{Bytes}
-use Rattle.sasi_host.specs.View.{View, Rose, ReadsAtMost}
+use Rattle.sasi_host.specs.View.{View, ReadsAtMost}
+use Rattle.sasi_host.specs.CauseLaws.{reads_on, reads_within}
 use Rattle.sasi_host.specs.Disk.{Changes, Same}
 use Rattle.sasi_tokentree.specs.Format.{nodes, size, entries_of_node, above}
 use Rattle.sasi_tokentree.specs.Sizes.{part_length, first_above_length}
@@ -54,65 +54,13 @@ spares_before a b was now level at count (fault.Damaged damage) change same no_f
 
 -- ---- reads
 
-failed_later : {T : Type 0} (a b c : View) (result : Result T ReadFault) → a.disk_faults ≤ b.disk_faults → IfErr result
-    (λ f. f ≡ fault.Failed → Rose b.disk_faults c.disk_faults) → IfErr result (λ f. f ≡ fault.Failed → Rose a.disk_faults c.disk_faults)
-failed_later a b c (Ok x) le failed = tt
-failed_later a b c (Err f) le failed = λ is. let rose = failed is in omega (arith, rose, le)
-
--- reads after reads
-pub reads_on : {S T : Type 0} (a b c : View) (n m most : ℕ) (first : Result S ReadFault) (second : Result T ReadFault) → n + m ≤ most → ReadsAtMost n
-    a b first → ReadsAtMost m b c second → ReadsAtMost most a c second
-reads_on a b c n m most first second le one two = record {
-  disk = omega (arith, one.disk, two.disk);
-  out = two.out ∙ one.out;
-  reads = omega (arith, le, one.reads, two.reads);
-  failed = failed_later a b c second one.disk two.failed;
-}
-
--- fewer reads are at most more
-pub reads_within : {T : Type 0} (a b : View) (n most : ℕ) (result : Result T ReadFault) → n ≤ most → ReadsAtMost n a b result → ReadsAtMost most a b result
-reads_within a b n most result le one = record {
-  disk = one.disk;
-  out = one.out;
-  reads = omega (arith, le, one.reads);
-  failed = one.failed;
-}
-
--- a fault that is handed on is the same one
-pub fault_reads : {S T : Type 0} (a b : View) (n : ℕ) (f : ReadFault) → ReadsAtMost {T = S} n a b (Err f) → ReadsAtMost {T = T} n a b (Err f)
-fault_reads a b n f one = record {
-  disk = one.disk;
-  out = one.out;
-  reads = one.reads;
-  failed = one.failed;
-}
-
--- damage that is told after them isn't a failure of the host
-pub damage_reads : {S T : Type 0} (a b : View) (n most : ℕ) (first : Result S ReadFault) (damage : Damage) → n ≤ most → ReadsAtMost n a b first →
-    ReadsAtMost {T = T} most a b (Err (fault.Damaged damage))
-damage_reads a b n most first damage le one = record {
-  disk = one.disk;
-  out = one.out;
-  reads = omega (arith, le, one.reads);
-  failed = λ is. absurd (cc);
-}
-
--- an answer after them isn't one either
-pub ok_reads : {S T : Type 0} (a b : View) (n : ℕ) (first : Result S ReadFault) (x : T) → ReadsAtMost n a b first → ReadsAtMost n a b (Ok x)
-ok_reads a b n first x one = record {
-  disk = one.disk;
-  out = one.out;
-  reads = one.reads;
-  failed = tt;
-}
-
 pub one_level_reads : (most count : ℕ) → 0 < count → count ≤ most → 2 ≤ 2 * height most count
 one_level_reads zero count some le = absurd (omega arith)
 one_level_reads (suc most) count some le = ⊎_elim (λ one. omega (arith, one_high most count one.1)) (λ more. omega (arith, more_high most count more.1)) (leb_tells count 255)
 
 -- the levels above and one node more
-pub more_level_reads : {S T : Type 0} (a b c : View) (most count : ℕ) (first : Result S ReadFault) (second : Result T ReadFault) → 255 < count → count ≤ most
-    → ((bound : ℕ) → nodes count ≤ bound → ReadsAtMost (2 * height bound (nodes count)) a b first) → ReadsAtMost 2 b c second → ReadsAtMost (2 * height most count) a c second
+pub more_level_reads : {S T : Type 0} (a b c : View) (most count : ℕ) (first : S) (second : Result T ReadFault) → 255 < count → count ≤ most
+    → ((bound : ℕ) → nodes count ≤ bound → ReadsAtMost (2 * height bound (nodes count)) a b (Ok first)) → ReadsAtMost 2 b c second → ReadsAtMost (2 * height most count) a c second
 more_level_reads a b c zero count first second many le one two = absurd (omega arith)
 more_level_reads a b c (suc most) count first second many le one two =
     reads_on a b c (2 * height most (nodes count)) 2 (2 * height (suc most) count) first second (omega (arith, more_high most count many)) (one most (omega (arith, many, le))) two

@@ -1,5 +1,5 @@
 -- Scans of the pairs of a tree.
-use Rattle.std.specs.Prelude.{◌≡◌, ℕ, ◌+◌, ◌-◌, ◌*◌, ◌/◌, ◌%◌, ◌<◌, List, [], ◌∷◌, drop, Option, None, Some}
+use Rattle.std.specs.Prelude.{◌≡◌, ℕ, ◌+◌, ◌-◌, ◌*◌, ◌/◌, ◌%◌, ◌^◌, ◌<◌, ◌≤◌, List, [], ◌∷◌, drop, Option, None, Some}
 use Rattle.sasi_types.specs.declared.tree.Pair.{Pair}
 use Rattle.sasi_types.specs.declared.tree.TreeRef.{TreeRef}
 use Rattle.sasi_host.specs.declared.name.FileName.{FileName}
@@ -25,6 +25,13 @@ StepsToPair pairs from passed (Some pair) = drop from pairs ≡ pair ∷ drop pa
 -- the offset of the pair with this index: that of its leaf, and its offset there
 abbrev pub pair_place : TreeRef → ℕ → ℕ
 pair_place tree index = start tree + 4088 * (index / 255) + (8 + 16 * (index % 255))
+
+-- behind a pair that was read, the scan has passed one of the tree's pairs at least, and a file can have the tree
+pub record HasPassed (tree : TreeRef) (passed : ℕ) : Type 0 where
+  pub some : 0 < passed
+  pub within : passed ≤ tree.pairs
+  pub root : tree.root ≤ 2 ^ 62
+  pub pairs : tree.pairs ≤ 2 ^ 58
 
 -- behind a pair that was read, the page on which its entry ends is buffered
 abbrev pub IsEntryBuffered : PairScan → Option Pair → Type 0

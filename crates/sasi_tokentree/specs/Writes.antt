@@ -19,9 +19,9 @@ pub record KeepsBefore (at : ℕ) (old new : Bytes) : Type 0 where
 abbrev pub ChangesFrom : FileName → ℕ → View → View → Type 0
 ChangesFrom file at old new = Changes (FileChange file (InPlace (KeepsBefore at))) old new
 
--- the counts of a call that reads nothing, over the calls so far
+-- no call failed so far, and none read anything
 pub record KeepsCounts (old new : View) : Type 0 where
-  pub disk : old.disk_faults ≤ new.disk_faults
+  pub disk : new.disk_faults ≡ old.disk_faults
   pub out : new.out_faults ≡ old.out_faults
   pub reads : new.reads ≡ old.reads
 
@@ -112,7 +112,7 @@ writes_nothing v file at reaches = record {
       (λ (n : ℕ). take at bytes ++ drop n bytes) (omega arith) ∙ take-append-drop at bytes));
   reaches = λ told. let r = reaches told in (r.0, r.1, omega (arith, r.2));
   changes = changes_past_stays v file at;
-  counts = record { disk = omega arith; out = refl; reads = refl };
+  counts = record { disk = refl; out = refl; reads = refl };
 }
 
 -- a file that reads so reaches as far as it is known to
@@ -135,7 +135,7 @@ writes_on a b c file at x y reaches first second = record {
   reaches = λ told. let r = second.reaches told in (r.0, r.1, omega (arith, r.2, length-append x y));
   changes = changes_past_on a b c file at (at + length x) (omega arith) first.changes second.changes;
   counts = record {
-    disk = omega (arith, first.counts.disk, second.counts.disk);
+    disk = second.counts.disk ∙ first.counts.disk;
     out = second.counts.out ∙ first.counts.out;
     reads = second.counts.reads ∙ first.counts.reads;
   };

@@ -9,7 +9,7 @@ ghost use Rattle.sasi_tokentree.specs.Format.{pair_at, entry};
 ghost use Rattle.sasi_tokentree.specs.Damages.{IsNodeOf, ShownOf};
 ghost use Rattle.sasi_tokentree.specs.Heights.{height, bytes_below_root};
 ghost use Rattle.sasi_tokentree.specs.Reads.{NoFalseTreeDamage, NoFalsePairDamage, HasLevels};
-ghost use Rattle.sasi_tokentree.specs.Scans.{ReadsEntry, ReadsFirstPair, ReadsNextPair, IsEntryBuffered, pair_place};
+ghost use Rattle.sasi_tokentree.specs.Scans.{HasPassed, ReadsEntry, ReadsFirstPair, ReadsNextPair, IsEntryBuffered, pair_place};
 
 use crate::node_decode::{ENTRY_BYTES, NODE_HEADER_BYTES, number_in};
 use crate::node_layout::{MAX_ENTRIES, MAX_NODE_BYTES};
@@ -49,6 +49,25 @@ fn start_of(tree: TreeRef) -> u64
         .saturating_sub(size_below_root(tree.pairs as usize))
 }
 
+// The offset of the pair with this index, of leaves at this offset.
+fn offset_of(at: u64, index: u64) -> u64
+    requires { at + 17 * index < 2 ^ 63 + 2 ^ 59 }
+    ensures { result ≡ at + 4088 * (index / 255) + (8 + 16 * (index % 255)) }
+{
+    let node = at + MAX_NODE_BYTES * (index / MAX_ENTRIES as u64);
+    let offset = NODE_HEADER_BYTES as u64 + ENTRY_BYTES as u64 * (index % MAX_ENTRIES as u64);
+    node + offset
+}
+
+// The offset of the last of the passed pairs.
+pub fn last_offset(tree: TreeRef, passed: u64) -> u64
+    requires { HasPassed tree passed }
+    ensures is { result ≡ pair_place tree (passed - 1) }
+    ensures short { result < 2 ^ 63 + 2 ^ 60 }
+{
+    offset_of(start_of(tree), passed - 1)
+}
+
 // The pair with this index, of leaves at this offset.
 fn read_pair<H: Host, P: PageReader>(
     host: &mut H,
@@ -67,10 +86,8 @@ fn read_pair<H: Host, P: PageReader>(
     ensures page { IfOk result (λ _. buffered.new.page ≡ Some ((at + 4088 * (index / 255) + (8 + 16 * (index % 255)) + 15) / 4096)) }
     ensures causes { ReadsAtMost (unbuffered_pages buffered.old.page (at + 4088 * (index / 255) + (8 + 16 * (index % 255))) 16) (H.view host.old) (H.view host.new) result }
 {
-    let node = at + MAX_NODE_BYTES * (index / MAX_ENTRIES as u64);
-    let offset = NODE_HEADER_BYTES as u64 + ENTRY_BYTES as u64 * (index % MAX_ENTRIES as u64);
     let mut bytes = [0; ENTRY_BYTES];
-    buffered.read_into(host, pages, node + offset, &mut bytes)?;
+    buffered.read_into(host, pages, offset_of(at, index), &mut bytes)?;
     Ok(Pair {
         token: number_in(&bytes[..8]),
         place: number_in(&bytes[8..16]),
@@ -92,6 +109,7 @@ pub fn pair_from<H: Host, P: PageReader>(
     ensures undamaged { IfErr result (NoFalseTreeDamage (H.view host.old) buffered.old.file tree) }
     ensures read { HasReadOn (P.agrees pages.new) (P.covers pages.old) (P.covers pages.new) (H.view host.old) (H.view host.new) buffered.old buffered.new }
     ensures entry_buffered { IfOk result (λ found. IsEntryBuffered (record { buffered = buffered.new; tree = tree; passed = found.passed }) found.pair) }
+    ensures passed { IfOk result (λ found. IsSome found.pair → HasPassed tree found.passed) }
     ensures none { IfOk result (λ found. found.pair ≡ None → (buffered.new ≡ buffered.old) × (found.passed ≡ passed)) }
     ensures causes { ReadsAtMost (unbuffered_pages buffered.old.page (pair_place tree passed) 16) (H.view host.old) (H.view host.new) result }
     ensures some { IfOk result (λ found. IsSome found.pair → found.passed ≡ passed + 1) }
@@ -125,6 +143,7 @@ pub fn first_from<H: Host, P: PageReader>(
     ensures undamaged { IfErr result (NoFalseTreeDamage (H.view host.old) buffered.old.file tree) }
     ensures read { HasReadOn (P.agrees pages.new) (P.covers pages.old) (P.covers pages.new) (H.view host.old) (H.view host.new) buffered.old buffered.new }
     ensures entry_buffered { IfOk result (λ found. IsEntryBuffered (record { buffered = buffered.new; tree = tree; passed = found.passed }) found.pair) }
+    ensures passed { IfOk result (λ found. IsSome found.pair → HasPassed tree found.passed) }
     ensures causes { (most : ℕ) → tree.pairs ≤ most → ReadsAtMost (2 * height most tree.pairs + 2) (H.view host.old) (H.view host.new) result }
 {
     if tree.pairs == 0 {

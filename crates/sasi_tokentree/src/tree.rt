@@ -1,5 +1,5 @@
 // Scans a tree in a file, pair by pair.
-ghost use Rattle.std.specs.Prelude.{◌≡◌, ◌+◌, ◌*◌, ◌≤◌, ℕ, [], IfErr, IfOk, IsSome, OnErr, None};
+ghost use Rattle.std.specs.Prelude.{◌≡◌, ◌+◌, ◌-◌, ◌*◌, ◌^◌, ◌<◌, ◌≤◌, ℕ, [], IfErr, IfOk, IsSome, OnErr, None};
 ghost use Rattle.sasi_host.specs.declared.name.FileName.{FileName};
 ghost use Rattle.sasi_host.specs.View.{ReadsAtMost};
 ghost use Rattle.sasi_host.specs.Buffered.{unbuffered_pages};
@@ -8,9 +8,9 @@ ghost use Rattle.sasi_host.specs.PageReading.{CanReadOn, HasReadOn};
 ghost use Rattle.sasi_tokentree.specs.Heights.{height};
 ghost use Rattle.sasi_tokentree.specs.Damages.{ShowsTree};
 ghost use Rattle.sasi_tokentree.specs.Reads.{NoFalseTreeDamage};
-ghost use Rattle.sasi_tokentree.specs.Scans.{ReadsEntry, ReadsFirstPair, ReadsNextPair, IsEntryBuffered, pair_place};
+ghost use Rattle.sasi_tokentree.specs.Scans.{HasPassed, ReadsEntry, ReadsFirstPair, ReadsNextPair, IsEntryBuffered, pair_place};
 
-use crate::pair_scan::{first_from, pair_from};
+use crate::pair_scan::{first_from, last_offset, pair_from};
 use sasi_host::{BufferedFile, FileName, Host, PageReader, ReadFault};
 use sasi_types::{Pair, Token, TreeRef};
 use std::marker::Model;
@@ -44,6 +44,15 @@ impl Tree {
         }
     }
 
+    /// The offset of the pair that was read last.
+    pub fn last_offset(&self) -> u64
+        requires { HasPassed self.now.tree self.now.passed }
+        ensures is { result ≡ pair_place self.now.tree (self.now.passed - 1) }
+        ensures short { result < 2 ^ 63 + 2 ^ 60 }
+    {
+        last_offset(self.tree, self.passed)
+    }
+
     /// The first pair at or after the token; None where there is none. A fault leaves its position unchanged, but may leave
     /// another page buffered.
     pub fn first<H: Host, P: PageReader>(
@@ -60,6 +69,7 @@ impl Tree {
         ensures undamaged { IfErr result (NoFalseTreeDamage (H.view host.old) self.old.buffered.file self.old.tree) }
         ensures read { HasReadOn (P.agrees pages.new) (P.covers pages.old) (P.covers pages.new) (H.view host.old) (H.view host.new) self.old.buffered self.new.buffered }
         ensures entry_buffered { IfOk result (IsEntryBuffered self.new) }
+        ensures passed { IfOk result (λ found. IsSome found → HasPassed self.new.tree self.new.passed) }
         ensures causes { (most : ℕ) → self.old.tree.pairs ≤ most → ReadsAtMost (2 * height most self.old.tree.pairs + 2) (H.view host.old) (H.view host.new) result }
         ensures tree { self.new.tree ≡ self.old.tree }
         ensures err { OnErr result (self.new.passed ≡ self.old.passed) }
@@ -83,6 +93,7 @@ impl Tree {
         ensures undamaged { IfErr result (NoFalseTreeDamage (H.view host.old) self.old.buffered.file self.old.tree) }
         ensures read { HasReadOn (P.agrees pages.new) (P.covers pages.old) (P.covers pages.new) (H.view host.old) (H.view host.new) self.old.buffered self.new.buffered }
         ensures entry_buffered { IfOk result (IsEntryBuffered self.new) }
+        ensures passed { IfOk result (λ found. IsSome found → HasPassed self.new.tree self.new.passed) }
         ensures causes { ReadsAtMost (unbuffered_pages self.old.buffered.page (pair_place self.old.tree self.old.passed) 16) (H.view host.old) (H.view host.new) result }
         ensures tree { self.new.tree ≡ self.old.tree }
         ensures err { OnErr result (self.new.passed ≡ self.old.passed) }

@@ -13,19 +13,12 @@ plus a b = (a + b) % 2 ^ 64
 abbrev pub times : ℕ → ℕ → ℕ
 times a b = a * b % 2 ^ 64
 
--- the two factors
-abbrev pub factor_one : ℕ
-factor_one = 0x87c37b91114253d5
-
-abbrev pub factor_two : ℕ
-factor_two = 0x4cf5ad432745937f
-
--- what the first half of a block, and its second half, add to their sums
+-- what the first half of a block, and its second half, add to their sums, by the same two factors
 unfoldable pub first_mixed : ℕ → ℕ
-first_mixed half = times (rotate_left w64 (times half factor_one) 31) factor_two
+first_mixed half = times (rotate_left w64 (times half 0x87c37b91114253d5) 31) 0x4cf5ad432745937f
 
 unfoldable pub second_mixed : ℕ → ℕ
-second_mixed half = times (rotate_left w64 (times half factor_two) 33) factor_one
+second_mixed half = times (rotate_left w64 (times half 0x4cf5ad432745937f) 33) 0x87c37b91114253d5
 
 -- the first sum behind a block with this first half, and the second sum behind one with this second half and that first sum
 unfoldable pub first_after : HashState → ℕ → ℕ
@@ -41,10 +34,6 @@ unfoldable pub with_block : HashState → List ℕ → HashState
 with_block sums block =
     let first : ℕ = first_after sums (from_le_bytes w64 (take 8 block)) in
     record { first = first; second = second_after sums (from_le_bytes w64 (drop 8 block)) first }
-
--- the sums behind all whole blocks of sixteen bytes
-unfoldable pub with_blocks : List ℕ → HashState
-with_blocks key = fold with_block (record { first = 0; second = 0 }) (first_chunks 16 (length key / 16) key)
 
 -- a byte as a signed number, widened to 64 bits, and shifted left by that many bytes
 unfoldable pub shifted_byte : ℕ → ℕ → ℕ
@@ -81,9 +70,10 @@ finalized sums count =
     let first : ℕ = plus (bit_xor sums.first count) (bit_xor sums.second count) in
     plus (fmix first) (fmix (plus (bit_xor sums.second count) first))
 
--- the hash of a key
+-- the hash of a key: its whole blocks of sixteen bytes, and then the bytes that are left
 unfoldable pub hash : List ℕ → ℕ
-hash key = finalized (with_tail (with_blocks key) (drop (length key / 16 * 16) key)) (length key)
+hash key = finalized
+    (with_tail (fold with_block (record { first = 0; second = 0 }) (first_chunks 16 (length key / 16) key)) (drop (length key / 16 * 16) key)) (length key)
 
 -- a hash as a token: the least signed number is replaced by the largest, and the top bit is flipped, so that the
 -- order of the tokens is that of signed numbers

@@ -2,7 +2,7 @@
 ghost use Rattle.std.specs.Prelude.{◌≡◌, ◌<◌, ◌≤◌, length};
 ghost use Rattle.std.specs.Int.{w64, from_le_bytes};
 ghost use Rattle.std.specs.List.{fold};
-ghost use Rattle.sasi_types.specs.Murmur.{first_mixed, second_mixed, first_after, second_after, with_block, with_blocks, shifted_byte, signed_half, with_tail, fmix_round, fmix, finalized, hash};
+ghost use Rattle.sasi_types.specs.Murmur.{first_mixed, second_mixed, first_after, second_after, with_block, shifted_byte, signed_half, with_tail, fmix_round, fmix, finalized, hash};
 
 const FIRST_FACTOR: u64 = 0x87c3_7b91_1142_53d5;
 
@@ -16,7 +16,7 @@ struct HashState {
 }
 
 /// The hash of the key with these bytes.
-#[tactic(auto, unfolding(crate::specs::Murmur::hash, crate::specs::Murmur::with_blocks))]
+#[tactic(auto, unfolding(crate::specs::Murmur::hash))]
 pub fn hash(key: &[u8]) -> u64
     ensures { result ≡ hash key.now }
 {

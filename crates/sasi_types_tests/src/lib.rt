@@ -1,4 +1,5 @@
-//! Tests of the crates below any host: sasi_types, sasi_cells, sasi_fields and sasi_schema.
+//! Tests of the crates below any host: sasi_types, sasi_cells, sasi_fields and sasi_cql. What a run shows of them is data of
+//! sasi_scripts.
 #![tactic(auto)]
 
 #[cfg(test)]
@@ -6,10 +7,8 @@ mod cells;
 #[cfg(test)]
 mod fields;
 #[cfg(test)]
-mod lists;
+mod parser;
 #[cfg(test)]
-mod schema;
+mod splitter;
 #[cfg(test)]
 mod tokens;
-#[cfg(test)]
-mod values;

@@ -13,7 +13,7 @@ fn token_is_the_first_eight_bytes(rt: HostRuntime) {
         (b"\xff\0\0\0\0\0\0\x01rest", 0xff00_0000_0000_0001),
     ];
     for (key, token) in tokens {
-        assert_eq!(rt; Partitioner::Lead8.token(key), token);
+        assert!(rt; Partitioner::Lead8.token(key) == token);
     }
 }
 
@@ -69,7 +69,10 @@ fn murmur_tokens_take_tail_bytes_as_signed(rt: HostRuntime) {
         0xa9c8_d3b8_0504_2427,
     ];
     for (count, token) in tokens.iter().enumerate() {
-        assert_eq!(rt; Partitioner::Murmur3.token(&bytes[..count]), *token);
+        assert!(rt;
+            Partitioner::Murmur3.token(&bytes[..count]) == *token,
+            "{count} bytes"
+        );
     }
 }
 
@@ -88,7 +91,7 @@ fn murmur_tokens_are_in_the_order_of_signed_hashes(rt: HostRuntime) {
         ),
     ];
     for (key, token) in tokens {
-        assert_eq!(rt; Partitioner::Murmur3.token(key), token);
+        assert!(rt; Partitioner::Murmur3.token(key) == token);
     }
 }
 

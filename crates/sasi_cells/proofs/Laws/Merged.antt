@@ -10,7 +10,8 @@ use Rattle.std.proofs.lemmas.Cmp.{tied_itself}
 use Rattle.std.proofs.lemmas.List.Folds.{list_any-append}
 use Rattle.std.proofs.lemmas.Bool.Decides.{nat_tests}
 use Rattle.sasi_types.specs.declared.cell.Cell.{Cell}
-use Rattle.sasi_model.specs.Cells.{Cells, Partition, cell_cmp, newest, newest_of, unshadowed, IsNormal, merged_cell, merged_cells, with_entry, merge}
+use Rattle.sasi_model.specs.Cells.{Cells, Partition, newest, newest_of, unshadowed, IsNormal, merged_cell, merged_cells, merge}
+use Rattle.sasi_model.specs.Abbreviations.{cell_cmp, with_entry}
 use Rattle.sasi_cells.proofs.Laws.Sorted.{equal_columns}
 use Rattle.sasi_cells.proofs.Laws.Newest.{newest_of_itself, newest_of_associates, newest_of_commutes, TieOnlyWhereEqual, newest_time}
 

@@ -10,7 +10,8 @@ use Rattle.std.proofs.lemmas.Cmp.{on_total, then_total, tied_itself, upto, ranke
 use Rattle.sasi_types.specs.declared.cell.Cell.{Cell}
 use Rattle.sasi_types.specs.declared.value.Value.{Value}
 use Rattle.sasi_types.specs.Value.{stored}
-use Rattle.sasi_model.specs.Cells.{value_cmp, cell_cmp, newest, newest_of}
+use Rattle.sasi_model.specs.Cells.{value_cmp, newest, newest_of}
+use Rattle.sasi_model.specs.Abbreviations.{cell_cmp}
 
 -- ---- the order
 

@@ -5,7 +5,8 @@ use Rattle.std.specs.FinMap as map_
 use Rattle.std.proofs.Common.{refl, sym, ap, ◌∙◌, inl, inr, arith}
 use Rattle.std.proofs.lemmas.Bool.Decides.{nat_tests}
 use Rattle.sasi_types.specs.declared.cell.Cell.{Cell}
-use Rattle.sasi_model.specs.Cells.{Cells, Partition, newest, newest_of, unshadowed, merge, max_timestamp_in, max_timestamp_of}
+use Rattle.sasi_model.specs.Cells.{Cells, Partition, newest, newest_of, unshadowed, merge, max_timestamp_of}
+use Rattle.sasi_model.specs.Abbreviations.{max_timestamp_in}
 use Rattle.sasi_cells.proofs.Laws.Newest.{newest_time}
 use Rattle.sasi_cells.proofs.Laws.Sorted.{first, second, find_first, find_behind}
 use Rattle.sasi_cells.proofs.Laws.Merged.{get_merge, deleted_merge}

@@ -14,7 +14,8 @@ use Rattle.sasi_types.specs.declared.column.ColumnType.{ColumnType}
 use Rattle.sasi_types.specs.declared.value.Value.{Value}
 use Rattle.sasi_types.specs.declared.value.Value.TheVariants.{Text, Int, BigInt, Uuid}
 use Rattle.sasi_types.specs.Value.{type_of, stored}
-use Rattle.sasi_model.specs.Cells.{Partition, value_cmp, cell_cmp, newest_of, unshadowed, value_of, merge}
+use Rattle.sasi_model.specs.Cells.{Partition, value_cmp, newest_of, unshadowed, merge}
+use Rattle.sasi_model.specs.Abbreviations.{cell_cmp, value_of}
 use Rattle.sasi_model.specs.Step.{value_stored}
 use Rattle.sasi_cells.specs.Typed.{IsInRange, IsOfType, IsTyped}
 use Rattle.sasi_cells.proofs.Laws.Merged.{get_merge, TiesAreEqual, merge_commutes}

@@ -1,5 +1,5 @@
 use Rattle.std.proofs.Common.{◌≡◌, map, drop}
-use Rattle.sasi_model.specs.Cells.{any_live}
+use Rattle.sasi_model.specs.Abbreviations.{any_live}
 use Rattle.sasi_cells.proofs.search.any_live.Given as goal
 
 abbrev pub invariant-loop-entry : goal.invariant-loop-entry

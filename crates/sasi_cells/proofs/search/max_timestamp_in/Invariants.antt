@@ -1,5 +1,5 @@
 use Rattle.std.proofs.Common.{◌≡◌, map, max, drop}
-use Rattle.sasi_model.specs.Cells.{max_timestamp_in}
+use Rattle.sasi_model.specs.Abbreviations.{max_timestamp_in}
 use Rattle.sasi_cells.proofs.search.max_timestamp_in.Given as goal
 
 abbrev pub invariant-loop-entry : goal.invariant-loop-entry

@@ -1,38 +1,37 @@
-use Rattle.std.proofs.Common.{◌≡◌, ◌++◌, ◌^◌, take, length, sym, ◌∙◌, ap, arith, length-append}
-use Rattle.std.specs.Int.{to_be_bytes, w32}
-use Rattle.sasi_fields.specs.Reading.{Reading}
-use Rattle.sasi_host.specs.Names.{Bytes}
-use Rattle.sasi_commitlog.specs.Damages.{IsOfTable}
-use Rattle.sasi_commitlog.specs.Damages.PayloadBreaks.{no_table}
-use Rattle.sasi_commitlog.proofs.Payloads.{body_within, fault_behind}
+use Rattle.std.proofs.Common.{◌≡◌, ℕ, ◌∙◌, ap, sym, subst, List, Ok, Err}
+use Rattle.std.proofs.lemmas.Result.{err_from_is_err_and}
+use Rattle.sasi_cells.specs.Entries.{Entry, IsOrdered, partition_of}
+use Rattle.sasi_model.specs.Cells.{Partition}
+use Rattle.sasi_formats.proofs.WholeLaws.{reads_all}
+use Rattle.sasi_body.specs.Body.{Content}
+use Rattle.sasi_commitlog.specs.Format.{mutation_of, payload_of, IsMutationOf}
+use Rattle.sasi_commitlog.proofs.Payloads.{mutation_in}
 use Rattle.sasi_commitlog.proofs.payload.read_mutation.Goals as goal
 
-pub returns-in_default-clause-shown : goal.returns-in_default-clause-shown
-returns-in_default-clause-shown c =
-    let left : c.args.payload.now ≡ c.new-reader.result.left = sym (ap (λ (r : Reading). r.left) c.new-reader.ensures) in
-    let seen = c.found.ensures.seen ∙ ap (λ (l : Bytes). take 8 l) c.to_be_bytes-bytes.ensures in
-    no_table c.found.ensures.rule c.found.ensures.at (record {
-      table = c.in_ok-table.table;
-      rest = c.u32.new.self.left;
-      is = left ∙ c.in_ok-table.ensures.ok.next ∙ ap (λ (l : Bytes). l ++ c.u32.new.self.left) (sym seen);
-      stated = seen;
-      fits = c.in_ok-table.ensures.fits;
-      unlisted = sym c.in_default.ensures;
-    })
+pub returns-in_err-table-clause-shown : goal.returns-in_err-table-clause-shown
+returns-in_err-table-clause-shown c =
+    let p = err_from_is_err_and c.from_residual.result c.from_residual.ensures.1 in
+    rw (p.1, p.2) (reads_all {A = ℕ × Content} (mutation_of c.args.tables.now) c.args.payload.now (Err c.in_err-table.field-0.0) c.in_err-table.ensures).shown
 
-pub shifted_by_number-requires : goal.shifted_by_number-requires
-shifted_by_number-requires c =
-    let left : c.args.payload.now ≡ c.new-reader.result.left = sym (ap (λ (r : Reading). r.left) c.new-reader.ensures) in
-    body_within c.in-Some.types.now c.left.result.now (2 ^ 62) c.in-Err.fault c.in-Err.ensures.shown
-    (omega (arith, c.requires, ap length c.left.ensures, ap length (left ∙ c.in_ok-table.ensures.ok.next), length-append (to_be_bytes w32 c.in_ok-table.table) c.u32.new.self.left))
+pub from_entries-change-requires : goal.from_entries-change-requires
+from_entries-change-requires c =
+    let t = c.in_ok-table in
+    let is = mutation_in c.args.tables.now c.args.payload.now t.table t.key t.deleted t.cells (reads_all (mutation_of c.args.tables.now) c.args.payload.now
+    (Ok (t.table, (t.key, (t.deleted, t.cells)))) t.ensures).is in
+    subst (λ (l : List Entry). IsOrdered t.deleted l) (sym c.into_vec.ensures) is.ordered
 
-pub returns-in-Err-clause-shown : goal.returns-in-Err-clause-shown
-returns-in-Err-clause-shown c =
-    let left : c.args.payload.now ≡ c.new-reader.result.left = sym (ap (λ (r : Reading). r.left) c.new-reader.ensures) in
-    let of : IsOfTable c.args.tables.now c.args.payload.now c.in-Some.types.now c.left.result.now = record {
-      table = c.in_ok-table.table;
-      is = left ∙ c.in_ok-table.ensures.ok.next ∙ ap (λ (l : Bytes). to_be_bytes w32 c.in_ok-table.table ++ l) (sym c.left.ensures);
-      fits = c.in_ok-table.ensures.fits;
-      listed = sym c.in-Some.ensures;
-    } in
-    fault_behind c.args.tables.now c.args.payload.now c.in-Some.types.now c.left.result.now c.in-Err.fault c.shifted_by_number.result of c.in-Err.ensures.shown c.shifted_by_number.ensures
+pub returns-clause-bytes : goal.returns-clause-bytes
+returns-clause-bytes c =
+    let t = c.in_ok-table in
+    let is = mutation_in c.args.tables.now c.args.payload.now t.table t.key t.deleted t.cells (reads_all (mutation_of c.args.tables.now) c.args.payload.now
+    (Ok (t.table, (t.key, (t.deleted, t.cells)))) t.ensures).is in
+    let change : partition_of t.deleted t.cells ≡ c.from_entries-change.result = ap (λ (l : List Entry). partition_of t.deleted l) (sym c.into_vec.ensures) ∙ sym c.from_entries-change.ensures in
+    is.bytes_are ∙ ap (λ (p : Partition). payload_of (record { table = t.table; key = t.key; change = p })) change
+
+pub returns-clause-of_table : goal.returns-clause-of_table
+returns-clause-of_table c =
+    let t = c.in_ok-table in
+    let is = mutation_in c.args.tables.now c.args.payload.now t.table t.key t.deleted t.cells (reads_all (mutation_of c.args.tables.now) c.args.payload.now
+    (Ok (t.table, (t.key, (t.deleted, t.cells)))) t.ensures).is in
+    let change : partition_of t.deleted t.cells ≡ c.from_entries-change.result = ap (λ (l : List Entry). partition_of t.deleted l) (sym c.into_vec.ensures) ∙ sym c.from_entries-change.ensures in
+    subst (λ (p : Partition). IsMutationOf c.args.tables.now (record { table = t.table; key = t.key; change = p })) change is.of

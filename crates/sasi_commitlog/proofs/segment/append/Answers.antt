@@ -8,6 +8,7 @@ use Rattle.sasi_gated.proofs.HandleLaws.{unmoved}
 use Rattle.sasi_body.specs.Body.{body}
 use Rattle.sasi_body.proofs.BodyBytes.{body_short}
 use Rattle.sasi_commitlog.specs.Format.{payload_of}
+use Rattle.sasi_commitlog.proofs.Payloads.{payload_is}
 use Rattle.sasi_commitlog.proofs.segment.append.Goals as goal
 
 pub returns-in_err-put_mutation-clause-any_moment : goal.returns-in_err-put_mutation-clause-any_moment
@@ -21,7 +22,13 @@ pub new-requires-clause-short : goal.new-requires-clause-short
 new-requires-clause-short g c =
     let m = c.args.mutation.now in
     let payload : c.deref.result.now ≡ payload_of m = c.deref.ensures.value ∙ c.in_ok-put_mutation.ensures ∙ ap (λ (l : Bytes). l ++ payload_of m) c.clear.ensures.items in
-    omega (arith, ap length payload, length-append (to_be_bytes w32 m.table) (body m.key m.change), body_short m.key m.change c.requires.body)
+    omega (arith, ap length payload, ap length (payload_is m), length-append (to_be_bytes w32 m.table) (body m.key m.change), body_short m.key m.change c.requires.body)
+
+pub new-requires-clause-some : goal.new-requires-clause-some
+new-requires-clause-some g c =
+    let m = c.args.mutation.now in
+    let payload : c.deref.result.now ≡ payload_of m = c.deref.ensures.value ∙ c.in_ok-put_mutation.ensures ∙ ap (λ (l : Bytes). l ++ payload_of m) c.clear.ensures.items in
+    omega (arith, ap length payload, ap length (payload_is m), length-append (to_be_bytes w32 m.table) (body m.key m.change))
 
 pub returns-in_err-record-clause-any_moment : goal.returns-in_err-record-clause-any_moment
 returns-in_err-record-clause-any_moment g c mutations end =

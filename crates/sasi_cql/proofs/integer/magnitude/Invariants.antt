@@ -1,5 +1,6 @@
 use Rattle.std.proofs.Common.{◌≡◌, ◌≤◌, ◌^◌, drop}
-use Rattle.sasi_model.specs.Tokens.{decimal, decimal_on}
+use Rattle.sasi_model.specs.Tokens.{decimal}
+use Rattle.sasi_model.specs.Abbreviations.{decimal_on}
 use Rattle.sasi_cql.proofs.integer.magnitude.Given as goal
 
 abbrev pub invariant-digits : goal.invariant-digits

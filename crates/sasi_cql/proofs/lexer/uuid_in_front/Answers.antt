@@ -1,5 +1,5 @@
 use Rattle.std.proofs.Common.{◌≡◌, false, length, take, drop, ◌∙◌, sym}
-use Rattle.sasi_model.specs.Tokens.{starts_word}
+use Rattle.sasi_model.specs.Abbreviations.{starts_word}
 use Rattle.sasi_cql.proofs.Lexing.{too_short, goes_on, uuid_first, not_parsed}
 use Rattle.sasi_cql.proofs.lexer.uuid_in_front.Goals as goal
 

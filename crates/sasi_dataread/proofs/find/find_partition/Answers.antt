@@ -1,4 +1,4 @@
-use Rattle.std.proofs.Common.{◌+◌, ◌*◌, inl, inr, sym, ◌∙◌, ap, subst, arith, refl, ⊎_elim, Option, Ok, Err}
+use Rattle.std.proofs.Common.{◌+◌, ◌*◌, sym, ◌∙◌, ap, subst, arith, Option, Ok, Err}
 use Rattle.std.proofs.lemmas.Result.{err_from_is_err_and}
 use Rattle.sasi_host.specs.PageReading.{read_of, read_then}
 use Rattle.sasi_types.specs.declared.tree.Pair.{Pair}
@@ -38,14 +38,15 @@ loop-turn-init g c =
       there = there_same v w c.args.opened.now.file c.first.ensures.read.changes c.requires.read.there;
       read = read_of _ _ _ _ _ _ _ _ file_is c.first.ensures.read;
       passes = λ most le. first_passes v w (2 * height most c.args.opened.now.tree.pairs + 2) (2 * height most c.args.opened.now.tree.pairs + 2 + 0)
-          c.first.result c.first.ensures.read.changes (first_causes v w c.args.opened.now c.tree-tree.result c.first.result c.tree-tree.ensures
-          c.first.ensures.causes most le) (omega arith);
+          c.in_ok-next.next c.first.ensures.read.changes (first_causes v w c.args.opened.now c.tree-tree.result (Ok c.in_ok-next.next) c.tree-tree.ensures
+          c.in_ok-next.ensures.causes most le) (omega arith);
       file = c.first.ensures.read.file ∙ file_is;
       named = ap (λ (h : Buffered). h.file) c.buffered_file-buffered.ensures;
       pairs_buffered = c.first.ensures.read.buffered;
       buffered = subst (λ (h : Buffered). IsBuffered h (g.H.Host.view c.first.new.host).files) (sym c.buffered_file-buffered.ensures) (λ page bytes is. absurd (cc));
       entry_buffered = c.in_ok-next.ensures.entry_buffered;
       tree = c.first.ensures.tree ∙ ap (λ (t : PairScan). t.tree) c.tree-tree.ensures;
+      passed = c.in_ok-next.ensures.passed;
       entry = entry_of v c.args.opened.now c.tree-tree.result.buffered.file c.tree-tree.result.tree c.first.new.self.passed c.in_ok-next.next file_is
           (ap (λ (t : PairScan). t.tree) c.tree-tree.ensures) c.in_ok-next.ensures.stands;
       searches = starts v w c.args.opened.now c.tree-tree.result c.args.token c.args.key.now c.first.new.self.passed c.in_ok-next.next c.first.result
@@ -82,6 +83,14 @@ returns-in_err-found-clause-undamaged g c =
     c.loop-turn.invariant.read.changes c.in_err-found.ensures.undamaged
     )
 
+pub returns-in_err-found-clause-causes : goal.returns-in_err-found-clause-causes
+returns-in_err-found-clause-causes g c most le =
+    let p = err_from_is_err_and c.from_residual-in_err-found.result c.from_residual-in_err-found.ensures.1 in
+    let spent = 2 * height most c.args.opened.now.tree.pairs + 2 + 2051 * c.loop-turn._turn in
+    rw (p.1, p.2) (
+    causes_fault _ _ _ spent 2050 _ c.in_err-found.field-0.0 (c.loop-turn.invariant.passes most le) c.in_err-found.ensures.causes (omega arith)
+    )
+
 pub returns-in_err-found-clause-reads : goal.returns-in_err-found-clause-reads
 returns-in_err-found-clause-reads g c most partitioner content le is have =
     let here = here_costs (g.H.Host.view c.args.host.now) _ c.args.opened.now partitioner content c.args.token c.args.key.now c.loop-turn._turn
@@ -100,8 +109,8 @@ returns-then-is_some-clause-ok g c partitioner content is have same =
 pub returns-then-is_some-clause-causes : goal.returns-then-is_some-clause-causes
 returns-then-is_some-clause-causes g c most le =
     let spent = 2 * height most c.args.opened.now.tree.pairs + 2 + 2051 * c.loop-turn._turn in
-    causes_ok _ _ (spent + 2050) _ c.in_ok-found.found (Ok c.in_ok-found.found) refl
-    (passes_on _ _ _ spent 2050 (spent + 2050) c.partition_with_key.result (c.loop-turn.invariant.passes most le) c.partition_with_key.ensures.causes
+    causes_ok _ _ (spent + 2050) _ c.in_ok-found.found
+    (passes_on _ _ _ spent 2050 (spent + 2050) c.in_ok-found.found (c.loop-turn.invariant.passes most le) c.in_ok-found.ensures.causes
     c.partition_with_key.ensures.read.changes (omega arith)) (omega arith)
 
 pub returns-then-is_some-clause-reads : goal.returns-then-is_some-clause-reads
@@ -137,11 +146,11 @@ returns-in_err-next-2-clause-causes g c most le =
     let p = err_from_is_err_and c.from_residual-in_err-next-2.result c.from_residual-in_err-next-2.ensures.1 in
     let spent = 2 * height most c.args.opened.now.tree.pairs + 2 + 2051 * c.loop-turn._turn in
     rw (p.1, p.2) (
-    causes_fault _ _ _ (spent + 2050) 1 _ c.next.result (Err c.in_err-next-2.field-0.0) c.in_err-next-2.field-0.0 c.in_err-next-2.was refl
-    (passes_on _ _ _ spent 2050 (spent + 2050) c.partition_with_key.result (c.loop-turn.invariant.passes most le) c.partition_with_key.ensures.causes
+    causes_fault _ _ _ (spent + 2050) 1 _ c.in_err-next-2.field-0.0
+    (passes_on _ _ _ spent 2050 (spent + 2050) c.in_ok-found.found (c.loop-turn.invariant.passes most le) c.in_ok-found.ensures.causes
     c.partition_with_key.ensures.read.changes (omega arith)) (one_more (g.H.Host.view c.args.host.now) _ _ c.args.opened.now.file c.args.opened.now.tree
-    c.loop-turn.tree c.args.token c.in-Some.place c.loop-turn.next c.next.result c.in-Some.ensures c.loop-turn.invariant.entry
-    c.loop-turn.invariant.entry_buffered c.next.ensures.causes) (omega arith)
+    c.loop-turn.tree c.args.token c.in-Some.place c.loop-turn.next (Err c.in_err-next-2.field-0.0) c.in-Some.ensures c.loop-turn.invariant.entry
+    c.loop-turn.invariant.entry_buffered c.in_err-next-2.ensures.causes) (omega arith)
     )
 
 pub returns-in_err-next-2-clause-reads : goal.returns-in_err-next-2-clause-reads
@@ -167,20 +176,21 @@ loop-turn-preserved g c =
     let file = c.args.opened.now.file in
     let change = then_same _ _ _ Same here.read.changes c.partition_with_key.ensures.read.changes in
     let cheap = one_more v w (g.H.Host.view c.next.new.host) file c.args.opened.now.tree c.loop-turn.tree c.args.token c.in-Some.place
-    c.loop-turn.next c.next.result c.in-Some.ensures here.entry here.entry_buffered c.next.ensures.causes in
+    c.loop-turn.next (Ok c.in_ok-next-2.next) c.in-Some.ensures here.entry here.entry_buffered c.in_ok-next-2.ensures.causes in
     record {
       there = there_same _ _ file c.next.ensures.read.changes (there_same _ _ file c.partition_with_key.ensures.read.changes here.there);
       read = read_then _ _ _ _ _ _ _ _ _ (read_then _ _ _ _ _ _ _ _ _ here.read c.partition_with_key.ensures.read) (read_of _ _ _ _ _ _ _ _ here.file c.next.ensures.read);
       passes = λ most le.
           let spent = 2 * height most c.args.opened.now.tree.pairs + 2 + 2051 * c.loop-turn._turn in
-          passes_on _ _ _ (spent + 2050) 1 _ c.next.result (passes_on _ _ _ spent 2050 (spent + 2050) c.partition_with_key.result (here.passes most le)
-          c.partition_with_key.ensures.causes c.partition_with_key.ensures.read.changes (omega arith)) cheap c.next.ensures.read.changes (omega arith);
+          passes_on _ _ _ (spent + 2050) 1 _ c.in_ok-next-2.next (passes_on _ _ _ spent 2050 (spent + 2050) c.in_ok-found.found (here.passes most le)
+          c.in_ok-found.ensures.causes c.partition_with_key.ensures.read.changes (omega arith)) cheap c.next.ensures.read.changes (omega arith);
       file = c.next.ensures.read.file ∙ here.file;
       named = c.partition_with_key.ensures.named;
       pairs_buffered = c.next.ensures.read.buffered;
       buffered = buffered_after c.partition_with_key.new.buffered w (g.H.Host.view c.next.new.host) c.next.ensures.read.changes c.partition_with_key.ensures.buffered;
       entry_buffered = c.in_ok-next-2.ensures.entry_buffered;
       tree = c.next.ensures.tree ∙ here.tree;
+      passed = c.in_ok-next-2.ensures.passed;
       entry = entry_of v c.args.opened.now c.loop-turn.tree.buffered.file c.loop-turn.tree.tree c.next.new.self.passed c.in_ok-next-2.next here.file
           here.tree (entry_before v w c.loop-turn.tree.buffered.file c.loop-turn.tree.tree c.next.new.self.passed c.in_ok-next-2.next change
           c.in_ok-next-2.ensures.stands);

@@ -1,13 +1,13 @@
-use Rattle.std.proofs.Common.{◌≡◌, ◌⊎◌, ◌+◌, ◌*◌, ◌≤◌, ℕ, length}
+use Rattle.std.proofs.Common.{◌≡◌, ◌+◌, ◌*◌, ◌≤◌, ℕ, length, IsSome}
 use Rattle.sasi_types.specs.declared.partitioner.Partitioner.{Partitioner}
 use Rattle.sasi_host.specs.View.{IsThere}
 use Rattle.sasi_host.specs.PageReading.{HasRead}
 use Rattle.sasi_host.specs.Buffered.{IsBuffered}
 use Rattle.sasi_tokentree.specs.Heights.{height}
-use Rattle.sasi_tokentree.specs.Scans.{ReadsEntry, IsEntryBuffered}
+use Rattle.sasi_tokentree.specs.Scans.{HasPassed, ReadsEntry, IsEntryBuffered}
 use Rattle.sasi_datawrite.specs.Format.{Content, header}
 use Rattle.sasi_dataread.specs.Reads.{IsOpenOn, ReadsWithin}
-use Rattle.sasi_dataread.specs.Scans.{TokensFit}
+use Rattle.sasi_dataread.specs.Scans.{KeysAreBytes}
 use Rattle.sasi_dataread.specs.Finds.{token_reads}
 use Rattle.sasi_dataread.proofs.Finding.{Searches}
 use Rattle.sasi_dataread.proofs.find.find_partition.Given as goal
@@ -26,8 +26,9 @@ invariant-loop-turn g l =
       buffered : IsBuffered l.buffered (view l.host).files;
       entry_buffered : IsEntryBuffered l.tree l.next;
       tree : l.tree.tree ≡ l.opened.tree;
+      passed : IsSome l.next → HasPassed l.tree.tree l.tree.passed;
       entry : ReadsEntry (view l.fn.host) l.opened.file l.opened.tree l.tree.passed l.next;
-      searches : (most : ℕ) (partitioner : Partitioner) (content : Content) → pairs ≤ most → IsOpenOn (view l.fn.host) l.opened partitioner content → TokensFit partitioner content
+      searches : (most : ℕ) (partitioner : Partitioner) (content : Content) → pairs ≤ most → IsOpenOn (view l.fn.host) l.opened partitioner content → KeysAreBytes content
           → Searches partitioner content l.token l.key l._turn l.tree.passed l.next (view l.host).reads
           ((view l.fn.host).reads + (2 * height most pairs + 2 + token_reads partitioner l.token (length header) content));
     }

@@ -4,9 +4,7 @@ use Rattle.sasi_host.specs.PageReading.{reads_then}
 use Rattle.sasi_host.specs.declared.name.FileName.{FileName}
 use Rattle.sasi_host.specs.View.{contents}
 use Rattle.sasi_host.specs.Damages.{DamageShown, ShowsEnd}
-use Rattle.sasi_host.specs.Disk.{Same}
 use Rattle.sasi_host.specs.Contents.{contents_same}
-use Rattle.sasi_host.specs.ChangeLaws.{then_same}
 use Rattle.sasi_host.proofs.DamageLaws.{shown_before}
 use Rattle.sasi_dataread.proofs.Bodies.{body_shown, sized_spares, cut_spares, sized_read, reads_cost, both_causes}
 use Rattle.sasi_dataread.proofs.partition.read_body_bytes.Goals as goal
@@ -42,7 +40,7 @@ returns-in_err-body-clause-undamaged g c =
 pub returns-in_err-body-clause-causes : goal.returns-in_err-body-clause-causes
 returns-in_err-body-clause-causes g c =
     let p = err_from_is_err_and c.from_residual-in_err-body.result c.from_residual-in_err-body.ensures.1 in
-    rw (p.1, p.2) (both_causes _ _ _ c.args.buffered.now.page c.read_length.new.buffered.page c.args.place c.in_ok-count.count (Ok c.in_ok-count.count)
+    rw (p.1, p.2) (both_causes _ _ _ c.args.buffered.now.page c.read_length.new.buffered.page c.args.place c.in_ok-count.count c.in_ok-count.count
     (Err c.in_err-body.field-0.0) c.in_ok-count.ensures.length.short c.in_ok-count.ensures.page c.in_ok-count.ensures.causes
     c.in_err-body.ensures.causes)
 
@@ -61,7 +59,7 @@ returns-clause-ok g c bytes is =
 
 pub returns-clause-causes : goal.returns-clause-causes
 returns-clause-causes g c = both_causes _ _ _ c.args.buffered.now.page c.read_length.new.buffered.page c.args.place c.in_ok-count.count
-    (Ok c.in_ok-count.count) (Ok c.in_ok-body.body) c.in_ok-count.ensures.length.short c.in_ok-count.ensures.page c.in_ok-count.ensures.causes
+    c.in_ok-count.count (Ok c.in_ok-body.body) c.in_ok-count.ensures.length.short c.in_ok-count.ensures.page c.in_ok-count.ensures.causes
     c.in_ok-body.ensures.causes
 
 pub returns-clause-page : goal.returns-clause-page

@@ -2,15 +2,13 @@ use Rattle.std.proofs.Common.{◌≡◌, ◌+◌, refl, IsSome, Option, None, So
 use Rattle.std.proofs.lemmas.Result.{err_from_is_err_and}
 use Rattle.sasi_host.specs.PageReading.{read_of, read_then}
 use Rattle.sasi_types.specs.declared.tree.Pair.{Pair}
-use Rattle.sasi_host.specs.Disk.{Same}
 use Rattle.sasi_host.specs.Buffered.{buffered_after}
-use Rattle.sasi_host.specs.ChangeLaws.{then_same}
 use Rattle.sasi_host.proofs.DamageLaws.{shown_before}
 use Rattle.sasi_tokentree.specs.Scans.{ReadsEntry, ReadsNextPair, IsEntryBuffered, pair_place}
 use Rattle.sasi_tokentree.proofs.EntryPages.{entry_pages}
 use Rattle.sasi_dataread.proofs.Pairs.{none_left}
 use Rattle.sasi_dataread.proofs.Pages.{goes_nowhere}
-use Rattle.sasi_dataread.proofs.ReadChains.{causes_done, causes_handed, causes_on, causes_within}
+use Rattle.sasi_host.specs.CauseLaws.{ok_reads, fault_reads, reads_on, reads_within}
 use Rattle.sasi_dataread.proofs.DataScan.{all_pairs, walk_goes, entry_of, partition_shown, tree_shown, next_takes, tree_spares, took_partition, place_spares}
 use Rattle.sasi_dataread.proofs.walk.next_partition.Goals as goal
 
@@ -63,16 +61,16 @@ returns-in_err-next-clause-buffered g c = buffered_after c.args.buffered.now _ _
 pub returns-in_err-next-clause-causes : goal.returns-in_err-next-clause-causes
 returns-in_err-next-clause-causes g c =
     let p = err_from_is_err_and c.from_residual.result c.from_residual.ensures.1 in
-    rw (p.1, p.2) (causes_handed _ _ _ 2052 c.in_err-next.field-0.0 (omega
+    rw (p.1, p.2) (fault_reads _ _ _ 2052 c.in_err-next.field-0.0 (omega
     (arith, entry_pages c.args.tree.now.buffered.page (pair_place c.args.tree.now.tree c.args.tree.now.passed))) c.in_err-next.ensures.causes)
 
 pub returns-in-None-clause-buffered : goal.returns-in-None-clause-buffered
 returns-in-None-clause-buffered g c = buffered_after c.args.buffered.now _ _ c.next.ensures.read.changes c.requires.buffered
 
 pub returns-in-None-clause-causes : goal.returns-in-None-clause-causes
-returns-in-None-clause-causes g c = causes_within _ _ _ 2052 (Ok None)
+returns-in-None-clause-causes g c = reads_within _ _ _ 2052 (Ok None)
     (omega (arith, entry_pages c.args.tree.now.buffered.page (pair_place c.args.tree.now.tree c.args.tree.now.passed)))
-    (causes_done _ _ _ c.next.result None c.next.ensures.causes)
+    (ok_reads _ _ _ _ None c.in_ok-next.ensures.causes)
 
 pub returns-in-None-clause-reads : goal.returns-in-None-clause-reads
 returns-in-None-clause-reads g c partitioner content is have sequential =
@@ -86,24 +84,24 @@ returns-in-None-clause-reads g c partitioner content is have sequential =
     goes_nowhere is.bytes content c.args.opened.now c.args.tree.now c.next.new.self c.args.buffered.now _ _ same (omega (arith, ended)) sequential
 
 pub returns-in_err-key-clause-pairs_buffered : goal.returns-in_err-key-clause-pairs_buffered
-returns-in_err-key-clause-pairs_buffered g c = buffered_after c.next.new.self.buffered _ _ c.at_buffered.ensures.read.changes c.next.ensures.read.buffered
+returns-in_err-key-clause-pairs_buffered g c = buffered_after c.next.new.self.buffered _ _ c.partition_of_pair.ensures.read.changes c.next.ensures.read.buffered
 
 pub returns-in_err-key-clause-causes : goal.returns-in_err-key-clause-causes
 returns-in_err-key-clause-causes g c =
     let p = err_from_is_err_and c.from_residual-in_err-key.result c.from_residual-in_err-key.ensures.1 in
-    rw (p.1, p.2) (causes_handed _ _ 2052 2052 c.in_err-key.field-0.0 (omega arith)
-    (causes_on _ _ _ _ 2050 2052 c.next.result (Err c.in_err-key.field-0.0)
-    (omega (arith, entry_pages c.args.tree.now.buffered.page (pair_place c.args.tree.now.tree c.args.tree.now.passed))) c.next.ensures.causes
+    rw (p.1, p.2) (fault_reads _ _ 2052 2052 c.in_err-key.field-0.0 (omega arith)
+    (reads_on _ _ _ _ 2050 2052 _ (Err c.in_err-key.field-0.0)
+    (omega (arith, entry_pages c.args.tree.now.buffered.page (pair_place c.args.tree.now.tree c.args.tree.now.passed))) c.in_ok-next.ensures.causes
     c.in_err-key.ensures.causes))
 
 pub returns-clause-pairs_buffered : goal.returns-clause-pairs_buffered
-returns-clause-pairs_buffered g c = buffered_after c.next.new.self.buffered _ _ c.at_buffered.ensures.read.changes c.next.ensures.read.buffered
+returns-clause-pairs_buffered g c = buffered_after c.next.new.self.buffered _ _ c.partition_of_pair.ensures.read.changes c.next.ensures.read.buffered
 
 pub returns-clause-causes : goal.returns-clause-causes
 returns-clause-causes g c =
-    causes_done _ _ 2052 c.at_buffered.result _ (causes_on _ _ _ _ 2050 2052 c.next.result c.at_buffered.result
-    (omega (arith, entry_pages c.args.tree.now.buffered.page (pair_place c.args.tree.now.tree c.args.tree.now.passed))) c.next.ensures.causes
-    c.at_buffered.ensures.causes)
+    ok_reads _ _ 2052 _ _ (reads_on _ _ _ _ 2050 2052 _ _
+    (omega (arith, entry_pages c.args.tree.now.buffered.page (pair_place c.args.tree.now.tree c.args.tree.now.passed))) c.in_ok-next.ensures.causes
+    c.in_ok-key.ensures.causes)
 
 pub returns-clause-reads : goal.returns-clause-reads
 returns-clause-reads g c partitioner content is have sequential =
@@ -115,11 +113,11 @@ returns-clause-reads g c partitioner content is have sequential =
     let took = next_takes v opened tree.buffered.file tree.tree tree.passed c.next.new.self.passed (Some pair) c.requires.file c.requires.tree
     (λ bytes reads. (g.met.H.Host.sound c.args.host.now).fits opened.file bytes reads) gives partitioner content is have in
     let entry_buffered = subst (λ (o : Option Pair). IsEntryBuffered c.next.new.self o) c.in-Some.is c.in_ok-next.ensures.entry_buffered in
-    walk_goes v (g.H.Host.view c.next.new.host) opened tree c.next.new.self c.args.buffered.now c.at_buffered.new.buffered pair c.in_ok-key.key c.in_ok-key.part
+    walk_goes v (g.H.Host.view c.next.new.host) opened tree c.next.new.self c.args.buffered.now c.partition_of_pair.new.buffered pair c.in_ok-key.key c.in_ok-key.part
     partitioner content _ _ _ is c.next.ensures.read.changes took c.in_ok-key.ensures.ok c.requires.tree c.next.ensures.tree
     (entry_of v opened tree.buffered.file tree.tree c.next.new.self.passed (Some pair) c.requires.file c.requires.tree
     (subst (λ (o : Option Pair). ReadsEntry v tree.buffered.file tree.tree c.next.new.self.passed o) c.in-Some.is c.in_ok-next.ensures.stands)) sequential
-    c.next.ensures.causes.reads c.at_buffered.ensures.reads (subst (λ (o : Option Pair). IsSome o → c.next.new.self.passed ≡ tree.passed + 1) c.in-Some.is
+    c.next.ensures.causes.reads c.partition_of_pair.ensures.reads (subst (λ (o : Option Pair). IsSome o → c.next.new.self.passed ≡ tree.passed + 1) c.in-Some.is
     c.in_ok-next.ensures.some refl) entry_buffered c.in_ok-key.ensures.page
 
 pub returns-clause-ok : goal.returns-clause-ok
@@ -133,7 +131,7 @@ returns-clause-ok g c partitioner content is have =
     content is c.next.ensures.read.changes took c.in_ok-key.ensures.ok
 
 pub returns-in_err-key-clause-read : goal.returns-in_err-key-clause-read
-returns-in_err-key-clause-read g c = read_then _ _ _ _ _ _ _ _ _ (read_of _ _ _ _ _ _ _ _ c.requires.file c.next.ensures.read) c.at_buffered.ensures.read
+returns-in_err-key-clause-read g c = read_then _ _ _ _ _ _ _ _ _ (read_of _ _ _ _ _ _ _ _ c.requires.file c.next.ensures.read) c.partition_of_pair.ensures.read
 
 pub returns-clause-read : goal.returns-clause-read
-returns-clause-read g c = read_then _ _ _ _ _ _ _ _ _ (read_of _ _ _ _ _ _ _ _ c.requires.file c.next.ensures.read) c.at_buffered.ensures.read
+returns-clause-read g c = read_then _ _ _ _ _ _ _ _ _ (read_of _ _ _ _ _ _ _ _ c.requires.file c.next.ensures.read) c.partition_of_pair.ensures.read

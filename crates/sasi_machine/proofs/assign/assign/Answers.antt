@@ -2,7 +2,7 @@ use Rattle.std.proofs.Common.{ℕ, List, sym, ap, ◌∙◌, refl}
 use Rattle.sasi_types.specs.declared.literal.Literal.{Literal}
 use Rattle.sasi_model.specs.Cells.{Partition}
 use Rattle.sasi_model.specs.Refusals.{number_range}
-use Rattle.sasi_model.specs.Step.{update_change}
+use Rattle.sasi_model.specs.Abbreviations.{update_change}
 use Rattle.sasi_schema.specs.Defined.{definition}
 use Rattle.sasi_machine.specs.Assignment.{cells_over, key_or}
 use Rattle.sasi_machine.proofs.Assigning.{cells_first, cells_push, key_first, key_push, none_pop, same_partition}

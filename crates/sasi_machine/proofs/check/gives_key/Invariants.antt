@@ -1,5 +1,5 @@
 use Rattle.std.proofs.Common.{◌≡◌, drop}
-use Rattle.sasi_model.specs.Refusals as model
+use Rattle.sasi_model.specs.Abbreviations as model
 use Rattle.sasi_schema.specs.Defined.{definition}
 use Rattle.sasi_machine.proofs.check.gives_key.Given as goal
 

@@ -2,7 +2,7 @@ use Rattle.std.proofs.Common.{◌≡◌, ◌+◌, ◌<◌, ◌^◌, ◌∷◌, �
 use Rattle.sasi_types.specs.declared.decorated_key.DecoratedKey.{DecoratedKey}
 use Rattle.sasi_model.specs.Cells.{Partition}
 use Rattle.std.specs.List.{flat_map}
-use Rattle.sasi_model.specs.Lines.{row_line}
+use Rattle.sasi_model.specs.Abbreviations.{row_line}
 use Rattle.sasi_machine.specs.MemtableView.{rows_picked}
 use Rattle.sasi_machine.proofs.Printed.{counted_more, printed_more}
 use Rattle.sasi_machine.proofs.Stored.{AllStored, all_stored, rows_at_most}

@@ -1,6 +1,6 @@
 use Rattle.std.proofs.Common.{◌≡◌, ◌+◌, ◌++◌, length}
 use Rattle.std.specs.List.{flat_map}
-use Rattle.sasi_model.specs.Lines.{row_line}
+use Rattle.sasi_model.specs.Abbreviations.{row_line}
 use Rattle.sasi_machine.specs.MemtableView.{rows_picked}
 use Rattle.sasi_machine.proofs.Stored.{AllStored}
 use Rattle.sasi_machine.proofs.memtable.print_entries.Given as goal

@@ -1,5 +1,5 @@
 use Rattle.std.proofs.Common.{◌≡◌, map}
-use Rattle.sasi_model.specs.Step.{count_up}
+use Rattle.sasi_model.specs.Abbreviations.{count_up}
 use Rattle.sasi_machine.specs.Picks.{pick}
 use Rattle.sasi_machine.proofs.picking.all.Given as goal
 

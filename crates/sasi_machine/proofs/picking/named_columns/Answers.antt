@@ -1,6 +1,6 @@
 use Rattle.std.proofs.Common.{ℕ, [], ◌++◌, map, Option, ap, ◌∙◌}
 use Rattle.std.specs.List.{cons_option}
-use Rattle.sasi_model.specs.Step.{numbers_of}
+use Rattle.sasi_model.specs.Abbreviations.{numbers_of}
 use Rattle.sasi_schema.specs.Defined.{definition}
 use Rattle.sasi_machine.specs.Picks.{pick}
 use Rattle.sasi_machine.proofs.Picked.{picked_found}

@@ -1,5 +1,5 @@
 use Rattle.std.proofs.Common.{◌≡◌, ◌++◌, map, drop}
-use Rattle.sasi_model.specs.Step.{numbers_of}
+use Rattle.sasi_model.specs.Abbreviations.{numbers_of}
 use Rattle.sasi_schema.specs.Defined.{definition}
 use Rattle.sasi_machine.specs.Picks.{pick}
 use Rattle.sasi_machine.proofs.picking.named_columns.Given as goal

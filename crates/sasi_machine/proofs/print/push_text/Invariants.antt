@@ -1,6 +1,6 @@
 use Rattle.std.proofs.Common.{◌≡◌, ◌++◌, ◌∷◌, take}
 use Rattle.std.specs.List.{flat_map}
-use Rattle.sasi_model.specs.Lines.{printed_byte}
+use Rattle.sasi_model.specs.Abbreviations.{printed_byte}
 use Rattle.sasi_machine.proofs.print.push_text.Given as goal
 
 -- the bytes so far are printed after the first quote

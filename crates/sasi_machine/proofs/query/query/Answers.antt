@@ -2,7 +2,8 @@ use Rattle.std.proofs.Common.{◌++◌, Some, ap, ◌∙◌}
 use Rattle.std.specs.FinMap as fin
 use Rattle.sasi_types.specs.declared.column.ColumnType.{ColumnType}
 use Rattle.sasi_model.specs.Lines.{rows_lines}
-use Rattle.sasi_model.specs.Refusals.{first_of, select_rules}
+use Rattle.sasi_model.specs.Refusals.{select_rules}
+use Rattle.sasi_model.specs.Abbreviations.{first_of}
 use Rattle.sasi_model.specs.State.{key_type}
 use Rattle.sasi_model.specs.Step.{selected_columns, live_rows}
 use Rattle.sasi_schema.specs.Defined.{definition}

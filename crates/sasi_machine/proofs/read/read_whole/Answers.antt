@@ -1,5 +1,6 @@
 use Rattle.std.proofs.Common.{Err, sym, ap, ◌∙◌}
-use Rattle.sasi_model.specs.Refusals.{Bad, NotUtf8}
+use Rattle.sasi_model.specs.Refusals.{Bad}
+use Rattle.sasi_model.specs.Abbreviations.{NotUtf8}
 use Rattle.sasi_machine.proofs.WholePieces.{read_bytes, read_nothing, read_statement}
 use Rattle.sasi_machine.proofs.read.read_whole.Goals as goal
 

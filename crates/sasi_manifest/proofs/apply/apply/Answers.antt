@@ -1,7 +1,7 @@
 use Rattle.std.proofs.Common.{◌∙◌, length, arith, ap, sym, subst}
 use Rattle.sasi_host.specs.Names.{Bytes}
 use Rattle.sasi_model.specs.State.{Definition}
-use Rattle.sasi_manifest.specs.Listings.{listed_names}
+use Rattle.sasi_manifest.specs.Abbreviations.{listed_names}
 use Rattle.sasi_manifest.specs.Naming.{IsFree}
 use Rattle.sasi_manifest.proofs.Applying.{applies_create, no_create}
 use Rattle.sasi_manifest.proofs.KeyPositions.{key_at}

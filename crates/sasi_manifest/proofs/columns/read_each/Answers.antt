@@ -2,7 +2,7 @@ use Rattle.std.proofs.Common.{◌-◌, ◌+◌, arith}
 use Rattle.std.proofs.lemmas.Result.{err_from_is_err_and}
 use Rattle.sasi_formats.specs.Reader.{read}
 use Rattle.sasi_formats.proofs.ItemSteps.{items_step, items_fault, items_all}
-use Rattle.sasi_manifest.specs.Edits.{column}
+use Rattle.sasi_manifest.specs.Abbreviations.{column}
 use Rattle.sasi_manifest.proofs.columns.read_each.Goals as goal
 
 pub loop-turn-preserved : goal.loop-turn-preserved

@@ -1,4 +1,4 @@
-use Rattle.std.proofs.Common.{◌≡◌, ◌+◌, ◌-◌, Bool, Some, Option, List, length, subst, if◌then◌else◌}
+use Rattle.std.proofs.Common.{arith, ◌≡◌, ◌+◌, ◌-◌, Bool, Some, Option, List, length, subst, if◌then◌else◌}
 use Rattle.std.proofs.lemmas.Result.{err_from_is_err_and}
 use Rattle.sasi_host.specs.Names.{Bytes}
 use Rattle.sasi_host.specs.Disk.{Same}
@@ -11,7 +11,7 @@ use Rattle.sasi_formats.specs.Formats.{Encodes}
 use Rattle.sasi_manifest.specs.Edits.{edits}
 use Rattle.sasi_manifest.specs.Listings.{after_all, with_record_counted, length_of}
 use Rattle.sasi_manifest.specs.Reading.{ReadingGoesOn, IsDamageOfRecord}
-use Rattle.sasi_manifest.proofs.Opening.{shown_at_gate, shown_inside, shown_empty, goes_on_next, read_whole}
+use Rattle.sasi_manifest.proofs.Opening.{shown_at_gate, shown_inside, shown_empty, goes_on_next, read_whole, reads_no_further, reads_within}
 use Rattle.sasi_manifest.proofs.open.open_manifest.Goals as goal
 
 pub returns-in_err-next-clause-damaged : goal.returns-in_err-next-clause-damaged
@@ -52,7 +52,7 @@ loop-listed-preserved g c =
     goes_on_next (g.H.Host.view c.args.host.now) (g.H.Host.view c.loop-listed.host)
     (g.H.Host.view c.next.new.host) c.args.number c.loop-listed.gated c.next.new.self c.loop-listed.listed c.in_ok-take_record.field-0
     c.next.new.out.items took.0 c.loop-listed.invariant gate c.next.ensures.changes offset next.fits next.file
-    next.usable next.causes.disk next.causes.out took.1 took.2
+    next.usable next.causes.ok next.causes.out c.next.ensures.buffered (next.once c.loop-listed.invariant.once.sequential).ok took.1 took.2
 
 pub returns-in-None-clause-damaged : goal.returns-in-None-clause-damaged
 returns-in-None-clause-damaged g c =
@@ -77,3 +77,32 @@ returns-clause-ok g c =
 
 pub returns-clause-changes : goal.returns-clause-changes
 returns-clause-changes g c = then_same _ _ _ Same c.loop-listed.invariant.same c.next.ensures.changes
+
+-- ---- how often it reads
+
+pub returns-in_err-gated-clause-reads : goal.returns-in_err-gated-clause-reads
+returns-in_err-gated-clause-reads g c bytes is = omega (arith, c.open.ensures.reads)
+
+pub returns-in_err-next-clause-reads : goal.returns-in_err-next-clause-reads
+returns-in_err-next-clause-reads g c =
+    let on = c.loop-listed.invariant in
+    reads_no_further (g.H.Host.view c.args.host.now) (g.H.Host.view c.loop-listed.host) (g.H.Host.view c.next.new.host) c.args.number c.loop-listed.gated
+    c.loop-listed.listed on (c.next.ensures.once on.once.sequential).no_further
+
+pub returns-in_err-take_record-clause-reads : goal.returns-in_err-take_record-clause-reads
+returns-in_err-take_record-clause-reads g c =
+    let on = c.loop-listed.invariant in
+    reads_within (g.H.Host.view c.args.host.now) (g.H.Host.view c.loop-listed.host) (g.H.Host.view c.next.new.host) c.args.number c.loop-listed.gated
+    c.next.new.self c.loop-listed.listed on c.next.ensures.file (c.in_ok-next.ensures.once on.once.sequential).ok
+
+pub returns-in-None-clause-reads : goal.returns-in-None-clause-reads
+returns-in-None-clause-reads g c =
+    let on = c.loop-listed.invariant in
+    reads_within (g.H.Host.view c.args.host.now) (g.H.Host.view c.loop-listed.host) (g.H.Host.view c.next.new.host) c.args.number c.loop-listed.gated
+    c.next.new.self c.loop-listed.listed on c.next.ensures.file (c.in_ok-next.ensures.once on.once.sequential).ok
+
+pub returns-clause-reads : goal.returns-clause-reads
+returns-clause-reads g c =
+    let on = c.loop-listed.invariant in
+    reads_within (g.H.Host.view c.args.host.now) (g.H.Host.view c.loop-listed.host) (g.H.Host.view c.next.new.host) c.args.number c.loop-listed.gated
+    c.next.new.self c.loop-listed.listed on c.next.ensures.file (c.in_ok-next.ensures.once on.once.sequential).ok

@@ -1,7 +1,6 @@
 use Rattle.std.proofs.Common.{rules, ◌<◌, List, length, sym, subst}
 use Rattle.sasi_model.specs.State.{Column}
 use Rattle.sasi_manifest.proofs.KeyWithin.{key_within}
-use Rattle.sasi_manifest.proofs.TypesApart.{types_apart}
 use Rattle.sasi_manifest.proofs.table_types.types_of.Goals as goal
 
 pub put_others-requires : goal.put_others-requires
@@ -10,4 +9,4 @@ put_others-requires c =
     (key_within c.args.table.now.key c.args.table.now.columns c.args.table.now.key_is_there)
 
 pub returns : goal.returns
-returns c = search (types_apart c.args.table.now.key c.args.table.now.columns, rules)
+returns c = search rules

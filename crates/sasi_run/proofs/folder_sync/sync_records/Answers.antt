@@ -11,7 +11,7 @@ pub loop-name-init : goal.loop-name-init
 loop-name-init g c = record {
   same = stays (g.H.Host.view c.args.host.now);
   done = λ k d below. absurd (omega (arith, below));
-  disk = omega arith;
+  disk = search rules;
   out = search
       rules;
   reads = search rules;
@@ -27,7 +27,7 @@ loop-name-preserved g c = record {
       c.loop-name.invariant.same c.sync_record.ensures.changes;
   done = synced_more (g.H.Host.view c.loop-name.host) (g.H.Host.view c.sync_record.new.host) c.sync_record.ensures.changes c.args.names.now
       c.loop-name.name-index _ c.loop-name-test.true c.loop-name.invariant.done c.in_ok-sync_record.ensures.synced;
-  disk = omega (arith, c.sync_record.ensures.causes.disk);
+  disk = c.in_ok-sync_record.ensures.causes.ok ∙ c.loop-name.invariant.disk;
   out = c.sync_record.ensures.causes.out ∙ c.loop-name.invariant.out;
   reads = c.sync_record.ensures.causes.reads ∙ c.loop-name.invariant.reads;
 }

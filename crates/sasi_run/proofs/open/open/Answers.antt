@@ -1,4 +1,4 @@
-use Rattle.std.proofs.Common.{◌≡◌, All, IfErr, List, None, OnOk, Option, Some, ap, is_some, subst, true}
+use Rattle.std.proofs.Common.{◌≡◌, All, IfErr, List, None, OnOk, Option, Some, ap, inl, inr, is_some, subst, true, ◌∙◌}
 use Rattle.std.proofs.lemmas.Result.{IfErr-weaker}
 use Rattle.sasi_host.specs.declared.name.FileName.{FileName}
 use Rattle.sasi_host.specs.Damages.{OnDamage}
@@ -7,6 +7,7 @@ use Rattle.sasi_run.specs.NewFolder.{ReportsForeign, is_initial}
 use Rattle.sasi_run.specs.Opening.{IsHighestSeal}
 use Rattle.sasi_run.proofs.Damaged.{foreign_shown, sealed_highest, sealed_shown}
 use Rattle.sasi_run.proofs.FolderOpening.{files_same, new_durable, new_undamaged, opens_new, opens_same, opens_sealed, sealed_holds, sealed_durable, any_change_on, any_change_same, unsealed_fresh}
+use Rattle.sasi_run.proofs.ReadsOfOpening.{store_behind}
 use Rattle.sasi_run.proofs.SyncedFolder.{settled_fresh, settled_holds}
 use Rattle.sasi_run.proofs.OpenedState.{firsts_stand, sealed_stand}
 use Rattle.sasi_run.proofs.open.open.Goals as goal
@@ -68,6 +69,25 @@ returns-in-None-clause-undamaged g c folder s files stands =
     let fresh = settled_fresh (g.H.Host.view c.sync_all.new.host) folder (g.met.H.Host.sound c.sync_all.new.host)
     c.in_ok-names.ensures.folder_durable files_b new.0 in
     new_undamaged (g.H.Host.view c.sync_all.new.host) folder c.create_store.result c.create_store.ensures.undamaged files_b new.0
+
+pub returns-in_err-names-clause-once : goal.returns-in_err-names-clause-once
+returns-in_err-names-clause-once g c folder files = inl c.sync_all.ensures.causes.reads
+
+pub returns-in-None-clause-once : goal.returns-in-None-clause-once
+returns-in-None-clause-once g c folder files = inl (c.create_store.ensures.reads ∙ c.sync_all.ensures.causes.reads)
+
+pub returns-clause-once : goal.returns-clause-once
+returns-clause-once g c folder files =
+    let b = g.H.Host.view c.sync_all.new.host in
+    let files_b = files_same (g.H.Host.view c.args.host.now) b folder c.sync_all.ensures.changes files in
+    let highest = subst (λ (l : List FileName). IsHighestSeal l (Some c.in-Some.number)) c.deref.ensures.value c.in-Some.ensures in
+    let sealed = sealed_highest b folder files_b c.in_ok-names.names.items c.in_ok-names.ensures.names c.in-Some.number highest in
+    inr (
+      c.in-Some.number,
+      sealed,
+      store_behind (g.H.Host.view c.args.host.now) b (g.H.Host.view c.open_sealed.new.host) folder c.in-Some.number
+          c.sync_all.ensures.causes.reads (c.open_sealed.ensures.once folder files_b),
+    )
 
 pub returns-in-None-clause-changes : goal.returns-in-None-clause-changes
 returns-in-None-clause-changes g c = any_change_on (g.H.Host.view c.args.host.now) (g.H.Host.view c.sync_all.new.host)

@@ -9,6 +9,8 @@ use Rattle.sasi_run.specs.Replaying.{ReplayShowsDamage, ReadsAll, Replays, NoFal
 use Rattle.sasi_run.specs.SealedFolder.{none_kept}
 use Rattle.sasi_run.proofs.Damaged.{segment_shown}
 use Rattle.sasi_run.proofs.FolderOpening.{holds_then_same, live_kept, opened_ready, opened_durable, replay_undamaged, any_change_deletes, any_change_then_same, told_here}
+use Rattle.sasi_run.specs.OpeningReads.{ReadsLiveOnce}
+use Rattle.sasi_run.proofs.ReadsOfOpening.{manifest_read, store_read}
 use Rattle.sasi_run.proofs.SealedStore.{listed_same}
 use Rattle.sasi_run.proofs.SyncedFolder.{settled_holds}
 use Rattle.sasi_run.proofs.OpenedState.{sealed_stands}
@@ -56,6 +58,26 @@ returns-in_err-replayed-clause-undamaged g c folder listing logs files holds =
 pub returns-in_err-replayed-clause-changes : goal.returns-in_err-replayed-clause-changes
 returns-in_err-replayed-clause-changes g c = any_change_then_same (g.H.Host.view c.args.host.now) (g.H.Host.view c.open_listed.new.host)
     (g.H.Host.view c.replay.new.host) none_kept c.open_listed.ensures.changes c.replay.ensures.changes
+
+pub returns-in_err-manifest-clause-once : goal.returns-in_err-manifest-clause-once
+returns-in_err-manifest-clause-once g c folder files = manifest_read (g.H.Host.view c.args.host.now) (g.H.Host.view c.open_listed.new.host) folder
+    c.args.number files c.open_listed.ensures.once
+
+pub returns-in_err-replayed-clause-once : goal.returns-in_err-replayed-clause-once
+returns-in_err-replayed-clause-once g c folder files =
+    let m = c.in_ok-manifest.ensures in
+    let live = subst (λ (l : Listing). ReadsLiveOnce (g.H.Host.view c.open_listed.new.host) (g.H.Host.view c.replay.new.host) l)
+    c.listing.ensures.listing c.replay.ensures.once in
+    store_read (g.H.Host.view c.args.host.now) (g.H.Host.view c.open_listed.new.host) (g.H.Host.view c.replay.new.host) folder c.args.number
+    c.in_ok-manifest.manifest.listing files m.there m.reads m.deletes c.open_listed.ensures.once live
+
+pub returns-clause-once : goal.returns-clause-once
+returns-clause-once g c folder files =
+    let m = c.in_ok-manifest.ensures in
+    let live = subst (λ (l : Listing). ReadsLiveOnce (g.H.Host.view c.open_listed.new.host) (g.H.Host.view c.replay.new.host) l)
+    c.listing.ensures.listing c.replay.ensures.once in
+    store_read (g.H.Host.view c.args.host.now) (g.H.Host.view c.open_listed.new.host) (g.H.Host.view c.replay.new.host) folder c.args.number
+    c.in_ok-manifest.manifest.listing files m.there m.reads m.deletes c.open_listed.ensures.once live
 
 pub returns-clause-ready : goal.returns-clause-ready
 returns-clause-ready g c =

@@ -1,15 +1,16 @@
 use Rattle.std.proofs.Common.{arith, refl, [], ap, Err, ◌∙◌}
 use Rattle.sasi_run.proofs.ConsumedBytes.{consumes_nothing}
 use Rattle.sasi_run.proofs.CrashesAtEnd.{end_is_read, end_is_undamaged, ends_at_read, ends_beyond, ends_done, ends_last, goes_on_read, starts_on}
+use Rattle.sasi_run.specs.declared.status.Status.TheVariants.{ScriptTooLong}
+use Rattle.sasi_run.proofs.FailedCalls.{calls_behind, counted_calls, nothing_failed, nothing_of_host, nothing_on, stop_calls, unfailed_calls}
 use Rattle.sasi_run.proofs.reading.run_script.Goals as goal
 
 pub reads-init : goal.reads-init
 reads-init g c = record {
   goes = starts_on c.args.session.now (g.S.Source.view c.args.script.now).left (g.H.Host.view c.args.host.now) c.requires.ready (omega arith);
   few = omega arith;
-  script_later = omega arith;
-  host_later = omega arith;
-  disk_later = omega arith;
+  unfailed = nothing_failed (g.S.Source.view c.args.script.now) (g.H.Host.view c.args.host.now);
+  reads = refl;
 }
 
 pub returns-in-Err-clause-runs : goal.returns-in-Err-clause-runs
@@ -53,7 +54,33 @@ reads-preserved g c = record {
   goes = goes_on_read c.args.session.now c.reads.session c.read_once.new.session _ _ _ _ _ _ c.reads.taken _ c.in-Ok.count c.reads.invariant.goes
       c.in-Ok.ensures.ok (omega (arith, c.if-count-room.false));
   few = omega (arith, c.if-count-room.false);
-  script_later = omega (arith, c.reads.invariant.script_later, c.read_once.ensures.script_causes.later);
-  host_later = omega (arith, c.reads.invariant.host_later, c.read_once.ensures.causes.later);
-  disk_later = omega (arith, c.reads.invariant.disk_later, c.read_once.ensures.causes.disk_later);
+  unfailed = nothing_on _ _ _ _ _ _ c.reads.invariant.unfailed c.in-Ok.ensures.unfailed;
+  reads = c.read_once.ensures.reads ∙ c.reads.invariant.reads;
 }
+
+pub returns-in-Err-clause-calls : goal.returns-in-Err-clause-calls
+returns-in-Err-clause-calls g c = calls_behind c.in-Err.status _ _ _ _ _ _ c.reads.invariant.unfailed c.in-Err.ensures.calls
+
+pub returns-in-Ok-finish-clause-calls : goal.returns-in-Ok-finish-clause-calls
+returns-in-Ok-finish-clause-calls g c =
+    let start = g.H.Host.view c.args.host.now in
+    let read = g.H.Host.view c.read_once.new.host in
+    let script = g.S.Source.view c.read_once.new.script in
+    let behind = nothing_on _ _ _ start _ read c.reads.invariant.unfailed c.in-Ok.ensures.unfailed in
+    rw c.end_status.ensures
+    (counted_calls _ _ _ _ _
+    (nothing_on _ _ script start read _ behind (nothing_of_host script read _ c.in-Ok-finish.ensures.causes.ok c.finish.ensures.told)))
+
+pub returns-in-Err-finish-clause-calls : goal.returns-in-Err-finish-clause-calls
+returns-in-Err-finish-clause-calls g c =
+    let start = g.H.Host.view c.args.host.now in
+    let read = g.H.Host.view c.read_once.new.host in
+    let script = g.S.Source.view c.read_once.new.script in
+    let behind = nothing_on _ _ _ start _ read c.reads.invariant.unfailed c.in-Ok.ensures.unfailed in
+    rw c.stop_status.ensures
+    (calls_behind _ _ script script start read _ behind (stop_calls c.in-Err-finish.stop script read _ c.in-Err-finish.ensures.causes.stopped c.finish.ensures.told))
+
+pub returns-then-count-room-clause-calls : goal.returns-then-count-room-clause-calls
+returns-then-count-room-clause-calls g c =
+    unfailed_calls ScriptTooLong _ _ _ _ (λ is. cc) (λ is. cc) (λ is. cc)
+    (nothing_on _ _ _ _ _ _ c.reads.invariant.unfailed c.in-Ok.ensures.unfailed)

@@ -1,8 +1,8 @@
 use Rattle.std.proofs.Common.{subst, sym, ap, ◌∙◌, is_some, Option}
 use Rattle.std.proofs.lemmas.Result.{err_from_is_err_and}
 use Rattle.sasi_cells.specs.declared.mutation.Mutation.{Mutation}
-use Rattle.sasi_commitlog.specs.Format.{Tables}
-use Rattle.sasi_commitlog.specs.Reads.{IsLogDamageAt, NoFalseLogDamage, ReadsLogGate, ReadsMutations}
+use Rattle.sasi_commitlog.specs.Format.{IsMutationOf, Tables}
+use Rattle.sasi_commitlog.specs.Reads.{IsLogDamageAt, IsReadOf, NoFalseLogDamage, ReadsLogGate, ReadsMutations}
 use Rattle.sasi_run.specs.Replaying.{after_read}
 use Rattle.sasi_run.proofs.replay.merge_next.Goals as goal
 
@@ -60,3 +60,8 @@ returns-in-None-clause-merged g c =
       fits = read.fits;
       room = λ none. read.room c.in-None.is;
     }
+
+pub merge-requires-clause-known : goal.merge-requires-clause-known
+merge-requires-clause-known g c =
+    subst (λ (t : Tables). IsMutationOf t c.in-Some.mutation) c.requires.types
+    (subst (λ (read : Option Mutation). IsReadOf c.args.types.now read) c.in-Some.is c.in_ok-mutation.ensures.of_tables)

@@ -2,7 +2,7 @@ use Rattle.std.proofs.Common.{arith, refl}
 use Rattle.std.proofs.lemmas.Result.{err_from_is_err_and}
 use Rattle.sasi_host.specs.Disk.{Same}
 use Rattle.sasi_host.specs.ChangeLaws.{stays, then_same}
-use Rattle.sasi_run.proofs.ReplayingAll.{read_all, replayed_all, shown_among, no_false_damage_among}
+use Rattle.sasi_run.proofs.ReplayingAll.{live_once, read_all, replayed_all, shown_among, no_false_damage_among}
 use Rattle.sasi_run.proofs.replay.replay.Goals as goal
 
 pub returns-in_err-types-clause-changes : goal.returns-in_err-types-clause-changes
@@ -32,6 +32,22 @@ returns-clause-replayed g c =
 pub returns-clause-reads : goal.returns-clause-reads
 returns-clause-reads g c =
     read_all (g.H.Host.view c.args.host.now) (g.H.Host.view c.replay_older.new.host) c.args.listing.now c.args.listing.now.last c.replay_older.new.machine c.in_ok-replay_older.ensures.replayed (omega arith) c.replay_segment.new.machine c.in_ok-log.ensures.reads refl c.requires.there
+
+pub returns-in_err-types-clause-once : goal.returns-in_err-types-clause-once
+returns-in_err-types-clause-once g c folder files = omega arith
+
+pub returns-in_err-machine-clause-once : goal.returns-in_err-machine-clause-once
+returns-in_err-machine-clause-once g c folder files = omega arith
+
+pub returns-in_err-log-clause-once : goal.returns-in_err-log-clause-once
+returns-in_err-log-clause-once g c =
+    live_once (g.H.Host.view c.args.host.now) (g.H.Host.view c.replay_older.new.host) c.args.listing.now c.args.listing.now.last c.replay_older.new.machine c.in_ok-replay_older.ensures.replayed (omega arith) (g.H.Host.view c.replay_segment.new.host)
+    c.requires.there c.replay_segment.ensures.once
+
+pub returns-clause-once : goal.returns-clause-once
+returns-clause-once g c =
+    live_once (g.H.Host.view c.args.host.now) (g.H.Host.view c.replay_older.new.host) c.args.listing.now c.args.listing.now.last c.replay_older.new.machine c.in_ok-replay_older.ensures.replayed (omega arith) (g.H.Host.view c.replay_segment.new.host)
+    c.requires.there c.replay_segment.ensures.once
 
 pub returns-clause-changes : goal.returns-clause-changes
 returns-clause-changes g c = then_same _ _ _ Same c.in_ok-replay_older.ensures.replayed.same c.replay_segment.ensures.changes

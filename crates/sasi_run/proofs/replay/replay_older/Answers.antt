@@ -1,10 +1,10 @@
-use Rattle.std.proofs.Common.{◌≡◌, arith, subst, ◌∙◌}
+use Rattle.std.proofs.Common.{Err, ◌≡◌, arith, subst}
 use Rattle.std.proofs.lemmas.Result.{err_from_is_err_and}
 use Rattle.sasi_host.specs.Disk.{Same}
 use Rattle.sasi_host.specs.ChangeLaws.{then_same}
 use Rattle.sasi_run.specs.Replaying.{HasReplayed}
-use Rattle.sasi_run.proofs.ReplayingAll.{none_replayed, replayed_more, shown_among, no_false_damage_among, still_there}
-use Rattle.sasi_run.proofs.ReplayingSegment.{failed_later}
+use Rattle.sasi_run.proofs.ReplayingAll.{live_once, none_replayed, replayed_more, shown_among, no_false_damage_among, still_there}
+use Rattle.sasi_gated.specs.CauseLaws.{reading_behind, reading_handed}
 use Rattle.sasi_run.proofs.replay.replay_older.Goals as goal
 
 pub loop-number-init : goal.loop-number-init
@@ -33,18 +33,26 @@ pub returns-in_err-replay_segment-clause-causes : goal.returns-in_err-replay_seg
 returns-in_err-replay_segment-clause-causes g c =
     let p = err_from_is_err_and c.from_residual.result c.from_residual.ensures.1 in
     let causes = c.in_err-replay_segment.ensures.causes in
-    rw (p.1, p.2) (record { disk = omega (arith, c.loop-number.invariant.disk, causes.disk); out = causes.out ∙ c.loop-number.invariant.out; failed = failed_later _ _ _ c.in_err-replay_segment.field-0.0 c.loop-number.invariant.disk causes.failed })
+    rw (p.1, p.2) (reading_handed _ _ c.in_err-replay_segment.field-0.0 (reading_behind _ _ _ (Err c.in_err-replay_segment.field-0.0) c.loop-number.invariant.disk c.loop-number.invariant.out causes))
+
+pub returns-in_err-replay_segment-clause-once : goal.returns-in_err-replay_segment-clause-once
+returns-in_err-replay_segment-clause-once g c =
+    live_once (g.H.Host.view c.args.host.now) (g.H.Host.view c.loop-number.host) c.args.listing.now c.loop-number.number c.loop-number.machine c.loop-number.invariant (omega (arith, c.loop-number-test.true)) (g.H.Host.view c.replay_segment.new.host)
+    c.requires.there c.in_err-replay_segment.ensures.once
 
 pub loop-number-preserved : goal.loop-number-preserved
 loop-number-preserved g c =
     let segment = c.in_ok-replay_segment.ensures in
     replayed_more (g.H.Host.view c.args.host.now) (g.H.Host.view c.loop-number.host) c.args.listing.now c.loop-number.number c.loop-number.machine c.loop-number.invariant (omega (arith, c.loop-number-test.true)) (g.H.Host.view c.replay_segment.new.host) c.replay_segment.new.machine
-    c.in_ok-replay_segment.field-0.at segment.changes segment.replayed segment.causes.disk segment.causes.out segment.partitioner segment.tables segment.reads
+    c.in_ok-replay_segment.field-0.at segment.changes segment.replayed segment.causes.ok segment.causes.out segment.once segment.partitioner segment.tables segment.reads
 
 pub returns-clause-replayed : goal.returns-clause-replayed
 returns-clause-replayed g c =
     let last : c.loop-number.number ≡ c.args.listing.now.last = omega (arith, c.loop-number-test.false, c.loop-number.auto.number, c.requires.live.ordered) in
     subst (λ n. HasReplayed (g.H.Host.view c.args.host.now) (g.H.Host.view c.loop-number.host) c.args.listing.now n c.loop-number.machine) last c.loop-number.invariant
 
+pub returns-clause-once : goal.returns-clause-once
+returns-clause-once g c folder files = omega (arith, c.loop-number.invariant.reads_left folder files c.requires.there)
+
 pub returns-clause-causes : goal.returns-clause-causes
-returns-clause-causes g c = record { disk = c.loop-number.invariant.disk; out = c.loop-number.invariant.out; failed = tt }
+returns-clause-causes g c = record { disk = omega (arith, c.loop-number.invariant.disk); out = c.loop-number.invariant.out; ok = c.loop-number.invariant.disk; failed = tt; memory = tt; damaged = tt }

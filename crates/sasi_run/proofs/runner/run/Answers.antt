@@ -1,7 +1,9 @@
-use Rattle.std.proofs.Common.{subst}
+use Rattle.std.proofs.Common.{inl, refl, subst}
 use Rattle.sasi_run.specs.declared.store.Store.{Store}
 use Rattle.sasi_run.specs.Crashing.{RunsCrashSafe}
 use Rattle.sasi_run.proofs.Causes.{causes_opened, causes_unopened, causes_unused}
+use Rattle.sasi_run.proofs.FailedCalls.{calls_behind, opened_calls, unopened_calls}
+use Rattle.sasi_run.proofs.ReadsOfOpening.{opening_on}
 use Rattle.sasi_run.proofs.WholeRun.{headline_opened, headline_unopened, headline_unused}
 use Rattle.sasi_run.proofs.runner.run.Goals as goal
 
@@ -21,8 +23,9 @@ pub returns-in-Err-clause-causes : goal.returns-in-Err-clause-causes
 returns-in-Err-clause-causes g c =
     rw c.fault_status.ensures
     (causes_unopened _ c.in-Err.fault (g.S.Source.view c.args.script.now) (g.H.Host.view c.args.host.now) (g.H.Host.view c.open.new.host)
-    (c.in-Some.field-0, c.in-Some.ensures.some) c.open.ensures.changes.emitted
-    c.in-Err.ensures.causes.failed c.in-Err.ensures.damaged c.in-Err.ensures.undamaged)
+    (c.in-Some.field-0, c.in-Some.ensures.some) c.open.ensures.changes.emitted c.open.ensures.changes.emits
+    (unopened_calls c.in-Err.fault (g.S.Source.view c.args.script.now) _ _ c.in-Err.ensures.causes c.open.ensures.changes.told)
+    c.in-Err.ensures.damaged c.in-Err.ensures.undamaged)
 
 pub returns-in-Ok-clause-headline : goal.returns-in-Ok-clause-headline
 returns-in-Ok-clause-headline g c =
@@ -44,5 +47,19 @@ returns-in-Ok-clause-causes g c =
     c.new-session.ensures.store e.runs in
     causes_opened _ c.run_script.result (g.S.Source.view c.args.script.now) (g.S.Source.view c.run_script.new.script)
     (g.H.Host.view c.args.host.now) (g.H.Host.view c.open.new.host) (g.H.Host.view c.run_script.new.host) c.in-Ok.store
-    (c.in-Some.field-0, c.in-Some.ensures.some) c.open.ensures.causes.disk c.open.ensures.causes.out c.in-Ok.ensures.stands on
-    e.script_fault e.output_fault e.folder_fault e.words e.undamaged
+    (c.in-Some.field-0, c.in-Some.ensures.some) c.in-Ok.ensures.stands
+    (λ folder s files stands. (c.in-Ok.ensures.durable folder s files stands).1) c.open.ensures.changes.emitted c.open.ensures.changes.emits on
+    (calls_behind c.run_script.result (g.S.Source.view c.args.script.now) (g.S.Source.view c.args.script.now) _ _ (g.H.Host.view c.open.new.host) _
+    (opened_calls c.in-Ok.store _ _ _ c.in-Ok.ensures.causes c.open.ensures.changes.told) e.calls)
+    e.words e.undamaged
+
+-- ---- how often it reads the host
+
+pub returns-in-None-clause-reads : goal.returns-in-None-clause-reads
+returns-in-None-clause-reads g c folder files = inl refl
+
+pub returns-in-Err-clause-reads : goal.returns-in-Err-clause-reads
+returns-in-Err-clause-reads g c = c.open.ensures.once
+
+pub returns-in-Ok-clause-reads : goal.returns-in-Ok-clause-reads
+returns-in-Ok-clause-reads g c folder files = opening_on folder _ _ _ c.run_script.ensures.reads (c.open.ensures.once folder files)

@@ -1,3 +1,4 @@
+use Rattle.std.proofs.Common.{arith}
 use Rattle.sasi_run.specs.declared.unlisted_files.Keep.TheVariants.{Store}
 use Rattle.sasi_run.specs.Deletion.{keeps}
 use Rattle.sasi_run.specs.SealedFolder.{none_kept}
@@ -49,6 +50,12 @@ returns-clause-changes g c =
     let kept = keeps (Store c.args.number c.listing.result.now.floor c.listing-2.result.now.last) in
     deletes_any a now kept
     (then_deletes a (g.H.Host.view c.read_listed.new.host) now kept c.read_listed.ensures.changes c.delete_unlisted.ensures.changes)
+
+pub returns-in_err-delete_unlisted-clause-once : goal.returns-in_err-delete_unlisted-clause-once
+returns-in_err-delete_unlisted-clause-once g c told = omega (arith, c.delete_unlisted.ensures.causes.reads, c.read_listed.ensures.once told)
+
+pub returns-clause-once : goal.returns-clause-once
+returns-clause-once g c told = omega (arith, c.delete_unlisted.ensures.causes.reads, c.read_listed.ensures.once told)
 
 pub returns-clause-gone : goal.returns-clause-gone
 returns-clause-gone g c = others_gone (g.H.Host.view c.delete_unlisted.new.host) c.args.number c.listing.result.now c.listing-2.result.now

@@ -2,10 +2,12 @@ use Rattle.std.proofs.Common.{subst}
 use Rattle.std.proofs.lemmas.Result.{err_from_is_err_and}
 use Rattle.sasi_host.specs.declared.name.FileName.{FileName}
 use Rattle.sasi_host.specs.ChangeLaws.{stays}
+use Rattle.sasi_host.specs.Names.{manifest_name}
 use Rattle.sasi_host.specs.View.{IsThere}
 use Rattle.sasi_manifest.specs.declared.listing.Listing.{Listing}
 use Rattle.sasi_run.specs.SealedFolder.{ReportsMissing, ReportsMissingSegment}
 use Rattle.sasi_run.proofs.Damaged.{manifest_missing, manifest_shown, segment_missing}
+use Rattle.sasi_run.proofs.ReadsOfOpening.{once_there}
 use Rattle.sasi_run.proofs.SealedStore.{listed_is_there, manifest_listed, segments_listed, no_false_damage_store}
 use Rattle.sasi_run.proofs.sealed_folder.read_listed.Goals as goal
 
@@ -63,6 +65,27 @@ returns-in_err-check_segments-clause-undamaged g c =
     rw (p.1, p.2)
     (λ folder listing logs files holds. segments_listed (g.H.Host.view c.args.host.now) c.args.names.now c.args.number c.requires folder
     listing logs files holds c.in_ok-manifest.manifest.listing damage c.in_ok-manifest.ensures.ok tells)
+
+pub returns-in_err-manifest-clause-once : goal.returns-in_err-manifest-clause-once
+returns-in_err-manifest-clause-once g c =
+    let a = g.H.Host.view c.args.host.now in
+    let there = subst (λ (f : FileName). IsThere a f) c.manifest.ensures
+    (listed_is_there a c.args.names.now c.manifest.result c.requires c.in_ok-check_there.ensures.there) in
+    once_there a (g.H.Host.view c.open.new.host) (manifest_name c.args.number) there c.open.ensures.reads
+
+pub returns-in_err-check_segments-clause-once : goal.returns-in_err-check_segments-clause-once
+returns-in_err-check_segments-clause-once g c =
+    let a = g.H.Host.view c.args.host.now in
+    let there = subst (λ (f : FileName). IsThere a f) c.manifest.ensures
+    (listed_is_there a c.args.names.now c.manifest.result c.requires c.in_ok-check_there.ensures.there) in
+    once_there a (g.H.Host.view c.open.new.host) (manifest_name c.args.number) there c.open.ensures.reads
+
+pub returns-clause-once : goal.returns-clause-once
+returns-clause-once g c =
+    let a = g.H.Host.view c.args.host.now in
+    let there = subst (λ (f : FileName). IsThere a f) c.manifest.ensures
+    (listed_is_there a c.args.names.now c.manifest.result c.requires c.in_ok-check_there.ensures.there) in
+    once_there a (g.H.Host.view c.open.new.host) (manifest_name c.args.number) there c.open.ensures.reads
 
 pub returns-clause-there : goal.returns-clause-there
 returns-clause-there g c = subst (λ (f : FileName). IsThere (g.H.Host.view c.args.host.now) f) c.manifest.ensures

@@ -1,6 +1,8 @@
 use Rattle.std.proofs.Common.{refl, arith}
 use Rattle.std.proofs.lemmas.Result.{err_from_is_err_and, on_ok_weaker, IfErr-weaker}
 use Rattle.sasi_run.specs.declared.session.Session.{Session}
+use Rattle.sasi_host.specs.FailingLaws.{told_none}
+use Rattle.sasi_run.proofs.FailedCalls.{none_failed}
 use Rattle.sasi_run.proofs.Answering.{feeds_no_end_crash_safe, feeds_answer_crash_safe, stops_before_on, stops_at_on}
 use Rattle.sasi_run.proofs.session.feed_byte.Goals as goal
 
@@ -27,3 +29,17 @@ returns-in-None-clause-ok g c =
     let s = c.args.session.now in
     let stand : Session = record { alloc = s.alloc; store = s.store; splitter = c.push.new.self; reply = s.reply; refused = s.refused } in
     feeds_no_end_crash_safe s stand (g.H.Host.view c.args.host.now) _ c.requires.ready (omega arith) (rw c.in-None.is at c.in_ok-end.ensures) refl refl
+
+pub returns-in_err-end-clause-causes : goal.returns-in_err-end-clause-causes
+returns-in_err-end-clause-causes g c =
+    let p = err_from_is_err_and c.from_residual.result c.from_residual.ensures.1 in
+    rw (p.1, p.2) (record { ok = tt; stopped = none_failed (g.H.Host.view c.args.host.now) })
+
+pub returns-in_err-end-clause-told : goal.returns-in_err-end-clause-told
+returns-in_err-end-clause-told g c = told_none (g.H.Host.view c.args.host.now)
+
+pub returns-in-None-clause-causes : goal.returns-in-None-clause-causes
+returns-in-None-clause-causes g c = record { ok = none_failed (g.H.Host.view c.args.host.now); stopped = tt }
+
+pub returns-in-None-clause-told : goal.returns-in-None-clause-told
+returns-in-None-clause-told g c = told_none (g.H.Host.view c.args.host.now)

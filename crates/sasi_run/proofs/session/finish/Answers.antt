@@ -2,6 +2,8 @@ use Rattle.std.proofs.Common.{ap, arith, refl}
 use Rattle.std.proofs.lemmas.Result.{on_ok_weaker}
 use Rattle.sasi_model.specs.Pieces.{Pieces}
 use Rattle.sasi_run.specs.declared.session.Session.{Session}
+use Rattle.sasi_host.specs.FailingLaws.{told_none}
+use Rattle.sasi_run.proofs.FailedCalls.{none_failed}
 use Rattle.sasi_run.proofs.Answering.{finishes_answer, finishes_nothing}
 use Rattle.sasi_run.proofs.session.finish.Goals as goal
 
@@ -17,3 +19,9 @@ returns-in-Some-clause-ok g c =
     let stand : Session = record { alloc = s.alloc; store = s.store; splitter = c.end.new.self; reply = s.reply; refused = s.refused } in
     on_ok_weaker c.answer.result
     (finishes_answer s stand c.answer.new.session _ _ _ (ap (λ (p : Pieces). p.last) c.in-Some.ensures) refl refl) c.answer.ensures.ok
+
+pub returns-in-None-clause-causes : goal.returns-in-None-clause-causes
+returns-in-None-clause-causes g c = record { ok = none_failed (g.H.Host.view c.args.host.now); stopped = tt }
+
+pub returns-in-None-clause-told : goal.returns-in-None-clause-told
+returns-in-None-clause-told g c = told_none (g.H.Host.view c.args.host.now)

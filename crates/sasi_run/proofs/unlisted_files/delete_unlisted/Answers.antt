@@ -12,7 +12,7 @@ loop-name-init g c = record {
   deletes = deletes_none (g.H.Host.view c.args.host.now) (keeps c.args.keep);
   gone = λ k d below. absurd (omega (arith, below));
   left = all_left (g.H.Host.view c.args.host.now) c.args.names.now c.requires.lists c.requires.sorted;
-  disk = omega arith;
+  disk = search rules;
   out = search rules;
   reads = search rules;
 }
@@ -37,7 +37,7 @@ loop-name-preserved g c =
           c.loop-name-test.true refl c.loop-name.invariant.gone c.in_ok-delete_unless_kept.ensures.gone;
       left = left_more before now (keeps c.args.keep) _ c.delete_unless_kept.ensures.changes c.args.names.now c.loop-name.name-index _
           c.loop-name-test.true refl c.loop-name.invariant.left;
-      disk = omega (arith, c.delete_unless_kept.ensures.causes.disk);
+      disk = c.in_ok-delete_unless_kept.ensures.causes.ok ∙ c.loop-name.invariant.disk;
       out = c.delete_unless_kept.ensures.causes.out ∙ c.loop-name.invariant.out;
       reads = c.delete_unless_kept.ensures.causes.reads ∙ c.loop-name.invariant.reads;
     }

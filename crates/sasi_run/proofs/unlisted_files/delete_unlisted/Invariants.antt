@@ -1,4 +1,4 @@
-use Rattle.std.proofs.Common.{◌≡◌, ◌≤◌, All, drop, take, false}
+use Rattle.std.proofs.Common.{◌≡◌, All, drop, take, false}
 use Rattle.sasi_host.specs.View.{IsAbsent}
 use Rattle.sasi_host.specs.Disk.{Changes}
 use Rattle.sasi_run.specs.Deletion.{Deletes, keeps}
@@ -11,7 +11,7 @@ invariant-loop-name g l = record {
   deletes : Changes (Deletes (keeps l.keep)) (g.H.Host.view l.fn.host) (g.H.Host.view l.host);
   gone : All (λ name. keeps l.keep name ≡ false → IsAbsent (g.H.Host.view l.host) name) (take l.name-index l.names);
   left : AreLeft (g.H.Host.view l.host) (drop l.name-index l.names);
-  disk : (g.H.Host.view l.fn.host).disk_faults ≤ (g.H.Host.view l.host).disk_faults;
+  disk : (g.H.Host.view l.host).disk_faults ≡ (g.H.Host.view l.fn.host).disk_faults;
   out : (g.H.Host.view l.host).out_faults ≡ (g.H.Host.view l.fn.host).out_faults;
   reads : (g.H.Host.view l.host).reads ≡ (g.H.Host.view l.fn.host).reads;
 }

@@ -1,5 +1,5 @@
 use Rattle.std.proofs.Common.{sym, ap, not, Some, ◌∙◌}
-use Rattle.sasi_model.specs.Refusals.{NoColumn}
+use Rattle.sasi_model.specs.Abbreviations.{NoColumn}
 use Rattle.sasi_schema.proofs.Keys.{key_past, key_here}
 use Rattle.sasi_schema.proofs.check.check_keys.Goals as goal
 

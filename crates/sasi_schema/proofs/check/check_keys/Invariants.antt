@@ -1,5 +1,5 @@
 use Rattle.std.proofs.Common.{◌≡◌, drop}
-use Rattle.sasi_model.specs.Refusals.{first_of}
+use Rattle.sasi_model.specs.Abbreviations.{first_of}
 use Rattle.sasi_schema.specs.Checks.{key_rules}
 use Rattle.sasi_schema.proofs.check.check_keys.Given as goal
 

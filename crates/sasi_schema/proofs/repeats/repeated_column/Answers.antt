@@ -1,5 +1,5 @@
 use Rattle.std.proofs.Common.{map, sym, ap, ◌∙◌, Some}
-use Rattle.sasi_model.specs.Refusals.{ColumnRepeated}
+use Rattle.sasi_model.specs.Abbreviations.{ColumnRepeated}
 use Rattle.sasi_schema.proofs.Repeated.{repeat_past, repeat_here, seen_more, was_new, was_old, name_at, names_inside}
 use Rattle.sasi_schema.proofs.repeats.repeated_column.Goals as goal
 

@@ -3,7 +3,8 @@ use Rattle.std.specs.List.{list_any}
 use Rattle.std.specs.BTreeSet.{contains}
 use Rattle.sasi_types.specs.Key.{key_cmp}
 use Rattle.sasi_model.specs.Statements.{same}
-use Rattle.sasi_model.specs.Refusals.{first_of, repeat_rules}
+use Rattle.sasi_model.specs.Refusals.{repeat_rules}
+use Rattle.sasi_model.specs.Abbreviations.{first_of}
 use Rattle.sasi_schema.proofs.repeats.repeated_column.Given as goal
 
 -- the set has the names so far, of which none stands twice

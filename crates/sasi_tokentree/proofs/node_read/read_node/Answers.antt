@@ -6,7 +6,7 @@ use Rattle.sasi_tokentree.specs.Damages.{Node}
 use Rattle.sasi_tokentree.proofs.EntryPages.{node_pages}
 use Rattle.sasi_tokentree.specs.Reads.{IsInNode}
 use Rattle.sasi_tokentree.proofs.NodeReads.{node_is, node_head, early_spares, early_shown, node_shown}
-use Rattle.sasi_tokentree.proofs.Seeks.{damage_reads, ok_reads, reads_within}
+use Rattle.sasi_host.specs.CauseLaws.{damage_reads, ok_reads, reads_within}
 use Rattle.sasi_tokentree.proofs.node_read.read_node.Goals as goal
 
 pub returns-in_err-read_into-clause-undamaged : goal.returns-in_err-read_into-clause-undamaged
@@ -55,10 +55,10 @@ returns-in_err-read_into-clause-causes g c =
 pub returns-in_err-check_header-clause-causes : goal.returns-in_err-check_header-clause-causes
 returns-in_err-check_header-clause-causes g c =
     let p = err_from_is_err_and c.from_residual-in_err-check_header.result c.from_residual-in_err-check_header.ensures.1 in
-    rw (p.1, p.2) (damage_reads _ _ _ 2 c.read_into.result c.in_err-check_header.field-0.0
-    (node_pages c.args.buffered.now.page c.args.at (length c.args.out.now) (omega (arith, c.requires.whole))) c.read_into.ensures.causes)
+    rw (p.1, p.2) (damage_reads _ _ _ 2 _ c.in_err-check_header.field-0.0
+    (node_pages c.args.buffered.now.page c.args.at (length c.args.out.now) (omega (arith, c.requires.whole))) c.in_ok-read_into.ensures.causes)
 
 pub returns-clause-causes : goal.returns-clause-causes
 returns-clause-causes g c =
-    ok_reads _ _ 2 c.read_into.result _ (reads_within _ _ _ 2 c.read_into.result
-    (node_pages c.args.buffered.now.page c.args.at (length c.args.out.now) (omega (arith, c.requires.whole))) c.read_into.ensures.causes)
+    ok_reads _ _ 2 _ _ (reads_within _ _ _ 2 _
+    (node_pages c.args.buffered.now.page c.args.at (length c.args.out.now) (omega (arith, c.requires.whole))) c.in_ok-read_into.ensures.causes)

@@ -1,16 +1,14 @@
-use Rattle.std.proofs.Common.{◌+◌, ◌*◌, ◌∙◌, subst, arith, inr, ⊎_elim, Err}
+use Rattle.std.proofs.Common.{Ok, ◌+◌, ◌*◌, subst, arith, Err}
 use Rattle.std.proofs.lemmas.Result.{err_from_is_err_and}
 use Rattle.sasi_host.specs.PageReading.{reads_nothing, reads_then}
-use Rattle.sasi_host.specs.Disk.{Same}
 use Rattle.sasi_host.specs.declared.name.FileName.{FileName}
 use Rattle.sasi_host.specs.Damages.{DamageShown, TellsSize}
-use Rattle.sasi_host.specs.ChangeLaws.{stays, then_same}
 use Rattle.sasi_tokentree.specs.Damages.{IsNodeOf}
 use Rattle.sasi_tokentree.specs.Heights.{height}
 use Rattle.sasi_tokentree.proofs.EntryPages.{entry_pages}
 use Rattle.sasi_tokentree.specs.Scans.{pair_place}
 use Rattle.sasi_tokentree.proofs.AfterRead.{reads_still, shown_still}
-use Rattle.sasi_tokentree.proofs.Seeks.{reads_on, ok_reads}
+use Rattle.sasi_host.specs.CauseLaws.{reads_on, ok_reads}
 use Rattle.sasi_tokentree.proofs.LeafPairs.{long_spares, long_shown, leaves_shown, gave_entry, level_spares, tree_spares_before, tree_stands_at, count_is, no_pairs, takes_none}
 use Rattle.sasi_tokentree.proofs.pair_scan.first_from.Goals as goal
 
@@ -72,14 +70,14 @@ pub returns-in_err-found-clause-causes : goal.returns-in_err-found-clause-causes
 returns-in_err-found-clause-causes g c most le =
     let p = err_from_is_err_and c.from_residual-in_err-found.result c.from_residual-in_err-found.ensures.1 in
     let two = entry_pages c.count_below.new.buffered.page (pair_place c.args.tree c.in_ok-below.below.count) in
-    rw (p.1, p.2) (reads_on _ _ _ (2 * height most c.args.tree.pairs) _ (2 * height most c.args.tree.pairs + 2) c.count_below.result
-    (Err c.in_err-found.field-0.0) (omega (arith, two)) (c.count_below.ensures.causes most le) c.in_err-found.ensures.causes)
+    rw (p.1, p.2) (reads_on _ _ _ (2 * height most c.args.tree.pairs) _ (2 * height most c.args.tree.pairs + 2) c.in_ok-below.below
+    (Err c.in_err-found.field-0.0) (omega (arith, two)) (c.in_ok-below.ensures.causes most le) c.in_err-found.ensures.causes)
 
 pub returns-clause-causes : goal.returns-clause-causes
 returns-clause-causes g c most le =
     let two = entry_pages c.count_below.new.buffered.page (pair_place c.args.tree c.in_ok-below.below.count) in
-    ok_reads _ _ _ c.pair_from.result _ (reads_on _ _ _ (2 * height most c.args.tree.pairs) _ (2 * height most c.args.tree.pairs + 2)
-    c.count_below.result c.pair_from.result (omega (arith, two)) (c.count_below.ensures.causes most le) c.pair_from.ensures.causes)
+    ok_reads _ _ _ c.in_ok-found.found _ (reads_on _ _ _ (2 * height most c.args.tree.pairs) _ (2 * height most c.args.tree.pairs + 2)
+    c.in_ok-below.below (Ok c.in_ok-found.found) (omega (arith, two)) (c.in_ok-below.ensures.causes most le) c.in_ok-found.ensures.causes)
 
 pub returns-then-tree-eq0-clause-read : goal.returns-then-tree-eq0-clause-read
 returns-then-tree-eq0-clause-read g c = reads_nothing _ _ _ _ c.requires.read.agrees c.requires.read.buffered

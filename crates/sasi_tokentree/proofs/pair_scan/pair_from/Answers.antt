@@ -3,8 +3,7 @@ use Rattle.std.proofs.lemmas.Result.{err_from_is_err_and}
 use Rattle.sasi_host.specs.PageReading.{reads_nothing}
 use Rattle.sasi_host.specs.declared.name.FileName.{FileName}
 use Rattle.sasi_host.specs.Damages.{DamageShown, TellsSize}
-use Rattle.sasi_host.specs.ChangeLaws.{stays}
-use Rattle.sasi_tokentree.proofs.Seeks.{fault_reads, ok_reads}
+use Rattle.sasi_host.specs.CauseLaws.{fault_reads, ok_reads}
 use Rattle.sasi_tokentree.proofs.LeafPairs.{long_spares, long_shown, pair_spares, pair_shown, gives_entry, near_entry, tree_stands_at, count_is, takes_pair, takes_none}
 use Rattle.sasi_tokentree.proofs.pair_scan.pair_from.Goals as goal
 
@@ -54,10 +53,10 @@ returns-clause-entry_buffered g c = near_entry c.read_pair.new.buffered.page c.a
 pub returns-in_err-pair-clause-causes : goal.returns-in_err-pair-clause-causes
 returns-in_err-pair-clause-causes g c =
     let p = err_from_is_err_and c.from_residual.result c.from_residual.ensures.1 in
-    rw (p.1, p.2) (fault_reads _ _ _ c.in_err-pair.field-0.0 (rw c.start_of.ensures.is at c.in_err-pair.ensures.causes))
+    rw (p.1, p.2) (fault_reads _ _ _ _ c.in_err-pair.field-0.0 (omega arith) (rw c.start_of.ensures.is at c.in_err-pair.ensures.causes))
 
 pub returns-clause-causes : goal.returns-clause-causes
-returns-clause-causes g c = ok_reads _ _ _ c.read_pair.result _ (rw c.start_of.ensures.is at c.read_pair.ensures.causes)
+returns-clause-causes g c = ok_reads _ _ _ c.in_ok-pair.pair _ (rw c.start_of.ensures.is at c.in_ok-pair.ensures.causes)
 
 pub returns-then-passed-tree-clause-read : goal.returns-then-passed-tree-clause-read
 returns-then-passed-tree-clause-read g c = reads_nothing _ _ _ _ c.requires.read.agrees c.requires.read.buffered

@@ -1,8 +1,6 @@
-use Rattle.std.proofs.Common.{◌≡◌, ℕ, ◌+◌, ◌-◌, ◌<◌, Ok, Err, ◌∙◌, subst, arith, inr, ⊎_elim}
+use Rattle.std.proofs.Common.{◌≡◌, ℕ, ◌+◌, ◌-◌, ◌<◌, Ok, Err, subst, arith}
 use Rattle.std.proofs.lemmas.Result.{err_from_is_err_and}
 use Rattle.sasi_host.specs.PageReading.{reads_then}
-use Rattle.sasi_host.specs.Disk.{Same}
-use Rattle.sasi_host.specs.ChangeLaws.{then_same}
 use Rattle.sasi_tokentree.specs.Format.{above}
 use Rattle.sasi_tokentree.specs.Reads.{IsLowerBound}
 use Rattle.sasi_tokentree.specs.Damages.{IsNodeFrom}
@@ -10,7 +8,8 @@ use Rattle.sasi_tokentree.specs.Damages.IsNodeFrom.{of_above}
 use Rattle.sasi_tokentree.proofs.AfterRead.{reads_still, shown_still}
 use Rattle.sasi_tokentree.proofs.NodeReads.{shown_more, node_of_one}
 use Rattle.sasi_tokentree.proofs.StoredLevels.{stands_one, none_below, below_in}
-use Rattle.sasi_tokentree.proofs.Seeks.{spares_one, spares_up, spares_before, up, up_length, one_level_reads, above_reads, more_level_reads, ok_reads, reads_within}
+use Rattle.sasi_host.specs.CauseLaws.{ok_reads, reads_within}
+use Rattle.sasi_tokentree.proofs.Seeks.{spares_one, spares_up, spares_before, up, up_length, one_level_reads, above_reads, more_level_reads}
 use Rattle.sasi_tokentree.proofs.seek.+count_below.Goals as goal
 
 pub returns-in_err-below-clause-undamaged : goal.returns-in_err-below-clause-undamaged
@@ -63,7 +62,7 @@ returns-then-above-eq0-clause-ok g t c bytes entries is stands long =
 
 pub returns-then-above-eq0-clause-causes : goal.returns-then-above-eq0-clause-causes
 returns-then-above-eq0-clause-causes g t c most le =
-    ok_reads _ _ _ (Ok c.in_ok-above.above) _ (above_reads _ _ most c.args.count (Ok c.in_ok-above.above) (omega arith) le (rw c.node_count.ensures at c.in_ok-above.ensures.causes))
+    ok_reads _ _ _ c.in_ok-above.above _ (above_reads _ _ most c.args.count (Ok c.in_ok-above.above) (omega arith) le (rw c.node_count.ensures at c.in_ok-above.ensures.causes))
 
 pub returns-in_err-below-2-clause-damaged : goal.returns-in_err-below-2-clause-damaged
 returns-in_err-below-2-clause-damaged g t c =
@@ -80,7 +79,7 @@ returns-in_err-below-2-clause-undamaged g t c =
 pub returns-in_err-below-2-clause-causes : goal.returns-in_err-below-2-clause-causes
 returns-in_err-below-2-clause-causes g t c most le =
     let p = err_from_is_err_and c.from_residual-in_err-below-2.result c.from_residual-in_err-below-2.ensures.1 in
-    rw (p.1, p.2) (more_level_reads _ _ _ most c.args.count (Ok c.in_ok-above.above) (Err c.in_err-below-2.field-0.0) (omega arith) le
+    rw (p.1, p.2) (more_level_reads _ _ _ most c.args.count c.in_ok-above.above (Err c.in_err-below-2.field-0.0) (omega arith) le
     (rw c.node_count.ensures at c.in_ok-above.ensures.causes) c.in_err-below-2.ensures.causes)
 
 pub returns-clause-ok : goal.returns-clause-ok
@@ -95,7 +94,7 @@ returns-clause-ok g t c bytes entries is stands long =
 
 pub returns-clause-causes : goal.returns-clause-causes
 returns-clause-causes g t c most le =
-    ok_reads _ _ _ (Ok c.in_ok-below-2.below) _ (more_level_reads _ _ _ most c.args.count (Ok c.in_ok-above.above) (Ok c.in_ok-below-2.below)
+    ok_reads _ _ _ c.in_ok-below-2.below _ (more_level_reads _ _ _ most c.args.count c.in_ok-above.above (Ok c.in_ok-below-2.below)
     (omega arith) le (rw c.node_count.ensures at c.in_ok-above.ensures.causes) c.in_ok-below-2.ensures.causes)
 
 pub returns-in_err-below-2-clause-read : goal.returns-in_err-below-2-clause-read

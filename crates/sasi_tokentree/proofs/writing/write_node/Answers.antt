@@ -14,4 +14,4 @@ returns-clause-changes g c = changes_past_torn _ _ c.args.file c.args.at _ c.wri
 pub returns-clause-ok : goal.returns-clause-ok
 returns-clause-ok g c =
     writes_once _ _ c.args.file c.args.at _ _ (c.deref.ensures.value ∙ c.in_ok-bytes.ensures.is) c.requires.room c.in_ok-write.ensures.ok c.write.ensures.changes
-    (record { disk = c.in_ok-write.ensures.causes.disk; out = c.in_ok-write.ensures.causes.out; reads = c.in_ok-write.ensures.causes.reads })
+    (record { disk = c.in_ok-write.ensures.causes.ok; out = c.in_ok-write.ensures.causes.out; reads = c.in_ok-write.ensures.causes.reads })

@@ -2,7 +2,8 @@ use Rattle.std.proofs.Common.{◌≡◌, ◌⊎◌, ◌+◌, ◌-◌, ◌/◌, �
 use Rattle.sasi_host.specs.declared.name.FileName.{FileName}
 use Rattle.sasi_host.specs.View.{IsThere, contents}
 use Rattle.sasi_host.specs.Disk.{Changes, Same}
-use Rattle.sasi_host.specs.Buffered.{IsBuffered, unbuffered_pages}
+use Rattle.sasi_host.specs.Buffered.{IsBuffered, reached, unbuffered_pages}
+use Rattle.sasi_host.specs.Sequential.{BeginsBy}
 use Rattle.sasi_host.proofs.buffered.BufferedFile.read_into.Given as goal
 
 abbrev pub invariant-loop-filled : goal.invariant-loop-filled
@@ -16,12 +17,14 @@ invariant-loop-filled g l =
       file : l.self.file ≡ l.fn.self.file;
       page : 0 < l.filled → l.self.page ≡ Some ((l.at + l.filled - 1) / 4096);
       changes : Changes Same (view l.fn.host) (view l.host);
-      disk : (view l.fn.host).disk_faults ≤ (view l.host).disk_faults;
+      disk : (view l.host).disk_faults ≡ (view l.fn.host).disk_faults;
       out : (view l.host).out_faults ≡ (view l.fn.host).out_faults;
       reads : (view l.host).reads + unbuffered_pages l.self.page (l.at + l.filled) (length l.fn.out - l.filled) ≤ (view l.fn.host).reads + unbuffered_pages l.fn.self.page l.at (length l.fn.out);
       is : (bytes : List ℕ) → contents (view l.fn.host) l.fn.self.file ≡ Some bytes → take l.filled l.out ≡ take l.filled (drop l.at bytes);
       within : (bytes : List ℕ) → contents (view l.fn.host) l.fn.self.file ≡ Some bytes → 0 < l.filled → l.at + l.filled ≤ length bytes;
       filled : l.filled ≤ length l.fn.out;
+      begins : BeginsBy l.fn.self.page l.at → BeginsBy l.self.page (l.at + l.filled);
+      once : BeginsBy l.fn.self.page l.at → (view l.host).reads + reached l.fn.self.page ≤ (view l.fn.host).reads + reached l.self.page;
     }
 
 abbrev pub decreases-loop-filled : goal.decreases-loop-filled

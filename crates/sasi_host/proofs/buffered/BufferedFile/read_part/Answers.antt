@@ -1,9 +1,10 @@
-use Rattle.std.proofs.Common.{◌≡◌, ◌+◌, length, ◌∙◌, ap, subst, sym, arith}
+use Rattle.std.proofs.Common.{rules, ◌≡◌, ◌+◌, length, ◌∙◌, ap, subst, sym, arith}
 use Rattle.sasi_host.specs.declared.name.FileName.{FileName}
 use Rattle.sasi_host.specs.Disk.{Same}
 use Rattle.sasi_host.specs.Damages.{DamageShown, ShowsEnd, TellsSize}
 use Rattle.sasi_host.specs.Buffered.{Buffered}
 use Rattle.sasi_host.specs.ChangeLaws.{then_same}
+use Rattle.sasi_host.specs.FailingLaws.{failed_behind}
 use Rattle.sasi_host.proofs.DamageLaws.{shown_before, end_shown}
 use Rattle.sasi_host.proofs.Pages.{page_gives, page_long, reads_on}
 use Rattle.sasi_host.proofs.buffered.BufferedFile.read_part.Goals as goal
@@ -37,3 +38,17 @@ returns-clause-within g c bytes is =
     (c.load_page.ensures.buffered _ bytes c.in_ok-load_page.ensures.page
     (reads_on _ _ c.args.self.now.file _ bytes c.load_page.ensures.changes c.load_page.ensures.file is)) in
     omega (arith, long, c.in-Some.ensures.within)
+
+pub returns-in_default-clause-causes : goal.returns-in_default-clause-causes
+returns-in_default-clause-causes g c =
+    let load = c.in_ok-load_page.ensures.causes in
+    let end = c.unexpected_end.ensures in
+    record {
+      disk = omega (arith, load.disk, end.disk);
+      out = end.out ∙ load.out;
+      reads = search rules;
+      ok = tt;
+      failed = λ is. failed_behind _ _ _ _ load.ok (end.failed is);
+      memory = λ is. absurd (end.memory is);
+      damaged = λ damage is. end.told damage is ∙ load.ok;
+    }

@@ -1,4 +1,4 @@
-use Rattle.std.proofs.Common.{rules, List, ◌≡◌, ◌≤◌, length, refl, sym, ◌∙◌, ap, subst}
+use Rattle.std.proofs.Common.{rules, ◌≡◌, ◌≤◌, length, refl, sym, ◌∙◌, ap, subst}
 use Rattle.std.specs.FinMap.{get, insert}
 use Rattle.sasi_host.specs.declared.call.Call.TheVariants.{Wrote}
 use Rattle.sasi_host.specs.Names.{Bytes, Folder}
@@ -8,19 +8,21 @@ use Rattle.sasi_host.specs.CallLaws.{some_same, stays_on}
 use Rattle.sasi_host.specs.Memory.{seen}
 use Rattle.sasi_host.proofs.Folders.{written_to, overwritten_there}
 use Rattle.sasi_host.proofs.CallChanges.{err_from}
-use Rattle.sasi_host.proofs.HostChanges.{folder_now, still_step, disk_changes, disk_moments, disk_folder}
+use Rattle.sasi_host.proofs.HostChanges.{failed_counts, refused_counts, folder_now, still_step, disk_changes, disk_moments, disk_folder}
 use Rattle.sasi_host.proofs.mem_host_calls.MemHostHost.write.Goals as goal
 
 pub returns-in_err-begin_disk-clause-changes : goal.returns-in_err-begin_disk-clause-changes
 returns-in_err-begin_disk-clause-changes c =
     still_step (seen c.args.self.now) (seen c.begin_disk.new.self) c.args.file (InPlace (Torn c.args.at (length c.args.bytes.now)))
     (stays_on c.args.at (length c.args.bytes.now)) (search rules) (search rules)
+    (failed_counts (seen c.args.self.now) (seen c.begin_disk.new.self) (search rules) (c.begin_disk.ensures.to_fail.0 (search rules)) c.begin_disk.ensures.few)
 
 pub returns-then-is_err-clause-changes : goal.returns-then-is_err-clause-changes
 returns-then-is_err-clause-changes c =
     let same = err_from c.write.result (search rules) c.write.ensures.err in
     still_step (seen c.args.self.now) (seen c.refuse_disk.new.self) c.args.file (InPlace (Torn c.args.at (length c.args.bytes.now)))
     (stays_on c.args.at (length c.args.bytes.now)) (search rules) (search rules)
+    (refused_counts (seen c.args.self.now) (seen c.begin_disk.new.self) (seen c.refuse_disk.new.self) c.write.new.self.start c.write.new.self.calls.items (search rules) (search rules) c.begin_disk.ensures.few c.refuse_disk.ensures.few)
 
 pub returns-clause-moments : goal.returns-clause-moments
 returns-clause-moments c =
@@ -30,7 +32,7 @@ returns-clause-moments c =
 pub returns-clause-changes : goal.returns-clause-changes
 returns-clause-changes c =
     disk_changes (Wrote c.args.file c.args.at c.args.bytes.now) (seen c.args.self.now) (seen c.begin_disk.new.self) c.write.new.self.start c.write.new.self.calls.items
-    c.write.result (search rules) c.write.ensures.ok (search rules) (search rules) refl
+    c.write.result (search rules) c.write.ensures.ok (search rules) (search rules) refl c.begin_disk.ensures.few
 
 pub returns-clause-ok : goal.returns-clause-ok
 returns-clause-ok c = λ old there.

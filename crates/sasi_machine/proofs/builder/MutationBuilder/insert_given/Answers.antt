@@ -1,5 +1,7 @@
 use Rattle.sasi_schema.specs.Defined.{definition}
 use Rattle.sasi_machine.proofs.Accepted.{insert_accepted}
+use Rattle.sasi_schema.proofs.RuleLaws.{answers_exit}
+use Rattle.sasi_machine.specs.Faults.{refusal_of_fault}
 use Rattle.sasi_machine.proofs.builder.MutationBuilder.insert_given.Goals as goal
 
 pub mutation_of_insert-requires-clause-ranges : goal.mutation_of_insert-requires-clause-ranges
@@ -9,3 +11,10 @@ mutation_of_insert-requires-clause-ranges c =
 pub mutation_of_insert-requires-clause-key : goal.mutation_of_insert-requires-clause-key
 mutation_of_insert-requires-clause-key c =
     (insert_accepted (definition c.args.table.now) c.args.self.now.max_timestamp c.args.given c.args.time c.args.table.now.key_is_there (rw c.as_slice.ensures at c.in_ok-time.ensures.answers)).key
+
+pub returns-in_err-time-clause-answers : goal.returns-in_err-time-clause-answers
+returns-in_err-time-clause-answers c =
+    answers_exit refusal_of_fault _ c.from_residual.result c.in_err-time.field-0.0 c.from_residual.ensures.1 (rw c.as_slice.ensures at c.in_err-time.ensures.answers)
+
+pub returns-clause-answers : goal.returns-clause-answers
+returns-clause-answers c = rw c.as_slice.ensures at c.in_ok-time.ensures.answers

@@ -1,5 +1,6 @@
 use Rattle.std.proofs.Common.{◌≡◌, drop}
-use Rattle.sasi_model.specs.Refusals.{first_of, each}
+use Rattle.sasi_model.specs.Refusals.{each}
+use Rattle.sasi_model.specs.Abbreviations.{first_of}
 use Rattle.sasi_schema.specs.Defined.{definition}
 use Rattle.sasi_machine.specs.Rules.{literal_rule}
 use Rattle.sasi_machine.proofs.literal_rule.LiteralRule.check_each.Given as goal

@@ -1,5 +1,5 @@
 use Rattle.std.proofs.Common.{◌≡◌, map, drop}
-use Rattle.sasi_model.specs.Refusals.{first_of}
+use Rattle.sasi_model.specs.Abbreviations.{first_of}
 use Rattle.sasi_schema.specs.Defined.{definition}
 use Rattle.sasi_machine.specs.Rules.{name_rule}
 use Rattle.sasi_machine.proofs.name_rule.NameRule.check_names.Given as goal

@@ -1,6 +1,7 @@
 use Rattle.std.proofs.Common.{◌≡◌, ℕ, List, map, drop}
 use Rattle.sasi_types.specs.declared.literal.Literal.{Literal}
-use Rattle.sasi_model.specs.Refusals.{first_of, Rule}
+use Rattle.sasi_model.specs.Refusals.{Rule}
+use Rattle.sasi_model.specs.Abbreviations.{first_of}
 use Rattle.sasi_schema.specs.Defined.{definition}
 use Rattle.sasi_machine.specs.Rules.{name_rule}
 use Rattle.sasi_machine.proofs.name_rule.NameRule.check_sets.Given as goal

@@ -1,6 +1,6 @@
 use Rattle.std.proofs.Common.{◌+◌, ◌<◌, length, List, ap, sym, ◌∙◌, subst}
 use Rattle.sasi_manifest.specs.ListedDefinition.{ListedDefinition}
-use Rattle.sasi_manifest.specs.Listings.{listed_names}
+use Rattle.sasi_manifest.specs.Abbreviations.{listed_names}
 use Rattle.sasi_manifest.specs.Naming.{IsFree}
 use Rattle.sasi_manifest.proofs.Additions.{in_order_push}
 use Rattle.sasi_manifest.proofs.listed.ListedTables.push.Goals as goal

@@ -1,15 +1,10 @@
 use Rattle.std.proofs.Common.{IsTrue, List, Some, subst, sym}
-use Rattle.sasi_host.specs.Names.{Bytes, manifest_name}
-use Rattle.sasi_host.specs.Disk.{Changes, LeftWith, FileChange}
-use Rattle.sasi_gated.specs.Format.{IsBeforeOrAfter}
 use Rattle.sasi_gated.specs.Reads.{AppendsRecord}
-use Rattle.sasi_gated.specs.Handles.{IsAtEnd}
 use Rattle.sasi_manifest.specs.declared.edit.Edit.{Edit}
-use Rattle.sasi_manifest.specs.declared.listing.Listing.{Listing as AListing}
 use Rattle.sasi_manifest.specs.Consistent.{IsConsistent}
 use Rattle.sasi_manifest.specs.Edits.{AllApply, encoded}
 use Rattle.sasi_manifest.specs.Format.{IsNext}
-use Rattle.sasi_manifest.specs.OpenManifest.{ManifestState, IsEither, ManifestStands}
+use Rattle.sasi_manifest.specs.OpenManifest.{ManifestState, ManifestStands}
 use Rattle.sasi_manifest.proofs.CrashMoments.{ListsEither, appended, lists_either, next_is_open, fault_is_open}
 use Rattle.sasi_manifest.proofs.manifest.Manifest.append.Goals as goal
 

@@ -1,4 +1,4 @@
-use Rattle.std.proofs.Common.{◌<◌, ◌+◌, sym, ap, ◌∙◌, rules}
+use Rattle.std.proofs.Common.{◌<◌, sym, ◌∙◌, rules}
 use Rattle.sasi_schema.specs.Defined.{definitions}
 use Rattle.sasi_schema.proofs.Allowed.{allowed, few_tables}
 use Rattle.sasi_schema.proofs.schema.Schema.prepare_table.Goals as goal

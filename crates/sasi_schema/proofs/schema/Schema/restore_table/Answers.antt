@@ -1,4 +1,4 @@
-use Rattle.std.proofs.Common.{ℕ, List, length, ◌+◌, ap, subst, sym, ◌∙◌}
+use Rattle.std.proofs.Common.{List, length, ◌+◌, ap, sym, ◌∙◌}
 use Rattle.std.proofs.lemmas.List.{length-map}
 use Rattle.sasi_model.specs.State.{Definition}
 use Rattle.sasi_schema.proofs.Rises.{rises_made}

@@ -1,4 +1,4 @@
-use Rattle.std.proofs.Common.{ℕ, ◌∙◌, ap, subst, Err}
+use Rattle.std.proofs.Common.{arith, Ok, ℕ, ◌∙◌, ap, subst, Err}
 use Rattle.std.proofs.lemmas.Result.{err_from_is_err_and}
 use Rattle.sasi_host.specs.View.{ReadsAtMost}
 use Rattle.sasi_host.specs.Damages.{DamageShown}
@@ -7,7 +7,7 @@ use Rattle.sasi_tokentree.specs.declared.pair_scan.ScannedPair.{ScannedPair}
 use Rattle.sasi_tokentree.specs.Damages.{ShowsTree}
 use Rattle.sasi_tokentree.specs.Reads.{NoFalseTreeDamage}
 use Rattle.sasi_tokentree.specs.Scans.{ReadsEntry, ReadsNextPair, PairScan, pair_place}
-use Rattle.sasi_tokentree.proofs.Seeks.{fault_reads, ok_reads}
+use Rattle.sasi_host.specs.CauseLaws.{fault_reads, ok_reads}
 use Rattle.sasi_tokentree.proofs.tree.Tree.next.Goals as goal
 
 pub returns-in_err-found-clause-undamaged : goal.returns-in_err-found-clause-undamaged
@@ -22,15 +22,15 @@ returns-clause-ok g c = subst (λ (h : PairScan). ReadsNextPair (g.H.Host.view c
 pub returns-in_err-found-clause-causes : goal.returns-in_err-found-clause-causes
 returns-in_err-found-clause-causes g c =
     let p = err_from_is_err_and c.from_residual.result c.from_residual.ensures.1 in
-    rw (p.1, p.2) (fault_reads _ _ _ c.in_err-found.field-0.0
+    rw (p.1, p.2) (fault_reads _ _ _ _ c.in_err-found.field-0.0 (omega arith)
     (subst (λ (h : PairScan). ReadsAtMost {T = ScannedPair} (unbuffered_pages h.buffered.page (pair_place h.tree h.passed) 16) (g.H.Host.view c.args.host.now)
     (g.H.Host.view c.pair_from.new.host) (Err c.in_err-found.field-0.0)) c.self.view_is c.in_err-found.ensures.causes))
 
 pub returns-clause-causes : goal.returns-clause-causes
 returns-clause-causes g c =
-    ok_reads _ _ _ c.pair_from.result _
+    ok_reads _ _ _ c.in_ok-found.found _
     (subst (λ (h : PairScan). ReadsAtMost (unbuffered_pages h.buffered.page (pair_place h.tree h.passed) 16) (g.H.Host.view c.args.host.now)
-    (g.H.Host.view c.pair_from.new.host) c.pair_from.result) c.self.view_is c.pair_from.ensures.causes)
+    (g.H.Host.view c.pair_from.new.host) (Ok c.in_ok-found.found)) c.self.view_is c.in_ok-found.ensures.causes)
 
 pub returns-clause-none : goal.returns-clause-none
 returns-clause-none g c is = let same = c.in_ok-found.ensures.none is in ap (λ (h : Buffered). made h c.in_ok-found.found.passed) same.0 ∙ ap (λ (n : ℕ). made c.self.inside.buffered n) same.1 ∙ c.self.view_is

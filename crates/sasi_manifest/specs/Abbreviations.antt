@@ -1,0 +1,61 @@
+-- Short names for parts of the definitions, which contracts and proofs cite.
+use Rattle.std.specs.Prelude.{ℕ, ◌-◌, ◌^◌, nat_le, Bool, not, ◌&&◌, nat_lt, List, [], ◌∷◌, ◌++◌, length, map, Option, None, Some}
+use Rattle.std.specs.List.{list_any, list_all}
+use Rattle.std.specs.Int.{w16, w32}
+use Rattle.std.specs.Option.{option_map_or}
+use Rattle.sasi_types.specs.declared.partitioner.Partitioner.{Partitioner}
+use Rattle.sasi_host.specs.Names.{Bytes}
+use Rattle.sasi_host.specs.declared.damage.FormatRule.TheVariants as rule
+use Rattle.sasi_model.specs.State.{Column}
+use Rattle.sasi_model.specs.Statements.{same}
+use Rattle.sasi_model.specs.Tokens.{is_word_byte}
+use Rattle.sasi_model.specs.Refusals.{names_in}
+use Rattle.sasi_formats.specs.Formats.{Format}
+use Rattle.sasi_formats.specs.Fields.{◌&◌, checked, in_range, number}
+use Rattle.sasi_manifest.specs.declared.listing.Listing.{Listing}
+use Rattle.sasi_manifest.specs.ListedDefinition.{ListedDefinition}
+use Rattle.sasi_manifest.specs.Format.{RecordsLeadTo}
+use Rattle.sasi_manifest.specs.Edits.{name, type}
+
+-- ---- listings
+
+-- the names of the listed tables
+abbrev pub listed_names : List ListedDefinition → List Bytes
+listed_names tables = map (λ t. t.definition.name) tables
+
+-- no tables and no record yet; the header and the closed gate have 17 bytes
+abbrev pub started : Partitioner → ℕ → ℕ → Listing
+started partitioner floor last = record { partitioner = partitioner; floor = floor; last = last; records = 0; length = 17; tables = [] }
+
+-- a table as an edit makes it
+abbrev pub created_table : Bytes → List Column → ℕ → ℕ → ListedDefinition
+created_table name columns key since = record { definition = record { name = name; columns = columns; key = key }; since = since }
+
+abbrev pub with_listed_table : ListedDefinition → Listing → Listing
+with_listed_table table listing = record listing { tables = listing.tables ++ table ∷ [] }
+
+-- the records build up the listing
+abbrev pub Builds : List Bytes → Listing → Type 0
+Builds records listing = RecordsLeadTo None records (Some listing)
+
+-- ---- formats
+
+-- letters, digits and `_`, and none of these
+abbrev pub is_open_name : List Bytes → Bytes → Bool
+is_open_name taken name = list_all is_word_byte name && not (list_any (same name) taken)
+
+-- the position of the key among the columns
+abbrev pub key : List Column → Format ℕ
+key columns = checked rule.Number 2 (λ key. nat_lt key (length columns)) (number w16)
+
+-- a manifest begins with its start, and no other edit is one
+abbrev pub next_tag : Option Listing → ℕ
+next_tag from = option_map_or (λ _. 2) from 1
+
+-- the first and the last live segment of the log
+abbrev pub segments : Format (ℕ × ℕ)
+segments = checked rule.Number 4 (λ s. nat_le s.0 s.1) (in_range w32 1 (2 ^ 32 - 1) & in_range w32 1 (2 ^ 32 - 1))
+
+-- a name that no column before has, and a type
+abbrev pub column : List Column → Format Column
+column before = name (names_in before) & type
