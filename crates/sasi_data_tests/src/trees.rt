@@ -252,3 +252,94 @@ fn cut_tree_is_too_short(rt: HostRuntime) {
     assert!(rt; seek(&rt, &mut cut, tree, 400) == Err(short));
     assert!(rt; cut.reads() == 1);
 }
+
+/// A file of these bytes, with this count of entries at an offset, cut to this size.
+fn cut_host(
+    rt: &impl Abort,
+    alloc: Global,
+    bytes: &[u8],
+    at: usize,
+    count: [u8; 2],
+    size: usize,
+) -> MemHost {
+    let [high, low] = count;
+    let half = changed(rt, alloc, bytes, at, high);
+    let whole = changed(rt, alloc, &half, at.saturating_add(1), low);
+    host_of(rt, alloc, whole.get(..size).expect(rt, "a front"))
+}
+
+// The number of pairs of a tree, and the offset of its root's count.
+type Rooted = (u64, usize);
+
+// One leaf, from 0 to 24.
+const LEAF: Rooted = (1, 2);
+
+// A root of two entries above two leaves, from 4,112 to 4,152.
+const ROOT: Rooted = (256, 4114);
+
+/// With this count of the root's entries, and cut to this size, the tree has this damage.
+fn check_cut(
+    rt: &impl Abort,
+    alloc: Global,
+    (pairs, at): Rooted,
+    count: [u8; 2],
+    size: usize,
+    damage: Damage,
+) {
+    let mut host = MemHost::new(alloc);
+    let tree = write_tree(rt, alloc, &mut host, 0, &pairs_of(rt, alloc, pairs, 2));
+    let bytes = host.bytes(FILE).expect(rt, "a file");
+    let mut cut = cut_host(rt, alloc, bytes, at, count, size);
+    assert!(rt;
+        seek(rt, &mut cut, tree, 400) == Err(damage),
+        "{count:?} in {size}"
+    );
+}
+
+/// The damage of a file that ends here.
+fn short_at(size: usize) -> Damage {
+    let size = size as u64;
+    damage(size, FormatRule::Short, size.to_be_bytes(), 8)
+}
+
+#[test]
+fn wrong_count_is_told_before_a_missing_entry(rt: HostRuntime) {
+    let expected: [(Rooted, [u8; 2], usize); 10] = [
+        (ROOT, [0, 0], 4120),
+        (ROOT, [0, 0], 4151),
+        (ROOT, [1, 0], 4120),
+        (ROOT, [1, 0], 4136),
+        (ROOT, [1, 0], 4151),
+        (ROOT, [0, 3], 4151),
+        (LEAF, [0, 0], 8),
+        (LEAF, [0, 0], 23),
+        (LEAF, [1, 0], 8),
+        (LEAF, [0, 2], 23),
+    ];
+    for (root, count, size) in expected {
+        let [high, low] = count;
+        let seen = [high, low, 0, 0, 0, 0, 0, 0];
+        let wrong = damage(root.1 as u64, FormatRule::Number, seen, 2);
+        check_cut(&rt, rt.alloc(), root, count, size, wrong);
+    }
+}
+
+#[test]
+fn right_count_of_missing_entries_is_too_short(rt: HostRuntime) {
+    for size in 4120..4152 {
+        check_cut(&rt, rt.alloc(), ROOT, [0, 2], size, short_at(size));
+    }
+    for size in 8..24 {
+        check_cut(&rt, rt.alloc(), LEAF, [0, 1], size, short_at(size));
+    }
+}
+
+#[test]
+fn missing_header_is_too_short(rt: HostRuntime) {
+    for size in 4116..4120 {
+        check_cut(&rt, rt.alloc(), ROOT, [0, 0], size, short_at(size));
+    }
+    for size in 4..8 {
+        check_cut(&rt, rt.alloc(), LEAF, [0, 0], size, short_at(size));
+    }
+}

@@ -18,10 +18,11 @@ use Rattle.sasi_tokentree.specs.Sizes.{entry_length}
 use Rattle.sasi_host.proofs.Offsets.{at_ends}
 use Rattle.std.specs.Int.{to_be_bytes, w32}
 use Rattle.sasi_host.specs.Damages.{DamageShown}
-use Rattle.sasi_tokentree.specs.Damages.{ShowsTree}
+use Rattle.sasi_tokentree.specs.Damages.{ShowsTree, ShowsTreeBy, pair_place}
+use Rattle.sasi_tokentree.proofs.AfterRead.{tree_shown_more}
 use Rattle.sasi_host.proofs.DamageLaws.{shown_as}
 use Rattle.sasi_tokentree.specs.Reads.{NoFalseTreeDamage}
-use Rattle.sasi_tokentree.specs.Scans.{ReadsEntry, ReadsNextPair, IsEntryBuffered, StepsToPair, PairScan, pair_place}
+use Rattle.sasi_tokentree.specs.Scans.{ReadsEntry, ReadsNextPair, IsEntryBuffered, StepsToPair, PairScan}
 use Rattle.sasi_body.specs.Body.{body}
 use Rattle.sasi_datawrite.specs.Format.{Content, front, header, key_pairs, partitions}
 use Rattle.sasi_dataread.specs.Opened.{Opened, IsOpenedAs, StandsAt}
@@ -87,11 +88,12 @@ place_spares v w opened before after pair (fault.Damaged damage) takes change no
 
 -- ---- damage of the tree, and of a partition to which it leads
 
-pub tree_shown : (v : View) (opened : Opened) (file : FileName) (tree : TreeRef) (f : ReadFault) → file ≡ opened.file → tree ≡ opened.tree → DamageShown v
-    file (ShowsTree file tree) f → DamageShown v opened.file (ShowsData opened) f
-tree_shown v opened file tree f file_is tree_is shown =
+pub tree_shown : (Alone : ℕ → Type 0) (v : View) (opened : Opened) (file : FileName) (tree : TreeRef) (f : ReadFault) → file ≡ opened.file → tree ≡ opened.tree →
+    DamageShown v file (ShowsTreeBy Alone file tree) f → DamageShown v opened.file (ShowsData opened) f
+tree_shown Alone v opened file tree f file_is tree_is shown =
     shown_as (ShowsTree opened.file opened.tree) (ShowsData opened) v opened.file f (λ bytes damage is shows. in_tree shows)
-    (subst (λ (n : FileName). DamageShown v n (ShowsTree n opened.tree) f) file_is (subst (λ (t : TreeRef). DamageShown v file (ShowsTree file t) f) tree_is shown))
+    (tree_shown_more Alone (λ index. Unit {0}) v opened.file opened.tree f (λ bytes index is alone lt short. tt)
+    (subst (λ (n : FileName). DamageShown v n (ShowsTreeBy Alone n opened.tree) f) file_is (subst (λ (t : TreeRef). DamageShown v file (ShowsTreeBy Alone file t) f) tree_is shown)))
 
 pub entry_of : (v : View) (opened : Opened) (file : FileName) (tree : TreeRef) (passed : ℕ) (found : Option Pair) → file ≡ opened.file → tree ≡
     opened.tree → ReadsEntry v file tree passed found → ReadsEntry v opened.file opened.tree passed found

@@ -26,7 +26,8 @@ use Rattle.sasi_body.specs.Body.{body}
 use Rattle.sasi_tokentree.specs.Format.{pair_at}
 use Rattle.sasi_tokentree.specs.Heights.{height}
 use Rattle.sasi_tokentree.specs.Reads.{CountsBelow}
-use Rattle.sasi_tokentree.specs.Scans.{ReadsEntry, ReadsFirstPair, IsEntryBuffered, StepsToPair, PairScan, pair_place}
+use Rattle.sasi_tokentree.specs.Damages.{pair_place}
+use Rattle.sasi_tokentree.specs.Scans.{ReadsEntry, ReadsFirstPair, IsEntryBuffered, StepsToPair, PairScan}
 use Rattle.sasi_tokentree.proofs.EntryPages.{next_entry_cost}
 use Rattle.sasi_datawrite.specs.Format.{Content, header, key_pairs, pairs_from, partition_bytes, partitions, decorated_key}
 use Rattle.sasi_datawrite.proofs.Laws.{pairs_length}

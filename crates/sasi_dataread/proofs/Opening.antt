@@ -19,7 +19,7 @@ use Rattle.sasi_host.specs.declared.damage.Damage.{Damage}
 use Rattle.sasi_host.specs.declared.damage.FormatRule.TheVariants.{Place}
 use Rattle.sasi_host.specs.Damages.{HasAt, DamageShown, seen_bytes}
 use Rattle.sasi_host.proofs.DamageLaws.{shown_as}
-use Rattle.sasi_tokentree.specs.Scans.{pair_place}
+use Rattle.sasi_tokentree.specs.Damages.{pair_place}
 use Rattle.sasi_dataread.specs.Damages.{ShowsPair, ShowsPartition}
 use Rattle.sasi_dataread.specs.Damages.ShowsPair.{leads_nowhere, in_partition}
 use Rattle.sasi_host.proofs.Offsets.{same_at}

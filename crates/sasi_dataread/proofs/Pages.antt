@@ -7,7 +7,8 @@ use Rattle.sasi_types.specs.declared.tree.TreeRef.{TreeRef}
 use Rattle.sasi_model.specs.Cells.{Partition}
 use Rattle.sasi_host.specs.Names.{Bytes}
 use Rattle.sasi_body.specs.Body.{body}
-use Rattle.sasi_tokentree.specs.Scans.{PairScan, pair_place}
+use Rattle.sasi_tokentree.specs.Damages.{pair_place}
+use Rattle.sasi_tokentree.specs.Scans.{PairScan}
 use Rattle.sasi_datawrite.specs.Format.{Content, front, header, partition_bytes, partitions}
 use Rattle.sasi_datawrite.proofs.Laws.{partition_length}
 use Rattle.sasi_dataread.specs.Opened.{Opened}

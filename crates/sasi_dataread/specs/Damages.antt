@@ -12,8 +12,8 @@ use Rattle.sasi_host.specs.Damages.{HasAt, Differs, ShowsEnd, seen_bytes}
 use Rattle.sasi_body.specs.Body.{body_of}
 use Rattle.sasi_formats.specs.Reader as reader
 use Rattle.sasi_formats.specs.Failures.{FailsWhole, HasOtherLength}
-use Rattle.sasi_tokentree.specs.Damages.{IsNodePlace, ShowsTree}
-use Rattle.sasi_tokentree.specs.Scans.{HasEntry, pair_place}
+use Rattle.sasi_tokentree.specs.Damages.{IsNodePlace, ShowsTree, pair_place}
+use Rattle.sasi_tokentree.specs.Scans.{HasEntry}
 use Rattle.sasi_dataread.specs.Opened.{Opened}
 use Rattle.sasi_dataread.specs.Bodies.{length_prefixed, IsLength, IsPartitionPlace}
 

@@ -3,7 +3,8 @@ use Rattle.std.specs.Prelude.{◌≡◌, ℕ, suc, ◌+◌, ◌*◌, ◌/◌, �
 use Rattle.std.proofs.Common.{ap, arith, sym, ◌∙◌}
 use Rattle.sasi_host.specs.Names.{Bytes}
 use Rattle.sasi_host.specs.Buffered.{Buffered}
-use Rattle.sasi_tokentree.specs.Scans.{PairScan, pair_place}
+use Rattle.sasi_tokentree.specs.Damages.{pair_place}
+use Rattle.sasi_tokentree.specs.Scans.{PairScan}
 use Rattle.sasi_datawrite.specs.Format.{Content, front}
 use Rattle.sasi_dataread.specs.Opened.{Opened}
 use Rattle.sasi_dataread.specs.Scans.{DataScan}

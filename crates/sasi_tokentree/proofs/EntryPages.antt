@@ -5,7 +5,8 @@ use Rattle.std.proofs.lemmas.Bool.Decides.{leb_tells, nat_tests}
 use Rattle.sasi_types.specs.declared.tree.Pair.{Pair}
 use Rattle.sasi_types.specs.declared.tree.TreeRef.{TreeRef}
 use Rattle.sasi_host.specs.Buffered.{pages_of, buffered_at, unbuffered_pages}
-use Rattle.sasi_tokentree.specs.Scans.{PairScan, IsEntryBuffered, pair_place}
+use Rattle.sasi_tokentree.specs.Damages.{pair_place}
+use Rattle.sasi_tokentree.specs.Scans.{PairScan, IsEntryBuffered}
 
 -- a node lies on at most two pages
 pub node_pages : (page : Option ℕ) (at n : ℕ) → n ≤ 4088 → unbuffered_pages page at n ≤ 2

@@ -14,17 +14,18 @@ use Rattle.sasi_host.specs.View.{View, contents}
 use Rattle.sasi_host.specs.Disk.{Changes, Same}
 use Rattle.sasi_host.specs.Damages.{HasAt, ShowsEnd, DamageShown, TellsSize}
 use Rattle.sasi_host.proofs.Offsets.{at_window}
-use Rattle.sasi_host.proofs.DamageLaws.{end_shown}
+use Rattle.sasi_host.proofs.DamageLaws.{end_shown, shown_as}
 use Rattle.sasi_tokentree.specs.Format.{pair_at, entry, node, nodes, size, entries_of_node, above, level_bytes, levels, tree_bytes, HasTree}
 use Rattle.sasi_tokentree.specs.Sizes.{entry_length, node_length, part_length, level_length, one_level, more_levels, first_above_length}
 use Rattle.sasi_tokentree.specs.Heights.{bytes_below_root, none_below_root, more_below_root, top_is}
-use Rattle.sasi_tokentree.specs.Damages.{Node, IsNodeFrom, IsNodeOf, ShownOf, start}
+use Rattle.sasi_tokentree.specs.Damages.{BeginsLeaf, Node, IsNodeFrom, IsNodeOf, ShowsOf, ShownOf, ShowsTreeBy, start, pair_place}
+use Rattle.sasi_tokentree.specs.Damages.ShowsTreeBy.{in_node, in_entry}
 use Rattle.sasi_tokentree.specs.Damages.IsNodeFrom.{of_level, of_above}
-use Rattle.sasi_tokentree.specs.Reads.{HasNode, HasLevels, CountsBelow, NoFalseTreeDamage, NoFalseLevelDamage, NoFalsePairDamage}
-use Rattle.sasi_tokentree.specs.Scans.{ReadsEntry, StepsToPair, pair_place}
+use Rattle.sasi_tokentree.specs.Reads.{HasNode, HasLevels, CountsBelow, IsReached, NoFalseTreeDamage, NoFalseLevelDamage, NoFalsePairDamage}
+use Rattle.sasi_tokentree.specs.Scans.{ReadsEntry, StepsToPair}
 use Rattle.sasi_tokentree.proofs.AfterRead.{reads_still}
 use Rattle.sasi_tokentree.proofs.NodeParts.{from_entry, same_number, pair_fits}
-use Rattle.sasi_tokentree.proofs.NodeReads.{early_shown}
+use Rattle.sasi_tokentree.proofs.NodeReads.{header_ends}
 use Rattle.sasi_tokentree.proofs.StoredLevels.{part_at, stands_node}
 
 -- ---- a pair in its leaf
@@ -171,6 +172,9 @@ tree_fits bytes tree pairs has some short long =
 
 -- ---- damage of a node is damage of the tree
 
+node_in_tree : (Alone : ℕ → Type 0) (v : View) (file : FileName) (tree : TreeRef) (f : ReadFault) → ShownOf (IsNodeOf tree) v file f → DamageShown v file (ShowsTreeBy Alone file tree) f
+node_in_tree Alone v file tree f shown = shown_as (ShowsOf (IsNodeOf tree) file) (ShowsTreeBy Alone file tree) v file f (λ bytes damage is shows. in_node shows) shown
+
 pub long_spares : (v : View) (file : FileName) (tree : TreeRef) (f : ReadFault) →
     ((bytes : Bytes) → contents v file ≡ Some bytes → length bytes ≤ 2 ^ 62) → 0 < tree.pairs → (2 ^ 62 < tree.root) ⊎ (2 ^ 58 < tree.pairs) → NoFalseTreeDamage
     v file tree f
@@ -218,8 +222,8 @@ top_node (suc most) level at count some enough = ⊎_elim
     ))
     (leb_tells count 255)
 
--- a tree that is too long for every file has a node that ends behind each
-long_node : (tree : TreeRef) → 0 < tree.pairs → (2 ^ 62 < tree.root) ⊎ (2 ^ 58 < tree.pairs) → (node : Node) × IsNodeOf tree node × (2 ^ 62 < node.at + (8 + 16 * node.count))
+-- a tree that is too long for every file has a node that begins behind each
+long_node : (tree : TreeRef) → 0 < tree.pairs → (2 ^ 62 < tree.root) ⊎ (2 ^ 58 < tree.pairs) → (node : Node) × IsNodeOf tree node × (2 ^ 62 < node.at)
 long_node tree some long = ⊎_elim
     (λ far. let top = top_node tree.pairs 0 (start tree) tree.pairs some (omega arith) in (top.0, top.1, omega (arith, far, top.2)))
     (λ many. (
@@ -229,25 +233,34 @@ long_node tree some long = ⊎_elim
     ))
     long
 
-pub long_shown : (v : View) (file : FileName) (tree : TreeRef) (f : ReadFault) →
+pub long_shown : (Alone : ℕ → Type 0) (v : View) (file : FileName) (tree : TreeRef) (f : ReadFault) →
     ((bytes : Bytes) → contents v file ≡ Some bytes → length bytes ≤ 2 ^ 62) → 0 < tree.pairs → (2 ^ 62 < tree.root) ⊎ (2 ^ 58 < tree.pairs) → DamageShown v
-    file (TellsSize file) f → ShownOf (IsNodeOf tree) v file f
-long_shown v file tree f short some long told =
+    file (TellsSize file) f → DamageShown v file (ShowsTreeBy Alone file tree) f
+long_shown Alone v file tree f short some long told =
     let long_one = long_node tree some long in
-    let end = long_one.0.at + (8 + 16 * long_one.0.count) in
-    early_shown (IsNodeOf tree) v file end long_one.0 f long_one.1 (omega arith) (end_shown v file end f (λ bytes is. let le = short bytes is in omega (arith, le, long_one.2)) told)
+    let end = long_one.0.at + 8 in
+    node_in_tree Alone v file tree f (header_ends (IsNodeOf tree) v file end long_one.0 f long_one.1 (omega arith)
+    (end_shown v file end f (λ bytes is. let le = short bytes is in omega (arith, le, long_one.2)) told))
 
--- the leaf of a pair ends behind its entry
-pub pair_shown : (v : View) (file : FileName) (tree : TreeRef) (begin index : ℕ) (f : ReadFault) → index < tree.pairs → begin ≡ start tree → DamageShown v
-    file (ShowsEnd (begin + 4088 * (index / 255) + (8 + 16 * (index % 255)) + 16) file) f → ShownOf (IsNodeOf tree) v file f
-pair_shown v file tree begin index f lt is shown =
-    early_shown (IsNodeOf tree) v file (begin + 4088 * (index / 255) + (8 + 16 * (index % 255)) + 16)
-    (record { level = 0; at = start tree + 4088 * (index / 255); count = min (tree.pairs - 255 * (index / 255)) 255 }) f
-    (of_level 0 (start tree) tree.pairs (index / 255) (omega (arith, lt)) refl) (omega (arith, lt, is)) shown
+-- the file ends before a pair that is read alone
+pub pair_shown : (Alone : ℕ → Type 0) (v : View) (file : FileName) (tree : TreeRef) (begin index : ℕ) (f : ReadFault) → Alone index → index < tree.pairs → begin ≡
+    start tree → DamageShown v file (ShowsEnd (begin + 4088 * (index / 255) + (8 + 16 * (index % 255)) + 16) file) f → DamageShown v file
+    (ShowsTreeBy Alone file tree) f
+pair_shown Alone v file tree begin index f alone lt is shown =
+    shown_as (ShowsEnd (begin + 4088 * (index / 255) + (8 + 16 * (index % 255)) + 16) file) (ShowsTreeBy Alone file tree) v file f (λ bytes damage reads ends. in_entry index alone lt
+    (subst (λ (n : ℕ). ShowsEnd (n + 4088 * (index / 255) + (8 + 16 * (index % 255)) + 16) file bytes damage) is ends)) shown
 
-pub leaves_shown : (v : View) (file : FileName) (tree : TreeRef) (begin : ℕ) (f : ReadFault) → begin ≡ start tree → ShownOf
-    (λ n. IsNodeFrom n 0 begin tree.pairs) v file f → ShownOf (IsNodeOf tree) v file f
-leaves_shown v file tree begin f is shown = subst (λ (n : ℕ). ShownOf (λ k. IsNodeFrom k 0 n tree.pairs) v file f) is shown
+pub leaves_shown : (Alone : ℕ → Type 0) (v : View) (file : FileName) (tree : TreeRef) (begin : ℕ) (f : ReadFault) → begin ≡ start tree → ShownOf
+    (λ n. IsNodeFrom n 0 begin tree.pairs) v file f → DamageShown v file (ShowsTreeBy Alone file tree) f
+leaves_shown Alone v file tree begin f is shown = node_in_tree Alone v file tree f (subst (λ (n : ℕ). ShownOf (λ k. IsNodeFrom k 0 n tree.pairs) v file f) is shown)
+
+-- behind a search that ended there, an entry that the file hasn't begins a leaf
+pub begins_leaf : (bytes : Bytes) (tree : TreeRef) (begin count index : ℕ) → begin ≡ start tree → index ≡ count → index < tree.pairs → length bytes < pair_place tree
+    index + 16 → IsReached bytes begin tree.pairs count → BeginsLeaf tree index
+begins_leaf bytes tree begin count index is same lt short reached = ⊎_elim
+    (λ begins. (begins.0, omega (arith, same, begins.1)))
+    (λ ends. absurd (omega (arith, ends, short, is, same)))
+    (reached (omega (arith, lt, same)))
 
 -- ---- the pairs left
 

@@ -33,12 +33,12 @@ head_in file at bytes level count offset wanted damage part other = record {
 }
 
 -- an entry that doesn't come after the one before it
-pub disorder_in : (file : FileName) (at : ℕ) (bytes : Bytes) (level count index n : ℕ) (last pair : Pair) (damage : Damage) → length bytes ≡ 8 + 16 *
-    count → 0 < index → index < count → AreFit (last ∷ pair ∷ [])
+pub disorder_in : (file : FileName) (at : ℕ) (bytes : Bytes) (level count index n : ℕ) (last pair : Pair) (damage : Damage) → HasAt bytes 0
+    (node_header level count) → length bytes ≡ 8 + 16 * count → 0 < index → index < count → AreFit (last ∷ pair ∷ [])
     → HasAt bytes (8 + 16 * (index - 1)) (entry last) → HasAt bytes (8 + 16 * index) (entry pair) → ¬ IsBefore last pair → damage.file ≡ file → damage.at ≡ at + (8 + 16 * index) → damage.rule ≡ Order
     → n ≡ 8 → seen_bytes damage.seen ≡ take n (drop (8 + 16 * index) bytes) → IsInNode file at bytes level count damage
 unfolding entry
-disorder_in file at bytes level count index n last pair damage long some lt fit last_stands pair_stands disorder named place rule eight seen =
+disorder_in file at bytes level count index n last pair damage header long some lt fit last_stands pair_stands disorder named place rule eight seen =
     let next : 8 + 16 * index ≡ 8 + 16 * (index - 1) + length (entry last) = omega (arith, some, entry_length last) in
     let told : take 8 (drop (8 + 16 * index) bytes) ≡ to_be_bytes w64 pair.token = at_window bytes (8 + 16 * index) (to_be_bytes w64 pair.token)
     (first_at bytes (8 + 16 * index) (to_be_bytes w64 pair.token) (to_be_bytes w64 pair.place) pair_stands) in
@@ -48,6 +48,7 @@ disorder_in file at bytes level count index n last pair damage long some lt fit 
       offset_is = place;
       long = λ short. let clash : Order ≡ Short = sym rule ∙ short in absurd (cc);
       breaks = subst (λ (r : FormatRule). NodeBreaks bytes (record { level = level; at = 0; count = count }) r (8 + 16 * index) (seen_bytes damage.seen)) (sym rule) (record {
+        header = header;
         index = index - 1;
         last = last;
         pair = pair;

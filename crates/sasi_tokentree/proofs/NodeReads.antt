@@ -1,6 +1,9 @@
 -- A read gives the node that the file has there, and a fault shows that the file has none.
-use Rattle.std.proofs.Common.{◌≡◌, ℕ, ◌+◌, ◌*◌, ◌<◌, ◌≤◌, List, ◌++◌, length, take, drop, refl, sym, ◌∙◌, ap, subst, min, ◌-◌, ◌≢◌, arith, length-append}
-use Rattle.std.proofs.lemmas.List.{take_at}
+use Rattle.std.proofs.Common.{◌≡◌, ℕ, ◌+◌, ◌*◌, ◌<◌, ◌≤◌, List, [], ◌++◌, length, take, drop, refl, sym, ◌∙◌, ap, subst, min, ◌-◌, ◌≢◌, arith, length-append, length-drop, ⊎_elim, Some}
+use Rattle.std.proofs.lemmas.Bool.Decides.{leb_tells}
+use Rattle.std.proofs.lemmas.List.{append-nil, drop_all, take_all, take_at}
+use borrow.Rule.Slice.PartMut.{put_mid}
+use Rattle.std.specs.List.{flat_map}
 use Rattle.sasi_types.specs.declared.tree.Pair.{Pair}
 use Rattle.sasi_host.specs.declared.name.FileName.{FileName}
 use Rattle.sasi_host.specs.declared.damage.Damage.{Damage}
@@ -9,20 +12,20 @@ use Rattle.sasi_host.specs.declared.damage.FormatRule.TheVariants.{Short, Missin
 use Rattle.sasi_host.specs.declared.fault.ReadFault.{ReadFault}
 use Rattle.sasi_host.specs.declared.fault.ReadFault.TheVariants as fault
 use Rattle.sasi_host.specs.Names.{Bytes}
-use Rattle.sasi_host.specs.View.{View}
-use Rattle.sasi_host.proofs.Offsets.{at_window, differs_in, inner_at}
+use Rattle.sasi_host.specs.View.{View, contents}
+use Rattle.sasi_host.proofs.Offsets.{at_ends, both_at, differs_in, first_at, inner_at, same_at, window_at}
 use Rattle.sasi_host.proofs.DamageLaws.{shown_as}
 use Rattle.sasi_tokentree.specs.Format.{entry, node_header, node}
-use Rattle.sasi_tokentree.specs.Damages.{Node, IsNodeFrom, NodeBreaks, ShowsOf, ShownOf}
+use Rattle.sasi_tokentree.specs.Damages.{Node, IsNodeFrom, EndsWithin, NodeBreaks, ShowsOf, ShownOf}
+use Rattle.sasi_tokentree.specs.Damages.EndsWithin.{in_header, in_entries}
 use Rattle.sasi_tokentree.specs.Damages.IsNodeFrom.{of_level}
 use Rattle.sasi_tokentree.specs.Sizes.{head_length, node_length}
 use Rattle.sasi_tokentree.specs.Reads.{HasNode, IsInNode, NoFalseNodeDamage}
 use Rattle.sasi_host.specs.Damages.{seen_bytes, HasAt, ShowsEnd, DamageShown}
 
--- a read there gives the node
-pub node_is : (bytes out : Bytes) (level at n : ℕ) (entries : List Pair) → HasNode bytes level at entries → n ≡ 8 + 16 * length entries → out ≡ take n (drop at bytes) → out ≡ node level entries
-node_is bytes out level at n entries has size is =
-    is ∙ ap (λ (k : ℕ). take k (drop at bytes)) (size ∙ sym (node_length level entries)) ∙ at_window bytes at (node level entries) has.stands
+-- bytes of its length that stand there are the node
+pub node_is : (bytes out : Bytes) (level at : ℕ) (entries : List Pair) → HasNode bytes level at entries → HasAt bytes at out → length out ≡ 8 + 16 * length entries → out ≡ node level entries
+node_is bytes out level at entries has stands size = same_at bytes at out (node level entries) stands has.stands (size ∙ sym (node_length level entries))
 
 -- the file reaches to its end
 pub node_ends : (bytes : Bytes) (level at : ℕ) (entries : List Pair) → HasNode bytes level at entries → at + (8 + 16 * length entries) ≤ length bytes
@@ -38,15 +41,35 @@ node_ends bytes level at entries has =
     )
 
 -- so no node stands where the file ends before
-pub early_spares : (v : View) (file : FileName) (level at count n : ℕ) (f : ReadFault) → n ≡ 8 + 16 * count → DamageShown v file (ShowsEnd (at + n) file) f → NoFalseNodeDamage v file level at count f
-early_spares v file level at count n fault.Failed size early = tt
-early_spares v file level at count n fault.OutOfMemory size early = tt
-early_spares v file level at count n (fault.Damaged damage) size early = λ bytes entries is has long. let less = (early bytes is).short in omega (arith, less, node_ends bytes level at entries has)
+pub early_spares : (v : View) (file : FileName) (level at count end : ℕ) (f : ReadFault) → end ≤ at + (8 + 16 * count) → DamageShown v file (ShowsEnd end file) f → NoFalseNodeDamage v file level at count f
+early_spares v file level at count end fault.Failed le early = tt
+early_spares v file level at count end fault.OutOfMemory le early = tt
+early_spares v file level at count end (fault.Damaged damage) le early = λ bytes entries is has long. let less = (early bytes is).short in omega (arith, le, less, long, node_ends bytes level at entries has)
 
--- the header that a node begins with
-pub node_head : (out : Bytes) (level count : ℕ) (entries : List Pair) → out ≡ node level entries → length entries ≡ count → take 8 out ≡ node_header level count
+-- a read of its header gives the header that it begins with
+pub node_head : (bytes out : Bytes) (level at count : ℕ) (entries : List Pair) → HasNode bytes level at entries → length entries ≡ count → HasAt bytes at out → length out ≡ 8 → take 8 out ≡ node_header level count
 unfolding node
-node_head out level count entries is long = ap (λ (l : Bytes). take 8 l) is ∙ take_at (node_header level (length entries)) _ 8 (head_length level (length entries)) ∙ ap (λ (k : ℕ). node_header level k) long
+node_head bytes out level at count entries has long stands size =
+    let header : HasAt bytes at (node_header level (length entries)) = first_at bytes at (node_header level (length entries)) (flat_map entry entries) has.stands in
+    take_all 8 out (omega (arith, size)) ∙ same_at bytes at out (node_header level (length entries)) stands header (size ∙ sym (head_length level (length entries)))
+    ∙ ap (λ (k : ℕ). node_header level k) long
+
+-- a buffer's first eight bytes and the bytes behind them, filled one after the other
+pub filled_behind : (header old entries : Bytes) (k : ℕ) → length header ≡ 8 → k ≡ length (header ++ drop 8 old) - 8 → put_mid 8 k (header ++ drop 8 old) entries ≡ header ++ entries
+filled_behind header old entries k eight is =
+    let whole = header ++ drop 8 old in
+    let none : drop k (drop 8 whole) ≡ [] = drop_all k (drop 8 whole) (omega (arith, is, length-drop 8 whole)) in
+    ap (λ (l : Bytes). take 8 whole ++ (entries ++ l)) none ∙ ap (λ (l : Bytes). take 8 whole ++ l) (append-nil entries)
+    ∙ ap (λ (l : Bytes). l ++ entries) (take_at header (drop 8 old) 8 eight)
+
+-- a header and the bytes behind it stand where they were read
+pub both_read : (bytes header entries : Bytes) (at n : ℕ) → HasAt bytes at header → length header ≡ 8 → entries ≡ take n (drop (at + 8) bytes)
+    → (0 < n → at + 8 + n ≤ length bytes) → HasAt bytes at (header ++ entries)
+both_read bytes header entries at n stands eight is within =
+    both_at bytes at (at + 8) header entries stands (omega (arith, eight)) (window_at bytes entries (at + 8) n is (⊎_elim
+    (λ none. omega (arith, none.1, at_ends bytes at header stands, eight))
+    (λ some. within some.1)
+    (leb_tells n 0)))
 
 -- ---- damage of a node
 
@@ -62,6 +85,7 @@ node_in bytes at window level count Number offset seen has long breaks = record 
   differs = differs_in bytes at window offset seen breaks.wanted has breaks.differs;
 }
 node_in bytes at window level count Order offset seen has long breaks = record {
+  header = subst (λ (n : ℕ). HasAt bytes n (node_header level count)) (omega arith) (inner_at bytes at window 0 (node_header level count) has breaks.header);
   index = breaks.index;
   last = breaks.last;
   pair = breaks.pair;
@@ -91,16 +115,28 @@ node_shown file bytes at window level count damage has seen = record {
       (sym seen.offset_is) (node_in bytes at window level count damage.rule seen.offset (seen_bytes damage.seen) has seen.long seen.breaks);
 }
 
--- a file that ends before one of these nodes does breaks it
-pub early_shown : (These : Node → Type 0) (v : View) (file : FileName) (end : ℕ) (node : Node) (f : ReadFault) → These node → end ≤ node.at +
-    (8 + 16 * node.count) → DamageShown v file (ShowsEnd end file) f → ShownOf These v file f
-early_shown These v file end node f is_of le early =
+-- a file that ends within one of these nodes breaks it
+ends_shown : (These : Node → Type 0) (v : View) (file : FileName) (end : ℕ) (node : Node) (f : ReadFault) → These node → ((bytes : Bytes) → contents v file ≡
+    Some bytes → length bytes < end → EndsWithin bytes node) → DamageShown v file (ShowsEnd end file) f → ShownOf These v file f
+ends_shown These v file end node f is_of within early =
     shown_as (ShowsEnd end file) (ShowsOf These file) v file f (λ bytes damage is ends. record {
       named = ends.tells.named;
       node = node;
       is_of = is_of;
-      breaks = subst (λ (r : FormatRule). NodeBreaks bytes node r damage.at (seen_bytes damage.seen)) (sym ends.tells.rule) (omega (arith, ends.short, le), ends.tells.offset_is, ends.tells.seen);
+      breaks = subst (λ (r : FormatRule). NodeBreaks bytes node r damage.at (seen_bytes damage.seen)) (sym ends.tells.rule) (within bytes is ends.short, ends.tells.offset_is, ends.tells.seen);
     }) early
+
+-- within its header
+pub header_ends : (These : Node → Type 0) (v : View) (file : FileName) (end : ℕ) (node : Node) (f : ReadFault) → These node → end ≤ node.at + 8 → DamageShown v
+    file (ShowsEnd end file) f → ShownOf These v file f
+header_ends These v file end node f is_of le early = ends_shown These v file end node f is_of (λ bytes is short. in_header (omega (arith, short, le))) early
+
+-- or within the entries behind a right one
+pub entries_end : (These : Node → Type 0) (v : View) (file : FileName) (end : ℕ) (node : Node) (f : ReadFault) → These node → end ≤ node.at +
+    (8 + 16 * node.count) → ((bytes : Bytes) → contents v file ≡ Some bytes → HasAt bytes node.at (node_header node.level node.count)) → DamageShown v file
+    (ShowsEnd end file) f → ShownOf These v file f
+entries_end These v file end node f is_of le header early =
+    ends_shown These v file end node f is_of (λ bytes is short. in_entries (header bytes is) (omega (arith, short, le))) early
 
 -- damage of some nodes is that of more
 pub shown_more : (These Those : Node → Type 0) (v : View) (file : FileName) (f : ReadFault) → ((node : Node) → These node → Those node) → ShownOf These v file f → ShownOf Those v file f

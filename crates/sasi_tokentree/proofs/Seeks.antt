@@ -1,5 +1,5 @@
 -- A fault at a node is one of the tree; and the cost of one read after another.
-use Rattle.std.proofs.Common.{◌≡◌, ℕ, zero, suc, ◌+◌, ◌-◌, ◌*◌, ◌<◌, ◌≤◌, min, List, length, refl, sym, ◌∙◌, ap, subst, arith, ⊎_elim, Ok}
+use Rattle.std.proofs.Common.{◌≡◌, ℕ, zero, suc, ◌+◌, ◌-◌, ◌*◌, ◌<◌, ◌≤◌, min, List, length, refl, sym, ◌∙◌, ap, subst, arith, inl, inr, ⊎_elim, Ok}
 use Rattle.std.proofs.lemmas.Bool.Decides.{leb_tells}
 use Rattle.std.specs.declared.result.Result.{Result}
 use Rattle.sasi_types.specs.declared.tree.Pair.{Pair}
@@ -13,7 +13,7 @@ use Rattle.sasi_host.specs.Disk.{Changes, Same}
 use Rattle.sasi_tokentree.specs.Format.{nodes, size, entries_of_node, above}
 use Rattle.sasi_tokentree.specs.Sizes.{part_length, first_above_length}
 use Rattle.sasi_tokentree.specs.Heights.{height, bytes_below_root, none_below_root, more_below_root, one_high, more_high}
-use Rattle.sasi_tokentree.specs.Reads.{NoFalseNodeDamage, NoFalseLevelDamage, HasLevels}
+use Rattle.sasi_tokentree.specs.Reads.{IsReached, NoFalseNodeDamage, NoFalseLevelDamage, HasLevels}
 use Rattle.sasi_tokentree.proofs.AfterRead.{reads_still}
 use Rattle.sasi_tokentree.proofs.StoredLevels.{stands_node, stands_above, stands_one}
 
@@ -81,3 +81,21 @@ below_root_none (suc most) count le = sym (none_below_root most count le)
 pub below_root_more : (most count here above : ℕ) → 255 < count → count ≤ most → here ≡ size count → ((bound : ℕ) → nodes count ≤ bound → above ≡ bytes_below_root bound (nodes count)) → here + above ≡ bytes_below_root most count
 below_root_more zero count here above many le is others = absurd (omega arith)
 below_root_more (suc most) count here above many le is others = omega (arith, is, others most (omega (arith, many, le)), more_below_root most count many)
+
+-- ---- how far the file reaches behind a search
+
+-- in a level of one node, the node was read
+pub reached_in_one : (bytes : Bytes) (at count index : ℕ) → count ≤ 255 → at + (8 + 16 * count) ≤ length bytes → IsReached bytes at count index
+reached_in_one bytes at count index one whole lt = inr (omega (arith, lt, one, whole))
+
+-- else one of its nodes was
+pub reached_in_node : (bytes : Bytes) (at count node here below : ℕ) → 255 < count → below ≤ here → here ≡ min (count - 255 * node) 255 → at + 4088 * node + (8 + 16 * here) ≤
+    length bytes → IsReached bytes at count (255 * node + below)
+reached_in_node bytes at count node here below many within is whole lt = ⊎_elim
+    (λ full. inl (many, omega (arith, full.1, within, is)))
+    (λ less. inr (omega (arith, lt, is, whole, less.1)))
+    (leb_tells 255 below)
+
+-- or none, and then it is the first entry
+pub reached_none : (bytes : Bytes) (at count : ℕ) → 255 < count → IsReached bytes at count 0
+reached_none bytes at count many lt = inl (many, refl)

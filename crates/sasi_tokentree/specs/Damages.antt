@@ -1,5 +1,5 @@
 -- Where a file breaks the format of a tree, and what is there.
-use Rattle.std.specs.Prelude.{◌≡◌, ℕ, ◌+◌, ◌-◌, ◌*◌, ◌<◌, ◌≤◌, [], ◌∷◌, ◌++◌, length, min}
+use Rattle.std.specs.Prelude.{◌≡◌, ℕ, ◌+◌, ◌-◌, ◌*◌, ◌/◌, ◌%◌, ◌<◌, ◌≤◌, [], ◌∷◌, ◌++◌, length, min}
 use Rattle.std.specs.Int.{to_be_bytes, w16, w32, w64}
 use Rattle.sasi_types.specs.declared.tree.Pair.{Pair}
 use Rattle.sasi_types.specs.declared.tree.TreeRef.{TreeRef}
@@ -9,9 +9,9 @@ use Rattle.sasi_host.specs.declared.damage.FormatRule.{FormatRule}
 use Rattle.sasi_host.specs.declared.damage.FormatRule.TheVariants.{Short, Number, Order}
 use Rattle.sasi_host.specs.declared.fault.ReadFault.{ReadFault}
 use Rattle.sasi_host.specs.Names.{Bytes}
-use Rattle.sasi_host.specs.Damages.{Differs, HasAt, DamageShown, seen_bytes}
+use Rattle.sasi_host.specs.Damages.{Differs, HasAt, DamageShown, ShowsEnd, seen_bytes}
 use Rattle.sasi_host.specs.View.{View}
-use Rattle.sasi_tokentree.specs.Format.{entry, nodes, size, AreFit, IsBefore}
+use Rattle.sasi_tokentree.specs.Format.{entry, node_header, nodes, size, AreFit, IsBefore}
 use Rattle.sasi_tokentree.specs.Heights.{bytes_below_root}
 
 -- ---- the nodes of a tree
@@ -36,11 +36,20 @@ pub record IsNodePlace (from to place : ℕ) : Type 0 where
 abbrev pub start : TreeRef → ℕ
 start tree = tree.root - bytes_below_root tree.pairs tree.pairs
 
+-- the offset of the pair with this index: that of its leaf, and its offset there
+abbrev pub pair_place : TreeRef → ℕ → ℕ
+pair_place tree index = start tree + 4088 * (index / 255) + (8 + 16 * (index % 255))
+
 -- it is a node of the tree with this reference
 abbrev pub IsNodeOf : TreeRef → Node → Type 0
 IsNodeOf tree node = IsNodeFrom node 0 (start tree) tree.pairs
 
 -- ---- what breaks a node
+
+-- the file ends within its header, or within the entries behind a right header
+pub data EndsWithin (bytes : Bytes) (node : Node) : Type 0 where
+  in_header : length bytes < node.at + 8 → EndsWithin bytes node
+  in_entries : HasAt bytes node.at (node_header node.level node.count) → length bytes < node.at + (8 + 16 * node.count) → EndsWithin bytes node
 
 -- the format fixes these bytes at this offset of a node
 pub data IsHeaderPart (level count offset : ℕ) (wanted : Bytes) : Type 0 where
@@ -57,8 +66,9 @@ pub record HasWrongHeader (bytes : Bytes) (node : Node) (at : ℕ) (seen : Bytes
   pub offset_is : at ≡ node.at + offset
   pub differs : Differs bytes at seen wanted
 
--- an entry isn't above the one before it
+-- its header is right, and an entry isn't above the one before it
 pub record HasDisorder (bytes : Bytes) (node : Node) (at : ℕ) (seen : Bytes) : Type 0 where
+  pub header : HasAt bytes node.at (node_header node.level node.count)
   pub index : ℕ
   pub last : Pair
   pub pair : Pair
@@ -71,7 +81,7 @@ pub record HasDisorder (bytes : Bytes) (node : Node) (at : ℕ) (seen : Bytes) :
 
 -- the node breaks the rule at the offset, and the seen bytes are there
 abbrev pub NodeBreaks : Bytes → Node → FormatRule → ℕ → Bytes → Type 0
-NodeBreaks bytes node Short at seen = (length bytes < node.at + (8 + 16 * node.count)) × (at ≡ length bytes) × (seen ≡ to_be_bytes w64 (length bytes))
+NodeBreaks bytes node Short at seen = EndsWithin bytes node × (at ≡ length bytes) × (seen ≡ to_be_bytes w64 (length bytes))
 NodeBreaks bytes node Number at seen = HasWrongHeader bytes node at seen
 NodeBreaks bytes node Order at seen = HasDisorder bytes node at seen
 NodeBreaks bytes node _ at seen = ⊥
@@ -85,9 +95,20 @@ pub record ShowsOf (These : Node → Type 0) (file : FileName) (bytes : Bytes) (
   pub is_of : These node
   pub breaks : NodeBreaks bytes node damage.rule damage.at (seen_bytes damage.seen)
 
--- the file breaks the format of the tree with this reference
+-- the damage is that of this file, which breaks the format of the tree with this reference
+pub data ShowsTreeBy (Alone : ℕ → Type 0) (file : FileName) (tree : TreeRef) (bytes : Bytes) (damage : Damage) : Type 0 where
+  -- in a node, which is judged from its header on
+  in_node : ShowsOf (IsNodeOf tree) file bytes damage → ShowsTreeBy Alone file tree bytes damage
+  -- or it ends before a pair does whose entry is read alone, without the header of its leaf
+  in_entry : (index : ℕ) → Alone index → index < tree.pairs → ShowsEnd (pair_place tree index + 16) file bytes damage → ShowsTreeBy Alone file tree bytes damage
+
+-- a search reads an entry alone only where it begins a leaf below a root
+abbrev pub BeginsLeaf : TreeRef → ℕ → Type 0
+BeginsLeaf tree index = (255 < tree.pairs) × (index % 255 ≡ 0)
+
+-- a scan reads each
 abbrev pub ShowsTree : FileName → TreeRef → Bytes → Damage → Type 0
-ShowsTree file tree = ShowsOf (IsNodeOf tree) file
+ShowsTree = ShowsTreeBy (λ index. Unit {0})
 
 -- damage is that one of these nodes breaks a rule
 abbrev pub ShownOf : (Node → Type 0) → View → FileName → ReadFault → Type 0

@@ -1,5 +1,5 @@
 -- What a reader of a tree gives, by the host's view.
-use Rattle.std.specs.Prelude.{◌≡◌, ◌≢◌, ℕ, ◌+◌, ◌-◌, ◌^◌, ◌<◌, ◌≤◌, List, ◌++◌, length, Some}
+use Rattle.std.specs.Prelude.{◌≡◌, ◌≢◌, ◌⊎◌, ℕ, ◌+◌, ◌-◌, ◌*◌, ◌/◌, ◌%◌, ◌^◌, ◌<◌, ◌≤◌, List, ◌++◌, length, Some}
 use Rattle.sasi_types.specs.declared.tree.Pair.{Pair}
 use Rattle.sasi_types.specs.declared.tree.TreeRef.{TreeRef}
 use Rattle.sasi_host.specs.declared.name.FileName.{FileName}
@@ -57,6 +57,10 @@ pub record CountsBelow (entries : List Pair) (token count : ℕ) : Type 0 where
 pub record IsLowerBound (entries : List Pair) (token count place : ℕ) : Type 0 where
   pub counts : CountsBelow entries token count
   pub last : 0 < count → place ≡ (pair_at entries (count - 1)).place
+
+-- an entry of a level of so many begins a node below another one, or the file reaches to its end
+abbrev pub IsReached : Bytes → ℕ → ℕ → ℕ → Type 0
+IsReached bytes at count index = index < count → ((255 < count) × (index % 255 ≡ 0)) ⊎ (at + 4088 * (index / 255) + (8 + 16 * (index % 255)) + 16 ≤ length bytes)
 
 -- damage is reported only where the file has no node of so many entries there
 abbrev pub NoFalseNodeDamage : View → FileName → ℕ → ℕ → ℕ → ReadFault → Type 0

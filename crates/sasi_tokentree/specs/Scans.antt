@@ -1,5 +1,5 @@
 -- Scans of the pairs of a tree.
-use Rattle.std.specs.Prelude.{◌≡◌, ℕ, ◌+◌, ◌-◌, ◌*◌, ◌/◌, ◌%◌, ◌^◌, ◌<◌, ◌≤◌, List, [], ◌∷◌, drop, Option, None, Some}
+use Rattle.std.specs.Prelude.{◌≡◌, ℕ, ◌+◌, ◌-◌, ◌/◌, ◌^◌, ◌<◌, ◌≤◌, List, [], ◌∷◌, drop, Option, None, Some}
 use Rattle.sasi_types.specs.declared.tree.Pair.{Pair}
 use Rattle.sasi_types.specs.declared.tree.TreeRef.{TreeRef}
 use Rattle.sasi_host.specs.declared.name.FileName.{FileName}
@@ -8,7 +8,7 @@ use Rattle.sasi_host.specs.View.{View, contents}
 use Rattle.sasi_host.specs.Buffered.{Buffered}
 use Rattle.sasi_host.specs.Damages.{HasAt}
 use Rattle.sasi_tokentree.specs.Format.{entry, AreFit, HasTree}
-use Rattle.sasi_tokentree.specs.Damages.{start}
+use Rattle.sasi_tokentree.specs.Damages.{pair_place}
 use Rattle.sasi_tokentree.specs.Reads.{CountsBelow}
 
 -- the view of a scan: the buffered file, where the tree is, and how many of its pairs the scan has passed
@@ -21,10 +21,6 @@ pub record PairScan : Type 0 where
 abbrev pub StepsToPair : List Pair → ℕ → ℕ → Option Pair → Type 0
 StepsToPair pairs from passed None = (drop from pairs ≡ []) × (passed ≡ from)
 StepsToPair pairs from passed (Some pair) = drop from pairs ≡ pair ∷ drop passed pairs
-
--- the offset of the pair with this index: that of its leaf, and its offset there
-abbrev pub pair_place : TreeRef → ℕ → ℕ
-pair_place tree index = start tree + 4088 * (index / 255) + (8 + 16 * (index % 255))
 
 -- behind a pair that was read, the scan has passed one of the tree's pairs at least, and a file can have the tree
 pub record HasPassed (tree : TreeRef) (passed : ℕ) : Type 0 where

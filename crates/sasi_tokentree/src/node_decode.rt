@@ -88,7 +88,7 @@ pub fn find_below(
     requires place { at < 2 ^ 63 + 2 ^ 60 }
     ensures ok { IfOk result (λ below. (level : ℕ) (entries : List Pair) → AreFit entries → IsRising entries → bytes.now ≡ node level entries → IsLowerBound entries token below.count below.place) }
     ensures within { IfOk result (λ below. below.count ≤ count) }
-    ensures seen { (level : ℕ) → IfErr result (IsInNode file at bytes.now level count) }
+    ensures seen { (level : ℕ) → HasAt bytes.now 0 (node_header level count) → IfErr result (IsInNode file at bytes.now level count) }
     ensures no_false_damage { IfErr result (λ _. (level : ℕ) (entries : List Pair) → AreFit entries → IsRising entries → bytes.now ≡ node level entries → ⊥) }
 {
     let mut last = Pair { token: 0, place: 0 };

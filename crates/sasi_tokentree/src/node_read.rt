@@ -1,10 +1,11 @@
 // Reads nodes of a tree from the file.
-ghost use Rattle.std.specs.Prelude.{◌≡◌, ◌+◌, ◌*◌, ◌^◌, ◌<◌, ◌≤◌, List, ℕ, length, IfErr, IfOk, OnOk, Some};
+ghost use Rattle.std.specs.Prelude.{◌≡◌, ◌+◌, ◌*◌, ◌/◌, ◌^◌, ◌<◌, ◌≤◌, List, ℕ, length, IfErr, IfOk, OnOk, Some};
 ghost use Rattle.sasi_types.specs.declared.tree.Pair.{Pair};
 ghost use Rattle.sasi_host.specs.View.{contents, ReadsAtMost};
+ghost use Rattle.sasi_host.specs.Buffered.{unbuffered_pages};
 ghost use Rattle.sasi_host.specs.Damages.{HasAt};
 ghost use Rattle.sasi_host.specs.PageReading.{CanReadOn, HasReadOn};
-ghost use Rattle.sasi_tokentree.specs.Format.{node};
+ghost use Rattle.sasi_tokentree.specs.Format.{node, node_header};
 ghost use Rattle.sasi_tokentree.specs.Damages.{ShownOf};
 ghost use Rattle.sasi_tokentree.specs.Reads.{IsLowerBound, HasNode, NoFalseNodeDamage};
 
@@ -12,7 +13,34 @@ use crate::node_decode::{ENTRY_BYTES, LowerBound, NODE_HEADER_BYTES, check_heade
 use sasi_host::{BufferedFile, Host, PageReader, ReadFault};
 use sasi_types::Token;
 
-// Fills the buffer with a node, and checks its header against this level and number of entries.
+// Fills the buffer with the header of a node, and checks it against this level and number of entries.
+fn read_header<H: Host, P: PageReader>(
+    host: &mut H,
+    pages: &mut P,
+    buffered: &mut BufferedFile,
+    at: u64,
+    level: u8,
+    count: usize,
+    out: &mut [u8],
+) -> Result<(), ReadFault>
+    requires read { CanReadOn (P.agrees pages.old) (H.view host.old) buffered.old }
+    requires place { at < 2 ^ 63 + 2 ^ 60 }
+    requires most { count ≤ 255 }
+    requires length { length out.old ≡ 8 }
+    ensures ok { OnOk result (out.new ≡ node_header level count) }
+    ensures is { OnOk result ((bytes : List ℕ) → contents (H.view host.old) buffered.old.file ≡ Some bytes → HasAt bytes at (node_header level count)) }
+    ensures damaged { IfErr result (ShownOf (λ n. n ≡ record { level = level; at = at; count = count }) (H.view host.old) buffered.old.file) }
+    ensures undamaged { IfErr result (NoFalseNodeDamage (H.view host.old) buffered.old.file level at count) }
+    ensures read { HasReadOn (P.agrees pages.new) (P.covers pages.old) (P.covers pages.new) (H.view host.old) (H.view host.new) buffered.old buffered.new }
+    ensures page { OnOk result (buffered.new.page ≡ Some ((at + 7) / 4096)) }
+    ensures causes { ReadsAtMost (unbuffered_pages buffered.old.page at 8) (H.view host.old) (H.view host.new) result }
+{
+    buffered.read_into(host, pages, at, out)?;
+    check_header(buffered.file(), at, level, count as u16, out)?;
+    Ok(())
+}
+
+// Fills the buffer with a node. It reads the header and checks it, and then reads the entries.
 fn read_node<H: Host, P: PageReader>(
     host: &mut H,
     pages: &mut P,
@@ -25,16 +53,20 @@ fn read_node<H: Host, P: PageReader>(
     requires read { CanReadOn (P.agrees pages.old) (H.view host.old) buffered.old }
     requires place { at < 2 ^ 63 + 2 ^ 60 }
     requires most { count ≤ 255 }
-    requires whole { length out.old ≡ 8 + 16 * count }
+    requires length { length out.old ≡ 8 + 16 * count }
     ensures ok { OnOk result ((bytes : List ℕ) (entries : List Pair) → contents (H.view host.old) buffered.old.file ≡ Some bytes → HasNode bytes level at entries → length entries ≡ count → out.new ≡ node level entries) }
+    ensures header { OnOk result (HasAt out.new 0 (node_header level count)) }
     ensures is { OnOk result ((bytes : List ℕ) → contents (H.view host.old) buffered.old.file ≡ Some bytes → HasAt bytes at out.new) }
+    ensures whole { OnOk result ((bytes : List ℕ) → contents (H.view host.old) buffered.old.file ≡ Some bytes → at + (8 + 16 * count) ≤ length bytes) }
     ensures damaged { IfErr result (ShownOf (λ n. n ≡ record { level = level; at = at; count = count }) (H.view host.old) buffered.old.file) }
     ensures undamaged { IfErr result (NoFalseNodeDamage (H.view host.old) buffered.old.file level at count) }
     ensures read { HasReadOn (P.agrees pages.new) (P.covers pages.old) (P.covers pages.new) (H.view host.old) (H.view host.new) buffered.old buffered.new }
     ensures causes { ReadsAtMost 2 (H.view host.old) (H.view host.new) result }
 {
-    buffered.read_into(host, pages, at, out)?;
-    check_header(buffered.file(), at, level, count as u16, out)?;
+    let header = &mut out[..NODE_HEADER_BYTES];
+    read_header(host, pages, buffered, at, level, count, header)?;
+    let entries = &mut out[NODE_HEADER_BYTES..];
+    buffered.read_into(host, pages, at + NODE_HEADER_BYTES as u64, entries)?;
     Ok(())
 }
 
@@ -54,6 +86,7 @@ pub fn node_below<H: Host, P: PageReader>(
     ensures ok { IfOk result (λ below. (bytes : List ℕ) (entries : List Pair) → contents (H.view host.old) buffered.old.file ≡ Some bytes → HasNode bytes level at entries → length entries ≡ count
         → IsLowerBound entries token below.count below.place) }
     ensures within { IfOk result (λ below. below.count ≤ count) }
+    ensures whole { OnOk result ((bytes : List ℕ) → contents (H.view host.old) buffered.old.file ≡ Some bytes → at + (8 + 16 * count) ≤ length bytes) }
     ensures damaged { IfErr result (ShownOf (λ n. n ≡ record { level = level; at = at; count = count }) (H.view host.old) buffered.old.file) }
     ensures undamaged { IfErr result (NoFalseNodeDamage (H.view host.old) buffered.old.file level at count) }
     ensures read { HasReadOn (P.agrees pages.new) (P.covers pages.old) (P.covers pages.new) (H.view host.old) (H.view host.new) buffered.old buffered.new }

@@ -6,10 +6,10 @@ ghost use Rattle.sasi_host.specs.Buffered.{unbuffered_pages};
 ghost use Rattle.sasi_host.specs.Damages.{HasAt, DamageShown, ShowsEnd};
 ghost use Rattle.sasi_host.specs.PageReading.{CanReadOn, HasReadOn};
 ghost use Rattle.sasi_tokentree.specs.Format.{pair_at, entry};
-ghost use Rattle.sasi_tokentree.specs.Damages.{IsNodeOf, ShownOf};
+ghost use Rattle.sasi_tokentree.specs.Damages.{BeginsLeaf, ShowsTreeBy, pair_place};
 ghost use Rattle.sasi_tokentree.specs.Heights.{height, bytes_below_root};
 ghost use Rattle.sasi_tokentree.specs.Reads.{NoFalseTreeDamage, NoFalsePairDamage, HasLevels};
-ghost use Rattle.sasi_tokentree.specs.Scans.{HasPassed, ReadsEntry, ReadsFirstPair, ReadsNextPair, IsEntryBuffered, pair_place};
+ghost use Rattle.sasi_tokentree.specs.Scans.{HasPassed, ReadsEntry, ReadsFirstPair, ReadsNextPair, IsEntryBuffered};
 
 use crate::node_decode::{ENTRY_BYTES, NODE_HEADER_BYTES, number_in};
 use crate::node_layout::{MAX_ENTRIES, MAX_NODE_BYTES};
@@ -105,7 +105,7 @@ pub fn pair_from<H: Host, P: PageReader>(
     requires read { CanReadOn (P.agrees pages.old) (H.view host.old) buffered.old }
     ensures ok { IfOk result (λ found. ReadsNextPair (H.view host.old) buffered.old.file tree passed found.passed found.pair) }
     ensures stands { IfOk result (λ found. ReadsEntry (H.view host.old) buffered.old.file tree found.passed found.pair) }
-    ensures damaged { IfErr result (ShownOf (IsNodeOf tree) (H.view host.old) buffered.old.file) }
+    ensures damaged { IfErr result (DamageShown (H.view host.old) buffered.old.file (ShowsTreeBy (λ index. index ≡ passed) buffered.old.file tree)) }
     ensures undamaged { IfErr result (NoFalseTreeDamage (H.view host.old) buffered.old.file tree) }
     ensures read { HasReadOn (P.agrees pages.new) (P.covers pages.old) (P.covers pages.new) (H.view host.old) (H.view host.new) buffered.old buffered.new }
     ensures entry_buffered { IfOk result (λ found. IsEntryBuffered (record { buffered = buffered.new; tree = tree; passed = found.passed }) found.pair) }
@@ -139,7 +139,7 @@ pub fn first_from<H: Host, P: PageReader>(
     requires read { CanReadOn (P.agrees pages.old) (H.view host.old) buffered.old }
     ensures ok { IfOk result (λ found. ReadsFirstPair (H.view host.old) buffered.old.file tree token found.passed found.pair) }
     ensures stands { IfOk result (λ found. ReadsEntry (H.view host.old) buffered.old.file tree found.passed found.pair) }
-    ensures damaged { IfErr result (ShownOf (IsNodeOf tree) (H.view host.old) buffered.old.file) }
+    ensures damaged { IfErr result (DamageShown (H.view host.old) buffered.old.file (ShowsTreeBy (BeginsLeaf tree) buffered.old.file tree)) }
     ensures undamaged { IfErr result (NoFalseTreeDamage (H.view host.old) buffered.old.file tree) }
     ensures read { HasReadOn (P.agrees pages.new) (P.covers pages.old) (P.covers pages.new) (H.view host.old) (H.view host.new) buffered.old buffered.new }
     ensures entry_buffered { IfOk result (λ found. IsEntryBuffered (record { buffered = buffered.new; tree = tree; passed = found.passed }) found.pair) }

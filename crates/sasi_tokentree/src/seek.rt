@@ -6,7 +6,7 @@ ghost use Rattle.sasi_host.specs.PageReading.{CanReadOn, HasReadOn};
 ghost use Rattle.sasi_tokentree.specs.Format.{entries_of_node};
 ghost use Rattle.sasi_tokentree.specs.Heights.{level_limit, height, bytes_below_root};
 ghost use Rattle.sasi_tokentree.specs.Damages.{IsNodeFrom, ShownOf};
-ghost use Rattle.sasi_tokentree.specs.Reads.{IsLowerBound, NoFalseLevelDamage, HasLevels};
+ghost use Rattle.sasi_tokentree.specs.Reads.{IsLowerBound, IsReached, NoFalseLevelDamage, HasLevels};
 
 use crate::node_decode::LowerBound;
 use crate::node_layout::{MAX_ENTRIES, MAX_NODE_BYTES, level_size, node_count};
@@ -43,6 +43,7 @@ pub fn count_below<H: Host, P: PageReader>(
     ensures ok { IfOk result (λ below. (bytes : List ℕ) (entries : List Pair) → contents (H.view host.old) buffered.old.file ≡ Some bytes → HasLevels bytes level at entries → length entries ≡ count
         → IsLowerBound entries token below.count below.place) }
     ensures within { IfOk result (λ below. below.count ≤ count) }
+    ensures reached { IfOk result (λ below. (bytes : List ℕ) → contents (H.view host.old) buffered.old.file ≡ Some bytes → IsReached bytes at count below.count) }
     ensures damaged { IfErr result (ShownOf (λ n. IsNodeFrom n level at count) (H.view host.old) buffered.old.file) }
     ensures undamaged { IfErr result (NoFalseLevelDamage (H.view host.old) buffered.old.file level at count) }
     ensures read { HasReadOn (P.agrees pages.new) (P.covers pages.old) (P.covers pages.new) (H.view host.old) (H.view host.new) buffered.old buffered.new }
@@ -90,6 +91,7 @@ fn count_in_node<H: Host, P: PageReader>(
     ensures ok { IfOk result (λ below. (bytes : List ℕ) (entries : List Pair) → contents (H.view host.old) buffered.old.file ≡ Some bytes → HasLevels bytes level at entries → length entries ≡ count
         → IsLowerBound (entries_of_node entries node) token below.count below.place) }
     ensures within { IfOk result (λ below. 255 * node + below.count ≤ count) }
+    ensures reached { IfOk result (λ below. (bytes : List ℕ) → contents (H.view host.old) buffered.old.file ≡ Some bytes → 255 < count → IsReached bytes at count (255 * node + below.count)) }
     ensures damaged { IfErr result (ShownOf (λ n. IsNodeFrom n level at count) (H.view host.old) buffered.old.file) }
     ensures undamaged { IfErr result (NoFalseLevelDamage (H.view host.old) buffered.old.file level at count) }
     ensures read { HasReadOn (P.agrees pages.new) (P.covers pages.old) (P.covers pages.new) (H.view host.old) (H.view host.new) buffered.old buffered.new }

@@ -6,9 +6,9 @@ ghost use Rattle.sasi_host.specs.Buffered.{unbuffered_pages};
 ghost use Rattle.sasi_host.specs.Damages.{DamageShown};
 ghost use Rattle.sasi_host.specs.PageReading.{CanReadOn, HasReadOn};
 ghost use Rattle.sasi_tokentree.specs.Heights.{height};
-ghost use Rattle.sasi_tokentree.specs.Damages.{ShowsTree};
+ghost use Rattle.sasi_tokentree.specs.Damages.{BeginsLeaf, ShowsTreeBy, pair_place};
 ghost use Rattle.sasi_tokentree.specs.Reads.{NoFalseTreeDamage};
-ghost use Rattle.sasi_tokentree.specs.Scans.{HasPassed, ReadsEntry, ReadsFirstPair, ReadsNextPair, IsEntryBuffered, pair_place};
+ghost use Rattle.sasi_tokentree.specs.Scans.{HasPassed, ReadsEntry, ReadsFirstPair, ReadsNextPair, IsEntryBuffered};
 
 use crate::pair_scan::{first_from, last_offset, pair_from};
 use sasi_host::{BufferedFile, FileName, Host, PageReader, ReadFault};
@@ -65,7 +65,7 @@ impl Tree {
         ensures ok { IfOk result (λ found. ReadsFirstPair (H.view host.old) self.old.buffered.file self.old.tree token self.new.passed found) }
         // In any file it is an entry of a leaf.
         ensures stands { IfOk result (λ found. ReadsEntry (H.view host.old) self.old.buffered.file self.old.tree self.new.passed found) }
-        ensures damaged { IfErr result (DamageShown (H.view host.old) self.old.buffered.file (ShowsTree self.old.buffered.file self.old.tree)) }
+        ensures damaged { IfErr result (DamageShown (H.view host.old) self.old.buffered.file (ShowsTreeBy (BeginsLeaf self.old.tree) self.old.buffered.file self.old.tree)) }
         ensures undamaged { IfErr result (NoFalseTreeDamage (H.view host.old) self.old.buffered.file self.old.tree) }
         ensures read { HasReadOn (P.agrees pages.new) (P.covers pages.old) (P.covers pages.new) (H.view host.old) (H.view host.new) self.old.buffered self.new.buffered }
         ensures entry_buffered { IfOk result (IsEntryBuffered self.new) }
@@ -89,7 +89,7 @@ impl Tree {
         ensures ok { IfOk result (λ found. ReadsNextPair (H.view host.old) self.old.buffered.file self.old.tree self.old.passed self.new.passed found) }
         // In any file it is an entry of a leaf.
         ensures stands { IfOk result (λ found. ReadsEntry (H.view host.old) self.old.buffered.file self.old.tree self.new.passed found) }
-        ensures damaged { IfErr result (DamageShown (H.view host.old) self.old.buffered.file (ShowsTree self.old.buffered.file self.old.tree)) }
+        ensures damaged { IfErr result (DamageShown (H.view host.old) self.old.buffered.file (ShowsTreeBy (λ index. index ≡ self.old.passed) self.old.buffered.file self.old.tree)) }
         ensures undamaged { IfErr result (NoFalseTreeDamage (H.view host.old) self.old.buffered.file self.old.tree) }
         ensures read { HasReadOn (P.agrees pages.new) (P.covers pages.old) (P.covers pages.new) (H.view host.old) (H.view host.new) self.old.buffered self.new.buffered }
         ensures entry_buffered { IfOk result (IsEntryBuffered self.new) }

@@ -1,4 +1,4 @@
-use Rattle.std.proofs.Common.{◌+◌, ◌*◌, sym, ◌∙◌, ap, subst, arith, Option, Ok, Err}
+use Rattle.std.proofs.Common.{◌≡◌, ◌+◌, ◌*◌, sym, ◌∙◌, ap, subst, arith, Option, Ok, Err}
 use Rattle.std.proofs.lemmas.Result.{err_from_is_err_and}
 use Rattle.sasi_host.specs.PageReading.{read_of, read_then}
 use Rattle.sasi_types.specs.declared.tree.Pair.{Pair}
@@ -6,6 +6,7 @@ use Rattle.sasi_types.specs.declared.tree.TreeRef.{TreeRef}
 use Rattle.sasi_host.specs.Disk.{Same}
 use Rattle.sasi_host.specs.ChangeLaws.{then_same}
 use Rattle.sasi_host.specs.Buffered.{Buffered, IsBuffered, buffered_after}
+use Rattle.sasi_tokentree.specs.Damages.{BeginsLeaf}
 use Rattle.sasi_tokentree.specs.Heights.{height}
 use Rattle.sasi_host.proofs.DamageLaws.{shown_before}
 use Rattle.sasi_tokentree.specs.Scans.{ReadsEntry, PairScan}
@@ -18,8 +19,8 @@ use Rattle.sasi_dataread.proofs.find.find_partition.Goals as goal
 pub returns-in_err-next-clause-damaged : goal.returns-in_err-next-clause-damaged
 returns-in_err-next-clause-damaged g c =
     let p = err_from_is_err_and c.from_residual.result c.from_residual.ensures.1 in
-    rw (p.1, p.2) (tree_shown (g.H.Host.view c.args.host.now) c.args.opened.now c.tree-tree.result.buffered.file c.tree-tree.result.tree
-    c.in_err-next.field-0.0 (ap (λ (w : PairScan). w.buffered.file) c.tree-tree.ensures) (ap (λ (w : PairScan). w.tree) c.tree-tree.ensures)
+    rw (p.1, p.2) (tree_shown (BeginsLeaf c.tree-tree.result.tree) (g.H.Host.view c.args.host.now) c.args.opened.now
+    c.tree-tree.result.buffered.file c.tree-tree.result.tree c.in_err-next.field-0.0 (ap (λ (w : PairScan). w.buffered.file) c.tree-tree.ensures) (ap (λ (w : PairScan). w.tree) c.tree-tree.ensures)
     c.in_err-next.ensures.damaged)
 
 pub returns-in_err-next-clause-undamaged : goal.returns-in_err-next-clause-undamaged
@@ -126,7 +127,8 @@ pub returns-in_err-next-2-clause-damaged : goal.returns-in_err-next-2-clause-dam
 returns-in_err-next-2-clause-damaged g c =
     let p = err_from_is_err_and c.from_residual-in_err-next-2.result c.from_residual-in_err-next-2.ensures.1 in
     let v = g.H.Host.view c.args.host.now in
-    rw (p.1, p.2) (tree_shown v c.args.opened.now c.loop-turn.tree.buffered.file c.loop-turn.tree.tree c.in_err-next-2.field-0.0 c.loop-turn.invariant.file c.loop-turn.invariant.tree
+    rw (p.1, p.2) (tree_shown (λ index. index ≡ c.loop-turn.tree.passed) v c.args.opened.now c.loop-turn.tree.buffered.file c.loop-turn.tree.tree
+    c.in_err-next-2.field-0.0 c.loop-turn.invariant.file c.loop-turn.invariant.tree
     (shown_before _ v _ c.loop-turn.tree.buffered.file c.in_err-next-2.field-0.0
     (then_same _ _ _ Same c.loop-turn.invariant.read.changes c.partition_with_key.ensures.read.changes) c.in_err-next-2.ensures.damaged))
 

@@ -1,7 +1,7 @@
 use Rattle.std.proofs.Common.{◌⊎◌, ◌+◌, ◌-◌, ◌<◌, ℕ, ◌∙◌, ap, subst}
 use Rattle.sasi_host.specs.PageReading.{read_of, reads_nothing}
 use Rattle.sasi_types.specs.declared.tree.TreeRef.{TreeRef}
-use Rattle.sasi_tokentree.specs.Scans.{pair_place}
+use Rattle.sasi_tokentree.specs.Damages.{pair_place}
 use Rattle.sasi_dataread.specs.Bodies.{IsPartitionPlace}
 use Rattle.sasi_dataread.proofs.Opening.{nowhere_shown, nowhere_spares, there_shown}
 use Rattle.sasi_dataread.proofs.pair.partition_of_pair.Goals as goal

@@ -4,7 +4,8 @@ use Rattle.sasi_host.specs.PageReading.{read_of, read_then}
 use Rattle.sasi_types.specs.declared.tree.Pair.{Pair}
 use Rattle.sasi_host.specs.Buffered.{buffered_after}
 use Rattle.sasi_host.proofs.DamageLaws.{shown_before}
-use Rattle.sasi_tokentree.specs.Scans.{ReadsEntry, ReadsNextPair, IsEntryBuffered, pair_place}
+use Rattle.sasi_tokentree.specs.Damages.{pair_place}
+use Rattle.sasi_tokentree.specs.Scans.{ReadsEntry, ReadsNextPair, IsEntryBuffered}
 use Rattle.sasi_tokentree.proofs.EntryPages.{entry_pages}
 use Rattle.sasi_dataread.proofs.Pairs.{none_left}
 use Rattle.sasi_dataread.proofs.Pages.{goes_nowhere}
@@ -15,8 +16,8 @@ use Rattle.sasi_dataread.proofs.walk.next_partition.Goals as goal
 pub returns-in_err-next-clause-damaged : goal.returns-in_err-next-clause-damaged
 returns-in_err-next-clause-damaged g c =
     let p = err_from_is_err_and c.from_residual.result c.from_residual.ensures.1 in
-    rw (p.1, p.2) (tree_shown (g.H.Host.view c.args.host.now) c.args.opened.now c.args.tree.now.buffered.file c.args.tree.now.tree c.in_err-next.field-0.0
-    c.requires.file c.requires.tree c.in_err-next.ensures.damaged)
+    rw (p.1, p.2) (tree_shown (λ index. index ≡ c.args.tree.now.passed) (g.H.Host.view c.args.host.now) c.args.opened.now
+    c.args.tree.now.buffered.file c.args.tree.now.tree c.in_err-next.field-0.0 c.requires.file c.requires.tree c.in_err-next.ensures.damaged)
 
 pub returns-in_err-next-clause-undamaged : goal.returns-in_err-next-clause-undamaged
 returns-in_err-next-clause-undamaged g c =

@@ -4,10 +4,10 @@ use Rattle.sasi_tokentree.proofs.NodeParts.{disorder_in, pairs_fit, found_at, fo
 use Rattle.sasi_tokentree.proofs.node_decode.find_below.Goals as goal
 
 pub returns-then-is_out_of_order-clause-seen : goal.returns-then-is_out_of_order-clause-seen
-returns-then-is_out_of_order-clause-seen c level =
+returns-then-is_out_of_order-clause-seen c level header =
     let some = c.is_out_of_order.ensures.some c.if-is_out_of_order.true in
     disorder_in c.args.file c.args.at c.args.bytes.now level c.args.count c.loop-index.index _ c.loop-index.last c.entry_in-pair.result c.found.result
-    c.requires.whole some (omega arith) (pairs_fit c.loop-index.last c.entry_in-pair.result c.loop-index.invariant.fits.0
+    header c.requires.whole some (omega arith) (pairs_fit c.loop-index.last c.entry_in-pair.result c.loop-index.invariant.fits.0
     c.loop-index.invariant.fits.1 (omega arith) (omega arith))
     (c.loop-index.invariant.stands some) c.entry_in-pair.ensures.stands (c.is_out_of_order.ensures.order c.if-is_out_of_order.true)
     c.found.ensures.file c.found.ensures.at c.found.ensures.rule (omega arith) c.found.ensures.seen

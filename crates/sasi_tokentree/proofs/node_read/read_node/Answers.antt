@@ -1,64 +1,91 @@
-use Rattle.std.proofs.Common.{◌≡◌, ℕ, ◌+◌, ◌*◌, length, refl, sym, ◌∙◌, ap, subst, arith, Err}
+use Rattle.std.proofs.Common.{◌≡◌, ℕ, ◌+◌, ◌*◌, ◌-◌, [], ◌++◌, length, drop, refl, sym, ◌∙◌, ap, subst, arith, length-append}
 use Rattle.std.proofs.lemmas.Result.{err_from_is_err_and}
-use Rattle.sasi_host.specs.declared.name.FileName.{FileName}
-use Rattle.sasi_host.proofs.Offsets.{window_at}
+use borrow.Rule.Slice.PartMut.{put_mid}
+use Rattle.sasi_host.specs.Names.{Bytes}
+use Rattle.sasi_host.specs.Damages.{HasAt}
+use Rattle.sasi_host.specs.PageReading.{reads_then}
+use Rattle.sasi_host.proofs.Offsets.{at_ends}
+use Rattle.sasi_host.proofs.Pages.{end_before}
+use Rattle.sasi_tokentree.specs.Format.{node_header}
 use Rattle.sasi_tokentree.specs.Damages.{Node}
-use Rattle.sasi_tokentree.proofs.EntryPages.{node_pages}
-use Rattle.sasi_tokentree.specs.Reads.{IsInNode}
-use Rattle.sasi_tokentree.proofs.NodeReads.{node_is, node_head, early_spares, early_shown, node_shown}
-use Rattle.sasi_host.specs.CauseLaws.{damage_reads, ok_reads, reads_within}
+use Rattle.sasi_tokentree.specs.Sizes.{head_length}
+use Rattle.sasi_tokentree.proofs.AfterRead.{reads_still}
+use Rattle.sasi_tokentree.proofs.NodeReads.{node_is, early_spares, entries_end, filled_behind, both_read}
 use Rattle.sasi_tokentree.proofs.node_read.read_node.Goals as goal
 
-pub returns-in_err-read_into-clause-undamaged : goal.returns-in_err-read_into-clause-undamaged
-returns-in_err-read_into-clause-undamaged g c =
-    let p = err_from_is_err_and c.from_residual.result c.from_residual.ensures.1 in
-    rw (p.1, p.2) (early_spares (g.H.Host.view c.args.host.now) c.args.buffered.now.file c.args.level c.args.at c.args.count _
-    c.in_err-read_into.field-0.0 c.requires.whole c.in_err-read_into.ensures.damaged)
-
-pub returns-in_err-check_header-clause-damaged : goal.returns-in_err-check_header-clause-damaged
-returns-in_err-check_header-clause-damaged g c =
-    let p = err_from_is_err_and c.from_residual-in_err-check_header.result c.from_residual-in_err-check_header.ensures.1 in
-    let name : c.file.result ≡ c.args.buffered.now.file = c.file.ensures ∙ c.read_into.ensures.file in
-    rw (p.1, p.2) (λ bytes is. node_shown c.args.buffered.now.file bytes c.args.at c.read_into.new.out c.args.level c.args.count c.in_err-check_header.field-0.0
-    (window_at bytes c.read_into.new.out c.args.at (length c.args.out.now) (c.in_ok-read_into.ensures.ok bytes is)
-    (c.in_ok-read_into.ensures.within bytes is (omega (arith, c.requires.whole))))
-    (subst (λ (f : FileName). IsInNode f c.args.at c.read_into.new.out c.args.level c.args.count c.in_err-check_header.field-0.0) name
-    c.in_err-check_header.ensures.seen))
+-- what the buffer then has
+out_is : (header old out : Bytes) (level count : ℕ) → header ≡ node_header level count → put_mid 8 (length (header ++ drop 8 old) - 8)
+    (header ++ drop 8 old) out ≡ node_header level count ++ out
+out_is header old out level count is = filled_behind header old out _ (ap length is ∙ head_length level count) refl ∙ ap (λ (l : Bytes). l ++ out) is
 
 pub returns-in_err-read_into-clause-damaged : goal.returns-in_err-read_into-clause-damaged
 returns-in_err-read_into-clause-damaged g c =
-    let p = err_from_is_err_and c.from_residual.result c.from_residual.ensures.1 in
+    let p = err_from_is_err_and c.from_residual-in_err-read_into.result c.from_residual-in_err-read_into.ensures.1 in
     let node : Node = record { level = c.args.level; at = c.args.at; count = c.args.count } in
-    rw (p.1, p.2) (early_shown (λ n. n ≡ node) (g.H.Host.view c.args.host.now) c.args.buffered.now.file (c.args.at + length c.args.out.now) node
-    c.in_err-read_into.field-0.0 refl (omega (arith, c.requires.whole)) c.in_err-read_into.ensures.damaged)
+    let end = c.args.at + (8 + 16 * c.args.count) in
+    rw (p.1, p.2) (entries_end (λ n. n ≡ node) (g.H.Host.view c.args.host.now) c.args.buffered.now.file end node c.in_err-read_into.field-0.0 refl (omega arith)
+    c.in_ok-read_header.ensures.is (end_before _ _ c.args.buffered.now.file _ _ end c.in_err-read_into.field-0.0 c.read_header.ensures.read.changes
+    c.read_header.ensures.read.file (omega (arith, c.requires.length)) c.in_err-read_into.ensures.damaged))
+
+pub returns-in_err-read_into-clause-undamaged : goal.returns-in_err-read_into-clause-undamaged
+returns-in_err-read_into-clause-undamaged g c =
+    let p = err_from_is_err_and c.from_residual-in_err-read_into.result c.from_residual-in_err-read_into.ensures.1 in
+    let end = c.args.at + (8 + 16 * c.args.count) in
+    rw (p.1, p.2) (early_spares (g.H.Host.view c.args.host.now) c.args.buffered.now.file c.args.level c.args.at c.args.count end c.in_err-read_into.field-0.0 (omega arith)
+    (end_before _ _ c.args.buffered.now.file _ _ end c.in_err-read_into.field-0.0 c.read_header.ensures.read.changes c.read_header.ensures.read.file
+    (omega (arith, c.requires.length)) c.in_err-read_into.ensures.damaged))
+
+pub returns-in_err-read_into-clause-read : goal.returns-in_err-read_into-clause-read
+returns-in_err-read_into-clause-read g c = reads_then _ _ _ _ _ _ _ _ _ _ _ c.read_header.ensures.read (record {
+  agrees = c.read_into.ensures.agrees;
+  covers = c.read_into.ensures.covers;
+  changes = c.read_into.ensures.changes;
+  buffered = c.read_into.ensures.buffered;
+  file = c.read_into.ensures.file;
+})
+
+pub returns-clause-header : goal.returns-clause-header
+returns-clause-header g c =
+    let out = c.read_into.new.out in
+    let head = node_header c.args.level c.args.count in
+    subst (λ (l : Bytes). HasAt l 0 head) (sym (out_is c.read_header.new.out c.args.out.now out c.args.level c.args.count c.in_ok-read_header.ensures.ok))
+    (record { front = []; rest = out; is = refl; offset_is = refl })
 
 pub returns-clause-is : goal.returns-clause-is
-returns-clause-is g c bytes is = window_at bytes c.read_into.new.out c.args.at (length c.args.out.now) (c.in_ok-read_into.ensures.ok bytes is)
-    (c.in_ok-read_into.ensures.within bytes is (omega (arith, c.requires.whole)))
+returns-clause-is g c bytes is =
+    let out = c.read_into.new.out in
+    let head = node_header c.args.level c.args.count in
+    let now = reads_still _ _ c.args.buffered.now.file _ bytes c.read_header.ensures.read.changes c.read_header.ensures.read.file is in
+    subst (λ (l : Bytes). HasAt bytes c.args.at l) (sym (out_is c.read_header.new.out c.args.out.now out c.args.level c.args.count c.in_ok-read_header.ensures.ok))
+    (both_read bytes head out c.args.at _ (c.in_ok-read_header.ensures.is bytes is) (head_length c.args.level c.args.count)
+    (c.in_ok-read_into.ensures.ok bytes now) (c.in_ok-read_into.ensures.within bytes now))
 
-pub returns-in_err-check_header-clause-undamaged : goal.returns-in_err-check_header-clause-undamaged
-returns-in_err-check_header-clause-undamaged g c =
-    let p = err_from_is_err_and c.from_residual-in_err-check_header.result c.from_residual-in_err-check_header.ensures.1 in
-    rw (p.1, p.2) (λ bytes entries is has long. c.in_err-check_header.ensures.differs (node_head c.read_into.new.out c.args.level c.args.count entries
-    (node_is bytes c.read_into.new.out c.args.level c.args.at _ entries has (c.requires.whole ∙ ap (λ (n : ℕ). 8 + 16 * n) (sym long)) (c.in_ok-read_into.ensures.ok bytes is)) long))
+-- its length
+out_length : (header old out : Bytes) (level count : ℕ) → header ≡ node_header level count → length out ≡ 16 * count → length
+    (put_mid 8 (length (header ++ drop 8 old) - 8) (header ++ drop 8 old) out) ≡ 8 + 16 * count
+out_length header old out level count is long =
+    ap length (out_is header old out level count is) ∙ omega (arith, length-append (node_header level count) out, head_length level count, long)
 
 pub returns-clause-ok : goal.returns-clause-ok
 returns-clause-ok g c bytes entries is has long =
-    node_is bytes c.read_into.new.out c.args.level c.args.at _ entries has (c.requires.whole ∙ ap (λ (n : ℕ). 8 + 16 * n) (sym long)) (c.in_ok-read_into.ensures.ok bytes is)
+    node_is bytes _ c.args.level c.args.at entries has (returns-clause-is g c bytes is)
+    (out_length c.read_header.new.out c.args.out.now c.read_into.new.out c.args.level c.args.count c.in_ok-read_header.ensures.ok (omega (arith, c.requires.length))
+    ∙ ap (λ (n : ℕ). 8 + 16 * n) (sym long))
 
-pub returns-in_err-read_into-clause-causes : goal.returns-in_err-read_into-clause-causes
-returns-in_err-read_into-clause-causes g c =
-    let p = err_from_is_err_and c.from_residual.result c.from_residual.ensures.1 in
-    rw (p.1, p.2) (reads_within _ _ _ 2 (Err c.in_err-read_into.field-0.0)
-    (node_pages c.args.buffered.now.page c.args.at (length c.args.out.now) (omega (arith, c.requires.whole))) c.in_err-read_into.ensures.causes)
+pub returns-clause-whole : goal.returns-clause-whole
+returns-clause-whole g c bytes is =
+    omega (
+      arith,
+      at_ends bytes c.args.at _ (returns-clause-is g c bytes is),
+      out_length c.read_header.new.out c.args.out.now c.read_into.new.out c.args.level c.args.count c.in_ok-read_header.ensures.ok
+          (omega (arith, c.requires.length)),
+    )
 
-pub returns-in_err-check_header-clause-causes : goal.returns-in_err-check_header-clause-causes
-returns-in_err-check_header-clause-causes g c =
-    let p = err_from_is_err_and c.from_residual-in_err-check_header.result c.from_residual-in_err-check_header.ensures.1 in
-    rw (p.1, p.2) (damage_reads _ _ _ 2 _ c.in_err-check_header.field-0.0
-    (node_pages c.args.buffered.now.page c.args.at (length c.args.out.now) (omega (arith, c.requires.whole))) c.in_ok-read_into.ensures.causes)
-
-pub returns-clause-causes : goal.returns-clause-causes
-returns-clause-causes g c =
-    ok_reads _ _ 2 _ _ (reads_within _ _ _ 2 _
-    (node_pages c.args.buffered.now.page c.args.at (length c.args.out.now) (omega (arith, c.requires.whole))) c.in_ok-read_into.ensures.causes)
+pub returns-clause-read : goal.returns-clause-read
+returns-clause-read g c = reads_then _ _ _ _ _ _ _ _ _ _ _ c.read_header.ensures.read (record {
+  agrees = c.read_into.ensures.agrees;
+  covers = c.read_into.ensures.covers;
+  changes = c.read_into.ensures.changes;
+  buffered = c.read_into.ensures.buffered;
+  file = c.read_into.ensures.file;
+})

@@ -1,15 +1,14 @@
-use Rattle.std.proofs.Common.{Ok, ◌+◌, ◌*◌, subst, arith, Err}
+use Rattle.std.proofs.Common.{◌≡◌, Ok, ◌+◌, ◌*◌, subst, arith, Err}
 use Rattle.std.proofs.lemmas.Result.{err_from_is_err_and}
 use Rattle.sasi_host.specs.PageReading.{reads_nothing, reads_then}
 use Rattle.sasi_host.specs.declared.name.FileName.{FileName}
 use Rattle.sasi_host.specs.Damages.{DamageShown, TellsSize}
-use Rattle.sasi_tokentree.specs.Damages.{IsNodeOf}
+use Rattle.sasi_tokentree.specs.Damages.{BeginsLeaf, pair_place}
 use Rattle.sasi_tokentree.specs.Heights.{height}
 use Rattle.sasi_tokentree.proofs.EntryPages.{entry_pages}
-use Rattle.sasi_tokentree.specs.Scans.{pair_place}
-use Rattle.sasi_tokentree.proofs.AfterRead.{reads_still, shown_still}
+use Rattle.sasi_tokentree.proofs.AfterRead.{reads_still, tree_shown_more, tree_shown_still}
 use Rattle.sasi_host.specs.CauseLaws.{reads_on, ok_reads}
-use Rattle.sasi_tokentree.proofs.LeafPairs.{long_spares, long_shown, leaves_shown, gave_entry, level_spares, tree_spares_before, tree_stands_at, count_is, no_pairs, takes_none}
+use Rattle.sasi_tokentree.proofs.LeafPairs.{begins_leaf, long_spares, long_shown, leaves_shown, gave_entry, level_spares, tree_spares_before, tree_stands_at, count_is, no_pairs, takes_none}
 use Rattle.sasi_tokentree.proofs.pair_scan.first_from.Goals as goal
 
 pub returns-then-tree-eq0-clause-ok : goal.returns-then-tree-eq0-clause-ok
@@ -23,7 +22,7 @@ returns-then-is_too_long-clause-undamaged g c =
 
 pub returns-then-is_too_long-clause-damaged : goal.returns-then-is_too_long-clause-damaged
 returns-then-is_too_long-clause-damaged g c =
-    long_shown (g.H.Host.view c.args.host.now) c.args.buffered.now.file c.args.tree c.unexpected_end.result
+    long_shown (BeginsLeaf c.args.tree) (g.H.Host.view c.args.host.now) c.args.buffered.now.file c.args.tree c.unexpected_end.result
     (λ bytes is. (g.met.H.Host.sound c.args.host.now).fits c.args.buffered.now.file bytes is) (omega arith)
     (c.is_too_long.ensures.long c.if-is_too_long.true) (subst (λ (n : FileName). DamageShown (g.H.Host.view c.args.host.now) n (TellsSize n)
     c.unexpected_end.result) c.file.ensures c.unexpected_end.ensures.damaged)
@@ -31,7 +30,7 @@ returns-then-is_too_long-clause-damaged g c =
 pub returns-in_err-below-clause-damaged : goal.returns-in_err-below-clause-damaged
 returns-in_err-below-clause-damaged g c =
     let p = err_from_is_err_and c.from_residual.result c.from_residual.ensures.1 in
-    rw (p.1, p.2) (leaves_shown (g.H.Host.view c.args.host.now) c.args.buffered.now.file c.args.tree c.start_of-start.result c.in_err-below.field-0.0
+    rw (p.1, p.2) (leaves_shown (BeginsLeaf c.args.tree) (g.H.Host.view c.args.host.now) c.args.buffered.now.file c.args.tree c.start_of-start.result c.in_err-below.field-0.0
     c.start_of-start.ensures.is c.in_err-below.ensures.damaged)
 
 pub returns-clause-stands : goal.returns-clause-stands
@@ -47,8 +46,12 @@ returns-in_err-below-clause-undamaged g c =
 pub returns-in_err-found-clause-damaged : goal.returns-in_err-found-clause-damaged
 returns-in_err-found-clause-damaged g c =
     let p = err_from_is_err_and c.from_residual-in_err-found.result c.from_residual-in_err-found.ensures.1 in
-    rw (p.1, p.2) (shown_still (IsNodeOf c.args.tree) _ _ c.args.buffered.now.file _ c.in_err-found.field-0.0 c.count_below.ensures.read.changes
-    c.count_below.ensures.read.file c.in_err-found.ensures.damaged)
+    let v = g.H.Host.view c.args.host.now in
+    let count = c.in_ok-below.below.count in
+    rw (p.1, p.2) (tree_shown_more (λ index. index ≡ count) (BeginsLeaf c.args.tree) v c.args.buffered.now.file c.args.tree c.in_err-found.field-0.0
+    (λ bytes index is same lt short. begins_leaf bytes c.args.tree c.start_of-start.result count index c.start_of-start.ensures.is same lt short (c.in_ok-below.ensures.reached bytes is))
+    (tree_shown_still (λ index. index ≡ count) v _ c.args.buffered.now.file _ c.args.tree c.in_err-found.field-0.0 c.count_below.ensures.read.changes
+    c.count_below.ensures.read.file c.in_err-found.ensures.damaged))
 
 pub returns-in_err-found-clause-undamaged : goal.returns-in_err-found-clause-undamaged
 returns-in_err-found-clause-undamaged g c =

@@ -1,4 +1,4 @@
-use Rattle.std.proofs.Common.{◌<◌, length, subst, arith}
+use Rattle.std.proofs.Common.{◌≡◌, refl, ◌<◌, length, subst, arith}
 use Rattle.std.proofs.lemmas.Result.{err_from_is_err_and}
 use Rattle.sasi_host.specs.PageReading.{reads_nothing}
 use Rattle.sasi_host.specs.declared.name.FileName.{FileName}
@@ -25,7 +25,7 @@ returns-in_err-pair-clause-undamaged g c =
 
 pub returns-then-is_too_long-clause-damaged : goal.returns-then-is_too_long-clause-damaged
 returns-then-is_too_long-clause-damaged g c =
-    long_shown (g.H.Host.view c.args.host.now) c.args.buffered.now.file c.args.tree c.unexpected_end.result
+    long_shown (λ index. index ≡ c.args.passed) (g.H.Host.view c.args.host.now) c.args.buffered.now.file c.args.tree c.unexpected_end.result
     (λ bytes is. (g.met.H.Host.sound c.args.host.now).fits c.args.buffered.now.file bytes is) (omega arith)
     (c.is_too_long.ensures.long c.if-is_too_long.true) (subst (λ (n : FileName). DamageShown (g.H.Host.view c.args.host.now) n (TellsSize n)
     c.unexpected_end.result) c.file.ensures c.unexpected_end.ensures.damaged)
@@ -33,8 +33,8 @@ returns-then-is_too_long-clause-damaged g c =
 pub returns-in_err-pair-clause-damaged : goal.returns-in_err-pair-clause-damaged
 returns-in_err-pair-clause-damaged g c =
     let p = err_from_is_err_and c.from_residual.result c.from_residual.ensures.1 in
-    rw (p.1, p.2) (pair_shown (g.H.Host.view c.args.host.now) c.args.buffered.now.file c.args.tree c.start_of.result c.args.passed c.in_err-pair.field-0.0
-    (omega arith) c.start_of.ensures.is c.in_err-pair.ensures.damaged)
+    rw (p.1, p.2) (pair_shown (λ index. index ≡ c.args.passed) (g.H.Host.view c.args.host.now) c.args.buffered.now.file c.args.tree c.start_of.result c.args.passed c.in_err-pair.field-0.0
+    refl (omega arith) c.start_of.ensures.is c.in_err-pair.ensures.damaged)
 
 pub returns-clause-stands : goal.returns-clause-stands
 returns-clause-stands g c = gives_entry (g.H.Host.view c.args.host.now) c.args.buffered.now.file c.args.tree c.start_of.result c.args.passed

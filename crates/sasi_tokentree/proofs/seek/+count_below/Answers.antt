@@ -9,7 +9,7 @@ use Rattle.sasi_tokentree.proofs.AfterRead.{reads_still, shown_still}
 use Rattle.sasi_tokentree.proofs.NodeReads.{shown_more, node_of_one}
 use Rattle.sasi_tokentree.proofs.StoredLevels.{stands_one, none_below, below_in}
 use Rattle.sasi_host.specs.CauseLaws.{ok_reads, reads_within}
-use Rattle.sasi_tokentree.proofs.Seeks.{spares_one, spares_up, spares_before, up, up_length, one_level_reads, above_reads, more_level_reads}
+use Rattle.sasi_tokentree.proofs.Seeks.{spares_one, spares_up, spares_before, up, up_length, one_level_reads, above_reads, more_level_reads, reached_in_one, reached_none}
 use Rattle.sasi_tokentree.proofs.seek.+count_below.Goals as goal
 
 pub returns-in_err-below-clause-undamaged : goal.returns-in_err-below-clause-undamaged
@@ -102,3 +102,14 @@ returns-in_err-below-2-clause-read g t c = reads_then _ _ _ _ _ _ _ _ _ _ _ c.co
 
 pub returns-clause-read : goal.returns-clause-read
 returns-clause-read g t c = reads_then _ _ _ _ _ _ _ _ _ _ _ c.count_below.ensures.read c.count_in_node.ensures.read
+
+pub returns-then-count-le-MAX_ENTRIES-clause-reached : goal.returns-then-count-le-MAX_ENTRIES-clause-reached
+returns-then-count-le-MAX_ENTRIES-clause-reached g t c bytes is = reached_in_one bytes c.args.at c.args.count c.in_ok-below.below.count (omega arith) (c.in_ok-below.ensures.whole bytes is)
+
+pub returns-then-above-eq0-clause-reached : goal.returns-then-above-eq0-clause-reached
+returns-then-above-eq0-clause-reached g t c bytes is = reached_none bytes c.args.at c.args.count (omega arith)
+
+pub returns-clause-reached : goal.returns-clause-reached
+returns-clause-reached g t c bytes is =
+    let now = reads_still _ _ c.args.buffered.now.file _ bytes c.count_below.ensures.read.changes c.count_below.ensures.read.file is in
+    c.in_ok-below-2.ensures.reached bytes now (omega arith)

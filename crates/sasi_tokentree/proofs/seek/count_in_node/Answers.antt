@@ -4,7 +4,7 @@ use Rattle.sasi_tokentree.specs.Format.{entries_of_node}
 use Rattle.sasi_tokentree.specs.Damages.{IsNodeFrom}
 use Rattle.sasi_tokentree.proofs.NodeReads.{shown_more, node_of_level}
 use Rattle.sasi_tokentree.proofs.StoredLevels.{stands_node}
-use Rattle.sasi_tokentree.proofs.Seeks.{part_size, spares_part}
+use Rattle.sasi_tokentree.proofs.Seeks.{part_size, spares_part, reached_in_node}
 use Rattle.sasi_tokentree.proofs.seek.count_in_node.Goals as goal
 
 pub returns-in_err-below-clause-undamaged : goal.returns-in_err-below-clause-undamaged
@@ -23,3 +23,7 @@ pub returns-clause-ok : goal.returns-clause-ok
 returns-clause-ok g c bytes entries is stands long =
     c.in_ok-below.ensures.ok bytes (entries_of_node entries c.args.node) is (stands_node bytes c.args.level c.args.at entries c.args.node stands
     (omega (arith, long))) (part_size entries c.args.node c.args.count c.min-here.result long (omega arith))
+
+pub returns-clause-reached : goal.returns-clause-reached
+returns-clause-reached g c bytes is many =
+    reached_in_node bytes c.args.at c.args.count c.args.node c.min-here.result c.in_ok-below.below.count many c.in_ok-below.ensures.within (omega arith) (c.in_ok-below.ensures.whole bytes is)

@@ -1,7 +1,7 @@
 use Rattle.std.proofs.Common.{subst}
 use Rattle.std.proofs.lemmas.Result.{err_from_is_err_and}
 use Rattle.sasi_host.specs.Damages.{DamageShown}
-use Rattle.sasi_tokentree.specs.Damages.{ShowsTree}
+use Rattle.sasi_tokentree.specs.Damages.{BeginsLeaf, ShowsTreeBy}
 use Rattle.sasi_tokentree.specs.Reads.{NoFalseTreeDamage}
 use Rattle.sasi_tokentree.specs.Scans.{ReadsEntry, ReadsFirstPair, PairScan}
 use Rattle.sasi_tokentree.proofs.tree.Tree.first.Goals as goal
@@ -14,7 +14,8 @@ returns-in_err-found-clause-undamaged g c =
 pub returns-in_err-found-clause-damaged : goal.returns-in_err-found-clause-damaged
 returns-in_err-found-clause-damaged g c =
     let p = err_from_is_err_and c.from_residual.result c.from_residual.ensures.1 in
-    rw (p.1, p.2) (subst (λ (h : PairScan). DamageShown (g.H.Host.view c.args.host.now) h.buffered.file (ShowsTree h.buffered.file h.tree) c.in_err-found.field-0.0) c.self.view_is c.in_err-found.ensures.damaged)
+    rw (p.1, p.2) (subst (λ (h : PairScan). DamageShown (g.H.Host.view c.args.host.now) h.buffered.file (ShowsTreeBy (BeginsLeaf h.tree) h.buffered.file h.tree)
+    c.in_err-found.field-0.0) c.self.view_is c.in_err-found.ensures.damaged)
 
 pub returns-clause-stands : goal.returns-clause-stands
 returns-clause-stands g c = subst (λ (h : PairScan). ReadsEntry (g.H.Host.view c.args.host.now) h.buffered.file h.tree c.in_ok-found.found.passed

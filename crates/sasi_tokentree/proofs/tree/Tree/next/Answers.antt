@@ -1,12 +1,12 @@
-use Rattle.std.proofs.Common.{arith, Ok, ℕ, ◌∙◌, ap, subst, Err}
+use Rattle.std.proofs.Common.{◌≡◌, arith, Ok, ℕ, ◌∙◌, ap, subst, Err}
 use Rattle.std.proofs.lemmas.Result.{err_from_is_err_and}
 use Rattle.sasi_host.specs.View.{ReadsAtMost}
 use Rattle.sasi_host.specs.Damages.{DamageShown}
 use Rattle.sasi_host.specs.Buffered.{Buffered, unbuffered_pages}
 use Rattle.sasi_tokentree.specs.declared.pair_scan.ScannedPair.{ScannedPair}
-use Rattle.sasi_tokentree.specs.Damages.{ShowsTree}
+use Rattle.sasi_tokentree.specs.Damages.{ShowsTreeBy, pair_place}
 use Rattle.sasi_tokentree.specs.Reads.{NoFalseTreeDamage}
-use Rattle.sasi_tokentree.specs.Scans.{ReadsEntry, ReadsNextPair, PairScan, pair_place}
+use Rattle.sasi_tokentree.specs.Scans.{ReadsEntry, ReadsNextPair, PairScan}
 use Rattle.sasi_host.specs.CauseLaws.{fault_reads, ok_reads}
 use Rattle.sasi_tokentree.proofs.tree.Tree.next.Goals as goal
 
@@ -41,7 +41,8 @@ returns-clause-none g c is = let same = c.in_ok-found.ensures.none is in ap (λ 
 pub returns-in_err-found-clause-damaged : goal.returns-in_err-found-clause-damaged
 returns-in_err-found-clause-damaged g c =
     let p = err_from_is_err_and c.from_residual.result c.from_residual.ensures.1 in
-    rw (p.1, p.2) (subst (λ (h : PairScan). DamageShown (g.H.Host.view c.args.host.now) h.buffered.file (ShowsTree h.buffered.file h.tree) c.in_err-found.field-0.0) c.self.view_is c.in_err-found.ensures.damaged)
+    rw (p.1, p.2) (subst (λ (h : PairScan). DamageShown (g.H.Host.view c.args.host.now) h.buffered.file (ShowsTreeBy (λ index. index ≡ h.passed) h.buffered.file h.tree)
+    c.in_err-found.field-0.0) c.self.view_is c.in_err-found.ensures.damaged)
 
 pub returns-clause-stands : goal.returns-clause-stands
 returns-clause-stands g c = subst (λ (h : PairScan). ReadsEntry (g.H.Host.view c.args.host.now) h.buffered.file h.tree c.in_ok-found.found.passed
