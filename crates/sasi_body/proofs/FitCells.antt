@@ -47,9 +47,9 @@ pub value_fits : (listed : List ColumnType) (column : ℕ) (v : Option Value) �
 value_fits listed zero None h = let none : None ≡ Some (Text []) = h.marker refl in absurd cc
 value_fits listed (suc c) None h =
     let may : may_be (suc c) false ≡ true = search rules in
-    ((tag_fits (suc c) false may, refl), refl)
+    tag_fits (suc c) false may
 value_fits listed column (Some x) h =
-    ((tag_fits column true refl, live_fits listed column x h.has (λ none. let is : Some x ≡ Some (Text []) = h.marker none in cc) (λ some. h.typed_is x refl some)), refl)
+    (tag_fits column true refl, live_fits listed column x h.has (λ none. let is : Some x ≡ Some (Text []) = h.marker none in cc) (λ some. h.typed_is x refl some))
 
 not_marker : (column : ℕ) → may_be column false ≡ true → 1 ≤ column
 not_marker zero h = absurd cc
@@ -87,9 +87,9 @@ fits_live listed column x h = by_test (column == 0) refl h where
 
 pub fits_value : (listed : List ColumnType) (column : ℕ) (v : Option Value) → Fits (value listed column) v → FitsColumn listed column v
 fits_value listed column None h =
-    let some = not_marker column (fits_checked rule.Number 1 (may_be column) flag false h.0.0).1 in
+    let some = not_marker column (fits_checked rule.Number 1 (may_be column) flag false h).1 in
     record { has = tt; marker = λ none. absurd (omega (arith, some, none)); typed_is = λ x same _. absurd cc }
-fits_value listed column (Some x) h = fits_live listed column x h.0.1
+fits_value listed column (Some x) h = fits_live listed column x h.1
 
 -- ---- cells
 

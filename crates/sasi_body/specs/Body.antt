@@ -14,10 +14,10 @@ use Rattle.sasi_types.specs.declared.value.Value.{Value}
 use Rattle.sasi_types.specs.Value.{stored}
 use Rattle.sasi_model.specs.Step.{value_stored}
 use Rattle.sasi_model.specs.Cells.{Partition}
-use Rattle.sasi_formats.specs.Formats.{Coding, Format, Sized, Then, Counted, encoded}
+use Rattle.sasi_formats.specs.Formats.{Coding, Format, Sized, Then, Optional, Counted, encoded}
 use Rattle.std.specs.Bool.{then_some}
 use Rattle.sasi_formats.specs.Codings.{when_is, passing}
-use Rattle.sasi_formats.specs.Fields.{◌&◌, number, in_range, checked, mapped, flag, optional, last}
+use Rattle.sasi_formats.specs.Fields.{◌&◌, number, in_range, checked, mapped, flag, last}
 pub use Rattle.sasi_model.specs.Stored.{Entry, cells_of, HasBody, IsBodyOf}
 
 -- ---- values of a type
@@ -70,7 +70,7 @@ tag column = checked rule.Number 1 (λ live. live || nat_lt 0 column) flag
 
 -- behind the 1 a length, and the stored bytes of a value
 abbrev pub value : List ColumnType → ℕ → Format (Option Value)
-value listed column = optional (tag column) (Sized (in_range w16 0 (if column == 0 then 0 else 2 ^ 16 - 1)) rule.Text (typed (kind_of listed column)))
+value listed column = Optional (tag column) (Sized (in_range w16 0 (if column == 0 then 0 else 2 ^ 16 - 1)) rule.Text (typed (kind_of listed column)))
 
 -- the column, the timestamp, and the value
 abbrev pub cell : List ColumnType → ℕ → List Entry → Format Entry

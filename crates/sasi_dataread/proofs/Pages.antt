@@ -1,8 +1,9 @@
 -- What reading on costs, with a page in hand.
-use Rattle.std.proofs.Common.{◌≡◌, ◌≢◌, ◌⊎◌, ℕ, zero, suc, add-one, [], ◌∷◌, ◌++◌, length, take, drop, sym, ◌∙◌, subst, lit<, length-append, ◌+◌, ◌-◌, ◌*◌, ◌/◌, ◌^◌, ◌<◌, ◌≤◌, Bool, Option, None, Some, refl, inl, inr, ap, arith, ⊎_elim}
+use Rattle.std.proofs.Common.{◌≡◌, ◌≢◌, ◌⊎◌, ℕ, zero, suc, add-one, [], ◌∷◌, ◌++◌, length, take, drop, sym, ◌∙◌, subst, lit<, length-append, ◌+◌, ◌-◌, ◌/◌, ◌^◌, ◌<◌, ◌≤◌, Bool, Option, None, Some, inl, inr, ap, arith, ⊎_elim}
 use Rattle.std.specs.Prelude.{if◌then◌else◌}
 use Rattle.std.proofs.lemmas.Bool.Decides.{eqb_tells}
-use Rattle.sasi_host.specs.Buffered.{Buffered, buffered_at, unbuffered_pages}
+use Rattle.sasi_host.specs.Buffered.{Buffered, buffered_at, reached, unbuffered_pages}
+use Rattle.sasi_host.proofs.Pages.{fresh_reaches}
 use Rattle.sasi_types.specs.declared.tree.TreeRef.{TreeRef}
 use Rattle.sasi_model.specs.Cells.{Partition}
 use Rattle.sasi_host.specs.Names.{Bytes}
@@ -13,7 +14,7 @@ use Rattle.sasi_datawrite.specs.Format.{Content, front, header, partition_bytes,
 use Rattle.sasi_datawrite.proofs.Laws.{partition_length}
 use Rattle.sasi_dataread.specs.Opened.{Opened}
 use Rattle.sasi_dataread.specs.Bodies.{partition_reads}
-use Rattle.sasi_dataread.specs.ReadCosts.{reached, scan_of, IsSequential, ReadsEachPageOnce}
+use Rattle.sasi_dataread.specs.ReadCosts.{scan_of, IsSequential, ReadsEachPageOnce}
 
 -- a page is that of a place, or another
 hand : (page at : ℕ) → ((page ≡ at / 4096) × (buffered_at (Some page) at ≡ 1)) ⊎ ((page ≢ at / 4096) × (buffered_at (Some page) at ≡ 0))
@@ -29,13 +30,6 @@ fresh_on buffered at n m some = ⊎_elim
     (λ yes. omega (arith, yes.0, yes.1, at_most_one buffered at))
     (λ no. omega (arith, no.0, no.1, at_most_one buffered at))
     (hand ((at + n - 1) / 4096) (at + n))
-
--- and who goes on reads no more than the pages that it comes to
-pub fresh_reaches : (buffered : Option ℕ) (at n : ℕ) → 0 < n → ((page : ℕ) → buffered ≡ Some page → 4096 * page < at) → unbuffered_pages buffered at n + reached buffered ≤ (at + n - 1) / 4096 + 1
-fresh_reaches None at n some behind = omega arith
-fresh_reaches (Some page) at n some behind =
-    let before = behind page refl in
-    ⊎_elim (λ yes. omega (arith, before, yes.0, yes.1)) (λ no. omega (arith, before, no.0, no.1)) (hand page at)
 
 pub few_pages : (buffered : Option ℕ) (at n : ℕ) → n ≤ 2 ^ 23 + 4 → unbuffered_pages buffered at n ≤ 2050
 few_pages buffered at n le = omega (arith, le)
@@ -91,7 +85,7 @@ goes_on bytes content rest opened tree after buffered now place key part r0 r1 r
     let pp = pair_place opened.tree tree.passed in
     let size = length (body key part) in
     let same : pair_place tree.tree tree.passed ≡ pp = ap (λ (t : TreeRef). pair_place t tree.passed) tree_is in
-    let one = fresh_reaches tree.buffered.page pp 16 (lit< tt) sequential.pairs in
+    let one = fresh_reaches tree.buffered.page pp 16 (lit< tt) (λ p is. omega (arith, sequential.pairs p is)) in
     let two = fresh_reaches buffered.page place (4 + size) (omega arith) (λ p is. omega (arith, place_is, sequential.partitions p is)) in
     let fresh_same : unbuffered_pages tree.buffered.page (pair_place tree.tree tree.passed) 16 ≡ unbuffered_pages tree.buffered.page pp 16 = ap (λ (n : ℕ). unbuffered_pages tree.buffered.page n 16) same in
     let reached_one : reached after.buffered.page ≡ suc ((pp + 15) / 4096) = ap reached pairs_page ∙ ap (λ (n : ℕ). suc ((n + 15) / 4096)) same in

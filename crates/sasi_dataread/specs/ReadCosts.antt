@@ -1,8 +1,8 @@
 -- How many pages a scan of a data file reads.
-use Rattle.std.specs.Prelude.{◌≡◌, ℕ, suc, ◌+◌, ◌*◌, ◌/◌, ◌<◌, ◌≤◌, length, take, Option, None, Some}
+use Rattle.std.specs.Prelude.{◌≡◌, ℕ, ◌+◌, ◌*◌, ◌/◌, ◌<◌, ◌≤◌, length, take, None, Some}
 use Rattle.std.proofs.Common.{ap, arith, sym, ◌∙◌}
 use Rattle.sasi_host.specs.Names.{Bytes}
-use Rattle.sasi_host.specs.Buffered.{Buffered}
+use Rattle.sasi_host.specs.Buffered.{Buffered, reached}
 use Rattle.sasi_tokentree.specs.Damages.{pair_place}
 use Rattle.sasi_tokentree.specs.Scans.{PairScan}
 use Rattle.sasi_datawrite.specs.Format.{Content, front}
@@ -13,12 +13,7 @@ use Rattle.sasi_dataread.specs.Scans.{DataScan}
 abbrev pub file_pages : Bytes → ℕ
 file_pages bytes = (length bytes + 4095) / 4096
 
--- the pages up to the buffered one
-abbrev pub reached : Option ℕ → ℕ
-reached None = 0
-reached (Some page) = suc page
-
--- those up to the one of the key tree, and those up to the one of the partitions
+-- the pages up to the buffered one of the key tree, and those up to the one of the partitions
 abbrev pub progress : DataScan → ℕ
 progress walk = reached walk.pairs_buffered.page + reached walk.buffered.page
 

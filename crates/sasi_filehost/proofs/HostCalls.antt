@@ -25,6 +25,21 @@ pub disk_causes : {T E : Type 0} (t u : Tally) (result : Result T E) → u ≡ a
 disk_causes t u (Ok x) is later = record { disk = later; out = ap (λ (v : Tally). v.out_faults) is; reads = ap (λ (v : Tally). v.reads) is; ok = ap (λ (v : Tally). v.disk_faults) is; failed = tt }
 disk_causes t u (Err e) is later = record { disk = later; out = ap (λ (v : Tally). v.out_faults) is; reads = ap (λ (v : Tally). v.reads) is; ok = tt; failed = call_failed t u is }
 
+-- what a file call that reads nothing promises of the counts
+pub record IsCounted {T E : Type 0} (S : Relation) (t u : Tally) (result : Result T E) : Type 0 where
+  pub changes : Changes S (view_of t) (view_of u)
+  pub call : IsCall (view_of t) (view_of u) (is_err result)
+  pub causes : DiskCauses (view_of t) (view_of u) result
+
+-- it is counted on the tally that the host had before
+pub counted_on : {T E : Type 0} {t now u : Tally} {result : Result T E} (S : Relation) → t ≡ now → u ≡ after_call (is_err result) t → t.calls ≤ 2 ^ 64 - 1
+    → t.disk_faults ≤ u.disk_faults → IsCounted S now u result
+counted_on {t = t} {u = u} {result = result} S same is few later = subst (λ (v : Tally). IsCounted S v u result) same (record {
+  changes = call_changes S (is_err result) t u t.reads is few;
+  call = is_call (is_err result) t u t.reads is;
+  causes = disk_causes t u result is later;
+})
+
 -- a read is counted first
 pub read_causes : {T E : Type 0} (t u : Tally) (n : ℕ) (result : Result T E) → u ≡ after_call (is_err result) (record t { reads = n }) → n ≡ counted t.reads
     → t.disk_faults ≤ u.disk_faults → ReadCauses (view_of t) (view_of u) result

@@ -7,9 +7,8 @@ use Rattle.std.specs.List.{AllByRecursion, list_any}
 use Rattle.sasi_types.specs.declared.statement.Statement.TheVariants.{CreateTable}
 use Rattle.sasi_model.specs.Statements.{same}
 use Rattle.sasi_model.specs.State.{Column, Definition, State, definition_of, position_in}
-use Rattle.sasi_model.specs.Abbreviations.{definitions, one_more, NoColumn, first_of}
+use Rattle.sasi_model.specs.Abbreviations.{definitions, key_position, one_more, NoColumn, first_of}
 use Rattle.sasi_model.specs.Refusals.{Rule, create_rules, names_in, refusal, repeat_rules}
-use Rattle.sasi_model.specs.Step.{key_position}
 use Rattle.sasi_model.specs.WellFormed.{IsWellFormed, IsWellFormedColumn}
 use Rattle.sasi_manifest.specs.declared.listing.Listing.{Listing}
 use Rattle.sasi_manifest.specs.Consistent.{IsConsistent}

@@ -1,17 +1,18 @@
 -- How a folder goes from state to state: a mutation at the end of the last segment, and one more table in the manifest.
-use Rattle.std.specs.Prelude.{◌≡◌, ◌≢◌, ◌⊎◌, ℕ, zero, suc, ◌+◌, ◌-◌, ◌≤◌, ◌<◌, true, false, cond, nat_eq, nat_le, List, [], ◌∷◌, ◌++◌, length, map, slice_get, Some, refl}
+use Rattle.std.specs.Prelude.{◌≡◌, ◌≢◌, ◌⊎◌, ℕ, zero, suc, ◌+◌, ◌-◌, ◌≤◌, ◌<◌, true, false, cond, nat_eq, nat_le, List, [], ◌∷◌, ◌++◌, length, map, slice_get, Option, None, Some, refl}
 use Rattle.std.proofs.Common.{sym, ap, subst, ◌∙◌, inl, inr, ⊎_elim, arith}
 use Rattle.std.proofs.lemmas.List.{map-append, length-map, length-append}
 use Rattle.std.proofs.lemmas.Bool.Decides.{nat_tests}
 use Rattle.std.specs.FinMap.{get}
-use Rattle.std.specs.List.{AllByRecursion}
+use Rattle.std.specs.List.{AllByRecursion, cons_option}
+use Rattle.std.specs.Option.{option_map}
 use Rattle.sasi_types.specs.declared.column.ColumnType.{ColumnType}
 use Rattle.sasi_host.specs.declared.name.FileName.{FileName}
 use Rattle.sasi_host.specs.Names.{Bytes, Folder, log_name, manifest_name, seal_name}
 use Rattle.sasi_host.specs.Disk.{FileChange, LeftWith}
 use Rattle.sasi_model.specs.State.{Table, decorated}
 use Rattle.sasi_model.specs.Changes.{after_change, empty_table, with_new_table}
-use Rattle.sasi_model.specs.Stored.{types_of}
+use Rattle.sasi_model.specs.Stored.{column_types}
 use Rattle.sasi_gated.specs.Format.{IsGated}
 use Rattle.sasi_cells.specs.declared.mutation.Mutation.{Mutation}
 use Rattle.sasi_commitlog.specs.Format.{IsMutationOf, Tables, payload_of, types_in}
@@ -109,20 +110,30 @@ pub record IsListedAt (tables : List ListedDefinition) (number : ℕ) (types : L
   pub inside : number ≤ length tables
   pub table : ListedDefinition
   pub there : slice_get tables (number - 1) ≡ Some table
-  pub types_are : types ≡ types_of table.definition
+  pub types_are : column_types table.definition ≡ Some types
 
-listed_from : (first : ℕ) (tables : List ListedDefinition) (number : ℕ) (types : List ColumnType) → types_in (numbered_types first tables) number ≡ Some types → (index : ℕ) × (number ≡ first + index) × (table : ListedDefinition) × (slice_get tables index ≡ Some table) × (types ≡ types_of table.definition)
-listed_from first [] number types is = cc
-listed_from first (t ∷ tables) number types is =
-    elim (nat_eq first number) as (λ b. nat_eq first number ≡ b → cond b (Some (types_of t.definition)) (types_in (numbered_types (suc first) tables) number) ≡ Some types → (index : ℕ) × (number ≡ first + index) × (table : ListedDefinition) × (slice_get (t ∷ tables) index ≡ Some table) × (types ≡ types_of table.definition)) [
+-- and these are its types
+abbrev IsFoundAt : ℕ → List ListedDefinition → ℕ → List ColumnType → Type 0
+IsFoundAt first tables number types = (index : ℕ) × (number ≡ first + index) × (table : ListedDefinition) × (slice_get tables index ≡ Some table) × (column_types table.definition ≡ Some types)
+
+found_behind : (first : ℕ) (t : ListedDefinition) (tables : List ListedDefinition) (number : ℕ) (types : List ColumnType) → IsFoundAt (suc first) tables number types → IsFoundAt first (t ∷ tables) number types
+found_behind first t tables number types later = (suc later.0, omega (arith, later.1), later.2, later.3, later.4)
+
+found_by : (found : Option (List ColumnType)) (first : ℕ) (t : ListedDefinition) (tables : List ListedDefinition) (number : ℕ) (types : List ColumnType) → column_types t.definition ≡ found
+    → (types_in (numbered_types (suc first) tables) number ≡ Some types → IsFoundAt (suc first) tables number types)
+    → types_in (cons_option (option_map (λ types. (first, types)) found) (numbered_types (suc first) tables)) number ≡ Some types → IsFoundAt first (t ∷ tables) number types
+found_by None first t tables number types none later is = found_behind first t tables number types (later is)
+found_by (Some own) first t tables number types some later is =
+    elim (nat_eq first number) as (λ b. nat_eq first number ≡ b → cond b (Some own) (types_in (numbered_types (suc first) tables) number) ≡ Some types → IsFoundAt first (t ∷ tables) number types) [
       | true ↦ λ here e.
-          let same_types : types_of t.definition ≡ types = cc in
           let same_number : first ≡ number = grind (arith, nat_tests) in
-          (0, omega arith, t, refl, sym same_types)
-      | false ↦ λ other e.
-          let later = listed_from (suc first) tables number types e in
-          (suc later.0, omega (arith, later.1), later.2, later.3, later.4)
+          (0, omega arith, t, refl, some ∙ e)
+      | false ↦ λ other e. found_behind first t tables number types (later e)
     ] refl is
+
+listed_from : (first : ℕ) (tables : List ListedDefinition) (number : ℕ) (types : List ColumnType) → types_in (numbered_types first tables) number ≡ Some types → IsFoundAt first tables number types
+listed_from first [] number types is = cc
+listed_from first (t ∷ tables) number types is = found_by (column_types t.definition) first t tables number types refl (λ e. listed_from (suc first) tables number types e) is
 
 inside_of : (tables : List ListedDefinition) (index : ℕ) (t : ListedDefinition) → slice_get tables index ≡ Some t → index < length tables
 inside_of [] index t got = cc
@@ -177,11 +188,21 @@ pub record AddsTable (listing next : Listing) (t : ListedDefinition) : Type 0 wh
   pub last : next.last ≡ listing.last
   pub tables : next.tables ≡ listing.tables ++ t ∷ []
 
-types_push : (first : ℕ) (tables : List ListedDefinition) (t : ListedDefinition) → numbered_types first (tables ++ t ∷ []) ≡ numbered_types first tables ++ (first + length tables, types_of t.definition) ∷ []
-types_push first [] t = let e : first + 0 ≡ first = omega arith in rw e refl
+-- a table's types under its number
+abbrev entry_of : ℕ → ListedDefinition → Tables
+entry_of number t = cons_option (option_map (λ types. (number, types)) (column_types t.definition)) []
+
+types_push : (first : ℕ) (tables : List ListedDefinition) (t : ListedDefinition) → numbered_types first (tables ++ t ∷ []) ≡ numbered_types first tables ++ entry_of (first + length tables) t
+types_push first [] t = let e : first ≡ first + 0 = omega arith in ap (λ (n : ℕ). entry_of n t) e
 types_push first (x ∷ tables) t =
-    let e : first + length (x ∷ tables) ≡ suc first + length tables = omega arith in
-    rw e (ap (λ (rest : Tables). (first, types_of x.definition) ∷ rest) (types_push (suc first) tables t))
+    let e : suc first + length tables ≡ first + length (x ∷ tables) = omega arith in
+    let own = option_map (λ (types : List ColumnType). (first, types)) (column_types x.definition) in
+    ap (cons_option own) (types_push (suc first) tables t ∙ ap (λ (n : ℕ). numbered_types (suc first) tables ++ entry_of n t) e)
+    ∙ behind own (numbered_types (suc first) tables) (entry_of (first + length (x ∷ tables)) t)
+  where
+    behind : (own : Option (ℕ × List ColumnType)) (a b : Tables) → cons_option own (a ++ b) ≡ cons_option own a ++ b
+    behind None a b = refl
+    behind (Some entry) a b = refl
 
 types_kept : (tables more : Tables) (number : ℕ) (types : List ColumnType) → types_in tables number ≡ Some types → types_in (tables ++ more) number ≡ Some types
 types_kept [] more number types is = cc

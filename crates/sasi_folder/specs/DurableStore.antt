@@ -1,5 +1,5 @@
 -- An open store: what each image of its folder holds.
-use Rattle.std.specs.Prelude.{◌≡◌, ◌⊎◌, ◌+◌, List, [], ◌∷◌, ◌++◌}
+use Rattle.std.specs.Prelude.{◌≡◌, ◌⊎◌, List, [], ◌∷◌, ◌++◌}
 use Rattle.sasi_host.specs.Names.{Folder, log_name}
 use Rattle.sasi_host.specs.View.{View}
 use Rattle.sasi_host.specs.ChangeLaws.{Each}

@@ -1,13 +1,13 @@
 -- The reader gives each value whose bytes are next, and the corruption where they break the format.
 use Rattle.std.proofs.Common.{◌≡◌, ◌≤◌, ◌<◌, ℕ, zero, suc, Bool, true, false, List, [], ◌∷◌, ◌++◌, length, take, drop, refl, sym, ap, ◌∙◌, append_assoc, append-nil, ◌⊎◌, inl, inr, if◌then◌else◌, arith, rules, length-append}
-use Rattle.std.specs.Prelude.{nat_lt}
+use Rattle.std.specs.Prelude.{nat_lt, Option, None, Some}
 use Rattle.std.proofs.lemmas.List.{take_at, drop_at}
 use Rattle.sasi_host.specs.Names.{Bytes}
 use Rattle.sasi_host.specs.declared.damage.FormatRule.{FormatRule}
 use Rattle.sasi_fields.specs.Reading.{Reading, ReadsField}
-use Rattle.sasi_formats.specs.Formats.{Coding, Format, Empty, Sized, Then, Decoded, Choice, Counted, Part, are_items, Encodes}
+use Rattle.sasi_formats.specs.Formats.{Coding, Format, Empty, Sized, Then, Decoded, Optional, Counted, Part, are_items, Encodes}
 use Rattle.sasi_formats.specs.Reader.{Corruption, Short, Outcome, Got, Failed, ◌>>=◌, outcome_as, passed, tried, took, taken, read_items, read}
-use Rattle.sasi_formats.specs.Failures.{IsShort, HasNoValue, fails_either, fail_items, Fails}
+use Rattle.sasi_formats.specs.Failures.{IsShort, HasNoValue, fails_where, fail_items, Fails}
 
 pub same_reading : (s t : Reading) → s.done ≡ t.done → s.left ≡ t.left → s ≡ t
 same_reading s t done left =
@@ -83,14 +83,12 @@ complete (Then first next) value field s t h passes =
 complete (Decoded rule seen coding format) value field s t h passes =
     ap (λ (r : Outcome _). r >>= λ a behind. tried (coding.decode a) rule (length s.done) (take seen s.left) behind) (complete format (coding.encode value) field s t h.is passes)
     ∙ ap (λ v. tried v rule (length s.done) (take seen s.left) t) h.is_value
-complete (Choice choice first second) (inl a) field s t h passes =
+complete (Optional choice format) None field s t h passes =
+    ap (λ (r : Outcome Bool). r >>= λ b s. if b then outcome_as (λ a. Some a) (read format s) else Got None s) (complete choice false field s t h passes)
+complete (Optional choice format) (Some a) field s t h passes =
     let mid = midway h.front h.behind s t in
-    ap (λ (r : Outcome Bool). r >>= λ b s. if b then outcome_as (λ a. inl a) (read first s) else outcome_as (λ b. inr b) (read second s)) (complete choice true h.front s mid h.starts (passes_first h.front h.behind field s t h.whole passes))
-    ∙ ap (outcome_as (λ a. inl a)) (complete first a h.behind mid t h.ends (passes_second h.front h.behind field s t h.whole passes))
-complete (Choice choice first second) (inr b) field s t h passes =
-    let mid = midway h.front h.behind s t in
-    ap (λ (r : Outcome Bool). r >>= λ b s. if b then outcome_as (λ a. inl a) (read first s) else outcome_as (λ b. inr b) (read second s)) (complete choice false h.front s mid h.starts (passes_first h.front h.behind field s t h.whole passes))
-    ∙ ap (outcome_as (λ b. inr b)) (complete second b h.behind mid t h.ends (passes_second h.front h.behind field s t h.whole passes))
+    ap (λ (r : Outcome Bool). r >>= λ b s. if b then outcome_as (λ a. Some a) (read format s) else Got None s) (complete choice true h.front s mid h.starts (passes_first h.front h.behind field s t h.whole passes))
+    ∙ ap (outcome_as (λ a. Some a)) (complete format a h.behind mid t h.ends (passes_second h.front h.behind field s t h.whole passes))
 complete (Counted count item) values field s t h passes =
     let mid = midway h.front h.behind s t in
     ap (λ (r : Outcome ℕ). r >>= λ n s. read_items (λ before. read (item before)) n [] s) (complete count (length values) h.front s mid h.starts (passes_first h.front h.behind field s t h.whole passes))
@@ -117,10 +115,10 @@ failed_taken rule coding n s f (inr h) =
     ∙ ap (λ v. tried v rule (length s.done) (take 8 h.field) t) h.none
     ∙ ap (λ (x : Corruption). Failed x) (sym h.is)
 
-failed_either : {A B : Type 0} (r : Outcome A) (q : Outcome B) (first second : Reading → Corruption → Type 0) (t : Reading) (f : Corruption) → (first t f → r ≡ Failed f) → (second t f → q ≡ Failed f)
-    → (b : Bool) → fails_either first second b t f → (if b then outcome_as {B = A ⊎ B} (λ a. inl a) r else outcome_as (λ b. inr b) q) ≡ Failed f
-failed_either r q first second t f on_first on_second true h = ap (outcome_as (λ a. inl a)) (on_first h)
-failed_either r q first second t f on_first on_second false h = ap (outcome_as (λ b. inr b)) (on_second h)
+failed_where : {A : Type 0} (r : Outcome A) (fails : Reading → Corruption → Type 0) (t : Reading) (f : Corruption) → (fails t f → r ≡ Failed f)
+    → (b : Bool) → fails_where fails b t f → (if b then outcome_as {B = Option A} (λ a. Some a) r else Got None t) ≡ Failed f
+failed_where r fails t f on_failed true h = ap (outcome_as (λ a. Some a)) (on_failed h)
+failed_where r fails t f on_failed false h = absurd h
 
 pub failed : {A : Type 0} (format : Format A) (s : Reading) (f : Corruption) → Fails format s f → read format s ≡ Failed f
 failed (Empty a) s f h = absurd h
@@ -136,10 +134,10 @@ failed (Decoded rule seen coding format) s f (inr h) =
     ap (λ (r : Outcome _). r >>= λ a behind. tried (coding.decode a) rule (length s.done) (take seen s.left) behind) (complete format h.value h.is_next.field s h.behind h.is_next.is h.is_next.passes)
     ∙ ap (λ v. tried v rule (length s.done) (take seen s.left) h.behind) h.none
     ∙ ap (λ (x : Corruption). Failed x) (sym h.is)
-failed (Choice choice first second) s f (inl h) = ap (λ (r : Outcome Bool). r >>= λ b s. if b then outcome_as (λ a. inl a) (read first s) else outcome_as (λ b. inr b) (read second s)) (failed choice s f h)
-failed (Choice choice first second) s f (inr h) =
-    ap (λ (r : Outcome Bool). r >>= λ b s. if b then outcome_as (λ a. inl a) (read first s) else outcome_as (λ b. inr b) (read second s)) (complete choice h.value h.is_next.field s h.behind h.is_next.is h.is_next.passes)
-    ∙ failed_either (read first h.behind) (read second h.behind) (Fails first) (Fails second) h.behind f (λ p. failed first h.behind f p) (λ p. failed second h.behind f p) h.value h.fails
+failed (Optional choice format) s f (inl h) = ap (λ (r : Outcome Bool). r >>= λ b s. if b then outcome_as (λ a. Some a) (read format s) else Got None s) (failed choice s f h)
+failed (Optional choice format) s f (inr h) =
+    ap (λ (r : Outcome Bool). r >>= λ b s. if b then outcome_as (λ a. Some a) (read format s) else Got None s) (complete choice h.value h.is_next.field s h.behind h.is_next.is h.is_next.passes)
+    ∙ failed_where (read format h.behind) (Fails format) h.behind f (λ p. failed format h.behind f p) h.value h.fails
 failed (Counted count item) s f (inl h) = ap (λ (r : Outcome ℕ). r >>= λ n s. read_items (λ before. read (item before)) n [] s) (failed count s f h)
 failed (Counted count item) s f (inr h) =
     ap (λ (r : Outcome ℕ). r >>= λ n s. read_items (λ before. read (item before)) n [] s) (complete count h.value h.is_next.field s h.behind h.is_next.is h.is_next.passes)

@@ -1,7 +1,7 @@
 -- A value has one encoding, and it has one where it fits.
-use Rattle.std.proofs.Common.{◌≡◌, true, false, inl, inr, List, [], ◌∷◌, ◌++◌, length, refl, ap, ◌∙◌}
+use Rattle.std.proofs.Common.{◌≡◌, true, false, None, Some, List, [], ◌∷◌, ◌++◌, length, refl, ap, ◌∙◌}
 use Rattle.sasi_host.specs.Names.{Bytes}
-use Rattle.sasi_formats.specs.Formats.{Format, Empty, Sized, Then, Decoded, Choice, Counted, Part, are_items, Encodes, encoded, encoded_items, Fits, fit_items}
+use Rattle.sasi_formats.specs.Formats.{Format, Empty, Sized, Then, Decoded, Optional, Counted, Part, are_items, Encodes, encoded, encoded_items, Fits, fit_items}
 
 -- bytes of two equal parts
 joined_same : (p q a b bytes : Bytes) → bytes ≡ p ++ q → p ≡ a → q ≡ b → bytes ≡ a ++ b
@@ -21,10 +21,9 @@ encoded_only (Sized size rule coding) value bytes h =
 encoded_only (Then first next) value bytes h =
     joined_same h.front h.behind (encoded first value.0) (encoded (next value.0) value.1) bytes h.whole (encoded_only first value.0 h.front h.starts) (encoded_only (next value.0) value.1 h.behind h.ends)
 encoded_only (Decoded rule seen coding format) value bytes h = encoded_only format (coding.encode value) bytes h.is
-encoded_only (Choice choice first second) (inl a) bytes h =
-    joined_same h.front h.behind (encoded choice true) (encoded first a) bytes h.whole (encoded_only choice true h.front h.starts) (encoded_only first a h.behind h.ends)
-encoded_only (Choice choice first second) (inr b) bytes h =
-    joined_same h.front h.behind (encoded choice false) (encoded second b) bytes h.whole (encoded_only choice false h.front h.starts) (encoded_only second b h.behind h.ends)
+encoded_only (Optional choice format) None bytes h = encoded_only choice false bytes h
+encoded_only (Optional choice format) (Some a) bytes h =
+    joined_same h.front h.behind (encoded choice true) (encoded format a) bytes h.whole (encoded_only choice true h.front h.starts) (encoded_only format a h.behind h.ends)
 encoded_only (Counted count item) values bytes h =
     joined_same h.front h.behind (encoded count (length values)) (encoded_items (λ before. encoded (item before)) [] values) bytes h.whole (encoded_only count (length values) h.front h.starts)
     (encode_items (λ before. Encodes (item before)) (λ before. encoded (item before)) (λ before a bytes p. encoded_only (item before) a bytes p) values [] h.behind h.ends)
@@ -40,8 +39,8 @@ fits (Empty a) value bytes h = h.1
 fits (Sized size rule coding) value bytes h = (fits size (length (coding.encode value)) h.front h.starts, h.is_value)
 fits (Then first next) value bytes h = (fits first value.0 h.front h.starts, fits (next value.0) value.1 h.behind h.ends)
 fits (Decoded rule seen coding format) value bytes h = (fits format (coding.encode value) bytes h.is, h.is_value)
-fits (Choice choice first second) (inl a) bytes h = (fits choice true h.front h.starts, fits first a h.behind h.ends)
-fits (Choice choice first second) (inr b) bytes h = (fits choice false h.front h.starts, fits second b h.behind h.ends)
+fits (Optional choice format) None bytes h = fits choice false bytes h
+fits (Optional choice format) (Some a) bytes h = (fits choice true h.front h.starts, fits format a h.behind h.ends)
 fits (Counted count item) values bytes h =
     (fits count (length values) h.front h.starts, items_fit (λ before. Encodes (item before)) (λ before. Fits (item before)) (λ before a bytes p. fits (item before) a bytes p) values [] h.behind h.ends)
 
@@ -56,8 +55,8 @@ encodes (Empty a) value h = (refl, h)
 encodes (Sized size rule coding) value h = record { front = encoded size (length (coding.encode value)); whole = refl; starts = encodes size (length (coding.encode value)) h.0; is_value = h.1 }
 encodes (Then first next) value h = record { front = encoded first value.0; behind = encoded (next value.0) value.1; whole = refl; starts = encodes first value.0 h.0; ends = encodes (next value.0) value.1 h.1 }
 encodes (Decoded rule seen coding format) value h = record { is = encodes format (coding.encode value) h.0; is_value = h.1 }
-encodes (Choice choice first second) (inl a) h = record { front = encoded choice true; behind = encoded first a; whole = refl; starts = encodes choice true h.0; ends = encodes first a h.1 }
-encodes (Choice choice first second) (inr b) h = record { front = encoded choice false; behind = encoded second b; whole = refl; starts = encodes choice false h.0; ends = encodes second b h.1 }
+encodes (Optional choice format) None h = encodes choice false h
+encodes (Optional choice format) (Some a) h = record { front = encoded choice true; behind = encoded format a; whole = refl; starts = encodes choice true h.0; ends = encodes format a h.1 }
 encodes (Counted count item) values h = record {
   front = encoded count (length values);
   behind = encoded_items (λ before. encoded (item before)) [] values;

@@ -6,9 +6,9 @@ use Rattle.std.proofs.Common.{take-append-drop}
 use Rattle.sasi_host.specs.Names.{Bytes}
 use Rattle.sasi_host.specs.declared.damage.FormatRule.{FormatRule}
 use Rattle.sasi_fields.specs.Reading.{Reading, ReadsField}
-use Rattle.sasi_formats.specs.Formats.{Coding, Format, Empty, Sized, Then, Decoded, Choice, Counted, Part, Joined, IsSized, IsDecoded, is_either, are_items, Encodes}
+use Rattle.sasi_formats.specs.Formats.{Coding, Format, Empty, Sized, Then, Decoded, Optional, Counted, Part, Joined, IsSized, IsDecoded, is_optional, are_items, Encodes}
 use Rattle.sasi_formats.specs.Reader.{Corruption, Short, Outcome, Got, Failed, ◌>>=◌, outcome_as, passed, tried, taken, read_items, read}
-use Rattle.sasi_formats.specs.Failures.{IsNext, FailsAfter, IsShort, HasNoValue, IsRejected, fails_either, fail_items, Fails}
+use Rattle.sasi_formats.specs.Failures.{IsNext, FailsAfter, IsShort, HasNoValue, IsRejected, fails_where, fail_items, Fails}
 
 -- ---- what an outcome says
 
@@ -89,17 +89,15 @@ tried_as rule seen coding part s a t l (Some v) q Before =
     let same : coding.encode v ≡ a = coding.canonical a v q in
     record { field = l.field; is = record { is = subst (λ a. part a l.field) (sym same) l.is; is_value = ap coding.decode same ∙ q }; passes = l.passes }
 
--- ---- a choice
+-- ---- a value that may be there
 
-either_says : {A B : Type 0} (choice : Bool → Part) (first : A → Part) (second : B → Part) (fails fails_first fails_second : Reading → Corruption → Type 0) (s t : Reading) (r : Outcome A) (q : Outcome B)
-    → Explains first fails_first t r → Explains second fails_second t q → (b : Bool) → IsNext (choice b) s t
-    → Explains (is_either choice first second) (λ s f. fails s f ⊎ FailsAfter choice (fails_either fails_first fails_second) s f) s (if b then outcome_as (λ a. inl a) r else outcome_as (λ b. inr b) q)
-either_says choice first second fails fails_first fails_second s t r q on_first on_second true l =
-    says_as (λ a u. IsNext (first a) t u) (fails_first t) (λ v u. IsNext (is_either choice first second v) s u) (λ f. fails s f ⊎ FailsAfter choice (fails_either fails_first fails_second) s f) (λ a. inl a)
-    (λ a u m. next_then (choice true) (first a) s t u l m) (λ x h. inr (record { value = true; behind = t; is_next = l; fails = h })) r on_first
-either_says choice first second fails fails_first fails_second s t r q on_first on_second false l =
-    says_as (λ b u. IsNext (second b) t u) (fails_second t) (λ v u. IsNext (is_either choice first second v) s u) (λ f. fails s f ⊎ FailsAfter choice (fails_either fails_first fails_second) s f) (λ b. inr b)
-    (λ b u m. next_then (choice false) (second b) s t u l m) (λ x h. inr (record { value = false; behind = t; is_next = l; fails = h })) q on_second
+optional_says : {A : Type 0} (choice : Bool → Part) (format : A → Part) (fails fails_format : Reading → Corruption → Type 0) (s t : Reading) (r : Outcome A)
+    → Explains format fails_format t r → (b : Bool) → IsNext (choice b) s t
+    → Explains (is_optional choice format) (λ s f. fails s f ⊎ FailsAfter choice (fails_where fails_format) s f) s (if b then outcome_as (λ a. Some a) r else Got None t)
+optional_says choice format fails fails_format s t r on_format true l =
+    says_as (λ a u. IsNext (format a) t u) (fails_format t) (λ v u. IsNext (is_optional choice format v) s u) (λ f. fails s f ⊎ FailsAfter choice (fails_where fails_format) s f) (λ a. Some a)
+    (λ a u m. next_then (choice true) (format a) s t u l m) (λ x h. inr (record { value = true; behind = t; is_next = l; fails = h })) r on_format
+optional_says choice format fails fails_format s t r on_format false l = l
 
 -- ---- items
 
@@ -146,10 +144,10 @@ explained (Decoded rule seen coding format) s =
     says_bind (λ a t. IsNext (Encodes format a) s t) (Fails format s) (λ v u. IsNext (IsDecoded (Encodes format) coding v) s u) (Fails (Decoded rule seen coding format) s) (λ a t. tried (coding.decode a) rule (length s.done) (take seen s.left) t)
     (λ a t l. tried_as rule seen coding (Encodes format) s a t l (coding.decode a) refl (Fails format s))
     (λ f h. inl h) (read format s) (explained format s)
-explained (Choice choice first second) s =
-    says_bind (λ b t. IsNext (Encodes choice b) s t) (Fails choice s) (λ v u. IsNext (Encodes (Choice choice first second) v) s u) (Fails (Choice choice first second) s)
-    (λ b t. if b then outcome_as (λ a. inl a) (read first t) else outcome_as (λ b. inr b) (read second t))
-    (λ b t l. either_says (Encodes choice) (Encodes first) (Encodes second) (Fails choice) (Fails first) (Fails second) s t (read first t) (read second t) (explained first t) (explained second t) b l)
+explained (Optional choice format) s =
+    says_bind (λ b t. IsNext (Encodes choice b) s t) (Fails choice s) (λ v u. IsNext (Encodes (Optional choice format) v) s u) (Fails (Optional choice format) s)
+    (λ b t. if b then outcome_as (λ a. Some a) (read format t) else Got None t)
+    (λ b t l. optional_says (Encodes choice) (Encodes format) (Fails choice) (Fails format) s t (read format t) (explained format t) b l)
     (λ f h. inl h) (read choice s) (explained choice s)
 explained (Counted count item) s =
     says_bind (λ n t. IsNext (Encodes count n) s t) (Fails count s) (λ vs u. IsNext (Encodes (Counted count item) vs) s u) (Fails (Counted count item) s) (λ n t. read_items (λ before. read (item before)) n [] t)

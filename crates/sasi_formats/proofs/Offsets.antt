@@ -3,9 +3,9 @@ use Rattle.std.proofs.Common.{◌≡◌, ◌≤◌, ℕ, zero, suc, true, false,
 use Rattle.sasi_host.specs.Names.{Bytes}
 use Rattle.sasi_host.specs.declared.damage.FormatRule.{FormatRule}
 use Rattle.sasi_fields.specs.Reading.{Reading, ReadsField}
-use Rattle.sasi_formats.specs.Formats.{Coding, Format, Empty, Sized, Then, Decoded, Choice, Counted, Part, Encodes}
+use Rattle.sasi_formats.specs.Formats.{Coding, Format, Empty, Sized, Then, Decoded, Optional, Counted, Part, Encodes}
 use Rattle.sasi_formats.specs.Reader.{Corruption, Short, Long, Broken, start}
-use Rattle.sasi_formats.specs.Failures.{FailsAfter, IsShort, HasNoValue, fails_either, fail_items, Fails, FailsWhole}
+use Rattle.sasi_formats.specs.Failures.{FailsAfter, IsShort, HasNoValue, fails_where, fail_items, Fails, FailsWhole}
 
 -- the offset of the corruption, if it has one, lies within the bytes
 abbrev pub IsWithin : Bytes → Corruption → Type 0
@@ -32,9 +32,9 @@ taken_within rule coding n s f (inr h) = here rule _ s f h.is
 after_within : {A : Type 0} (part : A → Part) (next : A → Reading → Corruption → Type 0) (s : Reading) (f : Corruption) → ((a : A) (t : Reading) → next a t f → IsWithin (whole t) f) → FailsAfter part next s f → IsWithin (whole s) f
 after_within part next s f each h = subst (λ (l : Bytes). IsWithin l f) (whole_kept h.is_next.field s h.behind h.is_next.passes) (each h.value h.behind h.fails)
 
-either_within : (first second : Reading → Corruption → Type 0) (s : Reading) (f : Corruption) → (first s f → IsWithin (whole s) f) → (second s f → IsWithin (whole s) f) → (b : Bool) → fails_either first second b s f → IsWithin (whole s) f
-either_within first second s f on_first on_second true h = on_first h
-either_within first second s f on_first on_second false h = on_second h
+where_within : (fails : Reading → Corruption → Type 0) (s : Reading) (f : Corruption) → (fails s f → IsWithin (whole s) f) → (b : Bool) → fails_where fails b s f → IsWithin (whole s) f
+where_within fails s f on_failed true h = on_failed h
+where_within fails s f on_failed false h = absurd h
 
 items_within : {A : Type 0} (is : List A → A → Part) (fails : List A → Reading → Corruption → Type 0) (f : Corruption) → ((before : List A) (s : Reading) → fails before s f → IsWithin (whole s) f)
     → (n : ℕ) (before : List A) (s : Reading) → fail_items is fails n before s f → IsWithin (whole s) f
@@ -50,9 +50,9 @@ fails_within (Then first next) s f (inl h) = fails_within first s f h
 fails_within (Then first next) s f (inr h) = after_within (Encodes first) (λ a. Fails (next a)) s f (λ a t k. fails_within (next a) t f k) h
 fails_within (Decoded rule seen coding format) s f (inl h) = fails_within format s f h
 fails_within (Decoded rule seen coding format) s f (inr h) = here rule _ s f h.is
-fails_within (Choice choice first second) s f (inl h) = fails_within choice s f h
-fails_within (Choice choice first second) s f (inr h) =
-    after_within (Encodes choice) (fails_either (Fails first) (Fails second)) s f (λ b t k. either_within (Fails first) (Fails second) t f (λ l. fails_within first t f l) (λ l. fails_within second t f l) b k) h
+fails_within (Optional choice format) s f (inl h) = fails_within choice s f h
+fails_within (Optional choice format) s f (inr h) =
+    after_within (Encodes choice) (fails_where (Fails format)) s f (λ b t k. where_within (Fails format) t f (λ l. fails_within format t f l) b k) h
 fails_within (Counted count item) s f (inl h) = fails_within count s f h
 fails_within (Counted count item) s f (inr h) =
     after_within (Encodes count) (λ n. fail_items (λ before. Encodes (item before)) (λ before. Fails (item before)) n []) s f

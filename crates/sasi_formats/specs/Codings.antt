@@ -1,6 +1,6 @@
 -- The codings of fields: numbers, flags, fixed bytes, tags, and tests of a value.
-use Rattle.std.specs.Prelude.{◌≡◌, ℕ, ◌^◌, Bool, true, false, ◌&&◌, nat_eq, nat_lt, List, [], ◌∷◌, Option, None, Some, if◌then◌else◌, refl}
-use Rattle.std.proofs.Common.{ap, sym, ◌∙◌, rules, ◌⊎◌, inl, inr}
+use Rattle.std.specs.Prelude.{◌≡◌, ℕ, ◌^◌, Bool, true, false, ◌&&◌, nat_eq, nat_lt, List, [], ◌∷◌, Option, Some, if◌then◌else◌, refl}
+use Rattle.std.proofs.Common.{ap, sym, ◌∙◌, rules}
 use Rattle.std.specs.Bool.{then_some}
 use Rattle.std.specs.List.{find}
 use mir.Val.{bits}
@@ -65,20 +65,6 @@ only_back wanted bytes u h = sym (same_text bytes wanted (sym (when_is (pointwis
 -- these bytes and no others
 abbrev pub only : Bytes → Coding Bytes (Unit {0})
 only wanted = record { decode = λ bytes. then_some (pointwise nat_eq bytes wanted) tt; encode = λ _. wanted; canonical = only_back wanted }
-
--- ---- a value or none
-
-abbrev pub option_of : {A : Type 0} → A ⊎ Unit {0} → Option A
-option_of (inl a) = Some a
-option_of (inr u) = None
-
-abbrev pub option_back : {A : Type 0} → Option A → A ⊎ Unit {0}
-option_back None = inr tt
-option_back (Some a) = inl a
-
-pub option_law : {A : Type 0} (h : A ⊎ Unit {0}) → option_back (option_of h) ≡ h
-option_law (inl a) = refl
-option_law (inr u) = refl
 
 -- ---- a tag
 

@@ -3,7 +3,7 @@ use Rattle.std.specs.Prelude.{◌≡◌, ◌≢◌, ℕ, zero, suc, ◌<◌, Boo
 use Rattle.sasi_host.specs.Names.{Bytes}
 use Rattle.sasi_host.specs.declared.damage.FormatRule.{FormatRule}
 use Rattle.sasi_fields.specs.Reading.{Reading, ReadsField}
-use Rattle.sasi_formats.specs.Formats.{Coding, Format, Empty, Sized, Then, Decoded, Choice, Counted, Part, Encodes}
+use Rattle.sasi_formats.specs.Formats.{Coding, Format, Empty, Sized, Then, Decoded, Optional, Counted, Part, Encodes}
 use Rattle.sasi_formats.specs.Reader.{Corruption, Short, Long, Broken, start}
 
 -- bytes of this kind are next, and the new reader is after them
@@ -41,9 +41,10 @@ pub record IsRejected {A B : Type 0} (rule : FormatRule) (seen : ℕ) (coding : 
   pub none : coding.decode value ≡ None
   pub is : corruption ≡ Broken rule (length s.done) (take seen s.left)
 
-abbrev pub fails_either : (Reading → Corruption → Type 0) → (Reading → Corruption → Type 0) → Bool → Reading → Corruption → Type 0
-fails_either first second true = first
-fails_either first second false = second
+-- the value fails, where there is one
+abbrev pub fails_where : (Reading → Corruption → Type 0) → Bool → Reading → Corruption → Type 0
+fails_where fails true s corruption = fails s corruption
+fails_where fails false s corruption = ⊥
 
 -- one of the items fails
 abbrev pub fail_items : {A : Type 0} → (List A → A → Part) → (List A → Reading → Corruption → Type 0) → ℕ → List A → Reading → Corruption → Type 0
@@ -56,7 +57,7 @@ Fails (Empty a) s corruption = ⊥
 Fails (Sized size rule coding) s corruption = Fails size s corruption ⊎ FailsAfter (Encodes size) (λ n s f. IsShort n s f ⊎ HasNoValue rule coding n s f) s corruption
 Fails (Then first next) s corruption = Fails first s corruption ⊎ FailsAfter (Encodes first) (λ a. Fails (next a)) s corruption
 Fails (Decoded rule seen coding format) s corruption = Fails format s corruption ⊎ IsRejected rule seen coding (Encodes format) s corruption
-Fails (Choice choice first second) s corruption = Fails choice s corruption ⊎ FailsAfter (Encodes choice) (fails_either (Fails first) (Fails second)) s corruption
+Fails (Optional choice format) s corruption = Fails choice s corruption ⊎ FailsAfter (Encodes choice) (fails_where (Fails format)) s corruption
 Fails (Counted count item) s corruption = Fails count s corruption ⊎ FailsAfter (Encodes count) (λ n. fail_items (λ before. Encodes (item before)) (λ before. Fails (item before)) n []) s corruption
 
 -- bytes of a value are next, and other bytes follow them

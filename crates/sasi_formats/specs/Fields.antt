@@ -4,8 +4,8 @@ use Rattle.std.specs.Int.{Width, w8, byte_len, from_bool}
 use Rattle.sasi_host.specs.Names.{Bytes}
 use Rattle.sasi_host.specs.declared.damage.FormatRule.{FormatRule}
 use Rattle.sasi_host.specs.declared.damage.FormatRule.TheVariants as rule
-use Rattle.sasi_formats.specs.Formats.{Format, Empty, Sized, Then, Decoded, Choice}
-use Rattle.sasi_formats.specs.Codings.{passing, renamed, number_of, one_of, only, option_of, option_back, option_law, tagging}
+use Rattle.sasi_formats.specs.Formats.{Format, Empty, Sized, Then, Decoded}
+use Rattle.sasi_formats.specs.Codings.{passing, renamed, number_of, one_of, only, tagging}
 
 -- one format after another
 infixr 30 ◌&◌
@@ -43,10 +43,6 @@ fixed broken wanted = Sized (Empty (length wanted)) broken (only wanted)
 -- a format after one without a value
 abbrev pub prefixed : {A : Type 0} → Format (Unit {0}) → Format A → Format A
 prefixed first second = mapped (λ both. both.1) (λ a. (tt, a)) (λ _. refl) (first & second)
-
--- a value where the choice says so
-abbrev pub optional : {A : Type 0} → Format Bool → Format A → Format (Option A)
-optional choice format = mapped option_of option_back option_law (Choice choice format (Empty tt))
 
 -- a tag, and the format that it names; each value has its own tag
 abbrev pub tagged : {A : Type 0} → Format ℕ → (A → ℕ) → (ℕ → Format A) → Format A

@@ -1,6 +1,6 @@
 -- Byte formats as data. A format says which bytes encode which value.
-use Rattle.std.specs.Prelude.{◌≡◌, ℕ, Bool, true, false, List, [], ◌∷◌, ◌++◌, length, Option, Some, ◌⊎◌}
-use Rattle.std.proofs.Common.{inl, inr}
+use Rattle.std.specs.Prelude.{◌≡◌, ℕ, Bool, true, false, List, [], ◌∷◌, ◌++◌, length, Option, None, Some, MatchOption}
+use Rattle.std.specs.Option.{option_map_or}
 use Rattle.sasi_host.specs.Names.{Bytes}
 use Rattle.sasi_host.specs.declared.damage.FormatRule.{FormatRule}
 
@@ -17,8 +17,8 @@ pub data Format : Type 0 → Type 1 where
   Sized : {A : Type 0} → Format ℕ → FormatRule → Coding Bytes A → Format A
   -- a format, and after it one that may depend on its value
   Then : {A B : Type 0} → Format A → (A → Format B) → Format (A × B)
-  -- a choice, and after it the first format where it is true, else the second
-  Choice : {A B : Type 0} → Format Bool → Format A → Format B → Format (A ⊎ B)
+  -- whether there is a value, and after it the format of the value if there is one
+  Optional : {A : Type 0} → Format Bool → Format A → Format (Option A)
   -- a value that decodes to another; one that doesn't breaks the rule where it begins, and this many bytes are reported
   Decoded : {A B : Type 0} → FormatRule → ℕ → Coding A B → Format A → Format B
   -- a count, and this many items; the format of each may depend on those before
@@ -55,10 +55,10 @@ abbrev pub are_items : {A : Type 0} → (List A → A → Part) → List A → L
 are_items item before [] = λ bytes. bytes ≡ []
 are_items item before (a ∷ others) = Joined (item before a) (are_items item (before ++ a ∷ []) others)
 
--- a choice, and what was chosen
-abbrev pub is_either : {A B : Type 0} → (Bool → Part) → (A → Part) → (B → Part) → A ⊎ B → Part
-is_either choice first second (inl a) = Joined (choice true) (first a)
-is_either choice first second (inr b) = Joined (choice false) (second b)
+-- whether there is a value, and the value
+abbrev pub is_optional : {A : Type 0} → (Bool → Part) → (A → Part) → Option A → Part
+is_optional choice format None = choice false
+is_optional choice format (Some a) = Joined (choice true) (format a)
 
 -- the bytes encode the value
 abbrev pub Encodes : {A : Type 0} → Format A → A → Part
@@ -66,7 +66,7 @@ Encodes (Empty a) value bytes = (bytes ≡ []) × (value ≡ a)
 Encodes (Sized size rule coding) value bytes = IsSized (Encodes size) coding value bytes
 Encodes (Then first next) value bytes = Joined (Encodes first value.0) (Encodes (next value.0) value.1) bytes
 Encodes (Decoded rule seen coding format) value bytes = IsDecoded (Encodes format) coding value bytes
-Encodes (Choice choice first second) value bytes = is_either (Encodes choice) (Encodes first) (Encodes second) value bytes
+Encodes (Optional choice format) value bytes = is_optional (Encodes choice) (Encodes format) value bytes
 Encodes (Counted count item) values bytes = Joined (Encodes count (length values)) (are_items (λ before. Encodes (item before)) [] values) bytes
 
 -- ---- the bytes of a value
@@ -75,17 +75,13 @@ abbrev pub encoded_items : {A : Type 0} → (List A → A → Bytes) → List A 
 encoded_items item before [] = []
 encoded_items item before (a ∷ others) = item before a ++ encoded_items item (before ++ a ∷ []) others
 
-abbrev pub encoded_either : {A B : Type 0} → (Bool → Bytes) → (A → Bytes) → (B → Bytes) → A ⊎ B → Bytes
-encoded_either choice first second (inl a) = choice true ++ first a
-encoded_either choice first second (inr b) = choice false ++ second b
-
 -- the bytes that a writer puts
 abbrev pub encoded : {A : Type 0} → Format A → A → Bytes
 encoded (Empty a) value = []
 encoded (Sized size rule coding) value = encoded size (length (coding.encode value)) ++ coding.encode value
 encoded (Then first next) value = encoded first value.0 ++ encoded (next value.0) value.1
 encoded (Decoded rule seen coding format) value = encoded format (coding.encode value)
-encoded (Choice choice first second) value = encoded_either (encoded choice) (encoded first) (encoded second) value
+encoded (Optional choice format) value = option_map_or (λ a. encoded choice true ++ encoded format a) value (encoded choice false)
 encoded (Counted count item) values = encoded count (length values) ++ encoded_items (λ before. encoded (item before)) [] values
 
 -- ---- the values that have bytes
@@ -94,15 +90,11 @@ abbrev pub fit_items : {A : Type 0} → (List A → A → Type 0) → List A →
 fit_items item before [] = Unit {0}
 fit_items item before (a ∷ others) = item before a × fit_items item (before ++ a ∷ []) others
 
-abbrev pub fits_either : {A B : Type 0} → (Bool → Type 0) → (A → Type 0) → (B → Type 0) → A ⊎ B → Type 0
-fits_either choice first second (inl a) = choice true × first a
-fits_either choice first second (inr b) = choice false × second b
-
 -- the value has bytes in the format
 abbrev pub Fits : {A : Type 0} → Format A → A → Type 0
 Fits (Empty a) value = value ≡ a
 Fits (Sized size rule coding) value = Fits size (length (coding.encode value)) × (coding.decode (coding.encode value) ≡ Some value)
 Fits (Then first next) value = Fits first value.0 × Fits (next value.0) value.1
 Fits (Decoded rule seen coding format) value = Fits format (coding.encode value) × (coding.decode (coding.encode value) ≡ Some value)
-Fits (Choice choice first second) value = fits_either (Fits choice) (Fits first) (Fits second) value
+Fits (Optional choice format) value = MatchOption value (Fits choice false) (λ a. Fits choice true × Fits format a)
 Fits (Counted count item) values = Fits count (length values) × fit_items (λ before. Fits (item before)) [] values

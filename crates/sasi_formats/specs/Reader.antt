@@ -1,10 +1,9 @@
 -- The reader of a format: the value that it reads, or the first corruption.
 use Rattle.std.specs.Prelude.{ℕ, zero, suc, nat_lt, List, [], ◌∷◌, ◌++◌, length, take, drop, Option, None, Some, if◌then◌else◌}
-use Rattle.std.proofs.Common.{inl, inr}
 use Rattle.sasi_host.specs.Names.{Bytes}
 use Rattle.sasi_host.specs.declared.damage.FormatRule.{FormatRule}
 use Rattle.sasi_fields.specs.Reading.{Reading}
-use Rattle.sasi_formats.specs.Formats.{Coding, Format, Empty, Sized, Then, Decoded, Choice, Counted}
+use Rattle.sasi_formats.specs.Formats.{Coding, Format, Empty, Sized, Then, Decoded, Optional, Counted}
 
 -- the corruption of bytes that encode no value
 pub data Corruption : Type 0 where
@@ -57,7 +56,7 @@ read (Empty a) s = Got a s
 read (Sized size rule coding) s = read size s >>= λ n s. taken rule coding n s
 read (Then first next) s = read first s >>= λ a s. outcome_as (λ b. (a, b)) (read (next a) s)
 read (Decoded rule seen coding format) s = read format s >>= λ a behind. tried (coding.decode a) rule (length s.done) (take seen s.left) behind
-read (Choice choice first second) s = read choice s >>= λ b s. if b then outcome_as (λ a. inl a) (read first s) else outcome_as (λ b. inr b) (read second s)
+read (Optional choice format) s = read choice s >>= λ b s. if b then outcome_as (λ a. Some a) (read format s) else Got None s
 read (Counted count item) s = read count s >>= λ n s. read_items (λ before. read (item before)) n [] s
 
 -- ---- whole bytes

@@ -7,7 +7,7 @@ use Rattle.sasi_host.specs.Disk.{Changes, Same}
 use Rattle.sasi_host.specs.Contents.{contents_same}
 use Rattle.sasi_host.specs.Buffered.{reached, unbuffered_pages}
 use Rattle.sasi_host.proofs.Pages.{fresh_reaches}
-use Rattle.sasi_host.specs.Sequential.{BeginsBy, ReachesTo, ReadsEachOnce, ReadsNoFurther, begins_known, page_within, once_on}
+use Rattle.sasi_host.specs.Sequential.{BeginsBy, ReachesTo, ReadsEachOnce, begins_known, page_within, once_on}
 
 -- a part on one page that ends at this offset
 pub part_once : (a b : View) (file : FileName) (before after : Option ℕ) (at end : ℕ) → after ≡ Some (at / 4096) → at ≤ end
@@ -20,11 +20,6 @@ part_once a b file before after at end page le within pages =
       within = within;
       page = λ bytes is. page_within after end bytes begins (within bytes is);
     }
-
--- and one of which nothing is there
-pub part_no_further : (a b : View) (file : FileName) (before : Option ℕ) (at : ℕ) → b.reads + reached before ≤ a.reads + (at / 4096 + 1)
-    → ReadsNoFurther a b file before at
-part_no_further a b file before at pages bytes is le = omega (arith, pages, le)
 
 -- a reader that stays at the gate
 pub stays_once : (a b : View) (file : FileName) (before after : Option ℕ) (near far : ℕ) → near ≤ far → BeginsBy after near

@@ -1,4 +1,4 @@
--- How often a gated file is read: each of its pages once, however many gates lie on it.
+-- How many pages the reading of a gated file reads: each once, however many gates lie on it.
 use Rattle.std.specs.Prelude.{◌≡◌, Ok, Err, OnOk, None, refl}
 use Rattle.std.proofs.Common.{subst, sym, arith}
 use Rattle.std.specs.declared.result.Result.{Result}
@@ -12,12 +12,12 @@ use Rattle.sasi_gated.specs.Handles.{Handle}
 abbrev pub IsSequential : Handle → Type 0
 IsSequential handle = BeginsBy handle.buffered.page handle.at
 
--- the file was opened, and its header read: it is sequential, and has read no page twice
+-- an opened file: the reader is sequential, and each page up to the buffered one was read once
 abbrev pub OpensSequential : View → View → Handle → Type 0
 OpensSequential old new handle = ReadsEachOnce old new handle.file None handle.buffered.page handle.at
 
--- Read from one gate to the next: it stays sequential, and reads each page that it comes to once. After an error too, no page was read twice
--- nor beyond the end, where the gate stands within the file.
+-- A read from one gate to the next: it stays sequential, and reads each page that it comes to once. Also where it fails, it reads no page
+-- twice and none beyond the end, if its gate stands within the file.
 pub record ReadsPagesOnce {T : Type 0} (old new : View) (before after : Handle) (result : Result T ReadFault) : Type 0 where
   pub ok : OnOk result (ReadsEachOnce old new before.file before.buffered.page after.buffered.page after.at)
   pub no_further : ReadsNoFurther old new before.file before.buffered.page before.at

@@ -4,7 +4,7 @@ ghost use Rattle.sasi_host.specs.View.{IsThere, contents};
 ghost use Rattle.sasi_host.specs.Disk.{Changes, Same};
 ghost use Rattle.sasi_host.specs.Buffered.{IsBuffered};
 ghost use Rattle.sasi_host.specs.Sequential.{BeginsBy, ReachesTo, ReadsEachOnce, ReadsNoFurther};
-ghost use Rattle.sasi_host.specs.Damages.{DamageShown, OnDamage};
+ghost use Rattle.sasi_host.specs.Damages.{OnDamage};
 ghost use Rattle.sasi_gated.specs.Damages.{TellsSize};
 ghost use Rattle.sasi_gated.specs.Causes.{ReadingCauses};
 

@@ -5,11 +5,9 @@ ghost use Rattle.sasi_host.specs.Disk.{Changes, Same};
 ghost use Rattle.sasi_host.specs.Buffered.{IsBuffered};
 ghost use Rattle.sasi_host.specs.Sequential.{BeginsBy, ReadsEachOnce, ReadsNoFurther};
 ghost use Rattle.sasi_gated.specs.Format.{header};
-ghost use Rattle.sasi_gated.specs.Damages.{IsGatedDamage};
 ghost use Rattle.sasi_gated.specs.Gates.{ReadsFrom, IsAtGate};
 ghost use Rattle.sasi_gated.specs.Causes.{ReadingCauses};
 ghost use Rattle.sasi_gated.specs.Reads.{GatedDamageShown, GatedDamageShownAt};
-ghost use Rattle.sasi_host.specs.Damages.{OnDamage};
 
 use crate::gate::{read_gate, read_length};
 use crate::header::check_header;

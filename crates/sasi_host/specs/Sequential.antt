@@ -1,4 +1,4 @@
--- How often a file is read by one who goes on through it with a page buffered.
+-- Sequential reads through a buffered file, and how many pages they read.
 use Rattle.std.specs.Prelude.{◌≡◌, ℕ, ◌+◌, ◌*◌, ◌/◌, ◌≤◌, length, Option, Some, None, refl}
 use Rattle.std.proofs.Common.{sym, ◌∙◌, ap, arith}
 use Rattle.sasi_host.specs.declared.name.FileName.{FileName}
@@ -14,24 +14,24 @@ BeginsBy buffered at = (page : ℕ) → buffered ≡ Some page → 4096 * page �
 abbrev pub ReachesTo : View → FileName → ℕ → Type 0
 ReachesTo v file at = (bytes : Bytes) → contents v file ≡ Some bytes → at ≤ length bytes
 
--- how many pages a whole reading comes to: those of the file, and the one on which it ends
+-- how many pages begin within a file of these bytes, or at its end
 abbrev pub pages_to_end : Bytes → ℕ
 pages_to_end bytes = length bytes / 4096 + 1
 
--- Read on from the first buffered page to the second: each page up to it was read once, it is one of the file, and the reader is
--- now at this offset, which isn't before the page nor beyond the end.
+-- A sequential read from the first buffered page to the second: each page up to it was read once, and it begins within the file or at
+-- its end. The reader is then at this offset, which isn't before the page nor beyond the end of the file.
 pub record ReadsEachOnce (old new : View) (file : FileName) (before after : Option ℕ) (end : ℕ) : Type 0 where
   pub sequential : BeginsBy after end
   pub pages : new.reads + reached before ≤ old.reads + reached after
   pub within : ReachesTo old file end
   pub page : (bytes : Bytes) → contents old file ≡ Some bytes → reached after ≤ pages_to_end bytes
 
--- read on from an offset within the file: no page was read twice, and none beyond the end
+-- a sequential read from an offset within the file, also one that fails: no page was read twice, and none beyond the end
 abbrev pub ReadsNoFurther : View → View → FileName → Option ℕ → ℕ → Type 0
 ReadsNoFurther old new file before at =
     (bytes : Bytes) → contents old file ≡ Some bytes → at ≤ length bytes → new.reads + reached before ≤ old.reads + pages_to_end bytes
 
--- read from the start: at most all pages
+-- a reading of the file from its start: at most its pages, and the one on which it ends
 abbrev pub ReadsWithinPages : View → View → FileName → Type 0
 ReadsWithinPages old new file = (bytes : Bytes) → contents old file ≡ Some bytes → new.reads ≤ old.reads + pages_to_end bytes
 
@@ -96,7 +96,7 @@ once_behind a b c file first second end same reads one = record {
   page = λ bytes is. one.page bytes (same ∙ is);
 }
 
--- who read each page once has read none beyond the end
+-- a read that went well read none beyond the end either
 pub no_further : (a b : View) (file : FileName) (first second : Option ℕ) (at end : ℕ) → ReadsEachOnce a b file first second end
     → ReadsNoFurther a b file first at
 no_further a b file first second at end one bytes is le = omega (arith, one.pages, one.page bytes is)

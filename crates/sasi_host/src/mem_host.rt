@@ -1,7 +1,7 @@
 // A host in memory.
 ghost use Rattle.std.specs.Prelude.{◌≡◌, ◌⊎◌, ◌-◌, ◌^◌, ◌<◌, ◌≤◌, ◌↔◌, IsTrue, IsErr, OnOk, OnErr, IfOk, IfSome, IfNone, Some, None, Contains};
 ghost use Rattle.std.specs.FinMap as map;
-ghost use Rattle.sasi_host.specs.View.{contents};
+ghost use Rattle.sasi_host.specs.View.{contents, counted};
 ghost use Rattle.sasi_host.specs.Disk.{IsCrashOf};
 ghost use Rattle.sasi_host.specs.Picks.{picked};
 ghost use Rattle.sasi_host.specs.Calls.{replay, opened};
@@ -138,11 +138,7 @@ impl MemHost {
         self.disk_calls = self.disk_calls.saturating_add(1);
         let all_calls = self.disk_calls.saturating_add(self.emits);
         self.failed_last = is_to_fail(&self.failing_disk, self.disk_calls, all_calls, self.stop);
-        if self.failed_last {
-            self.disk_faults = self.disk_faults.saturating_add(1);
-            return Err(Failed);
-        }
-        Ok(())
+        fail_if(self.failed_last, &mut self.disk_faults)
     }
 
     // Counts a file call that is out of memory.
@@ -168,11 +164,7 @@ impl MemHost {
         self.emits = self.emits.saturating_add(1);
         let all_calls = self.disk_calls.saturating_add(self.emits);
         self.failed_last = is_to_fail(&self.failing_emits, self.emits, all_calls, self.stop);
-        if self.failed_last {
-            self.out_faults = self.out_faults.saturating_add(1);
-            return Err(Failed);
-        }
-        Ok(())
+        fail_if(self.failed_last, &mut self.out_faults)
     }
 
     // Counts an emit that is out of memory.
@@ -186,6 +178,20 @@ impl MemHost {
         self.refused = self.refused.saturating_add(1);
         Failed
     }
+}
+
+// Fails if a call is to, and counts that.
+fn fail_if(to_fail: bool, faults: &mut u64) -> Result<(), Failed>
+    ensures to_fail { IsErr result ↔ IsTrue to_fail }
+    ensures ok { OnOk result (faults.new ≡ faults.old) }
+    ensures err { OnErr result (faults.new ≡ counted faults.old) }
+    ensures later { faults.old ≤ faults.new }
+{
+    if to_fail {
+        *faults = faults.saturating_add(1);
+        return Err(Failed);
+    }
+    Ok(())
 }
 
 // Whether a call fails: it is listed, or comes after the stop.

@@ -1,19 +1,22 @@
 -- Writes that no rule refuses.
-use Rattle.std.proofs.Common.{◌≡◌, ℕ, Bool, true, false, not, ◌&&◌, ◌||◌, if◌then◌else◌, List, [], ◌∷◌, map, ◌++◌, Option, None, Some, refl, sym}
+use Rattle.std.proofs.Common.{◌≡◌, ℕ, Bool, true, false, not, ◌&&◌, ◌||◌, cond, List, [], ◌∷◌, map, ◌++◌, Option, None, Some, unwrap_or, refl, sym, subst, ◌∙◌}
 use Rattle.std.specs.Cmp.Lexicographic.{same_text}
+use Rattle.std.specs.List.{find}
+use Rattle.std.specs.Option.{option_map}
 use Rattle.sasi_types.specs.declared.literal.Literal.{Literal}
+use Rattle.sasi_types.specs.declared.literal.Literal.TheVariants.{Null}
 use Rattle.sasi_types.specs.declared.literal.Number.{Number}
-use Rattle.sasi_model.specs.Statements.{same}
-use Rattle.sasi_model.specs.State.{Definition, key_name, key_type}
-use Rattle.sasi_model.specs.Refusals.{delete_rules, each, is_column, is_key, is_key_value, is_null, is_of, key_empty, no_column, no_regular_column, number_range, other_key, repeat_rules, tests, time_rules, type_of_column, update_rules, value_too_long, wrong_type, wrong_where}
-use Rattle.sasi_model.specs.Abbreviations.{first_of, gives_key, is_empty_text}
-use Rattle.sasi_model.specs.Step.{key_literal}
+use Rattle.sasi_model.specs.State.{Definition}
+use Rattle.sasi_model.specs.Refusals.{Rule, delete_rules, each, is_column, is_key, is_key_value, is_null, is_of, key_empty, no_column, no_regular_column, number_range, repeat_rules, tests, time_rules, type_of_column, update_rules, value_too_long, wrong_type, wrong_where}
+use Rattle.sasi_model.specs.Abbreviations.{first_of, gives_key, is_empty_text, key_literal, key_name, key_type}
+use Rattle.sasi_schema.proofs.Keys.{is_key_by_name}
 use Rattle.sasi_schema.proofs.RuleLaws.{none_first, none_parts}
 use Rattle.sasi_schema.specs.Numbers.{IsKeyAt}
 use Rattle.sasi_machine.specs.declared.relation.KeyRelation.{KeyRelation}
-use Rattle.sasi_machine.specs.Checks.{given_key_rules, given_rules, kind_rules, length_rules, missing_rule, range_rules, where_rules}
+use Rattle.sasi_machine.specs.Checks.{given_key_rules, given_rules, kind_rules, length_rules, missing_rule, other_key_rule, range_rules, where_rules}
 use Rattle.sasi_machine.specs.KeyLiteral.{IsKeyLiteral}
 use Rattle.sasi_machine.proofs.ColumnTypes.{position_inside}
+use Rattle.sasi_machine.proofs.KeyRules.{delete_rules_are, update_rules_are}
 
 -- ---- tests
 
@@ -44,7 +47,7 @@ other_true false b e is = cc
 -- the type of the key's column
 key_typed : (d : Definition) (name : List ℕ) → IsKeyAt d.key d.columns → is_key d name ≡ true → type_of_column d name ≡ Some (key_type d)
 key_typed d name at is =
-    let named : name ≡ key_name d = same_text name (key_name d) (sym (and_parts (is_column d name) (same name (key_name d)) is).1) in
+    let named : name ≡ key_name d = same_text name (key_name d) (sym (is_key_by_name d name at ∙ is)) in
     let there = position_inside (key_name d) d.columns d.key at in
     rw (named, at, there.1) refl
 
@@ -72,7 +75,7 @@ key_accepted d (g ∷ given) at gives wrong range empty long =
     let ranges = none_first (number_range d g.0 g.1) (each (number_range d) given) range in
     let empties = none_first (key_empty d g.0 g.1) (each (key_empty d) given) empty in
     let longs = none_first (value_too_long d g.0 g.1) (each (value_too_long d) given) long in
-    elim (is_key_value d g.0 g.1) as (λ b. is_key_value d g.0 g.1 ≡ b → (b || gives_key d given) ≡ true → IsKeyLiteral (key_type d) (if b then g.1 else key_literal d given)) [
+    elim (is_key_value d g.0 g.1) as (λ b. is_key_value d g.0 g.1 ≡ b → (b || gives_key d given) ≡ true → IsKeyLiteral (key_type d) (unwrap_or (option_map (λ g. g.1) (cond b (Some g) (find (λ g. is_key_value d g.0 g.1) given))) Null)) [
       | true ↦ λ is _.
           let parts = and_parts (is_key d g.0) (not (is_null g.1)) is in
           key_passes d g.0 g.1 at parts.0 (not_true (is_null g.1) parts.1) wrongs.0 ranges.0 empties.0 longs.0
@@ -112,7 +115,7 @@ where_accepted d max_timestamp sets relation time at column none =
     let wrong_key = none_first (wrong_where d relation.column relation.value) (range_rules d max_timestamp sets relation time) wrong.1 in
     let range = none_parts (each (number_range d) sets) (number_range d relation.column relation.value ∷ where_rules d max_timestamp sets relation time) wrong_key.1 in
     let range_key = none_first (number_range d relation.column relation.value) (where_rules d max_timestamp sets relation time) range.1 in
-    let other = none_first (other_key d relation.column) (key_empty d relation.column relation.value ∷ length_rules d max_timestamp sets relation time) range_key.1 in
+    let other = none_first (other_key_rule d relation.column) (key_empty d relation.column relation.value ∷ length_rules d max_timestamp sets relation time) range_key.1 in
     let empty = none_first (key_empty d relation.column relation.value) (length_rules d max_timestamp sets relation time) other.1 in
     let long = none_parts (each (value_too_long d) sets) (value_too_long d relation.column relation.value ∷ time_rules max_timestamp time) empty.1 in
     let long_key = none_first (value_too_long d relation.column relation.value) (time_rules max_timestamp time) long.1 in
@@ -124,9 +127,10 @@ pub update_accepted : (d : Definition) (max_timestamp : ℕ) (table : List ℕ) 
     (time : Option Number) → IsKeyAt d.key d.columns → first_of
     (update_rules max_timestamp table sets relation.column relation.value time (Some d)) ≡ None → IsAccepted d sets relation.value
 update_accepted d max_timestamp table sets relation time at none =
+    let known = subst (λ (rules : List Rule). first_of rules ≡ None) (update_rules_are d max_timestamp table sets relation time at) none in
     let kinds = kind_rules d max_timestamp sets relation time in
     let repeats = repeat_rules [] (map (λ set. set.0) sets) in
-    let regular = none_parts (map (λ set. no_regular_column d set.0) sets) (no_column d relation.column ∷ (repeats ++ kinds)) none in
+    let regular = none_parts (map (λ set. no_regular_column d set.0) sets) (no_column d relation.column ∷ (repeats ++ kinds)) known in
     let column = none_first (no_column d relation.column) (repeats ++ kinds) regular.1 in
     let once = none_parts repeats kinds column.1 in
     where_accepted d max_timestamp sets relation time at (not_false (is_column d relation.column) column.0) once.1
@@ -135,9 +139,10 @@ pub delete_accepted : (d : Definition) (max_timestamp : ℕ) (table : List ℕ) 
     → IsKeyAt d.key d.columns → first_of (delete_rules max_timestamp table columns relation.column relation.value time (Some d)) ≡ None
     → IsAccepted d [] relation.value
 delete_accepted d max_timestamp table columns relation time at none =
+    let known = subst (λ (rules : List Rule). first_of rules ≡ None) (delete_rules_are d max_timestamp table columns relation time at) none in
     let kinds = kind_rules d max_timestamp [] relation time in
     let repeats = repeat_rules [] columns in
-    let regular = none_parts (map (no_regular_column d) columns) (no_column d relation.column ∷ (repeats ++ kinds)) none in
+    let regular = none_parts (map (no_regular_column d) columns) (no_column d relation.column ∷ (repeats ++ kinds)) known in
     let column = none_first (no_column d relation.column) (repeats ++ kinds) regular.1 in
     let once = none_parts repeats kinds column.1 in
     where_accepted d max_timestamp [] relation time at (not_false (is_column d relation.column) column.0) once.1

@@ -1,18 +1,20 @@
 -- One more column with its literal.
-use Rattle.std.proofs.Common.{◌≡◌, ℕ, Bool, true, false, ◌&&◌, ◌==◌, if◌then◌else◌, List, [], ◌∷◌, ◌++◌, map, Option, None, Some, refl, sym, ap, ◌∙◌}
+use Rattle.std.proofs.Common.{◌≡◌, ℕ, true, false, ◌==◌, cond, if◌then◌else◌, List, [], ◌∷◌, ◌++◌, map, Option, None, Some, unwrap_or, refl, sym, ap, ◌∙◌}
 use Rattle.std.specs.FinMap as map_
 use Rattle.std.specs.Cmp.Lexicographic.{same_text}
+use Rattle.std.specs.List.{find}
+use Rattle.std.specs.Option.{option_map}
 use Rattle.std.proofs.lemmas.Bool.{eq-eqb}
 use Rattle.sasi_types.specs.declared.column.ColumnType.{ColumnType}
 use Rattle.sasi_types.specs.declared.column.ColumnType.TheVariants as types
 use Rattle.sasi_types.specs.declared.literal.Literal.{Literal}
 use Rattle.sasi_types.specs.declared.literal.Literal.TheVariants.{Null}
 use Rattle.sasi_model.specs.Cells.{Cells, Partition}
-use Rattle.sasi_model.specs.Statements.{same}
-use Rattle.sasi_model.specs.State.{Definition, key_name, number_of_column}
-use Rattle.sasi_model.specs.Refusals.{Rule, each, is_column, is_key, is_key_value, is_out_of_range, number_range, tests, type_of_column}
-use Rattle.sasi_model.specs.Abbreviations.{first_of}
-use Rattle.sasi_model.specs.Step.{cells_set, key_literal}
+use Rattle.sasi_model.specs.State.{Definition, number_of_column}
+use Rattle.sasi_model.specs.Refusals.{Rule, each, is_key, is_key_value, is_out_of_range, number_range, tests, type_of_column}
+use Rattle.sasi_model.specs.Abbreviations.{first_of, key_literal, key_name}
+use Rattle.sasi_model.specs.Step.{cells_set}
+use Rattle.sasi_schema.proofs.Keys.{is_key_by_name}
 use Rattle.sasi_schema.proofs.RuleLaws.{none_first}
 use Rattle.sasi_schema.specs.Numbers.{IsKeyAt}
 use Rattle.sasi_machine.specs.Assignment.{cells_over, key_or, with_set}
@@ -33,7 +35,11 @@ key_push d (set ∷ sets) s other = ap (λ (key : Literal). if is_key_value d se
 
 pub key_first : (d : Definition) (sets : List (List ℕ × Literal)) → key_or d sets Null ≡ key_literal d sets
 key_first d [] = refl
-key_first d (set ∷ sets) = ap (λ (key : Literal). if is_key_value d set.0 set.1 then set.1 else key) (key_first d sets)
+key_first d (set ∷ sets) =
+    elim (is_key_value d set.0 set.1) as (λ b. (if b then set.1 else key_or d sets Null) ≡ unwrap_or (option_map (λ g. g.1) (cond b (Some set) (find (λ g. is_key_value d g.0 g.1) sets))) Null) [
+      | true ↦ refl
+      | false ↦ key_first d sets
+    ]
 
 -- none of the rules applies: nor does one of those in front, nor the last
 pub none_pop : (rule : List ℕ → Literal → Rule) (sets : List (List ℕ × Literal)) (s : List ℕ × Literal) → first_of
@@ -44,17 +50,13 @@ none_pop rule (set ∷ sets) s none =
     let later = none_pop rule sets s parts.1 in
     (rw parts.0 later.0, later.1)
 
-and_second : (a b : Bool) → (a && b) ≡ true → b ≡ true
-and_second true b e = e
-and_second false b e = cc
-
 eqb_self : (n : ℕ) → (n == n) ≡ true
 eqb_self n = eq-eqb n n refl
 
 -- the key has the number 0
 pub key_is_zero : (d : Definition) (name : List ℕ) → IsKeyAt d.key d.columns → is_key d name ≡ true → number_of_column d name ≡ Some 0
 key_is_zero d name at is =
-    let named : name ≡ key_name d = same_text name (key_name d) (sym (and_second (is_column d name) (same name (key_name d)) is)) in
+    let named : name ≡ key_name d = same_text name (key_name d) (sym (is_key_by_name d name at ∙ is)) in
     rw (named, at, eqb_self d.key) refl
 
 -- so it gets no cell

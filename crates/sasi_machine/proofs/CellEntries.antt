@@ -1,5 +1,5 @@
 -- What is true of each cell of a map is true of its entries.
-use Rattle.std.proofs.Common.{◌≡◌, ℕ, ◌-◌, T, List, [], ◌∷◌, Some, ◌∙◌}
+use Rattle.std.proofs.Common.{◌≡◌, ℕ, T, List, [], ◌∷◌, Some, ◌∙◌}
 use Rattle.std.specs.FinMap as fin
 use Rattle.std.specs.List.{AllByRecursion}
 use Rattle.std.specs.Ordering.{nat_cmp}

@@ -1,5 +1,5 @@
 -- Partitions without a deletion, and deletions, have a body in their table.
-use Rattle.std.proofs.Common.{◌≡◌, ℕ, zero, suc, ◌-◌, ◌<◌, ◌≤◌, ◌^◌, true, false, cond, List, [], ◌∷◌, length, slice_get, Option, None, Some, refl, sym, ap, subst, ◌∙◌, arith}
+use Rattle.std.proofs.Common.{◌≡◌, ℕ, zero, suc, ◌<◌, ◌≤◌, ◌^◌, true, false, cond, List, [], ◌∷◌, length, slice_get, Option, None, Some, refl, sym, ap, subst, ◌∙◌, arith}
 use Rattle.std.specs.Prelude.{IfSome}
 use Rattle.std.proofs.lemmas.Str.{IsUtf8-nil}
 use Rattle.std.specs.Cmp.{nat_cmp_total}
@@ -15,9 +15,9 @@ use Rattle.sasi_cells.proofs.Laws.Sorted.{equal_columns}
 use Rattle.sasi_model.specs.Cells.{Cells}
 use Rattle.sasi_model.specs.State.{Definition}
 use Rattle.sasi_model.specs.Refusals.{each}
-use Rattle.sasi_model.specs.Abbreviations.{TIME_LIMIT, marker}
+use Rattle.sasi_model.specs.Abbreviations.{TIME_LIMIT, marker, types_of}
 use Rattle.sasi_model.specs.Step.{cells_set}
-use Rattle.sasi_model.specs.Stored.{HasBytes, IsBodyOf, IsCell, IsListed, IsTypedAt, types_of}
+use Rattle.sasi_model.specs.Stored.{HasBytes, IsBodyOf, IsCell, IsListed, IsTypedAt}
 use Rattle.sasi_machine.proofs.CellEntries.{cells_by}
 use Rattle.sasi_machine.proofs.WriteCells.{IsGood, IsGoodCell, cells_good}
 use Rattle.sasi_machine.proofs.CellCounts.{few_cells}

@@ -4,12 +4,11 @@ use Rattle.std.proofs.lemmas.Bool.Decides.{nat_tests}
 use Rattle.sasi_types.specs.declared.column.ColumnType.{ColumnType}
 use Rattle.sasi_cells.proofs.Laws.Sorted.{first}
 use Rattle.sasi_model.specs.State.{Column, Definition, number_at, number_of_column, position_in}
-use Rattle.sasi_model.specs.Abbreviations.{numbered_at, one_more}
+use Rattle.sasi_model.specs.Abbreviations.{numbered_at, one_more, types_of}
 use Rattle.std.specs.List.{remove}
 use Rattle.std.specs.Option.{option_map}
 use Rattle.sasi_model.specs.Statements.{same}
 use Rattle.sasi_model.specs.Refusals.{type_of_column}
-use Rattle.sasi_model.specs.Stored.{types_of}
 
 -- the types of the regular columns, which are all but the key
 abbrev pub regular_types : ℕ → List Column → List ColumnType

@@ -1,17 +1,15 @@
 -- The bytes of a key that no rule refuses.
 use Rattle.std.proofs.Common.{◌≡◌, ℕ, ◌<◌, ◌≤◌, ◌^◌, false, ◌==◌, List, [], ◌∷◌, length, refl, arith}
-use Rattle.sasi_types.specs.declared.literal.Number.{Number}
 use Rattle.sasi_machine.specs.KeyLiteral.{IsKeyLiteral}
 use Rattle.sasi_types.specs.declared.column.ColumnType.{ColumnType}
 use Rattle.sasi_types.specs.declared.column.ColumnType.TheVariants as types
 use Rattle.sasi_types.specs.declared.literal.Literal.{Literal}
 use Rattle.sasi_types.specs.declared.literal.Literal.TheVariants as literals
 use Rattle.sasi_types.specs.declared.literal.Number.TheVariants.{Fits, Wide}
-use Rattle.sasi_types.specs.declared.value.Value.TheVariants.{Text, Int, BigInt, Uuid}
-use Rattle.sasi_model.specs.State.{Definition, key_type}
+use Rattle.sasi_model.specs.State.{Definition}
 use Rattle.sasi_model.specs.Step.{value_given}
-use Rattle.sasi_model.specs.Abbreviations.{stored_of}
-use Rattle.sasi_model.specs.Stored.{IsTypedAt, IsValueOf, types_of}
+use Rattle.sasi_model.specs.Abbreviations.{stored_of, key_type, types_of}
+use Rattle.sasi_model.specs.Stored.{IsTypedAt, IsValueOf}
 use Rattle.sasi_model.specs.WellFormed.{IsWellFormedLiteral}
 use Rattle.sasi_machine.proofs.GivenValues.{short_text}
 

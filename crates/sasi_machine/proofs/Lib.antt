@@ -23,3 +23,5 @@ pub mod TablesOfMemtables
 pub mod StatementStepping
 pub mod WholePieces
 pub mod WriteTimes
+pub mod KeyRules
+pub mod WrittenKeys

@@ -1,15 +1,18 @@
 -- Columns that are picked by their numbers.
 use Rattle.std.proofs.Common.{◌≡◌, ℕ, zero, suc, ◌+◌, ◌<◌, List, [], ◌∷◌, ◌++◌, length, drop, get_or, map, Option, None, Some, refl, sym, ap, ◌∙◌, add-one, append_assoc, arith}
 use Rattle.std.specs.List.{cons_option}
+use Rattle.std.specs.Option.{option_map}
 use Rattle.std.proofs.Math.Seq.{drop-cons}
 use Rattle.std.proofs.lemmas.List.{append-nil, map-append}
 use Rattle.sasi_types.specs.declared.decorated_key.DecoratedKey.{DecoratedKey}
 use Rattle.sasi_cells.specs.declared.picked.PickedColumn.{PickedColumn}
 use Rattle.sasi_cells.specs.Rows.{picked_value}
 use Rattle.sasi_model.specs.Cells.{Partition}
-use Rattle.sasi_model.specs.State.{Definition, key_type, number_of_column}
-use Rattle.sasi_model.specs.Step.{live_rows, value_numbered}
-use Rattle.sasi_model.specs.Abbreviations.{count_up, numbers_of}
+use Rattle.sasi_model.specs.State.{Column, Definition, number_of_column}
+use Rattle.sasi_model.specs.Step.{live_rows, value_numbered, value_stored}
+use Rattle.sasi_model.specs.Abbreviations.{count_up, numbers_of, key_type}
+use Rattle.sasi_schema.specs.Numbers.{IsKeyAt}
+use Rattle.sasi_schema.proofs.Keys.{key_is}
 use Rattle.sasi_machine.specs.MemtableView.{rows_picked}
 use Rattle.sasi_machine.specs.Picks.{pick}
 
@@ -43,15 +46,15 @@ picked_found d names i name list new all inside is so_far pushed =
     ∙ ap (λ (l : List (List ℕ)). list ++ map pick (numbers_of d l)) (sym next) ∙ so_far
 
 -- the value that is picked is that of the number
-value_picked : (d : Definition) (decorated_key : DecoratedKey) (p : Partition) (n : ℕ) → picked_value (key_type d) decorated_key.key p (pick n) ≡ value_numbered d decorated_key p n
-value_picked d decorated_key p zero = refl
-value_picked d decorated_key p (suc n) = refl
+value_picked : (d : Definition) (decorated_key : DecoratedKey) (p : Partition) (n : ℕ) → IsKeyAt d.key d.columns → picked_value (key_type d) decorated_key.key p (pick n) ≡ value_numbered d decorated_key p n
+value_picked d decorated_key p zero at = sym (ap (λ (o : Option Column). option_map (λ column. value_stored column.1 decorated_key.key) o) (key_is d at))
+value_picked d decorated_key p (suc n) at = refl
 
-values_picked : (d : Definition) (decorated_key : DecoratedKey) (p : Partition) (numbers : List ℕ) → map (picked_value (key_type d) decorated_key.key p) (map pick numbers) ≡ map (value_numbered d decorated_key p) numbers
-values_picked d decorated_key p [] = refl
-values_picked d decorated_key p (n ∷ numbers) = rw (value_picked d decorated_key p n, values_picked d decorated_key p numbers) refl
+values_picked : (d : Definition) (decorated_key : DecoratedKey) (p : Partition) (numbers : List ℕ) → IsKeyAt d.key d.columns → map (picked_value (key_type d) decorated_key.key p) (map pick numbers) ≡ map (value_numbered d decorated_key p) numbers
+values_picked d decorated_key p [] at = refl
+values_picked d decorated_key p (n ∷ numbers) at = rw (value_picked d decorated_key p n at, values_picked d decorated_key p numbers at) refl
 
 -- the rows with the values that are picked are those of the numbers
-pub rows_by_numbers : (d : Definition) (numbers : List ℕ) (entries : List (DecoratedKey × Partition)) → rows_picked (key_type d) (map pick numbers) entries ≡ live_rows d numbers entries
-rows_by_numbers d numbers [] = refl
-rows_by_numbers d numbers (entry ∷ entries) = rw (values_picked d entry.0 entry.1 numbers, rows_by_numbers d numbers entries) refl
+pub rows_by_numbers : (d : Definition) (numbers : List ℕ) (entries : List (DecoratedKey × Partition)) → IsKeyAt d.key d.columns → rows_picked (key_type d) (map pick numbers) entries ≡ live_rows d numbers entries
+rows_by_numbers d numbers [] at = refl
+rows_by_numbers d numbers (entry ∷ entries) at = rw (values_picked d entry.0 entry.1 numbers at, rows_by_numbers d numbers entries at) refl

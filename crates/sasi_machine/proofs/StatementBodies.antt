@@ -1,32 +1,33 @@
 -- What an INSERT, an UPDATE or a DELETE writes can be stored: its key and its change have a body in the table.
-use Rattle.std.proofs.Common.{◌≡◌, ℕ, ◌+◌, ◌-◌, ◌<◌, ◌≤◌, true, false, cond, List, [], ◌∷◌, ◌++◌, length, drop, map, Option, None, Some, refl, arith}
+use Rattle.std.proofs.Common.{◌≡◌, ℕ, ◌<◌, ◌≤◌, true, false, cond, List, [], ◌∷◌, ◌++◌, length, drop, map, Option, None, Some, unwrap_or, refl, subst, arith}
 use Rattle.std.specs.Cmp.{nat_cmp_total}
 use Rattle.std.specs.FinMap as fin
 use Rattle.sasi_types.specs.declared.literal.Number.{Number}
 use Rattle.sasi_types.specs.declared.statement.Statement.{Statement}
 use Rattle.sasi_types.specs.declared.statement.Statement.TheVariants.{CreateTable, Insert, Update, Delete, Query}
 use Rattle.sasi_machine.specs.declared.relation.KeyRelation.{KeyRelation}
-use Rattle.sasi_machine.specs.Checks.{given_key_rules, given_rules, kind_rules, length_rules, missing_rule, range_rules, where_rules}
+use Rattle.sasi_machine.specs.Checks.{given_key_rules, given_rules, kind_rules, length_rules, missing_rule, other_key_rule, range_rules, where_rules}
 use Rattle.sasi_machine.specs.Writes.{IsWriting, change_in, key_in}
 use Rattle.sasi_machine.proofs.Accepted.{delete_accepted, insert_accepted, update_accepted}
 use Rattle.sasi_schema.specs.Numbers.{IsKeyAt}
-use Rattle.std.specs.List.{AllByRecursion, zip}
+use Rattle.std.specs.List.{AllByRecursion, find, zip}
+use Rattle.std.specs.Option.{option_map}
 use Rattle.sasi_types.specs.declared.column.ColumnType.{ColumnType}
 use Rattle.sasi_types.specs.declared.column.ColumnType.TheVariants as types
 use Rattle.sasi_types.specs.declared.literal.Literal.{Literal}
 use Rattle.sasi_types.specs.declared.literal.Literal.TheVariants as literals
-use Rattle.sasi_types.specs.declared.value.Value.TheVariants.{Text, Int, BigInt, Uuid}
-use Rattle.sasi_model.specs.State.{Definition, key_type}
-use Rattle.sasi_model.specs.Refusals.{Rule, delete_rules, each, insert_rules, is_key_value, is_of, is_out_of_range, key_empty, no_column, no_regular_column, number_range, other_key, repeat_rules, time_rules, type_of_column, update_rules, value_too_long, wrong_type, wrong_where}
-use Rattle.sasi_model.specs.Abbreviations.{first_of, TIME_LIMIT, is_long_text, marker, stored_of, update_change}
-use Rattle.sasi_model.specs.Step.{cells_set, delete_change, insert_change, key_literal, value_given}
-use Rattle.sasi_model.specs.Stored.{IsBodyOf, types_of}
+use Rattle.sasi_model.specs.State.{Definition}
+use Rattle.sasi_model.specs.Refusals.{Rule, delete_rules, each, insert_rules, is_key_value, is_of, is_out_of_range, key_empty, no_column, no_regular_column, number_range, repeat_rules, time_rules, type_of_column, update_rules, value_too_long, wrong_type, wrong_where}
+use Rattle.sasi_model.specs.Abbreviations.{first_of, TIME_LIMIT, is_long_text, key_literal, marker, stored_of, update_change, key_type, types_of}
+use Rattle.sasi_model.specs.Step.{cells_set, delete_change, insert_change, value_given}
+use Rattle.sasi_model.specs.Stored.{IsBodyOf}
 use Rattle.sasi_model.specs.WellFormed.{IsWellFormed, IsWellFormedLiteral, IsWellFormedSet}
 use Rattle.sasi_schema.proofs.RuleLaws.{none_first, none_parts}
 use Rattle.sasi_machine.proofs.WriteCells.{IsGood, goods}
 use Rattle.sasi_machine.proofs.CellCounts.{some_cell}
 use Rattle.sasi_machine.proofs.ChangeBodies.{deletion_fits, marked_cells, part_fits, set_cells}
 use Rattle.sasi_machine.proofs.KeyBytes.{key_fits}
+use Rattle.sasi_machine.proofs.KeyRules.{insert_rules_are, update_rules_are}
 use Rattle.sasi_machine.proofs.TableColumns.{first_cell, small}
 
 -- the literals that are given
@@ -42,7 +43,7 @@ sets_written (s ∷ sets) all = (all.0.1, sets_written sets all.1)
 key_literal_written : (d : Definition) (given : List (List ℕ × Literal)) → AllByRecursion (λ (s : List ℕ × Literal). IsWellFormedLiteral s.1) given → IsWellFormedLiteral (key_literal d given)
 key_literal_written d [] all = tt
 key_literal_written d (g ∷ given) all =
-    elim (is_key_value d g.0 g.1) as (λ b. IsWellFormedLiteral (cond b g.1 (key_literal d given))) [ true ↦ all.0 | false ↦ key_literal_written d given all.1 ]
+    elim (is_key_value d g.0 g.1) as (λ b. IsWellFormedLiteral (unwrap_or (option_map (λ g. g.1) (cond b (Some g) (find (λ g. is_key_value d g.0 g.1) given))) literals.Null)) [ true ↦ all.0 | false ↦ key_literal_written d given all.1 ]
 
 -- what an INSERT writes
 pub insert_fits : (d : Definition) (g : ℕ) (table : List ℕ) (columns : List (List ℕ)) (values : List Literal) (time : Option Number) (t : ℕ)
@@ -52,7 +53,8 @@ pub insert_fits : (d : Definition) (g : ℕ) (table : List ℕ) (columns : List 
 insert_fits d g table columns values time t at few above limit written none =
     let given = zip columns values in
     let all = zip_written columns values written in
-    let named = none_parts (map (no_column d) columns) (repeat_rules [] columns ++ given_rules d g given time) none in
+    let known = subst (λ (rules : List Rule). first_of rules ≡ None) (insert_rules_are d g table columns given time at) none in
+    let named = none_parts (map (no_column d) columns) (repeat_rules [] columns ++ given_rules d g given time) known in
     let once = none_parts (repeat_rules [] columns) (given_rules d g given time) named.1 in
     let wrong = none_parts (each (wrong_type d) given) (each (number_range d) given ++ given_key_rules d g given time) once.1 in
     let range = none_parts (each (number_range d) given) (given_key_rules d g given time) wrong.1 in
@@ -76,14 +78,15 @@ update_fits d g table (set ∷ others) relation time t at few above limit writte
     let sets = set ∷ others in
     let kinds = kind_rules d g sets relation time in
     let repeats = repeat_rules [] (map (λ set. set.0) sets) in
-    let named = none_parts (map (λ set. no_regular_column d set.0) sets) (no_column d relation.column ∷ (repeats ++ kinds)) none in
+    let known = subst (λ (rules : List Rule). first_of rules ≡ None) (update_rules_are d g table sets relation time at) none in
+    let named = none_parts (map (λ set. no_regular_column d set.0) sets) (no_column d relation.column ∷ (repeats ++ kinds)) known in
     let column = none_first (no_column d relation.column) (repeats ++ kinds) named.1 in
     let once = none_parts repeats kinds column.1 in
     let wrong = none_parts (each (wrong_type d) sets) (wrong_where d relation.column relation.value ∷ range_rules d g sets relation time) once.1 in
     let wrong_key = none_first (wrong_where d relation.column relation.value) (range_rules d g sets relation time) wrong.1 in
     let range = none_parts (each (number_range d) sets) (number_range d relation.column relation.value ∷ where_rules d g sets relation time) wrong_key.1 in
     let range_key = none_first (number_range d relation.column relation.value) (where_rules d g sets relation time) range.1 in
-    let other = none_first (other_key d relation.column) (key_empty d relation.column relation.value ∷ length_rules d g sets relation time) range_key.1 in
+    let other = none_first (other_key_rule d relation.column) (key_empty d relation.column relation.value ∷ length_rules d g sets relation time) range_key.1 in
     let empty = none_first (key_empty d relation.column relation.value) (length_rules d g sets relation time) other.1 in
     let long = none_parts (each (value_too_long d) sets) (value_too_long d relation.column relation.value ∷ time_rules g time) empty.1 in
     let first_named = none_first (no_regular_column d set.0) (map (λ set. no_regular_column d set.0) others) named.0 in

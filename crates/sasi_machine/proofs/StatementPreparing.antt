@@ -3,21 +3,21 @@ use Rattle.std.proofs.Common.{◌≡◌, drop, is_some, ℕ, zero, suc, ◌+◌,
 use Rattle.std.specs.Prelude.{max}
 use Rattle.sasi_types.specs.declared.partitioner.Partitioner.{Partitioner}
 use Rattle.sasi_types.specs.declared.statement.Statement.{Statement}
-use Rattle.sasi_types.specs.declared.statement.Statement.TheVariants.{CreateTable, Insert, Update, Delete, Query}
+use Rattle.sasi_types.specs.declared.statement.Statement.TheVariants.{CreateTable}
 use Rattle.sasi_cells.specs.Rows.{IsStored}
 use Rattle.sasi_model.specs.Cells.{Partition, max_timestamp_of}
-use Rattle.sasi_model.specs.Abbreviations.{max_timestamp_in, max_timestamp_of_tables, definitions, ok_line, TIME_LIMIT, TableExists, first_of, new_definition}
-use Rattle.sasi_model.specs.Stored.{Entry, IsBodyOf, IsCell, IsValueOf, cells_of, types_of}
+use Rattle.sasi_model.specs.Abbreviations.{max_timestamp_in, max_timestamp_of_tables, definitions, ok_line, TIME_LIMIT, TableExists, first_of, new_definition, key_type, types_of}
+use Rattle.sasi_model.specs.Stored.{Entry, IsBodyOf, IsCell, IsValueOf, cells_of}
 use Rattle.sasi_model.specs.WellFormed.{IsWellFormed}
 use Rattle.sasi_types.specs.declared.column.ColumnType.{ColumnType}
 use Rattle.sasi_types.specs.declared.column.ColumnType.TheVariants as types
 use Rattle.std.specs.List.{AllByRecursion}
-use Rattle.sasi_machine.proofs.StatementBodies.{change_fits, write_rules}
+use Rattle.sasi_machine.proofs.StatementBodies.{change_fits}
 use Rattle.sasi_model.specs.Changes.{changed_tables, with_new_table}
 use Rattle.sasi_model.specs.Pieces.{Piece}
 use Rattle.sasi_model.specs.Refusals.{Rule, Says, create_rules, read, refusal, rules}
 use Rattle.sasi_model.specs.State as model
-use Rattle.sasi_model.specs.State.{Column, Definition, State, definition_of, max_timestamp, key_type, decorated}
+use Rattle.sasi_model.specs.State.{Column, Definition, State, definition_of, max_timestamp, decorated}
 use Rattle.sasi_model.specs.Step.{StepResult, step, step_as, step_by, tables_after}
 use Rattle.sasi_schema.specs.Defined.{definition}
 use Rattle.sasi_schema.specs.declared.table.Table.{Table}
@@ -34,7 +34,10 @@ use Rattle.sasi_machine.specs.StatementSteps.{StatementStepsTo}
 use Rattle.sasi_machine.specs.Writes.{IsWrite, IsWriting, table_named}
 use Rattle.sasi_machine.proofs.MaxTimestamps.{greatest_put, greatest_set}
 use Rattle.sasi_machine.proofs.TablesOfMemtables.{changed_at, memtable_at, memtable_inside, definitions_of, memtables_set, length_tables, tables_push}
-use Rattle.sasi_machine.proofs.StatementStepping.{answers_ok, empty_contents, max_timestamp_kept, has_memtable, rules_kept, takes, write_tables}
+use Rattle.sasi_machine.proofs.WrittenKeys.{found_rules}
+use Rattle.sasi_schema.proofs.Allowed.{allowed}
+use Rattle.sasi_schema.proofs.Keys.{column_types_are, types_are}
+use Rattle.sasi_machine.proofs.StatementStepping.{answers_ok, created_tables, empty_contents, max_timestamp_kept, has_memtable, rules_kept, takes, write_tables}
 
 -- ---- the state that is kept
 
@@ -64,7 +67,9 @@ pub create_asks : (p : Partitioner) (ds : List Definition) (cs : List MemtableVi
     (state_of p ds cs) (CreateTable table columns keys) reply_old reply_new (Create t)
 create_asks p ds cs g table columns keys t reply_old reply_new kept none is number reply_is =
     let s = state_of p ds cs in (
-      takes p ds cs g (CreateTable table columns keys) (with_new_table s (definition t)) reply_old reply_new (outcome_of None) kept none (ap (with_new_table s) is) reply_is refl,
+      takes p ds cs g (CreateTable table columns keys) (with_new_table s (definition t)) reply_old reply_new (outcome_of None) kept none
+          (ap (with_new_table s) is ∙ ap (λ (tables : List model.Table). record { partitioner = p; tables = tables }) (created_tables s table columns keys (allowed ds table columns keys none).key_found))
+          reply_is refl,
       (not_refused p ds cs g (CreateTable table columns keys) kept none, is, number ∙ ap (λ n. n + 1) (sym (length_tables ds cs kept.held))),
     )
 
@@ -92,7 +97,7 @@ write_asks p ds cs g statement w reply_old reply_new kept writing write none rep
     let at : IsWrittenAt p cs w new = (λ c got. let same : h.memtables ≡ c = (let e : Some h.memtables ≡ Some c = sym h.got ∙ got in cc) in ap
     (λ (c : MemtableView). set cs (w.table - 1) (written p w c)) same) in
     let tables : changed_tables w.table (decorated p w.key) w.change s.tables ≡ tables_after s statement = written_tables p ds cs w
-    h.memtables kept.held h.some h.got ∙ write_tables p ds cs new g statement w kept writing write at in (
+    h.memtables kept.held h.some h.got ∙ write_tables p ds cs new g statement w kept writing write none at in (
       takes p ds cs g statement (state_with_mutation s w) reply_old reply_new (outcome_of None) kept none
           (ap (λ (tables : List model.Table). record { partitioner = p; tables = tables }) tables)
           (reply_is ∙ ap (λ line. reply_old ++ line) (sym (answers_ok s statement writing)))
@@ -137,16 +142,10 @@ write_is_fit p ds cs g statement w kept writing written none write =
       some = h.some;
       table = table_with d h.memtables;
       there = h.there.numbered;
+      types = types_of d;
+      types_are = column_types_are d write.key_is_there;
       body = rw (change.key_is, change.change_is) fits;
     }
-  where
-    found_rules : (ds : List Definition) (g : ℕ) (statement : Statement) (d : Definition) → IsWriting statement → definition_of
-        (table_named statement) ds ≡ Some d → first_of (rules ds g statement) ≡ None → first_of (write_rules g statement d) ≡ None
-    found_rules ds g (CreateTable table columns keys) d writing found none = absurd writing
-    found_rules ds g (Insert table columns values time) d writing found none = rw found at none
-    found_rules ds g (Update table time sets key value) d writing found none = rw found at none
-    found_rules ds g (Delete table columns time key value) d writing found none = rw found at none
-    found_rules ds g (Query select) d writing found none = absurd writing
 
 -- a mutation that can be applied has a memtable
 pub fit_room : (p : Partitioner) (ds : List Definition) (cs : List MemtableView) (g : ℕ) (w : Mutation) → IsMachineState ds cs g → IsApplicable (state_of p ds cs) w → HasMemtableFor cs w
@@ -157,7 +156,7 @@ fit_room p ds cs g w kept fit =
       inside = omega (arith, fit.some, memtable_inside cs (w.table - 1) held.0 held.1);
       stored = λ c got.
           let same : held.0 ≡ c = (let e : Some held.0 ≡ Some c = sym held.1 ∙ got in cc) in
-          subst (λ kind. IsStored kind w.key) (sym held.2 ∙ ap (λ (c : MemtableView). c.kind) same) (body_stored fit.table.definition w.key w.change fit.body);
+          subst (λ kind. IsStored kind w.key) (sym held.2 ∙ ap (λ (c : MemtableView). c.kind) same) (body_stored fit.table.definition w.key w.change (subst (λ types. IsBodyOf types w.key w.change) (sym (types_are fit.table.definition fit.types fit.types_are)) fit.body));
     }
 
 pub fit_kept : (p : Partitioner) (ds : List Definition) (cs new : List MemtableView) (g : ℕ) (w : Mutation) → IsMachineState ds cs g → IsApplicable
@@ -170,7 +169,7 @@ fit_kept p ds cs new g w kept fit is =
     record {
       held = rw new_is (memtables_set ds cs at held.0 (written p w held.0) kept.held held.1 refl);
       max_timestamp_is = ap (λ (t : ℕ). max t (max_timestamp_of w.change)) kept.max_timestamp_is ∙ sym (ap (λ (cs : List MemtableView). max_timestamp_of_tables (tables_of ds cs)) new_is ∙ times);
-      limit = omega (arith, kept.limit, body_limit (types_of fit.table.definition) w.key w.change fit.body);
+      limit = omega (arith, kept.limit, body_limit fit.types w.key w.change fit.body);
     }
 
 pub fit_state : (p : Partitioner) (ds : List Definition) (cs new : List MemtableView) (g : ℕ) (w : Mutation) → IsMachineState ds cs g → IsApplicable

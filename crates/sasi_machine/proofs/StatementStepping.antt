@@ -2,6 +2,7 @@
 use Rattle.std.proofs.Common.{◌≡◌, inl, inr, ℕ, suc, ◌-◌, ◌<◌, ◌≤◌, List, [], ◌∷◌, ◌++◌, length, get_or, set, slice_get, Option, Some, None, Result, Ok, Err, OnOk, IfOk, refl, sym, ap, subst, ◌∙◌, arith}
 use Rattle.std.specs.Prelude.{max}
 use Rattle.std.specs.FinMap as fin
+use Rattle.std.specs.Option.{option_and_then, option_map, option_map_or}
 use Rattle.sasi_types.specs.declared.partitioner.Partitioner.{Partitioner}
 use Rattle.std.proofs.lemmas.Option.{get_or_from_slice_get, slice_get_cases}
 use Rattle.sasi_types.specs.declared.column.ColumnType.{ColumnType}
@@ -9,16 +10,20 @@ use Rattle.sasi_types.specs.declared.statement.Select.{Select}
 use Rattle.sasi_types.specs.declared.statement.Statement.{Statement}
 use Rattle.sasi_types.specs.declared.statement.Statement.TheVariants.{CreateTable, Insert, Update, Delete, Query}
 use Rattle.sasi_cells.specs.Rows.{IsStored}
-use Rattle.sasi_model.specs.Cells.{max_timestamp_of}
-use Rattle.sasi_model.specs.State.{Column, Definition, State, Table, apply, definition_of, max_timestamp, key_type, decorated, table_of, with_table}
-use Rattle.sasi_model.specs.Abbreviations.{definitions, max_timestamp_of_tables, max_timestamp_of_partitions, stored_of, selected_rows, ok_line, NoTable, first_of, new_definition}
+use Rattle.sasi_model.specs.Cells.{Partition, max_timestamp_of}
+use Rattle.sasi_model.specs.Changes.{empty_table}
+use Rattle.sasi_types.specs.declared.decorated_key.DecoratedKey.{DecoratedKey}
+use Rattle.sasi_model.specs.State.{Column, Definition, State, Table, definition_of, max_timestamp, decorated, table_of, with_table}
+use Rattle.sasi_model.specs.Abbreviations.{definitions, key_position, max_timestamp_of_tables, max_timestamp_of_partitions, stored_of, selected_lines, ok_line, NoTable, first_of, new_definition, key_type}
 use Rattle.sasi_model.specs.Refusals.{Refusal, create_rules, refusal, rules, select_rules}
 use Rattle.sasi_model.specs.Lines.{refusal_line, rows_lines}
-use Rattle.sasi_model.specs.Step.{answer_of, selected_columns, execute, decorated_given, live_rows, tables_after, time_of, value_given}
+use Rattle.sasi_model.specs.Step.{answer_of, applied, selected_columns, execute, decorated_given, live_rows, primary_key, tables_after, timestamp, value_given}
 use Rattle.sasi_schema.specs.Answers.{IsFirstRefusal}
-use Rattle.sasi_schema.specs.Numbers.{number_of_table}
+use Rattle.sasi_schema.specs.Numbers.{IsKeyAt, number_of_table}
+use Rattle.sasi_schema.proofs.Allowed.{allowed}
 use Rattle.sasi_machine.specs.declared.outcome.Outcome.{Outcome}
 use Rattle.sasi_cells.specs.declared.mutation.Mutation.{Mutation}
+use Rattle.sasi_machine.specs.KeyLiteral.{IsKeyLiteral}
 use Rattle.sasi_machine.specs.MemtableView.{MemtableView}
 use Rattle.sasi_machine.specs.Outcome.{outcome_of}
 use Rattle.sasi_machine.specs.Tables.{AreMemtables, IsMachineState, HasMemtableFor, IsWrittenAt, state_of, table_with, tables_of, written}
@@ -27,6 +32,7 @@ use Rattle.sasi_machine.specs.Writes.{IsWrite, IsWriting, change_in, key_in, tab
 use Rattle.sasi_machine.proofs.MaxTimestamps.{greatest_push, greatest_put, greatest_set}
 use Rattle.sasi_machine.proofs.TablesOfMemtables.{IsThere, definitions_of, memtables_push, is_there, number_inside, number_some, tables_push}
 use Rattle.sasi_machine.proofs.WriteTimes.{change_within}
+use Rattle.sasi_machine.proofs.WrittenKeys.{decorated_in, found_rules, given_in, key_in_accepted}
 
 -- ---- whatever the statement
 
@@ -116,17 +122,23 @@ write_kept p ds cs new g statement w kept write is =
       limit = omega (arith, kept.limit, write.written.time_is.limit);
     }
 
+-- what a write does to a table, by the largest timestamp of the state
+change_of : Partitioner → ℕ → Statement → Table → Table
+change_of p g statement t = applied (option_and_then (decorated_given p t.definition) (given_in t.definition statement)) (option_map (λ time. change_in t.definition time statement) (timestamp g (time_in statement))) t
+
 -- the table after the write
-written_table : (p : Partitioner) (d : Definition) (statement : Statement) (t : ℕ) (w : Mutation) (c : MemtableView) → w.key ≡ stored_of
-    (value_given (key_type d) (key_in d statement)) → w.change ≡ change_in d t statement
-    → apply (decorated_given p d (key_in d statement)) (change_in d t statement) (table_with d c) ≡ table_with d (written p w c)
-written_table p d statement t w c key change = rw (← key, ← change) refl
+written_table : (p : Partitioner) (d : Definition) (g : ℕ) (statement : Statement) (t : ℕ) (w : Mutation) (c : MemtableView) → IsWriting statement → IsKeyAt d.key d.columns
+    → IsKeyLiteral (key_type d) (key_in d statement) → timestamp g (time_in statement) ≡ Some t → w.key ≡ stored_of (value_given (key_type d) (key_in d statement))
+    → w.change ≡ change_in d t statement → change_of p g statement (table_with d c) ≡ table_with d (written p w c)
+unfolding change_of
+written_table p d g statement t w c writing at accepted time key change =
+    let changes = option_map (λ time. change_in d time statement) (timestamp g (time_in statement)) in
+    let decorated_key : option_and_then (decorated_given p d) (given_in d statement) ≡ Some (decorated p w.key) = decorated_in p d statement writing at accepted ∙ ap (λ key. Some (decorated p key)) (sym key) in
+    let changed : changes ≡ Some w.change = ap (option_map (λ time. change_in d time statement)) time ∙ ap Some (sym change) in
+    ap (λ (k : Option DecoratedKey). applied k changes (table_with d c)) decorated_key
+    ∙ ap (λ (o : Option Partition). applied (Some (decorated p w.key)) o (table_with d c)) changed
 
--- what a write does to the tables
-change_of : State → Statement → Table → Table
-change_of s statement t = apply (decorated_given s.partitioner t.definition (key_in t.definition statement)) (change_in t.definition (time_of (max_timestamp s) (time_in statement)) statement) t
-
-writes_table : (s : State) (statement : Statement) → IsWriting statement → tables_after s statement ≡ with_table (table_named statement) (change_of s statement) s.tables
+writes_table : (s : State) (statement : Statement) → IsWriting statement → tables_after s statement ≡ with_table (table_named statement) (change_of s.partitioner (max_timestamp s) statement) s.tables
 unfolding change_of
 writes_table s (CreateTable table columns keys) is = absurd is
 writes_table s (Insert table columns values time) is = refl
@@ -146,18 +158,17 @@ unfolding max_timestamp
 max_timestamp_kept p ds cs g kept = sym kept.max_timestamp_is
 
 pub write_tables : (p : Partitioner) (ds : List Definition) (cs new : List MemtableView) (g : ℕ) (statement : Statement) (w : Mutation)
-    → IsMachineState ds cs g → IsWriting statement → IsWrite ds g statement w → IsWrittenAt p cs w new
+    → IsMachineState ds cs g → IsWriting statement → IsWrite ds g statement w → first_of (rules ds g statement) ≡ None → IsWrittenAt p cs w new
     → tables_of ds new ≡ tables_after (state_of p ds cs) statement
-unfolding change_of
-write_tables p ds cs new g statement w kept writing write is =
+write_tables p ds cs new g statement w kept writing write none is =
     let s = state_of p ds cs in
     let d = write.definition in
     let h = has_memtable ds cs (table_named statement) w.table d kept.held write.number write.found in
-    let time : write.written.time ≡ time_of (max_timestamp s) (time_in statement) = write.written.time_is.is ∙ ap (λ (g : ℕ). time_of g (time_in statement)) (sym (max_timestamp_kept p ds cs g kept)) in
-    let change : w.change ≡ change_in d (time_of (max_timestamp s) (time_in statement)) statement = write.written.change.change_is ∙ ap (λ (t : ℕ). change_in d t statement) time in
+    let time : timestamp (max_timestamp s) (time_in statement) ≡ Some write.written.time = ap (λ (g : ℕ). timestamp g (time_in statement)) (max_timestamp_kept p ds cs g kept) ∙ write.written.time_is.is in
+    let accepted = key_in_accepted d g statement writing write.key_is_there (found_rules ds g statement d writing write.found none) in
     ap (tables_of ds) (is h.memtables h.got)
-    ∙ sym (writes_table s statement writing ∙ h.there.changed (change_of s statement) (written p w h.memtables)
-    (written_table p d statement (time_of (max_timestamp s) (time_in statement)) w h.memtables write.written.change.key_is change))
+    ∙ sym (writes_table s statement writing ∙ h.there.changed (change_of p (max_timestamp s) statement) (written p w h.memtables)
+    (written_table p d (max_timestamp s) statement write.written.time w h.memtables writing write.key_is_there accepted time write.written.change.key_is write.written.change.change_is))
 
 -- the step of a write
 pub write_taken : (p : Partitioner) (ds : List Definition) (cs new : List MemtableView) (g : ℕ) (statement : Statement) (w : Mutation)
@@ -165,7 +176,7 @@ pub write_taken : (p : Partitioner) (ds : List Definition) (cs new : List Memtab
     → IsWrittenAt p cs w new → reply_new ≡ reply_old ++ ok_line → StatementStepsTo (state_of p ds cs) statement (state_of p ds new) reply_old reply_new (outcome_of None)
 write_taken p ds cs new g statement w reply_old reply_new kept writing write none is reply_is =
     takes p ds cs g statement (state_of p ds new) reply_old reply_new (outcome_of None) kept none
-    (ap (λ (tables : List Table). record { partitioner = p; tables = tables }) (write_tables p ds cs new g statement w kept writing write is))
+    (ap (λ (tables : List Table). record { partitioner = p; tables = tables }) (write_tables p ds cs new g statement w kept writing write none is))
     (reply_is ∙ ap (λ line. reply_old ++ line) (sym (answers_ok (state_of p ds cs) statement writing)))
     refl
 
@@ -196,6 +207,11 @@ pub refused_anew : {E : Type 0} (refusal_of_fault other : Option Refusal) (reply
 refused_anew refusal_of_fault other reply_old cleared reply_new (Ok o) same empty is refused = rw (← same, empty, ← is) refused
 refused_anew refusal_of_fault other reply_old cleared reply_new (Err e) same empty is refused = tt
 
+pub created_tables : (s : State) (table : List ℕ) (columns : List Column) (keys : List (List ℕ)) → primary_key columns keys ≡ Some (key_position columns keys)
+    → s.tables ++ empty_table (new_definition table columns keys) ∷ [] ≡ tables_after s (CreateTable table columns keys)
+created_tables s table columns keys found =
+    ap (λ (o : Option ℕ). option_map_or (λ key. s.tables ++ empty_table (record { name = table; columns = columns; key = key }) ∷ []) o s.tables) (sym found)
+
 pub create_taken : (p : Partitioner) (ds : List Definition) (cs : List MemtableView) (g : ℕ) (table : List ℕ) (columns : List Column)
     (keys : List (List ℕ)) (reply_old reply_new : List ℕ) → IsMachineState ds cs g → first_of (create_rules ds table columns keys) ≡ None
     → reply_new ≡ reply_old ++ ok_line
@@ -205,7 +221,8 @@ pub create_taken : (p : Partitioner) (ds : List Definition) (cs : List MemtableV
 create_taken p ds cs g table columns keys reply_old reply_new kept none reply_is =
     let d = new_definition table columns keys in
     takes p ds cs g (CreateTable table columns keys) _ reply_old reply_new (outcome_of None) kept none
-    (ap (λ (tables : List Table). record { partitioner = p; tables = tables }) (tables_push ds cs d (record { kind = key_type d; partitions = fin.empty }) kept.held)) reply_is refl
+    (ap (λ (tables : List Table). record { partitioner = p; tables = tables }) (tables_push ds cs d (record { kind = key_type d; partitions = fin.empty }) kept.held
+    ∙ created_tables (state_of p ds cs) table columns keys (allowed ds table columns keys none).key_found)) reply_is refl
 
 -- ---- SELECT
 
@@ -231,7 +248,7 @@ query_by : (p : Partitioner) (ds : List Definition) (cs : List MemtableView) (g 
     → StatementStepsTo (state_of p ds cs) (Query select) (state_of p ds cs) reply_old reply_new outcome
 query_by p ds cs g select d c None reply_old reply_new outcome kept there is answered =
     takes p ds cs g (Query select) (state_of p ds cs) reply_old reply_new outcome kept is refl
-    (answered.0 ∙ sym (ap (λ t. reply_old ++ rows_lines (selected_rows select.columns t)) there)) answered.1
+    (answered.0 ∙ sym (ap (λ t. reply_old ++ selected_lines select.columns t) there)) answered.1
 query_by p ds cs g select d c (Some r) reply_old reply_new outcome kept there is refused =
     refuses {E = ℕ} p ds cs g (Query select) (Some r) reply_old reply_new (Ok outcome) kept is refused
 

@@ -1,5 +1,5 @@
 -- The columns of a table: how many they are, and the number of a regular one.
-use Rattle.std.proofs.Common.{◌≡◌, ℕ, zero, suc, ◌+◌, ◌-◌, ◌<◌, ◌≤◌, Bool, true, false, cond, not, ◌&&◌, ◌||◌, nat_eq, nat_lt, List, [], ◌∷◌, length, slice_get, Option, None, Some, is_some, refl, ap, subst, ◌∙◌, arith}
+use Rattle.std.proofs.Common.{◌≡◌, ℕ, zero, suc, ◌+◌, ◌<◌, ◌≤◌, Bool, true, false, cond, not, ◌||◌, nat_eq, nat_lt, List, [], ◌∷◌, length, slice_get, Option, None, Some, refl, ap, subst, ◌∙◌, arith}
 use Rattle.std.proofs.lemmas.Bool.Decides.{nat_tests}
 use Rattle.std.specs.Cmp.{nat_cmp_total}
 use Rattle.std.specs.FinMap as fin
@@ -9,7 +9,7 @@ use Rattle.std.specs.Ordering.{nat_cmp, eq_by_cmp}
 use Rattle.sasi_types.specs.declared.cell.Cell.{Cell}
 use Rattle.sasi_types.specs.declared.literal.Literal.{Literal}
 use Rattle.sasi_model.specs.Cells.{Cells}
-use Rattle.sasi_model.specs.State.{Column, Definition, number_at, number_of_column, position_in, key_name}
+use Rattle.sasi_model.specs.State.{Column, Definition, number_at, number_of_column, position_in}
 use Rattle.sasi_model.specs.Abbreviations.{column_at, name_or_none, one_more, value_set}
 use Rattle.sasi_model.specs.Statements.{same}
 use Rattle.sasi_model.specs.Refusals.{is_column, is_key, no_regular_column, type_of_column}
@@ -63,14 +63,14 @@ regular_number d name passes = by (position_in name d.columns) refl
     parts true true e = cc
     parts false y e = cc
 
-    key_is : (number : Option ℕ) → number ≡ Some 0 → (is_some number && same name (key_name d)) ≡ false → same name (key_name d) ≡ true → ⊥
-    key_is number is key same_name = let e : (is_some number && same name (key_name d)) ≡ true = rw (is, same_name) refl in cc
-
     regular_of : (number : ℕ) (position : ℕ) → position_in name d.columns ≡ Some position → number_at d.key position ≡ number → (n : ℕ) × (number_of_column d name ≡ Some (suc n))
     regular_of zero position found at =
         let key : position ≡ d.key = number_of_key d.key position at in
-        let named : same name (key_name d) ≡ true = subst (λ p. same name (name_or_none (column_at p d.columns)) ≡ true) key (position_named name d.columns position found) in
-        absurd (key_is (number_of_column d name) (rw found (ap (λ n. Some n) at)) (parts (is_column d name) (is_key d name) passes).1 named)
+        let there = position_inside name d.columns position found in
+        let named : same name there.0.0 ≡ true = rw there.1 at (position_named name d.columns position found) in
+        let is : is_key d name ≡ true = rw (← key, there.1) named in
+        let other : is_key d name ≡ false = (parts (is_column d name) (is_key d name) passes).1 in
+        cc
     regular_of (suc n) position found at = (n, rw found (ap (λ m. Some m) at))
 
     by : (o : Option ℕ) → position_in name d.columns ≡ o → (n : ℕ) × (number_of_column d name ≡ Some (suc n))

@@ -5,8 +5,8 @@ use Rattle.sasi_types.specs.declared.decorated_key.DecoratedKey.{DecoratedKey}
 use Rattle.sasi_model.specs.Cells.{Partition, empty_partition, merge}
 use Rattle.sasi_model.specs.Changes.{changed_behind}
 use Rattle.sasi_model.specs.Statements.{same}
-use Rattle.sasi_model.specs.State.{Definition, Table, apply, definition_of, key_type, table_of, with_table}
-use Rattle.sasi_model.specs.Abbreviations.{definitions, one_more}
+use Rattle.sasi_model.specs.State.{Definition, Table, apply, definition_of, table_of, with_table}
+use Rattle.sasi_model.specs.Abbreviations.{definitions, one_more, key_type}
 use Rattle.sasi_schema.specs.Numbers.{number_of_table}
 use Rattle.sasi_machine.specs.MemtableView.{MemtableView}
 use Rattle.sasi_machine.specs.Tables.{AreMemtables, table_with, tables_of}

@@ -1,5 +1,5 @@
 -- The cells that a write sets: each is of a regular column, with a value of its type or a tombstone.
-use Rattle.std.proofs.Common.{◌≡◌, ℕ, zero, suc, ◌-◌, ◌≤◌, Bool, true, false, cond, not, List, [], ◌∷◌, slice_get, Option, None, Some, refl, sym, subst, ◌∙◌, arith}
+use Rattle.std.proofs.Common.{◌≡◌, ℕ, zero, suc, ◌≤◌, Bool, true, false, cond, not, List, [], ◌∷◌, slice_get, Option, None, Some, refl, sym, subst, ◌∙◌, arith}
 use Rattle.std.specs.Cmp.{nat_cmp_total}
 use Rattle.std.specs.FinMap as fin
 use Rattle.std.specs.List.{AllByRecursion}
@@ -13,9 +13,9 @@ use Rattle.sasi_cells.proofs.Laws.Sorted.{equal_columns}
 use Rattle.sasi_model.specs.Cells.{Cells}
 use Rattle.sasi_model.specs.State.{Definition, number_of_column}
 use Rattle.sasi_model.specs.Refusals.{each, is_of, number_range, type_of_column, value_too_long, wrong_type}
-use Rattle.sasi_model.specs.Abbreviations.{first_of, value_set}
+use Rattle.sasi_model.specs.Abbreviations.{first_of, value_set, types_of}
 use Rattle.sasi_model.specs.Step.{cells_set, with_column_cell}
-use Rattle.sasi_model.specs.Stored.{HasBytes, types_of}
+use Rattle.sasi_model.specs.Stored.{HasBytes}
 use Rattle.sasi_model.specs.WellFormed.{IsWellFormedLiteral}
 use Rattle.sasi_schema.proofs.RuleLaws.{none_first}
 use Rattle.sasi_machine.proofs.ColumnTypes.{regular}

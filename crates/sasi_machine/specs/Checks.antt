@@ -1,16 +1,16 @@
 -- The rules of writes, by the checks that try them. In each the time comes last.
-use Rattle.std.specs.Prelude.{◌≡◌, ℕ, ◌<◌, ◌≤◌, not, List, ◌∷◌, ◌++◌, Option}
+use Rattle.std.specs.Prelude.{◌≡◌, ℕ, ◌<◌, ◌≤◌, not, ◌&&◌, List, ◌∷◌, ◌++◌, Option, Some}
 use Rattle.sasi_types.specs.declared.literal.Literal.{Literal}
 use Rattle.sasi_types.specs.declared.literal.Number.{Number}
-use Rattle.sasi_model.specs.State.{Definition, key_name}
-use Rattle.sasi_model.specs.Refusals.{Rule, each, key_empty, number_range, other_key, time_rules, value_too_long, wrong_type, wrong_where}
-use Rattle.sasi_model.specs.Abbreviations.{KeyMissing, TIME_LIMIT, gives_key}
-use Rattle.sasi_model.specs.Step.{time_of}
+use Rattle.sasi_model.specs.State.{Definition}
+use Rattle.sasi_model.specs.Refusals.{Rule, each, is_column, is_key, key_empty, number_range, time_rules, value_too_long, wrong_type, wrong_where}
+use Rattle.sasi_model.specs.Abbreviations.{KeyMissing, TIME_LIMIT, gives_key, key_name}
+use Rattle.sasi_model.specs.Step.{timestamp}
 use Rattle.sasi_machine.specs.declared.relation.KeyRelation.{KeyRelation}
 
 -- the timestamp of a write, where this is the largest of the state
 pub record IsTimeOf (max_timestamp : ℕ) (given : Option Number) (time : ℕ) : Type 0 where
-  pub is : time ≡ time_of max_timestamp given
+  pub is : timestamp max_timestamp given ≡ Some time
   pub above : 0 < time
   pub limit : time ≤ TIME_LIMIT
 
@@ -27,11 +27,14 @@ given_rules d max_timestamp given time = each (wrong_type d) given ++ (each (num
 
 -- ---- UPDATE and DELETE
 
+abbrev pub other_key_rule : Definition → List ℕ → Rule
+other_key_rule d key = (is_column d key && not (is_key d key), KeyMissing (key_name d))
+
 abbrev pub length_rules : Definition → ℕ → List (List ℕ × Literal) → KeyRelation → Option Number → List Rule
 length_rules d max_timestamp sets relation time = each (value_too_long d) sets ++ value_too_long d relation.column relation.value ∷ time_rules max_timestamp time
 
 abbrev pub where_rules : Definition → ℕ → List (List ℕ × Literal) → KeyRelation → Option Number → List Rule
-where_rules d max_timestamp sets relation time = other_key d relation.column ∷ key_empty d relation.column relation.value ∷ length_rules d max_timestamp sets relation time
+where_rules d max_timestamp sets relation time = other_key_rule d relation.column ∷ key_empty d relation.column relation.value ∷ length_rules d max_timestamp sets relation time
 
 abbrev pub range_rules : Definition → ℕ → List (List ℕ × Literal) → KeyRelation → Option Number → List Rule
 range_rules d max_timestamp sets relation time = each (number_range d) sets ++ number_range d relation.column relation.value ∷ where_rules d max_timestamp sets relation time

@@ -1,5 +1,6 @@
 -- What a piece prepares: an answer alone, a new table, or a mutation.
 use Rattle.std.specs.Prelude.{◌≡◌, ℕ, ◌+◌, ◌-◌, ◌<◌, List, length, slice_get, None, Some}
+use Rattle.sasi_types.specs.declared.column.ColumnType.{ColumnType}
 use Rattle.sasi_types.specs.declared.statement.Statement.{Statement}
 use Rattle.sasi_types.specs.declared.statement.Statement.TheVariants.{CreateTable}
 use Rattle.sasi_cells.specs.declared.mutation.Mutation.{Mutation}
@@ -13,7 +14,7 @@ use Rattle.sasi_model.specs.Abbreviations.{definitions, new_definition}
 use Rattle.sasi_model.specs.Changes.{with_new_table}
 use Rattle.sasi_model.specs.Refusals.{Says, read, refusal}
 use Rattle.sasi_model.specs.Step.{step}
-use Rattle.sasi_model.specs.Stored.{IsBodyOf, types_of}
+use Rattle.sasi_model.specs.Stored.{IsBodyOf, column_types}
 use Rattle.sasi_model.specs.WellFormed.{IsWellFormed}
 use Rattle.sasi_machine.specs.Outcome.{outcome_of}
 use Rattle.sasi_machine.specs.StatementSteps.{StatementStepsTo}
@@ -34,7 +35,9 @@ pub record IsApplicable (s : State) (w : Mutation) : Type 0 where
   pub some : 0 < w.table
   pub table : model.Table
   pub there : slice_get s.tables (w.table - 1) ≡ Some table
-  pub body : IsBodyOf (types_of table.definition) w.key w.change
+  pub types : List ColumnType
+  pub types_are : column_types table.definition ≡ Some types
+  pub body : IsBodyOf types w.key w.change
 
 -- ---- what a statement asks for
 

@@ -4,8 +4,8 @@ use Rattle.std.specs.FinMap as map_
 use Rattle.sasi_types.specs.declared.partitioner.Partitioner.{Partitioner}
 use Rattle.sasi_cells.specs.Rows.{IsStored}
 use Rattle.sasi_model.specs.Cells.{empty_partition, merge}
-use Rattle.sasi_model.specs.State.{Definition, State, Table, key_type, decorated}
-use Rattle.sasi_model.specs.Abbreviations.{max_timestamp_of_tables, TIME_LIMIT}
+use Rattle.sasi_model.specs.State.{Definition, State, Table, decorated}
+use Rattle.sasi_model.specs.Abbreviations.{max_timestamp_of_tables, TIME_LIMIT, key_type}
 use Rattle.sasi_machine.specs.MemtableView.{MemtableView}
 use Rattle.sasi_cells.specs.declared.mutation.Mutation.{Mutation}
 

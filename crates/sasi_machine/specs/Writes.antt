@@ -8,9 +8,9 @@ use Rattle.sasi_types.specs.declared.statement.Statement.{Statement}
 use Rattle.sasi_types.specs.declared.statement.Statement.TheVariants.{CreateTable, Insert, Update, Delete, Query}
 use Rattle.sasi_cells.specs.Rows.{IsStored}
 use Rattle.sasi_model.specs.Cells.{Partition, empty_partition}
-use Rattle.sasi_model.specs.State.{Definition, definition_of, key_type}
-use Rattle.sasi_model.specs.Step.{delete_change, insert_change, key_literal, value_given}
-use Rattle.sasi_model.specs.Abbreviations.{update_change, stored_of, COLUMN_LIMIT}
+use Rattle.sasi_model.specs.State.{Definition, definition_of}
+use Rattle.sasi_model.specs.Step.{delete_change, insert_change, value_given}
+use Rattle.sasi_model.specs.Abbreviations.{key_literal, update_change, stored_of, COLUMN_LIMIT, key_type}
 use Rattle.sasi_schema.specs.Numbers.{IsKeyAt, number_of_table}
 use Rattle.sasi_machine.specs.Checks.{IsTimeOf}
 use Rattle.sasi_cells.specs.declared.mutation.Mutation.{Mutation}

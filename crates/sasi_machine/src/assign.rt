@@ -2,8 +2,7 @@
 ghost use Rattle.std.specs.Prelude.{◌≡◌, ◌<◌, None, false, if◌then◌else◌, IfOk, OnOk, map};
 ghost use Rattle.sasi_types.specs.declared.literal.Literal.TheVariants.{Null};
 ghost use Rattle.sasi_model.specs.Refusals.{each, is_key_value, is_out_of_range, number_range, tests, type_of_column};
-ghost use Rattle.sasi_model.specs.Abbreviations.{first_of, update_change};
-ghost use Rattle.sasi_model.specs.Step.{key_literal};
+ghost use Rattle.sasi_model.specs.Abbreviations.{first_of, key_literal, update_change};
 ghost use Rattle.sasi_schema.specs.Defined.{definition};
 ghost use Rattle.sasi_machine.specs.Assignment.{with_set};
 

@@ -4,7 +4,7 @@ ghost use Rattle.std.specs.List.{zip};
 ghost use Rattle.sasi_types.specs.declared.statement.Statement.TheVariants.{Insert, Update, Delete};
 ghost use Rattle.sasi_model.specs.Refusals.{delete_rules, insert_rules, update_rules};
 ghost use Rattle.sasi_model.specs.Abbreviations.{TIME_LIMIT as time_limit};
-ghost use Rattle.sasi_model.specs.Step.{insert_change, key_literal};
+ghost use Rattle.sasi_model.specs.Step.{insert_change};
 ghost use Rattle.sasi_schema.specs.Answers.{Answers};
 ghost use Rattle.sasi_schema.specs.Defined.{definition};
 ghost use Rattle.sasi_machine.specs.Checks.{given_rules};

@@ -1,9 +1,8 @@
 // The mutations of writes that no rule refuses.
 ghost use Rattle.std.specs.Prelude.{◌≡◌, ◌<◌, None, IfOk};
 ghost use Rattle.sasi_model.specs.Refusals.{each, number_range};
-ghost use Rattle.sasi_model.specs.Abbreviations.{first_of, marker, update_change};
-ghost use Rattle.sasi_model.specs.State.{key_type};
-ghost use Rattle.sasi_model.specs.Step.{delete_change, insert_change, key_literal};
+ghost use Rattle.sasi_model.specs.Abbreviations.{first_of, key_literal, marker, update_change, key_type};
+ghost use Rattle.sasi_model.specs.Step.{delete_change, insert_change};
 ghost use Rattle.sasi_cells.specs.Changes.{with_column};
 ghost use Rattle.sasi_schema.specs.Defined.{definition};
 ghost use Rattle.sasi_machine.specs.KeyLiteral.{IsKeyLiteral};

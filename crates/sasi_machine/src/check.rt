@@ -1,10 +1,10 @@
 // The rules of writes on an existing table, in their order.
 ghost use Rattle.std.specs.Prelude.{◌≡◌, ◌≤◌, ◌∷◌, ◌++◌, [], IfOk, map, Some};
-ghost use Rattle.sasi_model.specs.Refusals.{delete_rules, each, other_key, repeat_rules, update_rules};
+ghost use Rattle.sasi_model.specs.Refusals.{delete_rules, each, repeat_rules, update_rules};
 ghost use Rattle.sasi_model.specs.Abbreviations.{TIME_LIMIT as time_limit, gives_key};
 ghost use Rattle.sasi_schema.specs.Answers.{Answers};
 ghost use Rattle.sasi_schema.specs.Defined.{definition};
-ghost use Rattle.sasi_machine.specs.Checks.{IsTimeOf, given_key_rules, given_rules, kind_rules, length_rules, missing_rule, range_rules, where_rules};
+ghost use Rattle.sasi_machine.specs.Checks.{IsTimeOf, given_key_rules, given_rules, kind_rules, length_rules, missing_rule, other_key_rule, range_rules, where_rules};
 ghost use Rattle.sasi_machine.specs.Faults.{refusal_of_fault};
 ghost use Rattle.sasi_machine.specs.Rules.{literal_rule};
 
@@ -99,7 +99,7 @@ pub fn check_given(
 
 // Checks that the column of the WHERE is the key, if it is a column.
 fn check_is_key(alloc: Global, table: &Table, column: &Name) -> Result<(), Fault>
-    ensures { Answers refusal_of_fault (other_key (definition table.now) column.now ∷ []) result }
+    ensures { Answers refusal_of_fault (other_key_rule (definition table.now) column.now ∷ []) result }
 {
     if table.number_of(column).is_some() && !table.is_key(column) {
         return Err(Fault::Refused(Refusal::KeyMissing(table.key_name().copy(alloc)?)));

@@ -1,8 +1,7 @@
 // The columns of a SELECT.
 ghost use Rattle.std.specs.Prelude.{◌≡◌, ◌≤◌, ◌++◌, [], map, IfOk, OnOk};
 ghost use Rattle.std.specs.List.{cons_option};
-ghost use Rattle.sasi_model.specs.Abbreviations.{COLUMN_LIMIT as column_limit, count_up, numbers_of};
-ghost use Rattle.sasi_model.specs.State.{key_type};
+ghost use Rattle.sasi_model.specs.Abbreviations.{COLUMN_LIMIT as column_limit, count_up, numbers_of, key_type};
 ghost use Rattle.sasi_model.specs.Step.{selected_columns};
 ghost use Rattle.sasi_schema.specs.Defined.{definition};
 ghost use Rattle.sasi_machine.specs.Picks.{pick};

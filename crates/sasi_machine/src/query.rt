@@ -1,9 +1,8 @@
 // The SELECT of a table.
 ghost use Rattle.std.specs.Prelude.{◌≡◌, Some, IfOk};
 ghost use Rattle.std.specs.FinMap as map;
-ghost use Rattle.sasi_model.specs.State.{key_type};
 ghost use Rattle.sasi_model.specs.Refusals.{select_rules};
-ghost use Rattle.sasi_model.specs.Abbreviations.{first_of};
+ghost use Rattle.sasi_model.specs.Abbreviations.{first_of, key_type};
 ghost use Rattle.sasi_model.specs.Lines.{rows_lines};
 ghost use Rattle.sasi_model.specs.Step.{selected_columns, live_rows};
 ghost use Rattle.sasi_schema.specs.Answers.{Answers};

@@ -10,3 +10,4 @@ pub mod Tagged
 pub mod CrashMoments
 pub mod Opening
 pub mod KeyWithin
+pub mod NumberedTypes

@@ -7,7 +7,7 @@ use Rattle.sasi_host.specs.Names.{Bytes}
 use Rattle.sasi_fields.specs.Reading.{Reading}
 use Rattle.sasi_formats.specs.Formats.{Encodes, fit_items}
 use Rattle.sasi_formats.specs.Fields.{in_range}
-use Rattle.sasi_formats.specs.Reader.{Outcome, Got, Failed, Corruption, Short, Long, Broken, ◌>>=◌, start, ended, closed, read, read_whole}
+use Rattle.sasi_formats.specs.Reader.{Outcome, Got, Failed, Corruption, Short, Long, ◌>>=◌, start, ended, closed, read, read_whole}
 use Rattle.sasi_formats.specs.Gives.{FailsWith}
 use Rattle.sasi_formats.specs.Whole.{IsShownBy}
 use Rattle.sasi_formats.specs.declared.fault.FormatFault.{FormatFault}

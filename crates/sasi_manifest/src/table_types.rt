@@ -1,6 +1,6 @@
 // The types of listed tables.
 ghost use Rattle.std.specs.Prelude.{◌≡◌, ◌<◌, ◌≤◌, ◌++◌, suc, length, map, take, drop, IfOk, OnOk};
-ghost use Rattle.sasi_model.specs.Stored.{types_of};
+ghost use Rattle.sasi_model.specs.Abbreviations.{types_of};
 ghost use Rattle.sasi_schema.specs.Defined.{definition};
 ghost use Rattle.sasi_manifest.specs.ListedTables.{listed};
 ghost use Rattle.sasi_manifest.specs.Types.{numbered_types};

@@ -1,6 +1,6 @@
 -- Short names for parts of the definitions, which contracts and proofs cite.
-use Rattle.std.specs.Prelude.{ℕ, suc, ◌+◌, ◌-◌, ◌*◌, ◌^◌, ◌==◌, nat_lt, Bool, List, [], ◌∷◌, ◌++◌, codes, drop, length, map, slice_get, Option, Some, is_some, if◌then◌else◌}
-use Rattle.std.specs.List.{cons_option, filter_map, flat_map, fold, join_by, list_any, range_with_len}
+use Rattle.std.specs.Prelude.{ℕ, suc, ◌+◌, ◌-◌, ◌*◌, ◌^◌, ◌==◌, nat_lt, Bool, List, [], ◌∷◌, ◌++◌, codes, drop, length, map, slice_get, Option, Some, unwrap_or, is_some, if◌then◌else◌}
+use Rattle.std.specs.List.{cons_option, filter_map, flat_map, fold, join_by, list_any, range_with_len, remove}
 use Rattle.std.specs.Option.{option_and_then, option_map, option_map_or}
 use Rattle.std.specs.Fmt.{decimal}
 use Rattle.std.specs.declared.cmp.Ordering.{Ordering}
@@ -11,6 +11,7 @@ use Rattle.sasi_types.specs.declared.cell.Cell.{Cell}
 use Rattle.sasi_types.specs.declared.column.ColumnType.{ColumnType}
 use Rattle.sasi_types.specs.declared.column.ColumnType.TheVariants as types
 use Rattle.sasi_types.specs.declared.literal.Literal.{Literal}
+use Rattle.sasi_types.specs.declared.literal.Literal.TheVariants.{Null}
 use Rattle.sasi_types.specs.declared.partitioner.Partitioner.{Partitioner}
 use Rattle.sasi_types.specs.declared.statement.Statement.{Statement}
 use Rattle.sasi_types.specs.declared.value.Value.{Value}
@@ -18,12 +19,12 @@ use Rattle.sasi_types.specs.declared.value.Value.TheVariants as values
 use Rattle.sasi_types.specs.Value.{stored}
 use Rattle.sasi_types.specs.DecoratedKey.{decorated_cmp}
 use Rattle.sasi_model.specs.Cells.{Partition, largest, max_timestamp_of, value_cmp}
-use Rattle.sasi_model.specs.State.{Column, Definition, State, Table, number_at, number_of_column}
+use Rattle.sasi_model.specs.State.{Column, Definition, State, Table, key_column, number_at, number_of_column}
 use Rattle.sasi_model.specs.Pieces.{begins}
 use Rattle.sasi_model.specs.Tokens.{Lexeme, Uuid, is_digit, is_word_byte, lower_byte}
 use Rattle.sasi_model.specs.Refusals.{Refusal, Rule, is_key_value, is_text_with}
-use Rattle.sasi_model.specs.Lines.{line, printed}
-use Rattle.sasi_model.specs.Step.{StepResult, cells_set, execute, key_position, live_rows, refused_step, selected_columns, value_given}
+use Rattle.sasi_model.specs.Lines.{line, printed, rows_lines}
+use Rattle.sasi_model.specs.Step.{StepResult, cells_set, execute, given_key, live_rows, primary_key, refused_step, selected_columns, value_given}
 
 -- ---- columns
 
@@ -41,6 +42,22 @@ name_or_none found = option_map_or (λ column. column.0) found []
 
 abbrev pub type_or_text : Option Column → ColumnType
 type_or_text found = option_map_or (λ column. column.1) found types.Text
+
+-- the name of the key column, empty where there is none
+abbrev pub key_name : Definition → List ℕ
+key_name d = name_or_none (key_column d)
+
+-- its type, text where there is none
+abbrev pub key_type : Definition → ColumnType
+key_type d = type_or_text (key_column d)
+
+-- the types of a table's columns: the key's first, and then those of the regular columns in order
+abbrev pub types_of : Definition → List ColumnType
+types_of d = key_type d ∷ map (λ column. column.1) (remove d.columns d.key)
+
+-- the position of the key column, 0 where there is none
+abbrev pub key_position : List Column → List (List ℕ) → ℕ
+key_position columns keys = unwrap_or (primary_key columns keys) 0
 
 abbrev pub count_up : ℕ → ℕ → List ℕ
 count_up from n = range_with_len from n
@@ -80,6 +97,10 @@ stored_of value = option_map_or stored value []
 
 abbrev pub value_set : Option ColumnType → Literal → Option Value
 value_set column literal = option_and_then (λ type. value_given type literal) column
+
+-- the literal that gives the key its value, NULL where none does
+abbrev pub key_literal : Definition → List (List ℕ × Literal) → Literal
+key_literal d given = unwrap_or (given_key d given) Null
 
 abbrev pub execute_or : State → Statement → Option Refusal → StepResult
 execute_or s statement refused = option_map_or (refused_step s) refused (execute s statement)
@@ -121,8 +142,9 @@ new_definition name columns keys = record { name = name; columns = columns; key 
 abbrev pub marker : ℕ → Cell
 marker time = record { time = time; value = Some (values.Text []) }
 
-abbrev pub selected_rows : Option (List (List ℕ)) → Option Table → List (List (Option Value))
-selected_rows columns found = option_map_or (λ t. live_rows t.definition (selected_columns t.definition columns) (map_.entries t.partitions)) found []
+-- the reply of a SELECT of these columns
+abbrev pub selected_lines : Option (List (List ℕ)) → Option Table → List ℕ
+selected_lines columns found = option_map_or (λ t. rows_lines (live_rows t.definition (selected_columns t.definition columns) (map_.entries t.partitions))) found []
 
 abbrev pub ok_line : List ℕ
 ok_line = line (codes "ok")

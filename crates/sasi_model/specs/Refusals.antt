@@ -19,7 +19,7 @@ use Rattle.sasi_types.specs.declared.statement.Statement.TheVariants.{CreateTabl
 use Rattle.sasi_model.specs.Pieces.{Piece, Whole, TooLong, Unfinished}
 use Rattle.sasi_model.specs.Tokens.{tokens}
 use Rattle.sasi_model.specs.Statements.{Parser, same, statement_of}
-use Rattle.sasi_model.specs.State.{Column, State, Definition, definition_of, position_in, key_name, number_of_column, max_timestamp}
+use Rattle.sasi_model.specs.State.{Column, State, Definition, definition_of, position_in, key_column, number_of_column, max_timestamp}
 
 -- the number of a refusal, and its name with what it is about
 abbrev pub Refusal : Type 0
@@ -107,7 +107,7 @@ abbrev pub is_column : Definition → List ℕ → Bool
 is_column d name = is_some (number_of_column d name)
 
 abbrev pub is_key : Definition → List ℕ → Bool
-is_key d name = is_column d name && same name (key_name d)
+is_key d name = option_map_or (λ column. same name column.0) (key_column d) false
 
 abbrev pub wrong_type : Definition → List ℕ → Literal → Rule
 wrong_type d name literal = (tests (λ type given. not (is_of type given)) (type_of_column d name) literal, (8, codes "WrongType " ++ name))
@@ -157,6 +157,10 @@ create_rules tables table columns keys =
     ++ (length keys == 0, (10, codes "KeyMissing " ++ table))
     ∷ (nat_le 256 (length tables), (24, codes "TooMany tables 256")) ∷ (nat_lt 64 (length columns), (24, codes "TooMany columns 64")) ∷ []))
 
+-- the rule that the key is missing, which names the key column; none without such a column
+abbrev pub key_missing : Definition → Bool → List Rule
+key_missing d applies = option_map_or (λ column. (applies, (10, codes "KeyMissing " ++ column.0)) ∷ []) (key_column d) []
+
 -- a value for the key
 abbrev pub is_key_value : Definition → List ℕ → Literal → Bool
 is_key_value d name literal = is_key d name && not (is_null literal)
@@ -166,25 +170,25 @@ abbrev pub insert_rules : ℕ → List ℕ → List (List ℕ) → List (List �
 insert_rules max_timestamp table columns given time None = (true, (4, codes "NoTable " ++ table)) ∷ []
 insert_rules max_timestamp table columns given time (Some d) =
     map (no_column d) columns ++ (repeat_rules [] columns ++ (each (wrong_type d) given ++ (each (number_range d) given
-    ++ (not (list_any (λ g. is_key_value d g.0 g.1) given), (10, codes "KeyMissing " ++ key_name d))
-    ∷ (each (key_empty d) given ++ (each (value_too_long d) given ++ time_rules max_timestamp time)))))
+    ++ (key_missing d (not (list_any (λ g. is_key_value d g.0 g.1) given))
+    ++ (each (key_empty d) given ++ (each (value_too_long d) given ++ time_rules max_timestamp time))))))
 
 -- the WHERE of an UPDATE or a DELETE names a column that isn't the key
-abbrev pub other_key : Definition → List ℕ → Rule
-other_key d key = (is_column d key && not (is_key d key), (10, codes "KeyMissing " ++ key_name d))
+abbrev pub other_key : Definition → List ℕ → List Rule
+other_key d key = key_missing d (is_column d key && not (is_key d key))
 
 abbrev pub update_rules : ℕ → List ℕ → List (List ℕ × Literal) → List ℕ → Literal → Option Number → Option Definition → List Rule
 update_rules max_timestamp table sets key value time None = (true, (4, codes "NoTable " ++ table)) ∷ []
 update_rules max_timestamp table sets key value time (Some d) =
     map (λ set. no_regular_column d set.0) sets ++ no_column d key ∷ (repeat_rules [] (map (λ set. set.0) sets)
     ++ (each (wrong_type d) sets ++ wrong_where d key value ∷ (each (number_range d) sets ++ number_range d key value
-    ∷ other_key d key ∷ key_empty d key value ∷ (each (value_too_long d) sets ++ value_too_long d key value ∷ time_rules max_timestamp time))))
+    ∷ (other_key d key ++ key_empty d key value ∷ (each (value_too_long d) sets ++ value_too_long d key value ∷ time_rules max_timestamp time)))))
 
 abbrev pub delete_rules : ℕ → List ℕ → List (List ℕ) → List ℕ → Literal → Option Number → Option Definition → List Rule
 delete_rules max_timestamp table columns key value time None = (true, (4, codes "NoTable " ++ table)) ∷ []
 delete_rules max_timestamp table columns key value time (Some d) =
-    map (no_regular_column d) columns ++ no_column d key ∷ (repeat_rules [] columns ++ wrong_where d key value ∷ number_range d key value ∷ other_key d key
-    ∷ key_empty d key value ∷ value_too_long d key value ∷ time_rules max_timestamp time)
+    map (no_regular_column d) columns ++ no_column d key ∷ (repeat_rules [] columns ++ wrong_where d key value ∷ number_range d key value
+    ∷ (other_key d key ++ key_empty d key value ∷ value_too_long d key value ∷ time_rules max_timestamp time))
 
 abbrev pub select_rules : List ℕ → Option (List (List ℕ)) → Option Definition → List Rule
 select_rules table columns None = (true, (4, codes "NoTable " ++ table)) ∷ []

@@ -3,9 +3,8 @@
 use Rattle.std.specs.Prelude.{ℕ, suc, ◌==◌, nat_lt, slice_get, map, List, [], ◌∷◌, Option, None, Some, if◌then◌else◌, unwrap_or}
 use Rattle.std.specs.FinMap as map_
 use Rattle.std.specs.List.{find}
-use Rattle.std.specs.Option.{option_map, option_map_or}
+use Rattle.std.specs.Option.{option_map}
 use Rattle.sasi_types.specs.declared.column.ColumnType.{ColumnType}
-use Rattle.sasi_types.specs.declared.column.ColumnType.TheVariants as types
 use Rattle.sasi_types.specs.declared.partitioner.Partitioner.{Partitioner}
 use Rattle.sasi_types.specs.declared.decorated_key.DecoratedKey.{DecoratedKey}
 use Rattle.sasi_types.specs.DecoratedKey.{decorated_cmp}
@@ -63,12 +62,9 @@ number_at key position = if position == key then 0 else if nat_lt position key t
 abbrev pub number_of_column : Definition → List ℕ → Option ℕ
 number_of_column d name = option_map (number_at d.key) (position_in name d.columns)
 
--- the name and the type of the key column
-abbrev pub key_name : Definition → List ℕ
-key_name d = option_map_or (λ column. column.0) (slice_get d.columns d.key) []
-
-abbrev pub key_type : Definition → ColumnType
-key_type d = option_map_or (λ column. column.1) (slice_get d.columns d.key) types.Text
+-- the key column, if the table has it
+abbrev pub key_column : Definition → Option Column
+key_column d = slice_get d.columns d.key
 
 -- ---- partitions
 

@@ -1,10 +1,9 @@
 -- The step of one piece, by a parser: the state after it, and the reply. A write is merged into the partition of its key. A refused piece
 -- leaves the state unchanged.
-use Rattle.std.specs.Prelude.{ℕ, codes, ◌+◌, suc, zero, List, [], ◌∷◌, ◌++◌, length, map, Option, None, Some, unwrap_or, is_some, if◌then◌else◌}
-use Rattle.std.specs.List.{filter_map, range_with_len, zip}
-use Rattle.std.specs.Option.{option_and_then, option_map_or}
+use Rattle.std.specs.Prelude.{ℕ, pos, codes, ◌+◌, suc, zero, List, [], ◌∷◌, ◌++◌, length, map, Option, None, Some, slice_get, is_some, if◌then◌else◌}
+use Rattle.std.specs.List.{filter_map, find, range_with_len, zip}
+use Rattle.std.specs.Option.{option_and_then, option_map, option_map_or}
 use Rattle.std.specs.Int.{w32, w64, cast_signed, from_be_bytes}
-use Rattle.std.specs.Prelude.{unsigned_abs}
 use Rattle.std.specs.FinMap as map_
 use Rattle.sasi_types.specs.declared.cell.Cell.{Cell}
 use Rattle.sasi_types.specs.declared.column.ColumnType.{ColumnType}
@@ -12,7 +11,7 @@ use Rattle.sasi_types.specs.declared.column.ColumnType.TheVariants as types
 use Rattle.sasi_types.specs.declared.literal.Literal.{Literal}
 use Rattle.sasi_types.specs.declared.literal.Literal.TheVariants as literals
 use Rattle.sasi_types.specs.declared.literal.Number.{Number}
-use Rattle.sasi_types.specs.declared.literal.Number.TheVariants.{Fits, Wide}
+use Rattle.sasi_types.specs.declared.literal.Number.TheVariants.{Fits}
 use Rattle.sasi_types.specs.declared.partitioner.Partitioner.{Partitioner}
 use Rattle.sasi_types.specs.declared.decorated_key.DecoratedKey.{DecoratedKey}
 use Rattle.sasi_types.specs.declared.value.Value.{Value}
@@ -22,7 +21,7 @@ use Rattle.sasi_types.specs.declared.statement.Statement.{Statement}
 use Rattle.sasi_types.specs.declared.statement.Statement.TheVariants.{CreateTable, Insert, Update, Delete, Query}
 use Rattle.sasi_model.specs.Pieces.{Piece}
 use Rattle.sasi_model.specs.Cells.{Cells, Partition, is_live, value_at}
-use Rattle.sasi_model.specs.State.{Column, Definition, Table, State, decorated, table_of, with_table, position_in, number_of_column, key_type, apply, max_timestamp}
+use Rattle.sasi_model.specs.State.{Column, Definition, Table, State, decorated, table_of, with_table, position_in, number_of_column, key_column, apply, max_timestamp}
 use Rattle.sasi_model.specs.Changes.{empty_table}
 use Rattle.sasi_model.specs.Statements.{Parser, statement_of}
 use Rattle.sasi_model.specs.Refusals.{Refusal, ParsedPiece, Nothing, Says, Bad, read_by, refusal, type_of_column, is_key_value}
@@ -47,11 +46,11 @@ value_stored types.Uuid bytes = Uuid bytes
 
 -- ---- what a write changes
 
--- the timestamp of a write: the given one, or one more than the largest of the state
-abbrev pub time_of : ℕ → Option Number → ℕ
-time_of max_timestamp None = max_timestamp + 1
-time_of max_timestamp (Some Wide) = 0
-time_of max_timestamp (Some (Fits z)) = unsigned_abs z
+-- the timestamp of a write: one more than the largest of the state, or the given one; none for a negative number or a wide one
+abbrev pub timestamp : ℕ → Option Number → Option ℕ
+timestamp max_timestamp None = Some (max_timestamp + 1)
+timestamp max_timestamp (Some (Fits (pos n))) = Some n
+timestamp max_timestamp (Some time) = None
 
 abbrev pub with_column_cell : Option ℕ → Cell → Cells → Cells
 with_column_cell None cell cells = cells
@@ -61,8 +60,8 @@ with_column_cell (Some (suc n)) cell cells = map_.insert cells (suc n) cell
 -- a cell for each regular column that is set: its value, or a tombstone for NULL
 abbrev pub cells_set : Definition → ℕ → List (List ℕ × Literal) → Cells
 cells_set d time [] = map_.empty
-cells_set d time (set ∷ sets) =
-    with_column_cell (number_of_column d set.0) (record { time = time; value = option_and_then (λ type. value_given type set.1) (type_of_column d set.0) }) (cells_set d time sets)
+cells_set d time (set ∷ sets) = with_column_cell (number_of_column d set.0)
+    (record { time = time; value = option_and_then (λ type. value_given type set.1) (type_of_column d set.0) }) (cells_set d time sets)
 
 -- an INSERT writes the marker, whose value is an empty text, and a cell for each regular column that it names
 abbrev pub insert_change : Definition → ℕ → List (List ℕ × Literal) → Partition
@@ -73,20 +72,19 @@ abbrev pub delete_change : Definition → ℕ → List (List ℕ) → Partition
 delete_change d time [] = record { deleted = time; cells = map_.empty }
 delete_change d time (column ∷ columns) = record { deleted = 0; cells = cells_set d time (map (λ name. (name, literals.Null)) (column ∷ columns)) }
 
--- the literal that gives the key its value
-abbrev pub key_literal : Definition → List (List ℕ × Literal) → Literal
-key_literal d [] = literals.Null
-key_literal d (given ∷ others) = if is_key_value d given.0 given.1 then given.1 else key_literal d others
+-- the literal that gives the key its value, if one does
+abbrev pub given_key : Definition → List (List ℕ × Literal) → Option Literal
+given_key d given = option_map (λ g. g.1) (find (λ g. is_key_value d g.0 g.1) given)
 
--- the decorated key that a literal gives
-abbrev pub decorated_given : Partitioner → Definition → Literal → DecoratedKey
-decorated_given partitioner d literal = decorated partitioner (option_map_or stored (value_given (key_type d) literal) [])
+-- the decorated key that a literal gives, if it gives the key column a value
+abbrev pub decorated_given : Partitioner → Definition → Literal → Option DecoratedKey
+decorated_given p d literal = option_map (λ value. decorated p (stored value)) (option_and_then (λ column. value_given column.1 literal) (key_column d))
 
 -- ---- what a query answers
 
 -- the value of a column by its number: the key's own, or that of its cell
 abbrev pub value_numbered : Definition → DecoratedKey → Partition → ℕ → Option Value
-value_numbered d decorated_key p zero = Some (value_stored (key_type d) decorated_key.key)
+value_numbered d decorated_key p zero = option_map (λ column. value_stored column.1 decorated_key.key) (key_column d)
 value_numbered d decorated_key p (suc n) = value_at p (suc n)
 
 -- the numbers of the selected columns: those named, or the key and then the others in declared order
@@ -101,27 +99,33 @@ live_rows d numbers (entry ∷ entries) =
 
 -- ---- one statement
 
--- the key column is the one with PRIMARY KEY
-abbrev pub key_position : List Column → List (List ℕ) → ℕ
-key_position columns [] = 0
-key_position columns (key ∷ keys) = unwrap_or (position_in key columns) 0
+-- the position of the column with PRIMARY KEY, which is the key
+abbrev pub primary_key : List Column → List (List ℕ) → Option ℕ
+primary_key columns keys = option_and_then (λ key. position_in key columns) (slice_get keys 0)
 
--- the tables after a write to the named one: its definition gives the literal of the key, and the change of the key's partition
-abbrev pub written : State → List ℕ → (Definition → Literal) → (Definition → Partition) → List Table
-written s table key change = with_table table (λ t. apply (decorated_given s.partitioner t.definition (key t.definition)) (change t.definition) t) s.tables
+-- the table after a change of the partition of a key; without a key or a change it stays as it is
+abbrev pub applied : Option DecoratedKey → Option Partition → Table → Table
+applied (Some decorated_key) (Some change) t = apply decorated_key change t
+applied decorated_key change t = t
+
+-- the tables after a write to the named one: its definition gives the literal of the key, and with a timestamp the change of the key's partition
+abbrev pub written : State → List ℕ → Option Number → (Definition → Option Literal) → (Definition → ℕ → Partition) → List Table
+written s table time key change = with_table table (λ t. applied (option_and_then (decorated_given s.partitioner t.definition) (key t.definition))
+    (option_map (change t.definition) (timestamp (max_timestamp s) time)) t) s.tables
 
 -- an UPDATE writes the cells alone
 abbrev pub tables_after : State → Statement → List Table
-tables_after s (CreateTable table columns keys) = s.tables ++ empty_table (record { name = table; columns = columns; key = key_position columns keys }) ∷ []
+tables_after s (CreateTable table columns keys) =
+    option_map_or (λ key. s.tables ++ empty_table (record { name = table; columns = columns; key = key }) ∷ []) (primary_key columns keys) s.tables
 tables_after s (Insert table columns values time) =
-    written s table (λ d. key_literal d (zip columns values)) (λ d. insert_change d (time_of (max_timestamp s) time) (zip columns values))
-tables_after s (Update table time sets key value) = written s table (λ d. value) (λ d. record { deleted = 0; cells = cells_set d (time_of (max_timestamp s) time) sets })
-tables_after s (Delete table columns time key value) = written s table (λ d. value) (λ d. delete_change d (time_of (max_timestamp s) time) columns)
+    written s table time (λ d. given_key d (zip columns values)) (λ d time. insert_change d time (zip columns values))
+tables_after s (Update table time sets key value) = written s table time (λ d. Some value) (λ d time. record { deleted = 0; cells = cells_set d time sets })
+tables_after s (Delete table columns time key value) = written s table time (λ d. Some value) (λ d time. delete_change d time columns)
 tables_after s (Query select) = s.tables
 
 abbrev pub answer_of : State → Statement → List ℕ
-answer_of s (Query select) = rows_lines (option_map_or
-    (λ t. live_rows t.definition (selected_columns t.definition select.columns) (map_.entries t.partitions)) (table_of select.table s.tables) [])
+answer_of s (Query select) = option_map_or (λ t. rows_lines (live_rows t.definition (selected_columns t.definition select.columns)
+    (map_.entries t.partitions))) (table_of select.table s.tables) []
 answer_of s statement = line (codes "ok")
 
 -- ---- one piece

@@ -1,8 +1,9 @@
 -- Partitions that can be stored: the ranges that the formats of logs and data files allow, and in a table the types of its
 -- columns.
-use Rattle.std.specs.Prelude.{◌≡◌, ℕ, ◌^◌, ◌<◌, ◌≤◌, List, [], ◌∷◌, length, map, Some, IfSome, FitsSigned, slice_get}
+use Rattle.std.specs.Prelude.{◌≡◌, ℕ, ◌^◌, ◌<◌, ◌≤◌, List, [], ◌∷◌, length, map, Option, Some, IfSome, FitsSigned, slice_get}
 use Rattle.std.specs.Int.{w32, w64}
 use Rattle.std.specs.List.{AllByRecursion, remove}
+use Rattle.std.specs.Option.{option_map}
 use Rattle.std.specs.Str.{IsUtf8}
 use Rattle.std.specs.FinMap as map_
 use Rattle.sasi_types.specs.declared.cell.Cell.{Cell}
@@ -12,7 +13,7 @@ use Rattle.sasi_types.specs.declared.value.Value.{Value}
 use Rattle.sasi_types.specs.declared.value.Value.TheVariants.{Text, Int, BigInt, Uuid}
 use Rattle.sasi_types.specs.Value.{type_of}
 use Rattle.sasi_model.specs.Cells.{Partition}
-use Rattle.sasi_model.specs.State.{Definition, key_type}
+use Rattle.sasi_model.specs.State.{Definition, key_column}
 
 -- ---- ranges
 
@@ -59,8 +60,8 @@ pub record HasBody (key : List ℕ) (part : Partition) : Type 0 where
 -- ---- in a table
 
 -- the types of a table's columns: the key's first, and then those of the regular columns in order
-abbrev pub types_of : Definition → List ColumnType
-types_of d = key_type d ∷ map (λ column. column.1) (remove d.columns d.key)
+abbrev pub column_types : Definition → Option (List ColumnType)
+column_types d = option_map (λ column. column.1 ∷ map (λ column. column.1) (remove d.columns d.key)) (key_column d)
 
 -- the bytes are those of a value of the type
 abbrev pub IsValueOf : ColumnType → List ℕ → Type 0

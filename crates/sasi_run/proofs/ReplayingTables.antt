@@ -1,22 +1,22 @@
 -- The listed tables in memory, and which of them a mutation is of.
-use Rattle.std.proofs.Common.{◌≡◌, ℕ, zero, suc, ◌+◌, ◌-◌, ◌<◌, ◌≤◌, true, false, nat_eq, nat_lt, nat_le, ◌||◌, if◌then◌else◌, List, [], ◌∷◌, ◌++◌, length, map, drop, get_or, slice_get, Some, None, refl, sym, ap, subst, ◌∙◌, arith, append_assoc, length-append}
+use Rattle.std.proofs.Common.{◌≡◌, ℕ, zero, suc, ◌+◌, ◌-◌, ◌<◌, ◌≤◌, true, false, nat_lt, nat_le, ◌||◌, if◌then◌else◌, List, [], ◌∷◌, ◌++◌, length, map, drop, get_or, slice_get, Some, None, refl, sym, ap, subst, ◌∙◌, arith, append_assoc, length-append}
 use Rattle.std.proofs.lemmas.Bool.Decides.{nat_tests}
 use Rattle.std.proofs.lemmas.List.{append-nil, drop_all, drop_more, map-append}
 use Rattle.std.proofs.lemmas.Option.{slice_get-map, slice_get_past, slice_get_read}
 use Rattle.std.specs.List.{list_any}
 use Rattle.std.specs.Option.{option_map}
-use Rattle.sasi_types.specs.declared.column.ColumnType.{ColumnType}
 use Rattle.sasi_types.specs.declared.partitioner.Partitioner.{Partitioner}
 use Rattle.sasi_model.specs.Statements.{same}
 use Rattle.sasi_model.specs.State.{Definition, State, Table, definition_of}
 use Rattle.sasi_model.specs.Abbreviations.{definitions}
+use Rattle.sasi_model.specs.Stored.{column_types}
+use Rattle.sasi_folder.proofs.FolderChanges.{mutation_listed}
 use Rattle.sasi_model.specs.Changes.{empty_table, with_new_table}
-use Rattle.sasi_model.specs.Stored.{types_of}
 use Rattle.sasi_schema.specs.declared.table.Table as schema
 use Rattle.sasi_schema.specs.Defined.{definition}
 use Rattle.sasi_schema.specs.Numbers.{RisesFrom}
 use Rattle.sasi_cells.specs.declared.mutation.Mutation.{Mutation}
-use Rattle.sasi_commitlog.specs.Format.{IsMutationOf, types_in}
+use Rattle.sasi_commitlog.specs.Format.{IsMutationOf}
 use Rattle.sasi_commitlog.proofs.Payloads.{opened_mutation}
 use Rattle.sasi_manifest.specs.declared.listed.ListedTable.{ListedTable}
 use Rattle.sasi_manifest.specs.declared.listing.Listing.{Listing}
@@ -24,7 +24,6 @@ use Rattle.sasi_manifest.specs.ListedDefinition.{ListedDefinition}
 use Rattle.sasi_manifest.specs.ListedTables.{listed}
 use Rattle.sasi_manifest.specs.Listings.{listed_definitions}
 use Rattle.sasi_manifest.specs.Naming.{AreApart, IsFree}
-use Rattle.sasi_manifest.specs.Types.{numbered_types}
 use Rattle.sasi_machine.specs.Prepares.{IsApplicable, IsNewTable}
 use Rattle.sasi_folder.proofs.Creating.{same_sym}
 use Rattle.sasi_folder.specs.Replay.{is_replayed}
@@ -119,17 +118,7 @@ pub listed_tables : (tables : List ListedTable) (all : List ListedDefinition) �
 listed_tables [] all is = rw (← is) refl
 listed_tables (t ∷ tables) all is = rw (← is) (ap (λ (ts : List Table). new_table t ∷ ts) (listed_tables tables (map listed tables) refl))
 
--- the table that a number's types are of
-types_found : (first number : ℕ) (tables : List ListedDefinition) (types : List ColumnType) → types_in (numbered_types first tables) number ≡ Some types → (index : ℕ) × (l : ListedDefinition) × (number ≡ first + index) × (slice_get tables index ≡ Some l) × (types_of l.definition ≡ types)
-types_found first number [] types is = cc
-types_found first number (x ∷ tables) types is =
-    elim (nat_eq first number) as (λ b. nat_eq first number ≡ b → (if b then Some (types_of x.definition) else types_in (numbered_types (suc first) tables) number) ≡ Some types
-    → (index : ℕ) × (l : ListedDefinition) × (number ≡ first + index) × (slice_get (x ∷ tables) index ≡ Some l) × (types_of l.definition ≡ types)) [
-      | true ↦ λ e there. (0, x, grind (arith, nat_tests), refl, cc)
-      | false ↦ λ e there. (let rest = types_found (suc first) number tables types there in (suc rest.0, rest.1, omega (arith, rest.2), rest.3, rest.4))
-    ] refl is
-
--- stands at its index in memory
+-- a listed table stands at its index in memory
 table_found : (tables : List Table) (all : List ListedDefinition) (index : ℕ) (l : ListedDefinition) → definitions tables ≡ listed_definitions all → slice_get all index ≡ Some l → (t : Table) × (slice_get tables index ≡ Some t) × (t.definition ≡ l.definition)
 table_found tables [] index l same there = cc
 table_found [] (x ∷ all) index l same there = cc
@@ -143,13 +132,13 @@ table_found (t ∷ tables) (x ∷ all) (suc index) l same there = let rest : def
 pub mutation_fit : (listing : Listing) (s : State) (m : Mutation) → IsMutationOf (types_listed listing) m → definitions s.tables ≡ listed_definitions listing.tables → IsApplicable s m
 mutation_fit listing s m of same =
     let opened = opened_mutation (types_listed listing) m of in
-    let found = types_found 1 m.table listing.tables opened.types opened.listed in
-    let t = table_found s.tables listing.tables found.0 found.1 same found.3 in
-    let number : m.table - 1 ≡ found.0 = omega (arith, found.2) in
-    let types : types_of t.0.definition ≡ opened.types = ap (λ (d : Definition). types_of d) t.2 ∙ found.4 in
+    let found = mutation_listed listing m of in
+    let t = table_found s.tables listing.tables (m.table - 1) found.table same found.there in
     record {
-      some = omega (arith, found.2);
+      some = omega (arith, found.some);
       table = t.0;
-      there = ap (slice_get s.tables) number ∙ t.1;
-      body = rw types opened.body_is;
+      there = t.1;
+      types = opened.types;
+      types_are = ap column_types t.2 ∙ found.types_are;
+      body = opened.body_is;
     }

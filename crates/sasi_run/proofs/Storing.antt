@@ -58,7 +58,7 @@ stays_any_change v = changes_as v v Same AnyFolderChange (stays v) (λ x y same.
 
 module _ (a b : View) (sound : IsSound a) (store : Store) (w : Mutation) (ready : IsReady a store) (fit : IsApplicable store.machine w) where
   pub fits : w.table < 2 ^ 32 → IsMutationOf (types_listed store.manifest.listing) w
-  fits small = mutation_fits store.manifest.listing store.machine w fit.table ready.together.tables fit.some small fit.there fit.body
+  fits small = mutation_fits store.manifest.listing store.machine w fit.table ready.together.tables fit.some small fit.there fit.types fit.types_are fit.body
 
   pub write_atomic : w.table < 2 ^ 32 → ((mutations : List Mutation) → IsAtLogEnd a store.log.file store.log.at mutations → Changes (FileChange store.log.file (LeftWith (IsLogBeforeOrAfter store.log.file mutations w))) a b) → IsStoreDurable a store → IsAtomic a b store.machine (state_with_mutation store.machine w)
   write_atomic small moments durable =

@@ -44,6 +44,10 @@ pub record EmitsUpToLimit (parser : Parser) (s : State) (read shown : List ℕ) 
   pub whole : shown ≡ replies_by parser s (pieces (take SCRIPT_MOST read)).whole
   pub long : SCRIPT_MOST < length read
 
+-- the script that a source tells, or else what was read of it
+abbrev pub script_of : Option (List ℕ) → List ℕ → List ℕ
+script_of script read = unwrap_or script read
+
 -- What was answered where a run broke off: `done`, and `next` behind it, are a first part of the pieces of the script, and of those of the bytes read. The last read gave `last`: each piece that ends before it is done.
 pub record IsFirstPart (script read : List ℕ) (done next : List Piece) : Type 0 where
   pub rest : List Piece
@@ -97,14 +101,14 @@ RanToEnd Done = Unit {0}
 RanToEnd (Refused n) = Unit {0}
 RanToEnd _ = ⊥
 
--- The run read these bytes, and emitted what they show. The script is the one that the source tells, or else what was read of it.
+-- the run read these bytes, and emitted what they show
 pub record Runs (parser : Parser) (status : Status) (s : State) (left_old left_new out_old out_new : Option (List ℕ)) : Type 0 where
   pub read : List ℕ
   pub shown : List ℕ
   pub consumed : Consumes left_old left_new read
   pub emitted : Appends out_old out_new shown
   pub at_end : ReadsToEnd status left_new
-  pub shows : EmitsByStatus parser status s (unwrap_or left_old read) read shown
+  pub shows : EmitsByStatus parser status s (script_of left_old read) read shown
   pub bounded : length read ≤ SCRIPT_MOST + READ_MOST
 
 -- A run on this host begins in this state: its folder, as it reads, stands for it, and each image of it stands for a state.
@@ -126,8 +130,8 @@ pub record StandsWithoutUnlisted (v : View) (s : State) : Type 0 where
 -- **The replies, and what a crash leaves.** What was emitted are replies as the status says, and at each moment since the start a crash leaves the state after the pieces whose replies were emitted, or after one more. A run to the script's end leaves the state after all of them, and no other file.
 pub record RunsFrom (parser : Parser) (status : Status) (s : State) (left_old left_new : Option (List ℕ)) (host_old host_new : View) : Type 0 where
   pub runs : Runs parser status s left_old left_new host_old.emitted host_new.emitted
-  pub crash : (before : List ℕ) → host_old.emitted ≡ Some before → (folder : Folder) (out : List ℕ) → host_new.left host_old.moment folder out → Recovers parser host_old s (all_pieces (unwrap_or left_old runs.read)) before folder out
-  pub ends : RanToEnd status → IsSome host_old.emitted → StandsWithoutUnlisted host_new (state_by parser s (all_pieces (unwrap_or left_old runs.read)))
+  pub crash : (before : List ℕ) → host_old.emitted ≡ Some before → (folder : Folder) (out : List ℕ) → host_new.left host_old.moment folder out → Recovers parser host_old s (all_pieces (script_of left_old runs.read)) before folder out
+  pub ends : RanToEnd status → IsSome host_old.emitted → StandsWithoutUnlisted host_new (state_by parser s (all_pieces (script_of left_old runs.read)))
 
 -- what a run does, by what its source and its host tell before it and after it
 pub record Headline (status : Status) (script_old script_new : SourceView) (host_old host_new : View) : Type 0 where
@@ -141,12 +145,6 @@ pub record Headline (status : Status) (script_old script_new : SourceView) (host
       → Runs parser status s script_old.left script_new.left host_old.emitted host_new.emitted
   -- the replies, and the crash
   pub shows : (s : State) → StartsFrom host_old s → RunsFrom parser status s script_old.left script_new.left host_old host_new
-
--- ---- short names, which contracts and proofs cite
-
--- the script that a source tells, or else what was read of it
-abbrev pub script_of : Option (List ℕ) → List ℕ → List ℕ
-script_of script read = unwrap_or script read
 
 -- ---- the status of a run's end
 

@@ -1,14 +1,16 @@
 -- The key column.
-use Rattle.std.proofs.Common.{◌≡◌, ℕ, ◌+◌, ◌<◌, Bool, true, false, ◌&&◌, ◌==◌, List, [], ◌∷◌, length, drop, get_or, Option, None, Some, is_some, unwrap_or, refl, sym, ap, ◌∙◌, add-one}
-use Rattle.std.specs.List.{list_any}
-use Rattle.std.specs.Cmp.Lexicographic.{same_text}
+use Rattle.std.proofs.Common.{◌≡◌, inl, inr, ℕ, ◌+◌, ◌<◌, Bool, true, false, ◌==◌, List, [], ◌∷◌, length, map, drop, get_or, Option, None, Some, is_some, unwrap_or, refl, sym, ap, ◌∙◌, add-one, arith}
+use Rattle.std.specs.List.{list_any, remove}
+use Rattle.std.specs.Option.{option_map, option_map_or}
+use Rattle.sasi_types.specs.declared.column.ColumnType.{ColumnType}
 use Rattle.std.proofs.Math.Seq.{drop-cons}
-use Rattle.std.proofs.lemmas.Option.{slice_get_read}
+use Rattle.std.proofs.lemmas.Option.{slice_get_cases, slice_get_read}
 use Rattle.sasi_model.specs.Statements.{same}
-use Rattle.sasi_model.specs.State.{Column, Definition, position_in, number_of_column, key_name}
-use Rattle.sasi_model.specs.Abbreviations.{numbered_at, column_at, name_or_none, type_or_text, NoColumn, first_of}
-use Rattle.sasi_model.specs.Refusals.{is_key, names_in}
-use Rattle.sasi_model.specs.Step.{key_position}
+use Rattle.sasi_model.specs.State.{Column, Definition, position_in, key_column}
+use Rattle.sasi_model.specs.Abbreviations.{column_at, key_name, key_position, name_or_none, type_or_text, types_of, KeyMissing, NoColumn, first_of, key_type}
+use Rattle.sasi_model.specs.Refusals.{Rule, is_key, key_missing, names_in}
+use Rattle.sasi_model.specs.Step.{primary_key}
+use Rattle.sasi_model.specs.Stored.{column_types}
 use Rattle.sasi_schema.specs.Checks.{key_rules}
 use Rattle.sasi_schema.specs.Numbers.{IsKeyAt}
 use Rattle.sasi_schema.proofs.Positions.{place_below, place_is_key, is_placed}
@@ -24,24 +26,35 @@ name_read columns p column inside is = sym (ap name_or_none (slice_get_read colu
 pub type_read : (columns : List Column) (p : ℕ) (column : Column) → p < length columns → column ≡ get_or columns p column → column.1 ≡ type_or_text (column_at p columns)
 type_read columns p column inside is = sym (ap type_or_text (slice_get_read columns (length columns) p column refl inside is))
 
-numbered : (key : ℕ) (o : Option ℕ) → is_some o ≡ true → is_some (numbered_at key o) ≡ true
-numbered key None is = cc
-numbered key (Some p) is = refl
+-- the key column is there
+pub key_is : (d : Definition) → IsKeyAt d.key d.columns → key_column d ≡ Some (key_name d, key_type d)
+key_is d is =
+    elim (slice_get_cases d.columns d.key).1 [
+      | inl (column, below, got, read) ↦ rw got refl
+      | inr past ↦ absurd (omega (arith, key_below d.key d.columns is))
+    ]
 
--- the key's name is that of a column
-pub is_key_by_name : (d : Definition) (name : List ℕ) → IsKeyAt d.key d.columns → same name (key_name d) ≡ is_key d name
-is_key_by_name d name is =
-    elim (same name (key_name d)) as (λ b. same name (key_name d) ≡ b → b ≡ (is_some (number_of_column d name) && b)) [
-      | true ↦ λ find_table.
-          let one : name ≡ key_name d = same_text name (key_name d) (sym find_table) in
-          let there : is_some (position_in name d.columns) ≡ true = rw one (ap is_some is) in
-          rw (numbered d.key (position_in name d.columns) there) refl
-      | false ↦ λ _. and_false (is_some (number_of_column d name))
-    ] refl
+-- and so the columns have types
+pub column_types_are : (d : Definition) → IsKeyAt d.key d.columns → column_types d ≡ Some (types_of d)
+column_types_are d is = ap (option_map (λ (column : Column). column.1 ∷ map (λ c. c.1) (remove d.columns d.key))) (key_is d is)
+
+pub types_are : (d : Definition) (types : List ColumnType) → column_types d ≡ Some types → types_of d ≡ types
+types_are d types is = by (key_column d) is
   where
-    and_false : (a : Bool) → false ≡ (a && false)
-    and_false true = refl
-    and_false false = refl
+    by : (o : Option Column) → option_map (λ (column : Column). column.1 ∷ map (λ c. c.1) (remove d.columns d.key)) o ≡ Some types
+        → type_or_text o ∷ map (λ (c : Column). c.1) (remove d.columns d.key) ≡ types
+    by None e = cc
+    by (Some column) e = cc
+
+-- its name is that of the key
+pub is_key_by_name : (d : Definition) (name : List ℕ) → IsKeyAt d.key d.columns → same name (key_name d) ≡ is_key d name
+is_key_by_name d name is = sym (ap (λ (o : Option Column). option_map_or (λ column. same name column.0) o false) (key_is d is))
+
+-- the rule that it is missing
+pub key_missing_is : (d : Definition) (applies : Bool) → IsKeyAt d.key d.columns → key_missing d applies ≡ (applies, KeyMissing (key_name d)) ∷ []
+key_missing_is d applies is =
+    let none : List Rule = [] in
+    ap (λ (o : Option Column). option_map_or (λ column. (applies, KeyMissing column.0) ∷ []) o none) (key_is d is)
 
 -- a key that is a column is passed
 pub key_past : (columns : List Column) (keys : List (List ℕ)) (i : ℕ) (key : List ℕ) → i < length keys → key ≡ get_or keys i key → is_some (position_in key columns) ≡ true
@@ -53,12 +66,13 @@ pub key_here : (columns : List Column) (keys : List (List ℕ)) (i : ℕ) (key :
     → first_of (key_rules columns (drop i keys)) ≡ Some (NoColumn key)
 key_here columns keys i key inside is none = rw (drop-cons keys i key inside, ← is, ← is_placed key columns, none) refl
 
--- where the keys are columns and there is one, its position is that of a key
-pub made_key : (columns : List Column) (keys : List (List ℕ)) → first_of (key_rules columns keys) ≡ None → (length keys == 0) ≡ false → IsKeyAt (key_position columns keys) columns
+-- where the keys are columns and there is one, the table has a key
+pub made_key : (columns : List Column) (keys : List (List ℕ)) → first_of (key_rules columns keys) ≡ None → (length keys == 0) ≡ false
+    → (primary_key columns keys ≡ Some (key_position columns keys)) × IsKeyAt (key_position columns keys) columns
 made_key columns [] passed some = cc
 made_key columns (key ∷ keys) passed some =
-    elim (position_in key columns) as (λ o. position_in key columns ≡ o → IsKeyAt (unwrap_or o 0) columns) [
-      | Some p ↦ λ is. place_is_key key columns p is
+    elim (position_in key columns) as (λ o. position_in key columns ≡ o → (o ≡ Some (unwrap_or o 0)) × IsKeyAt (unwrap_or o 0) columns) [
+      | Some p ↦ λ is. (refl, place_is_key key columns p is)
       | None ↦ λ is. absurd (missing (sym (is_placed key columns) ∙ ap is_some is) passed)
     ] refl
   where

@@ -3,8 +3,7 @@ ghost use Rattle.std.specs.Prelude.{◌≡◌, ◌+◌, ◌++◌, ◌≤◌, ◌
 ghost use Rattle.std.specs.Option.{option_copied, option_map};
 ghost use Rattle.sasi_model.specs.State.{definition_of};
 ghost use Rattle.sasi_model.specs.Refusals.{create_rules};
-ghost use Rattle.sasi_model.specs.Abbreviations.{COLUMN_LIMIT as column_limit, new_definition};
-ghost use Rattle.sasi_model.specs.Step.{key_position};
+ghost use Rattle.sasi_model.specs.Abbreviations.{COLUMN_LIMIT as column_limit, key_position, new_definition};
 ghost use Rattle.sasi_schema.specs.Answers.{Answers};
 ghost use Rattle.sasi_schema.specs.Defined.{definition};
 ghost use Rattle.sasi_schema.specs.Faults.{refusal_of_fault};

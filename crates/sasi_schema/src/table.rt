@@ -23,8 +23,9 @@ pub struct Table {
 
 impl Table {
     ghost use Rattle.std.specs.Option.{option_map};
-    ghost use Rattle.sasi_model.specs.State.{number_of_column, position_in, key_name, key_type};
+    ghost use Rattle.sasi_model.specs.State.{number_of_column, position_in};
     ghost use Rattle.sasi_model.specs.Refusals.{is_key, type_of_column};
+    ghost use Rattle.sasi_model.specs.Abbreviations.{key_name, key_type};
     ghost use Rattle.sasi_schema.specs.Defined.{definition};
 
     /// A table of these columns, with the key column at this position.

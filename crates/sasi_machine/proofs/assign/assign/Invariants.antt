@@ -1,7 +1,7 @@
 use Rattle.std.proofs.Common.{◌≡◌, None, length}
 use Rattle.sasi_model.specs.Refusals.{each, number_range}
-use Rattle.sasi_model.specs.Abbreviations.{first_of}
-use Rattle.sasi_model.specs.Step.{cells_set, key_literal}
+use Rattle.sasi_model.specs.Abbreviations.{first_of, key_literal}
+use Rattle.sasi_model.specs.Step.{cells_set}
 use Rattle.sasi_schema.specs.Defined.{definition}
 use Rattle.sasi_machine.specs.Assignment.{cells_over, key_or}
 use Rattle.sasi_machine.proofs.assign.assign.Given as goal

@@ -5,6 +5,7 @@ use Rattle.sasi_schema.proofs.RuleLaws.{answers_behind}
 use Rattle.sasi_schema.specs.Defined.{definition}
 use Rattle.sasi_machine.specs.Faults.{refusal_of_fault}
 use Rattle.sasi_machine.proofs.CheckSteps.{fails}
+use Rattle.sasi_machine.proofs.KeyRules.{update_answers}
 use Rattle.sasi_machine.proofs.check.check_update.Goals as goal
 
 pub returns-in_err-check_sets-clause-answers : goal.returns-in_err-check_sets-clause-answers
@@ -15,7 +16,8 @@ returns-in_err-check_sets-clause-answers c =
     let column = no_column d relation.column in
     let repeats = repeat_rules [] (map (λ set. set.0) c.args.sets.now) in
     let kinds = kind_rules d c.args.max_timestamp c.args.sets.now relation c.args.time in
-    fails refusal_of_fault named (column ∷ (repeats ++ kinds)) c.from_residual.result c.in_err-check_sets.field-0.0 c.from_residual.ensures.1 c.in_err-check_sets.ensures
+    update_answers refusal_of_fault c.from_residual.result d c.args.max_timestamp c.args.table.now.name c.args.sets.now relation c.args.time c.args.table.now.key_is_there
+    (fails refusal_of_fault named (column ∷ (repeats ++ kinds)) c.from_residual.result c.in_err-check_sets.field-0.0 c.from_residual.ensures.1 c.in_err-check_sets.ensures)
 
 pub returns-in_err-check-clause-answers : goal.returns-in_err-check-clause-answers
 returns-in_err-check-clause-answers c =
@@ -26,8 +28,9 @@ returns-in_err-check-clause-answers c =
     let repeats = repeat_rules [] (map (λ set. set.0) c.args.sets.now) in
     let kinds = kind_rules d c.args.max_timestamp c.args.sets.now relation c.args.time in
     let result = c.from_residual-in_err-check.result in
-    answers_behind refusal_of_fault named (column ∷ (repeats ++ kinds)) result c.in_ok-check_sets.ensures
-    (fails refusal_of_fault (column ∷ []) (repeats ++ kinds) result c.in_err-check.field-0.0 c.from_residual-in_err-check.ensures.1 c.in_err-check.ensures)
+    update_answers refusal_of_fault result d c.args.max_timestamp c.args.table.now.name c.args.sets.now relation c.args.time c.args.table.now.key_is_there
+    (answers_behind refusal_of_fault named (column ∷ (repeats ++ kinds)) result c.in_ok-check_sets.ensures
+    (fails refusal_of_fault (column ∷ []) (repeats ++ kinds) result c.in_err-check.field-0.0 c.from_residual-in_err-check.ensures.1 c.in_err-check.ensures))
 
 pub returns-in_err-check_set_once-clause-answers : goal.returns-in_err-check_set_once-clause-answers
 returns-in_err-check_set_once-clause-answers c =
@@ -38,9 +41,10 @@ returns-in_err-check_set_once-clause-answers c =
     let repeats = repeat_rules [] (map (λ set. set.0) c.args.sets.now) in
     let kinds = kind_rules d c.args.max_timestamp c.args.sets.now relation c.args.time in
     let result = c.from_residual-in_err-check_set_once.result in
-    answers_behind refusal_of_fault named (column ∷ (repeats ++ kinds)) result c.in_ok-check_sets.ensures
+    update_answers refusal_of_fault result d c.args.max_timestamp c.args.table.now.name c.args.sets.now relation c.args.time c.args.table.now.key_is_there
+    (answers_behind refusal_of_fault named (column ∷ (repeats ++ kinds)) result c.in_ok-check_sets.ensures
     (answers_behind refusal_of_fault (column ∷ []) (repeats ++ kinds) result c.in_ok-check.ensures
-    (fails refusal_of_fault repeats kinds result c.in_err-check_set_once.field-0.0 c.from_residual-in_err-check_set_once.ensures.1 c.in_err-check_set_once.ensures))
+    (fails refusal_of_fault repeats kinds result c.in_err-check_set_once.field-0.0 c.from_residual-in_err-check_set_once.ensures.1 c.in_err-check_set_once.ensures)))
 
 pub returns-clause-answers : goal.returns-clause-answers
 returns-clause-answers c =
@@ -51,6 +55,7 @@ returns-clause-answers c =
     let repeats = repeat_rules [] (map (λ set. set.0) c.args.sets.now) in
     let kinds = kind_rules d c.args.max_timestamp c.args.sets.now relation c.args.time in
     let result = c.check_kinds.result in
-    answers_behind refusal_of_fault named (column ∷ (repeats ++ kinds)) result c.in_ok-check_sets.ensures
+    update_answers refusal_of_fault result d c.args.max_timestamp c.args.table.now.name c.args.sets.now relation c.args.time c.args.table.now.key_is_there
+    (answers_behind refusal_of_fault named (column ∷ (repeats ++ kinds)) result c.in_ok-check_sets.ensures
     (answers_behind refusal_of_fault (column ∷ []) (repeats ++ kinds) result c.in_ok-check.ensures
-    (answers_behind refusal_of_fault repeats kinds result c.in_ok-check_set_once.ensures c.check_kinds.ensures.answers))
+    (answers_behind refusal_of_fault repeats kinds result c.in_ok-check_set_once.ensures c.check_kinds.ensures.answers)))

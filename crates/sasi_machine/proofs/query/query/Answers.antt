@@ -3,8 +3,7 @@ use Rattle.std.specs.FinMap as fin
 use Rattle.sasi_types.specs.declared.column.ColumnType.{ColumnType}
 use Rattle.sasi_model.specs.Lines.{rows_lines}
 use Rattle.sasi_model.specs.Refusals.{select_rules}
-use Rattle.sasi_model.specs.Abbreviations.{first_of}
-use Rattle.sasi_model.specs.State.{key_type}
+use Rattle.sasi_model.specs.Abbreviations.{first_of, key_type}
 use Rattle.sasi_model.specs.Step.{selected_columns, live_rows}
 use Rattle.sasi_schema.specs.Defined.{definition}
 use Rattle.sasi_machine.specs.MemtableView.{rows_picked}
@@ -22,4 +21,4 @@ returns-in_ok-print-in-Ok c =
     (c.in_ok-print-in-Ok.ensures.ok
     ∙ ap (λ (kind : ColumnType). old ++ rows_lines (rows_picked kind c.in_ok-picked-in-Ok.picked.columns entries)) c.requires
     ∙ ap (λ columns. old ++ rows_lines (rows_picked (key_type d) columns entries)) c.in_ok-picked-in-Ok.ensures.columns
-    ∙ ap (λ rows. old ++ rows_lines rows) (rows_by_numbers d numbers entries))
+    ∙ ap (λ rows. old ++ rows_lines rows) (rows_by_numbers d numbers entries c.args.table.now.key_is_there))
