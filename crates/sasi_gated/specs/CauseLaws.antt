@@ -32,16 +32,5 @@ reading_behind a b c (Err f) disk out two = record {
 pub reading_handed : {S T : Type 0} (a b : View) (f : ReadFault) → ReadingCauses {T = S} a b (Err f) → ReadingCauses {T = T} a b (Err f)
 reading_handed a b f one = record { disk = one.disk; out = one.out; ok = tt; failed = one.failed; memory = one.memory; damaged = one.damaged }
 
--- what is told after a read that went well isn't a failure of the host
-pub reading_lacks_memory : {S T : Type 0} (a b : View) (x : S) → ReadingCauses a b (Ok x) → ReadingCauses {T = T} a b (Err fault.OutOfMemory)
-reading_lacks_memory a b x one = record {
-  disk = one.disk;
-  out = one.out;
-  ok = tt;
-  failed = λ is. absurd (cc);
-  memory = λ is. one.ok;
-  damaged = λ damage is. absurd (cc);
-}
-
 pub reading_gives : {S T : Type 0} (a b : View) (x : S) (y : T) → ReadingCauses a b (Ok x) → ReadingCauses a b (Ok y)
 reading_gives a b x y one = record { disk = one.disk; out = one.out; ok = one.ok; failed = tt; memory = tt; damaged = tt }

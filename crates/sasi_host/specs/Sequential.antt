@@ -46,10 +46,6 @@ page_within (Some page) end bytes begins within = let le = begins page refl in o
 pub begins_later : (after : Option ℕ) (near far : ℕ) → near ≤ far → BeginsBy after near → BeginsBy after far
 begins_later after near far le begins = λ page is. omega (arith, le, begins page is)
 
--- where none is buffered
-pub begins_none : (after : Option ℕ) (at : ℕ) → after ≡ None → BeginsBy after at
-begins_none after at none = λ page is. absurd (let no : None ≡ Some page = sym none ∙ is in cc)
-
 -- a page that is known
 pub begins_known : (after : Option ℕ) (page at : ℕ) → after ≡ Some page → 4096 * page ≤ at → BeginsBy after at
 begins_known after page at known le = λ other is. (let same : Some page ≡ Some other = sym known ∙ is in let one : page ≡ other = cc in omega (arith, one, le))
@@ -85,16 +81,6 @@ pub no_further_on : (a b c : View) (file named : FileName) (first second : Optio
     → ReadsEachOnce a b file first second mid → ReadsNoFurther b c named second mid → ReadsNoFurther a c file first at
 no_further_on a b c file named first second at mid name same one two bytes is le =
     omega (arith, one.pages, two bytes (ap (λ (f : FileName). contents b f) name ∙ same ∙ is) (one.within bytes is))
-
--- a part behind calls that read nothing and leave the file
-pub once_behind : (a b c : View) (file : FileName) (first second : Option ℕ) (end : ℕ) → contents b file ≡ contents a file → b.reads ≡ a.reads
-    → ReadsEachOnce b c file first second end → ReadsEachOnce a c file first second end
-once_behind a b c file first second end same reads one = record {
-  sequential = one.sequential;
-  pages = omega (arith, reads, one.pages);
-  within = λ bytes is. one.within bytes (same ∙ is);
-  page = λ bytes is. one.page bytes (same ∙ is);
-}
 
 -- a read that went well read none beyond the end either
 pub no_further : (a b : View) (file : FileName) (first second : Option ℕ) (at end : ℕ) → ReadsEachOnce a b file first second end
