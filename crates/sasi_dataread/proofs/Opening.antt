@@ -1,5 +1,5 @@
 -- A data file that was opened: what its footer and its partitions say of its content.
-use Rattle.std.proofs.Common.{◌≡◌, ◌⊎◌, ℕ, ◌+◌, ◌-◌, ◌^◌, ◌<◌, ◌≤◌, List, ◌++◌, [], length, length-append, take, drop, sym, ◌∙◌, ap, subst, arith, ⊎_elim, Option, Some, IfOk, IfErr}
+use Rattle.std.proofs.Common.{◌≡◌, ◌⊎◌, ℕ, ◌+◌, ◌-◌, ◌^◌, ◌<◌, ◌≤◌, List, ◌++◌, [], length, length-append, sym, ◌∙◌, ap, subst, arith, ⊎_elim, Option, Some, IfOk, IfErr}
 use Rattle.std.specs.Int.{to_be_bytes, w64}
 use Rattle.std.specs.declared.result.Result.{Result}
 use Rattle.std.specs.declared.result.Result.TheVariants.{Ok, Err}
@@ -9,7 +9,6 @@ use Rattle.sasi_host.specs.Names.{Bytes}
 use Rattle.sasi_host.specs.View.{View, contents}
 use Rattle.sasi_types.specs.declared.column.ColumnType.{ColumnType}
 use Rattle.sasi_types.specs.declared.partitioner.Partitioner.{Partitioner}
-use Rattle.sasi_types.specs.declared.tree.TreeRef.{TreeRef}
 use Rattle.sasi_model.specs.Cells.{Partition}
 use Rattle.sasi_body.specs.Body.{body, IsBodyOf}
 use Rattle.sasi_body.proofs.Bodies.{bodies_same}
@@ -23,42 +22,33 @@ use Rattle.sasi_tokentree.specs.Damages.{pair_place}
 use Rattle.sasi_dataread.specs.Damages.{ShowsPair, ShowsPartition}
 use Rattle.sasi_dataread.specs.Damages.ShowsPair.{leads_nowhere, in_partition}
 use Rattle.sasi_host.proofs.Offsets.{same_at}
-use Rattle.sasi_datawrite.specs.Format.{Content, header, partitions, footer, front, content_max_timestamp}
+use Rattle.sasi_formats.specs.Formats.{encoded}
+use Rattle.sasi_formats.proofs.Agreement.{same_front}
+use Rattle.sasi_formats.proofs.Encoding.{encodes}
+use Rattle.sasi_datawrite.specs.declared.footer.Footer.{Footer}
+use Rattle.sasi_datawrite.specs.Format.{Content, header, partitions, footer, end_mark, footer_bytes}
 use Rattle.sasi_datawrite.specs.Files.{IsDataFile}
 use Rattle.sasi_datawrite.proofs.Laws.{header_length}
+use Rattle.sasi_datawrite.proofs.Footers.{footer_is}
 use Rattle.sasi_dataread.specs.Opened.{Opened, StandsAt}
 use Rattle.sasi_dataread.specs.Reads.{ReadsPartition, IsOpenOn, NoFalsePartitionDamage}
 use Rattle.sasi_dataread.specs.Bodies.{length_prefixed, partition_reads, IsPartitionPlace, NoFalseBodyDamage}
-use Rattle.sasi_dataread.specs.Laws.{in_range, tree_of, footer_of, footer_length, footer_stands, partition_stands, partition_typed, partition_within}
-use Rattle.sasi_dataread.specs.HeaderAndFooter.{AreInRange, HasHeaderAndFooter}
-use Rattle.sasi_dataread.proofs.Numbers.{same_64}
+use Rattle.sasi_dataread.specs.Laws.{in_range, footer_of, footer_length, footer_stands, partition_stands, partition_typed, partition_within}
+use Rattle.sasi_dataread.specs.HeaderAndFooter.{HasHeaderAndFooter}
 use Rattle.sasi_dataread.proofs.Bodies.{sized_same}
-use Rattle.sasi_dataread.proofs.Footers.{footer_root, footer_pairs, footer_latest, footer_end}
 
 -- ---- the footer
 
--- the same footers tell the same
-footers_same : (a b : TreeRef) (x y d e : ℕ) → a.root < 2 ^ 64 → a.pairs < 2 ^ 64 → x < 2 ^ 64 → d < 2 ^ 64 → b.root < 2 ^ 64 → b.pairs < 2 ^ 64 → y <
-    2 ^ 64 → e < 2 ^ 64 → footer a x d ≡ footer b y e → (a ≡ b) × (x ≡ y) × (d ≡ e)
-footers_same a b x y d e a_root a_pairs x_fits d_fits b_root b_pairs y_fits e_fits same =
-    let root : a.root ≡ b.root = same_64 a.root b.root a_root b_root (sym (footer_root a x d) ∙ ap (λ (l : Bytes). take 8 (drop 0 l)) same ∙ footer_root b y e) in
-    let pairs : a.pairs ≡ b.pairs = same_64 a.pairs b.pairs a_pairs b_pairs (sym (footer_pairs a x d) ∙ ap (λ (l : Bytes). take 8 (drop 8 l)) same ∙ footer_pairs b y e) in (
-      ap (λ (n : ℕ). record { root = n; pairs = a.pairs }) root ∙ ap (λ (n : ℕ). record { root = b.root; pairs = n }) pairs,
-      same_64 x y x_fits y_fits (sym (footer_latest a x d) ∙ ap (λ (l : Bytes). take 8 (drop 16 l)) same ∙ footer_latest b y e),
-      same_64 d e d_fits e_fits (sym (footer_end a x d) ∙ ap (λ (l : Bytes). take 8 (drop 24 l)) same ∙ footer_end b y e),
-    )
-
 -- what the footer of a data file tells
-pub footer_tells : (partitioner : Partitioner) (types : List ColumnType) (bytes : Bytes) (content : Content) (tree : TreeRef) (max_timestamp end : ℕ) →
-    IsDataFile partitioner types bytes content → HasHeaderAndFooter bytes tree max_timestamp end → AreInRange (length bytes) tree max_timestamp end → length bytes ≤ 2 ^ 62
-    → (tree ≡ tree_of partitioner content) × (max_timestamp ≡ content_max_timestamp content) × (end ≡ length (front content))
-footer_tells partitioner types bytes content tree max_timestamp end of header_and_footer read short =
-    let ranges = in_range partitioner types bytes content of short in
-    footers_same tree (tree_of partitioner content) max_timestamp (content_max_timestamp content) end (length (front content)) read.root read.pairs read.latest_fits
-    read.end_fits ranges.root ranges.pairs ranges.latest_fits ranges.end_fits
-    (same_at bytes (length bytes - 40) (footer tree max_timestamp end) (footer_of partitioner content) header_and_footer.ends
-    (footer_stands partitioner types bytes content of) (footer_length tree max_timestamp end ∙ sym
-    (footer_length (tree_of partitioner content) (content_max_timestamp content) (length (front content)))))
+pub footer_tells : (partitioner : Partitioner) (types : List ColumnType) (bytes : Bytes) (content : Content) (numbers : Footer) → IsDataFile partitioner types bytes content → HasHeaderAndFooter bytes numbers → length bytes ≤ 2 ^ 62
+    → numbers ≡ footer_of partitioner content
+footer_tells partitioner types bytes content numbers of has short =
+    let at = length bytes - 40 in
+    let own = footer_of partitioner content in
+    let mark = encoded end_mark tt in
+    let same : footer_bytes numbers ≡ footer_bytes own = same_at bytes at (footer_bytes numbers) (footer_bytes own) has.ends (footer_stands partitioner types bytes content of) (footer_length numbers ∙ sym (footer_length own)) in
+    (same_front (footer at) numbers own (encoded (footer at) numbers) (encoded (footer at) own) mark mark (encodes (footer at) numbers has.fit)
+    (encodes (footer at) own (in_range partitioner types bytes content of short)) (sym (footer_is at numbers) ∙ same ∙ footer_is at own)).0
 
 -- ---- a partition
 

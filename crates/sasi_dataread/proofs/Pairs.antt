@@ -19,7 +19,7 @@ use Rattle.sasi_model.specs.Cells.{Partition}
 use Rattle.sasi_host.specs.Names.{Bytes}
 use Rattle.sasi_host.specs.View.{View}
 use Rattle.sasi_tokentree.specs.Format.{pair_at, IsBefore, HasTree, tree_bytes}
-use Rattle.sasi_datawrite.specs.Format.{Content, header, front, decorated_key, key_pairs, pairs_from, partition_bytes, partitions}
+use Rattle.sasi_datawrite.specs.Format.{Content, header, footer_bytes, front, decorated_key, key_pairs, pairs_from, partition_bytes, partitions}
 use Rattle.sasi_datawrite.proofs.Laws.{partition_length, pairs_length}
 use Rattle.sasi_dataread.specs.Opened.{Opened, StandsAt}
 use Rattle.sasi_dataread.specs.Reads.{IsOpenOn}
@@ -72,8 +72,8 @@ fits_from partitioner at (one ∷ others) have lt (suc index) =
 pub has_tree : (v : View) (opened : Opened) (partitioner : Partitioner) (content : Content) (is : IsOpenOn v opened partitioner content) → KeysAreBytes content → length is.bytes ≤ 2 ^ 62 → HasTree is.bytes opened.tree (key_pairs partitioner content)
 has_tree v opened partitioner content is have short = record {
   front = front content;
-  rest = footer_of partitioner content;
-  is = is.data_file.is ∙ file_is partitioner content ∙ regroup (front content) (tree_bytes (length (front content)) (key_pairs partitioner content)) (footer_of partitioner content);
+  rest = footer_bytes (footer_of partitioner content);
+  is = is.data_file.is ∙ file_is partitioner content ∙ regroup (front content) (tree_bytes (length (front content)) (key_pairs partitioner content)) (footer_bytes (footer_of partitioner content));
   referred = is.of.tree;
   rising = λ index lt. rising_from partitioner (length header) content is.data_file.content_is.rising index (index + 1) (omega arith) lt;
   fit = fits_from partitioner (length header) content have (omega (arith, short, end_within partitioner opened.types is.bytes content is.data_file, length-append header (partitions content)));

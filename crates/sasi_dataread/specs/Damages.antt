@@ -1,71 +1,32 @@
 -- Where a file breaks the format of a data file, and what is there.
-use Rattle.std.specs.Prelude.{◌≡◌, ◌⊎◌, ℕ, ◌+◌, ◌^◌, ◌<◌, List, [], ◌∷◌, length}
+use Rattle.std.specs.Prelude.{◌≡◌, ℕ, ◌+◌, ◌^◌, ◌<◌, List, length}
 use Rattle.std.specs.Int.{to_be_bytes, w32, w64}
 use Rattle.sasi_types.specs.declared.column.ColumnType.{ColumnType}
 use Rattle.sasi_types.specs.declared.tree.Pair.{Pair}
 use Rattle.sasi_host.specs.declared.name.FileName.{FileName}
 use Rattle.sasi_host.specs.declared.damage.Damage.{Damage}
-use Rattle.sasi_host.specs.declared.damage.FormatRule.{FormatRule}
-use Rattle.sasi_host.specs.declared.damage.FormatRule.TheVariants.{Short, Magic, Version, Number, Place}
+use Rattle.sasi_host.specs.declared.damage.FormatRule.TheVariants.{Number, Place}
 use Rattle.sasi_host.specs.Names.{Bytes}
-use Rattle.sasi_host.specs.Damages.{HasAt, Differs, ShowsEnd, seen_bytes}
+use Rattle.sasi_host.specs.Damages.{HasAt, ShowsEnd, seen_bytes}
 use Rattle.sasi_body.specs.Body.{body_of}
-use Rattle.sasi_formats.specs.Reader as reader
-use Rattle.sasi_formats.specs.Failures.{FailsWhole, HasOtherLength}
-use Rattle.sasi_tokentree.specs.Damages.{IsNodePlace, ShowsTree, pair_place}
+use Rattle.sasi_formats.specs.Failures.{HasOtherLength}
+use Rattle.sasi_formats.specs.Headers.{file_header}
+use Rattle.sasi_formats.specs.Parts.{ShowsBrokenPart}
+use Rattle.sasi_tokentree.specs.Damages.{ShowsTree, pair_place}
 use Rattle.sasi_tokentree.specs.Scans.{HasEntry}
+use Rattle.sasi_datawrite.specs.Format.{magic, footer, end_mark}
 use Rattle.sasi_dataread.specs.Opened.{Opened}
 use Rattle.sasi_dataread.specs.Bodies.{length_prefixed, IsLength, IsPartitionPlace}
 
 -- ---- the header and the footer
 
--- "SASIDAT1", and "SASIDEND"
-abbrev pub magic : Bytes
-magic = 83 ∷ 65 ∷ 83 ∷ 73 ∷ 68 ∷ 65 ∷ 84 ∷ 49 ∷ []
-
-abbrev pub end_mark : Bytes
-end_mark = 83 ∷ 65 ∷ 83 ∷ 73 ∷ 68 ∷ 69 ∷ 78 ∷ 68 ∷ []
-
--- the offset where the partitions end is within the header, or behind the start of the footer
-pub record IsWrongEnd (bytes : Bytes) (at : ℕ) (seen : Bytes) : Type 0 where
-  pub offset_is : at + 16 ≡ length bytes
-  pub stands : HasAt bytes at seen
-  pub end : ℕ
-  pub told : seen ≡ to_be_bytes w64 end
-  pub fits : end < 2 ^ 64
-  pub wrong : (end < 33) ⊎ (length bytes < end + 40)
-
--- the key tree's root can't stand at its offset, between where the partitions end and the footer
-pub record IsWrongRoot (bytes : Bytes) (at : ℕ) (seen : Bytes) : Type 0 where
-  pub offset_is : at + 40 ≡ length bytes
-  pub stands : HasAt bytes at seen
-  pub root : ℕ
-  pub told : seen ≡ to_be_bytes w64 root
-  pub fits : root < 2 ^ 64
-  pub end : ℕ
-  pub ends : HasAt bytes (at + 24) (to_be_bytes w64 end)
-  pub end_fits : end < 2 ^ 64
-  pub wrong : ¬ IsNodePlace end at root
-
--- the number of partitions is 0
-pub record HasNoPartitions (bytes : Bytes) (at : ℕ) (seen : Bytes) : Type 0 where
-  pub offset_is : at + 32 ≡ length bytes
-  pub stands : HasAt bytes at seen
-  pub none : seen ≡ to_be_bytes w64 0
-
--- the header or the footer breaks the rule at the offset, and the seen bytes are there
-abbrev pub HeaderOrFooterBreaks : Bytes → FormatRule → ℕ → Bytes → Type 0
-HeaderOrFooterBreaks bytes Short at seen = (length bytes < 97) × (at ≡ length bytes) × (seen ≡ to_be_bytes w64 (length bytes))
-HeaderOrFooterBreaks bytes Magic at seen = ((at ≡ 0) × Differs bytes at seen magic) ⊎ ((at + 8 ≡ length bytes) × Differs bytes at seen end_mark)
-HeaderOrFooterBreaks bytes Version at seen = (at ≡ 8) × Differs bytes at seen (to_be_bytes w32 1)
-HeaderOrFooterBreaks bytes Number at seen = ((at ≡ 12) × Differs bytes at seen (to_be_bytes w32 0)) ⊎ HasNoPartitions bytes at seen
-HeaderOrFooterBreaks bytes Place at seen = IsWrongEnd bytes at seen ⊎ IsWrongRoot bytes at seen
-HeaderOrFooterBreaks bytes _ at seen = ⊥
-
--- the damage is that of this file, whose header or footer breaks the rule
-pub record ShowsHeaderOrFooter (file : FileName) (bytes : Bytes) (damage : Damage) : Type 0 where
-  pub named : damage.file ≡ file
-  pub breaks : HeaderOrFooterBreaks bytes damage.rule damage.at (seen_bytes damage.seen)
+-- the damage is that of this file: it is too short for a data file, or the mark at its end, its header or the numbers of its
+-- footer break their format
+pub data ShowsHeaderOrFooter (file : FileName) (bytes : Bytes) (damage : Damage) : Type 0 where
+  too_short : ShowsEnd 97 file bytes damage → ShowsHeaderOrFooter file bytes damage
+  in_mark : (at : ℕ) → at + 8 ≡ length bytes → ShowsBrokenPart end_mark at 8 file bytes damage → ShowsHeaderOrFooter file bytes damage
+  in_header : ShowsBrokenPart (file_header magic 0) 0 16 file bytes damage → ShowsHeaderOrFooter file bytes damage
+  in_footer : (at : ℕ) → at + 40 ≡ length bytes → ShowsBrokenPart (footer at) at 32 file bytes damage → ShowsHeaderOrFooter file bytes damage
 
 -- ---- a partition at an offset, which has to end before the end
 
@@ -91,16 +52,6 @@ pub record IsOfOtherLength (types : List ColumnType) (place : ℕ) (file : FileN
   pub told : seen_bytes damage.seen ≡ to_be_bytes w32 (length body)
   pub other : HasOtherLength (body_of types) body
 
--- the body behind it breaks a rule of bodies
-pub record HasBrokenBody (types : List ColumnType) (place : ℕ) (file : FileName) (bytes : Bytes) (damage : Damage) : Type 0 where
-  pub named : damage.file ≡ file
-  pub body : Bytes
-  pub stands : HasAt bytes place (length_prefixed body)
-  pub fits : length body < 2 ^ 32
-  pub offset : ℕ
-  pub at : damage.at ≡ place + 4 + offset
-  pub breaks : FailsWhole (body_of types) body (reader.Broken damage.rule offset (seen_bytes damage.seen))
-
 -- the damage is that of this file, which has no partition of a table with these types at the offset
 pub data ShowsPartition (types : List ColumnType) (end place : ℕ) (file : FileName) (bytes : Bytes) (damage : Damage) : Type 0 where
   -- it ends within the length, or within the bytes of that length
@@ -108,7 +59,8 @@ pub data ShowsPartition (types : List ColumnType) (end place : ℕ) (file : File
   no_body : (count : ℕ) → HasAt bytes place (to_be_bytes w32 count) → IsLength end place count → ShowsEnd (place + 4 + count) file bytes damage → ShowsPartition types end place file bytes damage
   wrong_length : IsWrongLength end place file bytes damage → ShowsPartition types end place file bytes damage
   other_length : IsOfOtherLength types place file bytes damage → ShowsPartition types end place file bytes damage
-  broken_body : HasBrokenBody types place file bytes damage → ShowsPartition types end place file bytes damage
+  -- or the body behind it breaks a rule of bodies
+  broken_body : (count : ℕ) → count < 2 ^ 32 → HasAt bytes place (to_be_bytes w32 count) → ShowsBrokenPart (body_of types) (place + 4) count file bytes damage → ShowsPartition types end place file bytes damage
 
 -- ---- an open file
 

@@ -14,15 +14,16 @@ use Rattle.sasi_body.specs.Body.{body, HasBody, IsBodyOf}
 use Rattle.sasi_body.proofs.BodyBytes.{body_least}
 use Rattle.sasi_cells.specs.Entries.{Entry}
 use Rattle.sasi_tokentree.specs.Format.{tree_bytes, tree_ref}
-use Rattle.sasi_tokentree.specs.Damages.{IsNodePlace}
-use Rattle.sasi_tokentree.proofs.Laws.{root_place}
+use Rattle.sasi_tokentree.proofs.Laws.{RootStands, root_place, is_root_place}
 use Rattle.sasi_host.specs.Damages.{HasAt}
-use Rattle.sasi_datawrite.specs.Format.{Content, IsContent, header, footer, front, trailer, content_max_timestamp, key_pairs, partition_bytes, partitions, data_bytes}
+use Rattle.sasi_formats.specs.Formats.{Fits}
+use Rattle.sasi_datawrite.specs.declared.footer.Footer.{Footer}
+use Rattle.sasi_datawrite.specs.Format.{Content, IsContent, header, footer, footer_bytes, front, trailer, content_max_timestamp, key_pairs, partition_bytes, partitions, data_bytes}
 use Rattle.sasi_datawrite.specs.Files.{IsDataFile}
 use Rattle.sasi_datawrite.proofs.Laws.{header_length, partition_length, pairs_length}
+use Rattle.sasi_datawrite.proofs.Footers.{footer_fits}
 use Rattle.sasi_dataread.specs.Opened.{StandsAt}
 use Rattle.sasi_dataread.specs.Bodies.{length_prefixed}
-use Rattle.sasi_dataread.specs.HeaderAndFooter.{AreInRange}
 
 -- ---- partitions
 
@@ -94,12 +95,12 @@ header_stands partitioner types bytes content is =
 abbrev pub tree_of : Partitioner → Content → TreeRef
 tree_of partitioner content = tree_ref (length (front content)) (key_pairs partitioner content)
 
-abbrev pub footer_of : Partitioner → Content → Bytes
-footer_of partitioner content = footer (tree_of partitioner content) (content_max_timestamp content) (length (front content))
+abbrev pub footer_of : Partitioner → Content → Footer
+footer_of partitioner content = record { tree = tree_of partitioner content; max_timestamp = content_max_timestamp content; end = length (front content) }
 
-pub footer_length : (tree : TreeRef) (max_timestamp end : ℕ) → length (footer tree max_timestamp end) ≡ 40
-unfolding footer
-footer_length tree max_timestamp end = refl
+pub footer_length : (numbers : Footer) → length (footer_bytes numbers) ≡ 40
+unfolding footer_bytes
+footer_length numbers = refl
 
 abbrev tree_part : Partitioner → Content → Bytes
 tree_part partitioner content = tree_bytes (length (front content)) (key_pairs partitioner content)
@@ -110,18 +111,18 @@ whole_length partitioner types bytes content is =
     omega (
       arith,
       ap (λ (l : Bytes). length l) (is.is ∙ file_is partitioner content),
-      length-append (front content) (tree_part partitioner content ++ footer_of partitioner content),
-      length-append (tree_part partitioner content) (footer_of partitioner content),
-      footer_length (tree_of partitioner content) (content_max_timestamp content) (length (front content)),
+      length-append (front content) (tree_part partitioner content ++ footer_bytes (footer_of partitioner content)),
+      length-append (tree_part partitioner content) (footer_bytes (footer_of partitioner content)),
+      footer_length (footer_of partitioner content),
     )
 
 pub footer_stands : (partitioner : Partitioner) (types : List ColumnType) (bytes : Bytes) (content : Content) → IsDataFile partitioner types bytes
-    content → HasAt bytes (length bytes - 40) (footer_of partitioner content)
+    content → HasAt bytes (length bytes - 40) (footer_bytes (footer_of partitioner content))
 footer_stands partitioner types bytes content is = record {
   front = front content ++ tree_part partitioner content;
   rest = [];
-  is = is.is ∙ file_is partitioner content ∙ regroup (front content) (tree_part partitioner content) (footer_of partitioner content) ∙ sym
-      (append-nil ((front content ++ tree_part partitioner content) ++ footer_of partitioner content));
+  is = is.is ∙ file_is partitioner content ∙ regroup (front content) (tree_part partitioner content) (footer_bytes (footer_of partitioner content)) ∙ sym
+      (append-nil ((front content ++ tree_part partitioner content) ++ footer_bytes (footer_of partitioner content)));
   offset_is = omega (arith, whole_length partitioner types bytes content is, length-append (front content) (tree_part partitioner content));
 }
   where
@@ -142,8 +143,7 @@ count_is : (partitioner : Partitioner) (content : Content) → length (key_pairs
 count_is partitioner content = pairs_length partitioner (length header) content
 
 -- the root of the key tree stands within the tree
-tree_place : (partitioner : Partitioner) (content : Content) → IsContent partitioner content
-    → IsNodePlace (length (front content)) (length (front content) + length (tree_part partitioner content)) (tree_of partitioner content).root
+tree_place : (partitioner : Partitioner) (content : Content) → IsContent partitioner content → RootStands (length (front content)) (key_pairs partitioner content)
 tree_place partitioner content is = root_place (length (front content)) (key_pairs partitioner content) (omega (arith, is.some, count_is partitioner content))
 
 tree_least : (partitioner : Partitioner) (content : Content) → IsContent partitioner content → 24 ≤ length (tree_part partitioner content)
@@ -175,20 +175,14 @@ greatest_fits [] all = omega arith
 greatest_fits (one ∷ others) all = omega (arith, part_fits one.0 one.1 all.0, greatest_fits others all.1)
 
 pub in_range : (partitioner : Partitioner) (types : List ColumnType) (bytes : Bytes) (content : Content) → IsDataFile partitioner types bytes content
-    → length bytes ≤ 2 ^ 62 → AreInRange (length bytes) (tree_of partitioner content) (content_max_timestamp content) (length (front content))
+    → length bytes ≤ 2 ^ 62 → Fits (footer (length bytes - 40)) (footer_of partitioner content)
 in_range partitioner types bytes content is short =
     let count = count_is partitioner content in
+    let some = is.content_is.some in
     let first = front_least partitioner content is.content_is in
     let end = end_within partitioner types bytes content is in
     let place = tree_place partitioner content is.content_is in
     let whole = whole_length partitioner types bytes content is in
-    record {
-      root = omega (arith, place.within, whole, short);
-      pairs = omega (arith, count, first, end, short);
-      latest_fits = omega (arith, greatest_fits content is.content_is.bodies);
-      end_fits = omega (arith, end, short);
-      some = omega (arith, count, is.content_is.some);
-      behind = omega (arith, first, is.content_is.some);
-      within = end;
-      place = record { behind = place.behind; within = omega (arith, place.within, whole) };
-    }
+    footer_fits (length bytes - 40) (footer_of partitioner content) (omega (arith, place.within, whole, short)) (omega (arith, count, some)) (omega (arith, count, first, end, short))
+    (omega (arith, greatest_fits content is.content_is.bodies)) (omega (arith, end, short)) (omega (arith, first, some)) end
+    (is_root_place (length (front content)) (length bytes - 40) (key_pairs partitioner content) (omega (arith, count, some)) (omega (arith, whole)))

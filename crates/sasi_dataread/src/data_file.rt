@@ -16,7 +16,7 @@ ghost use Rattle.sasi_dataread.specs.Opened.{IsOpenedAs, StandsAt};
 ghost use Rattle.sasi_dataread.specs.Reads.{ReadsPartition, ReadsKey, IsOpenOn, NoFalseDataDamage, NoFalsePartitionDamage};
 ghost use Rattle.sasi_dataread.specs.Bodies.{partition_pages, partition_reads};
 ghost use Rattle.sasi_dataread.specs.Damages.{ShowsData, ShowsHeaderOrFooter, ShowsPartition};
-ghost use Rattle.sasi_dataread.specs.HeaderAndFooter.{AreInRange, HasHeaderAndFooter};
+ghost use Rattle.sasi_dataread.specs.HeaderAndFooter.{HasHeaderAndFooter};
 ghost use Rattle.sasi_dataread.specs.Scans.{KeysAreBytes, NoFalseOpenedDamage};
 ghost use Rattle.sasi_dataread.specs.Finds.{FindsKey, token_reads};
 
@@ -61,8 +61,7 @@ impl DataFile {
     ) -> Result<DataFile, ReadFault>
         requires read { CanRead (P.agrees pages.old) (H.view host.old) file }
         ensures ok { IfOk result (λ opened. (bytes : Bytes) (partitioner : Partitioner) (content : Content) → contents (H.view host.old) file ≡ Some bytes → IsDataFile partitioner types.now bytes content → IsOpenedAs opened partitioner content) }
-        ensures header_and_footer { IfOk result (λ opened. (bytes : Bytes) → contents (H.view host.old) file ≡ Some bytes → HasHeaderAndFooter bytes opened.tree opened.max_timestamp opened.end) }
-        ensures in_range { IfOk result (λ opened. (bytes : Bytes) → contents (H.view host.old) file ≡ Some bytes → AreInRange (length bytes) opened.tree opened.max_timestamp opened.end) }
+        ensures header_and_footer { IfOk result (λ opened. (bytes : Bytes) → contents (H.view host.old) file ≡ Some bytes → HasHeaderAndFooter bytes (record { tree = opened.tree; max_timestamp = opened.max_timestamp; end = opened.end })) }
         ensures file { IfOk result (λ opened. opened.file ≡ file) }
         ensures types { IfOk result (λ opened. opened.types ≡ types.now) }
         ensures damaged { IfErr result (DamageShown (H.view host.old) file (ShowsHeaderOrFooter file)) }

@@ -8,6 +8,7 @@ mod find;
 mod footer;
 mod pair;
 mod partition;
+mod parts;
 mod types;
 mod walk;
 

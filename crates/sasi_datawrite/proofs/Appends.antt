@@ -12,7 +12,8 @@ use Rattle.sasi_types.specs.declared.tree.Pair.{Pair}
 use Rattle.sasi_types.specs.declared.tree.TreeRef.{TreeRef}
 use Rattle.sasi_tokentree.specs.Format.{tree_bytes, tree_ref}
 use Rattle.sasi_tokentree.specs.Writes.{Writes, KeepsBefore}
-use Rattle.sasi_datawrite.specs.Format.{footer, trailer}
+use Rattle.sasi_datawrite.specs.declared.footer.Footer.{Footer}
+use Rattle.sasi_datawrite.specs.Format.{footer_bytes, trailer}
 
 -- bytes over no bytes are behind the others
 pub overlay_behind : (old more : Bytes) → overlay old (length old) more ≡ old ++ more
@@ -32,9 +33,12 @@ touches_same a b file same = changes_as a b Same (FileChange file AnyChange) sam
 
 -- the key tree and the footer are behind what the file held
 pub trailer_written : (a b c : View) (file : FileName) (end : ℕ) (pairs : List Pair) (max_timestamp : ℕ) (tree : TreeRef) (more : Bytes) → Writes a b file end
-    (tree_bytes end pairs) → tree ≡ tree_ref end pairs → more ≡ footer tree max_timestamp end
+    (tree_bytes end pairs) → tree ≡ tree_ref end pairs → more ≡ footer_bytes (record { tree = tree; max_timestamp = max_timestamp; end = end })
     → ((bytes : Bytes) → Holds b file bytes → Holds c file (bytes ++ more)) → (bytes : Bytes) → length bytes ≡ end → Holds a file bytes → Holds c file (bytes ++ trailer pairs max_timestamp end)
 trailer_written a b c file end pairs max_timestamp tree more written referred is appended bytes at holds =
-    subst (λ (l : Bytes). Holds c file l) (append_assoc bytes (tree_bytes end pairs) (footer (tree_ref end pairs) max_timestamp end))
-    (subst (λ (l : Bytes). Holds c file (bytes ++ tree_bytes end pairs ++ l)) (is ∙ ap (λ (t : TreeRef). footer t max_timestamp end) referred)
+    subst (λ (l : Bytes). Holds c file l) (append_assoc bytes (tree_bytes end pairs) (footer_bytes (numbers (tree_ref end pairs))))
+    (subst (λ (l : Bytes). Holds c file (bytes ++ tree_bytes end pairs ++ l)) (is ∙ ap (λ (t : TreeRef). footer_bytes (numbers t)) referred)
     (appended (bytes ++ tree_bytes end pairs) (holds_behind a b (FileChange file (InPlace (KeepsBefore end))) file end bytes (tree_bytes end pairs) written.changes written.becomes at holds)))
+  where
+    numbers : TreeRef → Footer
+    numbers t = record { tree = t; max_timestamp = max_timestamp; end = end }

@@ -2,20 +2,34 @@
 use Rattle.std.specs.Prelude.{◌≡◌, ℕ, ◌+◌, max, List, [], ◌∷◌, ◌++◌, length, refl}
 use Rattle.std.proofs.Common.{sym, ◌∙◌, ap, arith, append_assoc, length-append}
 use Rattle.std.proofs.lemmas.List.{append-nil}
-use Rattle.std.specs.Int.{to_be_bytes, w32}
+use Rattle.std.specs.Int.{to_be_bytes, w32, w64}
 use Rattle.sasi_types.specs.declared.partitioner.Partitioner.{Partitioner}
 use Rattle.sasi_types.specs.declared.tree.Pair.{Pair}
 use Rattle.sasi_types.specs.Token.{token_of}
 use Rattle.sasi_model.specs.Cells.{Partition, max_timestamp_of}
 use Rattle.sasi_host.specs.Names.{Bytes}
 use Rattle.sasi_body.specs.Body.{body}
-use Rattle.sasi_datawrite.specs.Format.{Content, partition_bytes, partitions, front, header, pairs_from, content_max_timestamp}
+use Rattle.sasi_formats.specs.Formats.{encoded}
+use Rattle.sasi_formats.specs.Headers.{file_header}
+use Rattle.sasi_datawrite.specs.declared.footer.Footer.{Footer}
+use Rattle.sasi_datawrite.specs.Format.{Content, partition_bytes, partitions, front, magic, header, footer_bytes, pairs_from, content_max_timestamp}
 use Rattle.sasi_datawrite.specs.Calls.{Call, partition_calls, calls_from}
 
 -- the header has 16 bytes
 pub header_length : length header ≡ 16
 unfolding header
 header_length = refl
+
+-- it is put by its magic
+pub header_put : (first : Bytes) → first ≡ magic → encoded (file_header first 0) tt ≡ header
+unfolding header
+header_put first is = ap (λ (l : Bytes). encoded (file_header l 0) tt) is
+
+-- the bytes of a footer, field by field
+pub footer_put : (a b c d e f : Bytes) (numbers : Footer) → b ≡ a ++ to_be_bytes w64 numbers.tree.root → c ≡ b ++ to_be_bytes w64 numbers.tree.pairs → d ≡ c ++ to_be_bytes w64 numbers.max_timestamp
+    → e ≡ d ++ to_be_bytes w64 numbers.end → f ≡ e ++ (83 ∷ 65 ∷ 83 ∷ 73 ∷ 68 ∷ 69 ∷ 78 ∷ 68 ∷ []) → a ≡ [] → f ≡ footer_bytes numbers
+unfolding footer_bytes
+footer_put a b c d e f numbers root pairs time end mark none = rw (mark, end, time, pairs, root, none) (simp append_assoc)
 
 -- a partition has the bytes of its length, and those of its body
 pub partition_length : (key : Bytes) (part : Partition) → length (partition_bytes key part) ≡ 4 + length (body key part)

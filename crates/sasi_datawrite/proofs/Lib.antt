@@ -1,3 +1,4 @@
 pub mod Laws
 pub mod Appends
 pub mod Pushes
+pub mod Footers

@@ -1,18 +1,23 @@
 -- The bytes of a data file: a header, the partitions, the key tree and a footer.
-use Rattle.std.specs.Prelude.{ℕ, ◌+◌, ◌≤◌, max, List, [], ◌∷◌, ◌++◌, length, map}
+use Rattle.std.specs.Prelude.{ℕ, ◌+◌, ◌-◌, ◌^◌, ◌≤◌, nat_le, ◌&&◌, max, List, [], ◌∷◌, ◌++◌, length, map, refl}
 use Rattle.std.specs.Int.{to_be_bytes, w32, w64}
 use Rattle.std.specs.List.{flat_map, AllByRecursion}
 use Rattle.std.specs.List.Sorted.{IsStrictlySortedBy}
 use Rattle.sasi_types.specs.declared.partitioner.Partitioner.{Partitioner}
 use Rattle.sasi_types.specs.declared.decorated_key.DecoratedKey.{DecoratedKey}
 use Rattle.sasi_types.specs.declared.tree.Pair.{Pair}
-use Rattle.sasi_types.specs.declared.tree.TreeRef.{TreeRef}
 use Rattle.sasi_types.specs.DecoratedKey.{decorated_cmp}
 use Rattle.sasi_types.specs.Token.{token_of}
 use Rattle.sasi_model.specs.Cells.{Partition, max_timestamp_of}
 use Rattle.sasi_host.specs.Names.{Bytes}
+use Rattle.sasi_host.specs.declared.damage.FormatRule.TheVariants as rule
+use Rattle.sasi_formats.specs.Formats.{Format, encoded}
+use Rattle.sasi_formats.specs.Fields.{◌&◌, checked, mapped, number, in_range, fixed}
+use Rattle.sasi_formats.specs.Headers.{file_header}
 use Rattle.sasi_body.specs.Body.{body, HasBody}
 use Rattle.sasi_tokentree.specs.Format.{tree_bytes, tree_ref}
+use Rattle.sasi_tokentree.specs.Damages.{is_node_place}
+use Rattle.sasi_datawrite.specs.declared.footer.Footer.{Footer}
 
 -- ---- what a file holds
 
@@ -37,9 +42,13 @@ content_max_timestamp (one ∷ others) = max (max_timestamp_of one.1) (content_m
 
 -- ---- the parts of a file
 
--- "SASIDAT1", the version 1 and 0
+-- "SASIDAT1"
+abbrev pub magic : Bytes
+magic = 83 ∷ 65 ∷ 83 ∷ 73 ∷ 68 ∷ 65 ∷ 84 ∷ 49 ∷ []
+
+-- the header: the magic, the version 1 and 0
 unfoldable pub header : Bytes
-header = (83 ∷ 65 ∷ 83 ∷ 73 ∷ 68 ∷ 65 ∷ 84 ∷ 49 ∷ []) ++ to_be_bytes w32 1 ++ to_be_bytes w32 0
+header = encoded (file_header magic 0) tt
 
 -- a partition: the length of its body, and the body
 unfoldable pub partition_bytes : Bytes → Partition → Bytes
@@ -62,13 +71,31 @@ pairs_from partitioner at (one ∷ others) = record { token = token_of partition
 abbrev pub key_pairs : Partitioner → Content → List Pair
 key_pairs partitioner content = pairs_from partitioner (length header) content
 
--- the root of the key tree, the number of partitions, the largest timestamp, the offset where the partitions end, and "SASIDEND"
-unfoldable pub footer : TreeRef → ℕ → ℕ → Bytes
-footer tree max_timestamp end = to_be_bytes w64 tree.root ++ to_be_bytes w64 tree.pairs ++ to_be_bytes w64 max_timestamp ++ to_be_bytes w64 end ++ (83 ∷ 65 ∷ 83 ∷ 73 ∷ 68 ∷ 69 ∷ 78 ∷ 68 ∷ [])
+-- where the partitions end, before a footer at this offset: behind the smallest one
+abbrev pub end_before : ℕ → Format ℕ
+end_before at = checked rule.Place 8 (λ end. nat_le 33 end && nat_le end at) (number w64)
+
+-- the root of the key tree, the number of partitions, the largest timestamp, and where the partitions end
+abbrev pub footer_fields : ℕ → Format Footer
+footer_fields at =
+    mapped (λ n. record { tree = record { root = n.0; pairs = n.1.0 }; max_timestamp = n.1.1.0; end = n.1.1.1 }) (λ f. (f.tree.root, (f.tree.pairs, (f.max_timestamp, f.end)))) (λ _. refl)
+    (number w64 & in_range w64 1 (2 ^ 64 - 1) & number w64 & end_before at)
+
+-- the numbers of a footer at this offset; the root stands between where the partitions end and the footer
+abbrev pub footer : ℕ → Format Footer
+footer at = checked rule.Place 8 (λ f. is_node_place f.end at f.tree.root) (footer_fields at)
+
+-- "SASIDEND", which follows them
+abbrev pub end_mark : Format (Unit {0})
+end_mark = fixed rule.Magic (83 ∷ 65 ∷ 83 ∷ 73 ∷ 68 ∷ 69 ∷ 78 ∷ 68 ∷ [])
+
+-- the bytes of both, which are the same whatever the offset
+unfoldable pub footer_bytes : Footer → Bytes
+footer_bytes numbers = encoded (footer 0) numbers ++ encoded end_mark tt
 
 -- the key tree of these pairs behind so many bytes, and the footer
 abbrev pub trailer : List Pair → ℕ → ℕ → Bytes
-trailer pairs max_timestamp end = tree_bytes end pairs ++ footer (tree_ref end pairs) max_timestamp end
+trailer pairs max_timestamp end = tree_bytes end pairs ++ footer_bytes (record { tree = tree_ref end pairs; max_timestamp = max_timestamp; end = end })
 
 -- ---- the file
 

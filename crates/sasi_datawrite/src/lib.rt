@@ -4,6 +4,7 @@
 
 mod data_ref;
 mod fault;
+mod footer;
 mod header;
 mod notify;
 mod observer;
@@ -14,5 +15,7 @@ mod writer;
 
 pub use data_ref::DataRef;
 pub use fault::PairFault;
+pub use footer::Footer;
+pub use header::magic;
 pub use observer::{FlushObserver, NoWatch};
 pub use writer::DataWriter;

@@ -1,16 +1,16 @@
 // The key tree and the footer, behind the partitions.
-ghost use Rattle.std.specs.Prelude.{◌≡◌, ◌++◌, length, IfOk, OnOk};
+ghost use Rattle.std.specs.Prelude.{◌≡◌, ◌++◌, length, OnOk};
 ghost use Rattle.sasi_host.specs.Names.{Bytes};
 ghost use Rattle.sasi_host.specs.View.{Holds, IsThere, ListCauses, Reaches};
 ghost use Rattle.sasi_host.specs.Disk.{AnyChange, Changes, IsSynced, FileChange};
 ghost use Rattle.sasi_tokentree.specs.Format.{IsRising};
-ghost use Rattle.sasi_datawrite.specs.Format.{trailer, footer};
+ghost use Rattle.sasi_datawrite.specs.Format.{trailer};
 
-use sasi_fields::{put_bytes, put_u64};
+use crate::footer::{Footer, footer_bytes};
 use sasi_host::{FileName, Host, HostFault, write_durably};
 use sasi_tokentree::write;
-use sasi_types::{PairList, TreeRef};
-use std::alloc::{AllocError, Global};
+use sasi_types::PairList;
+use std::alloc::Global;
 
 // Writes the key tree where the partitions end, and the footer, and syncs the file.
 pub fn write_trailer<H: Host>(
@@ -29,7 +29,12 @@ pub fn write_trailer<H: Host>(
     ensures causes { ListCauses (H.view host.old) (H.view host.new) result }
 {
     let tree = write(alloc, host, file, end, pairs)?;
-    let bytes = footer_bytes(alloc, tree, max_timestamp, end)?;
+    let footer = Footer {
+        tree,
+        max_timestamp,
+        end,
+    };
+    let bytes = footer_bytes(alloc, footer)?;
     append(host, file, &bytes)
 }
 
@@ -44,22 +49,4 @@ fn append<H: Host>(host: &mut H, file: FileName, more: &[u8]) -> Result<(), Host
     let at = host.size(file)?;
     write_durably(host, file, at, more)?;
     Ok(())
-}
-
-#[tactic(auto, unfolding(crate::specs::Format::footer))]
-fn footer_bytes(
-    alloc: Global,
-    tree: TreeRef,
-    max_timestamp: u64,
-    end: u64,
-) -> Result<Vec<u8>, AllocError>
-    ensures { IfOk result (λ bytes. bytes.items ≡ footer tree max_timestamp end) }
-{
-    let mut bytes = Vec::new(alloc);
-    put_u64(&mut bytes, tree.root)?;
-    put_u64(&mut bytes, tree.pairs)?;
-    put_u64(&mut bytes, max_timestamp)?;
-    put_u64(&mut bytes, end)?;
-    put_bytes(&mut bytes, b"SASIDEND")?;
-    Ok(bytes)
 }

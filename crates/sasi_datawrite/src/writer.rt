@@ -11,11 +11,12 @@ ghost use Rattle.sasi_datawrite.specs.Calls.{Call, partition_calls};
 ghost use Rattle.sasi_datawrite.specs.Causes.{PushCauses};
 ghost use Rattle.sasi_datawrite.specs.Writing.{IsWriting, last_pair};
 
-use crate::header::{HEADER_LENGTH, put_header};
+use crate::header::{HEADER_LENGTH, magic};
 use crate::push::push_partition;
 use crate::trailer::write_trailer;
 use crate::{DataRef, FlushObserver, PairFault};
 use sasi_cells::Partition;
+use sasi_formats::put_header;
 use sasi_host::{DataNumber, Failed, FileName, Host, HostFault};
 use sasi_types::{Key, Pair, PairList, Partitioner};
 use std::alloc::Global;
@@ -62,7 +63,7 @@ impl DataWriter {
     {
         let file = FileName::data(number);
         let mut buffer = Vec::new(alloc);
-        put_header(&mut buffer)?;
+        put_header(&mut buffer, magic(), 0)?;
         create_with(host, file, &buffer)?;
         Ok(DataWriter {
             file,

@@ -10,3 +10,7 @@ pub mod Tags
 pub mod WholeLaws
 pub mod Fitting
 pub mod Putting
+pub mod OfSize
+pub mod Prefixes
+pub mod Headers
+pub mod PartLaws

@@ -1,5 +1,5 @@
 -- A function that reads a format gives what the format's reader does.
-use Rattle.std.specs.Prelude.{◌≡◌, ℕ, Result, Ok, Err}
+use Rattle.std.specs.Prelude.{◌≡◌, ◌≢◌, ℕ, Result, Ok, Err, IfErr}
 use Rattle.std.specs.Borrow.{Bor}
 use Rattle.sasi_host.specs.Names.{Bytes}
 use Rattle.sasi_host.specs.declared.damage.FormatRule.{FormatRule}
@@ -31,3 +31,7 @@ GivesBytes outcome (Err fault) behind = FailsWith outcome fault
 abbrev pub IsBrokenRule : FormatRule → ℕ → Bytes → FormatFault → Type 0
 IsBrokenRule rule at bytes (Broken broken) = (broken.rule ≡ rule) × (broken.at ≡ at) × (seen_bytes broken.seen ≡ bytes)
 IsBrokenRule rule at bytes _ = ⊥
+
+-- memory doesn't run out
+abbrev pub TakesNoMemory : {A : Type 0} → Result A FormatFault → Type 0
+TakesNoMemory result = IfErr result (λ fault. fault ≢ OutOfMemory)

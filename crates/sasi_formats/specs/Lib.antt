@@ -6,3 +6,5 @@ pub mod Codings
 pub mod Fields
 pub mod Gives
 pub mod Whole
+pub mod Headers
+pub mod Parts

@@ -2,7 +2,7 @@
 ghost use Rattle.std.specs.Prelude.{◌≡◌};
 ghost use Rattle.sasi_formats.specs.Reader.{read, took};
 ghost use Rattle.sasi_formats.specs.Fields.{fixed};
-ghost use Rattle.sasi_formats.specs.Gives.{Gives, GivesBytes};
+ghost use Rattle.sasi_formats.specs.Gives.{Gives, GivesBytes, TakesNoMemory};
 
 use crate::fault::FormatFault;
 use crate::field_start::broken;
@@ -12,14 +12,16 @@ use sasi_host::FormatRule;
 /// Reads the next `size` bytes.
 #[tactic(auto, using(crate::proofs::Completed::took_is, crate::proofs::Completed::took_short))]
 pub fn take<'a>(reader: &mut FieldReader<'a>, size: usize) -> Result<&'a [u8], FormatFault>
-    ensures { GivesBytes (took size reader.old) result reader.new }
+    ensures bytes { GivesBytes (took size reader.old) result reader.new }
+    ensures memory { TakesNoMemory result }
 {
     Ok(reader.bytes(size)?)
 }
 
 /// Reads these bytes. Others break the rule.
 pub fn expect(reader: &mut FieldReader, rule: FormatRule, wanted: &[u8]) -> Result<(), FormatFault>
-    ensures { Gives (read (fixed rule wanted.now) reader.old) result reader.new }
+    ensures bytes { Gives (read (fixed rule wanted.now) reader.old) result reader.new }
+    ensures memory { TakesNoMemory result }
 {
     let at = reader.offset();
     let bytes = take(reader, wanted.len())?;

@@ -1,6 +1,7 @@
 // Where a field begins.
-ghost use Rattle.std.specs.Prelude.{◌≡◌, ◌≤◌, length, take};
+ghost use Rattle.std.specs.Prelude.{◌≡◌, ◌≢◌, ◌≤◌, length, take};
 ghost use Rattle.sasi_formats.specs.Gives.{IsBrokenRule};
+ghost use Rattle.sasi_formats.specs.declared.fault.FormatFault.TheVariants as fault;
 
 use crate::fault::{FormatFault, found};
 use sasi_fields::FieldReader;
@@ -28,7 +29,8 @@ impl<'a> FieldStart<'a> {
     /// The field that begins here breaks the rule. So many bytes are reported, or all that are left.
     pub fn broken(&self, rule: FormatRule, seen: usize) -> FormatFault
         requires { seen ≤ 8 }
-        ensures { IsBrokenRule rule self.now.at (take seen self.now.left.now) result }
+        ensures rule { IsBrokenRule rule self.now.at (take seen self.now.left.now) result }
+        ensures memory { result ≢ fault.OutOfMemory }
     {
         broken(rule, self.at, front(self.left, seen))
     }
@@ -36,7 +38,8 @@ impl<'a> FieldStart<'a> {
 
 /// The bytes at this offset break the rule. The first eight of them are reported.
 pub fn broken(rule: FormatRule, at: usize, bytes: &[u8]) -> FormatFault
-    ensures { IsBrokenRule rule at (take 8 bytes.now) result }
+    ensures rule { IsBrokenRule rule at (take 8 bytes.now) result }
+    ensures memory { result ≢ fault.OutOfMemory }
 {
     FormatFault::Broken(found(rule, at, bytes))
 }

@@ -3,7 +3,7 @@ ghost use Rattle.std.specs.Prelude.{◌≡◌};
 ghost use Rattle.std.specs.Int.{w8, w16, w32, w64};
 ghost use Rattle.sasi_formats.specs.Reader.{read};
 ghost use Rattle.sasi_formats.specs.Fields.{flag, number};
-ghost use Rattle.sasi_formats.specs.Gives.{Gives};
+ghost use Rattle.sasi_formats.specs.Gives.{Gives, TakesNoMemory};
 
 use crate::fault::FormatFault;
 use crate::field_start::FieldStart;
@@ -33,7 +33,8 @@ pub fn read_u32(reader: &mut FieldReader) -> Result<u32, FormatFault>
 
 /// Reads a number of eight bytes, big-endian.
 pub fn read_u64(reader: &mut FieldReader) -> Result<u64, FormatFault>
-    ensures { Gives (read (number w64) reader.old) result reader.new }
+    ensures number { Gives (read (number w64) reader.old) result reader.new }
+    ensures memory { TakesNoMemory result }
 {
     Ok(reader.u64()?)
 }

@@ -3,7 +3,7 @@ ghost use Rattle.std.specs.Prelude.{◌≡◌};
 ghost use Rattle.std.specs.Int.{w8, w16, w32, w64};
 ghost use Rattle.sasi_formats.specs.Reader.{read};
 ghost use Rattle.sasi_formats.specs.Fields.{in_range};
-ghost use Rattle.sasi_formats.specs.Gives.{Gives};
+ghost use Rattle.sasi_formats.specs.Gives.{Gives, TakesNoMemory};
 
 use crate::fault::FormatFault;
 use crate::field_start::FieldStart;
@@ -61,7 +61,8 @@ pub fn read_u64_in_range(
     least: u64,
     most: u64,
 ) -> Result<u64, FormatFault>
-    ensures { Gives (read (in_range w64 least most) reader.old) result reader.new }
+    ensures number { Gives (read (in_range w64 least most) reader.old) result reader.new }
+    ensures memory { TakesNoMemory result }
 {
     let start = FieldStart::of(reader);
     let number = read_u64(reader)?;

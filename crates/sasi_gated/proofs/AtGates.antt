@@ -7,22 +7,15 @@ use Rattle.std.proofs.lemmas.Nat.{from_be_bytes-to_be_bytes_4}
 use Rattle.std.specs.Int.{to_be_bytes, from_be_bytes, w32}
 use Rattle.sasi_host.specs.declared.name.FileName.{FileName}
 use Rattle.sasi_host.specs.declared.damage.Damage.{Damage}
-use Rattle.sasi_host.specs.declared.damage.FormatRule.{FormatRule}
 use Rattle.sasi_host.specs.Names.{Bytes}
-use Rattle.sasi_host.specs.Damages.{ShowsEnd, seen_bytes}
+use Rattle.sasi_host.specs.Damages.{ShowsEnd}
 use Rattle.sasi_gated.specs.Format.{header, IsLength, Opens, Closes}
 use Rattle.sasi_gated.specs.Gates.{IsAtGate}
 use Rattle.sasi_gated.specs.AtGate.{HasGate, ShowsLength}
-use Rattle.sasi_gated.specs.Damages.{EndsEarly, IsTruncated, Breaks, IsGatedDamage, TellsSize}
+use Rattle.sasi_gated.specs.Damages.{EndsEarly, IsGatedDamage, TellsSize}
+use Rattle.sasi_gated.specs.Damages.IsGatedDamage.{truncated, bad_length}
 use Rattle.sasi_gated.proofs.Laws.{frame_is}
 use Rattle.sasi_gated.proofs.Windows.{read_at}
-
--- a file that ends too early shows it by its size
-pub shows_size : (file : FileName) (bytes : Bytes) (damage : Damage) → IsTruncated file bytes → TellsSize file bytes damage → IsGatedDamage file bytes damage
-shows_size file bytes damage cut tells = record {
-  named = tells.named;
-  breaks = subst (λ (r : FormatRule). Breaks file bytes r damage.at (seen_bytes damage.seen)) (sym tells.rule) (cut, tells.offset_is, tells.seen);
-}
 
 -- a gate by its byte
 gate_byte : (gate : ℕ) (bytes behind : Bytes) → bytes ≡ gate ∷ behind → HasGate (not (eqb gate 0)) bytes behind
@@ -48,7 +41,7 @@ gate_within true bytes at has = omega (arith, ap length has.2, length-drop at by
 gate_within false bytes at has = omega (arith, ap length has, length-drop at bytes)
 
 module _ (file : FileName) (bytes : Bytes) (at : ℕ) (done : List Bytes) (rest : Bytes) (gate : IsAtGate file bytes at done rest) where
-  rest_at : drop at bytes ≡ rest
+  pub rest_at : drop at bytes ≡ rest
   rest_at = ap (λ (l : Bytes). drop at l) gate.is ∙ drop_at (header file ++ gate.front) rest at (sym gate.offset_is)
 
   size : at + length rest ≡ length bytes
@@ -62,7 +55,7 @@ module _ (file : FileName) (bytes : Bytes) (at : ℕ) (done : List Bytes) (rest 
   pub no_gate : (damage : Damage) → ShowsEnd (at + 1) file bytes damage → IsGatedDamage file bytes damage
   no_gate damage ends =
       let none : rest ≡ [] = nil_from_length rest (omega (arith, ends.short, size)) in
-      shows_size file bytes damage (inr (at, done, rest, gate, subst EndsEarly (sym none) tt)) ends.tells
+      truncated (inr (at, done, rest, gate, subst EndsEarly (sym none) tt)) ends.tells
 
   pub closes : (is_open : Bool) → is_open ≡ false → HasGate is_open (drop at bytes) (drop (at + 1) bytes) → Closes rest
   closes true is has = absurd (cc)
@@ -78,31 +71,22 @@ module _ (file : FileName) (bytes : Bytes) (at : ℕ) (done : List Bytes) (rest 
     -- the file ends within the length, or it is none that a record has
     pub no_length : (damage : Damage) → ShowsLength (at + 1) file bytes damage → IsGatedDamage file bytes damage
     no_length damage (inl ends) =
-        shows_size file bytes damage (inr (
+        truncated (inr (
           at,
           done,
           rest,
           gate,
           subst EndsEarly (sym gate_is) (opened.1, inl (omega (arith, ends.short, size, ap length gate_is))),
         )) ends.tells
-    no_length damage (inr bad) = record {
-      named = bad.named;
-      breaks = subst (λ (r : FormatRule). Breaks file bytes r damage.at (seen_bytes damage.seen)) (sym bad.rule_is) (inr (record {
-        before = at;
-        done = done;
-        gate = opened.0;
-        count = bad.count;
-        rest = drop (at + 1 + 4) bytes;
-        gate_stands =
-            gate_as (opened.0 ∷ (seen_bytes damage.seen ++ drop (at + 1 + 4) bytes))
-            (gate_is ∙ ap (λ (l : Bytes). opened.0 ∷ l) (bad.stands ∙ ap (λ (l : Bytes). l ++ drop (at + 1 + 4) bytes) (sym bad.seen)));
-        is_open = opened.1;
-        offset_is = bad.offset_is;
-        stated = bad.seen;
-        stated_fits = bad.count_fits;
-        no_length = bad.no_length;
-      }));
-    }
+    no_length damage (inr bad) = bad_length (record {
+      at = at;
+      done = done;
+      gate = opened.0;
+      rest = drop (at + 1) bytes;
+      gate_stands = gate_as (opened.0 ∷ drop (at + 1) bytes) gate_is;
+      is_open = opened.1;
+      shows = bad;
+    })
 
     module _ (count : ℕ) (fits : IsLength count) (states : drop (at + 1) bytes ≡ to_be_bytes w32 count ++ drop (at + 1 + 4) bytes) where
       payload_begins : rest ≡ opened.0 ∷ (to_be_bytes w32 count ++ drop (at + 5) bytes)
@@ -137,7 +121,7 @@ module _ (file : FileName) (bytes : Bytes) (at : ℕ) (done : List Bytes) (rest 
 
       -- the file ends within it
       pub ends_within : (damage : Damage) → TellsSize file bytes damage → length (drop (at + 5) bytes) < count → IsGatedDamage file bytes damage
-      ends_within damage tells short = shows_size file bytes damage (inr (
+      ends_within damage tells short = truncated (inr (
         at,
         done,
         rest,

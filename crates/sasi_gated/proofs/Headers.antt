@@ -1,18 +1,40 @@
--- The fields of a header.
-use Rattle.std.proofs.Common.{◌≡◌, ℕ, ◌++◌, sym, ◌∙◌, ap, append_assoc}
-use Rattle.std.specs.Int.{to_be_bytes, w32}
+-- The header of a gated file, and what its first page shows of it.
+use Rattle.std.proofs.Common.{◌≡◌, ℕ, ◌≤◌, [], ◌++◌, length, take, drop, refl, sym, ◌∙◌, ap, subst, append_assoc, take-append-drop}
+use Rattle.std.proofs.lemmas.List.{length-take-le}
 use Rattle.sasi_host.specs.declared.name.FileName.{FileName}
+use Rattle.sasi_host.specs.declared.damage.Damage.{Damage}
 use Rattle.sasi_host.specs.Names.{Bytes}
+use Rattle.sasi_host.specs.Damages.{HasAt}
+use Rattle.sasi_formats.specs.Formats.{Encodes, encoded}
+use Rattle.sasi_formats.specs.Headers.{file_header}
+use Rattle.sasi_formats.specs.Parts.{ShowsBrokenPart}
+use Rattle.sasi_formats.proofs.Agreement.{one_encoding}
+use Rattle.sasi_formats.proofs.Headers.{header_encodes as encodes_header}
 use Rattle.sasi_gated.specs.Format.{header, magic}
+use Rattle.sasi_gated.specs.Damages.{IsGatedDamage}
+use Rattle.sasi_gated.specs.Damages.IsGatedDamage.{in_header}
 
-pub three_fields : (bytes a b c r1 r2 r3 : Bytes) → bytes ≡ a ++ r1 → r1 ≡ b ++ r2 → r2 ≡ c ++ r3 → bytes ≡ a ++ b ++ c ++ r3
-three_fields bytes a b c r1 r2 r3 first second third =
-    first ∙ ap (λ (l : Bytes). a ++ l) (second ∙ ap (λ (l : Bytes). b ++ l) third) ∙ sym (append_assoc a b (c ++ r3)) ∙ sym (append_assoc (a ++ b) c r3)
-
-pub header_stands : (file : FileName) (bytes m rest : Bytes) (version number : ℕ)
-    → bytes ≡ m ++ to_be_bytes w32 version ++ to_be_bytes w32 number ++ rest → m ≡ magic file.kind → version ≡ 1 → number ≡ file.number
-    → bytes ≡ header file ++ rest
+pub header_is : (file : FileName) → header file ≡ encoded (file_header (magic file.kind) file.number) tt
 unfolding header
-header_stands file bytes m rest version number is magic_is version_is number_is =
-    is ∙ ap (λ (l : Bytes). l ++ to_be_bytes w32 version ++ to_be_bytes w32 number ++ rest) magic_is ∙ ap (λ (n : ℕ). magic file.kind ++ to_be_bytes w32 n ++ to_be_bytes w32 number ++ rest) version_is
-    ∙ ap (λ (n : ℕ). magic file.kind ++ to_be_bytes w32 1 ++ to_be_bytes w32 n ++ rest) number_is
+header_is file = refl
+
+-- the format has its bytes
+pub header_encodes : (file : FileName) → Encodes (file_header (magic file.kind) file.number) tt (header file)
+header_encodes file = subst (λ (l : Bytes). Encodes (file_header (magic file.kind) file.number) tt l) (sym (header_is file)) (encodes_header (magic file.kind) file.number)
+
+-- a page whose first sixteen bytes are a header begins with it
+pub page_begins : (file : FileName) (page part m : Bytes) → m ≡ magic file.kind → part ≡ take 16 page → Encodes (file_header m file.number) tt part → (rest : Bytes) × (page ≡ header file ++ rest)
+page_begins file page part m is part_is encodes =
+    let own = subst (λ (l : Bytes). Encodes (file_header l file.number) tt part) is encodes in
+    let same : part ≡ header file = one_encoding (file_header (magic file.kind) file.number) tt part (header file) own (header_encodes file) in
+    (drop 16 page, sym (take-append-drop 16 page) ∙ ap (λ (l : Bytes). l ++ drop 16 page) (sym part_is ∙ same))
+
+-- what they show, the file shows
+pub page_breaks : (file : FileName) (page more part m : Bytes) (damage : Damage) → m ≡ magic file.kind → part ≡ take 16 page → 16 ≤ length page
+    → ((bytes : Bytes) → HasAt bytes 0 part → ShowsBrokenPart (file_header m file.number) 0 (length part) file bytes damage) → IsGatedDamage file (page ++ more) damage
+page_breaks file page more part m damage is part_is long shows =
+    let size : length part ≡ 16 = ap length part_is ∙ length-take-le 16 page long in
+    let cut : page ≡ part ++ drop 16 page = sym (take-append-drop 16 page) ∙ ap (λ (l : Bytes). l ++ drop 16 page) (sym part_is) in
+    let has : HasAt (page ++ more) 0 part = record { front = []; rest = drop 16 page ++ more; is = ap (λ (l : Bytes). l ++ more) cut ∙ append_assoc part (drop 16 page) more; offset_is = refl } in
+    in_header (subst (λ (n : ℕ). ShowsBrokenPart (file_header (magic file.kind) file.number) 0 n file (page ++ more) damage) size
+    (subst (λ (l : Bytes). ShowsBrokenPart (file_header l file.number) 0 (length part) file (page ++ more) damage) is (shows (page ++ more) has)))

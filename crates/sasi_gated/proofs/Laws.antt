@@ -12,6 +12,8 @@ use Rattle.sasi_host.specs.View.{View}
 use Rattle.sasi_gated.specs.Format.{magic, header, frame, IsPayload, Opens, Closes, OpenRecords, FromGate, IsGated}
 use Rattle.sasi_gated.specs.Gates.{IsAtGate}
 use Rattle.sasi_gated.specs.Handles.{IsAtEnd}
+use Rattle.sasi_formats.proofs.Headers.{header_length as encoded_length}
+use Rattle.sasi_gated.proofs.Headers.{header_is}
 
 -- ---- one record
 
@@ -124,13 +126,7 @@ magic_length Segment = refl
 
 -- and each header sixteen
 pub header_length : (file : FileName) → length (header file) ≡ 16
-unfolding header
-header_length file = omega (
-  arith,
-  magic_length file.kind,
-  length-append (magic file.kind ++ to_be_bytes w32 1) (to_be_bytes w32 file.number),
-  length-append (magic file.kind) (to_be_bytes w32 1),
-)
+header_length file = omega (arith, ap length (header_is file), encoded_length (magic file.kind) file.number, magic_length file.kind)
 
 header_apart : (file : FileName) (a b : Bytes) → header file ++ a ≡ header file ++ b → a ≡ b
 header_apart file a b same =

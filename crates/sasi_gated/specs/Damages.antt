@@ -1,14 +1,15 @@
 -- Where a file breaks the format of gated files, and what it has there.
-use Rattle.std.specs.Prelude.{◌≡◌, ◌≢◌, ◌⊎◌, ℕ, ◌+◌, ◌^◌, ◌<◌, List, [], ◌∷◌, ◌++◌, length, take}
-use Rattle.std.specs.Int.{to_be_bytes, from_be_bytes, w32, w64}
+use Rattle.std.specs.Prelude.{◌≢◌, ◌⊎◌, ℕ, ◌+◌, ◌<◌, List, [], ◌∷◌, length, take}
+use Rattle.std.specs.Int.{from_be_bytes, w32}
 use Rattle.sasi_host.specs.declared.name.FileName.{FileName}
 use Rattle.sasi_host.specs.declared.damage.Damage.{Damage}
-use Rattle.sasi_host.specs.declared.damage.FormatRule.{FormatRule}
-use Rattle.sasi_host.specs.declared.damage.FormatRule.TheVariants.{Short, Magic, Version, Number}
 use Rattle.sasi_host.specs.Names.{Bytes}
-pub use Rattle.sasi_host.specs.Damages.{Differs, TellsSize, seen_bytes}
+pub use Rattle.sasi_host.specs.Damages.{TellsSize}
+use Rattle.sasi_formats.specs.Headers.{file_header}
+use Rattle.sasi_formats.specs.Parts.{ShowsBrokenPart}
 use Rattle.sasi_gated.specs.Format.{magic, IsLength}
 use Rattle.sasi_gated.specs.Gates.{IsAtGate}
+use Rattle.sasi_gated.specs.AtGate.{ShowsBadLength}
 
 -- fewer bytes follow a length that a record may have; a length that no record has is a Number, however few follow it
 pub record LacksPayload (count : ℕ) (rest : Bytes) : Type 0 where
@@ -24,29 +25,18 @@ EndsEarly (gate ∷ rest) = (gate ≢ 0) × ((length rest < 4) ⊎ LacksPayload 
 abbrev pub IsTruncated : FileName → Bytes → Type 0
 IsTruncated file bytes = (length bytes < 16) ⊎ ((at : ℕ) × (done : List Bytes) × (rest : Bytes) × IsAtGate file bytes at done rest × EndsEarly rest)
 
--- behind an open gate stands a length, at this offset, that no record has
-pub record IsBadLength (file : FileName) (bytes : Bytes) (at : ℕ) (seen : Bytes) : Type 0 where
-  pub before : ℕ
+-- behind an open gate stands a length that no record has
+pub record HasBadLength (file : FileName) (bytes : Bytes) (damage : Damage) : Type 0 where
+  pub at : ℕ
   pub done : List Bytes
   pub gate : ℕ
-  pub count : ℕ
   pub rest : Bytes
-  pub gate_stands : IsAtGate file bytes before done (gate ∷ (seen ++ rest))
+  pub gate_stands : IsAtGate file bytes at done (gate ∷ rest)
   pub is_open : gate ≢ 0
-  pub offset_is : at ≡ before + 1
-  pub stated : seen ≡ to_be_bytes w32 count
-  pub stated_fits : count < 2 ^ 32
-  pub no_length : ¬ IsLength count
+  pub shows : ShowsBadLength (at + 1) file bytes damage
 
--- the file breaks the rule at this offset, and has the seen bytes there
-abbrev pub Breaks : FileName → Bytes → FormatRule → ℕ → Bytes → Type 0
-Breaks file bytes Short at seen = IsTruncated file bytes × (at ≡ length bytes) × (seen ≡ to_be_bytes w64 (length bytes))
-Breaks file bytes Magic at seen = (at ≡ 0) × Differs bytes at seen (magic file.kind)
-Breaks file bytes Version at seen = (at ≡ 8) × Differs bytes at seen (to_be_bytes w32 1)
-Breaks file bytes Number at seen = ((at ≡ 12) × Differs bytes at seen (to_be_bytes w32 file.number)) ⊎ IsBadLength file bytes at seen
-Breaks file bytes _ at seen = ⊥
-
--- the damage is that of this file, which shows it
-pub record IsGatedDamage (file : FileName) (bytes : Bytes) (damage : Damage) : Type 0 where
-  pub named : damage.file ≡ file
-  pub breaks : Breaks file bytes damage.rule damage.at (seen_bytes damage.seen)
+-- the damage is that of this file, which shows it: it ends too early, or its header or a length breaks the format
+pub data IsGatedDamage (file : FileName) (bytes : Bytes) (damage : Damage) : Type 0 where
+  truncated : IsTruncated file bytes → TellsSize file bytes damage → IsGatedDamage file bytes damage
+  in_header : ShowsBrokenPart (file_header (magic file.kind) file.number) 0 16 file bytes damage → IsGatedDamage file bytes damage
+  bad_length : HasBadLength file bytes damage → IsGatedDamage file bytes damage

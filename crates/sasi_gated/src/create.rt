@@ -4,12 +4,14 @@ ghost use Rattle.std.specs.Option.{option_copied};
 ghost use Rattle.sasi_gated.specs.Format.{frame, new_file, IsPayload};
 
 use crate::Record;
-use crate::header::put_header;
+use crate::header::magic_of;
 use sasi_fields::{put_bytes, put_u8};
+use sasi_formats::put_header;
 use sasi_host::FileName;
 use std::alloc::{AllocError, Global};
 
 // The header, the first record behind an open gate if there is one, and a closed gate.
+#[tactic(auto, unfolding(crate::specs::Format::header))]
 pub fn new_file_bytes(
     alloc: Global,
     file: FileName,
@@ -19,7 +21,7 @@ pub fn new_file_bytes(
     ensures fits { OnOk result (IfSome (option_copied first.entry) IsPayload) }
 {
     let mut out = Vec::new(alloc);
-    put_header(&mut out, file)?;
+    put_header(&mut out, magic_of(file.kind), file.number)?;
     match first {
         None => put_u8(&mut out, 0)?,
         Some(item) => put_first(&mut out, item)?,

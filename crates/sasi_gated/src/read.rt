@@ -10,7 +10,7 @@ ghost use Rattle.sasi_gated.specs.Causes.{ReadingCauses};
 ghost use Rattle.sasi_gated.specs.Reads.{GatedDamageShown, GatedDamageShownAt};
 
 use crate::gate::{read_gate, read_length};
-use crate::header::check_header;
+use crate::header::check_page;
 use crate::payload::read_payload;
 use sasi_host::{BufferedFile, Direct, Host, ReadFault};
 
@@ -28,7 +28,7 @@ pub fn read_header<H: Host>(host: &mut H, buffered: &mut BufferedFile) -> Result
     ensures causes { ReadingCauses (H.view host.old) (H.view host.new) result }
 {
     buffered.load_page(host, &mut Direct, 0)?;
-    check_header(buffered.file(), buffered.bytes_from(0))?;
+    check_page(buffered.file(), buffered.bytes_from(0))?;
     Ok(())
 }
 

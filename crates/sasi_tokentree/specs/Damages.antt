@@ -1,5 +1,5 @@
 -- Where a file breaks the format of a tree, and what is there.
-use Rattle.std.specs.Prelude.{◌≡◌, ℕ, ◌+◌, ◌-◌, ◌*◌, ◌/◌, ◌%◌, ◌<◌, ◌≤◌, [], ◌∷◌, ◌++◌, length, min}
+use Rattle.std.specs.Prelude.{◌≡◌, ℕ, ◌+◌, ◌-◌, ◌*◌, ◌/◌, ◌%◌, ◌<◌, nat_le, Bool, ◌&&◌, [], ◌∷◌, ◌++◌, length, min}
 use Rattle.std.specs.Int.{to_be_bytes, w16, w32, w64}
 use Rattle.sasi_types.specs.declared.tree.Pair.{Pair}
 use Rattle.sasi_types.specs.declared.tree.TreeRef.{TreeRef}
@@ -27,10 +27,9 @@ pub data IsNodeFrom (node : Node) : ℕ → ℕ → ℕ → Type 0 where
   of_level : (level at count index : ℕ) → 255 * index < count → node ≡ record { level = level; at = at + 4088 * index; count = min (count - 255 * index) 255 } → IsNodeFrom node level at count
   of_above : (level at count : ℕ) → 255 < count → IsNodeFrom node (level + 1) (at + size count) (nodes count) → IsNodeFrom node level at count
 
--- a node can stand at this offset, in the part of a file from one offset to another: the smallest one has one entry
-pub record IsNodePlace (from to place : ℕ) : Type 0 where
-  pub behind : from ≤ place
-  pub within : place + 24 ≤ to
+-- whether a node can stand at this offset, in the part of a file from one offset to another: the smallest one has one entry
+abbrev pub is_node_place : ℕ → ℕ → ℕ → Bool
+is_node_place from to place = nat_le from place && nat_le (place + 24) to
 
 -- where the first leaf of a tree begins
 abbrev pub start : TreeRef → ℕ

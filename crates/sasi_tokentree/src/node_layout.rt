@@ -1,7 +1,7 @@
 // The layout of a level, by its number of entries.
-ghost use Rattle.std.specs.Prelude.{◌≡◌, ◌⊎◌, ◌+◌, ◌*◌, ◌^◌, ◌<◌, ◌≤◌, length, IsTrue, false};
+ghost use Rattle.std.specs.Prelude.{◌≡◌, ◌*◌, ◌^◌, ◌<◌, ◌≤◌, length};
 ghost use Rattle.sasi_tokentree.specs.Format.{nodes, entries_of_node, size};
-ghost use Rattle.sasi_tokentree.specs.Damages.{IsNodePlace};
+ghost use Rattle.sasi_tokentree.specs.Damages.{is_node_place};
 
 use sasi_types::Pair;
 
@@ -16,8 +16,7 @@ const MIN_NODE_BYTES: u64 = 24;
 
 /// Whether a node can stand at this offset, in the part of a file from one offset to another.
 pub fn is_node_place(from: u64, to: u64, place: u64) -> bool
-    ensures place { IsTrue result → IsNodePlace from to place }
-    ensures wrong { result ≡ false → (place < from) ⊎ (to < place + 24) }
+    ensures { result ≡ is_node_place from to place }
 {
     from <= place && to >= MIN_NODE_BYTES && place <= to - MIN_NODE_BYTES
 }

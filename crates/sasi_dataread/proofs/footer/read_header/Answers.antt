@@ -1,11 +1,11 @@
-use Rattle.std.proofs.Common.{ℕ, List, subst, lit<, lit≤}
+use Rattle.std.proofs.Common.{List, ℕ, subst, arith, lit<, lit≤}
 use Rattle.std.proofs.lemmas.Result.{err_from_is_err_and}
 use Rattle.sasi_host.specs.declared.name.FileName.{FileName}
 use Rattle.sasi_host.specs.Damages.{HasAt, ShowsEnd}
 use Rattle.sasi_host.proofs.Offsets.{window_at}
 use Rattle.sasi_host.proofs.DamageLaws.{shown_as}
 use Rattle.sasi_dataread.specs.Damages.{ShowsHeaderOrFooter}
-use Rattle.sasi_dataread.proofs.Footers.{end_frames, run_header, header_read}
+use Rattle.sasi_dataread.proofs.Footers.{end_shows, header_shows, header_read}
 use Rattle.sasi_dataread.proofs.footer.read_header.Goals as goal
 
 pub returns-in_err-read_into-clause-damaged : goal.returns-in_err-read_into-clause-damaged
@@ -13,26 +13,17 @@ returns-in_err-read_into-clause-damaged g c =
     let p = err_from_is_err_and c.from_residual.result c.from_residual.ensures.1 in
     let file = c.args.buffered.now.file in
     rw (p.1, p.2) (shown_as (ShowsEnd 16 file) (ShowsHeaderOrFooter file) (g.H.Host.view c.args.host.now) file c.in_err-read_into.field-0.0
-    (λ bytes damage is ends. end_frames 16 file bytes damage (lit≤ tt) ends) c.in_err-read_into.ensures.damaged)
-
-pub returns-in_err-read_into-clause-undamaged : goal.returns-in_err-read_into-clause-undamaged
-returns-in_err-read_into-clause-undamaged g c =
-    let p = err_from_is_err_and c.from_residual.result c.from_residual.ensures.1 in
-    rw (p.1, p.2) (run_header (g.H.Host.view c.args.host.now) c.args.buffered.now.file c.in_err-read_into.field-0.0 c.in_err-read_into.ensures.damaged)
+    (λ bytes damage is ends. end_shows 16 file bytes damage (lit≤ tt) ends) c.in_err-read_into.ensures.damaged)
 
 pub returns-in_err-check_header-clause-damaged : goal.returns-in_err-check_header-clause-damaged
 returns-in_err-check_header-clause-damaged g c =
     let p = err_from_is_err_and c.from_residual-in_err-check_header.result c.from_residual-in_err-check_header.ensures.1 in
     rw (p.1, p.2) (λ bytes is.
     subst (λ (n : FileName). ShowsHeaderOrFooter n bytes c.in_err-check_header.field-0.0) c.file-file.ensures
-    (c.in_err-check_header.ensures.seen bytes (window_at bytes c.read_into.new.out 0 16 (c.in_ok-read_into.ensures.ok bytes is) (c.in_ok-read_into.ensures.within bytes is (lit< tt)))))
-
-pub returns-in_err-check_header-clause-undamaged : goal.returns-in_err-check_header-clause-undamaged
-returns-in_err-check_header-clause-undamaged g c =
-    let p = err_from_is_err_and c.from_residual-in_err-check_header.result c.from_residual-in_err-check_header.ensures.1 in
-    rw (p.1, p.2) (λ bytes is has. c.in_err-check_header.ensures.differs (header_read bytes c.read_into.new.out (c.in_ok-read_into.ensures.ok bytes is) has))
+    (header_shows c.file-file.result bytes c.read_into.new.out c.magic.result.now c.in_err-check_header.field-0.0 c.magic.ensures (omega arith)
+    (c.in_err-check_header.ensures.shown bytes (window_at bytes c.read_into.new.out 0 16 (c.in_ok-read_into.ensures.ok bytes is) (c.in_ok-read_into.ensures.within bytes is (lit< tt))))))
 
 pub returns-clause-ok : goal.returns-clause-ok
 returns-clause-ok g c bytes is =
-    subst (λ (l : List ℕ). HasAt bytes 0 l) c.in_ok-check_header.ensures.ok
+    subst (λ (l : List ℕ). HasAt bytes 0 l) (header_read c.read_into.new.out c.magic.result.now c.magic.ensures c.in_ok-check_header.ensures.is)
     (window_at bytes c.read_into.new.out 0 16 (c.in_ok-read_into.ensures.ok bytes is) (c.in_ok-read_into.ensures.within bytes is (lit< tt)))

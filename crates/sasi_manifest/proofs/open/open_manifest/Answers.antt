@@ -11,8 +11,13 @@ use Rattle.sasi_formats.specs.Formats.{Encodes}
 use Rattle.sasi_manifest.specs.Edits.{edits}
 use Rattle.sasi_manifest.specs.Listings.{after_all, with_record_counted, length_of}
 use Rattle.sasi_manifest.specs.Reading.{ReadingGoesOn, IsDamageOfRecord}
-use Rattle.sasi_manifest.proofs.Opening.{shown_at_gate, shown_inside, shown_empty, goes_on_next, read_whole, reads_no_further, reads_within}
+use Rattle.sasi_manifest.proofs.Opening.{shown_outside, shown_at_gate, shown_inside, shown_empty, goes_on_next, read_whole, reads_no_further, reads_within}
 use Rattle.sasi_manifest.proofs.open.open_manifest.Goals as goal
+
+pub returns-in_err-gated-clause-damaged : goal.returns-in_err-gated-clause-damaged
+returns-in_err-gated-clause-damaged g c =
+    let p = err_from_is_err_and c.from_residual.result c.from_residual.ensures.1 in
+    rw (p.1, p.2) (shown_outside (g.H.Host.view c.args.host.now) c.args.number c.manifest.result c.in_err-gated.field-0.0 c.manifest.ensures c.in_err-gated.ensures.damaged)
 
 pub returns-in_err-next-clause-damaged : goal.returns-in_err-next-clause-damaged
 returns-in_err-next-clause-damaged g c =
