@@ -1,49 +1,13 @@
--- The tokens of bytes, one after another.
-use Rattle.std.proofs.Common.{◌≡◌, ℕ, zero, suc, ◌+◌, ◌-◌, ◌*◌, ◌≤◌, ◌<◌, Bool, true, false, ◌==◌, List, [], ◌∷◌, ◌++◌, length, take, drop, map, Option, None, Some, refl, ap, ◌∙◌, length-take, get_or, drop-cons, leb, ltb, cond, arith}
+-- The first token of bytes: strings, uuids, names and integers.
+use Rattle.std.proofs.Common.{◌≡◌, ℕ, zero, suc, ◌+◌, ◌-◌, ◌*◌, ◌≤◌, ◌<◌, Bool, true, false, ◌==◌, List, [], ◌∷◌, length, take, drop, Option, None, Some, refl, ◌∙◌, length-take, get_or, drop-cons, leb, ltb, cond, arith}
 use Rattle.std.proofs.lemmas.List.{drop_all}
 use Rattle.uuid.specs.Text.{parsed, parsed_hyphenated}
-use Rattle.sasi_model.specs.Pieces.{closes, opened_by, starts}
-use Rattle.sasi_model.specs.Abbreviations.{behind_first, starts_word, decimal_on}
+use Rattle.sasi_model.specs.Pieces.{starts}
+use Rattle.sasi_model.specs.Abbreviations.{starts_word, decimal_on}
 use Rattle.sasi_model.specs.Tokens as model
-use Rattle.sasi_model.specs.Tokens.{is_separator, lexeme, QuotedText, quoted_text, string_lexeme, uuid_in_front, decimal, tokens_from, tokens}
-use Rattle.sasi_cql.specs.declared.token.Token.{Token}
-use Rattle.sasi_cql.specs.ModelTokens.{at_most, model_token, IsLexeme, quoted_size, undoubled}
-use Rattle.sasi_cql.proofs.Comments.{not_closed_behind}
+use Rattle.sasi_model.specs.Tokens.{QuotedText, quoted_text, string_lexeme, uuid_in_front, decimal}
+use Rattle.sasi_cql.specs.ModelTokens.{at_most, quoted_size, undoubled}
 use Rattle.sasi_cql.proofs.Strings.{closed}
-
--- ---- one token after another
-
-skipped : (n : ℕ) (bs : List ℕ) → tokens_from n bs ≡ tokens (drop n bs)
-skipped zero bs = refl
-skipped (suc n) [] = refl
-skipped (suc n) (b ∷ bs) = skipped n bs
-
--- tokens that were found, and what is left; and whether no `*/` is after the byte in front
-pub record Lexed (text : List ℕ) (found : List Token) (left : List ℕ) (unclosed : Bool) : Type 0 where
-  pub so_far : tokens text ≡ map model_token found ++ tokens left
-  pub no_close : unclosed ≡ true → closes (behind_first left) ≡ false
-
-pub lexed_begun : (text : List ℕ) → Lexed text [] text false
-lexed_begun text = record { so_far = refl; no_close = λ h. absurd cc }
-
-pub lexed_gap : (text : List ℕ) (found : List Token) (left : List ℕ) (first : ℕ) (behind : List ℕ) (before unclosed : Bool) → left ≡ first ∷ behind → is_separator first behind ≡ true
-    → (unclosed ≡ true → closes (behind_first behind) ≡ false) → Lexed text found left before → Lexed text found (drop (opened_by first behind) behind) unclosed
-lexed_gap text found left first behind before unclosed is separator kept l = record {
-  so_far = l.so_far ∙ ap (λ (ts : List model.Token). map model_token found ++ ts) (rw (is, separator) (skipped (opened_by first behind) behind));
-  no_close = λ h. not_closed_behind (opened_by first behind) behind (kept h);
-}
-
-one_more : (found : List Token) (token : Token) (behind : List model.Token) → map model_token found ++ model_token token ∷ behind ≡ map model_token (found ++ token ∷ []) ++ behind
-one_more [] token behind = refl
-one_more (t ∷ found) token behind = ap (λ (ts : List model.Token). model_token t ∷ ts) (one_more found token behind)
-
-pub lexed_token : (text : List ℕ) (found : List Token) (left : List ℕ) (first : ℕ) (behind : List ℕ) (before unclosed : Bool)
-    (token : Token) (rest : List ℕ) → left ≡ first ∷ behind → is_separator first behind ≡ false
-    → (unclosed ≡ true → closes (behind_first behind) ≡ false) → IsLexeme (lexeme first behind) behind token rest → Lexed text found left before → Lexed text (found ++ token ∷ []) rest unclosed
-lexed_token text found left first behind before unclosed token rest is separator kept x l = record {
-  so_far = l.so_far ∙ rw (is, separator, x.left_is, skipped (lexeme first behind).inside behind, ← x.token_is) (one_more found token (tokens (drop (lexeme first behind).inside behind)));
-  no_close = λ h. rw x.left_is (not_closed_behind (lexeme first behind).inside behind (kept h));
-}
 
 -- ---- strings
 

@@ -1,234 +1,20 @@
--- What the tokens of a text hold, and what a statement holds that they spell.
-use Rattle.std.proofs.Common.{◌≡◌, ℕ, zero, suc, ◌+◌, ◌≤◌, ◌<◌, Bool, true, false, cond, not, ◌&&◌, ◌||◌, ◌==◌, nat_eq, nat_le, List, [], ◌∷◌, ◌++◌, length, take, drop, get_or, Option, None, Some, refl, sym, ap, subst, ◌∙◌, arith, append_assoc, length-append}
-use Rattle.std.proofs.lemmas.List.{append-nil, take_at, drop_at}
-use Rattle.std.proofs.Math.Seq.{get_or-append_seam}
-use Rattle.std.proofs.lemmas.List.Folds.{length-prefix_len}
-use Rattle.std.proofs.lemmas.Str.{IsUtf8-append, IsUtf8-take, IsUtf8-drop, IsCharBoundary-before_ascii, IsCharBoundary-after_ascii}
-use Rattle.std.specs.List.{AllByRecursion, flat_map, list_all, list_any, prefix_len}
-use Rattle.std.specs.Prelude.{codes, unwrap_or}
+-- What a statement holds that well-formed tokens spell.
+use Rattle.std.proofs.Common.{◌≡◌, ◌⊎◌, ℕ, ◌≤◌, Bool, true, false, cond, not, ◌&&◌, nat_le, List, [], ◌∷◌, ◌++◌, length, Option, None, Some, refl, sym, subst, inl, inr, arith}
+use Rattle.std.specs.List.{AllByRecursion, flat_map, list_any}
+use Rattle.std.specs.Prelude.{codes, ⊤}
 use Rattle.std.specs.Str.{IsUtf8}
-use Rattle.uuid.specs.Text.{by_index, parsed_hyphenated}
+use Rattle.sasi_types.specs.declared.column.ColumnType.{ColumnType}
+use Rattle.sasi_types.specs.declared.declaration.Declaration.{Declaration}
+use Rattle.sasi_types.specs.declared.declaration.Declaration.TheVariants.{Column, KeyColumn, Key}
 use Rattle.sasi_types.specs.declared.literal.Literal.{Literal}
 use Rattle.sasi_types.specs.declared.literal.Literal.TheVariants as literals
-use Rattle.sasi_types.specs.declared.statement.Statement.{Statement}
-use Rattle.sasi_types.specs.declared.statement.Statement.TheVariants.{CreateTable, Insert, Update, Delete, Query}
-use Rattle.sasi_types.specs.declared.column.ColumnType.{ColumnType}
-use Rattle.sasi_types.specs.declared.literal.Number.{Number}
-use Rattle.sasi_types.specs.declared.statement.Select.{Select}
-use Rattle.sasi_model.specs.Pieces.{opened_by, starts}
-use Rattle.sasi_model.specs.Tokens.{Token, Word, QuotedName, Quoted, Integer, Uuid, Open, Close, Comma, Star, Equal, Semicolon, Unknown, QuotedText, Lexeme, is_separator, is_word_byte, is_letter, is_digit, lexeme, lower_byte, name_lexeme, negative_lexeme, other_lexeme, positive_lexeme, quoted_on, quoted_text, sign, string_lexeme, tokens, tokens_from, uuid_in_front, word_lexeme, word_on}
-use Rattle.sasi_model.specs.Abbreviations.{lexeme_or, lower, starts_digit, starts_word}
-use Rattle.sasi_model.specs.Statements.{Column, Item, Joined, Key, KeyColumn, Phrase, Reads, ReadsCreate, ReadsInsert, columns_of, delete, equation, item, keys_of, listed, literal, literal_of, name, name_of, names_or_none, query, reserved, same, update}
+use Rattle.sasi_types.specs.declared.relation.Test.{Test}
+use Rattle.sasi_types.specs.declared.relation.Test.TheVariants as tests
+use Rattle.sasi_model.specs.Tokens.{Token, Word, QuotedName, Quoted, Integer, Uuid, Equal, Less, LessEqual, More, MoreEqual, same}
+use Rattle.sasi_model.specs.Forms.{Form, Never, Nothing, One, Then, As, Where, Choose, Many, Phrase, items, Led, Spells}
+use Rattle.sasi_model.specs.Statements.{reserved, name_of, string_of, literal_of, test_of, name, string, literal, names, literals as literal_list, equation, key_given, columns_of, keys_of, declaration, table, index_name, option, options, index, insert, update, deleted, delete, relation, asked, relations, select, index_named, begun, stepped, traced, on_files, on_cursors, statement, piece}
 use Rattle.sasi_model.specs.Naming.{IsName, IsWord}
-use Rattle.sasi_model.specs.WellFormed.{IsWellFormedToken, IsWellFormedLiteral, IsWellFormedColumn, IsWellFormedSet, IsWellFormed}
-
--- ---- texts in strings
-
--- a byte of ASCII, and what stands before it and after it
-module _ (front : List ℕ) (b : ℕ) (behind : List ℕ) (ascii : b < 128) (text : IsUtf8 (front ++ b ∷ behind)) where
-  here : get_or (front ++ b ∷ behind) (length front) 0 ≡ b
-  here = get_or-append_seam front b behind 0
-
-  within : length front < length (front ++ b ∷ behind)
-  within = omega (arith, length-append front (b ∷ behind))
-
-  pub utf8_before : IsUtf8 front
-  utf8_before =
-      subst IsUtf8 (take_at front (b ∷ behind) (length front) refl)
-      (IsUtf8-take (front ++ b ∷ behind) (length front) text (IsCharBoundary-before_ascii (front ++ b ∷ behind) (length front) within (omega (arith, here, ascii))))
-
-  after : front ++ b ∷ behind ≡ (front ++ b ∷ []) ++ behind
-  after = sym (append_assoc front (b ∷ []) behind)
-
-  pub utf8_behind : IsUtf8 behind
-  utf8_behind =
-      let cut = IsUtf8-drop (front ++ b ∷ behind) (length front + 1) text (IsCharBoundary-after_ascii (front ++ b ∷ behind) (length front) text within (omega (arith, here, ascii))) in
-      let at : length (front ++ b ∷ []) ≡ length front + 1 = omega (arith, length-append front (b ∷ [])) in
-      subst IsUtf8 (ap (drop (length front + 1)) after ∙ drop_at (front ++ b ∷ []) behind (length front + 1) at) cut
-
-  pub utf8_with : IsUtf8 (front ++ b ∷ [])
-  utf8_with =
-      let cut = IsUtf8-take (front ++ b ∷ behind) (length front + 1) text (IsCharBoundary-after_ascii (front ++ b ∷ behind) (length front) text within (omega (arith, here, ascii))) in
-      let at : length (front ++ b ∷ []) ≡ length front + 1 = omega (arith, length-append front (b ∷ [])) in
-      subst IsUtf8 (ap (take (length front + 1)) after ∙ take_at (front ++ b ∷ []) behind (length front + 1) at) cut
-
-is_39 : (b : ℕ) → nat_eq b 39 ≡ true → b ≡ 39
-is_39 b is = grind arith
-
-quoted_some : (b n : ℕ) (o : Option QuotedText) (q : QuotedText) → quoted_on b n o ≡ Some q → (p : QuotedText) × (o ≡ Some p) × (q.text ≡ b ∷ p.text)
-quoted_some b n None q is = cc
-quoted_some b n (Some p) q is = let e : Some (record { text = b ∷ p.text; size = n + p.size }) ≡ Some q = is in (p, refl, sym (some_text e))
-  where
-    some_text : {x : QuotedText} → Some x ≡ Some q → x.text ≡ q.text
-    some_text {x} e = let same : x ≡ q = cc in ap (λ (x : QuotedText). x.text) same
-
--- a string's text goes on with what stands before it
-string_on : (bs front : List ℕ) (q : QuotedText) → IsUtf8 (front ++ bs) → quoted_text bs ≡ Some q → IsUtf8 (front ++ q.text)
-string_on [] front q text is = cc
-string_on (b ∷ []) front q text is =
-    elim (nat_eq b 39) as (λ v. nat_eq b 39 ≡ v → cond v (Some (record { text = []; size = 1 })) None ≡ Some q → IsUtf8 (front ++ q.text)) [
-      | true ↦ λ quote e.
-          let empty : q.text ≡ [] = (let same : record { text = []; size = 1 } ≡ q = cc in sym (ap (λ (x : QuotedText). x.text) same)) in
-          rw (empty, append-nil) (utf8_before front b [] (omega (arith, is_39 b quote)) text)
-      | false ↦ λ other e. cc
-    ] refl is
-string_on (b ∷ c ∷ bs) front q text is =
-    elim (nat_eq b 39) as (λ v. nat_eq b 39 ≡ v → cond v
-    (cond (nat_eq c 39) (quoted_on 39 2 (quoted_text bs)) (Some (record { text = []; size = 1 })))
-    (quoted_on b 1 (quoted_text (c ∷ bs))) ≡ Some q → IsUtf8 (front ++ q.text)) [
-      | true ↦ λ quote e.
-          elim (nat_eq c 39) as (λ v. nat_eq c 39 ≡ v → cond v (quoted_on 39 2 (quoted_text bs)) (Some (record { text = []; size = 1 })) ≡ Some q → IsUtf8 (front ++ q.text)) [
-            | true ↦ λ second f.
-                let p = quoted_some 39 2 (quoted_text bs) q f in
-                let small : b < 128 = omega (arith, is_39 b quote) in
-                let behind = utf8_behind front b (c ∷ bs) small text in
-                let rest = utf8_behind [] c bs (omega (arith, is_39 c second)) behind in
-                let with_one : IsUtf8 (front ++ 39 ∷ []) = subst (λ (x : ℕ). IsUtf8 (front ++ x ∷ [])) (is_39 b quote) (utf8_with front b (c ∷ bs) small text) in
-                let whole = string_on bs (front ++ 39 ∷ []) p.0 (IsUtf8-append (front ++ 39 ∷ []) bs with_one rest) p.1 in
-                rw p.2 (subst IsUtf8 (append_assoc front (39 ∷ []) p.0.text) whole)
-            | false ↦ λ other f.
-                let empty : q.text ≡ [] = (let same : record { text = []; size = 1 } ≡ q = cc in sym (ap (λ (x : QuotedText). x.text) same)) in
-                rw (empty, append-nil) (utf8_before front b (c ∷ bs) (omega (arith, is_39 b quote)) text)
-          ] refl e
-      | false ↦ λ other e.
-          let p = quoted_some b 1 (quoted_text (c ∷ bs)) q e in
-          let whole = string_on (c ∷ bs) (front ++ b ∷ []) p.0 (subst IsUtf8 (sym (append_assoc front (b ∷ []) (c ∷ bs))) text) p.1 in
-          rw p.2 (subst IsUtf8 (append_assoc front (b ∷ []) p.0.text) whole)
-    ] refl is
-
-pub string_is_utf8 : (bs : List ℕ) (q : QuotedText) → IsUtf8 bs → quoted_text bs ≡ Some q → IsUtf8 q.text
-string_is_utf8 bs q text is = string_on bs [] q text is
-
--- ---- words
-
-prefix_passes : (p : ℕ → Bool) (xs : List ℕ) → list_all p (take (prefix_len p xs) xs) ≡ true
-prefix_passes p [] = refl
-prefix_passes p (x ∷ xs) =
-    elim (p x) as (λ v. p x ≡ v → list_all p (take (cond v (1 + prefix_len p xs) 0) (x ∷ xs)) ≡ true) [
-      | true ↦ λ yes. let e : 1 + prefix_len p xs ≡ suc (prefix_len p xs) = omega arith in rw (e, yes) (prefix_passes p xs)
-      | false ↦ λ no. refl
-    ] refl
-
-lower_is_word : (b : ℕ) → is_word_byte b ≡ true → is_word_byte (lower_byte b) ≡ true
-lower_is_word b is = grind arith
-
-lower_word : (bs : List ℕ) → list_all is_word_byte bs ≡ true → list_all is_word_byte (lower bs) ≡ true
-lower_word [] is = refl
-lower_word (b ∷ bs) is =
-    let parts = both (is_word_byte b) (list_all is_word_byte bs) is in
-    rw (lower_is_word b parts.0) (lower_word bs parts.1)
-  where
-    both : (x y : Bool) → (x && y) ≡ true → (x ≡ true) × (y ≡ true)
-    both true true e = (refl, refl)
-    both true false e = cc
-    both false y e = cc
-
--- ---- uuids
-
-size_by_index : (n : ℕ) (f : ℕ → ℕ) → length (by_index n f) ≡ n
-unfolding by_index
-size_by_index zero f = refl
-size_by_index (suc n) f = omega (arith, length-append (by_index n f) (f n ∷ []), size_by_index n f)
-
-uuid_simple : (test : Bool) (f : ℕ → ℕ) (bytes : List ℕ) → cond test (Some (by_index 16 f)) None ≡ Some bytes → length bytes ≡ 16
-uuid_simple true f bytes is = let same_bytes : by_index 16 f ≡ bytes = cc in ap length (sym same_bytes) ∙ size_by_index 16 f
-uuid_simple false f bytes is = cc
-
-uuid_hyphens : (test other : Bool) (f : ℕ → ℕ) (bytes : List ℕ) → cond test (cond other (Some (by_index 16 f)) None) None ≡ Some bytes → length bytes ≡ 16
-uuid_hyphens true other f bytes is = uuid_simple other f bytes is
-uuid_hyphens false other f bytes is = cc
-
-uuid_size : (text bytes : List ℕ) → uuid_in_front text ≡ Some bytes → length bytes ≡ 16
-unfolding uuid_in_front
-uuid_size text bytes is =
-    elim (starts_word (drop 36 text)) as (λ v. cond v None (parsed_hyphenated (take 36 text)) ≡ Some bytes → length bytes ≡ 16) [
-      | true ↦ λ e. cc
-      | false ↦ λ e. uuid_hyphens _ _ _ bytes e
-    ] is
-
--- ---- tokens
-
-sign_written : (b : ℕ) → IsWellFormedToken (sign b)
-sign_written b = by (b == 40) (b == 41) (b == 44) (b == 42) (b == 61) (b == 59)
-  where
-    by : (c d e f g h : Bool) → IsWellFormedToken (unwrap_or (cond c (Some Open) (cond d (Some Close) (cond e (Some Comma) (cond f (Some Star) (cond g (Some Equal) (cond h (Some Semicolon) None)))))) Unknown)
-    by true d e f g h = tt
-    by false true e f g h = tt
-    by false false true f g h = tt
-    by false false false true g h = tt
-    by false false false false true h = tt
-    by false false false false false true = tt
-    by false false false false false false = tt
-
-letter_is_word : (b : ℕ) → is_letter b ≡ true → is_word_byte b ≡ true
-letter_is_word b is = by (is_letter b) (is_digit b) (b == 95) is
-  where
-    by : (x y z : Bool) → x ≡ true → (x || y || z) ≡ true
-    by true y z e = refl
-    by false y z e = cc
-
-word_written : (b : ℕ) (behind : List ℕ) → is_letter b ≡ true → IsWellFormedToken (word_lexeme b behind).token
-word_written b behind is = (omega arith, lower_word (b ∷ take (word_on behind) behind) (rw (letter_is_word b is) (prefix_passes is_word_byte behind)))
-
-string_written : (behind : List ℕ) (o : Option QuotedText) → IsUtf8 behind → quoted_text behind ≡ o → IsWellFormedToken (string_lexeme o).token
-string_written behind None text is = tt
-string_written behind (Some q) text is = string_is_utf8 behind q text is
-
-name_written_here : (behind : List ℕ) → IsWellFormedToken (name_lexeme behind).token
-name_written_here behind = by (nat_le 1 (word_on behind)) (nat_le (word_on behind) 48) (starts 34 (drop (word_on behind) behind)) refl refl
-  where
-    named : nat_le 1 (word_on behind) ≡ true → nat_le (word_on behind) 48 ≡ true → IsName (take (word_on behind) behind)
-    named some short = record {
-      some = let n : length (take (word_on behind) behind) ≡ word_on behind = length-prefix_len is_word_byte behind in grind arith;
-      short = let n : length (take (word_on behind) behind) ≡ word_on behind = length-prefix_len is_word_byte behind in grind arith;
-      word = prefix_passes is_word_byte behind;
-    }
-
-    by : (x y z : Bool) → nat_le 1 (word_on behind) ≡ x → nat_le (word_on behind) 48 ≡ y → IsWellFormedToken
-        (cond {A = Lexeme} (x && y && z) (record { token = QuotedName (take (word_on behind) behind); inside = suc (word_on behind) })
-        (record { token = Unknown; inside = 0 })).token
-    by true true true some short = named some short
-    by true true false some short = tt
-    by true false z some short = tt
-    by false y z some short = tt
-
-other_written : (front : List ℕ) (b : ℕ) (behind : List ℕ) → IsUtf8 (front ++ b ∷ behind) → IsWellFormedToken (other_lexeme b behind).token
-unfolding other_lexeme
-other_written front b behind text = by (is_letter b) (is_digit b) (b == 45 && starts_digit behind) (b == 39) (b == 34) refl refl
-  where
-    by : (x y z u v : Bool) → is_letter b ≡ x → (b == 39) ≡ u
-        → IsWellFormedToken (cond x (word_lexeme b behind)
-        (cond y (positive_lexeme b behind) (cond z (negative_lexeme behind)
-        (cond u (string_lexeme (quoted_text behind)) (cond v (name_lexeme behind) (record { token = sign b; inside = 0 })))))).token
-    by true y z u v letter quote = word_written b behind letter
-    by false true z u v letter quote = tt
-    by false false true u v letter quote = tt
-    by false false false true v letter quote = string_written behind (quoted_text behind) (utf8_behind front b behind (omega (arith, is_39 b quote)) text) refl
-    by false false false false true letter quote = name_written_here behind
-    by false false false false false letter quote = sign_written b
-
-lexeme_written : (front : List ℕ) (b : ℕ) (behind : List ℕ) → IsUtf8 (front ++ b ∷ behind) → IsWellFormedToken (lexeme b behind).token
-unfolding lexeme
-lexeme_written front b behind text = by (uuid_in_front (b ∷ behind)) refl
-  where
-    by : (o : Option (List ℕ)) → uuid_in_front (b ∷ behind) ≡ o → IsWellFormedToken (lexeme_or o (other_lexeme b behind)).token
-    by None is = other_written front b behind text
-    by (Some bytes) is = uuid_size (b ∷ behind) bytes is
-
-tokens_on : (inside : ℕ) (front bs : List ℕ) → IsUtf8 (front ++ bs) → AllByRecursion IsWellFormedToken (tokens_from inside bs)
-tokens_on zero front [] text = tt
-tokens_on (suc inside) front [] text = tt
-tokens_on (suc inside) front (b ∷ bs) text = tokens_on inside (front ++ b ∷ []) bs (subst IsUtf8 (sym (append_assoc front (b ∷ []) bs)) text)
-tokens_on zero front (b ∷ bs) text =
-    let behind : IsUtf8 ((front ++ b ∷ []) ++ bs) = subst IsUtf8 (sym (append_assoc front (b ∷ []) bs)) text in
-    elim (is_separator b bs) as (λ v. AllByRecursion IsWellFormedToken (cond v (tokens_from (opened_by b bs) bs) ((lexeme b bs).token ∷ tokens_from (lexeme b bs).inside bs))) [
-      | true ↦ tokens_on (opened_by b bs) (front ++ b ∷ []) bs behind
-      | false ↦ (lexeme_written front b bs text, tokens_on (lexeme b bs).inside (front ++ b ∷ []) bs behind)
-    ]
-
--- the tokens of a text
-pub tokens_written : (text : List ℕ) → IsUtf8 text → AllByRecursion IsWellFormedToken (tokens text)
-tokens_written text utf8 = tokens_on 0 [] text utf8
+use Rattle.sasi_model.specs.WellFormed.{IsWellFormedToken, IsWellFormedLiteral, IsWellFormedColumn, IsWellFormedSet, IsWellFormedOption, IsTested, IsWellFormedRelation, AreNames, IsNameOrNone, AreNamesOrNone, IsWellFormedSelect, IsWellFormed}
 
 -- ---- what one token stands for
 
@@ -255,158 +41,219 @@ token_literal (Word w) literal is written = by (same w (codes "null")) is
     by false e = cc
 token_literal _ literal is written = cc
 
--- ---- phrases
+token_string : (token : Token) (text : List ℕ) → string_of token ≡ Some text → IsWellFormedToken token → IsUtf8 text
+token_string (Quoted t) text is written = let same_text : t ≡ text = cc in subst IsUtf8 same_text written
+token_string _ text is written = cc
+
+-- a sign isn't LIKE
+token_test : (token : Token) (test : Test) → test_of token ≡ Some test → IsWellFormedToken token → (value : Literal) → IsTested test value
+token_test Equal test is written value = let e : tests.Eq ≡ test = cc in subst (λ (t : Test). IsTested t value) e tt
+token_test Less test is written value = let e : tests.Lt ≡ test = cc in subst (λ (t : Test). IsTested t value) e tt
+token_test LessEqual test is written value = let e : tests.Le ≡ test = cc in subst (λ (t : Test). IsTested t value) e tt
+token_test More test is written value = let e : tests.Gt ≡ test = cc in subst (λ (t : Test). IsTested t value) e tt
+token_test MoreEqual test is written value = let e : tests.Ge ≡ test = cc in subst (λ (t : Test). IsTested t value) e tt
+token_test _ test is written value = cc
+
+-- ---- forms
 
 abbrev Written : List Token → Type 0
-Written ts = AllByRecursion IsWellFormedToken ts
+Written tokens = AllByRecursion IsWellFormedToken tokens
 
-split : (xs ys : List Token) → Written (xs ++ ys) → Written xs × Written ys
-split [] ys all = (tt, all)
-split (x ∷ xs) ys all = let parts = split xs ys all.1 in ((all.0, parts.0), parts.1)
+split : (front behind : List Token) → Written (front ++ behind) → Written front × Written behind
+split [] behind all = (tt, all)
+split (t ∷ front) behind all = let parts = split front behind all.1 in ((all.0, parts.0), parts.1)
 
-parts : (first second : Phrase) (ts : List Token) → (r : Joined first second ts) → Written ts → Written r.front × Written r.behind
-parts first second ts r all = split r.front r.behind (subst Written r.whole all)
+-- what a form spells with well-formed tokens has P
+pub record Gives {A : Type 0} (form : Form A) (P : A → Type 0) : Type 0 where
+  pub gives : (value : A) (tokens : List Token) → Spells form value tokens → Written tokens → P value
 
-name_written : (n : List ℕ) (ts : List Token) → name n ts → Written ts → IsName n
-name_written n ts one all = let alone : Written (one.token ∷ []) = subst Written one.alone all in token_name one.token n one.stands alone.0
+weaker : {A : Type 0} {form : Form A} {P Q : A → Type 0} → Gives form P → ((a : A) → P a → Q a) → Gives form Q
+weaker p so = record { gives = λ value tokens s all. so value (p.gives value tokens s all) }
 
-literal_written : (value : Literal) (ts : List Token) → literal value ts → Written ts → IsWellFormedLiteral value
-literal_written value ts one all = let alone : Written (one.token ∷ []) = subst Written one.alone all in token_literal one.token value one.stands alone.0
+any : {A : Type 0} {form : Form A} → Gives form (λ a. ⊤)
+any = record { gives = λ value tokens s all. tt }
 
-list_written : {A : Type 0} (phrase : A → Phrase) (P : A → Type 0) → ((a : A) (ts : List Token) → phrase a ts → Written ts → P a)
-    → (items : List A) (ts : List Token) → listed phrase items ts → Written ts → AllByRecursion P items
-list_written phrase P each [] ts reads all = tt
-list_written phrase P each (a ∷ []) ts reads all = (each a ts reads all, tt)
-list_written phrase P each (a ∷ b ∷ others) ts reads all =
-    let first = parts _ _ ts reads all in
-    let second = parts _ _ reads.behind reads.ends first.1 in
-    (each a reads.front reads.starts first.0, list_written phrase P each (b ∷ others) reads.ends.behind reads.ends.ends second.1)
+never : {A : Type 0} {P : A → Type 0} → Gives Never P
+never = record { gives = λ value tokens s all. absurd s }
 
--- a list has one item at least
-list_some : {A : Type 0} (phrase : A → Phrase) (items : List A) (ts : List Token) → listed phrase items ts → 1 ≤ length items
-list_some phrase [] ts reads = absurd reads
-list_some phrase (a ∷ items) ts reads = omega arith
+nothing : {A : Type 0} {a : A} {P : A → Type 0} → P a → Gives (Nothing a) P
+nothing {P = P} p = record { gives = λ value tokens s all. subst P (sym s.1) p }
 
-equation_written : (given : List ℕ × Literal) (ts : List Token) → equation given ts → Written ts → IsWellFormedSet given
-equation_written given ts reads all =
-    let first = parts _ _ ts reads all in
-    let second = parts _ _ reads.behind reads.ends first.1 in
-    (name_written given.0 reads.front reads.starts first.0, literal_written given.1 reads.ends.behind reads.ends.ends second.1)
+one : {A : Type 0} {value_of : Token → Option A} {P : A → Type 0} → ((token : Token) (value : A) → value_of token ≡ Some value → IsWellFormedToken token → P value) → Gives (One value_of) P
+one p = record { gives = λ value tokens s all. p s.token value s.stands (let alone : Written (s.token ∷ []) = subst Written s.alone all in alone.0) }
 
--- ---- the items of a CREATE TABLE
+both : {A B : Type 0} {first : Form A} {second : Form B} {P : A → Type 0} {Q : B → Type 0} → Gives first P → Gives second Q → Gives (Then first second) (λ v. P v.0 × Q v.1)
+both p q = record { gives = λ value tokens s all. (let parts = split s.front s.behind (subst Written s.whole all) in (p.gives value.0 s.front s.starts parts.0, q.gives value.1 s.behind s.ends parts.1)) }
 
-abbrev IsWellFormedItem : Item → Type 0
-IsWellFormedItem (Column column type) = IsName column
-IsWellFormedItem (KeyColumn column type) = IsName column
-IsWellFormedItem (Key key) = IsName key
+renamed : {A B : Type 0} {f : A → B} {form : Form A} {P : A → Type 0} {Q : B → Type 0} → Gives form P → ((a : A) → P a → Q (f a)) → Gives (As f form) Q
+renamed {Q = Q} p so = record { gives = λ value tokens s all. subst Q (sym s.is) (so s.from (p.gives s.from tokens s.spelled all)) }
 
-item_written : (i : Item) (ts : List Token) → item i ts → Written ts → IsWellFormedItem i
-item_written (Column column type) ts reads all = name_written column reads.front reads.starts (parts _ _ ts reads all).0
-item_written (KeyColumn column type) ts reads all = name_written column reads.front reads.starts (parts _ _ ts reads all).0
-item_written (Key key) ts reads all =
-    let first = parts _ _ ts reads all in
-    name_written key reads.ends.front reads.ends.starts (parts _ _ reads.behind reads.ends first.1).0
+behind : {A : Type 0} {words : Form (Unit {0})} {form : Form A} {P : A → Type 0} → Gives form P → Gives (As (λ both. both.1) (Then words form)) P
+behind p = renamed (both any p) (λ a w. w.1)
 
-columns_written : (items : List Item) → AllByRecursion IsWellFormedItem items → AllByRecursion IsWellFormedColumn (flat_map columns_of items)
-columns_written [] all = tt
-columns_written (Column column type ∷ items) all = (all.0, columns_written items all.1)
-columns_written (KeyColumn column type ∷ items) all = (all.0, columns_written items all.1)
-columns_written (Key key ∷ items) all = columns_written items all.1
+in_front : {A : Type 0} {words : Form (Unit {0})} {form : Form A} {P : A → Type 0} → Gives form P → Gives (As (λ both. both.0) (Then form words)) P
+in_front p = renamed (both p any) (λ a w. w.0)
 
-keys_written : (items : List Item) → AllByRecursion IsWellFormedItem items → AllByRecursion IsName (flat_map keys_of items)
-keys_written [] all = tt
-keys_written (Column column type ∷ items) all = keys_written items all.1
-keys_written (KeyColumn column type ∷ items) all = (all.0, keys_written items all.1)
-keys_written (Key key ∷ items) all = (all.0, keys_written items all.1)
+tested : {A : Type 0} {test : A → Bool} {form : Form A} {P : A → Type 0} → Gives form P → Gives (Where test form) P
+tested p = record { gives = λ value tokens s all. p.gives value tokens s.1 all }
+
+either : {A : Type 0} {token : Token} {first second : Form A} {P : A → Type 0} → Gives first P → Gives second P → Gives (Choose token first second) P
+either {A} {token} {first} {second} {P} p q = record { gives = chosen } where
+  chosen : (value : A) (tokens : List Token) → Led token (Spells first value) tokens ⊎ Spells second value tokens → Written tokens → P value
+  chosen value tokens (inl s) all = let led : Written (token ∷ s.behind) = subst Written s.whole all in p.gives value s.behind s.spelled led.1
+  chosen value tokens (inr s) all = q.gives value tokens s all
+
+items_given : {A : Type 0} (between : Token) (marks : A → Bool) (item : Bool → A → Phrase) (P : A → Type 0) → ((m : Bool) (a : A) (tokens : List Token) → item m a tokens → Written tokens → P a)
+    → (values : List A) (marked : Bool) (tokens : List Token) → items between marks item marked values tokens → Written tokens → (1 ≤ length values) × AllByRecursion P values
+items_given between marks item P each [] marked tokens s all = absurd s
+items_given between marks item P each (a ∷ []) marked tokens s all = (omega arith, (each marked a tokens s all, tt))
+items_given between marks item P each (a ∷ b ∷ others) marked tokens s all =
+    let parts = split s.front s.behind (subst Written s.whole all) in
+    let led : Written (between ∷ s.ends.behind) = subst Written s.ends.whole parts.1 in
+    (omega arith, (each marked a s.front s.starts parts.0, (items_given between marks item P each (b ∷ others) _ s.ends.behind s.ends.spelled led.1).1))
+
+many : {A : Type 0} {between : Token} {marks : A → Bool} {item : Bool → Form A} {marked : Bool} {P : A → Type 0} → ((m : Bool) → Gives (item m) P)
+    → Gives (Many between marks item marked) (λ values. (1 ≤ length values) × AllByRecursion P values)
+many {between = between} {marks} {item} {marked} {P} each =
+    record { gives = λ values tokens s all. items_given between marks (λ m. Spells (item m)) P (λ m a ts p written. (each m).gives a ts p written) values marked tokens s all }
+
+-- ---- parts
+
+name_gives : Gives name IsName
+name_gives = one token_name
+
+string_gives : Gives string IsUtf8
+string_gives = one token_string
+
+literal_gives : Gives literal IsWellFormedLiteral
+literal_gives = one token_literal
+
+names_give : Gives names AreNames
+names_give = weaker (many (λ m. name_gives)) (λ values w. w.1)
+
+literals_give : Gives literal_list (AllByRecursion IsWellFormedLiteral)
+literals_give = weaker (many (λ m. literal_gives)) (λ values w. w.1)
+
+equation_gives : Gives equation IsWellFormedSet
+equation_gives = weaker (both name_gives (behind literal_gives)) (λ set w. w)
+
+key_gives : Gives key_given IsWellFormedSet
+key_gives = behind equation_gives
+
+-- ---- CREATE TABLE
+
+abbrev IsWellFormedDeclaration : Declaration → Type 0
+IsWellFormedDeclaration (Column c kind) = IsName c
+IsWellFormedDeclaration (KeyColumn c kind) = IsName c
+IsWellFormedDeclaration (Key key) = IsName key
+
+column_given : (b : Bool) (c : List ℕ) (kind : ColumnType) → IsName c → IsWellFormedDeclaration (cond b (KeyColumn c kind) (Column c kind))
+column_given true c kind is = is
+column_given false c kind is = is
+
+declaration_gives : (m : Bool) → Gives (declaration m) IsWellFormedDeclaration
+declaration_gives true = renamed (both name_gives any) (λ f w. w.0)
+declaration_gives false =
+    either (renamed (behind (in_front name_gives)) (λ key w. w)) (renamed (both name_gives any) (λ f w. column_given f.1.1 f.0 f.1.0 w.0))
+
+columns_given : (items : List Declaration) → AllByRecursion IsWellFormedDeclaration items → AllByRecursion IsWellFormedColumn (flat_map columns_of items)
+columns_given [] all = tt
+columns_given (Column c kind ∷ items) all = (all.0, columns_given items all.1)
+columns_given (KeyColumn c kind ∷ items) all = (all.0, columns_given items all.1)
+columns_given (Key key ∷ items) all = columns_given items all.1
+
+keys_given : (items : List Declaration) → AllByRecursion IsWellFormedDeclaration items → AllByRecursion IsName (flat_map keys_of items)
+keys_given [] all = tt
+keys_given (Column c kind ∷ items) all = keys_given items all.1
+keys_given (KeyColumn c kind ∷ items) all = (all.0, keys_given items all.1)
+keys_given (Key key ∷ items) all = (all.0, keys_given items all.1)
+
+table_gives : Gives table IsWellFormed
+table_gives = renamed (both name_gives (behind (in_front (many declaration_gives)))) (λ f w. (w.0, columns_given f.1 w.1.1, keys_given f.1 w.1.1))
+
+-- ---- CREATE CUSTOM INDEX
+
+index_name_gives : Gives index_name IsNameOrNone
+index_name_gives = either (nothing tt) (renamed (in_front name_gives) (λ n w. w))
+
+option_gives : Gives option IsWellFormedOption
+option_gives = weaker (both string_gives (behind string_gives)) (λ o w. w)
+
+options_give : Gives options (AllByRecursion IsWellFormedOption)
+options_give = either (weaker (behind (in_front (many (λ m. option_gives)))) (λ values w. w.1)) (nothing tt)
+
+index_gives : (in_steps : Bool) → Gives (index in_steps) IsWellFormed
+index_gives in_steps =
+    renamed (behind (both index_name_gives (both name_gives (both (behind name_gives) (both (behind string_gives) options_give))))) (λ f w. (w.0, w.1.0, w.1.1.0, w.1.1.1.0, w.1.1.1.1))
+
+-- ---- INSERT, UPDATE and DELETE
+
+insert_gives : Gives insert IsWellFormed
+insert_gives =
+    renamed (both (tested (behind (both name_gives (both (behind names_give) (behind literals_give))))) any) (λ f w. (w.0.0, w.0.1.0, w.0.1.1))
+
+update_gives : Gives update IsWellFormed
+update_gives =
+    renamed (both name_gives (both any (both (behind (many (λ m. equation_gives))) key_gives))) (λ f w. (w.0, w.1.1.0.1, w.1.1.1, w.1.1.0.0))
+
+deleted_gives : Gives deleted AreNames
+deleted_gives = either (nothing tt) (in_front names_give)
+
+delete_gives : Gives delete IsWellFormed
+delete_gives = renamed (both deleted_gives (both name_gives (both any key_gives))) (λ f w. (w.1.0, w.0, w.1.1.1))
+
+-- ---- SELECT
+
+test_gives : Gives (One test_of) (λ test. (value : Literal) → IsTested test value)
+test_gives = one token_test
+
+-- a test and its literal
+abbrev IsWellFormedTest : Test × Literal → Type 0
+IsWellFormedTest t = IsWellFormedLiteral t.1 × IsTested t.0 t.1
+
+relation_gives : Gives relation IsWellFormedRelation
+relation_gives = renamed (both name_gives (either like (weaker (both test_gives literal_gives) (λ t w. (w.1, w.0 t.1))))) (λ f w. (w.0, w.1.0, w.1.1))
+  where
+    like : Gives (As (λ text. (tests.Like, literals.Text text)) string) IsWellFormedTest
+    like = renamed string_gives (λ text w. (w, tt))
+
+asked_gives : Gives asked AreNamesOrNone
+asked_gives = either (nothing tt) (renamed names_give (λ columns w. w))
+
+relations_give : Gives relations (AllByRecursion IsWellFormedRelation)
+relations_give = either (weaker (many (λ m. relation_gives)) (λ values w. w.1)) (nothing tt)
+
+select_gives : Gives select IsWellFormedSelect
+select_gives = renamed (both asked_gives (both (behind name_gives) (both relations_give any))) (λ f w. (w.0, w.1.0, w.1.1.0))
 
 -- ---- statements
 
-create_written : (ts : List Token) (table : List ℕ) (columns : List (List ℕ × ColumnType)) (keys : List (List ℕ))
-    → ReadsCreate ts table columns keys → Written ts → IsWellFormed (CreateTable table columns keys)
-create_written ts table columns keys reads all =
-    let s = reads.spelled in
-    let a = parts _ _ ts s all in
-    let b = parts _ _ s.behind s.ends a.1 in
-    let c = parts _ _ s.ends.behind s.ends.ends b.1 in
-    let d = parts _ _ s.ends.ends.behind s.ends.ends.ends c.1 in
-    let items = list_written item IsWellFormedItem item_written reads.items s.ends.ends.ends.front s.ends.ends.ends.starts d.0 in (
-      name_written table s.ends.front s.ends.starts b.0,
-      rw reads.columns_are (columns_written reads.items items),
-      rw reads.keys_are (keys_written reads.items items),
-    )
+index_named_gives : Gives index_named IsName
+index_named_gives = behind name_gives
 
-insert_written : (ts : List Token) (table : List ℕ) (columns : List (List ℕ)) (values : List Literal) (time : Option Number)
-    → ReadsInsert ts table columns values time → Written ts → IsWellFormed (Insert table columns values time)
-insert_written ts table columns values time reads all =
-    let s = reads.spelled in
-    let a = parts _ _ ts s all in
-    let b = parts _ _ s.behind s.ends a.1 in
-    let c = parts _ _ s.ends.behind s.ends.ends b.1 in
-    let names = s.ends.ends.ends in
-    let d = parts _ _ s.ends.ends.behind names c.1 in
-    let e = parts _ _ names.behind names.ends d.1 in
-    let given = names.ends.ends in
-    let f = parts _ _ names.ends.behind given e.1 in (
-      name_written table s.ends.front s.ends.starts b.0,
-      list_written name IsName name_written columns names.front names.starts d.0,
-      list_written literal IsWellFormedLiteral literal_written values given.front given.starts f.0,
-    )
+begun_gives : Gives begun IsWellFormed
+begun_gives = either (renamed name_gives (λ t w. w)) (either (renamed index_named_gives (λ i w. w)) (either (behind (index_gives true)) never))
 
-update_written : (ts : List Token) (table : List ℕ) (time : Option Number) (sets : List (List ℕ × Literal)) (key : List ℕ × Literal)
-    → update table time sets key ts → Written ts → IsName table × AllByRecursion IsWellFormedSet sets × IsWellFormedSet key × (1 ≤ length sets)
-update_written ts table time sets key s all =
-    let a = parts _ _ ts s all in
-    let b = parts _ _ s.behind s.ends a.1 in
-    let c = parts _ _ s.ends.behind s.ends.ends b.1 in
-    let set = s.ends.ends.ends in
-    let d = parts _ _ s.ends.ends.behind set c.1 in
-    let list = set.ends in
-    let e = parts _ _ set.behind list d.1 in
-    let place = list.ends in
-    let f = parts _ _ list.behind place e.1 in
-    let g = parts _ _ place.behind place.ends f.1 in (
-      name_written table s.ends.front s.ends.starts b.0,
-      list_written equation IsWellFormedSet equation_written sets list.front list.starts e.0,
-      equation_written key place.ends.front place.ends.starts g.0,
-      list_some equation sets list.front list.starts,
-    )
+stepped_gives : Gives stepped IsWellFormed
+stepped_gives = either (renamed (both name_gives any) (λ f w. w.0)) (either (renamed (both name_gives any) (λ f w. w.0)) never)
 
-columns_named : (columns : List (List ℕ)) (ts : List Token) → names_or_none columns ts → Written ts → AllByRecursion IsName columns
-columns_named [] ts reads all = tt
-columns_named (column ∷ columns) ts reads all = list_written name IsName name_written (column ∷ columns) ts reads all
+traced_gives : Gives traced IsWellFormed
+traced_gives = either (nothing tt) (either (nothing tt) never)
 
-delete_written : (ts : List Token) (columns : List (List ℕ)) (table : List ℕ) (time : Option Number) (key : List ℕ × Literal)
-    → delete columns table time key ts → Written ts → IsName table × AllByRecursion IsName columns × IsWellFormedSet key
-delete_written ts columns table time key s all =
-    let a = parts _ _ ts s all in
-    let names = s.ends in
-    let b = parts _ _ s.behind names a.1 in
-    let from = names.ends in
-    let c = parts _ _ names.behind from b.1 in
-    let named = from.ends in
-    let d = parts _ _ from.behind named c.1 in
-    let timed = named.ends in
-    let e = parts _ _ named.behind timed d.1 in
-    let place = timed.ends in
-    let f = parts _ _ timed.behind place e.1 in
-    let g = parts _ _ place.behind place.ends f.1 in (
-      name_written table named.front named.starts d.0,
-      columns_named columns names.front names.starts b.0,
-      equation_written key place.ends.front place.ends.starts g.0,
-    )
+on_files_gives : Gives on_files IsWellFormed
+on_files_gives =
+    either (renamed name_gives (λ t w. w)) (either (renamed name_gives (λ t w. w)) (either (renamed index_named_gives (λ i w. w))
+    (either (behind (nothing tt)) (either begun_gives (either stepped_gives (either traced_gives never))))))
 
-query_written : (ts : List Token) (select : Select) → query select ts → Written ts → IsName select.table
-query_written ts select s all =
-    let a = parts _ _ ts s all in
-    let b = parts _ _ s.behind s.ends a.1 in
-    let c = parts _ _ s.ends.behind s.ends.ends b.1 in
-    let named = s.ends.ends.ends in
-    let d = parts _ _ s.ends.ends.behind named c.1 in
-    name_written select.table named.front named.starts d.0
+on_cursors_gives : Gives on_cursors IsWellFormed
+on_cursors_gives =
+    either (renamed (both name_gives (behind select_gives)) (λ f w. (w.0, w.1)))
+    (either (renamed (both any (behind name_gives)) (λ f w. w.1)) (either (renamed name_gives (λ c w. w)) on_files_gives))
 
-pub statement_written : (ts : List Token) (statement : Statement) → Reads ts statement → Written ts → IsWellFormed statement
-statement_written ts (CreateTable table columns keys) reads all = create_written ts table columns keys reads all
-statement_written ts (Insert table columns values time) reads all = insert_written ts table columns values time reads all
-statement_written ts (Update table time sets key value) reads all = update_written ts table time sets (key, value) reads all
-statement_written ts (Delete table columns time key value) reads all = delete_written ts columns table time (key, value) reads all
-statement_written ts (Query select) reads all = query_written ts select reads all
+statement_gives : Gives statement IsWellFormed
+statement_gives =
+    either (either table_gives (either (index_gives false) never)) (either (renamed index_named_gives (λ i w. w)) (either insert_gives (either update_gives (either delete_gives
+    (either (renamed select_gives (λ s w. w)) on_cursors_gives)))))
+
+pub piece_written : Gives piece IsWellFormed
+piece_written = in_front statement_gives

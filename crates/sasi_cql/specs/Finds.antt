@@ -1,39 +1,55 @@
--- What a reader of a phrase returns.
-use Rattle.std.specs.Prelude.{◌≡◌, ◌++◌, List, map, Option, None, Some, Result, Ok, Err}
+-- What a reader of a form returns, by the tokens of the text that it reads.
+use Rattle.std.specs.Prelude.{◌≡◌, ℕ, Bool, true, false, List, [], ◌∷◌, Option, None, Some, Result, Ok, Err, ⊤}
 use Rattle.std.specs.Borrow.{Bor}
+use Rattle.sasi_types.specs.declared.statement.Statement.{Statement}
 use Rattle.sasi_model.specs.Tokens as model
-use Rattle.sasi_model.specs.Statements.{Read}
+use Rattle.sasi_model.specs.Tokens.{tokens}
+use Rattle.sasi_model.specs.FormReader.{Reading, Got, Stuck}
+use Rattle.sasi_model.specs.Parsers.{Parsed, Parses, FailsAt}
 use Rattle.sasi_cql.specs.declared.fault.ParseFault.{ParseFault}
-use Rattle.sasi_cql.specs.declared.fault.ParseFault.TheVariants.{Syntax, OutOfMemory}
+use Rattle.sasi_cql.specs.declared.fault.ParseFault.TheVariants as fault
+use Rattle.sasi_cql.specs.declared.halt.Halt.{Halt}
+use Rattle.sasi_cql.specs.declared.halt.Halt.TheVariants as halt
 use Rattle.sasi_cql.specs.declared.token.Token.{Token}
 use Rattle.sasi_cql.specs.ModelTokens.{model_token}
 
--- the fault says that there is no such value, unless it ran out of memory
-abbrev pub IsMissing : {A : Type 0} → Option A → ParseFault → Type 0
-IsMissing found Syntax = found ≡ None
-IsMissing found OutOfMemory = Unit {0}
+-- it halts where the form's reader is stuck, unless it ran out of memory
+abbrev pub Halts : {A : Type 0} → Reading A → Halt → Type 0
+Halts reading (halt.Stuck size) = reading ≡ Stuck size
+Halts reading halt.OutOfMemory = ⊤
 
--- the result is the value that there is, or says that there is none, unless it ran out of memory
-abbrev pub Finds : {A : Type 0} → Option A → Result A ParseFault → Type 0
-Finds found (Ok value) = found ≡ Some value
-Finds found (Err fault) = IsMissing found fault
+-- the result is the value that the form's reader gets and the text of the tokens behind it, or where it is stuck
+abbrev pub Finds : {A : Type 0} → Reading A → Result (A × Bor (List ℕ)) Halt → Type 0
+Finds reading (Ok r) = reading ≡ Got r.0 (tokens r.1.now)
+Finds reading (Err why) = Halts reading why
 
--- likewise of a value and the tokens after it
-abbrev pub FindsRead : {A : Type 0} → Option (Read A) → Result (A × Bor (List Token)) ParseFault → Type 0
-FindsRead found (Ok r) = found ≡ Some (record { value = r.0; behind = map model_token r.1.now })
-FindsRead found (Err fault) = IsMissing found fault
+-- likewise of the text behind words and signs
+abbrev pub FindsBehind : Reading (Unit {0}) → Result (Bor (List ℕ)) Halt → Type 0
+FindsBehind reading (Ok behind) = reading ≡ Got tt (tokens behind.now)
+FindsBehind reading (Err why) = Halts reading why
 
--- likewise of the tokens after something
-abbrev pub FindsBehind : Option (List model.Token) → Result (Bor (List Token)) ParseFault → Type 0
-FindsBehind found (Ok behind) = found ≡ Some (map model_token behind.now)
-FindsBehind found (Err fault) = IsMissing found fault
+-- likewise of a value behind which nothing stands
+abbrev pub FindsAll : {A : Type 0} → Reading A → Result A Halt → Type 0
+FindsAll reading (Ok value) = reading ≡ Got value []
+FindsAll reading (Err why) = Halts reading why
 
--- these are the tokens that were found
-abbrev pub IsBehind : Option (List model.Token) → Option (Bor (List Token)) → Type 0
-IsBehind found (Some behind) = found ≡ Some (map model_token behind.now)
+-- this is the text of the tokens behind the one in front
+abbrev pub IsBehind : Option (List model.Token) → Option (Bor (List ℕ)) → Type 0
+IsBehind found (Some behind) = found ≡ Some (tokens behind.now)
 IsBehind found None = found ≡ None
 
--- with these items at the start
-abbrev pub all_before : {A : Type 0} → List A → Option (Read (List A)) → Option (Read (List A))
-all_before items None = None
-all_before items (Some read) = Some (record { value = items ++ read.value; behind = read.behind })
+-- this is the first of the tokens, and the text of the others
+abbrev pub IsFirst : List model.Token → Option (Token × Bor (List ℕ)) → Type 0
+IsFirst all (Some r) = all ≡ model_token r.0 ∷ tokens r.1.now
+IsFirst all None = all ≡ []
+
+-- there is a first token
+abbrev pub HasToken : List model.Token → Bool → Type 0
+HasToken [] there = there ≡ false
+HasToken (token ∷ others) there = there ≡ true
+
+-- the result is the statement that a parser gives, or where it fails
+abbrev pub IsResult : Parsed → Result Statement ParseFault → Type 0
+IsResult parsed (Ok statement) = parsed ≡ Parses statement
+IsResult parsed (Err (fault.Syntax at)) = parsed ≡ FailsAt at
+IsResult parsed (Err fault.OutOfMemory) = ⊤

@@ -1,4 +1,3 @@
 pub mod Finds
-pub mod Items
 pub mod ModelTokens
 pub mod SplitterState

@@ -1,21 +1,13 @@
 // Why a text is no statement.
-ghost use Rattle.std.specs.Prelude.{◌≡◌};
-ghost use Rattle.sasi_cql.specs.declared.fault.ParseFault.TheVariants.{OutOfMemory};
-
-use std::alloc::AllocError;
 
 /// Why a text is no statement.
 #[derive(Clone, Copy, Debug, PartialEq, Eq)]
 pub enum ParseFault {
     /// The grammar has no statement for it.
-    Syntax,
+    Syntax {
+        /// The offset of the first token with which no statement goes on, or of the first byte that begins no token. The end of
+        /// the text, where a statement would go on.
+        at: usize,
+    },
     OutOfMemory,
-}
-
-impl From<AllocError> for ParseFault {
-    ghost from_gives = { λ _ e. e ≡ OutOfMemory };
-
-    fn from(_error: AllocError) -> ParseFault {
-        ParseFault::OutOfMemory
-    }
 }

@@ -1,15 +1,43 @@
-// The start of a list of tokens: expected words and signs, or one token of a kind.
-ghost use Rattle.std.specs.Prelude.{◌≡◌, map};
-ghost use Rattle.sasi_model.specs.Statements.{expect, number_of, read_literal, read_name, read_one, same_token, type_of};
-ghost use Rattle.sasi_cql.specs.Finds.{FindsBehind, FindsRead, IsBehind};
+// The start of a text: expected words and signs, or one token of a kind. Spaces and comments before a token are passed over.
+ghost use Rattle.std.specs.Prelude.{◌≡◌, is_some, length, map, true, Some};
+ghost use Rattle.sasi_model.specs.Tokens.{same_token, tokens};
+ghost use Rattle.sasi_model.specs.FormReader.{after, read};
+ghost use Rattle.sasi_model.specs.Forms.{One};
+ghost use Rattle.sasi_model.specs.Statements.{literal, name, number, string, test_of, these, type};
+ghost use Rattle.sasi_cql.specs.Finds.{Finds, FindsBehind, HasToken, IsBehind, IsFirst};
 ghost use Rattle.sasi_cql.specs.ModelTokens.{model_token};
+ghost use Rattle.sasi_cql.specs.declared.halt.Halt.TheVariants.{Stuck};
 
-use crate::fault::ParseFault;
-use crate::literal::{literal_of, name_of, number_of, type_of};
+use crate::halt::Halt;
+use crate::lexer::next_token;
+use crate::literal::{literal_of, name_of, number_of, string_of, test_of, type_of};
+use crate::place::count_tokens;
 use crate::token::Token;
 use crate::word::spells;
-use sasi_types::{ColumnType, Literal, Name, Number};
+use sasi_types::{ColumnType, Literal, Name, Number, Test, Text};
 use std::alloc::Global;
+
+// The first token, if there is one, and the rest after it.
+fn first<'a>(text: &'a [u8]) -> Option<(Token<'a>, &'a [u8])>
+    ensures { IsFirst (tokens text.now) result }
+{
+    let mut unclosed = false;
+    next_token(text, &mut unclosed)
+}
+
+/// The text has a token.
+pub fn has_token(text: &[u8]) -> bool
+    ensures { HasToken (tokens text.now) result }
+{
+    first(text).is_some()
+}
+
+/// Nothing goes on with the first token of the text.
+pub fn stuck(text: &[u8]) -> Halt
+    ensures { result ≡ Stuck (length (tokens text.now)) }
+{
+    Halt::Stuck(count_tokens(text))
+}
 
 // The token is the expected word, in any case, or the expected sign.
 fn same_token(wanted: &Token, token: &Token) -> bool
@@ -22,78 +50,115 @@ fn same_token(wanted: &Token, token: &Token) -> bool
         | (Token::Comma, Token::Comma)
         | (Token::Star, Token::Star)
         | (Token::Equal, Token::Equal)
+        | (Token::Less, Token::Less)
+        | (Token::LessEqual, Token::LessEqual)
+        | (Token::More, Token::More)
+        | (Token::MoreEqual, Token::MoreEqual)
+        | (Token::Colon, Token::Colon)
+        | (Token::OpenBrace, Token::OpenBrace)
+        | (Token::CloseBrace, Token::CloseBrace)
         | (Token::Semicolon, Token::Semicolon) => true,
         _ => false,
     }
 }
 
-/// The rest after these words and signs, if the tokens begin with them. The recursion is as deep as they are many.
-pub fn after<'t, 'a>(wanted: &[Token], tokens: &'t [Token<'a>]) -> Option<&'t [Token<'a>]>
-    ensures { IsBehind (expect (map model_token wanted.now) (map model_token tokens.now)) result }
+/// The rest after this word or sign, if the text begins with it.
+pub fn after<'a>(wanted: &Token, text: &'a [u8]) -> Option<&'a [u8]>
+    ensures { IsBehind (after (model_token wanted.now) (tokens text.now)) result }
 {
-    let [first, others @ ..] = wanted else {
-        return Some(tokens);
-    };
-    match tokens {
-        [token, behind @ ..] if same_token(first, token) => after(others, behind),
+    match first(text) {
+        Some((token, behind)) if same_token(wanted, &token) => Some(behind),
         _ => None,
     }
 }
 
-/// The rest after these words and signs, with which the tokens have to begin.
-pub fn expect<'t, 'a>(
-    wanted: &[Token],
-    tokens: &'t [Token<'a>],
-) -> Result<&'t [Token<'a>], ParseFault>
-    ensures { FindsBehind (expect (map model_token wanted.now) (map model_token tokens.now)) result }
+/// The rest after these words and signs, with which the text has to begin. The recursion is as deep as they are many.
+pub fn expect<'a>(wanted: &[Token], text: &'a [u8]) -> Result<&'a [u8], Halt>
+    ensures { FindsBehind (read (these (map model_token wanted.now)) (tokens text.now)) result }
 {
-    after(wanted, tokens).ok_or(ParseFault::Syntax)
+    let [next, others @ ..] = wanted else {
+        return Ok(text);
+    };
+    match after(next, text) {
+        Some(behind) => expect(others, behind),
+        None => Err(stuck(text)),
+    }
 }
 
 /// name
-pub fn read_name<'t, 'a>(
-    alloc: Global,
-    tokens: &'t [Token<'a>],
-) -> Result<(Name, &'t [Token<'a>]), ParseFault>
-    ensures { FindsRead (read_name (map model_token tokens.now)) result }
+pub fn read_name<'a>(alloc: Global, text: &'a [u8]) -> Result<(Name, &'a [u8]), Halt>
+    ensures { Finds (read name (tokens text.now)) result }
 {
-    match tokens {
-        [token, behind @ ..] => Ok((name_of(alloc, token)?, behind)),
-        [] => Err(ParseFault::Syntax),
+    let Some((token, behind)) = first(text) else {
+        return Err(Halt::Stuck(0));
+    };
+    match name_of(alloc, &token)? {
+        Some(name) => Ok((name, behind)),
+        None => Err(stuck(text)),
+    }
+}
+
+/// string
+pub fn read_string<'a>(alloc: Global, text: &'a [u8]) -> Result<(Text, &'a [u8]), Halt>
+    ensures { Finds (read string (tokens text.now)) result }
+{
+    let Some((token, behind)) = first(text) else {
+        return Err(Halt::Stuck(0));
+    };
+    match string_of(alloc, &token)? {
+        Some(string) => Ok((string, behind)),
+        None => Err(stuck(text)),
     }
 }
 
 /// literal
-pub fn read_literal<'t, 'a>(
-    alloc: Global,
-    tokens: &'t [Token<'a>],
-) -> Result<(Literal, &'t [Token<'a>]), ParseFault>
-    ensures { FindsRead (read_literal (map model_token tokens.now)) result }
+pub fn read_literal<'a>(alloc: Global, text: &'a [u8]) -> Result<(Literal, &'a [u8]), Halt>
+    ensures { Finds (read literal (tokens text.now)) result }
 {
-    match tokens {
-        [token, behind @ ..] => Ok((literal_of(alloc, token)?, behind)),
-        [] => Err(ParseFault::Syntax),
+    let Some((token, behind)) = first(text) else {
+        return Err(Halt::Stuck(0));
+    };
+    match literal_of(alloc, &token)? {
+        Some(literal) => Ok((literal, behind)),
+        None => Err(stuck(text)),
     }
 }
 
 /// integer
-pub fn read_number<'t, 'a>(tokens: &'t [Token<'a>]) -> Result<(Number, &'t [Token<'a>]), ParseFault>
-    ensures { FindsRead (read_one number_of (map model_token tokens.now)) result }
+pub fn read_number<'a>(text: &'a [u8]) -> Result<(Number, &'a [u8]), Halt>
+    ensures { Finds (read number (tokens text.now)) result }
 {
-    match tokens {
-        [token, behind @ ..] => Ok((number_of(token)?, behind)),
-        [] => Err(ParseFault::Syntax),
+    let Some((token, behind)) = first(text) else {
+        return Err(Halt::Stuck(0));
+    };
+    match number_of(&token) {
+        Some(number) => Ok((number, behind)),
+        None => Err(stuck(text)),
+    }
+}
+
+/// = | < | <= | > | >=
+pub fn read_test<'a>(text: &'a [u8]) -> Result<(Test, &'a [u8]), Halt>
+    ensures { Finds (read (One test_of) (tokens text.now)) result }
+{
+    let Some((token, behind)) = first(text) else {
+        return Err(Halt::Stuck(0));
+    };
+    match test_of(&token) {
+        Some(test) => Ok((test, behind)),
+        None => Err(stuck(text)),
     }
 }
 
 /// type
-pub fn read_type<'t, 'a>(
-    tokens: &'t [Token<'a>],
-) -> Result<(ColumnType, &'t [Token<'a>]), ParseFault>
-    ensures { FindsRead (read_one type_of (map model_token tokens.now)) result }
+pub fn read_type<'a>(text: &'a [u8]) -> Result<(ColumnType, &'a [u8]), Halt>
+    ensures { Finds (read type (tokens text.now)) result }
 {
-    match tokens {
-        [token, behind @ ..] => Ok((type_of(token)?, behind)),
-        [] => Err(ParseFault::Syntax),
+    let Some((token, behind)) = first(text) else {
+        return Err(Halt::Stuck(0));
+    };
+    match type_of(&token) {
+        Some(kind) => Ok((kind, behind)),
+        None => Err(stuck(text)),
     }
 }

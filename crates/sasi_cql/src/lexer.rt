@@ -1,14 +1,15 @@
-// From the bytes of a text to its tokens.
-ghost use Rattle.std.specs.Prelude.{◌≡◌, ◌≤◌, ◌∷◌, length, map, false, Some, IfOk};
-ghost use Rattle.sasi_model.specs.Tokens.{lexeme, name_lexeme, other_lexeme, quoted_text, sign, string_lexeme, tokens, uuid_in_front, word_lexeme, word_on};
-ghost use Rattle.sasi_cql.specs.ModelTokens.{IsLexeme, model_token, quoted_size};
+// From the bytes of a text to its first token.
+ghost use Rattle.std.specs.Prelude.{◌≡◌, ◌≤◌, ◌∷◌, length, true, false, Some};
+ghost use Rattle.sasi_model.specs.Pieces.{closes};
+ghost use Rattle.sasi_model.specs.Abbreviations.{behind_first};
+ghost use Rattle.sasi_model.specs.Tokens.{lexeme, name_lexeme, other_lexeme, quoted_text, sign, sign_lexeme, string_lexeme, uuid_in_front, word_lexeme, word_on};
+ghost use Rattle.sasi_cql.specs.ModelTokens.{IsLexeme, IsNext, model_token, quoted_size, StaysUnclosed};
 
 use crate::byte::{is_digit, is_letter, is_word_byte, starts, starts_digit, starts_word};
 use crate::integer::{negative_integer, positive_integer};
 use crate::quoted::string_size;
-use crate::separator::separator;
+use crate::separator::skip_separators;
 use crate::token::Token;
-use std::alloc::{AllocError, Global};
 use uuid::Uuid;
 
 // The length of a uuid in a text.
@@ -17,7 +18,7 @@ const UUID_SIZE: usize = 36;
 // The most bytes that a name has.
 const NAME_LIMIT: usize = 48;
 
-fn sign(byte: u8) -> Token<'static>
+fn short_sign(byte: u8) -> Token<'static>
     ensures { model_token result ≡ sign byte }
 {
     match byte {
@@ -26,8 +27,26 @@ fn sign(byte: u8) -> Token<'static>
         b',' => Token::Comma,
         b'*' => Token::Star,
         b'=' => Token::Equal,
+        b'<' => Token::Less,
+        b'>' => Token::More,
+        b':' => Token::Colon,
+        b'{' => Token::OpenBrace,
+        b'}' => Token::CloseBrace,
         b';' => Token::Semicolon,
         _ => Token::Unknown,
+    }
+}
+
+// The sign that begins with a byte, or the token of a byte that begins none.
+fn sign<'a>(first: u8, behind: &'a [u8]) -> (Token<'a>, &'a [u8])
+    ensures { IsLexeme (sign_lexeme first behind.now) behind.now result.0 result.1.now }
+{
+    if first == b'<' && starts(b'=', behind) {
+        (Token::LessEqual, behind.split_at(1).1)
+    } else if first == b'>' && starts(b'=', behind) {
+        (Token::MoreEqual, behind.split_at(1).1)
+    } else {
+        (short_sign(first), behind)
     }
 }
 
@@ -119,7 +138,7 @@ fn other_token<'a>(first: u8, bytes: &'a [u8], behind: &'a [u8]) -> (Token<'a>, 
     } else if first == b'"' {
         quoted_name(behind)
     } else {
-        (sign(first), behind)
+        sign(first, behind)
     }
 }
 
@@ -138,21 +157,15 @@ fn first_token<'a>(first: u8, bytes: &'a [u8], behind: &'a [u8]) -> (Token<'a>, 
     }
 }
 
-/// The tokens of a text.
-pub fn tokens_of<'a>(alloc: Global, text: &'a [u8]) -> Result<Vec<Token<'a>>, AllocError>
-    ensures { IfOk result (λ found. map model_token found.items ≡ tokens text.now) }
+/// The first token of a text, if it has one, and the rest after it. `unclosed` says that there is no further `*/`.
+pub fn next_token<'a>(text: &'a [u8], unclosed: &mut bool) -> Option<(Token<'a>, &'a [u8])>
+    requires { unclosed.old ≡ true → closes (behind_first text.now) ≡ false }
+    ensures next { IsNext text.now result }
+    ensures kept { StaysUnclosed unclosed.new result }
 {
-    let mut found = Vec::new(alloc);
-    let mut left = text;
-    let mut unclosed = false;
-    'tokens: while let Some((first, behind)) = left.split_first() {
-        if let Some(rest) = separator(*first, behind, &mut unclosed) {
-            left = rest;
-        } else {
-            let (token, rest) = first_token(*first, left, behind);
-            found.push(token)?;
-            left = rest;
-        }
+    let left = skip_separators(text, unclosed);
+    match left.split_first() {
+        Some((first, behind)) => Some(first_token(*first, left, behind)),
+        None => None,
     }
-    Ok(found)
 }

@@ -1,11 +1,13 @@
-//! The reading of scripts: a splitter cuts their bytes into pieces, and a parser finds the statement of a piece. It promises
-//! exactly the pieces and statements of the model.
+//! The reading of scripts: a splitter cuts their bytes into pieces, and a parser finds the statement of a piece, or the place
+//! at which it is none. It promises exactly the pieces, statements and places of the model.
 #![tactic(auto)]
 
 mod byte;
 mod fault;
 mod front;
 mod grammar;
+mod halt;
+mod index;
 mod integer;
 mod item;
 mod lexer;
@@ -14,14 +16,20 @@ mod literal;
 mod mode;
 mod parser;
 mod part;
+mod place;
 mod quoted;
+mod select;
 mod separator;
 mod splitter;
 mod stage;
+mod statement;
+mod table;
+mod task;
 mod token;
 mod word;
+mod write;
 
 pub use fault::ParseFault;
-pub use grammar::statement_is_read;
+pub use grammar::grammar_is_parsed;
 pub use parser::parse;
 pub use splitter::Splitter;

@@ -1,86 +1,97 @@
-// The lists of a statement: items with commas between them.
-ghost use Rattle.std.specs.Prelude.{◌≡◌, ◌∷◌, [], is_some, map, Some, true};
-ghost use Rattle.sasi_model.specs.Tokens.{Comma};
-ghost use Rattle.sasi_model.specs.Statements.{expect, read_equation, read_list, read_literal, read_name};
-ghost use Rattle.sasi_cql.specs.Finds.{FindsRead};
+// The lists of a statement: items with a word or a sign between them.
+ghost use Rattle.std.specs.Prelude.{◌≡◌, ◌||◌, ◌++◌, ◌∷◌, [], Bool, false, OnOk};
+ghost use Rattle.sasi_model.specs.Tokens.{tokens};
+ghost use Rattle.sasi_model.specs.Forms.{Form, Many};
+ghost use Rattle.sasi_model.specs.FormReader.{read};
+ghost use Rattle.sasi_cql.specs.Finds.{Finds};
 ghost use Rattle.sasi_cql.specs.ModelTokens.{model_token};
 
-use crate::fault::ParseFault;
-use crate::front::{read_literal, read_name};
-use crate::part::read_equation;
+use crate::front::after;
+use crate::halt::Halt;
 use crate::token::Token;
-use sasi_types::{Literals, Names, Sets};
-use std::alloc::Global;
+use std::alloc::{AllocError, Global};
+use std::marker::Model;
 
-/// The first token is a `,`.
-pub fn has_comma(tokens: &[Token]) -> bool
-    ensures { result ≡ is_some (expect (Comma ∷ []) (map model_token tokens.now)) }
-{
-    matches!(tokens, [Token::Comma, ..])
+/// What a list is made of.
+pub trait Item: Sized + Drop {
+    // How it is spelled, by whether an item that marks came before it.
+    ghost form: { Bool → Form Self };
+
+    // It marks the items after it.
+    ghost marks: { Self → Bool };
+
+    /// Reads the item that the text begins with.
+    fn read<'a>(alloc: Global, marked: bool, text: &'a [u8]) -> Result<(Self, &'a [u8]), Halt>
+        ensures { Finds (read (form marked) (tokens text.now)) result };
+
+    /// It marks the items after it.
+    fn marks(&self) -> bool
+        ensures { result ≡ marks self.now };
 }
 
-/// The rest after the `,`. A loop that goes on there needs this call: with an assignment from a pattern it gets no proof.
-pub fn behind_comma<'t, 'a>(tokens: &'t [Token<'a>]) -> &'t [Token<'a>]
-    requires { is_some (expect (Comma ∷ []) (map model_token tokens.now)) ≡ true }
-    ensures { expect (Comma ∷ []) (map model_token tokens.now) ≡ Some (map model_token result.now) }
-{
-    let (_, behind) = tokens.split_at(1);
-    behind
+/// Items in the order in which they are read.
+#[derive(Drop)]
+pub struct Items<T> {
+    items: Vec<T>,
 }
 
-/// name {, name}
-pub fn read_names<'t, 'a>(
-    alloc: Global,
-    tokens: &'t [Token<'a>],
-) -> Result<(Names, &'t [Token<'a>]), ParseFault>
-    ensures { FindsRead (read_list read_name (map model_token tokens.now)) result }
-{
-    let mut names = Names::new(alloc);
-    let mut left = tokens;
-    'names: loop {
-        let (name, behind) = read_name(alloc, left)?;
-        names.push(name)?;
-        if !has_comma(behind) {
-            return Ok((names, behind));
+impl<T> Model for Items<T> {
+    ghost use Rattle.std.specs.Prelude.{List};
+
+    ghost Value = { List T };
+
+    ghost view = { λ a. a.items.items };
+}
+
+impl<T: Drop> Items<T> {
+    fn new(alloc: Global) -> Items<T>
+        ensures { result ≡ [] }
+    {
+        Items {
+            items: Vec::new(alloc),
         }
-        left = behind_comma(behind);
+    }
+
+    fn push(&mut self, item: T) -> Result<(), AllocError>
+        ensures { OnOk result (self.new ≡ self.old ++ item ∷ []) }
+    {
+        self.items.push(item)?;
+        Ok(())
+    }
+
+    /// The items, in order.
+    pub fn into_vec(self) -> Vec<T>
+        ensures { result.items ≡ self }
+    {
+        self.items
     }
 }
 
-/// literal {, literal}
-pub fn read_literals<'t, 'a>(
-    alloc: Global,
-    tokens: &'t [Token<'a>],
-) -> Result<(Literals, &'t [Token<'a>]), ParseFault>
-    ensures { FindsRead (read_list read_literal (map model_token tokens.now)) result }
+fn either(one: bool, other: bool) -> bool
+    ensures { result ≡ (one || other) }
 {
-    let mut literals = Literals::new(alloc);
-    let mut left = tokens;
-    'literals: loop {
-        let (literal, behind) = read_literal(alloc, left)?;
-        literals.push(literal)?;
-        if !has_comma(behind) {
-            return Ok((literals, behind));
-        }
-        left = behind_comma(behind);
-    }
+    one || other
 }
 
-/// name = literal {, name = literal}
-pub fn read_sets<'t, 'a>(
+/// Items with this token between them, and one at least.
+pub fn read_list<'a, T: Item>(
     alloc: Global,
-    tokens: &'t [Token<'a>],
-) -> Result<(Sets, &'t [Token<'a>]), ParseFault>
-    ensures { FindsRead (read_list read_equation (map model_token tokens.now)) result }
+    between: &Token,
+    text: &'a [u8],
+) -> Result<(Items<T>, &'a [u8]), Halt>
+    ensures { Finds (read (Many (model_token between.now) T.marks T.form false) (tokens text.now)) result }
 {
-    let mut sets = Sets::new(alloc);
-    let mut left = tokens;
-    'sets: loop {
-        let ((column, value), behind) = read_equation(alloc, left)?;
-        sets.push(column, value)?;
-        if !has_comma(behind) {
-            return Ok((sets, behind));
-        }
-        left = behind_comma(behind);
+    let mut items = Items::new(alloc);
+    let mut left = text;
+    let mut marked = false;
+    'items: loop {
+        let (item, behind) = T::read(alloc, marked, left)?;
+        let next = either(marked, item.marks());
+        items.push(item)?;
+        let Some(rest) = after(between, behind) else {
+            return Ok((items, behind));
+        };
+        left = rest;
+        marked = next;
     }
 }

@@ -1,50 +1,61 @@
 // The small parts of statements.
-ghost use Rattle.std.specs.Prelude.{map};
-ghost use Rattle.sasi_model.specs.Statements.{read_equation, read_time, read_where};
-ghost use Rattle.sasi_cql.specs.Finds.{FindsRead};
-ghost use Rattle.sasi_cql.specs.ModelTokens.{model_token};
+ghost use Rattle.sasi_model.specs.Tokens.{tokens};
+ghost use Rattle.sasi_model.specs.FormReader.{read};
+ghost use Rattle.sasi_model.specs.Statements.{equation, index_named, key_given, names, time};
+ghost use Rattle.sasi_cql.specs.Finds.{Finds};
 
-use crate::fault::ParseFault;
 use crate::front::{after, expect, read_literal, read_name, read_number};
+use crate::halt::Halt;
+use crate::list::{Items, read_list};
 use crate::token::Token;
-use sasi_types::{Literal, Name, Number};
+use sasi_types::{Literal, Name, Names, Number};
 use std::alloc::Global;
 
-/// [USING TIMESTAMP integer]
-pub fn read_time<'t, 'a>(
-    tokens: &'t [Token<'a>],
-) -> Result<(Option<Number>, &'t [Token<'a>]), ParseFault>
-    ensures { FindsRead (read_time (map model_token tokens.now)) result }
+/// name {, name}
+pub fn read_names<'a>(alloc: Global, text: &'a [u8]) -> Result<(Names, &'a [u8]), Halt>
+    ensures { Finds (read names (tokens text.now)) result }
 {
-    let Some(behind) = after(&[Token::Word(b"using"), Token::Word(b"timestamp")], tokens) else {
-        return Ok((None, tokens));
+    let (names, behind): (Items<Name>, _) = read_list(alloc, &Token::Comma, text)?;
+    Ok((Names::from_vec(names.into_vec()), behind))
+}
+
+/// [USING TIMESTAMP integer]
+pub fn read_time<'a>(text: &'a [u8]) -> Result<(Option<Number>, &'a [u8]), Halt>
+    ensures { Finds (read time (tokens text.now)) result }
+{
+    let Some(behind) = after(&Token::Word(b"using"), text) else {
+        return Ok((None, text));
     };
+    let behind = expect(&[Token::Word(b"timestamp")], behind)?;
     let (number, behind) = read_number(behind)?;
     Ok((Some(number), behind))
 }
 
 /// name = literal
-pub fn read_equation<'t, 'a>(
-    alloc: Global,
-    tokens: &'t [Token<'a>],
-) -> Result<((Name, Literal), &'t [Token<'a>]), ParseFault>
-    ensures { FindsRead (read_equation (map model_token tokens.now)) result }
+pub fn read_equation<'a>(alloc: Global, text: &'a [u8]) -> Result<((Name, Literal), &'a [u8]), Halt>
+    ensures { Finds (read equation (tokens text.now)) result }
 {
-    let (column, behind) = read_name(alloc, tokens)?;
+    let (column, behind) = read_name(alloc, text)?;
     let behind = expect(&[Token::Equal], behind)?;
     let (value, behind) = read_literal(alloc, behind)?;
     Ok(((column, value), behind))
 }
 
-/// WHERE name = literal ;
-pub fn read_where<'t, 'a>(
+/// WHERE name = literal
+pub fn read_key_given<'a>(
     alloc: Global,
-    tokens: &'t [Token<'a>],
-) -> Result<((Name, Literal), &'t [Token<'a>]), ParseFault>
-    ensures { FindsRead (read_where (map model_token tokens.now)) result }
+    text: &'a [u8],
+) -> Result<((Name, Literal), &'a [u8]), Halt>
+    ensures { Finds (read key_given (tokens text.now)) result }
 {
-    let behind = expect(&[Token::Word(b"where")], tokens)?;
-    let (key, behind) = read_equation(alloc, behind)?;
-    let behind = expect(&[Token::Semicolon], behind)?;
-    Ok((key, behind))
+    let behind = expect(&[Token::Word(b"where")], text)?;
+    read_equation(alloc, behind)
+}
+
+/// INDEX name
+pub fn read_index_named<'a>(alloc: Global, text: &'a [u8]) -> Result<(Name, &'a [u8]), Halt>
+    ensures { Finds (read index_named (tokens text.now)) result }
+{
+    let behind = expect(&[Token::Word(b"index")], text)?;
+    read_name(alloc, behind)
 }

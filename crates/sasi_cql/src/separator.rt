@@ -3,7 +3,7 @@ ghost use Rattle.std.specs.Prelude.{◌≡◌, ◌&&◌, ◌||◌, drop, true, f
 ghost use Rattle.sasi_model.specs.Pieces.{closes, is_block, is_line, is_space, opened_by, to_byte, to_close};
 ghost use Rattle.sasi_model.specs.Abbreviations.{behind_first};
 ghost use Rattle.sasi_model.specs.Tokens.{is_separator};
-ghost use Rattle.sasi_cql.specs.ModelTokens.{SkipsIf};
+ghost use Rattle.sasi_cql.specs.ModelTokens.{Skips, SkipsIf};
 
 use crate::byte::{is_space, starts};
 
@@ -77,9 +77,9 @@ fn block<'a>(first: u8, behind: &'a [u8], unclosed: &mut bool) -> Option<&'a [u8
     rest
 }
 
-/// The rest after a space or a comment, if the bytes begin with one. `unclosed` says that there is no further `*/`.
+// The rest after a space or a comment, if the bytes begin with one. `unclosed` says that there is no further `*/`.
 #[tactic(auto, unfolding(sasi_model::specs::Tokens::is_separator))]
-pub fn separator<'a>(first: u8, behind: &'a [u8], unclosed: &mut bool) -> Option<&'a [u8]>
+fn separator<'a>(first: u8, behind: &'a [u8], unclosed: &mut bool) -> Option<&'a [u8]>
     requires { unclosed.old ≡ true → closes behind.now ≡ false }
     ensures found { SkipsIf (is_separator first behind.now) (opened_by first behind.now) behind.now result }
     ensures kept { unclosed.new ≡ true → closes (behind_first behind.now) ≡ false }
@@ -88,4 +88,20 @@ pub fn separator<'a>(first: u8, behind: &'a [u8], unclosed: &mut bool) -> Option
         return Some(rest);
     }
     block(first, behind, unclosed)
+}
+
+/// The rest after the spaces and comments that a text begins with. `unclosed` says that there is no further `*/`.
+pub fn skip_separators<'a>(text: &'a [u8], unclosed: &mut bool) -> &'a [u8]
+    requires { unclosed.old ≡ true → closes (behind_first text.now) ≡ false }
+    ensures skips { Skips text.now result.now }
+    ensures kept { unclosed.new ≡ true → closes (behind_first (behind_first result.now)) ≡ false }
+{
+    let mut left = text;
+    'separators: while let Some((first, behind)) = left.split_first() {
+        let Some(rest) = separator(*first, behind, unclosed) else {
+            return left;
+        };
+        left = rest;
+    }
+    left
 }

@@ -17,6 +17,13 @@ pub enum Token<'a> {
     Comma,
     Star,
     Equal,
+    Less,
+    LessEqual,
+    More,
+    MoreEqual,
+    Colon,
+    OpenBrace,
+    CloseBrace,
     Semicolon,
     /// A byte that begins no token.
     Unknown,

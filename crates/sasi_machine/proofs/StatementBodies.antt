@@ -4,7 +4,7 @@ use Rattle.std.specs.Cmp.{nat_cmp_total}
 use Rattle.std.specs.FinMap as fin
 use Rattle.sasi_types.specs.declared.literal.Number.{Number}
 use Rattle.sasi_types.specs.declared.statement.Statement.{Statement}
-use Rattle.sasi_types.specs.declared.statement.Statement.TheVariants.{CreateTable, Insert, Update, Delete, Query}
+use Rattle.sasi_types.specs.declared.statement.Statement.TheVariants.{Insert, Update, Delete}
 use Rattle.sasi_machine.specs.declared.relation.KeyRelation.{KeyRelation}
 use Rattle.sasi_machine.specs.Checks.{given_key_rules, given_rules, kind_rules, length_rules, missing_rule, other_key_rule, range_rules, where_rules}
 use Rattle.sasi_machine.specs.Writes.{IsWriting, change_in, key_in}
@@ -132,20 +132,18 @@ delete_fits d g table (column ∷ others) relation time t at few above limit key
 
 -- the rules of a write of this table
 abbrev pub write_rules : ℕ → Statement → Definition → List Rule
-write_rules g (CreateTable table columns keys) d = []
 write_rules g (Insert table columns values time) d = insert_rules g table columns (zip columns values) time (Some d)
 write_rules g (Update table time sets key value) d = update_rules g table sets key value time (Some d)
 write_rules g (Delete table columns time key value) d = delete_rules g table columns key value time (Some d)
-write_rules g (Query select) d = []
+write_rules g statement d = []
 
 -- what a write holds
 pub change_fits : (d : Definition) (g : ℕ) (statement : Statement) (t : ℕ) → IsWriting statement → IsWellFormed statement
     → IsKeyAt d.key d.columns → length d.columns ≤ 64 → 0 < t → t ≤ TIME_LIMIT → first_of (write_rules g statement d) ≡ None
     → IsBodyOf (types_of d) (stored_of (value_given (key_type d) (key_in d statement))) (change_in d t statement)
-change_fits d g (CreateTable table columns keys) t writing written at few above limit none = absurd writing
 change_fits d g (Insert table columns values time) t writing written at few above limit none = insert_fits d g table columns values time t at few above limit written.2 none
 change_fits d g (Update table time sets key value) t writing written at few above limit none =
     update_fits d g table sets (record { column = key; value = value }) time t at few above limit written.1 written.2.1 written.3 none
 change_fits d g (Delete table columns time key value) t writing written at few above limit none =
     delete_fits d g table columns (record { column = key; value = value }) time t at few above limit written.2.1 none
-change_fits d g (Query select) t writing written at few above limit none = absurd writing
+change_fits d g statement t writing written at few above limit none = absurd writing

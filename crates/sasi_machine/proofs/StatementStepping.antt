@@ -140,18 +140,16 @@ written_table p d g statement t w c writing at accepted time key change =
 
 writes_table : (s : State) (statement : Statement) → IsWriting statement → tables_after s statement ≡ with_table (table_named statement) (change_of s.partitioner (max_timestamp s) statement) s.tables
 unfolding change_of
-writes_table s (CreateTable table columns keys) is = absurd is
 writes_table s (Insert table columns values time) is = refl
 writes_table s (Update table time sets key value) is = refl
 writes_table s (Delete table columns time key value) is = refl
-writes_table s (Query select) is = absurd is
+writes_table s statement is = absurd is
 
 pub answers_ok : (s : State) (statement : Statement) → IsWriting statement → answer_of s statement ≡ ok_line
-answers_ok s (CreateTable table columns keys) is = absurd is
 answers_ok s (Insert table columns values time) is = refl
 answers_ok s (Update table time sets key value) is = refl
 answers_ok s (Delete table columns time key value) is = refl
-answers_ok s (Query select) is = absurd is
+answers_ok s statement is = absurd is
 
 pub max_timestamp_kept : (p : Partitioner) (ds : List Definition) (cs : List MemtableView) (g : ℕ) → IsMachineState ds cs g → max_timestamp (state_of p ds cs) ≡ g
 unfolding max_timestamp

@@ -8,7 +8,7 @@ use Rattle.sasi_types.specs.declared.literal.Literal.TheVariants.{Null}
 use Rattle.sasi_types.specs.declared.cell.Cell.{Cell}
 use Rattle.sasi_types.specs.declared.literal.Literal.{Literal}
 use Rattle.sasi_types.specs.declared.statement.Statement.{Statement}
-use Rattle.sasi_types.specs.declared.statement.Statement.TheVariants.{CreateTable, Insert, Update, Delete, Query}
+use Rattle.sasi_types.specs.declared.statement.Statement.TheVariants.{Insert, Update, Delete}
 use Rattle.sasi_cells.proofs.Laws.Times.{values_below}
 use Rattle.sasi_model.specs.Cells.{Cells, empty_partition, max_timestamp_of}
 use Rattle.sasi_model.specs.State.{Definition, number_of_column}
@@ -49,7 +49,6 @@ empty_time = omega (arith, values_below 0 fin.empty (none_within 0))
 
 -- no write is later than its time
 pub change_within : (d : Definition) (t : ℕ) (statement : Statement) → max_timestamp_of (change_in d t statement) ≤ t
-change_within d t (CreateTable table columns keys) = omega (arith, values_below t fin.empty (none_within t))
 change_within d t (Insert table columns values time) =
     let cells = cells_set d t (zip columns values) in
     let soon : (marker t).time ≤ t = omega arith in
@@ -59,4 +58,4 @@ change_within d t (Delete table [] time key value) = omega (arith, values_below 
 change_within d t (Delete table (column ∷ columns) time key value) =
     let sets : List (List ℕ × Literal) = map (λ name. (name, Null)) (column ∷ columns) in
     omega (arith, values_below t (cells_set d t sets) (cells_within d t sets))
-change_within d t (Query select) = omega (arith, values_below t fin.empty (none_within t))
+change_within d t statement = omega (arith, values_below t fin.empty (none_within t))

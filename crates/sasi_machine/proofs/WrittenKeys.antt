@@ -7,7 +7,7 @@ use Rattle.sasi_types.specs.declared.literal.Literal.{Literal}
 use Rattle.sasi_types.specs.declared.literal.Literal.TheVariants.{Null}
 use Rattle.sasi_types.specs.declared.partitioner.Partitioner.{Partitioner}
 use Rattle.sasi_types.specs.declared.statement.Statement.{Statement}
-use Rattle.sasi_types.specs.declared.statement.Statement.TheVariants.{CreateTable, Insert, Update, Delete, Query}
+use Rattle.sasi_types.specs.declared.statement.Statement.TheVariants.{Insert, Update, Delete}
 use Rattle.sasi_types.specs.declared.value.Value.{Value}
 use Rattle.sasi_types.specs.Value.{stored}
 use Rattle.sasi_model.specs.State.{Column, Definition, decorated, definition_of}
@@ -28,15 +28,13 @@ use Rattle.sasi_machine.proofs.StatementBodies.{write_rules}
 -- the rules of the write are those of its table
 pub found_rules : (ds : List Definition) (g : ℕ) (statement : Statement) (d : Definition) → IsWriting statement → definition_of
     (table_named statement) ds ≡ Some d → first_of (rules ds g statement) ≡ None → first_of (write_rules g statement d) ≡ None
-found_rules ds g (CreateTable table columns keys) d writing found none = absurd writing
 found_rules ds g (Insert table columns values time) d writing found none = rw found at none
 found_rules ds g (Update table time sets key value) d writing found none = rw found at none
 found_rules ds g (Delete table columns time key value) d writing found none = rw found at none
-found_rules ds g (Query select) d writing found none = absurd writing
+found_rules ds g statement d writing found none = absurd writing
 
 pub key_in_accepted : (d : Definition) (g : ℕ) (statement : Statement) → IsWriting statement → IsKeyAt d.key d.columns → first_of
     (write_rules g statement d) ≡ None → IsKeyLiteral (key_type d) (key_in d statement)
-key_in_accepted d g (CreateTable table columns keys) writing at none = absurd writing
 key_in_accepted d g (Insert table columns values time) writing at none =
     let given = zip columns values in
     let known = subst (λ (rules : List Rule). first_of rules ≡ None) (insert_rules_are d g table columns given time at) none in
@@ -44,7 +42,7 @@ key_in_accepted d g (Insert table columns values time) writing at none =
     (insert_accepted d g given time at (none_parts (repeat_rules [] columns) (given_rules d g given time) named.1).1).key
 key_in_accepted d g (Update table time sets key value) writing at none = (update_accepted d g table sets (record { column = key; value = value }) time at none).key
 key_in_accepted d g (Delete table columns time key value) writing at none = (delete_accepted d g table columns (record { column = key; value = value }) time at none).key
-key_in_accepted d g (Query select) writing at none = absurd writing
+key_in_accepted d g statement writing at none = absurd writing
 
 -- ---- the literal
 
@@ -60,11 +58,10 @@ given_by type None is = let e = is.there in cc
 given_by type (Some literal) is = refl
 
 given_is : (d : Definition) (type : ColumnType) (statement : Statement) → IsWriting statement → IsKeyLiteral type (key_in d statement) → given_in d statement ≡ Some (key_in d statement)
-given_is d type (CreateTable table columns keys) writing is = absurd writing
 given_is d type (Insert table columns values time) writing is = given_by type (given_key d (zip columns values)) is
 given_is d type (Update table time sets key value) writing is = refl
 given_is d type (Delete table columns time key value) writing is = refl
-given_is d type (Query select) writing is = absurd writing
+given_is d type statement writing is = absurd writing
 
 -- ---- the decorated key
 

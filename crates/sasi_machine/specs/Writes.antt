@@ -1,11 +1,11 @@
 -- What an INSERT, an UPDATE or a DELETE writes: the key, and the change of its partition.
-use Rattle.std.specs.Prelude.{◌≡◌, ◌≤◌, ℕ, List, length, Option, None, Some, ⊤}
+use Rattle.std.specs.Prelude.{◌≡◌, ◌≤◌, ℕ, List, [], length, Option, None, Some, ⊤}
 use Rattle.std.specs.List.{zip}
 use Rattle.sasi_types.specs.declared.literal.Literal.{Literal}
 use Rattle.sasi_types.specs.declared.literal.Literal.TheVariants.{Null}
 use Rattle.sasi_types.specs.declared.literal.Number.{Number}
 use Rattle.sasi_types.specs.declared.statement.Statement.{Statement}
-use Rattle.sasi_types.specs.declared.statement.Statement.TheVariants.{CreateTable, Insert, Update, Delete, Query}
+use Rattle.sasi_types.specs.declared.statement.Statement.TheVariants.{Insert, Update, Delete}
 use Rattle.sasi_cells.specs.Rows.{IsStored}
 use Rattle.sasi_model.specs.Cells.{Partition, empty_partition}
 use Rattle.sasi_model.specs.State.{Definition, definition_of}
@@ -17,19 +17,17 @@ use Rattle.sasi_cells.specs.declared.mutation.Mutation.{Mutation}
 
 -- an INSERT, an UPDATE or a DELETE
 abbrev pub IsWriting : Statement → Type 0
-IsWriting (CreateTable table columns keys) = ⊥
 IsWriting (Insert table columns values time) = ⊤
 IsWriting (Update table time sets key value) = ⊤
 IsWriting (Delete table columns time key value) = ⊤
-IsWriting (Query select) = ⊥
+IsWriting statement = ⊥
 
--- the table that is written
+-- the table that is written; no name where none is
 abbrev pub table_named : Statement → List ℕ
-table_named (CreateTable table columns keys) = table
 table_named (Insert table columns values time) = table
 table_named (Update table time sets key value) = table
 table_named (Delete table columns time key value) = table
-table_named (Query select) = select.table
+table_named statement = []
 
 -- the time that is given
 abbrev pub time_in : Statement → Option Number

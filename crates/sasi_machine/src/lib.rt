@@ -4,6 +4,7 @@
 
 mod assign;
 mod builder;
+mod built;
 mod change;
 mod check;
 mod fault;

@@ -1,7 +1,8 @@
 // The preparing of pieces, before anything changes.
-ghost use Rattle.std.specs.Prelude.{◌≡◌, [], IfOk};
+ghost use Rattle.std.specs.Prelude.{◌≡◌, [], true, IfOk};
 ghost use Rattle.sasi_types.specs.declared.statement.Statement.TheVariants.{CreateTable, Query};
 ghost use Rattle.sasi_model.specs.Pieces.{piece_of};
+ghost use Rattle.sasi_model.specs.Refusals.{is_built};
 ghost use Rattle.sasi_machine.specs.Prepares.{StatementPrepares, Prepares};
 ghost use Rattle.sasi_machine.specs.StatementSteps.{StatementStepsTo};
 ghost use Rattle.sasi_machine.specs.Writes.{IsWriting};
@@ -39,12 +40,13 @@ impl Machine {
         }
     }
 
-    // Prepares a statement, or replies with its refusal.
+    // Prepares a statement that is built, or replies with its refusal.
     fn prepare_statement(
         &self,
         statement: Statement,
         reply: &mut Reply,
     ) -> Result<Prepared, AllocError>
+        requires { is_built statement ≡ true }
         ensures { IfOk result (λ prepared. StatementPrepares self.now statement reply.old reply.new prepared) }
     {
         match statement {

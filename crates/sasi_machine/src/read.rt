@@ -1,10 +1,13 @@
 // The parsing of pieces.
 ghost use Rattle.std.specs.Prelude.{◌≡◌, IfOk};
 ghost use Rattle.sasi_model.specs.Pieces.{Whole, piece_of};
-ghost use Rattle.sasi_model.specs.Refusals.{read};
+ghost use Rattle.sasi_model.specs.Parsers.{Parses};
+ghost use Rattle.sasi_model.specs.Refusals.{piece_parsed, read};
+ghost use Rattle.sasi_model.specs.WellFormed.{IsWellFormed};
 ghost use Rattle.sasi_machine.specs.ParsedPiece.{IsReadFrom, model_piece};
 
 use crate::Refusal;
+use crate::built::is_built;
 use sasi_cql::{ParseFault, parse};
 use sasi_types::{PieceEnd, Statement};
 use std::alloc::{AllocError, Global};
@@ -44,8 +47,20 @@ fn read_whole(alloc: Global, piece: &[u8]) -> Result<ParsedPiece, AllocError>
         Err(error) => return Ok(ParsedPiece::Bad(Refusal::NotUtf8(error.valid_up_to()))),
     };
     match parse(alloc, text) {
-        Ok(statement) => Ok(ParsedPiece::Says(statement)),
-        Err(ParseFault::Syntax) => Ok(ParsedPiece::Bad(Refusal::NotBuilt)),
+        Ok(statement) => Ok(built(statement)),
+        Err(ParseFault::Syntax { .. }) => Ok(ParsedPiece::Bad(Refusal::NotBuilt)),
         Err(ParseFault::OutOfMemory) => Err(AllocError),
+    }
+}
+
+// The statement, if it is built.
+fn built(statement: Statement) -> ParsedPiece
+    ensures reads { model_piece result ≡ piece_parsed (Parses statement) }
+    ensures written { IsWellFormed statement → IsReadFrom result }
+{
+    if is_built(&statement) {
+        ParsedPiece::Says(statement)
+    } else {
+        ParsedPiece::Bad(Refusal::NotBuilt)
     }
 }

@@ -61,8 +61,7 @@ pub fn statement_mutation(
             KeyRelation { column: key, value },
             time,
         ),
-        Statement::CreateTable { .. } => unreachable!(),
-        Statement::Query { .. } => unreachable!(),
+        _ => unreachable!(),
     }
 }
 

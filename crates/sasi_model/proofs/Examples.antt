@@ -1,13 +1,15 @@
 -- The definitions, computed on scripts and texts whose meaning is known.
-use Rattle.std.proofs.Common.{◌≡◌, pos, negsuc, [], ◌∷◌, codes, Some, None, refl}
+use Rattle.std.proofs.Common.{◌≡◌, pos, negsuc, true, false, [], ◌∷◌, codes, Some, None, refl}
 use Rattle.uuid.proofs.OnLiterals.{uuid_on_literals}
 use Rattle.sasi_types.specs.declared.column.ColumnType.TheVariants as types
 use Rattle.sasi_types.specs.declared.literal.Literal.TheVariants as literals
 use Rattle.sasi_types.specs.declared.literal.Number.TheVariants.{Fits, Wide}
-use Rattle.sasi_types.specs.declared.statement.Statement.TheVariants.{CreateTable, Insert, Update, Delete, Query}
+use Rattle.sasi_types.specs.declared.relation.Test.TheVariants as tests
+use Rattle.sasi_types.specs.declared.statement.Statement.TheVariants.{CreateTable, CreateIndex, Insert, Update, Delete, Query, OpenCursor, Fetch, StepIndex}
 use Rattle.sasi_model.specs.Pieces.{Whole, Unfinished, pieces}
-use Rattle.sasi_model.specs.Tokens.{Word, QuotedName, Quoted, Integer, Uuid, Open, Close, Comma, Star, Equal, Semicolon, Unknown, tokens, uuid_in_front, other_lexeme, lexeme, is_separator}
-use Rattle.sasi_model.specs.Statements.{read_up_to, create_of, insert_of, update_of, delete_of, query_of, statement_of}
+use Rattle.sasi_model.specs.Tokens.{Word, QuotedName, Quoted, Integer, Uuid, Open, Close, Comma, Star, Equal, Less, LessEqual, More, MoreEqual, Colon, OpenBrace, CloseBrace, Semicolon, Unknown, tokens, uuid_in_front, other_lexeme, lexeme, is_separator}
+use Rattle.sasi_model.specs.FormReader.{read_items}
+use Rattle.sasi_model.specs.Parsers.{Parses, FailsAt, grammar_parser}
 
 -- ---- pieces
 
@@ -33,7 +35,7 @@ quote_in_a_string : tokens (codes "Values('it''s' ,\n'' )=*") ≡ Word (codes "v
 unfolding is_separator lexeme uuid_in_front other_lexeme
 quote_in_a_string = refl
 
-no_such_token : tokens (codes "a_1 <;'b") ≡ Word (codes "a_1") ∷ Unknown ∷ Semicolon ∷ Unknown ∷ Word (codes "b") ∷ []
+no_such_token : tokens (codes "a_1 !;'b") ≡ Word (codes "a_1") ∷ Unknown ∷ Semicolon ∷ Unknown ∷ Word (codes "b") ∷ []
 unfolding is_separator lexeme uuid_in_front other_lexeme
 no_such_token = refl
 
@@ -61,66 +63,123 @@ uuids : tokens (codes "00010203-0405-0607-0809-0A0b0c0d0e0f,a0010203-0405-0607-0
 unfolding is_separator lexeme uuid_in_front other_lexeme uuid_on_literals
 uuids = refl
 
+signs : tokens (codes "<=< =>>={:}") ≡ LessEqual ∷ Less ∷ Equal ∷ More ∷ MoreEqual ∷ OpenBrace ∷ Colon ∷ CloseBrace ∷ []
+unfolding is_separator lexeme uuid_in_front other_lexeme
+signs = refl
+
 -- ---- statements
 
-a_create : statement_of (tokens (codes "CREATE TABLE t (k text PRIMARY KEY, a varchar, b Int, \"C\" bigint, d uuid);"))
-    ≡ Some (CreateTable (codes "t") ((codes "k", types.Text) ∷ (codes "a", types.Text) ∷ (codes "b", types.Int) ∷ (codes "C", types.BigInt) ∷ (codes "d", types.Uuid) ∷ []) (codes "k" ∷ []))
-unfolding statement_of create_of read_up_to is_separator lexeme uuid_in_front other_lexeme
+a_create : grammar_parser (codes "CREATE TABLE t (k text PRIMARY KEY, a varchar, b Int, \"C\" bigint, d uuid);")
+    ≡ Parses (CreateTable (codes "t") ((codes "k", types.Text) ∷ (codes "a", types.Text) ∷ (codes "b", types.Int) ∷ (codes "C", types.BigInt) ∷ (codes "d", types.Uuid) ∷ []) (codes "k" ∷ []))
+unfolding grammar_parser read_items is_separator lexeme uuid_in_front other_lexeme
 a_create = refl
 
-a_create_with_its_key_apart : statement_of (tokens (codes "create table \"T\" (a int, primary key (K), k uuid);"))
-    ≡ Some (CreateTable (codes "T") ((codes "a", types.Int) ∷ (codes "k", types.Uuid) ∷ []) (codes "k" ∷ []))
-unfolding statement_of create_of read_up_to is_separator lexeme uuid_in_front other_lexeme
+a_create_with_its_key_apart : grammar_parser (codes "create table \"T\" (a int, primary key (K), k uuid);")
+    ≡ Parses (CreateTable (codes "T") ((codes "a", types.Int) ∷ (codes "k", types.Uuid) ∷ []) (codes "k" ∷ []))
+unfolding grammar_parser read_items is_separator lexeme uuid_in_front other_lexeme
 a_create_with_its_key_apart = refl
 
-a_create_without_key : statement_of (tokens (codes "CREATE TABLE t (a int);")) ≡ Some (CreateTable (codes "t") ((codes "a", types.Int) ∷ []) [])
-unfolding statement_of create_of read_up_to is_separator lexeme uuid_in_front other_lexeme
+a_create_without_key : grammar_parser (codes "CREATE TABLE t (a int);") ≡ Parses (CreateTable (codes "t") ((codes "a", types.Int) ∷ []) [])
+unfolding grammar_parser read_items is_separator lexeme uuid_in_front other_lexeme
 a_create_without_key = refl
 
-two_keys : statement_of (tokens (codes "CREATE TABLE t (k text PRIMARY KEY, PRIMARY KEY (k));")) ≡ None
-unfolding statement_of create_of read_up_to is_separator lexeme uuid_in_front other_lexeme
+two_keys : grammar_parser (codes "CREATE TABLE t (k text PRIMARY KEY, PRIMARY KEY (k));") ≡ FailsAt 36
+unfolding grammar_parser read_items is_separator lexeme uuid_in_front other_lexeme
 two_keys = refl
 
-an_insert : statement_of (tokens (codes "insert into T (k, A, b, c) values ('k1', 'it''s', -5, NULL) -- now\n;"))
-    ≡ Some (Insert (codes "t") (codes "k" ∷ codes "a" ∷ codes "b" ∷ codes "c" ∷ []) (literals.Text (codes "k1") ∷ literals.Text (codes "it's") ∷ literals.Number (Fits (negsuc 4)) ∷ literals.Null ∷ []) None)
-unfolding statement_of insert_of read_up_to is_separator lexeme uuid_in_front other_lexeme
+an_insert : grammar_parser (codes "insert into T (k, A, b, c) values ('k1', 'it''s', -5, NULL) -- now\n;")
+    ≡ Parses (Insert (codes "t") (codes "k" ∷ codes "a" ∷ codes "b" ∷ codes "c" ∷ []) (literals.Text (codes "k1") ∷ literals.Text (codes "it's") ∷ literals.Number (Fits (negsuc 4)) ∷ literals.Null ∷ []) None)
+unfolding grammar_parser read_items is_separator lexeme uuid_in_front other_lexeme
 an_insert = refl
 
-an_insert_with_its_time : statement_of (tokens (codes "INSERT INTO t (k) VALUES (00000000-0000-0000-0000-0000000000FF) USING TIMESTAMP 7;"))
-    ≡ Some (Insert (codes "t") (codes "k" ∷ []) (literals.Uuid (0 ∷ 0 ∷ 0 ∷ 0 ∷ 0 ∷ 0 ∷ 0 ∷ 0 ∷ 0 ∷ 0 ∷ 0 ∷ 0 ∷ 0 ∷ 0 ∷ 0 ∷ 255 ∷ []) ∷ []) (Some (Fits (pos 7))))
-unfolding statement_of insert_of read_up_to is_separator lexeme uuid_in_front other_lexeme uuid_on_literals
+an_insert_with_its_time : grammar_parser (codes "INSERT INTO t (k) VALUES (00000000-0000-0000-0000-0000000000FF) USING TIMESTAMP 7;")
+    ≡ Parses (Insert (codes "t") (codes "k" ∷ []) (literals.Uuid (0 ∷ 0 ∷ 0 ∷ 0 ∷ 0 ∷ 0 ∷ 0 ∷ 0 ∷ 0 ∷ 0 ∷ 0 ∷ 0 ∷ 0 ∷ 0 ∷ 0 ∷ 255 ∷ []) ∷ []) (Some (Fits (pos 7))))
+unfolding grammar_parser read_items is_separator lexeme uuid_in_front other_lexeme uuid_on_literals
 an_insert_with_its_time = refl
 
-an_update : statement_of (tokens (codes "UPDATE t USING TIMESTAMP 9 SET a = 'x', b = null WHERE k = 1;"))
-    ≡ Some (Update (codes "t") (Some (Fits (pos 9))) ((codes "a", literals.Text (codes "x")) ∷ (codes "b", literals.Null) ∷ []) (codes "k") (literals.Number (Fits (pos 1))))
-unfolding statement_of update_of read_up_to is_separator lexeme uuid_in_front other_lexeme
+an_update : grammar_parser (codes "UPDATE t USING TIMESTAMP 9 SET a = 'x', b = null WHERE k = 1;")
+    ≡ Parses (Update (codes "t") (Some (Fits (pos 9))) ((codes "a", literals.Text (codes "x")) ∷ (codes "b", literals.Null) ∷ []) (codes "k") (literals.Number (Fits (pos 1))))
+unfolding grammar_parser read_items is_separator lexeme uuid_in_front other_lexeme
 an_update = refl
 
-a_deletion : statement_of (tokens (codes "DELETE FROM t WHERE k = 'a';")) ≡ Some (Delete (codes "t") [] None (codes "k") (literals.Text (codes "a")))
-unfolding statement_of delete_of read_up_to is_separator lexeme uuid_in_front other_lexeme
+a_deletion : grammar_parser (codes "DELETE FROM t WHERE k = 'a';") ≡ Parses (Delete (codes "t") [] None (codes "k") (literals.Text (codes "a")))
+unfolding grammar_parser read_items is_separator lexeme uuid_in_front other_lexeme
 a_deletion = refl
 
-a_deletion_of_columns : statement_of (tokens (codes "DELETE a, \"from\" FROM t USING TIMESTAMP 3 WHERE k = 'a';"))
-    ≡ Some (Delete (codes "t") (codes "a" ∷ codes "from" ∷ []) (Some (Fits (pos 3))) (codes "k") (literals.Text (codes "a")))
-unfolding statement_of delete_of read_up_to is_separator lexeme uuid_in_front other_lexeme
+a_deletion_of_columns : grammar_parser (codes "DELETE a, \"from\" FROM t USING TIMESTAMP 3 WHERE k = 'a';")
+    ≡ Parses (Delete (codes "t") (codes "a" ∷ codes "from" ∷ []) (Some (Fits (pos 3))) (codes "k") (literals.Text (codes "a")))
+unfolding grammar_parser read_items is_separator lexeme uuid_in_front other_lexeme
 a_deletion_of_columns = refl
 
-a_query : statement_of (tokens (codes "SELECT * FROM t;")) ≡ Some (Query (record { columns = None; table = codes "t" }))
-unfolding statement_of query_of read_up_to is_separator lexeme uuid_in_front other_lexeme
+a_query : grammar_parser (codes "SELECT * FROM t;") ≡ Parses (Query (record { columns = None; table = codes "t"; relations = []; limit = None; filtering = false }))
+unfolding grammar_parser read_items is_separator lexeme uuid_in_front other_lexeme
 a_query = refl
 
-a_query_of_columns : statement_of (tokens (codes "SELECT b, a FROM t;")) ≡ Some (Query (record { columns = Some (codes "b" ∷ codes "a" ∷ []); table = codes "t" }))
-unfolding statement_of query_of read_up_to is_separator lexeme uuid_in_front other_lexeme
+a_query_of_columns : grammar_parser (codes "SELECT b, a FROM t;") ≡ Parses (Query (record { columns = Some (codes "b" ∷ codes "a" ∷ []); table = codes "t"; relations = []; limit = None; filtering = false }))
+unfolding grammar_parser read_items is_separator lexeme uuid_in_front other_lexeme
 a_query_of_columns = refl
 
-too_few_values : statement_of (tokens (codes "INSERT INTO t (k, a) VALUES ('k1');")) ≡ None
-unfolding statement_of insert_of read_up_to is_separator lexeme uuid_in_front other_lexeme
+too_few_values : grammar_parser (codes "INSERT INTO t (k, a) VALUES ('k1');") ≡ FailsAt 33
+unfolding grammar_parser read_items is_separator lexeme uuid_in_front other_lexeme
 too_few_values = refl
 
-reserved_name : statement_of (tokens (codes "SELECT * FROM values;")) ≡ None
-unfolding statement_of query_of read_up_to is_separator lexeme uuid_in_front other_lexeme
+reserved_name : grammar_parser (codes "SELECT * FROM values;") ≡ FailsAt 14
+unfolding grammar_parser read_items is_separator lexeme uuid_in_front other_lexeme
 reserved_name = refl
 
-nothing_behind_the_end : statement_of (tokens (codes "SELECT * FROM t;;")) ≡ None
-unfolding statement_of query_of read_up_to is_separator lexeme uuid_in_front other_lexeme
+nothing_behind_the_end : grammar_parser (codes "SELECT * FROM t;;") ≡ FailsAt 16
+unfolding grammar_parser read_items is_separator lexeme uuid_in_front other_lexeme
 nothing_behind_the_end = refl
+
+a_query_with_all : grammar_parser (codes "SELECT * FROM t WHERE a >= 5 AND b LIKE 'x%' LIMIT 3 ALLOW FILTERING;")
+    ≡ Parses (Query (record {
+      columns = None;
+      table = codes "t";
+      relations = record { column = codes "a"; test = tests.Ge; value = literals.Number (Fits (pos 5)) } ∷ record { column = codes "b"; test = tests.Like; value = literals.Text (codes "x%") } ∷ [];
+      limit = Some (Fits (pos 3));
+      filtering = true;
+    }))
+unfolding grammar_parser read_items is_separator lexeme uuid_in_front other_lexeme
+a_query_with_all = refl
+
+an_index : grammar_parser (codes "CREATE CUSTOM INDEX ON t (a) USING 'c' WITH OPTIONS = {'m': 'x', 'm': 'y'};")
+    ≡ Parses (CreateIndex None (codes "t") (codes "a") (codes "c") ((codes "m", codes "x") ∷ (codes "m", codes "y") ∷ []) false)
+unfolding grammar_parser read_items is_separator lexeme uuid_in_front other_lexeme
+an_index = refl
+
+an_index_in_steps : grammar_parser (codes "BEGIN CREATE CUSTOM INDEX i ON t (a) USING 'c';") ≡ Parses (CreateIndex (Some (codes "i")) (codes "t") (codes "a") (codes "c") [] true)
+unfolding grammar_parser read_items is_separator lexeme uuid_in_front other_lexeme
+an_index_in_steps = refl
+
+a_cursor : grammar_parser (codes "OPEN c AS SELECT a FROM t;")
+    ≡ Parses (OpenCursor (codes "c") (record { columns = Some (codes "a" ∷ []); table = codes "t"; relations = []; limit = None; filtering = false }))
+unfolding grammar_parser read_items is_separator lexeme uuid_in_front other_lexeme
+a_cursor = refl
+
+some_rows : grammar_parser (codes "FETCH 2 FROM c;") ≡ Parses (Fetch (codes "c") (Fits (pos 2)))
+unfolding grammar_parser read_items is_separator lexeme uuid_in_front other_lexeme
+some_rows = refl
+
+some_units : grammar_parser (codes "STEP INDEX i -1;") ≡ Parses (StepIndex (codes "i") (Fits (negsuc 0)))
+unfolding grammar_parser read_items is_separator lexeme uuid_in_front other_lexeme
+some_units = refl
+
+-- at the WHERE
+limit_first : grammar_parser (codes "SELECT * FROM t LIMIT 3 WHERE a = 1;") ≡ FailsAt 24
+unfolding grammar_parser read_items is_separator lexeme uuid_in_front other_lexeme
+limit_first = refl
+
+-- at the first word
+no_first_word : grammar_parser (codes "SELEC;") ≡ FailsAt 0
+unfolding grammar_parser read_items is_separator lexeme uuid_in_front other_lexeme
+no_first_word = refl
+
+-- at the end of the text
+too_few_tokens : grammar_parser (codes "SELECT * FROM t ") ≡ FailsAt 16
+unfolding grammar_parser read_items is_separator lexeme uuid_in_front other_lexeme
+too_few_tokens = refl
+
+-- at the quote
+open_string : grammar_parser (codes "SHOW FILES 'a;") ≡ FailsAt 11
+unfolding grammar_parser read_items is_separator lexeme uuid_in_front other_lexeme
+open_string = refl

@@ -1,7 +1,11 @@
 pub mod Pieces
 pub mod Tokens
 pub mod Naming
+pub mod Forms
+pub mod FormReader
 pub mod Statements
+pub mod Faults
+pub mod Parsers
 pub mod Cells
 pub mod State
 pub mod Changes

@@ -15,10 +15,11 @@ use Rattle.sasi_types.specs.declared.literal.Literal.TheVariants.{Text, Number a
 use Rattle.sasi_types.specs.declared.literal.Number.{Number}
 use Rattle.sasi_types.specs.declared.literal.Number.TheVariants.{Fits, Wide}
 use Rattle.sasi_types.specs.declared.statement.Statement.{Statement}
+use Rattle.sasi_types.specs.declared.statement.Select.{Select}
 use Rattle.sasi_types.specs.declared.statement.Statement.TheVariants.{CreateTable, Insert, Update, Delete, Query}
 use Rattle.sasi_model.specs.Pieces.{Piece, Whole, TooLong, Unfinished}
-use Rattle.sasi_model.specs.Tokens.{tokens}
-use Rattle.sasi_model.specs.Statements.{Parser, same, statement_of}
+use Rattle.sasi_model.specs.Tokens.{same}
+use Rattle.sasi_model.specs.Parsers.{Parsed, Parses, FailsAt, Parser, grammar_parser}
 use Rattle.sasi_model.specs.State.{Column, State, Definition, definition_of, position_in, key_column, number_of_column, max_timestamp}
 
 -- the number of a refusal, and its name with what it is about
@@ -34,18 +35,36 @@ pub data ParsedPiece : Type 0 where
   Says : Statement → ParsedPiece
   Bad : Refusal → ParsedPiece
 
--- with the statement that this parser finds; a text that isn't UTF-8 is refused with the length of its longest front that is
+-- a SELECT without WHERE, LIMIT and ALLOW FILTERING
+abbrev pub is_plain : Select → Bool
+is_plain select = length select.relations == 0 && not (is_some select.limit) && not select.filtering
+
+-- what is built of the grammar
+abbrev pub is_built : Statement → Bool
+is_built (CreateTable table columns keys) = true
+is_built (Insert table columns values time) = true
+is_built (Update table time sets key value) = true
+is_built (Delete table columns time key value) = true
+is_built (Query select) = is_plain select
+is_built statement = false
+
+-- A statement that isn't built is refused. So is a text without a statement, with the same refusal until more is built.
+abbrev pub piece_parsed : Parsed → ParsedPiece
+piece_parsed (Parses statement) = if is_built statement then Says statement else Bad (90, codes "NotBuilt")
+piece_parsed (FailsAt at) = Bad (90, codes "NotBuilt")
+
+-- as this parser parses it; a text that isn't UTF-8 is refused with the length of its longest front that is
 unfoldable pub read_by : Parser → Piece → ParsedPiece
 read_by parser (TooLong finished) = Bad (2, codes "StatementTooLong 1048576")
 read_by parser Unfinished = Bad (25, codes "Unfinished")
 read_by parser (Whole text) =
     if same text (59 ∷ []) then Nothing
-    else if is_utf8 text then option_map_or Says (parser (tokens text)) (Bad (90, codes "NotBuilt"))
+    else if is_utf8 text then piece_parsed (parser text)
     else Bad (3, codes "NotUtf8 at " ++ decimal (utf8_valid_len text))
 
--- with the statement that the function finds
+-- as the parser of the grammar does
 abbrev pub read : Piece → ParsedPiece
-read = read_by statement_of
+read = read_by grammar_parser
 
 -- ---- rules
 
@@ -195,13 +214,14 @@ select_rules table columns None = (true, (4, codes "NoTable " ++ table)) ∷ []
 select_rules table None (Some d) = []
 select_rules table (Some columns) (Some d) = map (no_column d) columns
 
--- the rules for these tables and this largest timestamp of the state
+-- the rules for these tables and this largest timestamp of the state; none for a statement that isn't built
 abbrev pub rules : List Definition → ℕ → Statement → List Rule
 rules tables max_timestamp (CreateTable table columns keys) = create_rules tables table columns keys
 rules tables max_timestamp (Insert table columns values time) = insert_rules max_timestamp table columns (zip columns values) time (definition_of table tables)
 rules tables max_timestamp (Update table time sets key value) = update_rules max_timestamp table sets key value time (definition_of table tables)
 rules tables max_timestamp (Delete table columns time key value) = delete_rules max_timestamp table columns key value time (definition_of table tables)
 rules tables max_timestamp (Query select) = select_rules select.table select.columns (definition_of select.table tables)
+rules tables max_timestamp statement = []
 
 -- that of the first rule that applies
 unfoldable pub refusal : State → Statement → Option Refusal

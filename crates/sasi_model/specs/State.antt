@@ -9,7 +9,7 @@ use Rattle.sasi_types.specs.declared.partitioner.Partitioner.{Partitioner}
 use Rattle.sasi_types.specs.declared.decorated_key.DecoratedKey.{DecoratedKey}
 use Rattle.sasi_types.specs.DecoratedKey.{decorated_cmp}
 use Rattle.sasi_types.specs.Token.{token_of}
-use Rattle.sasi_model.specs.Statements.{same}
+use Rattle.sasi_model.specs.Tokens.{same}
 use Rattle.sasi_model.specs.Cells.{Partition, empty_partition, largest, merge, max_timestamp_of}
 
 -- a column's name and type

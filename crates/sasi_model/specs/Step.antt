@@ -23,7 +23,7 @@ use Rattle.sasi_model.specs.Pieces.{Piece}
 use Rattle.sasi_model.specs.Cells.{Cells, Partition, is_live, value_at}
 use Rattle.sasi_model.specs.State.{Column, Definition, Table, State, decorated, table_of, with_table, position_in, number_of_column, key_column, apply, max_timestamp}
 use Rattle.sasi_model.specs.Changes.{empty_table}
-use Rattle.sasi_model.specs.Statements.{Parser, statement_of}
+use Rattle.sasi_model.specs.Parsers.{Parser, grammar_parser}
 use Rattle.sasi_model.specs.Refusals.{Refusal, ParsedPiece, Nothing, Says, Bad, read_by, refusal, type_of_column, is_key_value}
 use Rattle.sasi_model.specs.Lines.{line, rows_lines, refusal_line}
 
@@ -113,7 +113,7 @@ abbrev pub written : State → List ℕ → Option Number → (Definition → Op
 written s table time key change = with_table table (λ t. applied (option_and_then (decorated_given s.partitioner t.definition) (key t.definition))
     (option_map (change t.definition) (timestamp (max_timestamp s) time)) t) s.tables
 
--- an UPDATE writes the cells alone
+-- an UPDATE writes the cells alone; any other statement than these writes nothing
 abbrev pub tables_after : State → Statement → List Table
 tables_after s (CreateTable table columns keys) =
     option_map_or (λ key. s.tables ++ empty_table (record { name = table; columns = columns; key = key }) ∷ []) (primary_key columns keys) s.tables
@@ -121,7 +121,7 @@ tables_after s (Insert table columns values time) =
     written s table time (λ d. given_key d (zip columns values)) (λ d time. insert_change d time (zip columns values))
 tables_after s (Update table time sets key value) = written s table time (λ d. Some value) (λ d time. record { deleted = 0; cells = cells_set d time sets })
 tables_after s (Delete table columns time key value) = written s table time (λ d. Some value) (λ d time. delete_change d time columns)
-tables_after s (Query select) = s.tables
+tables_after s statement = s.tables
 
 abbrev pub answer_of : State → Statement → List ℕ
 answer_of s (Query select) = option_map_or (λ t. rows_lines (live_rows t.definition (selected_columns t.definition select.columns)
@@ -168,16 +168,16 @@ abbrev pub refusals_by : Parser → State → List Piece → ℕ
 refusals_by parser s [] = 0
 refusals_by parser s (p ∷ ps) = (if is_some (step_by parser s p).refused then 1 else 0) + refusals_by parser (step_by parser s p).state ps
 
--- ---- the same by the function
+-- ---- the same by the parser of the grammar
 
 abbrev pub step : State → Piece → StepResult
-step = step_by statement_of
+step = step_by grammar_parser
 
 abbrev pub state_after : State → List Piece → State
-state_after = state_by statement_of
+state_after = state_by grammar_parser
 
 abbrev pub replies : State → List Piece → List ℕ
-replies = replies_by statement_of
+replies = replies_by grammar_parser
 
 abbrev pub refusals : State → List Piece → ℕ
-refusals = refusals_by statement_of
+refusals = refusals_by grammar_parser

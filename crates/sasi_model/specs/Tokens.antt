@@ -1,8 +1,9 @@
 -- The text of a piece as a list of tokens: words, names, literals and signs, with spaces and comments between them. As
 -- with pieces, the definitions look ahead: for each token they say how many bytes after its first belong to it. A byte
 -- that begins no token is the token Unknown, which no statement has.
-use Rattle.std.specs.Prelude.{◌+◌, ◌-◌, ◌*◌, ◌^◌, ℕ, zero, suc, Bool, ◌||◌, ◌&&◌, ◌==◌, nat_lt, nat_le, if◌then◌else◌, pos, neg_ℤ, List, [], ◌∷◌, take, drop, map, Option, None, Some}
+use Rattle.std.specs.Prelude.{◌+◌, ◌-◌, ◌*◌, ◌^◌, ℕ, zero, suc, Bool, true, false, ◌||◌, ◌&&◌, ◌==◌, nat_eq, nat_lt, nat_le, if◌then◌else◌, pos, neg_ℤ, List, [], ◌∷◌, length, take, drop, map, Option, None, Some}
 use Rattle.std.specs.List.{fold, prefix_len}
+use Rattle.std.specs.Cmp.Lexicographic.{pointwise}
 use Rattle.std.specs.Map.{lookup}
 use Rattle.std.specs.Option.{option_map, option_map_or, unwrap_or}
 use Rattle.uuid.specs.Text.{parsed_hyphenated}
@@ -25,6 +26,13 @@ pub data Token : Type 0 where
   Comma : Token
   Star : Token
   Equal : Token
+  Less : Token
+  LessEqual : Token
+  More : Token
+  MoreEqual : Token
+  Colon : Token
+  OpenBrace : Token
+  CloseBrace : Token
   Semicolon : Token
   Unknown : Token
 
@@ -118,11 +126,21 @@ negative_lexeme behind = record { token = Integer (negative (decimal (take (digi
 unfoldable pub uuid_in_front : List ℕ → Option (List ℕ)
 uuid_in_front bytes = if begins is_word_byte (drop 36 bytes) then None else parsed_hyphenated (take 36 bytes)
 
--- ---- the tokens
+-- ---- signs
 
--- the token of a sign
+-- the token of a sign of one byte
 abbrev pub sign : ℕ → Token
-sign b = unwrap_or (lookup (λ c. b == c) ((40, Open) ∷ (41, Close) ∷ (44, Comma) ∷ (42, Star) ∷ (61, Equal) ∷ (59, Semicolon) ∷ [])) Unknown
+sign b = unwrap_or (lookup (λ c. b == c)
+    ((40, Open) ∷ (41, Close) ∷ (44, Comma) ∷ (42, Star) ∷ (61, Equal) ∷ (60, Less) ∷ (62, More) ∷ (58, Colon) ∷ (123, OpenBrace) ∷ (125, CloseBrace) ∷ (59, Semicolon) ∷ [])) Unknown
+
+-- `<=` and `>=` are one sign each
+abbrev pub sign_lexeme : ℕ → List ℕ → Lexeme
+sign_lexeme b behind =
+    if b == 60 && starts 61 behind then record { token = LessEqual; inside = 1 }
+    else if b == 62 && starts 61 behind then record { token = MoreEqual; inside = 1 }
+    else record { token = sign b; inside = 0 }
+
+-- ---- the tokens
 
 -- the token of a byte and those after it, where it is no uuid
 unfoldable pub other_lexeme : ℕ → List ℕ → Lexeme
@@ -132,7 +150,7 @@ other_lexeme b behind =
     else if b == 45 && begins is_digit behind then negative_lexeme behind
     else if b == 39 then string_lexeme (quoted_text behind)
     else if b == 34 then name_lexeme behind
-    else record { token = sign b; inside = 0 }
+    else sign_lexeme b behind
 
 -- a uuid is tried first
 unfoldable pub lexeme : ℕ → List ℕ → Lexeme
@@ -152,3 +170,40 @@ tokens_from zero (b ∷ bs) =
 
 abbrev pub tokens : List ℕ → List Token
 tokens text = tokens_from 0 text
+
+-- ---- places
+
+-- the number of bytes from a token on that has so many tokens in front of it, 0 where there are no more tokens
+abbrev pub size_from : ℕ → ℕ → List ℕ → ℕ
+size_from inside count [] = 0
+size_from (suc inside) count (b ∷ bs) = size_from inside count bs
+size_from zero zero (b ∷ bs) = if is_separator b bs then size_from (opened_by b bs) zero bs else suc (length bs)
+size_from zero (suc count) (b ∷ bs) = if is_separator b bs then size_from (opened_by b bs) (suc count) bs else size_from (lexeme b bs).inside count bs
+
+-- the offset of a token that has so many tokens in front of it, the end of the text where there are no more tokens
+abbrev pub offset_of : List ℕ → ℕ → ℕ
+offset_of text count = length text - size_from 0 count text
+
+-- ---- wanted tokens
+
+-- two texts are the same bytes
+abbrev pub same : List ℕ → List ℕ → Bool
+same = pointwise nat_eq
+
+-- the token is the one that is wanted, which is a word or a sign
+abbrev pub same_token : Token → Token → Bool
+same_token (Word wanted) (Word letters) = same letters wanted
+same_token Open Open = true
+same_token Close Close = true
+same_token Comma Comma = true
+same_token Star Star = true
+same_token Equal Equal = true
+same_token Less Less = true
+same_token LessEqual LessEqual = true
+same_token More More = true
+same_token MoreEqual MoreEqual = true
+same_token Colon Colon = true
+same_token OpenBrace OpenBrace = true
+same_token CloseBrace CloseBrace = true
+same_token Semicolon Semicolon = true
+same_token _ _ = false

@@ -2,7 +2,7 @@
 use Rattle.std.proofs.Common.{◌≢◌, ℕ, ◌<◌, ◌≤◌, List, length, Option, None, Some, refl, ap, arith, length-append, IfSome}
 use Rattle.std.specs.Io.KnownBytes.{Consumes}
 use Rattle.sasi_model.specs.State.{State}
-use Rattle.sasi_model.specs.Statements.{statement_of}
+use Rattle.sasi_model.specs.Parsers.{grammar_parser}
 use Rattle.sasi_run.specs.Headline.{Runs, SCRIPT_MOST}
 use Rattle.sasi_run.specs.Causes.{RanThrough}
 use Rattle.sasi_run.specs.declared.status.Status.{Status}
@@ -13,7 +13,7 @@ within : (script read : List ℕ) (left : Option (List ℕ)) → Consumes (Some 
 within script read None c = absurd c
 within script read (Some rest) c = omega (arith, ap length c, length-append read rest)
 
-pub through : (status : Status) (s : State) (l l2 o o2 : Option (List ℕ)) → Runs statement_of status s l l2 o o2 → status ≢ Usage → status ≢ ScriptFault
+pub through : (status : Status) (s : State) (l l2 o o2 : Option (List ℕ)) → Runs grammar_parser status s l l2 o o2 → status ≢ Usage → status ≢ ScriptFault
     → status ≢ OutputFault → status ≢ FolderFault → IfSome l (λ script. length script ≤ SCRIPT_MOST → RanThrough status)
 through status s None l2 o o2 runs u f e d = tt
 through Done s (Some script) l2 o o2 runs u f e d = λ _. tt

@@ -1,11 +1,11 @@
 -- The emits of a whole run.
 use Rattle.std.proofs.Common.{◌≡◌, ℕ, List, [], Option, refl, subst}
 use Rattle.sasi_model.specs.State.{State}
-use Rattle.sasi_model.specs.Statements.{statement_of}
+use Rattle.sasi_model.specs.Parsers.{grammar_parser}
 use Rattle.sasi_host.specs.View.{SourceView, View}
 use Rattle.sasi_host.specs.declared.fault.ReadFault.{ReadFault}
 use Rattle.sasi_host.specs.declared.fault.ReadFault.TheVariants as read_fault
-use Rattle.sasi_cql.proofs.Agreement.{is_parser}
+use Rattle.sasi_cql.proofs.Parsing.{is_parser}
 use Rattle.sasi_run.specs.Crashing.{RunsCrashSafe}
 use Rattle.sasi_run.specs.EmitCounts.{CountsEmits, EmitsCounted}
 use Rattle.sasi_run.specs.Headline.{script_of, status_of_fault}
@@ -18,14 +18,14 @@ use Rattle.sasi_run.proofs.WholeRun.{first_runs, moved, nothing_read, nothing_ru
 -- the words name no script
 pub counts_unused : (s : State) (script : SourceView) (a : View) → CountsEmits Usage s script.left script.left a a
 counts_unused s script a = record {
-  parser = statement_of;
+  parser = grammar_parser;
   parses = is_parser;
   runs = nothing_runs s script.left a.emitted;
   counted = record { answered = []; by_status = refl; emits = makes_none a.emits a.emits refl };
 }
 
 none_counted : (fault : ReadFault) (s : State) (l o o2 : Option (List ℕ)) (same : o2 ≡ o) (n m : ℕ) → m ≡ n
-    → EmitsCounted statement_of (status_of_fault fault) s (script_of l (first_runs fault s l o o2 same).read) (first_runs fault s l o o2 same).read
+    → EmitsCounted grammar_parser (status_of_fault fault) s (script_of l (first_runs fault s l o o2 same).read) (first_runs fault s l o o2 same).read
     (first_runs fault s l o o2 same).shown n m
 unfolding first_runs nothing_read
 none_counted read_fault.Failed s l o o2 same n m none =
@@ -38,7 +38,7 @@ none_counted (read_fault.Damaged damage) s l o o2 same n m none = record { answe
 pub counts_unopened : (fault : ReadFault) (s : State) (script : SourceView) (a b : View) → b.emitted ≡ a.emitted → b.emits ≡ a.emits
     → CountsEmits (status_of_fault fault) s script.left script.left a b
 counts_unopened fault s script a b silent none = record {
-  parser = statement_of;
+  parser = grammar_parser;
   parses = is_parser;
   runs = first_runs fault s script.left a.emitted b.emitted silent;
   counted = none_counted fault s script.left a.emitted b.emitted silent a.emits b.emits none;
@@ -50,10 +50,10 @@ pub counts_opened : (status : Status) (s : State) (script later : SourceView) (a
     → CountsEmits status s script.left later.left a c
 unfolding moved
 counts_opened status s script later a b c store is silent none on = record {
-  parser = statement_of;
+  parser = grammar_parser;
   parses = is_parser;
   runs = moved status script.left later.left s store.machine is b.emitted a.emitted c.emitted silent on.runs;
-  counted = subst (λ (n : ℕ). EmitsCounted statement_of status s (script_of script.left on.runs.read) on.runs.read on.runs.shown n c.emits) none
-      (subst (λ (t : State). EmitsCounted statement_of status t (script_of script.left on.runs.read) on.runs.read on.runs.shown b.emits c.emits) is
+  counted = subst (λ (n : ℕ). EmitsCounted grammar_parser status s (script_of script.left on.runs.read) on.runs.read on.runs.shown n c.emits) none
+      (subst (λ (t : State). EmitsCounted grammar_parser status t (script_of script.left on.runs.read) on.runs.read on.runs.shown b.emits c.emits) is
       on.emits);
 }

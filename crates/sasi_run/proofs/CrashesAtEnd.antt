@@ -4,7 +4,7 @@ use Rattle.std.proofs.lemmas.List.{length-take-le, take-append-drop, take_all}
 use Rattle.std.specs.Io.KnownBytes.{Consumes, IsAtEnd, Keeps}
 use Rattle.sasi_model.specs.Pieces.{Piece, Pieces, pieces, all_pieces}
 use Rattle.sasi_model.specs.State.{State}
-use Rattle.sasi_model.specs.Statements.{statement_of}
+use Rattle.sasi_model.specs.Parsers.{grammar_parser}
 use Rattle.sasi_model.specs.Step.{state_after}
 use Rattle.sasi_host.specs.View.{View}
 use Rattle.sasi_cql.specs.SplitterState.{resume, behind}
@@ -51,10 +51,10 @@ stopped Memory is = is
 
 -- all pieces were answered
 ended_emits : (n : ℕ) (s : State) (script read shown : List ℕ) (a c : ℕ) → MakesEmits (emits_for s (all_pieces read)) a c
-    → EmitsCounted statement_of (status_of_count n) s script read shown a c
+    → EmitsCounted grammar_parser (status_of_count n) s script read shown a c
 ended_emits n s script read shown a c makes = by_test (n == 0)
   where
-    by_test : (none : Bool) → EmitsCounted statement_of (if none then Done else Refused n) s script read shown a c
+    by_test : (none : Bool) → EmitsCounted grammar_parser (if none then Done else Refused n) s script read shown a c
     by_test true = record { answered = all_pieces read; by_status = refl; emits = makes_alone _ a c makes }
     by_test false = record { answered = all_pieces read; by_status = refl; emits = makes_alone _ a c makes }
 

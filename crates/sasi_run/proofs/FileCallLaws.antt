@@ -1,7 +1,7 @@
 -- Pieces that make no file call.
 use Rattle.std.proofs.Common.{◌≡◌, Option, None, Some, IsSome, sym, subst, ⊎_elim, List, ℕ}
 use Rattle.sasi_types.specs.declared.statement.Statement.{Statement}
-use Rattle.sasi_types.specs.declared.statement.Statement.TheVariants.{CreateTable, Insert, Update, Delete, Query}
+use Rattle.sasi_types.specs.declared.statement.Statement.TheVariants.{CreateTable, Insert, Update, Delete}
 use Rattle.sasi_cells.specs.declared.mutation.Mutation.{Mutation}
 use Rattle.sasi_model.specs.Pieces.{Piece}
 use Rattle.sasi_model.specs.Refusals.{ParsedPiece, Refusal}
@@ -18,17 +18,13 @@ not_refused (Some refusal) is some = cc
 
 creating_changes : (s : State) (statement : Statement) (t : Table) → CreatesTable s statement t → IsChange statement
 creating_changes s (CreateTable table columns keys) t creates = tt
-creating_changes s (Insert table columns values time) t creates = tt
-creating_changes s (Update table time sets key value) t creates = tt
-creating_changes s (Delete table columns time key value) t creates = tt
-creating_changes s (Query select) t creates = absurd creates
+creating_changes s statement t creates = absurd creates
 
 writing_changes : (s : State) (statement : Statement) (w : Mutation) → WritesTo s statement w → IsChange statement
-writing_changes s (CreateTable table columns keys) w writes = tt
 writing_changes s (Insert table columns values time) w writes = tt
 writing_changes s (Update table time sets key value) w writes = tt
 writing_changes s (Delete table columns time key value) w writes = tt
-writing_changes s (Query select) w writes = absurd writes.writing
+writing_changes s statement w writes = absurd writes.writing
 
 -- a piece that needs no file prepares no table
 pub creates_none : (s : State) (piece : Piece) (reply : List ℕ) (t : Table) → Prepares s piece reply (Create t) → NeedsNoFile s piece → ⊥

@@ -3,12 +3,12 @@ use Rattle.std.proofs.Common.{◌≡◌, ◌⊎◌, ℕ, zero, suc, ◌+◌, ◌
 use Rattle.std.proofs.lemmas.List.{append-nil, append_cancel_left}
 use Rattle.std.proofs.Math.Seq.{take-append-add, take-append_seam, drop-append_seam}
 use Rattle.sasi_types.specs.declared.statement.Statement.{Statement}
-use Rattle.sasi_types.specs.declared.statement.Statement.TheVariants.{CreateTable, Insert, Update, Delete, Query}
+use Rattle.sasi_types.specs.declared.statement.Statement.TheVariants.{CreateTable, Insert, Update, Delete}
 use Rattle.sasi_host.specs.Names.{Folder}
 use Rattle.sasi_model.specs.Pieces.{Piece}
 use Rattle.sasi_model.specs.Refusals.{ParsedPiece, Nothing, Says, Bad, Refusal, read, refusal}
 use Rattle.sasi_model.specs.State.{State}
-use Rattle.sasi_model.specs.Statements.{statement_of}
+use Rattle.sasi_model.specs.Parsers.{grammar_parser}
 use Rattle.sasi_model.specs.Step.{step, step_as, step_by, state_after, replies}
 use Rattle.sasi_model.specs.Abbreviations.{execute_or}
 use Rattle.sasi_folder.specs.Stands.{StandsSealed}
@@ -24,7 +24,7 @@ silent_or s (CreateTable table columns keys) None none = cc
 silent_or s (Insert table columns values time) None none = cc
 silent_or s (Update table time sets key value) None none = cc
 silent_or s (Delete table columns time key value) None none = cc
-silent_or s (Query select) None none = refl
+silent_or s statement None none = refl
 
 silent_as : (s : State) (r : ParsedPiece) → (step_as s r).reply ≡ [] → (step_as s r).state ≡ s
 silent_as s Nothing none = refl
@@ -84,7 +84,7 @@ begins_or_not (x ∷ xs) (y ∷ ys) = ⊎_elim
     first_is more e = cc
 
 counted_from : (s : State) (pieces : List Piece) (shown : List ℕ) (k : ℕ) → k ≤ length pieces
-    → ((m : ℕ) (more : List ℕ) → k < m → m ≤ length pieces → shown ≡ replies s (take m pieces) ++ more → ⊥) → (n : ℕ) × IsReplyCount statement_of s pieces shown n
+    → ((m : ℕ) (more : List ℕ) → k < m → m ≤ length pieces → shown ≡ replies s (take m pieces) ++ more → ⊥) → (n : ℕ) × IsReplyCount grammar_parser s pieces shown n
 counted_from s pieces shown zero within no_more = (0, record { within = within; rest = shown; begins = refl; no_more = no_more })
 counted_from s pieces shown (suc k) within no_more = ⊎_elim
     (λ b. (suc k, record { within = within; rest = b.0; begins = b.1; no_more = no_more }))
@@ -98,20 +98,20 @@ counted_from s pieces shown (suc k) within no_more = ⊎_elim
         never (more, is ∙ ap (λ i. replies s (take i pieces) ++ more) same)
     by m more never less few is (suc j) e = no_more m more (omega arith) few is
 
-pub counted : (s : State) (pieces : List Piece) (shown : List ℕ) → (n : ℕ) × IsReplyCount statement_of s pieces shown n
+pub counted : (s : State) (pieces : List Piece) (shown : List ℕ) → (n : ℕ) × IsReplyCount grammar_parser s pieces shown n
 counted s pieces shown = counted_from s pieces shown (length pieces) (omega arith) (λ m more less few is. absurd (omega arith))
 
 -- nothing is a first part of any reply
-none_next : (s : State) (pieces : List Piece) (n : ℕ) (bytes : List ℕ) → bytes ≡ [] → IsPartOfNextReply statement_of s pieces n bytes
-none_next s pieces n bytes none = record { back = next_reply statement_of s pieces n; parts = ap (λ (l : List ℕ). l ++ next_reply statement_of s pieces n) (sym none) }
+none_next : (s : State) (pieces : List Piece) (n : ℕ) (bytes : List ℕ) → bytes ≡ [] → IsPartOfNextReply grammar_parser s pieces n bytes
+none_next s pieces n bytes none = record { back = next_reply grammar_parser s pieces n; parts = ap (λ (l : List ℕ). l ++ next_reply grammar_parser s pieces n) (sym none) }
 
-pub nothing_shown : (s : State) (pieces : List Piece) (n : ℕ) (c : IsReplyCount statement_of s pieces [] n) → IsPartOfNextReply statement_of s pieces n c.rest
+pub nothing_shown : (s : State) (pieces : List Piece) (n : ℕ) (c : IsReplyCount grammar_parser s pieces [] n) → IsPartOfNextReply grammar_parser s pieces n c.rest
 nothing_shown s pieces n c = none_next s pieces n c.rest (nil_back (replies s (take n pieces)) c.rest (sym c.begins))
 
 -- ---- what that number tells of the state
 
 module _ (s : State) (before : List ℕ) (pieces : List Piece) (folder : Folder) (out shown : List ℕ) (went : out ≡ before ++ shown) (n : ℕ)
-    (is_count : IsReplyCount statement_of s pieces shown n) where
+    (is_count : IsReplyCount grammar_parser s pieces shown n) where
   at_least : (done rest : List Piece) (more : List ℕ) → pieces ≡ done ++ rest → shown ≡ replies s done ++ more → length done ≤ n
   at_least done rest more parts is = by (n - length done) (length done - n) refl refl
     where
@@ -132,7 +132,7 @@ module _ (s : State) (before : List ℕ) (pieces : List Piece) (folder : Folder)
 
   -- the state for which the folder stands, and what was shown behind the replies
   abbrev pub After : Type 0
-  After = IsPartOfNextReply statement_of s pieces n is_count.rest × ((t : State) × StandsSealed folder t × IsStateAfter statement_of s pieces n t)
+  After = IsPartOfNextReply grammar_parser s pieces n is_count.rest × ((t : State) × StandsSealed folder t × IsStateAfter grammar_parser s pieces n t)
 
   quiet : (done rest : List Piece) → pieces ≡ done ++ rest → IsBetweenPieces s before done folder out → After
   quiet done rest parts is =
@@ -170,7 +170,7 @@ module _ (s : State) (before : List ℕ) (pieces : List Piece) (folder : Folder)
           (ap (drop (length done)) all ∙ drop-append_seam done (is.piece ∷ is.others)) in
           let cut : is.front ≡ is_count.rest = append_cancel_left (replies s done) is.front is_count.rest
           (sym shows ∙ is_count.begins ∙ ap (λ (l : List Piece). replies s l ++ is_count.rest) taken) in
-          let next : next_reply statement_of s pieces n ≡ is.front ++ is.back = ap (λ (l : List Piece). replies (state_after s l) (take 1 (drop n pieces))) taken
+          let next : next_reply grammar_parser s pieces n ≡ is.front ++ is.back = ap (λ (l : List Piece). replies (state_after s l) (take 1 (drop n pieces))) taken
           ∙ ap (λ (l : List Piece). replies m (take 1 l)) left ∙ append-nil (step m is.piece).reply ∙ is.parts in (
             record { back = is.back; parts = next ∙ ap (λ (l : List ℕ). l ++ is.back) cut },
             ((step m is.piece).state, is.stands, inr (within, sym (ap (state_after s) first ∙ state_after-append done (is.piece ∷ []) s))),

@@ -6,7 +6,7 @@ use Rattle.std.proofs.Math.Seq.{take-append_seam}
 use Rattle.std.specs.Io.KnownBytes.{Consumes, Keeps, IsAtEnd}
 use Rattle.sasi_model.specs.Pieces.{Piece, Pieces, pieces, all_pieces}
 use Rattle.sasi_model.specs.State.{State}
-use Rattle.sasi_model.specs.Statements.{statement_of}
+use Rattle.sasi_model.specs.Parsers.{grammar_parser}
 use Rattle.sasi_model.specs.Step.{state_after, replies, refusals}
 use Rattle.sasi_cql.specs.SplitterState.{resume, behind}
 use Rattle.sasi_cql.proofs.Resumed.{resume_nothing}
@@ -60,12 +60,12 @@ script_whole (Some script) (Some left) read consumed end = consumed ∙ ap (λ (
 -- ---- the ends
 
 -- the pieces that a run answered
-abbrev pub AnsweredIn : (status : Status) (s : State) (l l2 o o2 : Option (List ℕ)) → Runs statement_of status s l l2 o o2 → List Piece → Type 0
-AnsweredIn status s l l2 o o2 runs answered = AnsweredByStatus statement_of status s (script_of l runs.read) runs.read runs.shown answered
+abbrev pub AnsweredIn : (status : Status) (s : State) (l l2 o o2 : Option (List ℕ)) → Runs grammar_parser status s l l2 o o2 → List Piece → Type 0
+AnsweredIn status s l l2 o o2 runs answered = AnsweredByStatus grammar_parser status s (script_of l runs.read) runs.read runs.shown answered
 
 -- a read failed
 unfoldable pub ends_fault : (from mid : Session) (l l1 l2 o o1 : Option (List ℕ)) (n : ℕ) → IsAtScriptStart from → ReadsScript from mid l l1 o o1 n
-    → n ≤ 2 ^ 40 → Keeps l1 l2 → Runs statement_of ScriptFault from.store.machine l l2 o o1
+    → n ≤ 2 ^ 40 → Keeps l1 l2 → Runs grammar_parser ScriptFault from.store.machine l l2 o o1
 ends_fault from mid l l1 l2 o o1 n fresh goes few kept = record {
   read = goes.read;
   shown = replies from.store.machine goes.taken.done;
@@ -80,11 +80,11 @@ ends_fault from mid l l1 l2 o o1 n fresh goes few kept = record {
   bounded = omega (arith, goes.length_is);
 }
 
-pub shows_count : (s : State) (n : ℕ) (script read shown : List ℕ) (left : Option (List ℕ)) → EmitsAllReplies statement_of s read shown n → IsAtEnd left
-    → (b : Bool) → nat_eq n 0 ≡ b → EmitsByStatus statement_of (cond b Done (Refused n)) s script read shown × ReadsToEnd (cond b Done (Refused n)) left
+pub shows_count : (s : State) (n : ℕ) (script read shown : List ℕ) (left : Option (List ℕ)) → EmitsAllReplies grammar_parser s read shown n → IsAtEnd left
+    → (b : Bool) → nat_eq n 0 ≡ b → EmitsByStatus grammar_parser (cond b Done (Refused n)) s script read shown × ReadsToEnd (cond b Done (Refused n)) left
 shows_count s n script read shown left all end true e =
     let is : n ≡ 0 = grind arith in
-    (subst (λ m. EmitsAllReplies statement_of s read shown m) is all, end)
+    (subst (λ m. EmitsAllReplies grammar_parser s read shown m) is all, end)
 shows_count s n script read shown left all end false e =
     let some : 0 < n = grind arith in
     ((some, all), end)
@@ -92,7 +92,7 @@ shows_count s n script read shown left all end false e =
 -- the script ended
 unfoldable pub ends_done : (from mid to : Session) (l l1 l2 o o1 o2 : Option (List ℕ)) (n : ℕ) (none : List ℕ) → IsAtScriptStart from
     → ReadsScript from mid l l1 o o1 n → n ≤ 2 ^ 40 → Consumes l1 l2 none → length none ≡ 0 → IsAtEnd l2 → Finishes mid to o1 o2
-    → Runs statement_of (status_of_count to.refused) from.store.machine l l2 o o2
+    → Runs grammar_parser (status_of_count to.refused) from.store.machine l l2 o o2
 ends_done from mid to l l1 l2 o o1 o2 n none fresh goes few ate empty end fin =
     let t = goes.taken in
     let last = (resume mid.splitter []).last in
@@ -104,7 +104,7 @@ ends_done from mid to l l1 l2 o o1 o2 n none fresh goes few ate empty end fin =
     let total : refusals from.store.machine (all_pieces goes.read)
     ≡ refusals from.store.machine t.done + refusals mid.store.machine last = rw (all, refusals-append, at) refl in
     let final : to.refused ≡ min (refusals from.store.machine (all_pieces goes.read)) (2 ^ 64 - 1) = omega (arith, fin.count, before, total) in
-    let shown : EmitsAllReplies statement_of from.store.machine goes.read (replies from.store.machine t.done ++ replies mid.store.machine last)
+    let shown : EmitsAllReplies grammar_parser from.store.machine goes.read (replies from.store.machine t.done ++ replies mid.store.machine last)
     to.refused = record { all = sym text; count = final; short = omega (arith, goes.length_is) } in
     let both = shows_count from.store.machine to.refused (script_of l goes.read) goes.read
     (replies from.store.machine t.done ++ replies mid.store.machine last) l2 shown end (nat_eq to.refused 0) refl in
@@ -136,7 +136,7 @@ without_next script read done next first = record {
 -- a run that stopped shows a first part
 stops_show : (stop : Stop) (s : State) (read : List ℕ) (done next : List Piece) (l l2 o o2 : Option (List ℕ)) → Consumes l l2 read
     → length read ≤ SCRIPT_MOST + READ_MOST → IsFirstPart (script_of l read) read done next → EmittedAtStop stop s o o2 done next
-    → Runs statement_of (status_of_stop stop) s l l2 o o2
+    → Runs grammar_parser (status_of_stop stop) s l l2 o o2
 stops_show Memory s read done next l l2 o o2 consumed bounded first at = record {
   read = read;
   shown = replies s done;
@@ -196,7 +196,7 @@ stops_answered Output s read done next l l2 o o2 consumed bounded first (piece, 
 -- the last reply was not emitted
 pub ends_last : (stop : Stop) (from mid : Session) (l l1 l2 o o1 o2 : Option (List ℕ)) (n : ℕ) (none : List ℕ) → IsAtScriptStart from
     → ReadsScript from mid l l1 o o1 n → n ≤ 2 ^ 40 → Consumes l1 l2 none → length none ≡ 0 → IsAtEnd l2
-    → EmittedAtStop stop mid.store.machine o1 o2 [] (resume mid.splitter []).last → Runs statement_of (status_of_stop stop) from.store.machine l l2 o o2
+    → EmittedAtStop stop mid.store.machine o1 o2 [] (resume mid.splitter []).last → Runs grammar_parser (status_of_stop stop) from.store.machine l l2 o o2
 ends_last stop from mid l l1 l2 o o1 o2 n none fresh goes few ate empty end at =
     let t = goes.taken in
     let consumed = consumes_none l l1 l2 goes.read none goes.consumed ate empty in
@@ -250,7 +250,7 @@ whole_long from mid to l l1 o o1 o2 n chunk part rest fresh goes parts full more
 unfoldable pub ends_long : (from mid to : Session) (l l1 l2 o o1 o2 : Option (List ℕ)) (n : ℕ) (chunk part rest : List ℕ) → IsAtScriptStart from
     → ReadsScript from mid l l1 o o1 n → n ≤ 2 ^ 40 → Consumes l1 l2 chunk → length chunk ≤ READ_MOST → chunk ≡ part ++ rest
     → n + length part ≡ SCRIPT_MOST
-    → 0 < length rest → Feeds mid to o1 o2 part → Runs statement_of ScriptTooLong from.store.machine l l2 o o2
+    → 0 < length rest → Feeds mid to o1 o2 part → Runs grammar_parser ScriptTooLong from.store.machine l l2 o o2
 ends_long from mid to l l1 l2 o o1 o2 n chunk part rest fresh goes few ate small parts full over more =
     let t = feeds_both from mid to o o1 o2 goes.read part goes.taken more in
     let size : length (goes.read ++ part) ≡ SCRIPT_MOST = omega (arith, length-append goes.read part, goes.length_is) in
@@ -286,7 +286,7 @@ behind_twice p first done next q is = ap (λ (x : Pieces). x.whole ++ x.last) is
 -- it stopped within what a read gave
 pub ends_within : (stop : Stop) (from mid : Session) (l l1 l2 o o1 o2 : Option (List ℕ)) (n : ℕ) (chunk part rest : List ℕ) → IsAtScriptStart from
     → ReadsScript from mid l l1 o o1 n → n ≤ 2 ^ 40 → Consumes l1 l2 chunk → length chunk ≤ READ_MOST → chunk ≡ part ++ rest
-    → Stops stop mid o1 o2 part → Runs statement_of (status_of_stop stop) from.store.machine l l2 o o2
+    → Stops stop mid o1 o2 part → Runs grammar_parser (status_of_stop stop) from.store.machine l l2 o o2
 ends_within stop from mid l l1 l2 o o1 o2 n chunk part rest fresh goes few ate small parts u =
     let t = goes.taken in
     let read = goes.read ++ chunk in

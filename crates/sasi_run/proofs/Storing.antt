@@ -2,7 +2,7 @@
 use Rattle.std.proofs.Common.{◌≡◌, ◌≢◌, ◌⊎◌, ℕ, suc, ◌+◌, ◌^◌, ◌<◌, length, IsTrue, List, [], ◌∷◌, ◌++◌, Some, refl, sym, ◌∙◌, ap, subst, inl, arith}
 use Rattle.std.proofs.lemmas.List.{length-map}
 use Rattle.sasi_types.specs.declared.statement.Statement.{Statement}
-use Rattle.sasi_types.specs.declared.statement.Statement.TheVariants.{CreateTable, Insert, Update, Delete, Query}
+use Rattle.sasi_types.specs.declared.statement.Statement.TheVariants.{CreateTable}
 use Rattle.sasi_model.specs.State.{Definition, State, decorated}
 use Rattle.sasi_model.specs.State.{Table as ATable}
 use Rattle.sasi_model.specs.Abbreviations.{new_definition}
@@ -137,7 +137,4 @@ made_can_create v store (CreateTable table columns keys) t ready written (taken,
     let count : length store.machine.tables ≡ length store.manifest.listing.tables = sym (length-map store.machine.tables (λ (x : ATable). x.definition)) ∙ ap length ready.together.tables ∙ length-map store.manifest.listing.tables (λ (x : ListedDefinition). x.definition) in
     let next : suc (length store.manifest.listing.tables) ≡ t.number = omega (arith, number, count) in
     rw (name, columns_are, key) (subst (λ n. Applies (Some store.manifest.listing) (edits.CreateTable n table columns (new_definition table columns keys).key store.manifest.listing.last)) next can)
-made_can_create v store (Insert table columns values time) t ready written makes = absurd makes
-made_can_create v store (Update table time sets key value) t ready written makes = absurd makes
-made_can_create v store (Delete table columns time key value) t ready written makes = absurd makes
-made_can_create v store (Query select) t ready written makes = absurd makes
+made_can_create v store statement t ready written makes = absurd makes

@@ -6,7 +6,7 @@ use Rattle.sasi_types.specs.declared.partitioner.Partitioner.TheVariants.{Lead8}
 use Rattle.sasi_model.specs.Pieces.{Piece, all_pieces}
 use Rattle.sasi_model.specs.State.{State}
 use Rattle.sasi_model.specs.Abbreviations.{empty_state}
-use Rattle.sasi_model.specs.Statements.{statement_of}
+use Rattle.sasi_model.specs.Parsers.{grammar_parser}
 use Rattle.sasi_model.specs.Step.{replies, state_after}
 use Rattle.sasi_host.specs.declared.fault.ReadFault.{ReadFault}
 use Rattle.sasi_host.specs.declared.fault.ReadFault.TheVariants as read_fault
@@ -23,7 +23,7 @@ use Rattle.sasi_run.specs.Storing.{IsReady, UnchangedOrStands, IsStoreDurable}
 use Rattle.sasi_run.specs.declared.status.Status.{Status}
 use Rattle.sasi_run.specs.declared.status.Status.TheVariants.{Usage}
 use Rattle.sasi_run.specs.declared.store.Store.{Store}
-use Rattle.sasi_cql.proofs.Agreement.{is_parser}
+use Rattle.sasi_cql.proofs.Parsing.{is_parser}
 use Rattle.sasi_run.proofs.Crashing.{one_of}
 use Rattle.sasi_run.proofs.ConsumedBytes.{consumes_nothing}
 use Rattle.sasi_run.proofs.Recovering.{after_crash, counted, nothing_shown}
@@ -35,7 +35,7 @@ use Rattle.sasi_run.proofs.NotKept.{not_kept}
 module _ (a : View) (s : State) (starts : StartsFrom a s) (before : List ℕ) (emitted : a.emitted ≡ Some before) (pieces : List Piece) where
   -- nothing was shown, and the folder stands for the state of an image of the start
   from_image : (folder image : Folder) (out : List ℕ) (state : State) → a.emitted ≡ Some out → a.image image → Stands Lead8 image state
-      → Stands Lead8 folder state → Recovers statement_of a s pieces before folder out
+      → Stands Lead8 folder state → Recovers grammar_parser a s pieces before folder out
   from_image folder image out state said was stood stands =
       let n = counted s pieces [] in
       record {
@@ -50,11 +50,11 @@ module _ (a : View) (s : State) (starts : StartsFrom a s) (before : List ℕ) (e
         after = inl (record { nothing = refl; image = image; was = was; stood = stood });
       }
 
-  at_start : (folder : Folder) (out : List ℕ) → LeavesNow a folder out → Recovers statement_of a s pieces before folder out
+  at_start : (folder : Folder) (out : List ℕ) → LeavesNow a folder out → Recovers grammar_parser a s pieces before folder out
   at_start folder out now =
       let stood = starts.images folder now.0 in from_image folder folder out stood.0 now.1 now.0 stood.1 stood.1
 
-  while_opening : IsSound a → (folder : Folder) (out : List ℕ) → FromImage (UnchangedOrStands Lead8 s) a folder out → Recovers statement_of a s pieces before folder out
+  while_opening : IsSound a → (folder : Folder) (out : List ℕ) → FromImage (UnchangedOrStands Lead8 s) a folder out → Recovers grammar_parser a s pieces before folder out
   while_opening sound folder out (was, image, opens, said) =
       let stood = starts.images was image in
       ⊎_elim
@@ -65,11 +65,11 @@ module _ (a : View) (s : State) (starts : StartsFrom a s) (before : List ℕ) (e
 
   -- the run stopped in the opening
   pub recovers_opening : (b : View) → IsSound a → Changes (UnchangedOrStands Lead8 s) a b → (folder : Folder) (out : List ℕ)
-      → b.left a.moment folder out → Recovers statement_of a s pieces before folder out
+      → b.left a.moment folder out → Recovers grammar_parser a s pieces before folder out
   recovers_opening b sound change folder out left = ⊎_elim (at_start folder out) (while_opening sound folder out)
       (since_start a b (FromImage (UnchangedOrStands Lead8 s) a) sound change.during folder out left)
 
-  from_moment : (folder : Folder) (out shown : List ℕ) → out ≡ before ++ shown → Crashed s before pieces folder out → Recovers statement_of a s pieces before folder out
+  from_moment : (folder : Folder) (out shown : List ℕ) → out ≡ before ++ shown → Crashed s before pieces folder out → Recovers grammar_parser a s pieces before folder out
   from_moment folder out shown went was =
       let n = counted s pieces shown in
       let after = after_crash s before pieces folder out shown went n.0 n.1 was in
@@ -84,22 +84,22 @@ module _ (a : View) (s : State) (starts : StartsFrom a s) (before : List ℕ) (e
         after = inr after.1.2;
       }
 
-  crashed : (folder : Folder) (out : List ℕ) → Crashed s before pieces folder out → Recovers statement_of a s pieces before folder out
+  crashed : (folder : Folder) (out : List ℕ) → Crashed s before pieces folder out → Recovers grammar_parser a s pieces before folder out
   crashed folder out was = ⊎_elim (λ quiet. from_moment folder out (replies s was.done) quiet.went was)
       (λ answering. from_moment folder out (replies s was.done ++ answering.front) answering.went was) was.stands
 
   -- it went on behind it
   pub recovers_run : (b c : View) (store : Store) → IsSound a → Changes (UnchangedOrStands Lead8 s) a b → IsStoreDurable b store → store.machine ≡ s
       → CrashLeavesPieces b c store pieces → (folder : Folder) (out : List ℕ) → c.left a.moment folder out
-      → Recovers statement_of a s pieces before folder out
+      → Recovers grammar_parser a s pieces before folder out
   recovers_run b c store sound change durable is leaves folder out left =
       let told : IsTold a = subst (λ (f : Option Folder). IsSome f) (sym starts.reads) refl in
       let serving : HasDurableStore b store before = record
       { told = told_after (UnchangedOrStands Lead8 s) a b change told; durable = durable; emitted = change.emitted ∙ emitted } in
       let both = crash_leaves_on a b c (FromImage (UnchangedOrStands Lead8 s) a) (Crashed store.machine before pieces)
-      (λ x e. Recovers statement_of a s pieces before x e) change.during (leaves before serving) (while_opening sound)
+      (λ x e. Recovers grammar_parser a s pieces before x e) change.during (leaves before serving) (while_opening sound)
       (λ x e p. crashed x e (subst (λ (t : State). Crashed t before pieces x e) is p)) in
-      ⊎_elim (at_start folder out) (λ r. r) (since_start a c (λ x e. Recovers statement_of a s pieces before x e) sound both folder out left)
+      ⊎_elim (at_start folder out) (λ r. r) (since_start a c (λ x e. Recovers grammar_parser a s pieces before x e) sound both folder out left)
 
 -- ---- the end
 
@@ -147,7 +147,7 @@ ends_alone a b c s store starts before emitted change durable is sound pieces af
 -- ---- what a run does
 
 -- the words named no script
-pub nothing_runs : (s : State) (l o : Option (List ℕ)) → Runs statement_of Usage s l l o o
+pub nothing_runs : (s : State) (l o : Option (List ℕ)) → Runs grammar_parser Usage s l l o o
 nothing_runs s l o = record {
   read = [];
   shown = [];
@@ -158,7 +158,7 @@ nothing_runs s l o = record {
   bounded = omega arith;
 }
 
-pub runs_nothing : (a : View) (s : State) (l : Option (List ℕ)) → IsSound a → StartsFrom a s → RunsFrom statement_of Usage s l l a a
+pub runs_nothing : (a : View) (s : State) (l : Option (List ℕ)) → IsSound a → StartsFrom a s → RunsFrom grammar_parser Usage s l l a a
 runs_nothing a s l sound starts = record {
   runs = nothing_runs s l a.emitted;
   crash = λ before emitted folder out left. recovers_opening a s starts before emitted _ a sound
@@ -166,7 +166,7 @@ runs_nothing a s l sound starts = record {
   ends = λ is. absurd is;
 }
 
-unfoldable pub nothing_read : (s : State) (script : List ℕ) → EmitsFirstReplies statement_of s script [] []
+unfoldable pub nothing_read : (s : State) (script : List ℕ) → EmitsFirstReplies grammar_parser s script [] []
 nothing_read s script = record {
   done = [];
   first = record {
@@ -184,7 +184,7 @@ nothing_read s script = record {
   replied = refl;
 }
 
-unfoldable pub first_runs : (fault : ReadFault) (s : State) (l o o2 : Option (List ℕ)) → o2 ≡ o → Runs statement_of (status_of_fault fault) s l l o o2
+unfoldable pub first_runs : (fault : ReadFault) (s : State) (l o o2 : Option (List ℕ)) → o2 ≡ o → Runs grammar_parser (status_of_fault fault) s l l o o2
 first_runs read_fault.Failed s l o o2 same = record {
   read = [];
   shown = [];
@@ -223,7 +223,7 @@ not_ended (read_fault.Damaged damage) is = is
 
 -- the folder wasn't opened
 pub runs_unopened : (fault : ReadFault) (a b : View) (s : State) (l : Option (List ℕ)) → IsSound a → StartsFrom a s
-    → Changes (UnchangedOrStands Lead8 s) a b → RunsFrom statement_of (status_of_fault fault) s l l a b
+    → Changes (UnchangedOrStands Lead8 s) a b → RunsFrom grammar_parser (status_of_fault fault) s l l a b
 runs_unopened fault a b s l sound starts change = record {
   runs = first_runs fault s l a.emitted b.emitted change.emitted;
   crash = λ before emitted folder out left. recovers_opening a s starts before emitted _ b sound change folder out left;
@@ -231,22 +231,22 @@ runs_unopened fault a b s l sound starts change = record {
 }
 
 -- the opening emits nothing, and finds this state
-unfoldable pub moved : (status : Status) (l l2 : Option (List ℕ)) (t m : State) → m ≡ t → (o p q : Option (List ℕ)) → o ≡ p → Runs statement_of status m l l2 o q
-    → Runs statement_of status t l l2 p q
+unfoldable pub moved : (status : Status) (l l2 : Option (List ℕ)) (t m : State) → m ≡ t → (o p q : Option (List ℕ)) → o ≡ p → Runs grammar_parser status m l l2 o q
+    → Runs grammar_parser status t l l2 p q
 moved status l l2 t m e o p q f runs = record {
   read = runs.read;
   shown = runs.shown;
   consumed = runs.consumed;
   emitted = subst (λ (x : Option (List ℕ)). Appends x q runs.shown) f runs.emitted;
   at_end = runs.at_end;
-  shows = subst (λ (x : State). EmitsByStatus statement_of status x (script_of l runs.read) runs.read runs.shown) e runs.shows;
+  shows = subst (λ (x : State). EmitsByStatus grammar_parser status x (script_of l runs.read) runs.read runs.shown) e runs.shows;
   bounded = runs.bounded;
 }
 
 -- it was, and the script run
 pub runs_opened : (status : Status) (a b c : View) (s : State) (store : Store) (l l2 : Option (List ℕ)) → IsSound a → StartsFrom a s
     → Changes (UnchangedOrStands Lead8 s) a b → IsStoreDurable b store → store.machine ≡ s → IsSound c → RunsCrashSafe status store l l2 b c
-    → RunsFrom statement_of status s l l2 a c
+    → RunsFrom grammar_parser status s l l2 a c
 unfolding moved
 runs_opened status a b c s store l l2 sound starts change durable is sound_c on = record {
   runs = moved status l l2 s store.machine is b.emitted a.emitted c.emitted change.emitted on.runs;
@@ -266,7 +266,7 @@ runs_opened status a b c s store l l2 sound starts change durable is sound_c on 
 -- the words name no script
 pub headline_unused : (script : SourceView) (a : View) → IsSound a → Headline Usage script script a a
 headline_unused script a sound = record {
-  parser = statement_of;
+  parser = grammar_parser;
   parses = is_parser;
   some_state = (empty_state Lead8, nothing_runs (empty_state Lead8) script.left a.emitted);
   as_it_reads = λ folder s files stands. nothing_runs s script.left a.emitted;
@@ -278,7 +278,7 @@ pub headline_unopened : (fault : ReadFault) (script : SourceView) (a b : View) �
     → ((folder : Folder) (s : State) → a.files ≡ Some folder → Stands Lead8 folder s → Changes (UnchangedOrStands Lead8 s) a b)
     → Headline (status_of_fault fault) script script a b
 headline_unopened fault script a b sound silent change = record {
-  parser = statement_of;
+  parser = grammar_parser;
   parses = is_parser;
   some_state = (empty_state Lead8, first_runs fault (empty_state Lead8) script.left a.emitted b.emitted silent);
   as_it_reads = λ folder s files stands. first_runs fault s script.left a.emitted b.emitted silent;
@@ -291,7 +291,7 @@ pub headline_opened : (status : Status) (script later : SourceView) (a b c : Vie
     → ((folder : Folder) (s : State) → a.files ≡ Some folder → Stands Lead8 folder s → IsStoreDurable b store × (store.machine ≡ s))
     → RunsCrashSafe status store script.left later.left b c → Headline status script later a c
 headline_opened status script later a b c store sound sound_c silent change opened on = record {
-  parser = statement_of;
+  parser = grammar_parser;
   parses = is_parser;
   some_state = (
     store.machine,

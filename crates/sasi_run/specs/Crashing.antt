@@ -3,7 +3,7 @@ use Rattle.std.specs.Prelude.{◌≡◌, ◌⊎◌, ◌≤◌, ℕ, ◌+◌, Lis
 use Rattle.std.specs.Io.KnownBytes.{Consumes, IsAtEnd, Keeps}
 use Rattle.sasi_model.specs.Pieces.{Piece, all_pieces}
 use Rattle.sasi_model.specs.State.{State}
-use Rattle.sasi_model.specs.Statements.{statement_of}
+use Rattle.sasi_model.specs.Parsers.{grammar_parser}
 use Rattle.sasi_model.specs.Step.{step, state_after, replies}
 use Rattle.sasi_host.specs.Names.{Folder}
 use Rattle.sasi_host.specs.View.{CrashLeaves, IsTold, View}
@@ -138,7 +138,7 @@ pub record IsDurableAfter (store : Store) (a b : View) (pieces : List Piece) : T
 
 -- the run shows what its status says, by so many emits, and a crash meanwhile leaves no more than the pieces of the script do
 pub record RunsCrashSafe (status : Status) (store : Store) (left_old left_new : Option (List ℕ)) (a b : View) : Type 0 where
-  pub runs : Runs statement_of status store.machine left_old left_new a.emitted b.emitted
+  pub runs : Runs grammar_parser status store.machine left_old left_new a.emitted b.emitted
   pub crashes : CrashLeavesPieces a b store (all_pieces (script_of left_old runs.read))
   pub ends : RanToEnd status → IsDurableAfter store a b (all_pieces (script_of left_old runs.read))
-  pub emits : EmitsCounted statement_of status store.machine (script_of left_old runs.read) runs.read runs.shown a.emits b.emits
+  pub emits : EmitsCounted grammar_parser status store.machine (script_of left_old runs.read) runs.read runs.shown a.emits b.emits

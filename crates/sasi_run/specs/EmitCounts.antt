@@ -3,7 +3,7 @@ use Rattle.std.specs.Prelude.{◌≡◌, ℕ, ◌+◌, ◌<◌, List, [], ◌∷
 use Rattle.sasi_host.specs.View.{View, counted_by}
 use Rattle.sasi_model.specs.Pieces.{Piece, pieces, all_pieces}
 use Rattle.sasi_model.specs.State.{State}
-use Rattle.sasi_model.specs.Statements.{Parser, IsParser, statement_of}
+use Rattle.sasi_model.specs.Parsers.{Parser, IsParser, grammar_parser}
 use Rattle.sasi_model.specs.Step.{step_by}
 use Rattle.sasi_run.specs.Headline.{EmitsCutReply, EmitsFirstReplies, Runs, SCRIPT_MOST, script_of}
 use Rattle.sasi_run.specs.declared.status.Status.{Status}
@@ -20,7 +20,7 @@ emits_for_by parser s [] = 0
 emits_for_by parser s (p ∷ ps) = emits_of (step_by parser s p).reply + emits_for_by parser (step_by parser s p).state ps
 
 abbrev pub emits_for : State → List Piece → ℕ
-emits_for = emits_for_by statement_of
+emits_for = emits_for_by grammar_parser
 
 -- so many emits were made: none leaves the count as it is
 pub record MakesEmits (emits old new : ℕ) : Type 0 where

@@ -11,7 +11,7 @@ use Rattle.sasi_host.specs.Names.{Folder, log_name, manifest_name, seal_name}
 use Rattle.sasi_host.specs.declared.name.FileName.{FileName}
 use Rattle.sasi_model.specs.Pieces.{Piece, pieces, all_pieces}
 use Rattle.sasi_model.specs.State.{State}
-use Rattle.sasi_model.specs.Statements.{Parser, IsParser}
+use Rattle.sasi_model.specs.Parsers.{Parser, IsParser}
 use Rattle.sasi_model.specs.Step.{step_by, state_by, replies_by, refusals_by}
 use Rattle.sasi_folder.specs.Stands.{Stands, StandsSealed}
 use Rattle.sasi_run.specs.Recovering.{Recovers}

@@ -5,7 +5,7 @@ use Rattle.sasi_host.specs.Names.{Folder}
 use Rattle.sasi_host.specs.View.{View}
 use Rattle.sasi_model.specs.Pieces.{Piece}
 use Rattle.sasi_model.specs.State.{State}
-use Rattle.sasi_model.specs.Statements.{Parser}
+use Rattle.sasi_model.specs.Parsers.{Parser}
 use Rattle.sasi_model.specs.Step.{state_by, replies_by}
 use Rattle.sasi_folder.specs.Stands.{Stands}
 

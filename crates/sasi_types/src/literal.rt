@@ -41,13 +41,11 @@ impl Model for Literals {
 }
 
 impl Literals {
-    /// The empty list.
-    pub fn new(alloc: Global) -> Literals
-        ensures { result ≡ [] }
+    /// These literals, in order.
+    pub fn from_vec(items: Vec<Literal>) -> Literals
+        ensures { result ≡ items.items }
     {
-        Literals {
-            items: Vec::new(alloc),
-        }
+        Literals { items }
     }
 
     /// The literals, in order.
@@ -55,15 +53,6 @@ impl Literals {
         ensures { result.now ≡ self.now }
     {
         &self.items
-    }
-
-    /// Adds a literal at the end.
-    pub fn push(&mut self, literal: Literal) -> Result<(), AllocError>
-        ensures ok { OnOk result (self.new ≡ self.old ++ literal ∷ []) }
-        ensures err { OnErr result (self.new ≡ self.old) }
-    {
-        self.items.push(literal)?;
-        Ok(())
     }
 }
 
@@ -90,6 +79,13 @@ impl Sets {
         Sets {
             items: Vec::new(alloc),
         }
+    }
+
+    /// These columns with their values, in order.
+    pub fn from_vec(items: Vec<(Name, Literal)>) -> Sets
+        ensures { result ≡ items.items }
+    {
+        Sets { items }
     }
 
     /// The columns, each with the value at its position, up to the shorter list's end.

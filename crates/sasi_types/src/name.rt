@@ -110,6 +110,13 @@ impl Names {
         }
     }
 
+    /// These names, in order.
+    pub fn from_vec(items: Vec<Name>) -> Names
+        ensures { result ≡ items.items }
+    {
+        Names { items }
+    }
+
     /// The names, in order.
     pub fn into_vec(self) -> Vec<Name>
         ensures { result.items ≡ self }

@@ -1,12 +1,18 @@
 // Statements, as the parser reads them.
-use crate::{Columns, Literal, Literals, Name, Names, Number, Sets};
+use crate::{Columns, Literal, Literals, Name, Names, Number, Options, Relations, Sets, Text};
 
-/// The table that a query reads, and the columns that it asks for.
+/// What a SELECT asks for: rows of a table, and columns of them.
 #[derive(Drop)]
 pub struct Select {
     /// The columns; None for `*`.
     pub columns: Option<Names>,
     pub table: Name,
+    /// What the WHERE asks; an empty list asks nothing.
+    pub relations: Relations,
+    /// The number behind LIMIT.
+    pub limit: Option<Number>,
+    /// ALLOW FILTERING is said.
+    pub filtering: bool,
 }
 
 /// A statement, as the parser reads it.
@@ -17,6 +23,19 @@ pub enum Statement {
         columns: Columns,
         /// The names that PRIMARY KEY is said of.
         keys: Names,
+    },
+    CreateIndex {
+        name: Option<Name>,
+        table: Name,
+        column: Name,
+        /// The string behind USING.
+        class: Text,
+        options: Options,
+        /// BEGIN is said: the files are left to STEP INDEX.
+        stepped: bool,
+    },
+    DropIndex {
+        index: Name,
     },
     Insert {
         table: Name,
@@ -41,5 +60,43 @@ pub enum Statement {
     },
     Query {
         select: Select,
+    },
+    OpenCursor {
+        cursor: Name,
+        select: Select,
+    },
+    Fetch {
+        cursor: Name,
+        count: Number,
+    },
+    CloseCursor {
+        cursor: Name,
+    },
+    Flush {
+        table: Name,
+    },
+    Compact {
+        table: Name,
+    },
+    Rebuild {
+        index: Name,
+    },
+    ShowFiles,
+    BeginCompact {
+        table: Name,
+    },
+    BeginRebuild {
+        index: Name,
+    },
+    StepCompact {
+        table: Name,
+        units: Number,
+    },
+    StepIndex {
+        index: Name,
+        units: Number,
+    },
+    Trace {
+        on: bool,
     },
 }

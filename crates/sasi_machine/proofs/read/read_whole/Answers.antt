@@ -1,7 +1,8 @@
 use Rattle.std.proofs.Common.{Err, sym, ap, ◌∙◌}
+use Rattle.sasi_model.specs.Parsers.{Parses, FailsAt}
 use Rattle.sasi_model.specs.Refusals.{Bad}
 use Rattle.sasi_model.specs.Abbreviations.{NotUtf8}
-use Rattle.sasi_machine.proofs.WholePieces.{read_bytes, read_nothing, read_statement}
+use Rattle.sasi_machine.proofs.WholePieces.{read_bytes, read_text}
 use Rattle.sasi_machine.proofs.read.read_whole.Goals as goal
 
 pub returns-in-Err-clause-reads : goal.returns-in-Err-clause-reads
@@ -11,11 +12,15 @@ returns-in-Err-clause-reads c =
 
 pub returns-in-Ok-parse-clause-reads : goal.returns-in-Ok-parse-clause-reads
 returns-in-Ok-parse-clause-reads c =
-    read_statement c.args.piece.now c.in-Ok-parse.statement
+    c.built.ensures.reads
+    ∙ read_text c.args.piece.now (Parses c.in-Ok-parse.statement)
     (rw c.as_slice.ensures at (sym c.eq.ensures ∙ c.if-eq.false)) c.in-Ok.ensures.cases.1
     (rw c.in-Ok.ensures.cases.0 at c.in-Ok-parse.ensures.statement)
 
+pub returns-in-Ok-parse-clause-written : goal.returns-in-Ok-parse-clause-written
+returns-in-Ok-parse-clause-written c = c.built.ensures.written c.in-Ok-parse.ensures.written
+
 pub returns-in-Err-Syntax-clause-reads : goal.returns-in-Err-Syntax-clause-reads
 returns-in-Err-Syntax-clause-reads c =
-    read_nothing c.args.piece.now (rw c.as_slice.ensures at (sym c.eq.ensures ∙ c.if-eq.false)) c.in-Ok.ensures.cases.1
-    (rw c.in-Ok.ensures.cases.0 at (c.in-Err-Syntax.ensures.syntax (ap Err c.in-Err-Syntax.field-0-is)))
+    read_text c.args.piece.now (FailsAt c.in-Err-Syntax.field-0-0) (rw c.as_slice.ensures at (sym c.eq.ensures ∙ c.if-eq.false)) c.in-Ok.ensures.cases.1
+    (rw c.in-Ok.ensures.cases.0 at (c.in-Err-Syntax.ensures.fails c.in-Err-Syntax.field-0-0 (ap Err c.in-Err-Syntax.field-0-is)))

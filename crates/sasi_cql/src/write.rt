@@ -1,0 +1,110 @@
+// INSERT, UPDATE and DELETE.
+ghost use Rattle.std.specs.Prelude.{◌≡◌, ◌==◌, length};
+ghost use Rattle.sasi_model.specs.Tokens.{tokens};
+ghost use Rattle.sasi_model.specs.FormReader.{read};
+ghost use Rattle.sasi_model.specs.Statements.{delete, deleted, equations, insert, literals, update};
+ghost use Rattle.sasi_cql.specs.Finds.{Finds};
+
+use crate::front::{after, expect, read_name, stuck};
+use crate::halt::Halt;
+use crate::list::{Items, read_list};
+use crate::part::{read_key_given, read_names, read_time};
+use crate::token::Token;
+use sasi_types::{Literal, Literals, Name, Names, Sets, Statement};
+use std::alloc::Global;
+
+// As many literals as names.
+fn are_even(columns: &Names, values: &Literals) -> bool
+    ensures { result ≡ (length values.now == length columns.now) }
+{
+    values.as_slice().len() == columns.as_slice().len()
+}
+
+// literal {, literal}
+fn read_literals<'a>(alloc: Global, text: &'a [u8]) -> Result<(Literals, &'a [u8]), Halt>
+    ensures { Finds (read literals (tokens text.now)) result }
+{
+    let (values, behind): (Items<Literal>, _) = read_list(alloc, &Token::Comma, text)?;
+    Ok((Literals::from_vec(values.into_vec()), behind))
+}
+
+/// INTO name ( name {, name} ) VALUES ( literal {, literal} ) [USING TIMESTAMP integer], after INSERT
+pub fn read_insert<'a>(alloc: Global, text: &'a [u8]) -> Result<(Statement, &'a [u8]), Halt>
+    ensures { Finds (read insert (tokens text.now)) result }
+{
+    let behind = expect(&[Token::Word(b"into")], text)?;
+    let (table, behind) = read_name(alloc, behind)?;
+    let behind = expect(&[Token::Open], behind)?;
+    let (columns, behind) = read_names(alloc, behind)?;
+    let behind = expect(&[Token::Close, Token::Word(b"values"), Token::Open], behind)?;
+    let (values, behind) = read_literals(alloc, behind)?;
+    if !are_even(&columns, &values) {
+        return Err(stuck(behind));
+    }
+    let behind = expect(&[Token::Close], behind)?;
+    let (time, behind) = read_time(behind)?;
+    let statement = Statement::Insert {
+        table,
+        columns,
+        values,
+        time,
+    };
+    Ok((statement, behind))
+}
+
+// name = literal {, name = literal}
+fn read_sets<'a>(alloc: Global, text: &'a [u8]) -> Result<(Sets, &'a [u8]), Halt>
+    ensures { Finds (read equations (tokens text.now)) result }
+{
+    let (sets, behind): (Items<(Name, Literal)>, _) = read_list(alloc, &Token::Comma, text)?;
+    Ok((Sets::from_vec(sets.into_vec()), behind))
+}
+
+/// name [USING TIMESTAMP integer] SET name = literal {, name = literal} WHERE name = literal, after UPDATE
+pub fn read_update<'a>(alloc: Global, text: &'a [u8]) -> Result<(Statement, &'a [u8]), Halt>
+    ensures { Finds (read update (tokens text.now)) result }
+{
+    let (table, behind) = read_name(alloc, text)?;
+    let (time, behind) = read_time(behind)?;
+    let behind = expect(&[Token::Word(b"set")], behind)?;
+    let (sets, behind) = read_sets(alloc, behind)?;
+    let ((key, value), behind) = read_key_given(alloc, behind)?;
+    let statement = Statement::Update {
+        table,
+        time,
+        sets,
+        key,
+        value,
+    };
+    Ok((statement, behind))
+}
+
+// [name {, name}] FROM
+fn read_deleted<'a>(alloc: Global, text: &'a [u8]) -> Result<(Names, &'a [u8]), Halt>
+    ensures { Finds (read deleted (tokens text.now)) result }
+{
+    if let Some(behind) = after(&Token::Word(b"from"), text) {
+        return Ok((Names::new(alloc), behind));
+    }
+    let (columns, behind) = read_names(alloc, text)?;
+    let behind = expect(&[Token::Word(b"from")], behind)?;
+    Ok((columns, behind))
+}
+
+/// [name {, name}] FROM name [USING TIMESTAMP integer] WHERE name = literal, after DELETE
+pub fn read_delete<'a>(alloc: Global, text: &'a [u8]) -> Result<(Statement, &'a [u8]), Halt>
+    ensures { Finds (read delete (tokens text.now)) result }
+{
+    let (columns, behind) = read_deleted(alloc, text)?;
+    let (table, behind) = read_name(alloc, behind)?;
+    let (time, behind) = read_time(behind)?;
+    let ((key, value), behind) = read_key_given(alloc, behind)?;
+    let statement = Statement::Delete {
+        table,
+        columns,
+        time,
+        key,
+        value,
+    };
+    Ok((statement, behind))
+}
