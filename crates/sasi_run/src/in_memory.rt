@@ -9,6 +9,7 @@ ghost use Rattle.sasi_run.specs.InMemory.{FailsNowhere};
 
 use crate::Status;
 use crate::runner::run;
+use sasi_analyzers::Analyzer;
 use sasi_host::{MemHost, MemSource};
 use std::alloc::Global;
 
@@ -19,8 +20,9 @@ pub fn run_in_memory(
     words: &[String],
     script: &mut MemSource,
     host: &mut MemHost,
+    analyzers: Vec<Box<dyn Analyzer>>,
 ) -> Status
     ensures through { IsCommandLine (map (λ w. string_bytes w) words.now) → FailsNowhere script.old (seen host.old) → ¬ (Rose (seen host.old).refused (seen host.new).refused) → length script.old.left ≤ SCRIPT_MOST → RanThrough result }
 {
-    run(alloc, words, script, host)
+    run(alloc, words, script, host, analyzers)
 }

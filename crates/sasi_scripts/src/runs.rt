@@ -33,7 +33,7 @@ fn run_from(
     host: &mut MemHost,
 ) -> io::Result<()> {
     let before = host.emitted().len();
-    let status = run(alloc, words, source, host);
+    let status = run(alloc, words, source, host, Vec::new(alloc));
     let replies = host.emitted().get(before..).unwrap_or(&[]);
     let replies = str::from_utf8(replies).unwrap_or("replies that are not UTF-8\n");
     print!(rt; "{replies}{status:?}\n")

@@ -7,6 +7,7 @@ mod message;
 mod tests;
 
 use crate::message::Message;
+use sasi_analyzers::{Analyzer, Whole, Words};
 use sasi_filehost::{FileHost, FileSource};
 use sasi_host::{MemHost, MemSource};
 use sasi_run::{Status, command, run};
@@ -30,7 +31,7 @@ fn words<R: Env + AllocGlobal>(rt: &R) -> Result<Vec<String>, Status> {
 fn run_nothing(alloc: Global, words: &[String]) -> Status {
     let mut script = MemSource::new(Vec::new(alloc), 1, Vec::new(alloc));
     let mut host = MemHost::new(alloc);
-    run(alloc, words, &mut script, &mut host)
+    run(alloc, words, &mut script, &mut host, Vec::new(alloc))
 }
 
 // Runs a script file over a folder of real files.
@@ -40,9 +41,13 @@ fn run_files(
     folder: &str,
     script: &str,
 ) -> Result<Status, AllocError> {
+    let alloc = rt.alloc();
     let mut host = FileHost::at(rt, folder)?;
     let mut script = FileSource::at(rt, script)?;
-    Ok(run(rt.alloc(), words, &mut script, &mut host))
+    let mut analyzers: Vec<Box<dyn Analyzer>> = Vec::new(alloc);
+    analyzers.push(Box::new(alloc, Whole::new())?)?;
+    analyzers.push(Box::new(alloc, Words::new(alloc))?)?;
+    Ok(run(alloc, words, &mut script, &mut host, analyzers))
 }
 
 // Runs the words of the command line.

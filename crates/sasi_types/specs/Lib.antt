@@ -1,6 +1,9 @@
 pub mod Key
 pub mod Murmur
 pub mod DecoratedKey
+pub mod ListKind
+pub mod Rule
 pub mod StoredBytes
+pub mod Term
 pub mod Token
 pub mod Value

@@ -5,8 +5,8 @@ use crate::Token;
 use std::alloc::{AllocError, Global};
 use std::marker::Model;
 
-/// A token, and the offset in a file to which it leads.
-#[derive(Clone, Copy, Debug, PartialEq, Eq)]
+/// A token, and the offset in a file to which it leads. Pairs are in the order of tokens, and then of offsets.
+#[derive(Clone, Copy, Debug, PartialEq, Eq, PartialOrd, Ord)]
 pub struct Pair {
     pub token: Token,
     /// The offset from the file's start.

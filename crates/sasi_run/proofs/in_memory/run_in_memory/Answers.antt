@@ -3,7 +3,7 @@ use Rattle.sasi_run.proofs.NothingFails.{no_call_fails, no_emit_fails, no_read_f
 use Rattle.sasi_run.proofs.in_memory.run_in_memory.Goals as goal
 
 pub returns : goal.returns
-returns c = record {
+returns g c = record {
   through = λ words nowhere grew short.
       (let causes = c.run.ensures.causes in
       let script = c.args.script.now in

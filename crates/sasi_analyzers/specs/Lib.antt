@@ -1,0 +1,2 @@
+pub mod NextTerm
+pub mod Kits

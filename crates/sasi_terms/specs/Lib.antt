@@ -1,0 +1,5 @@
+pub mod Terms
+pub mod Numbers
+pub mod Holds
+pub mod Patterns
+pub mod Percents

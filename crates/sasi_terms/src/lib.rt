@@ -1,0 +1,12 @@
+//! What a relation asks of the terms of an index: patterns of LIKE, and whether a term is one of those that are asked for. The
+//! crate also has the definition of the terms of a text. It takes no memory.
+#![tactic(auto)]
+
+mod matching;
+mod number;
+mod op;
+mod pattern;
+
+pub use matching::holds;
+pub use op::Op;
+pub use pattern::{LikeEmpty, Pattern};
