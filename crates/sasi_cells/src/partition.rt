@@ -98,8 +98,8 @@ impl Partition {
         put_in(&mut self.cells, column, cell)
     }
 
-    // A copy of the partition.
-    fn copy(&self, alloc: Global) -> Result<Partition, AllocError>
+    /// A copy of the partition.
+    pub fn copy(&self, alloc: Global) -> Result<Partition, AllocError>
         ensures ok { IfOk result (λ copy. copy ≡ self.now) }
         ensures normal { IsNormal self.now }
     {

@@ -2,7 +2,6 @@
 use Rattle.std.proofs.Common.{◌≡◌, ℕ, true, false, List, [], ◌∷◌, length, Option, None, Some, is_some, refl}
 use Rattle.std.specs.Borrow.{Bor}
 use Rattle.sasi_model.specs.Tokens as model
-use Rattle.sasi_model.specs.Tokens.{tokens}
 use Rattle.sasi_model.specs.FormReader.{Got, Stuck, ended}
 use Rattle.sasi_cql.specs.declared.token.Token.{Token}
 use Rattle.sasi_cql.specs.Finds.{HasToken, IsFirst}

@@ -1,4 +1,4 @@
-//! Tests of formats, bodies, token trees and data files: their bytes, what is read of them, and damaged ones.
+//! Tests of memtables, formats, bodies, token trees and data files: their bytes, what is read of them, and damaged ones.
 #![tactic(auto)]
 
 #[cfg(test)]
@@ -7,6 +7,8 @@ mod bodies;
 mod fixture;
 #[cfg(test)]
 mod formats;
+#[cfg(test)]
+mod memtables;
 #[cfg(test)]
 mod reading;
 #[cfg(test)]

@@ -7,7 +7,7 @@ use Rattle.sasi_host.specs.Damages.{HasAt, seen_bytes}
 use Rattle.sasi_host.proofs.Offsets.{same_at}
 use Rattle.sasi_fields.specs.Reading.{Reading}
 use Rattle.sasi_formats.specs.Formats.{Format, Encodes}
-use Rattle.sasi_formats.specs.Reader.{Corruption, Outcome, Got, Failed, read, start}
+use Rattle.sasi_formats.specs.Reader.{Corruption, Got, Failed, read, start}
 use Rattle.sasi_formats.specs.Reader as reader
 use Rattle.sasi_formats.specs.Failures.{FailsWhole}
 use Rattle.sasi_formats.specs.Gives.{FailsWith}

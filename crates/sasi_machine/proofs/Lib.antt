@@ -3,8 +3,6 @@ pub mod Accepted
 pub mod Assigning
 pub mod MaxTimestamps
 pub mod KeyLiterals
-pub mod Merged
-pub mod Ordered
 pub mod Passed
 pub mod Picked
 pub mod StatementPreparing

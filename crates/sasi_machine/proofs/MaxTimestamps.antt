@@ -11,9 +11,9 @@ use Rattle.sasi_cells.proofs.Laws.Times.{max_timestamp_merge}
 use Rattle.sasi_model.specs.Cells.{Partition, empty_partition, max_timestamp_of, merge}
 use Rattle.sasi_model.specs.State.{Definition, Table}
 use Rattle.sasi_model.specs.Abbreviations.{Partitions, max_timestamp_of_tables, max_timestamp_of_partitions}
-use Rattle.sasi_machine.specs.MemtableView.{MemtableView}
+use Rattle.sasi_memtable.specs.MemtableView.{MemtableView}
 use Rattle.sasi_machine.specs.Tables.{AreMemtables, tables_of}
-use Rattle.sasi_machine.proofs.Ordered.{no_entries}
+use Rattle.sasi_memtable.proofs.Ordered.{no_entries}
 use Rattle.sasi_machine.proofs.WriteTimes.{empty_time}
 
 abbrev times : List (DecoratedKey × Partition) → ℕ

@@ -13,7 +13,7 @@ use Rattle.sasi_model.specs.Step.{live_rows, value_numbered, value_stored}
 use Rattle.sasi_model.specs.Abbreviations.{count_up, numbers_of, key_type}
 use Rattle.sasi_schema.specs.Numbers.{IsKeyAt}
 use Rattle.sasi_schema.proofs.Keys.{key_is}
-use Rattle.sasi_machine.specs.MemtableView.{rows_picked}
+use Rattle.sasi_machine.specs.TableRows.{rows_picked}
 use Rattle.sasi_machine.specs.Picks.{pick}
 
 count_push : (from n : ℕ) → count_up from (suc n) ≡ count_up from n ++ (from + n) ∷ []

@@ -8,7 +8,7 @@ use Rattle.sasi_cells.specs.declared.picked.PickedColumn.{PickedColumn}
 use Rattle.sasi_cells.specs.Rows.{picked_value}
 use Rattle.sasi_model.specs.Cells.{Partition, is_live}
 use Rattle.sasi_model.specs.Abbreviations.{row_line}
-use Rattle.sasi_machine.specs.MemtableView.{rows_picked}
+use Rattle.sasi_machine.specs.TableRows.{rows_picked}
 
 rows_more : (kind : ColumnType) (columns : List PickedColumn) (entry : DecoratedKey × Partition) (entries : List (DecoratedKey × Partition))
     → rows_picked kind columns (entry ∷ entries) ≡ rows_picked kind columns (entry ∷ []) ++ rows_picked kind columns entries

@@ -25,35 +25,37 @@ use Rattle.sasi_machine.specs.declared.outcome.Outcome.{Outcome}
 use Rattle.sasi_machine.specs.declared.prepared.Prepared.{Prepared}
 use Rattle.sasi_machine.specs.declared.prepared.Prepared.TheVariants.{Answered, Create, Write as Writes}
 use Rattle.sasi_cells.specs.declared.mutation.Mutation.{Mutation}
-use Rattle.sasi_machine.specs.MemtableView.{MemtableView}
+use Rattle.sasi_memtable.specs.MemtableView.{MemtableView, empty_memtable}
 use Rattle.sasi_machine.specs.Outcome.{outcome_of}
 use Rattle.sasi_cells.specs.Mutations.{state_with_mutation}
 use Rattle.sasi_machine.specs.Prepares.{StatementPrepares, IsApplicable, IsNewTable, CreatesTable, Prepares, StepsTo, WritesTo}
+use Rattle.sasi_machine.specs.TableRows.{KeysStored}
 use Rattle.sasi_machine.specs.Tables.{AreMemtables, IsMachineState, HasMemtableFor, IsWrittenAt, state_of, table_with, tables_of, written}
 use Rattle.sasi_machine.specs.StatementSteps.{StatementStepsTo}
 use Rattle.sasi_machine.specs.Writes.{IsWrite, IsWriting, table_named}
 use Rattle.sasi_machine.proofs.MaxTimestamps.{greatest_put, greatest_set}
-use Rattle.sasi_machine.proofs.TablesOfMemtables.{changed_at, memtable_at, memtable_inside, definitions_of, memtables_set, length_tables, tables_push}
+use Rattle.sasi_machine.proofs.Stored.{put_stored}
+use Rattle.sasi_machine.proofs.TablesOfMemtables.{changed_at, memtable_at, memtable_inside, definitions_of, memtables_set, length_tables, tables_push, under_at, under_set}
 use Rattle.sasi_machine.proofs.WrittenKeys.{found_rules}
 use Rattle.sasi_schema.proofs.Allowed.{allowed}
 use Rattle.sasi_schema.proofs.Keys.{column_types_are, types_are}
-use Rattle.sasi_machine.proofs.StatementStepping.{answers_ok, created_tables, empty_contents, max_timestamp_kept, has_memtable, rules_kept, takes, write_tables}
+use Rattle.sasi_machine.proofs.StatementStepping.{answers_ok, created_tables, max_timestamp_kept, has_memtable, rules_kept, takes, write_tables}
 
 -- ---- the state that is kept
 
 -- a statement that no rule refuses is not refused
-not_refused : (p : Partitioner) (ds : List Definition) (cs : List MemtableView) (g : ℕ) (statement : Statement) → IsMachineState ds cs g → first_of
+not_refused : (p : Partitioner) (ds : List Definition) (cs : List MemtableView) (g : ℕ) (statement : Statement) → IsMachineState p ds cs g → first_of
     (rules ds g statement) ≡ None → refusal (state_of p ds cs) statement ≡ None
 unfolding refusal
 not_refused p ds cs g statement kept none = ap first_of (rules_kept p ds cs g statement kept) ∙ none
 
-no_rule : (p : Partitioner) (ds : List Definition) (cs : List MemtableView) (g : ℕ) (statement : Statement) → IsMachineState ds cs g → refusal
+no_rule : (p : Partitioner) (ds : List Definition) (cs : List MemtableView) (g : ℕ) (statement : Statement) → IsMachineState p ds cs g → refusal
     (state_of p ds cs) statement ≡ None → first_of (rules ds g statement) ≡ None
 unfolding refusal
 no_rule p ds cs g statement kept none = sym (ap first_of (rules_kept p ds cs g statement kept)) ∙ none
 
 -- a write is known by what is kept
-kept_write : (p : Partitioner) (ds : List Definition) (cs : List MemtableView) (g : ℕ) (statement : Statement) (w : Mutation) → IsMachineState ds cs g
+kept_write : (p : Partitioner) (ds : List Definition) (cs : List MemtableView) (g : ℕ) (statement : Statement) (w : Mutation) → IsMachineState p ds cs g
     → IsWrite ds g statement w → IsWrite (definitions (tables_of ds cs)) (max_timestamp (state_of p ds cs)) statement w
 kept_write p ds cs g statement w kept write =
     subst (λ (tables : List Definition). IsWrite tables (max_timestamp (state_of p ds cs)) statement w) (sym (definitions_of ds cs kept.held))
@@ -62,7 +64,7 @@ kept_write p ds cs g statement w kept write =
 -- ---- CREATE TABLE
 
 pub create_asks : (p : Partitioner) (ds : List Definition) (cs : List MemtableView) (g : ℕ) (table : List ℕ) (columns : List Column)
-    (keys : List (List ℕ)) (t : Table) (reply_old reply_new : List ℕ) → IsMachineState ds cs g → first_of (create_rules ds table columns keys) ≡ None
+    (keys : List (List ℕ)) (t : Table) (reply_old reply_new : List ℕ) → IsMachineState p ds cs g → first_of (create_rules ds table columns keys) ≡ None
     → definition t ≡ new_definition table columns keys → t.number ≡ length ds + 1 → reply_new ≡ reply_old ++ ok_line → StatementPrepares
     (state_of p ds cs) (CreateTable table columns keys) reply_old reply_new (Create t)
 create_asks p ds cs g table columns keys t reply_old reply_new kept none is number reply_is =
@@ -88,7 +90,7 @@ written_tables p ds cs w c held some got = by w.table (omega arith) some
         rw same (changed_at ds cs (w.table - 1) (decorated p w.key) w.change c held got (written p w c) refl)
 
 pub write_asks : (p : Partitioner) (ds : List Definition) (cs : List MemtableView) (g : ℕ) (statement : Statement) (w : Mutation)
-    (reply_old reply_new : List ℕ) → IsMachineState ds cs g → IsWriting statement → IsWrite ds g statement w → first_of (rules ds g statement) ≡ None
+    (reply_old reply_new : List ℕ) → IsMachineState p ds cs g → IsWriting statement → IsWrite ds g statement w → first_of (rules ds g statement) ≡ None
     → reply_new ≡ reply_old ++ ok_line → StatementPrepares (state_of p ds cs) statement reply_old reply_new (Writes w)
 write_asks p ds cs g statement w reply_old reply_new kept writing write none reply_is =
     let s = state_of p ds cs in
@@ -130,7 +132,7 @@ body_limit types key change body = omega (arith, body.has.deleted, cells_limit c
 
 -- a mutation that was prepared can be applied
 pub write_is_fit : (p : Partitioner) (ds : List Definition) (cs : List MemtableView) (g : ℕ) (statement : Statement) (w : Mutation)
-    → IsMachineState ds cs g → IsWriting statement → IsWellFormed statement → first_of (rules ds g statement) ≡ None → IsWrite ds g statement w → IsApplicable
+    → IsMachineState p ds cs g → IsWriting statement → IsWellFormed statement → first_of (rules ds g statement) ≡ None → IsWrite ds g statement w → IsApplicable
     (state_of p ds cs) w
 write_is_fit p ds cs g statement w kept writing written none write =
     let d = write.definition in
@@ -148,31 +150,32 @@ write_is_fit p ds cs g statement w kept writing written none write =
     }
 
 -- a mutation that can be applied has a memtable
-pub fit_room : (p : Partitioner) (ds : List Definition) (cs : List MemtableView) (g : ℕ) (w : Mutation) → IsMachineState ds cs g → IsApplicable (state_of p ds cs) w → HasMemtableFor cs w
+pub fit_room : (p : Partitioner) (ds : List Definition) (cs : List MemtableView) (g : ℕ) (w : Mutation) → IsMachineState p ds cs g → IsApplicable (state_of p ds cs) w → HasMemtableFor cs w
 fit_room p ds cs g w kept fit =
     let held = memtable_at ds cs (w.table - 1) fit.table kept.held fit.there in
-    record {
-      some = fit.some;
-      inside = omega (arith, fit.some, memtable_inside cs (w.table - 1) held.0 held.1);
-      stored = λ c got.
-          let same : held.0 ≡ c = (let e : Some held.0 ≡ Some c = sym held.1 ∙ got in cc) in
-          subst (λ kind. IsStored kind w.key) (sym held.2 ∙ ap (λ (c : MemtableView). c.kind) same) (body_stored fit.table.definition w.key w.change (subst (λ types. IsBodyOf types w.key w.change) (sym (types_are fit.table.definition fit.types fit.types_are)) fit.body));
-    }
+    record { some = fit.some; inside = omega (arith, fit.some, memtable_inside cs (w.table - 1) held.0 held.1) }
 
-pub fit_kept : (p : Partitioner) (ds : List Definition) (cs new : List MemtableView) (g : ℕ) (w : Mutation) → IsMachineState ds cs g → IsApplicable
-    (state_of p ds cs) w → IsWrittenAt p cs w new → IsMachineState ds new (max g (max_timestamp_of w.change))
+-- its key is one of the table's
+fit_stored : (s : State) (w : Mutation) (fit : IsApplicable s w) → IsStored (key_type fit.table.definition) w.key
+fit_stored s w fit = body_stored fit.table.definition w.key w.change (subst (λ types. IsBodyOf types w.key w.change) (sym (types_are fit.table.definition fit.types fit.types_are)) fit.body)
+
+pub fit_kept : (p : Partitioner) (ds : List Definition) (cs new : List MemtableView) (g : ℕ) (w : Mutation) → IsMachineState p ds cs g → IsApplicable
+    (state_of p ds cs) w → IsWrittenAt p cs w new → IsMachineState p ds new (max g (max_timestamp_of w.change))
 fit_kept p ds cs new g w kept fit is =
     let at = w.table - 1 in
     let held = memtable_at ds cs at fit.table kept.held fit.there in
-    let new_is : new ≡ set cs at (written p w held.0) = is held.0 held.1 in
-    let times = greatest_set ds cs at held.0 (written p w held.0) (max_timestamp_of w.change) kept.held held.1 (greatest_put held.0.partitions (decorated p w.key) w.change) in
+    let changed : MemtableView = written p w held.0 in
+    let new_is : new ≡ set cs at changed = is held.0 held.1 in
+    let times = greatest_set ds cs at held.0 changed (max_timestamp_of w.change) kept.held held.1 (greatest_put held.0.partitions (decorated p w.key) w.change) in
+    let stored : KeysStored (key_type fit.table.definition) changed.partitions = put_stored (key_type fit.table.definition) held.0.partitions (decorated p w.key) w.change (fit_stored (state_of p ds cs) w fit) held.2 in
     record {
-      held = rw new_is (memtables_set ds cs at held.0 (written p w held.0) kept.held held.1 refl);
+      held = rw new_is (memtables_set ds cs at fit.table changed kept.held fit.there stored);
+      under = rw new_is (under_set p cs at changed kept.under (under_at p cs at held.0 kept.under held.1));
       max_timestamp_is = ap (λ (t : ℕ). max t (max_timestamp_of w.change)) kept.max_timestamp_is ∙ sym (ap (λ (cs : List MemtableView). max_timestamp_of_tables (tables_of ds cs)) new_is ∙ times);
       limit = omega (arith, kept.limit, body_limit fit.types w.key w.change fit.body);
     }
 
-pub fit_state : (p : Partitioner) (ds : List Definition) (cs new : List MemtableView) (g : ℕ) (w : Mutation) → IsMachineState ds cs g → IsApplicable
+pub fit_state : (p : Partitioner) (ds : List Definition) (cs new : List MemtableView) (g : ℕ) (w : Mutation) → IsMachineState p ds cs g → IsApplicable
     (state_of p ds cs) w → IsWrittenAt p cs w new → state_of p ds new ≡ state_with_mutation (state_of p ds cs) w
 fit_state p ds cs new g w kept fit is =
     let at = w.table - 1 in
@@ -211,7 +214,7 @@ steps s piece statement state reply_old reply outcome says empty takes =
     }
 
 -- a mutation that was prepared in a state can be applied to it
-writes_fit : (p : Partitioner) (ds : List Definition) (cs : List MemtableView) (g : ℕ) (statement : Statement) (w : Mutation) → IsMachineState ds cs g
+writes_fit : (p : Partitioner) (ds : List Definition) (cs : List MemtableView) (g : ℕ) (statement : Statement) (w : Mutation) → IsMachineState p ds cs g
     → IsWellFormed statement → WritesTo (state_of p ds cs) statement w → IsApplicable (state_of p ds cs) w
 writes_fit p ds cs g statement w kept written writes =
     write_is_fit p ds cs g statement w kept writes.writing written (no_rule p ds cs g statement kept writes.taken)
@@ -219,7 +222,7 @@ writes_fit p ds cs g statement w kept written writes =
     (subst (λ (time : ℕ). IsWrite (definitions (tables_of ds cs)) time statement w) (max_timestamp_kept p ds cs g kept) writes.write))
 
 statement_prepares : (p : Partitioner) (ds : List Definition) (cs : List MemtableView) (g : ℕ) (piece : Piece) (statement : Statement)
-    (reply_old reply : List ℕ) (prepared : Prepared) → IsMachineState ds cs g → read piece ≡ Says statement → IsWellFormed statement → reply_old ≡ []
+    (reply_old reply : List ℕ) (prepared : Prepared) → IsMachineState p ds cs g → read piece ≡ Says statement → IsWellFormed statement → reply_old ≡ []
     → StatementPrepares (state_of p ds cs) statement reply_old reply prepared
     → Prepares (state_of p ds cs) piece reply prepared
 statement_prepares p ds cs g piece statement reply_old reply (Answered outcome) kept says written empty asks =
@@ -232,7 +235,7 @@ statement_prepares p ds cs g piece statement reply_old reply (Writes w) kept say
     (steps s piece statement (state_with_mutation s w) reply_old reply (outcome_of None) says empty asks.0, (statement, says, written, asks.1), writes_fit p ds cs g statement w kept written asks.1)
 
 pub plans : {E : Type 0} (s : State) (p : Partitioner) (ds : List Definition) (cs : List MemtableView) (g : ℕ) (piece : Piece)
-    (statement : Statement) (reply_old reply : List ℕ) (result : Result Prepared E) → state_of p ds cs ≡ s → IsMachineState ds cs g
+    (statement : Statement) (reply_old reply : List ℕ) (result : Result Prepared E) → state_of p ds cs ≡ s → IsMachineState p ds cs g
     → read piece ≡ Says statement → IsWellFormed statement → reply_old ≡ []
     → IfOk result (λ prepared. StatementPrepares s statement reply_old reply prepared) → IfOk result (λ prepared. Prepares s piece reply prepared)
 plans s p ds cs g piece statement reply_old reply (Ok prepared) is kept says written empty asks =
@@ -242,12 +245,12 @@ plans s p ds cs g piece statement reply_old reply (Err e) is kept says written e
 
 -- ---- one more table
 
-pub next_number : (s : State) (p : Partitioner) (ds : List Definition) (cs : List MemtableView) (g : ℕ) (t : Table) → state_of p ds cs ≡ s → IsMachineState ds cs g → IsNewTable s t → t.number ≡ length ds + 1
+pub next_number : (s : State) (p : Partitioner) (ds : List Definition) (cs : List MemtableView) (g : ℕ) (t : Table) → state_of p ds cs ≡ s → IsMachineState p ds cs g → IsNewTable s t → t.number ≡ length ds + 1
 next_number s p ds cs g t is kept next = next.number ∙ ap (λ (s : State). length s.tables + 1) (sym is) ∙ ap (λ n. n + 1) (length_tables ds cs kept.held)
 
-pub next_free : (s : State) (p : Partitioner) (ds : List Definition) (cs : List MemtableView) (g : ℕ) (t : Table) → state_of p ds cs ≡ s → IsMachineState ds cs g → IsNewTable s t → definition_of t.name ds ≡ None
+pub next_free : (s : State) (p : Partitioner) (ds : List Definition) (cs : List MemtableView) (g : ℕ) (t : Table) → state_of p ds cs ≡ s → IsMachineState p ds cs g → IsNewTable s t → definition_of t.name ds ≡ None
 next_free s p ds cs g t is kept next = ap (definition_of t.name) (sym (definitions_of ds cs kept.held) ∙ ap (λ (s : State). definitions s.tables) is) ∙ next.free
 
-pub created_state : (p : Partitioner) (ds : List Definition) (cs : List MemtableView) (g : ℕ) (d : Definition) → IsMachineState ds cs g → state_of p
-    (ds ++ d ∷ []) (cs ++ empty_contents d ∷ []) ≡ with_new_table (state_of p ds cs) d
-created_state p ds cs g d kept = ap (λ (tables : List model.Table). record { partitioner = p; tables = tables }) (tables_push ds cs d (empty_contents d) kept.held)
+pub created_state : (p : Partitioner) (ds : List Definition) (cs : List MemtableView) (g : ℕ) (d : Definition) → IsMachineState p ds cs g → state_of p
+    (ds ++ d ∷ []) (cs ++ empty_memtable p ∷ []) ≡ with_new_table (state_of p ds cs) d
+created_state p ds cs g d kept = ap (λ (tables : List model.Table). record { partitioner = p; tables = tables }) (tables_push ds cs d (empty_memtable p) kept.held)

@@ -1,43 +1,40 @@
 -- The steps of statements: of those that are refused, and of those that are not.
-use Rattle.std.proofs.Common.{◌≡◌, inl, inr, ℕ, suc, ◌-◌, ◌<◌, ◌≤◌, List, [], ◌∷◌, ◌++◌, length, get_or, set, slice_get, Option, Some, None, Result, Ok, Err, OnOk, IfOk, refl, sym, ap, subst, ◌∙◌, arith}
-use Rattle.std.specs.Prelude.{max}
+use Rattle.std.proofs.Common.{◌≡◌, false, true, is_some, inl, inr, ℕ, suc, ◌-◌, ◌<◌, ◌≤◌, List, [], ◌∷◌, ◌++◌, length, get_or, slice_get, Option, Some, None, Result, Ok, Err, OnOk, IfOk, refl, sym, ap, subst, ◌∙◌, arith}
 use Rattle.std.specs.FinMap as fin
 use Rattle.std.specs.Option.{option_and_then, option_map, option_map_or}
 use Rattle.sasi_types.specs.declared.partitioner.Partitioner.{Partitioner}
 use Rattle.std.proofs.lemmas.Option.{get_or_from_slice_get, slice_get_cases}
-use Rattle.sasi_types.specs.declared.column.ColumnType.{ColumnType}
 use Rattle.sasi_types.specs.declared.statement.Select.{Select}
 use Rattle.sasi_types.specs.declared.statement.Statement.{Statement}
 use Rattle.sasi_types.specs.declared.statement.Statement.TheVariants.{CreateTable, Insert, Update, Delete, Query}
-use Rattle.sasi_cells.specs.Rows.{IsStored}
-use Rattle.sasi_model.specs.Cells.{Partition, max_timestamp_of}
+use Rattle.sasi_model.specs.Cells.{Partition}
 use Rattle.sasi_model.specs.Changes.{empty_table}
 use Rattle.sasi_types.specs.declared.decorated_key.DecoratedKey.{DecoratedKey}
+use Rattle.sasi_types.specs.DecoratedKey.{decorated_cmp}
 use Rattle.sasi_model.specs.State.{Column, Definition, State, Table, definition_of, max_timestamp, decorated, table_of, with_table}
-use Rattle.sasi_model.specs.Abbreviations.{definitions, key_position, max_timestamp_of_tables, max_timestamp_of_partitions, stored_of, selected_lines, ok_line, NoTable, first_of, new_definition, key_type}
-use Rattle.sasi_model.specs.Refusals.{Refusal, create_rules, refusal, rules, select_rules}
+use Rattle.sasi_model.specs.Abbreviations.{definitions, key_position, max_timestamp_of_tables, stored_of, selected_lines, ok_line, NoTable, first_of, new_definition, key_type}
+use Rattle.sasi_model.specs.Refusals.{Refusal, refusal, rules, select_rules}
 use Rattle.sasi_model.specs.Lines.{refusal_line, rows_lines}
 use Rattle.sasi_model.specs.Step.{answer_of, applied, selected_columns, execute, decorated_given, live_rows, primary_key, tables_after, timestamp, value_given}
 use Rattle.sasi_schema.specs.Answers.{IsFirstRefusal}
 use Rattle.sasi_schema.specs.Numbers.{IsKeyAt, number_of_table}
-use Rattle.sasi_schema.proofs.Allowed.{allowed}
 use Rattle.sasi_machine.specs.declared.outcome.Outcome.{Outcome}
 use Rattle.sasi_cells.specs.declared.mutation.Mutation.{Mutation}
 use Rattle.sasi_machine.specs.KeyLiteral.{IsKeyLiteral}
-use Rattle.sasi_machine.specs.MemtableView.{MemtableView}
+use Rattle.sasi_memtable.specs.MemtableView.{MemtableView, empty_memtable}
 use Rattle.sasi_machine.specs.Outcome.{outcome_of}
-use Rattle.sasi_machine.specs.Tables.{AreMemtables, IsMachineState, HasMemtableFor, IsWrittenAt, state_of, table_with, tables_of, written}
+use Rattle.sasi_machine.specs.TableRows.{KeysStored}
+use Rattle.sasi_machine.specs.Tables.{AreMemtables, IsMachineState, IsWrittenAt, state_of, table_with, tables_of, written}
 use Rattle.sasi_machine.specs.StatementSteps.{IsAnswered, IsRefused, StatementStepsTo}
 use Rattle.sasi_machine.specs.Writes.{IsWrite, IsWriting, change_in, key_in, table_named, time_in}
-use Rattle.sasi_machine.proofs.MaxTimestamps.{greatest_push, greatest_put, greatest_set}
-use Rattle.sasi_machine.proofs.TablesOfMemtables.{IsThere, definitions_of, memtables_push, is_there, number_inside, number_some, tables_push}
-use Rattle.sasi_machine.proofs.WriteTimes.{change_within}
+use Rattle.sasi_machine.proofs.MaxTimestamps.{greatest_push, nothing_held}
+use Rattle.sasi_machine.proofs.TablesOfMemtables.{IsThere, definitions_of, memtables_push, is_there, number_inside, number_some, tables_push, under_push}
 use Rattle.sasi_machine.proofs.WrittenKeys.{decorated_in, found_rules, given_in, key_in_accepted}
 
 -- ---- whatever the statement
 
 -- the rules are tried on the schema and the largest timestamp
-pub rules_kept : (p : Partitioner) (ds : List Definition) (cs : List MemtableView) (g : ℕ) (statement : Statement) → IsMachineState ds cs g → rules
+pub rules_kept : (p : Partitioner) (ds : List Definition) (cs : List MemtableView) (g : ℕ) (statement : Statement) → IsMachineState p ds cs g → rules
     (definitions (tables_of ds cs)) (max_timestamp (state_of p ds cs)) statement ≡ rules ds g statement
 unfolding max_timestamp
 rules_kept p ds cs g statement kept =
@@ -53,7 +50,7 @@ told_refuses s statement (Some r) reply_old reply_new outcome refusal_of_fault r
 
 -- a statement that is refused
 pub refuses : {E : Type 0} (p : Partitioner) (ds : List Definition) (cs : List MemtableView) (g : ℕ) (statement : Statement)
-    (refusal_of_fault : Option Refusal) (reply_old reply_new : List ℕ) (result : Result Outcome E) → IsMachineState ds cs g → IsFirstRefusal refusal_of_fault (rules ds g statement)
+    (refusal_of_fault : Option Refusal) (reply_old reply_new : List ℕ) (result : Result Outcome E) → IsMachineState p ds cs g → IsFirstRefusal refusal_of_fault (rules ds g statement)
     → IfOk result (λ o. IsRefused refusal_of_fault reply_old reply_new o) → IfOk result (λ o. StatementStepsTo (state_of p ds cs) statement (state_of p ds cs) reply_old reply_new o)
 refuses p ds cs g statement refusal_of_fault reply_old reply_new (Ok o) kept is refused =
     told_refuses (state_of p ds cs) statement refusal_of_fault reply_old reply_new o (subst (IsFirstRefusal refusal_of_fault) (sym (rules_kept p ds cs g statement kept)) is) refused
@@ -61,7 +58,7 @@ refuses p ds cs g statement refusal_of_fault reply_old reply_new (Err e) kept is
 
 -- a statement that isn't
 pub takes : (p : Partitioner) (ds : List Definition) (cs : List MemtableView) (g : ℕ) (statement : Statement) (new : State)
-    (reply_old reply_new : List ℕ) (outcome : Outcome) → IsMachineState ds cs g → first_of (rules ds g statement) ≡ None
+    (reply_old reply_new : List ℕ) (outcome : Outcome) → IsMachineState p ds cs g → first_of (rules ds g statement) ≡ None
     → new ≡ (execute (state_of p ds cs) statement).state → reply_new ≡ reply_old ++ answer_of (state_of p ds cs) statement
     → outcome ≡ outcome_of None → StatementStepsTo (state_of p ds cs) statement new reply_old reply_new outcome
 unfolding refusal
@@ -95,33 +92,6 @@ pub read_memtable : (ds : List Definition) (cs : List MemtableView) (name : List
     (c : MemtableView) → c ≡ get_or cs (number - 1) c → c ≡ h.memtables
 read_memtable ds cs name number d h c is = is ∙ get_or_from_slice_get cs (number - 1) h.memtables c h.got
 
--- a mutation has a memtable
-pub write_fits : (p : Partitioner) (ds : List Definition) (cs : List MemtableView) (g : ℕ) (statement : Statement) (w : Mutation) → IsMachineState ds cs g → IsWrite ds g statement w → HasMemtableFor cs w
-write_fits p ds cs g statement w kept write =
-    let h = has_memtable ds cs (table_named statement) w.table write.definition kept.held write.number write.found in
-    record {
-      some = h.some;
-      inside = h.inside;
-      stored = λ c got.
-          let same : h.memtables ≡ c = (let e : Some h.memtables ≡ Some c = sym h.got ∙ got in cc) in
-          subst (λ (kind : ColumnType). IsStored kind w.key) (sym h.there.kind ∙ ap (λ (c : MemtableView). c.kind) same) write.written.change.stored;
-    }
-
--- the largest timestamp of the state after a mutation
-pub write_kept : (p : Partitioner) (ds : List Definition) (cs new : List MemtableView) (g : ℕ) (statement : Statement) (w : Mutation)
-    → IsMachineState ds cs g → IsWrite ds g statement w → IsWrittenAt p cs w new → IsMachineState ds new (max g (max_timestamp_of w.change))
-write_kept p ds cs new g statement w kept write is =
-    let h = has_memtable ds cs (table_named statement) w.table write.definition kept.held write.number write.found in
-    let at = w.table - 1 in
-    let new_is : new ≡ set cs at (written p w h.memtables) = is h.memtables h.got in
-    let later : max_timestamp_of w.change ≤ write.written.time = rw write.written.change.change_is (change_within write.definition write.written.time statement) in
-    let times = greatest_set ds cs at h.memtables (written p w h.memtables) (max_timestamp_of w.change) kept.held h.got (greatest_put h.memtables.partitions (decorated p w.key) w.change) in
-    record {
-      held = rw new_is (h.there.kept (written p w h.memtables) refl);
-      max_timestamp_is = ap (λ (t : ℕ). max t (max_timestamp_of w.change)) kept.max_timestamp_is ∙ sym (ap (λ (cs : List MemtableView). max_timestamp_of_tables (tables_of ds cs)) new_is ∙ times);
-      limit = omega (arith, kept.limit, write.written.time_is.limit);
-    }
-
 -- what a write does to a table, by the largest timestamp of the state
 change_of : Partitioner → ℕ → Statement → Table → Table
 change_of p g statement t = applied (option_and_then (decorated_given p t.definition) (given_in t.definition statement)) (option_map (λ time. change_in t.definition time statement) (timestamp g (time_in statement))) t
@@ -151,12 +121,12 @@ answers_ok s (Update table time sets key value) is = refl
 answers_ok s (Delete table columns time key value) is = refl
 answers_ok s statement is = absurd is
 
-pub max_timestamp_kept : (p : Partitioner) (ds : List Definition) (cs : List MemtableView) (g : ℕ) → IsMachineState ds cs g → max_timestamp (state_of p ds cs) ≡ g
+pub max_timestamp_kept : (p : Partitioner) (ds : List Definition) (cs : List MemtableView) (g : ℕ) → IsMachineState p ds cs g → max_timestamp (state_of p ds cs) ≡ g
 unfolding max_timestamp
 max_timestamp_kept p ds cs g kept = sym kept.max_timestamp_is
 
 pub write_tables : (p : Partitioner) (ds : List Definition) (cs new : List MemtableView) (g : ℕ) (statement : Statement) (w : Mutation)
-    → IsMachineState ds cs g → IsWriting statement → IsWrite ds g statement w → first_of (rules ds g statement) ≡ None → IsWrittenAt p cs w new
+    → IsMachineState p ds cs g → IsWriting statement → IsWrite ds g statement w → first_of (rules ds g statement) ≡ None → IsWrittenAt p cs w new
     → tables_of ds new ≡ tables_after (state_of p ds cs) statement
 write_tables p ds cs new g statement w kept writing write none is =
     let s = state_of p ds cs in
@@ -168,35 +138,24 @@ write_tables p ds cs new g statement w kept writing write none is =
     ∙ sym (writes_table s statement writing ∙ h.there.changed (change_of p (max_timestamp s) statement) (written p w h.memtables)
     (written_table p d (max_timestamp s) statement write.written.time w h.memtables writing write.key_is_there accepted time write.written.change.key_is write.written.change.change_is))
 
--- the step of a write
-pub write_taken : (p : Partitioner) (ds : List Definition) (cs new : List MemtableView) (g : ℕ) (statement : Statement) (w : Mutation)
-    (reply_old reply_new : List ℕ) → IsMachineState ds cs g → IsWriting statement → IsWrite ds g statement w → first_of (rules ds g statement) ≡ None
-    → IsWrittenAt p cs w new → reply_new ≡ reply_old ++ ok_line → StatementStepsTo (state_of p ds cs) statement (state_of p ds new) reply_old reply_new (outcome_of None)
-write_taken p ds cs new g statement w reply_old reply_new kept writing write none is reply_is =
-    takes p ds cs g statement (state_of p ds new) reply_old reply_new (outcome_of None) kept none
-    (ap (λ (tables : List Table). record { partitioner = p; tables = tables }) (write_tables p ds cs new g statement w kept writing write none is))
-    (reply_is ∙ ap (λ line. reply_old ++ line) (sym (answers_ok (state_of p ds cs) statement writing)))
-    refl
-
 -- ---- CREATE TABLE
 
-pub create_kept : (ds : List Definition) (cs : List MemtableView) (g : ℕ) (d : Definition) (c : MemtableView) → IsMachineState ds cs g → c.kind ≡ key_type d
-    → max_timestamp_of_partitions (fin.values c.partitions) ≡ 0 → IsMachineState (ds ++ d ∷ []) (cs ++ c ∷ []) g
-create_kept ds cs g d c kept kind none =
+-- an empty memtable has no key of another type
+pub none_stored : (p : Partitioner) (d : Definition) → KeysStored (key_type d) (empty_memtable p).partitions
+none_stored p d key there = (let none : false ≡ true = sym (ap is_some (fin.get-empty {X = Partition} decorated_cmp key)) ∙ there in cc)
+
+pub create_kept : (p : Partitioner) (ds : List Definition) (cs : List MemtableView) (g : ℕ) (d : Definition) → IsMachineState p ds cs g → IsMachineState p (ds ++ d ∷ []) (cs ++ empty_memtable p ∷ []) g
+create_kept p ds cs g d kept =
     record {
-      held = memtables_push ds cs d c kept.held kind;
-      max_timestamp_is = kept.max_timestamp_is ∙ sym (ap max_timestamp_of_tables (tables_push ds cs d c kept.held) ∙ greatest_push (tables_of ds cs) (table_with d c) none);
+      held = memtables_push ds cs d (empty_memtable p) kept.held (none_stored p d);
+      under = under_push p cs (empty_memtable p) kept.under refl;
+      max_timestamp_is = kept.max_timestamp_is
+          ∙ sym (ap max_timestamp_of_tables (tables_push ds cs d (empty_memtable p) kept.held) ∙ greatest_push (tables_of ds cs) (table_with d (empty_memtable p)) nothing_held);
       limit = kept.limit;
     }
 
--- what a new table holds
-abbrev pub empty_contents : Definition → MemtableView
-empty_contents d = record { kind = key_type d; partitions = fin.empty }
-
-pub pushed : (cs room new : List MemtableView) (c : MemtableView) (kind : ColumnType) (d : Definition) → room ≡ cs → new ≡ room ++ c ∷ []
-    → c ≡ record { kind = kind; partitions = fin.empty } → kind ≡ key_type d → new ≡ cs ++ empty_contents d ∷ []
-pushed cs room new c kind d same push is kind_is =
-    push ∙ ap (λ (cs : List MemtableView). cs ++ c ∷ []) same ∙ ap (λ (c : MemtableView). cs ++ c ∷ []) is ∙ ap (λ (k : ColumnType). cs ++ record { kind = k; partitions = fin.empty } ∷ []) kind_is
+pub pushed : (p : Partitioner) (cs room new : List MemtableView) (c : MemtableView) → room ≡ cs → new ≡ room ++ c ∷ [] → c ≡ empty_memtable p → new ≡ cs ++ empty_memtable p ∷ []
+pushed p cs room new c same push is = push ∙ ap (λ (cs : List MemtableView). cs ++ c ∷ []) same ∙ ap (λ (c : MemtableView). cs ++ c ∷ []) is
 
 -- a refusal after the reply was cleared
 pub refused_anew : {E : Type 0} (refusal_of_fault other : Option Refusal) (reply_old cleared reply_new : List ℕ) (result : Result Outcome E)
@@ -210,28 +169,16 @@ pub created_tables : (s : State) (table : List ℕ) (columns : List Column) (key
 created_tables s table columns keys found =
     ap (λ (o : Option ℕ). option_map_or (λ key. s.tables ++ empty_table (record { name = table; columns = columns; key = key }) ∷ []) o s.tables) (sym found)
 
-pub create_taken : (p : Partitioner) (ds : List Definition) (cs : List MemtableView) (g : ℕ) (table : List ℕ) (columns : List Column)
-    (keys : List (List ℕ)) (reply_old reply_new : List ℕ) → IsMachineState ds cs g → first_of (create_rules ds table columns keys) ≡ None
-    → reply_new ≡ reply_old ++ ok_line
-    → StatementStepsTo (state_of p ds cs) (CreateTable table columns keys)
-    (state_of p (ds ++ new_definition table columns keys ∷ [])
-    (cs ++ record { kind = key_type (new_definition table columns keys); partitions = fin.empty } ∷ [])) reply_old reply_new (outcome_of None)
-create_taken p ds cs g table columns keys reply_old reply_new kept none reply_is =
-    let d = new_definition table columns keys in
-    takes p ds cs g (CreateTable table columns keys) _ reply_old reply_new (outcome_of None) kept none
-    (ap (λ (tables : List Table). record { partitioner = p; tables = tables }) (tables_push ds cs d (record { kind = key_type d; partitions = fin.empty }) kept.held
-    ∙ created_tables (state_of p ds cs) table columns keys (allowed ds table columns keys none).key_found)) reply_is refl
-
 -- ---- SELECT
 
 query_absent : (p : Partitioner) (ds : List Definition) (cs : List MemtableView) (g : ℕ) (select : Select) (reply_old reply_new : List ℕ)
-    (outcome : Outcome) → IsMachineState ds cs g → definition_of select.table ds ≡ None → IsRefused (Some (NoTable select.table)) reply_old reply_new outcome
+    (outcome : Outcome) → IsMachineState p ds cs g → definition_of select.table ds ≡ None → IsRefused (Some (NoTable select.table)) reply_old reply_new outcome
     → StatementStepsTo (state_of p ds cs) (Query select) (state_of p ds cs) reply_old reply_new outcome
 query_absent p ds cs g select reply_old reply_new outcome kept absent refused =
     refuses {E = ℕ} p ds cs g (Query select) (Some (NoTable select.table)) reply_old reply_new (Ok outcome) kept (rw absent refl) refused
 
 pub query_none : {E : Type 0} (p : Partitioner) (ds : List Definition) (cs : List MemtableView) (g : ℕ) (select : Select)
-    (name reply_old reply_new : List ℕ) (result : Result Outcome E) → IsMachineState ds cs g → definition_of select.table ds ≡ None → name ≡ select.table
+    (name reply_old reply_new : List ℕ) (result : Result Outcome E) → IsMachineState p ds cs g → definition_of select.table ds ≡ None → name ≡ select.table
     → OnOk result (reply_new ≡ reply_old ++ refusal_line (NoTable name)) → IfOk result (λ o. o ≡ outcome_of (Some (NoTable name)))
     → IfOk result (λ o. StatementStepsTo (state_of p ds cs) (Query select) (state_of p ds cs) reply_old reply_new o)
 query_none p ds cs g select name reply_old reply_new (Ok o) kept absent is reply_is outcome_is =
@@ -240,7 +187,7 @@ query_none p ds cs g select name reply_old reply_new (Ok o) kept absent is reply
 query_none p ds cs g select name reply_old reply_new (Err e) kept absent is reply_is outcome_is = tt
 
 query_by : (p : Partitioner) (ds : List Definition) (cs : List MemtableView) (g : ℕ) (select : Select) (d : Definition) (c : MemtableView)
-    (r : Option Refusal) (reply_old reply_new : List ℕ) (outcome : Outcome) → IsMachineState ds cs g → table_of select.table
+    (r : Option Refusal) (reply_old reply_new : List ℕ) (outcome : Outcome) → IsMachineState p ds cs g → table_of select.table
     (tables_of ds cs) ≡ Some (table_with d c)
     → first_of (rules ds g (Query select)) ≡ r → IsAnswered r (rows_lines (live_rows d (selected_columns d select.columns) (fin.entries c.partitions))) reply_old reply_new outcome
     → StatementStepsTo (state_of p ds cs) (Query select) (state_of p ds cs) reply_old reply_new outcome
@@ -251,7 +198,7 @@ query_by p ds cs g select d c (Some r) reply_old reply_new outcome kept there is
     refuses {E = ℕ} p ds cs g (Query select) (Some r) reply_old reply_new (Ok outcome) kept is refused
 
 pub query_taken : {E : Type 0} (p : Partitioner) (ds : List Definition) (cs : List MemtableView) (g : ℕ) (select : Select) (d : Definition)
-    (c : MemtableView) (reply_old reply_new : List ℕ) (result : Result Outcome E) → IsMachineState ds cs g → definition_of select.table ds ≡ Some d
+    (c : MemtableView) (reply_old reply_new : List ℕ) (result : Result Outcome E) → IsMachineState p ds cs g → definition_of select.table ds ≡ Some d
     → table_of select.table (tables_of ds cs) ≡ Some (table_with d c)
     → IfOk result (λ o. IsAnswered (first_of (select_rules select.table select.columns (Some d)))
     (rows_lines (live_rows d (selected_columns d select.columns) (fin.entries c.partitions))) reply_old reply_new o)

@@ -1,15 +1,19 @@
 -- Tables, made of their definitions and memtables.
-use Rattle.std.proofs.Common.{◌≡◌, ◌⊎◌, inl, inr, ℕ, zero, suc, ◌<◌, true, false, if◌then◌else◌, List, [], ◌∷◌, ◌++◌, length, set, slice_get, Option, None, Some, unwrap_or, refl, sym, ap, ◌∙◌, arith}
+use Rattle.std.proofs.Common.{◌≡◌, ◌⊎◌, inl, inr, ℕ, zero, suc, ◌-◌, ◌<◌, true, false, if◌then◌else◌, List, [], ◌∷◌, ◌++◌, length, set, slice_get, Option, None, Some, unwrap_or, refl, sym, ap, subst, ◌∙◌, arith}
 use Rattle.std.specs.FinMap as fin
 use Rattle.sasi_types.specs.declared.decorated_key.DecoratedKey.{DecoratedKey}
+use Rattle.sasi_types.specs.declared.partitioner.Partitioner.{Partitioner}
+use Rattle.sasi_cells.specs.Maps.{put}
+use Rattle.sasi_cells.specs.declared.mutation.Mutation.{Mutation}
 use Rattle.sasi_model.specs.Cells.{Partition, empty_partition, merge}
 use Rattle.sasi_model.specs.Changes.{changed_behind}
 use Rattle.sasi_model.specs.Statements.{same}
-use Rattle.sasi_model.specs.State.{Definition, Table, apply, definition_of, table_of, with_table}
+use Rattle.sasi_model.specs.State.{Definition, Table, apply, decorated, definition_of, table_of, with_table}
 use Rattle.sasi_model.specs.Abbreviations.{definitions, one_more, key_type}
 use Rattle.sasi_schema.specs.Numbers.{number_of_table}
-use Rattle.sasi_machine.specs.MemtableView.{MemtableView}
-use Rattle.sasi_machine.specs.Tables.{AreMemtables, table_with, tables_of}
+use Rattle.sasi_memtable.specs.MemtableView.{MemtableView}
+use Rattle.sasi_machine.specs.TableRows.{KeysStored}
+use Rattle.sasi_machine.specs.Tables.{AreMemtables, AreUnder, IsChangedAt, IsWrittenAt, table_with, tables_of}
 
 -- ---- the definitions
 
@@ -76,10 +80,9 @@ number_inside name (d ∷ ds) (c ∷ cs) at held is =
 pub record IsThere (name : List ℕ) (ds : List Definition) (cs : List MemtableView) (at : ℕ) (d : Definition) (c : MemtableView) : Type 0 where
   pub table : table_of name (tables_of ds cs) ≡ Some (table_with d c)
   pub numbered : slice_get (tables_of ds cs) at ≡ Some (table_with d c)
-  pub kind : c.kind ≡ key_type d
+  pub stored : KeysStored (key_type d) c.partitions
   -- to change its partitions is to write there
   pub changed : (change : Table → Table) (new : MemtableView) → change (table_with d c) ≡ table_with d new → with_table name change (tables_of ds cs) ≡ tables_of ds (set cs at new)
-  pub kept : (new : MemtableView) → new.kind ≡ c.kind → AreMemtables ds (set cs at new)
 
 there_first : (name : List ℕ) (d : Definition) (ds : List Definition) (c : MemtableView) (cs : List MemtableView) (t : Definition) (x : MemtableView)
     → AreMemtables (d ∷ ds) (c ∷ cs) → same d.name name ≡ true → definition_of name (d ∷ ds) ≡ Some t → c ≡ x → IsThere name (d ∷ ds) (c ∷ cs) 0 t x
@@ -88,11 +91,10 @@ there_first name d ds c cs t x held named found is =
     record {
       table = rw named (ap (λ (d : Definition). Some (table_with d c)) t_is ∙ ap (λ (c : MemtableView). Some (table_with t c)) is);
       numbered = ap (λ (d : Definition). Some (table_with d c)) t_is ∙ ap (λ (c : MemtableView). Some (table_with t c)) is;
-      kind = ap (λ (c : MemtableView). c.kind) (sym is) ∙ held.0 ∙ ap key_type t_is;
+      stored = subst (λ (t : Definition). KeysStored (key_type t) x.partitions) t_is (subst (λ (c : MemtableView). KeysStored (key_type d) c.partitions) is held.0);
       changed = λ change new e. rw named (ap (λ (first : Table). first ∷ tables_of ds cs)
           (ap change (ap (λ (d : Definition). table_with d c) t_is ∙ ap (table_with t) is) ∙ e ∙ ap (λ (d : Definition). table_with d new)
           (sym t_is)));
-      kept = λ new same_kind. (same_kind ∙ ap (λ (c : MemtableView). c.kind) (sym is) ∙ held.0, held.1);
     }
 
 there_later : (name : List ℕ) (d : Definition) (ds : List Definition) (c : MemtableView) (cs : List MemtableView) (at : ℕ) (t : Definition)
@@ -102,9 +104,8 @@ there_later name d ds c cs at t x held other there =
     record {
       table = rw other there.table;
       numbered = there.numbered;
-      kind = there.kind;
+      stored = there.stored;
       changed = λ change new e. rw other (ap (λ (rest : List Table). table_with d c ∷ rest) (there.changed change new e));
-      kept = λ new same_kind. (held.0, there.kept new same_kind);
     }
 
 pub is_there : (name : List ℕ) (ds : List Definition) (cs : List MemtableView) (at : ℕ) (d : Definition) (c : MemtableView) → AreMemtables ds cs
@@ -138,19 +139,43 @@ changed_at (d ∷ ds) (x ∷ cs) (suc at) decorated_key change c held got new is
 
 -- the memtable of a table of a number
 pub memtable_at : (ds : List Definition) (cs : List MemtableView) (at : ℕ) (t : Table) → AreMemtables ds cs → slice_get
-    (tables_of ds cs) at ≡ Some t → (c : MemtableView) × (slice_get cs at ≡ Some c) × (c.kind ≡ key_type t.definition)
+    (tables_of ds cs) at ≡ Some t → (c : MemtableView) × (slice_get cs at ≡ Some c) × KeysStored (key_type t.definition) c.partitions
 memtable_at [] cs at t held got = cc
 memtable_at (d ∷ ds) [] at t held got = absurd held
-memtable_at (d ∷ ds) (c ∷ cs) zero t held got = let is : table_with d c ≡ t = (let e : Some (table_with d c) ≡ Some t = got in cc) in (c, refl, held.0 ∙ ap (λ (t : Table). key_type t.definition) is)
+memtable_at (d ∷ ds) (c ∷ cs) zero t held got =
+    let is : table_with d c ≡ t = (let e : Some (table_with d c) ≡ Some t = got in cc) in
+    (c, refl, subst (λ (t : Table). KeysStored (key_type t.definition) c.partitions) is held.0)
 memtable_at (d ∷ ds) (c ∷ cs) (suc at) t held got = memtable_at ds cs at t held.1 got
 
 -- a memtable can be changed
-pub memtables_set : (ds : List Definition) (cs : List MemtableView) (at : ℕ) (c new : MemtableView) → AreMemtables ds cs → slice_get cs at ≡ Some c → new.kind ≡ c.kind → AreMemtables ds (set cs at new)
-memtables_set [] [] at c new held got kind = cc
-memtables_set [] (x ∷ cs) at c new held got kind = absurd held
-memtables_set (d ∷ ds) [] at c new held got kind = absurd held
-memtables_set (d ∷ ds) (x ∷ cs) zero c new held got kind = let same_contents : x ≡ c = (let e : Some x ≡ Some c = got in cc) in (kind ∙ ap (λ (c : MemtableView). c.kind) (sym same_contents) ∙ held.0, held.1)
-memtables_set (d ∷ ds) (x ∷ cs) (suc at) c new held got kind = (held.0, memtables_set ds cs at c new held.1 got kind)
+pub memtables_set : (ds : List Definition) (cs : List MemtableView) (at : ℕ) (t : Table) (new : MemtableView) → AreMemtables ds cs → slice_get
+    (tables_of ds cs) at ≡ Some t → KeysStored (key_type t.definition) new.partitions → AreMemtables ds (set cs at new)
+memtables_set [] cs at t new held got stored = cc
+memtables_set (d ∷ ds) [] at t new held got stored = absurd held
+memtables_set (d ∷ ds) (c ∷ cs) zero t new held got stored =
+    let is : table_with d c ≡ t = (let e : Some (table_with d c) ≡ Some t = got in cc) in
+    (subst (λ (t : Table). KeysStored (key_type t.definition) new.partitions) (sym is) stored, held.1)
+memtables_set (d ∷ ds) (c ∷ cs) (suc at) t new held got stored = (held.0, memtables_set ds cs at t new held.1 got stored)
+
+-- under the same partitioner
+pub under_at : (p : Partitioner) (cs : List MemtableView) (at : ℕ) (c : MemtableView) → AreUnder p cs → slice_get cs at ≡ Some c → c.partitioner ≡ p
+under_at p [] at c under got = cc
+under_at p (x ∷ cs) zero c under got = let is : x ≡ c = (let e : Some x ≡ Some c = got in cc) in ap (λ (c : MemtableView). c.partitioner) (sym is) ∙ under.0
+under_at p (x ∷ cs) (suc at) c under got = under_at p cs at c under.1 got
+
+pub under_set : (p : Partitioner) (cs : List MemtableView) (at : ℕ) (new : MemtableView) → AreUnder p cs → new.partitioner ≡ p → AreUnder p (set cs at new)
+under_set p [] at new under is = tt
+under_set p (x ∷ cs) zero new under is = (is, under.1)
+under_set p (x ∷ cs) (suc at) new under is = (under.0, under_set p cs at new under.1 is)
+
+pub under_push : (p : Partitioner) (cs : List MemtableView) (new : MemtableView) → AreUnder p cs → new.partitioner ≡ p → AreUnder p (cs ++ new ∷ [])
+under_push p [] new under is = (is, tt)
+under_push p (x ∷ cs) new under is = (under.0, under_push p cs new under.1 is)
+
+-- so a memtable is changed under the partitioner of all
+pub changed_written : (p : Partitioner) (old new : List MemtableView) (m : Mutation) → AreUnder p old → IsChangedAt old m new → IsWrittenAt p old m new
+changed_written p old new m under changed c got =
+    changed c got ∙ ap (λ (q : Partitioner). set old (m.table - 1) (record c { partitions = put c.partitions (decorated q m.key) m.change })) (under_at p old (m.table - 1) c under got)
 
 pub memtable_inside : (cs : List MemtableView) (at : ℕ) (c : MemtableView) → slice_get cs at ≡ Some c → at < length cs
 memtable_inside [] at c got = cc
@@ -171,8 +196,8 @@ tables_push [] (x ∷ cs) d c held = absurd held
 tables_push (t ∷ ds) [] d c held = absurd held
 tables_push (t ∷ ds) (x ∷ cs) d c held = ap (λ (rest : List Table). table_with t x ∷ rest) (tables_push ds cs d c held.1)
 
-pub memtables_push : (ds : List Definition) (cs : List MemtableView) (d : Definition) (c : MemtableView) → AreMemtables ds cs → c.kind ≡ key_type d → AreMemtables (ds ++ d ∷ []) (cs ++ c ∷ [])
-memtables_push [] [] d c held kind = (kind, tt)
-memtables_push [] (x ∷ cs) d c held kind = absurd held
-memtables_push (t ∷ ds) [] d c held kind = absurd held
-memtables_push (t ∷ ds) (x ∷ cs) d c held kind = (held.0, memtables_push ds cs d c held.1 kind)
+pub memtables_push : (ds : List Definition) (cs : List MemtableView) (d : Definition) (c : MemtableView) → AreMemtables ds cs → KeysStored (key_type d) c.partitions → AreMemtables (ds ++ d ∷ []) (cs ++ c ∷ [])
+memtables_push [] [] d c held stored = (stored, tt)
+memtables_push [] (x ∷ cs) d c held stored = absurd held
+memtables_push (t ∷ ds) [] d c held stored = absurd held
+memtables_push (t ∷ ds) (x ∷ cs) d c held stored = (held.0, memtables_push ds cs d c held.1 stored)

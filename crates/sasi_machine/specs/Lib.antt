@@ -1,6 +1,6 @@
 pub mod Checks
 pub mod Assignment
-pub mod MemtableView
+pub mod TableRows
 pub mod Faults
 pub mod KeyLiteral
 pub mod Outcome

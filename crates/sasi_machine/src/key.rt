@@ -2,22 +2,13 @@
 ghost use Rattle.std.specs.Prelude.{◌≡◌, ◌≢◌, ◌≤◌, [], IfOk, length};
 ghost use Rattle.sasi_types.specs.Value.{stored, type_of};
 ghost use Rattle.sasi_cells.specs.Rows.{IsStored};
-ghost use Rattle.sasi_model.specs.State.{decorated};
 ghost use Rattle.sasi_model.specs.Step.{value_given};
 ghost use Rattle.sasi_model.specs.Abbreviations.{stored_of};
 ghost use Rattle.sasi_machine.specs.KeyLiteral.{IsKeyLiteral, IsKeyValue};
 
 use crate::literals::{TEXT_LIMIT, value_given};
-use sasi_types::{ColumnType, DecoratedKey, Key, KeyFault, Literal, Partitioner, Value};
+use sasi_types::{ColumnType, Key, KeyFault, Literal, Value};
 use std::alloc::{AllocError, Global};
-
-/// The decorated key of a key.
-pub fn decorated(partitioner: Partitioner, key: Key) -> DecoratedKey
-    ensures { result ≡ decorated partitioner key }
-{
-    let token = partitioner.token(key.bytes());
-    DecoratedKey { token, key }
-}
 
 /// The key of a literal.
 pub fn key_given(alloc: Global, kind: ColumnType, literal: Literal) -> Result<Key, AllocError>

@@ -12,9 +12,7 @@ mod key;
 mod literal_rule;
 mod literals;
 mod machine;
-mod memtable;
 mod memtables;
-mod merging;
 mod name_rule;
 mod outcome;
 mod picking;
@@ -27,6 +25,7 @@ mod refusal;
 mod relation;
 mod reply_refusal;
 mod statement_mutation;
+mod table_rows;
 mod time;
 
 pub use machine::Machine;

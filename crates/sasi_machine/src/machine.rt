@@ -9,11 +9,11 @@ ghost use Rattle.sasi_machine.specs.Outcome.{outcome_of};
 ghost use Rattle.sasi_cells.specs.Mutations.{state_with_mutation};
 ghost use Rattle.sasi_machine.specs.Prepares.{IsApplicable, IsNewTable};
 
-use crate::memtable::Memtable;
 use crate::memtables::{add_within, merge_into, reserve_one};
 use crate::prepared::Prepared;
 use crate::{Outcome, Reply};
 use sasi_cells::Mutation;
+use sasi_memtable::Memtable;
 use sasi_schema::{Schema, Table};
 use sasi_types::{Partitioner, PieceEnd};
 use std::alloc::{AllocError, Global};
@@ -41,7 +41,7 @@ impl Model for Machine {
 
     ghost view = { λ a. state_of a.partitioner a.schema a.memtables.items };
 
-    ghost invariant = { λ a. IsMachineState a.schema a.memtables.items a.max_timestamp };
+    ghost invariant = { λ a. IsMachineState a.partitioner a.schema a.memtables.items a.max_timestamp };
 }
 
 impl Machine {
@@ -97,9 +97,8 @@ impl Machine {
         ensures err { OnErr result (self.new ≡ self.old) }
     {
         reserve_one(&mut self.memtables)?;
-        let key_type = table.key_type();
         self.schema.restore_table(table)?;
-        let memtable = Memtable::new(self.alloc, key_type);
+        let memtable = Memtable::new(self.alloc, self.partitioner);
         add_within(&mut self.memtables, memtable);
         Ok(())
     }
@@ -110,7 +109,7 @@ impl Machine {
         ensures ok { OnOk result (self.new ≡ state_with_mutation self.old mutation) }
         ensures err { OnErr result (self.new ≡ self.old) }
     {
-        let time = merge_into(&mut self.memtables, self.partitioner, mutation)?;
+        let time = merge_into(&mut self.memtables, mutation)?;
         self.max_timestamp = self.max_timestamp.max(time);
         Ok(())
     }

@@ -2,12 +2,10 @@
 ghost use Rattle.std.specs.Prelude.{◌≡◌, ◌<◌, ◌+◌, ◌++◌, ◌∷◌, [], IfOk, OnOk, OnErr, length, slice_get, slice_set, Some};
 ghost use Rattle.std.specs.Vec.{vec_len, vec_capacity};
 ghost use Rattle.sasi_model.specs.Cells.{max_timestamp_of};
-ghost use Rattle.sasi_machine.specs.Tables.{IsWrittenAt, HasMemtableFor};
+ghost use Rattle.sasi_machine.specs.Tables.{IsChangedAt, HasMemtableFor};
 
-use crate::key::decorated;
-use crate::memtable::Memtable;
 use sasi_cells::Mutation;
-use sasi_types::Partitioner;
+use sasi_memtable::Memtable;
 use std::alloc::AllocError;
 
 /// Reserves room for one more.
@@ -27,18 +25,14 @@ pub fn add_within(memtables: &mut Vec<Memtable>, memtable: Memtable)
 }
 
 /// Merges a mutation into its memtable, and returns the largest timestamp of its change.
-pub fn merge_into(
-    memtables: &mut Vec<Memtable>,
-    partitioner: Partitioner,
-    mutation: Mutation,
-) -> Result<u64, AllocError>
+pub fn merge_into(memtables: &mut Vec<Memtable>, mutation: Mutation) -> Result<u64, AllocError>
     requires { HasMemtableFor memtables.old.items mutation }
-    ensures ok { OnOk result (IsWrittenAt partitioner memtables.old.items mutation memtables.new.items) }
+    ensures ok { OnOk result (IsChangedAt memtables.old.items mutation memtables.new.items) }
     ensures time { IfOk result (λ time. time ≡ max_timestamp_of mutation.change) }
     ensures err { OnErr result (memtables.new.items ≡ memtables.old.items) }
 {
     let time = mutation.change.max_timestamp();
     let memtable = &mut memtables[mutation.table as usize - 1];
-    memtable.merge(decorated(partitioner, mutation.key), mutation.change)?;
+    memtable.put_from(mutation.key, mutation.change)?;
     Ok(time)
 }

@@ -9,13 +9,15 @@ ghost use Rattle.sasi_schema.specs.Answers.{Answers};
 ghost use Rattle.sasi_schema.specs.Defined.{definition};
 ghost use Rattle.sasi_machine.specs.Faults.{refusal_of_fault};
 ghost use Rattle.sasi_machine.specs.StatementSteps.{IsAnswered};
+ghost use Rattle.sasi_machine.specs.TableRows.{KeysStored};
 
 use crate::fault::Fault;
-use crate::memtable::Memtable;
 use crate::name_rule::NameRule;
 use crate::picking::picked;
 use crate::reply_refusal::reply_fault;
+use crate::table_rows::print_rows;
 use crate::{Outcome, Reply};
+use sasi_memtable::Memtable;
 use sasi_schema::Table;
 use sasi_types::Names;
 use std::alloc::{AllocError, Global};
@@ -28,14 +30,14 @@ pub fn query(
     columns: &Option<Names>,
     reply: &mut Reply,
 ) -> Result<Outcome, AllocError>
-    requires { memtable.now.kind ≡ key_type (definition table.now) }
+    requires { KeysStored (key_type (definition table.now)) memtable.now.partitions }
     ensures { IfOk result (λ outcome. IsAnswered (first_of (select_rules table.now.name columns.now (Some (definition table.now)))) (rows_lines (live_rows (definition table.now) (selected_columns (definition table.now) columns.now) (map.entries memtable.now.partitions))) reply.old reply.new outcome) }
 {
     match check(alloc, table, columns) {
         Err(fault) => reply_fault(reply, fault),
         Ok(()) => {
             let picked = picked(alloc, table, columns)?;
-            memtable.print(&picked, reply)?;
+            print_rows(alloc, memtable, &picked, reply)?;
             Ok(Outcome::Done)
         }
     }

@@ -26,7 +26,7 @@ fn source_of(rt: &impl Abort, alloc: Global, script: &str) -> MemSource {
 /// The status of a run of a script.
 fn status_of(rt: &impl Abort, alloc: Global, script: &str, host: &mut MemHost) -> Status {
     let mut source = source_of(rt, alloc, script);
-    run(alloc, &words(rt, alloc), &mut source, host)
+    run(alloc, &words(rt, alloc), &mut source, host, Vec::new(alloc))
 }
 
 /// The status of a run of a script, and what it emitted.

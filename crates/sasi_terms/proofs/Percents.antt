@@ -1,10 +1,8 @@
--- A `%` at the end of a text, and a body in a term.
-use Rattle.std.proofs.Common.{◌≡◌, ◌≢◌, ◌-◌, ℕ, Bool, true, false, ◌||◌, ◌==◌, nat_eq, List, [], ◌∷◌, ◌++◌, length, Option, None, Some, refl, sym, ap, arith, length-append}
+-- A `%` at the end of a text.
+use Rattle.std.proofs.Common.{◌≡◌, ◌≢◌, ◌-◌, ℕ, Bool, true, false, ◌==◌, List, [], ◌∷◌, ◌++◌, length, Option, None, Some, refl, sym, ap, arith, length-append}
 use Rattle.std.proofs.lemmas.List.{take_at}
 use Rattle.std.specs.Borrow.{Bor}
-use Rattle.std.specs.List.{starts_with}
 use Rattle.std.specs.Option.{MatchOption}
-use Rattle.sasi_terms.specs.Holds.{contains}
 use Rattle.sasi_terms.specs.Patterns.{ends_with_percent, without_last_percent}
 use Rattle.sasi_terms.specs.Percents.{IsBeforePercent}
 

@@ -1,11 +1,10 @@
-use Rattle.std.proofs.Common.{◌≡◌, refl, subst}
+use Rattle.std.proofs.Common.{◌≡◌, subst}
 use Rattle.sasi_model.specs.State.{State}
 use Rattle.sasi_model.specs.Changes.{with_new_table}
 use Rattle.sasi_schema.specs.Defined.{definition}
 use Rattle.sasi_machine.specs.Tables.{state_of}
 use Rattle.sasi_machine.proofs.StatementPreparing.{next_number, next_free, created_state}
-use Rattle.sasi_machine.proofs.MaxTimestamps.{nothing_held}
-use Rattle.sasi_machine.proofs.StatementStepping.{create_kept, empty_contents, pushed}
+use Rattle.sasi_machine.proofs.StatementStepping.{create_kept, pushed}
 use Rattle.sasi_machine.proofs.machine.Machine.create_table.Goals as goal
 
 pub restore_table-requires-clause-number : goal.restore_table-requires-clause-number
@@ -22,15 +21,15 @@ pub invariant_of-self-2 : goal.invariant_of-self-2
 invariant_of-self-2 c =
     let s = c.self.inside in
     let d = definition c.args.table in
-    let memtables = pushed s.memtables.items c.reserve_one.new.memtables.items c.add_within.new.memtables.items c.new-memtable.result _ d
-    c.in_ok-reserve_one.ensures.items c.add_within.ensures c.new-memtable.ensures c.key_type-key_type.ensures in
-    rw (c.in_ok-restore_table.ensures.ok, memtables) (create_kept s.schema s.memtables.items s.max_timestamp d (empty_contents d) c.self.invariant refl nothing_held)
+    let memtables = pushed s.partitioner s.memtables.items c.reserve_one.new.memtables.items c.add_within.new.memtables.items c.new-memtable.result
+    c.in_ok-reserve_one.ensures.items c.add_within.ensures c.new-memtable.ensures in
+    rw (c.in_ok-restore_table.ensures.ok, memtables) (create_kept s.partitioner s.schema s.memtables.items s.max_timestamp d c.self.invariant)
 
 pub returns-clause-ok : goal.returns-clause-ok
 returns-clause-ok c =
     let s = c.self.inside in
     let d = definition c.args.table in
-    let memtables = pushed s.memtables.items c.reserve_one.new.memtables.items c.add_within.new.memtables.items c.new-memtable.result _ d
-    c.in_ok-reserve_one.ensures.items c.add_within.ensures c.new-memtable.ensures c.key_type-key_type.ensures in
+    let memtables = pushed s.partitioner s.memtables.items c.reserve_one.new.memtables.items c.add_within.new.memtables.items c.new-memtable.result
+    c.in_ok-reserve_one.ensures.items c.add_within.ensures c.new-memtable.ensures in
     subst (λ (old : State). state_of s.partitioner c.restore_table.new.self c.add_within.new.memtables.items ≡ with_new_table old d) c.self.view_is
     (rw (c.in_ok-restore_table.ensures.ok, memtables) (created_state s.partitioner s.schema s.memtables.items s.max_timestamp d c.self.invariant))

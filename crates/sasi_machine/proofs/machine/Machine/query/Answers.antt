@@ -1,8 +1,10 @@
-use Rattle.std.proofs.Common.{IfOk, ap, subst, sym, arith, ◌∙◌}
+use Rattle.std.proofs.Common.{IfOk, subst, sym, arith}
 use Rattle.sasi_types.specs.declared.statement.Statement.TheVariants.{Query}
 use Rattle.sasi_model.specs.State.{State}
 use Rattle.sasi_schema.specs.Defined.{definition}
-use Rattle.sasi_machine.specs.MemtableView.{MemtableView}
+use Rattle.sasi_memtable.specs.MemtableView.{MemtableView}
+use Rattle.sasi_model.specs.Abbreviations.{key_type}
+use Rattle.sasi_machine.specs.TableRows.{KeysStored}
 use Rattle.sasi_machine.specs.StatementSteps.{StatementStepsTo}
 use Rattle.sasi_machine.proofs.TablesOfMemtables.{number_some}
 use Rattle.sasi_machine.proofs.StatementStepping.{has_memtable, query_none, query_taken, read_memtable}
@@ -23,7 +25,8 @@ query-requires c =
     let s = c.self.inside in
     let t = c.in-Some.table.now in
     let h = has_memtable s.schema s.memtables.items c.args.select.now.table t.number (definition t) c.self.invariant.held (sym c.in-Some.ensures.number) (sym c.in-Some.ensures.definition) in
-    ap (λ (x : MemtableView). x.kind) (read_memtable s.schema s.memtables.items c.args.select.now.table t.number (definition t) h c.index-memtable.result.now c.index-memtable.ensures) ∙ h.there.kind
+    subst (λ (x : MemtableView). KeysStored (key_type (definition t)) x.partitions)
+    (sym (read_memtable s.schema s.memtables.items c.args.select.now.table t.number (definition t) h c.index-memtable.result.now c.index-memtable.ensures)) h.there.stored
 
 pub returns-in_ok-copy-in-None : goal.returns-in_ok-copy-in-None
 returns-in_ok-copy-in-None c =

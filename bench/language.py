@@ -1,0 +1,102 @@
+#!/usr/bin/env python3
+"""Runs the built sasi_language on many lines, and prints time and peak memory: language.py PROGRAM
+
+The lines are statements (INSERTs of prose, and statements of all forms), texts to cut into words, and single pieces whose
+length doubles. Doubling a piece may multiply its time by 2.4: a step that is linear in the bytes seen would multiply it by 4.
+"""
+import os
+import subprocess
+import sys
+import tempfile
+import time
+
+MOST_GROWTH = 2.4
+TRIES = 3
+WORDS = 'the quick brown fox jumps over a lazy dog and runs back home where it sleeps until the sun comes up again'.split()
+
+FORMS = [
+    "CREATE TABLE t{0} (k text PRIMARY KEY, a text, n int, b bigint, u uuid);",
+    "CREATE CUSTOM INDEX i{0} ON t (a) USING 'org.apache.cassandra.index.sasi.SASIIndex' WITH OPTIONS = {{'mode': 'CONTAINS'}};",
+    "DROP INDEX i{0};",
+    "UPDATE t USING TIMESTAMP {0} SET a = 'x', n = {0} WHERE k = 'k{0}';",
+    "DELETE a, n FROM t WHERE k = 'k{0}';",
+    "SELECT k, a FROM t WHERE a LIKE 'x%' AND n >= {0} LIMIT 10 ALLOW FILTERING;",
+    "OPEN c{0} AS SELECT * FROM t WHERE a = 'x';",
+    "FETCH {0} FROM c;",
+    "CLOSE c{0};",
+    "FLUSH t;",
+    "BEGIN COMPACT t;",
+    "STEP COMPACT t {0};",
+    "TRACE ON;",
+]
+
+
+def prose(n, size):
+    """Words in no order, of this many bytes together."""
+    text = ''
+    while len(text) < size:
+        n = (n * 1103515245 + 12345) % (1 << 31)
+        text += WORDS[n % len(WORDS)] + ' '
+    return text[:size]
+
+
+def insert(n):
+    return "INSERT INTO t (k, a) VALUES ('k%d', '%s');" % (n, prose(n, 200))
+
+
+def peak(pid):
+    """The peak memory of a process so far in KiB, or 0 where it has ended."""
+    try:
+        with open('/proc/%d/status' % pid) as status:
+            return max(int(line.split()[1]) for line in status if line.startswith('VmHWM'))
+    except (OSError, ValueError):
+        return 0
+
+
+def run(program, path):
+    """The seconds and the peak memory in KiB of one run over the lines of a file."""
+    with open(path, 'rb') as lines, open(os.devnull, 'wb') as nothing:
+        began = time.perf_counter()
+        process = subprocess.Popen([program], stdin=lines, stdout=nothing)
+        most = 0
+        while process.poll() is None:
+            most = max(most, peak(process.pid))
+            time.sleep(0.001)
+        if process.returncode != 0:
+            sys.exit('the program ended with status %d' % process.returncode)
+        return time.perf_counter() - began, most
+
+
+def measure(program, lines):
+    with tempfile.NamedTemporaryFile('w', suffix='.txt') as file:
+        file.write(''.join(line + '\n' for line in lines))
+        file.flush()
+        return min(run(program, file.name) for _ in range(TRIES))
+
+
+def main():
+    program = os.path.abspath(sys.argv[1])
+    cases = [
+        ('INSERTs', [insert(n) for n in range(20000)]),
+        ('all forms', [FORMS[n % len(FORMS)].format(n) for n in range(5000)]),
+        ('words', ['words ' + prose(n, 200) for n in range(20000)]),
+    ]
+    print('lines      count   bytes  seconds  peak MiB')
+    for name, lines in cases:
+        seconds, memory = measure(program, lines)
+        size = sum(map(len, lines))
+        print('%-9s %6d %7d  %7.3f  %8.1f' % (name, len(lines), size, seconds, memory / 1024))
+    print('one piece of   seconds  growth  peak MiB')
+    before = None
+    for size in [1 << 17, 1 << 18, 1 << 19, 1 << 20]:
+        piece = 'INSERT INTO t (k, a) VALUES (%s, 1);' % ', '.join(['1'] * ((size - 40) // 3))
+        seconds, memory = measure(program, [piece] * 8)
+        growth = seconds / before if before else 0
+        print('%12d   %7.3f %7s  %8.1f' % (len(piece), seconds, '%.2f' % growth if before else '', memory / 1024))
+        if growth > MOST_GROWTH:
+            sys.exit('doubling the piece multiplied the time by %.2f' % growth)
+        before = seconds
+
+
+if __name__ == '__main__':
+    main()

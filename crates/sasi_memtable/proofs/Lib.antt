@@ -1,0 +1,3 @@
+pub mod Ordered
+mod Merged
+mod Counts

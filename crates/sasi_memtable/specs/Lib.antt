@@ -1,0 +1,3 @@
+pub mod MemtableView
+pub mod Sizes
+pub mod Sized

@@ -1,0 +1,17 @@
+pub mod CutLaws
+pub mod EntryLaws
+pub mod PackerLaws
+pub mod LevelLaws
+pub mod BlockLaws
+pub mod Orders
+pub mod Groups
+pub mod Levels
+pub mod Faults
+pub mod Found
+pub mod Children
+pub mod Shown
+pub mod Steps
+pub mod Descent
+pub mod Sound
+pub mod PointersSound
+pub mod Callers

@@ -1,0 +1,106 @@
+-- The corruption of a block is that of the file.
+use Rattle.std.proofs.Common.{◌≡◌, ℕ, ◌+◌, ◌*◌, ◌/◌, ◌<◌, ◌≤◌, ◌^◌, length, take, drop, Option, None, Some, ⊎_elim, sym, ap, ◌∙◌, subst, arith, inl, inr}
+use Rattle.std.specs.Prelude.{◌⊎◌}
+use Rattle.std.proofs.Common.{length-drop}
+use Rattle.std.proofs.lemmas.List.{length-take, take-take}
+use Rattle.sasi_host.proofs.Offsets.{window_at}
+use Rattle.sasi_host.specs.declared.name.FileName.{FileName}
+use Rattle.sasi_host.specs.declared.damage.Damage.{Damage}
+use Rattle.sasi_host.specs.declared.damage.FormatRule.{FormatRule}
+use Rattle.sasi_host.specs.declared.damage.Seen.{Seen}
+use Rattle.sasi_host.specs.declared.fault.ReadFault.{ReadFault}
+use Rattle.sasi_host.specs.declared.fault.ReadFault.TheVariants as read
+use Rattle.sasi_host.specs.Names.{Bytes}
+use Rattle.sasi_host.specs.Damages.{DamageShown, HasAt, ShowsEnd, TellsSize, seen_bytes}
+use Rattle.sasi_host.specs.View.{View, contents}
+use Rattle.sasi_host.specs.Disk.{Changes, Same}
+use Rattle.sasi_host.proofs.DamageLaws.{end_shown, shown_as, shown_before}
+use Rattle.sasi_termblocks.specs.declared.fault.BlockFault.{BlockFault}
+use Rattle.sasi_termblocks.specs.declared.fault.BlockFault.TheVariants.{OutOfMemory, Broken}
+use Rattle.sasi_termblocks.specs.declared.block_ref.BlockRef.{BlockRef}
+use Rattle.sasi_termblocks.specs.Entries.{term}
+use Rattle.sasi_termblocks.specs.Windows.{IsFault, count_in}
+use Rattle.sasi_termblocks.specs.BlockFaults.{BreaksSome, BreaksUpTo, IsNear}
+use Rattle.sasi_termblocks.specs.Damages.{BreaksPointers, BreaksTerms, IsLifted, Leads, ShowsBlock, ShowsBlocks}
+use Rattle.sasi_termblocks.specs.Damages.ShowsBlock.{ends, breaks}
+use Rattle.sasi_termblocks.specs.Damages.ShowsBlocks.{in_terms, in_pointers, ends_early}
+use Rattle.sasi_termblocks.specs.declared.term_entry.TermEntry.{TermEntry}
+use Rattle.sasi_termblocks.specs.Descents.{high_page, low_page}
+use Rattle.sasi_termblocks.specs.Scans.{GivesEntry, ReadsHere}
+use Rattle.sasi_termblocks.proofs.Faults.{entry_breaks, pointer_breaks}
+
+-- a fault of one kind is one of a wider kind
+pub fault_as : (Some_ All_ : FormatRule → ℕ → Bytes → Type 0) (f : BlockFault) → ((r : FormatRule) (at : ℕ) (seen : Bytes) → Some_ r at seen → All_ r at seen) → IsFault Some_ f → IsFault All_ f
+fault_as Some_ All_ OutOfMemory wider is = tt
+fault_as Some_ All_ (Broken b) wider is = (wider b.rule b.at (seen_bytes b.seen) is.0, is.1)
+
+pub fault_near : (Breaks : FormatRule → ℕ → Bytes → Type 0) (f : BlockFault) → IsFault Breaks f → IsNear f
+fault_near Breaks OutOfMemory is = tt
+fault_near Breaks (Broken b) is = is.1
+
+-- what breaks some terms breaks a term block, or a pointer block
+pub terms_broken : (block : Bytes) (count : ℕ) (r : FormatRule) (at : ℕ) (seen : Bytes) → count ≡ count_in block → BreaksSome term block count r at seen → BreaksTerms block r at seen
+terms_broken block count r at seen is some = inr (inl (some.0, omega (arith, some.1, is), entry_breaks block some.0 r at seen some.2))
+
+pub pointers_broken : (low high : ℕ) (block : Bytes) (count : ℕ) (r : FormatRule) (at : ℕ) (seen : Bytes) → count ≡ count_in block → BreaksSome term block count r at seen → BreaksPointers low high block r at seen
+pointers_broken low high block count r at seen is some = inr (some.0, omega (arith, some.1, is), pointer_breaks low high block some.0 r at seen some.2)
+
+pub order_broken : (block : Bytes) (index : ℕ) (r : FormatRule) (at : ℕ) (seen : Bytes) → index < count_in block → BreaksUpTo block index r at seen → BreaksTerms block r at seen
+order_broken block index r at seen lt (inl some) = inr (inl (some.0, omega (arith, some.1, lt), entry_breaks block some.0 r at seen some.2))
+order_broken block index r at seen lt (inr two) = inr (inr (two.0, omega (arith, two.1, lt), two.2))
+
+-- ---- in the file
+
+-- a fault of a block on a page of the file
+pub lifted_shown : (Breaks : Bytes → FormatRule → ℕ → Bytes → Type 0) (v : View) (file named : FileName) (page : ℕ) (block : Bytes) (f : BlockFault) (result : ReadFault) → named ≡ file → IsFault (Breaks block) f
+    → IsLifted named (4096 * page) f result → length block ≡ 4096 → ((bytes : Bytes) → contents v file ≡ Some bytes → HasAt bytes (4096 * page) block) → DamageShown v file (ShowsBlock Breaks file page) result
+lifted_shown Breaks v file named page block OutOfMemory result same is lifted long stands = subst (λ (f : ReadFault). DamageShown v file (ShowsBlock Breaks file page) f) (sym lifted) tt
+lifted_shown Breaks v file named page block (Broken b) (read.Damaged damage) same is lifted long stands = λ bytes there.
+    breaks block b.at (lifted.0 ∙ same) (stands bytes there) long lifted.1
+    (subst (λ (s : Seen). Breaks block damage.rule b.at (seen_bytes s)) (sym lifted.3)
+    (subst (λ (r : FormatRule). Breaks block r b.at (seen_bytes b.seen)) (sym lifted.2) is.0))
+lifted_shown Breaks v file named page block (Broken b) read.Failed same is lifted long stands = tt
+lifted_shown Breaks v file named page block (Broken b) read.OutOfMemory same is lifted long stands = tt
+
+-- a file that ends within it
+pub end_of_block : (Breaks : Bytes → FormatRule → ℕ → Bytes → Type 0) (v : View) (file : FileName) (page : ℕ) (f : ReadFault) → DamageShown v file (ShowsEnd (4096 * page + 4096) file) f → DamageShown v file (ShowsBlock Breaks file page) f
+end_of_block Breaks v file page f shown = shown_as (ShowsEnd (4096 * page + 4096) file) (ShowsBlock Breaks file page) v file f (λ bytes damage is early. ends early) shown
+
+-- what was shown of the file after calls that leave it, it showed before
+pub shown_still : (Shows : FileName → Bytes → Damage → Type 0) (a b : View) (was now : FileName) (f : ReadFault) → Changes Same a b → now ≡ was → DamageShown b now (Shows now) f → DamageShown a was (Shows was) f
+shown_still Shows a b was now f change same shown = subst (λ (name : FileName). DamageShown a name (Shows name) f) same (shown_before (Shows now) a b now f change shown)
+
+-- ---- a page that was loaded
+
+pub page_stands : (bytes window : Bytes) (page : ℕ) → window ≡ take 4096 (drop (4096 * page) bytes) → 4096 ≤ length window → HasAt bytes (4096 * page) (take 4096 window)
+page_stands bytes window page is le =
+    let all : take 4096 window ≡ take 4096 (drop (4096 * page) bytes) = ap (λ (l : Bytes). take 4096 l) is ∙ take-take 4096 4096 (drop (4096 * page) bytes) (omega arith) in
+    let long : 4096 ≤ length (drop (4096 * page) bytes) = omega (arith, le, ap (λ (l : Bytes). length l) is, length-take 4096 (drop (4096 * page) bytes)) in
+    window_at bytes (take 4096 window) (4096 * page) 4096 all (omega (arith, long, length-drop (4096 * page) bytes))
+
+pub page_short : (bytes window : Bytes) (page : ℕ) → window ≡ take 4096 (drop (4096 * page) bytes) → length window < 4096 → length bytes < 4096 * page + 4096
+page_short bytes window page is lt =
+    omega (arith, lt, ap (λ (l : Bytes). length l) is, length-take 4096 (drop (4096 * page) bytes), length-drop (4096 * page) bytes)
+
+-- ---- the whole
+
+-- blocks that no file can have
+pub too_long_shown : (v : View) (file : FileName) (r : BlockRef) (f : ReadFault) → ((bytes : Bytes) → contents v file ≡ Some bytes → length bytes ≤ 2 ^ 62) → (2 ^ 62 < r.first) ⊎ (2 ^ 50 < r.blocks) → DamageShown v file (TellsSize file) f
+    → DamageShown v file (ShowsBlocks file r) f
+too_long_shown v file r f most long told =
+    shown_as (ShowsEnd (r.first + 4096 * r.blocks) file) (ShowsBlocks file r) v file f (λ bytes damage is early. ends_early early)
+    (end_shown v file (r.first + 4096 * r.blocks) f (λ bytes is. let le = most bytes is in ⊎_elim (λ a. omega (arith, a, le)) (λ b. omega (arith, b, le)) long) told)
+
+pub terms_shown : (v : View) (file : FileName) (r : BlockRef) (page : ℕ) (f : ReadFault) → r.first / 4096 ≤ page → page < r.first / 4096 + r.blocks → DamageShown v file (ShowsBlock BreaksTerms file page) f → DamageShown v file (ShowsBlocks file r) f
+terms_shown v file r page f low high shown = shown_as (ShowsBlock BreaksTerms file page) (ShowsBlocks file r) v file f (λ bytes damage is block. in_terms page low high block) shown
+
+pub pointers_shown : (v : View) (file : FileName) (r : BlockRef) (level page : ℕ) (f : ReadFault) → 0 < level → ((bytes : Bytes) → contents v file ≡ Some bytes → Leads bytes r level page)
+    → DamageShown v file (ShowsBlock (BreaksPointers (low_page r level) (high_page r level page)) file page) f → DamageShown v file (ShowsBlocks file r) f
+pointers_shown v file r level page f some leads shown =
+    shown_as (ShowsBlock (BreaksPointers (low_page r level) (high_page r level page)) file page) (ShowsBlocks file r) v file f (λ bytes damage is block. in_pointers level page some (leads bytes is) block) shown
+
+-- an entry that a block gives
+pub here_given : (v : View) (file : FileName) (page index new_page new_index : ℕ) (window : Bytes) (found : Option TermEntry) → ((bytes : Bytes) → contents v file ≡ Some bytes → HasAt bytes (4096 * page) window)
+    → GivesEntry window page index new_page new_index found → ReadsHere v file page index new_page new_index found
+here_given v file page index new_page new_index window None stands gives = tt
+here_given v file page index new_page new_index window (Some entry) stands gives = λ bytes is. (window, stands bytes is, gives)

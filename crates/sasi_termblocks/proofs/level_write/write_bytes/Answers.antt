@@ -1,0 +1,14 @@
+use Rattle.std.proofs.Common.{refl}
+use Rattle.sasi_tokentree.specs.Writes.{changes_past_torn, writes_once}
+use Rattle.sasi_termblocks.proofs.level_write.write_bytes.Goals as goal
+
+pub returns-in_err-write-clause-changes : goal.returns-in_err-write-clause-changes
+returns-in_err-write-clause-changes g c = changes_past_torn _ _ c.args.file c.args.at _ c.write.ensures.changes
+
+pub returns-clause-changes : goal.returns-clause-changes
+returns-clause-changes g c = changes_past_torn _ _ c.args.file c.args.at _ c.write.ensures.changes
+
+pub returns-clause-ok : goal.returns-clause-ok
+returns-clause-ok g c =
+    writes_once _ _ c.args.file c.args.at _ _ refl c.requires.room c.in_ok-write.ensures.ok c.write.ensures.changes
+    (record { disk = c.in_ok-write.ensures.causes.ok; out = c.in_ok-write.ensures.causes.out; reads = c.in_ok-write.ensures.causes.reads })

@@ -1,0 +1,59 @@
+-- Where a file breaks the format of blocks, and what is there.
+use Rattle.std.specs.Prelude.{◌≡◌, ◌⊎◌, ℕ, ◌+◌, ◌*◌, ◌/◌, ◌<◌, ◌≤◌, length}
+use Rattle.sasi_host.specs.declared.name.FileName.{FileName}
+use Rattle.sasi_host.specs.declared.damage.Damage.{Damage}
+use Rattle.sasi_host.specs.declared.damage.FormatRule.{FormatRule}
+use Rattle.sasi_host.specs.declared.fault.ReadFault.{ReadFault}
+use Rattle.sasi_host.specs.declared.fault.ReadFault.TheVariants as read
+use Rattle.sasi_host.specs.Names.{Bytes}
+use Rattle.sasi_host.specs.Damages.{HasAt, ShowsEnd, seen_bytes}
+use Rattle.sasi_termblocks.specs.declared.block_ref.BlockRef.{BlockRef}
+use Rattle.sasi_termblocks.specs.declared.fault.BlockFault.{BlockFault}
+use Rattle.sasi_termblocks.specs.declared.fault.BlockFault.TheVariants.{OutOfMemory, Broken}
+use Rattle.sasi_termblocks.specs.Entries.{pointer, term_entry}
+use Rattle.sasi_termblocks.specs.Windows.{BreaksCount, BreaksEntry, BreaksOrder, HasEntry, count_in}
+use Rattle.sasi_termblocks.specs.Descents.{high_page, low_page, pointer_to}
+
+-- ---- the faults of a block in its file
+
+-- the fault of a block that stands at an offset of a file
+abbrev pub IsLifted : FileName → ℕ → BlockFault → ReadFault → Type 0
+IsLifted file at OutOfMemory fault = fault ≡ read.OutOfMemory
+IsLifted file at (Broken broken) (read.Damaged damage) = (damage.file ≡ file) × (damage.at ≡ at + broken.at) × (damage.rule ≡ broken.rule) × (damage.seen ≡ broken.seen)
+IsLifted file at (Broken broken) _ = ⊥
+
+-- ---- what breaks the blocks of a file
+
+-- what breaks a term block
+abbrev pub BreaksTerms : Bytes → FormatRule → ℕ → Bytes → Type 0
+BreaksTerms block broken at seen =
+    BreaksCount block broken at seen
+    ⊎ ((index : ℕ) × (index < count_in block) × BreaksEntry term_entry block index broken at seen)
+    ⊎ ((index : ℕ) × (index + 1 < count_in block) × BreaksOrder block index broken at seen)
+
+-- what breaks a pointer block, whose places are those of pages from one to another
+abbrev pub BreaksPointers : ℕ → ℕ → Bytes → FormatRule → ℕ → Bytes → Type 0
+BreaksPointers low high block broken at seen =
+    BreaksCount block broken at seen
+    ⊎ ((index : ℕ) × (index < count_in block) × BreaksEntry (pointer_to low high) block index broken at seen)
+
+-- the damage is that of this file, in which a block on the page breaks a rule so, or which ends within it
+pub data ShowsBlock (Breaks : Bytes → FormatRule → ℕ → Bytes → Type 0) (file : FileName) (page : ℕ) (bytes : Bytes) (damage : Damage) : Type 0 where
+  ends : ShowsEnd (4096 * page + 4096) file bytes damage → ShowsBlock Breaks file page bytes damage
+  breaks : (block : Bytes) (at : ℕ) → damage.file ≡ file → HasAt bytes (4096 * page) block → length block ≡ 4096 → damage.at ≡ 4096 * page + at → Breaks block damage.rule at (seen_bytes damage.seen)
+      → ShowsBlock Breaks file page bytes damage
+
+-- the pointers lead from the top block down to a block on this page, above so many levels
+pub data Leads (bytes : Bytes) (ref : BlockRef) : ℕ → ℕ → Type 0 where
+  top : (level page : ℕ) → 0 < level → level ≡ ref.levels → page ≡ ref.top / 4096 → Leads bytes ref level page
+  down : (level page from index : ℕ) (block t : Bytes) (place : ℕ) → Leads bytes ref (level + 1) from → HasAt bytes (4096 * from) block → length block ≡ 4096
+      → index < count_in block → HasEntry pointer block index (t, place) → page ≡ place / 4096 → Leads bytes ref level page
+
+-- the damage is that of this file, which breaks the format of the blocks with this reference
+pub data ShowsBlocks (file : FileName) (ref : BlockRef) (bytes : Bytes) (damage : Damage) : Type 0 where
+  -- it ends within the term blocks
+  ends_early : ShowsEnd (ref.first + 4096 * ref.blocks) file bytes damage → ShowsBlocks file ref bytes damage
+  -- a term block is damaged
+  in_terms : (page : ℕ) → ref.first / 4096 ≤ page → page < ref.first / 4096 + ref.blocks → ShowsBlock BreaksTerms file page bytes damage → ShowsBlocks file ref bytes damage
+  -- or a pointer block, to which the pointers above it lead
+  in_pointers : (level page : ℕ) → 0 < level → Leads bytes ref level page → ShowsBlock (BreaksPointers (low_page ref level) (high_page ref level page)) file page bytes damage → ShowsBlocks file ref bytes damage

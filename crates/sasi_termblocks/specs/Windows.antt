@@ -1,0 +1,75 @@
+-- A block as it is read: bytes that may be those of a block.
+use Rattle.std.specs.Prelude.{◌≡◌, ℕ, ◌+◌, ◌*◌, ◌<◌, ◌≤◌, ◌⊎◌, true, false, take, drop}
+use Rattle.std.specs.Int.{from_be_bytes, w16}
+use Rattle.sasi_host.specs.Names.{Bytes}
+use Rattle.sasi_host.specs.Damages.{seen_bytes}
+use Rattle.sasi_host.specs.declared.damage.FormatRule.{FormatRule}
+use Rattle.sasi_host.specs.declared.damage.FormatRule.TheVariants as rule
+use Rattle.sasi_fields.specs.Reading.{Reading}
+use Rattle.sasi_formats.specs.Formats.{Format}
+use Rattle.sasi_formats.specs.Reader.{Got, Short, Long, Broken, read, start}
+use Rattle.sasi_formats.specs.Failures.{Fails}
+use Rattle.sasi_termblocks.specs.declared.fault.BlockFault.{BlockFault}
+use Rattle.sasi_termblocks.specs.declared.fault.BlockFault.TheVariants.{OutOfMemory}
+use Rattle.sasi_termblocks.specs.declared.fault.BlockFault.TheVariants as fault
+use Rattle.sasi_termblocks.specs.Entries.{is_below, term}
+
+-- the number of two bytes at an offset
+unfoldable pub number_at : Bytes → ℕ → ℕ
+number_at block at = from_be_bytes w16 (drop at block)
+
+-- how many entries the block tells, and where it tells the one with this index
+abbrev pub count_in : Bytes → ℕ
+count_in block = number_at block 0
+
+abbrev pub offset_in : Bytes → ℕ → ℕ
+offset_in block index = number_at block (2 + 2 * index)
+
+-- the bytes of the block from that entry on
+unfoldable pub bytes_in : Bytes → ℕ → Bytes
+bytes_in block index = drop (offset_in block index) block
+
+-- a value of the format begins there
+abbrev pub HasEntry : {A : Type 0} → Format A → Bytes → ℕ → A → Type 0
+HasEntry format block index value = (behind : Reading) × (read format (start (bytes_in block index)) ≡ Got value behind)
+
+-- ---- what breaks a block
+
+-- it has no entries, or more than have room
+pub record BreaksCount (block : Bytes) (broken : FormatRule) (at : ℕ) (seen : Bytes) : Type 0 where
+  pub rule_is : broken ≡ rule.Number
+  pub at_is : at ≡ 0
+  pub seen_is : seen ≡ take 2 block
+  pub wrong : (count_in block ≡ 0) ⊎ (4096 < 2 + 2 * count_in block)
+
+-- no value of the format begins where it tells this entry
+pub data BreaksEntry {A : Type 0} (format : Format A) (block : Bytes) (index : ℕ) (broken : FormatRule) (at : ℕ) (seen : Bytes) : Type 0 where
+  -- the entry ends behind the block: its offset is wrong
+  offset : broken ≡ rule.Number → at ≡ 2 + 2 * index → seen ≡ take 2 (drop (2 + 2 * index) block) → Fails format (start (bytes_in block index)) Short ⊎ Fails format (start (bytes_in block index)) Long
+      → BreaksEntry format block index broken at seen
+  -- or one of its fields is
+  field : (inner : ℕ) → at ≡ offset_in block index + inner → Fails format (start (bytes_in block index)) (Broken broken inner seen) → BreaksEntry format block index broken at seen
+
+-- two entries, one behind the other, don't rise
+pub record BreaksOrder (block : Bytes) (index : ℕ) (broken : FormatRule) (at : ℕ) (seen : Bytes) : Type 0 where
+  pub before : Bytes
+  pub after : Bytes
+  pub has_before : HasEntry term block index before
+  pub has_after : HasEntry term block (index + 1) after
+  pub disorder : is_below before after ≡ false
+  pub rule_is : broken ≡ rule.Order
+  pub at_is : at ≡ offset_in block (index + 1)
+  pub seen_is : seen ≡ take 8 (bytes_in block (index + 1))
+
+-- the fault is out of memory, or of this kind; its offset is that of a number of two bytes, and within a block from there
+abbrev pub IsFault : (FormatRule → ℕ → Bytes → Type 0) → BlockFault → Type 0
+IsFault Breaks OutOfMemory = Unit {0}
+IsFault Breaks (fault.Broken broken) = Breaks broken.rule broken.at (seen_bytes broken.seen) × (broken.at ≤ 131072)
+
+-- ---- a search
+
+-- so many of the block's entries have terms below this one, as far as their neighbours tell
+pub record IsBound (block : Bytes) (count : ℕ) (term_sought : Bytes) (below : ℕ) : Type 0 where
+  pub within : below ≤ count
+  pub last : (index : ℕ) → below ≡ index + 1 → (t : Bytes) × HasEntry term block index t × (is_below t term_sought ≡ true)
+  pub next : below < count → (t : Bytes) × HasEntry term block below t × (is_below t term_sought ≡ false)

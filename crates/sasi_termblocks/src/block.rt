@@ -1,0 +1,203 @@
+// Reads the bytes of a block.
+ghost use Rattle.std.specs.Prelude.{◌≡◌, ◌+◌, ◌-◌, ◌*◌, ◌^◌, ◌<◌, ◌≤◌, ℕ, length, take, IfErr, IfOk, OnOk};
+ghost use Rattle.sasi_formats.specs.Reader.{start};
+ghost use Rattle.sasi_termblocks.specs.Entries.{is_below, term, term_entry};
+ghost use Rattle.sasi_termblocks.specs.Windows.{BreaksCount, BreaksEntry, HasEntry, IsBound, IsFault, bytes_in, count_in, number_at, offset_in};
+ghost use Rattle.sasi_termblocks.specs.Descents.{pointer_to};
+ghost use Rattle.sasi_termblocks.specs.BlockFaults.{BreaksSome, BreaksUpTo, HasPlace, IsAboveLast, IsBrokenAt, IsCompared, IsMoved, IsNear, IsPlaced, IsSearched};
+
+use crate::block_encode::BLOCK_BYTES;
+use crate::decode::{read_entry, read_place, read_term};
+use crate::fault::BlockFault;
+use crate::term_entry::TermEntry;
+use sasi_fields::FieldReader;
+use sasi_formats::{Broken, FormatFault, found};
+use sasi_host::FormatRule;
+use std::alloc::Global;
+
+// The number of two bytes at this offset.
+fn number_at(block: &[u8], at: usize) -> usize
+    requires { at + 2 ≤ length block.now }
+    ensures is { result ≡ number_at block.now at }
+    ensures fits { result < 2 ^ 16 }
+{
+    usize::from(u16::from_be_bytes([block[at], block[at + 1]]))
+}
+
+// How many entries the block has.
+pub fn count_of(block: &[u8]) -> Result<usize, BlockFault>
+    requires whole { length block.now ≡ 4096 }
+    ensures ok { IfOk result (λ count. count ≡ count_in block.now) }
+    ensures some { IfOk result (λ count. 0 < count) }
+    ensures within { IfOk result (λ count. 2 + 2 * count ≤ 4096) }
+    ensures seen { IfErr result (IsFault (BreaksCount block.now)) }
+{
+    let count = number_at(block, 0);
+    if count == 0 || 2 + 2 * count > BLOCK_BYTES {
+        return Err(broken(FormatRule::Number, 0, &block[..2]));
+    }
+    Ok(count)
+}
+
+// The block breaks the rule at this offset, where it has these bytes.
+fn broken(rule: FormatRule, at: usize, bytes: &[u8]) -> BlockFault
+    requires { at ≤ 131072 }
+    ensures near { IsNear result }
+    ensures is { IsBrokenAt rule at (take 8 bytes.now) result }
+{
+    BlockFault::Broken(found(rule, at, bytes))
+}
+
+// A reader before the entry with this index.
+fn reader_at(block: &[u8], index: usize) -> FieldReader
+    requires whole { length block.now ≡ 4096 }
+    requires within { 4 + 2 * index ≤ 4096 }
+    ensures { result ≡ start (bytes_in block.now index) }
+{
+    let at = number_at(block, 2 + 2 * index);
+    FieldReader::new(&block[at.min(BLOCK_BYTES)..])
+}
+
+// The fault of the entry with this index, by its offset in the block. Where the entry ends behind the block, its offset is wrong.
+fn fault_at(block: &[u8], index: usize, fault: FormatFault) -> BlockFault
+    requires whole { length block.now ≡ 4096 }
+    requires within { 4 + 2 * index ≤ 4096 }
+    requires placed { IsPlaced fault }
+    ensures moved { IsMoved block.now index fault result }
+    ensures near { IsNear result }
+{
+    let at = 2 + 2 * index;
+    match fault {
+        FormatFault::OutOfMemory => BlockFault::OutOfMemory,
+        FormatFault::Short => broken(FormatRule::Number, at, &block[at..at + 2]),
+        FormatFault::Long => broken(FormatRule::Number, at, &block[at..at + 2]),
+        FormatFault::Broken(found) => BlockFault::Broken(Broken {
+            rule: found.rule,
+            at: number_at(block, at) + found.at,
+            seen: found.seen,
+        }),
+    }
+}
+
+// The term of the entry with this index.
+fn term_at(block: &[u8], index: usize) -> Result<&[u8], BlockFault>
+    requires whole { length block.now ≡ 4096 }
+    requires within { 4 + 2 * index ≤ 4096 }
+    ensures ok { IfOk result (λ found. HasEntry term block.now index found.now) }
+    ensures seen { IfErr result (IsFault (BreaksEntry term block.now index)) }
+{
+    match read_term(&mut reader_at(block, index)) {
+        Ok(found) => Ok(found),
+        Err(fault) => Err(fault_at(block, index, fault)),
+    }
+}
+
+// The entry with this index.
+pub fn entry_at(alloc: Global, block: &[u8], index: usize) -> Result<TermEntry, BlockFault>
+    requires whole { length block.now ≡ 4096 }
+    requires within { 4 + 2 * index ≤ 4096 }
+    ensures ok { IfOk result (λ found. HasEntry term_entry block.now index found) }
+    ensures seen { IfErr result (IsFault (BreaksEntry term_entry block.now index)) }
+{
+    match read_entry(alloc, &mut reader_at(block, index)) {
+        Ok(found) => Ok(found),
+        Err(fault) => Err(fault_at(block, index, fault)),
+    }
+}
+
+// The place of the pointer with this index, which is that of a page from one to another.
+pub fn place_at(block: &[u8], index: usize, low: u64, high: u64) -> Result<u64, BlockFault>
+    requires whole { length block.now ≡ 4096 }
+    requires within { 4 + 2 * index ≤ 4096 }
+    ensures ok { IfOk result (HasPlace low high block.now index) }
+    ensures seen { IfErr result (IsFault (BreaksEntry (pointer_to low high) block.now index)) }
+{
+    match read_place(&mut reader_at(block, index), low, high) {
+        Ok(place) => Ok(place),
+        Err(fault) => Err(fault_at(block, index, fault)),
+    }
+}
+
+// Whether the first term is below the second.
+fn is_below(first: &[u8], second: &[u8]) -> bool
+    ensures { result ≡ is_below first.now second.now }
+{
+    first.cmp(second).is_lt()
+}
+
+// Whether the entry with this index has a term below this one.
+fn has_below(block: &[u8], index: usize, sought: &[u8]) -> Result<bool, BlockFault>
+    requires whole { length block.now ≡ 4096 }
+    requires within { 4 + 2 * index ≤ 4096 }
+    ensures ok { IfOk result (IsCompared block.now index sought.now) }
+    ensures seen { IfErr result (IsFault (BreaksEntry term block.now index)) }
+{
+    let found = term_at(block, index)?;
+    Ok(is_below(found, sought))
+}
+
+// Entries from one index to another.
+#[derive(Clone, Copy)]
+struct Between {
+    low: usize,
+    high: usize,
+}
+
+// One half of the entries, by the term of the one in the middle.
+fn halve(block: &[u8], range: Between, sought: &[u8]) -> Result<Between, BlockFault>
+    requires whole { length block.now ≡ 4096 }
+    requires some { range.low < range.high }
+    requires within { 2 + 2 * range.high ≤ 4096 }
+    ensures ok { IfOk result (λ half. (count : ℕ) → IsSearched block.now count sought.now range.low range.high → IsSearched block.now count sought.now half.low half.high) }
+    ensures smaller { IfOk result (λ half. half.high - half.low < range.high - range.low) }
+    ensures high { IfOk result (λ half. half.high ≤ range.high) }
+    ensures seen { IfErr result (IsFault (BreaksSome term block.now range.high)) }
+{
+    let middle = range.low + (range.high - range.low) / 2;
+    if has_below(block, middle, sought)? {
+        return Ok(Between {
+            low: middle + 1,
+            high: range.high,
+        });
+    }
+    Ok(Between {
+        low: range.low,
+        high: middle,
+    })
+}
+
+// How many of the block's entries have terms below this one, found by halving.
+pub fn count_below(block: &[u8], count: usize, sought: &[u8]) -> Result<usize, BlockFault>
+    requires whole { length block.now ≡ 4096 }
+    requires within { 2 + 2 * count ≤ 4096 }
+    ensures ok { IfOk result (IsBound block.now count sought.now) }
+    ensures seen { IfErr result (IsFault (BreaksSome term block.now count)) }
+{
+    let mut range = Between {
+        low: 0,
+        high: count,
+    };
+    while range.low < range.high {
+        range = halve(block, range, sought)?;
+    }
+    Ok(range.low)
+}
+
+// Checks that the entry with this index is above the one before it.
+pub fn check_order(block: &[u8], index: usize) -> Result<(), BlockFault>
+    requires whole { length block.now ≡ 4096 }
+    requires within { 4 + 2 * index ≤ 4096 }
+    ensures ok { OnOk result (IsAboveLast block.now index) }
+    ensures seen { IfErr result (IsFault (BreaksUpTo block.now index)) }
+{
+    if index == 0 {
+        return Ok(());
+    }
+    let before = term_at(block, index - 1)?;
+    let after = term_at(block, index)?;
+    if !is_below(before, after) {
+        let at = number_at(block, 2 + 2 * index);
+        return Err(broken(FormatRule::Order, at, &block[at.min(BLOCK_BYTES)..]));
+    }
+    Ok(())
+}

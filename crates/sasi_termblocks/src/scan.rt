@@ -1,0 +1,131 @@
+// Scans the entries of blocks, one after another.
+ghost use Rattle.std.specs.Prelude.{◌≡◌, ◌+◌, ◌-◌, ◌*◌, ◌/◌, ◌^◌, ◌<◌, ◌≤◌, ◌⊎◌, List, ℕ, length, IfErr, IfOk, IsTrue, None, Some, false};
+ghost use Rattle.sasi_host.specs.View.{contents, ReadsAtMost};
+ghost use Rattle.sasi_host.specs.Damages.{DamageShown, HasAt};
+ghost use Rattle.sasi_host.specs.PageReading.{CanReadOn, HasReadOn};
+ghost use Rattle.sasi_termblocks.specs.Windows.{IsFault, count_in};
+ghost use Rattle.sasi_termblocks.specs.Damages.{BreaksTerms, ShowsBlocks};
+ghost use Rattle.sasi_termblocks.specs.Scans.{GivesEntry, ReadsFirst, ReadsHere, ReadsNext};
+
+use crate::block::{check_order, count_of, entry_at};
+use crate::block_encode::BLOCK_BYTES;
+use crate::block_read::{fault_of, load_block, loaded_block};
+use crate::block_ref::BlockRef;
+use crate::fault::BlockFault;
+use crate::position::{Position, position_in};
+use crate::seek::{leaf_page, position_for};
+use crate::term_entry::TermEntry;
+use sasi_host::{BufferedFile, Host, PageReader, ReadFault, unexpected_end};
+use std::alloc::Global;
+
+// No file has more blocks, nor is longer.
+const MAX_BLOCKS: u64 = 1 << 50;
+
+const MAX_FILE_SIZE: u64 = 1 << 62;
+
+// An entry, if there is one, and where the scan is then.
+#[derive(Drop)]
+pub struct ScannedEntry {
+    pub entry: Option<TermEntry>,
+    pub position: Position,
+}
+
+// Whether the blocks are longer than a file can be.
+fn is_too_long(blocks: BlockRef) -> bool
+    ensures long { IsTrue result → (2 ^ 62 < blocks.first) ⊎ (2 ^ 50 < blocks.blocks) }
+    ensures first { result ≡ false → blocks.first ≤ 2 ^ 62 }
+    ensures few { result ≡ false → blocks.blocks ≤ 2 ^ 50 }
+{
+    blocks.first > MAX_FILE_SIZE || blocks.blocks > MAX_BLOCKS
+}
+
+// The entry with this index of a block on this page, and the position behind it; none where it has no such entry.
+fn entry_in(alloc: Global, block: &[u8], position: Position) -> Result<ScannedEntry, BlockFault>
+    requires whole { length block.now ≡ 4096 }
+    requires page { position.page < 2 ^ 50 }
+    ensures ok { IfOk result (λ found. GivesEntry block.now position.page position.index found.position.page found.position.index found.entry) }
+    ensures seen { IfErr result (IsFault (BreaksTerms block.now)) }
+{
+    let count = count_of(block)?;
+    if position.index >= count {
+        return Ok(ScannedEntry {
+            entry: None,
+            position,
+        });
+    }
+    check_order(block, position.index)?;
+    let entry = entry_at(alloc, block, position.index)?;
+    Ok(ScannedEntry {
+        entry: Some(entry),
+        position: position_in(position.page, position.index + 1, count),
+    })
+}
+
+// The entry at a position, and the position behind it.
+pub fn entry_from<H: Host, P: PageReader>(
+    alloc: Global,
+    host: &mut H,
+    pages: &mut P,
+    buffered: &mut BufferedFile,
+    blocks: BlockRef,
+    position: Position,
+) -> Result<ScannedEntry, ReadFault>
+    requires read { CanReadOn (P.agrees pages.old) (H.view host.old) buffered.old }
+    requires low { blocks.first / 4096 ≤ position.page }
+    ensures ok { IfOk result (λ found. ReadsNext (H.view host.old) buffered.old.file blocks position.page position.index found.position.page found.position.index found.entry) }
+    ensures stands { IfOk result (λ found. ReadsHere (H.view host.old) buffered.old.file position.page position.index found.position.page found.position.index found.entry) }
+    ensures low { IfOk result (λ found. blocks.first / 4096 ≤ found.position.page) }
+    ensures damaged { IfErr result (DamageShown (H.view host.old) buffered.old.file (ShowsBlocks buffered.old.file blocks)) }
+    ensures read { HasReadOn (P.agrees pages.new) (P.covers pages.old) (P.covers pages.new) (H.view host.old) (H.view host.new) buffered.old buffered.new }
+    ensures causes { ReadsAtMost 1 (H.view host.old) (H.view host.new) result }
+{
+    if is_too_long(blocks) {
+        return Err(unexpected_end(host, buffered.file()));
+    }
+    if position.page >= blocks.first / BLOCK_BYTES as u64 + blocks.blocks {
+        return Ok(ScannedEntry {
+            entry: None,
+            position,
+        });
+    }
+    load_block(host, pages, buffered, position.page)?;
+    match entry_in(alloc, loaded_block(buffered), position) {
+        Ok(found) => Ok(found),
+        Err(fault) => Err(fault_of(buffered.file(), position.page, fault)),
+    }
+}
+
+// The first entry at or above the term, and the position behind it.
+pub fn first_from<H: Host, P: PageReader>(
+    alloc: Global,
+    host: &mut H,
+    pages: &mut P,
+    buffered: &mut BufferedFile,
+    blocks: BlockRef,
+    sought: &[u8],
+) -> Result<ScannedEntry, ReadFault>
+    requires read { CanReadOn (P.agrees pages.old) (H.view host.old) buffered.old }
+    ensures ok { IfOk result (λ found. ReadsFirst (H.view host.old) buffered.old.file blocks sought.now found.position.page found.position.index found.entry) }
+    ensures low { IfOk result (λ found. blocks.first / 4096 ≤ found.position.page) }
+    ensures damaged { IfErr result (DamageShown (H.view host.old) buffered.old.file (ShowsBlocks buffered.old.file blocks)) }
+    ensures read { HasReadOn (P.agrees pages.new) (P.covers pages.old) (P.covers pages.new) (H.view host.old) (H.view host.new) buffered.old buffered.new }
+    ensures causes { ReadsAtMost (blocks.levels + 2) (H.view host.old) (H.view host.new) result }
+{
+    if is_too_long(blocks) {
+        return Err(unexpected_end(host, buffered.file()));
+    }
+    let first = blocks.first / BLOCK_BYTES as u64;
+    if blocks.blocks == 0 {
+        return Ok(ScannedEntry {
+            entry: None,
+            position: Position {
+                page: first,
+                index: 0,
+            },
+        });
+    }
+    let page = leaf_page(host, pages, buffered, blocks, sought)?;
+    let position = position_for(host, pages, buffered, page, sought)?;
+    let found = entry_from(alloc, host, pages, buffered, blocks, position)?;
+    Ok(found)
+}

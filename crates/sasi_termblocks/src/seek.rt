@@ -1,0 +1,173 @@
+// Seeks terms in the blocks of a file.
+ghost use Rattle.std.specs.Prelude.{◌≡◌, ◌+◌, ◌-◌, ◌*◌, ◌/◌, ◌^◌, ◌<◌, ◌≤◌, List, ℕ, length, IfErr, IfOk, Some};
+ghost use Rattle.sasi_host.specs.View.{contents, ReadsAtMost};
+ghost use Rattle.sasi_host.specs.Damages.{DamageShown};
+ghost use Rattle.sasi_host.specs.PageReading.{CanReadOn, HasReadOn};
+ghost use Rattle.sasi_termblocks.specs.declared.block_ref.BlockRef.{BlockRef};
+ghost use Rattle.sasi_termblocks.specs.declared.term_entry.TermEntry.{TermEntry};
+ghost use Rattle.sasi_termblocks.specs.Windows.{IsBound, IsFault, count_in};
+ghost use Rattle.sasi_termblocks.specs.BlockFaults.{HasPlace};
+ghost use Rattle.sasi_termblocks.specs.Damages.{BreaksPointers, BreaksTerms, Leads, ShowsBlock, ShowsBlocks};
+ghost use Rattle.sasi_termblocks.specs.Descents.{IsPageFor, high_page, low_page, page_of_top};
+ghost use Rattle.sasi_termblocks.specs.Scans.{CountsBelow, HasBlocks, HasPassed, terms_of};
+
+use crate::block::{count_below, count_of, place_at};
+use crate::block_encode::BLOCK_BYTES;
+use crate::block_read::{fault_of, load_block, loaded_block};
+use crate::block_ref::BlockRef;
+use crate::fault::BlockFault;
+use crate::position::{Position, position_in};
+use sasi_host::{BufferedFile, Host, PageReader, ReadFault};
+
+// The place to which a block points for a term: that of its last pointer with a term below it, or of its first one.
+fn place_for(block: &[u8], sought: &[u8], low: u64, high: u64) -> Result<u64, BlockFault>
+    requires whole { length block.now ≡ 4096 }
+    ensures ok { IfOk result (λ place. (below : ℕ) × IsBound block.now (count_in block.now) sought.now below × HasPlace low high block.now (below - 1) place) }
+    ensures some { IfOk result (λ _. 0 < count_in block.now) }
+    ensures seen { IfErr result (IsFault (BreaksPointers low high block.now)) }
+{
+    let count = count_of(block)?;
+    let below = count_below(block, count, sought)?;
+    let place = place_at(block, below.saturating_sub(1), low, high)?;
+    Ok(place)
+}
+
+// How many entries of a block have terms below a given one, of how many.
+#[derive(Clone, Copy)]
+struct SplitBlock {
+    below: usize,
+    count: usize,
+}
+
+// Counts the entries of a term block with terms below this one.
+fn split_block(block: &[u8], sought: &[u8]) -> Result<SplitBlock, BlockFault>
+    requires whole { length block.now ≡ 4096 }
+    ensures ok { IfOk result (λ split. IsBound block.now split.count sought.now split.below) }
+    ensures count { IfOk result (λ split. split.count ≡ count_in block.now) }
+    ensures seen { IfErr result (IsFault (BreaksTerms block.now)) }
+{
+    let count = count_of(block)?;
+    let below = count_below(block, count, sought)?;
+    Ok(SplitBlock { below, count })
+}
+
+// The page of the block to which a block of a level points for a term.
+fn child_page<H: Host, P: PageReader>(
+    host: &mut H,
+    pages: &mut P,
+    buffered: &mut BufferedFile,
+    blocks: BlockRef,
+    level: u64,
+    page: u64,
+    sought: &[u8],
+) -> Result<u64, ReadFault>
+    requires read { CanReadOn (P.agrees pages.old) (H.view host.old) buffered.old }
+    requires first { blocks.first ≤ 2 ^ 62 }
+    requires few { blocks.blocks ≤ 2 ^ 50 }
+    requires level { 0 < level }
+    ensures ok { IfOk result (λ child. (bytes : List ℕ) (entries : List TermEntry) → contents (H.view host.old) buffered.old.file ≡ Some bytes → HasBlocks bytes blocks entries → level ≤ blocks.levels
+        → IsPageFor blocks.first entries level sought.now page → IsPageFor blocks.first entries (level - 1) sought.now child) }
+    ensures leads { IfOk result (λ child. (bytes : List ℕ) → contents (H.view host.old) buffered.old.file ≡ Some bytes → Leads bytes blocks level page → Leads bytes blocks (level - 1) child) }
+    ensures below { IfOk result (λ child. low_page blocks level ≤ child) }
+    ensures within { IfOk result (λ child. child < high_page blocks level page) }
+    ensures damaged { IfErr result (DamageShown (H.view host.old) buffered.old.file (ShowsBlock (BreaksPointers (low_page blocks level) (high_page blocks level page)) buffered.old.file page)) }
+    ensures read { HasReadOn (P.agrees pages.new) (P.covers pages.old) (P.covers pages.new) (H.view host.old) (H.view host.new) buffered.old buffered.new }
+    ensures causes { ReadsAtMost 1 (H.view host.old) (H.view host.new) result }
+{
+    load_block(host, pages, buffered, page)?;
+    let range = range_of(blocks, level, page);
+    match place_for(loaded_block(buffered), sought, range.low, range.high) {
+        Ok(place) => Ok(place / BLOCK_BYTES as u64),
+        Err(fault) => Err(fault_of(buffered.file(), page, fault)),
+    }
+}
+
+// Pages from one to another.
+#[derive(Clone, Copy)]
+struct PageRange {
+    low: u64,
+    high: u64,
+}
+
+// The pages to which a block of a level on this page can point.
+fn range_of(blocks: BlockRef, level: u64, page: u64) -> PageRange
+    requires first { blocks.first ≤ 2 ^ 62 }
+    requires few { blocks.blocks ≤ 2 ^ 50 }
+    ensures low { result.low ≡ low_page blocks level }
+    ensures high { result.high ≡ high_page blocks level page }
+{
+    let first = blocks.first / BLOCK_BYTES as u64;
+    let end = first + blocks.blocks;
+    if level == 1 {
+        return PageRange {
+            low: first,
+            high: end,
+        };
+    }
+    PageRange {
+        low: end,
+        high: page,
+    }
+}
+
+// The page of the top block.
+fn top_page(blocks: BlockRef) -> u64
+    ensures { result ≡ page_of_top blocks }
+{
+    let top = if blocks.levels == 0 {
+        blocks.first
+    } else {
+        blocks.top
+    };
+    top / BLOCK_BYTES as u64
+}
+
+// The page of the term block for a term.
+pub fn leaf_page<H: Host, P: PageReader>(
+    host: &mut H,
+    pages: &mut P,
+    buffered: &mut BufferedFile,
+    blocks: BlockRef,
+    sought: &[u8],
+) -> Result<u64, ReadFault>
+    requires read { CanReadOn (P.agrees pages.old) (H.view host.old) buffered.old }
+    requires first { blocks.first ≤ 2 ^ 62 }
+    requires few { blocks.blocks ≤ 2 ^ 50 }
+    requires some { 0 < blocks.blocks }
+    ensures ok { IfOk result (λ page. (bytes : List ℕ) (entries : List TermEntry) → contents (H.view host.old) buffered.old.file ≡ Some bytes → HasBlocks bytes blocks entries → IsPageFor blocks.first entries 0 sought.now page) }
+    ensures low { IfOk result (λ page. blocks.first / 4096 ≤ page) }
+    ensures high { IfOk result (λ page. page < blocks.first / 4096 + blocks.blocks) }
+    ensures damaged { IfErr result (DamageShown (H.view host.old) buffered.old.file (ShowsBlocks buffered.old.file blocks)) }
+    ensures read { HasReadOn (P.agrees pages.new) (P.covers pages.old) (P.covers pages.new) (H.view host.old) (H.view host.new) buffered.old buffered.new }
+    ensures causes { ReadsAtMost blocks.levels (H.view host.old) (H.view host.new) result }
+{
+    let mut page = top_page(blocks);
+    for passed in 0..blocks.levels {
+        let level = blocks.levels - passed;
+        page = child_page(host, pages, buffered, blocks, level, page, sought)?;
+    }
+    Ok(page)
+}
+
+// Where the first entry of a term block at or above a term is: behind the block, where it has none.
+pub fn position_for<H: Host, P: PageReader>(
+    host: &mut H,
+    pages: &mut P,
+    buffered: &mut BufferedFile,
+    page: u64,
+    sought: &[u8],
+) -> Result<Position, ReadFault>
+    requires read { CanReadOn (P.agrees pages.old) (H.view host.old) buffered.old }
+    ensures ok { IfOk result (λ here. (bytes : List ℕ) (blocks : BlockRef) (entries : List TermEntry) → contents (H.view host.old) buffered.old.file ≡ Some bytes → HasBlocks bytes blocks entries → IsPageFor blocks.first entries 0 sought.now page
+        → (passed : ℕ) × CountsBelow (terms_of entries) sought.now passed × HasPassed blocks entries here.page here.index passed) }
+    ensures later { IfOk result (λ here. page ≤ here.page) }
+    ensures damaged { IfErr result (DamageShown (H.view host.old) buffered.old.file (ShowsBlock BreaksTerms buffered.old.file page)) }
+    ensures read { HasReadOn (P.agrees pages.new) (P.covers pages.old) (P.covers pages.new) (H.view host.old) (H.view host.new) buffered.old buffered.new }
+    ensures causes { ReadsAtMost 1 (H.view host.old) (H.view host.new) result }
+{
+    load_block(host, pages, buffered, page)?;
+    match split_block(loaded_block(buffered), sought) {
+        Ok(split) => Ok(position_in(page, split.below, split.count)),
+        Err(fault) => Err(fault_of(buffered.file(), page, fault)),
+    }
+}

@@ -1,0 +1,7 @@
+//! Tests of term blocks: their bytes, which another writer of the format gave, and what is sought and scanned in them.
+#![tactic(auto)]
+
+#[cfg(test)]
+mod blocks;
+#[cfg(test)]
+mod fixture;
