@@ -1,8 +1,9 @@
 #!/usr/bin/env python3
 """Runs the built sasi_language on many lines, and prints time and peak memory: language.py PROGRAM
 
-The lines are statements (INSERTs of prose, and statements of all forms), texts to cut into words, and single pieces whose
-length doubles. Doubling a piece may multiply its time by 2.4: a step that is linear in the bytes seen would multiply it by 4.
+The lines are statements (INSERTs of prose, and statements of all forms), texts to cut into words, and pieces of one length, 8 MiB
+in all. A byte of the longest pieces may take twice the time of one of the shortest, which are 32 times shorter: a step that is
+linear in the bytes seen would multiply it by 32. A piece of one-digit literals takes the most memory for its length.
 """
 import os
 import subprocess
@@ -10,8 +11,9 @@ import sys
 import tempfile
 import time
 
-MOST_GROWTH = 2.4
-TRIES = 3
+MOST_GROWTH = 2.0
+TOTAL = 1 << 23
+TRIES = 5
 WORDS = 'the quick brown fox jumps over a lazy dog and runs back home where it sleeps until the sun comes up again'.split()
 
 FORMS = [
@@ -86,16 +88,18 @@ def main():
         seconds, memory = measure(program, lines)
         size = sum(map(len, lines))
         print('%-9s %6d %7d  %7.3f  %8.1f' % (name, len(lines), size, seconds, memory / 1024))
-    print('one piece of   seconds  growth  peak MiB')
-    before = None
-    for size in [1 << 17, 1 << 18, 1 << 19, 1 << 20]:
+    print('pieces of   count  ns a byte  peak MiB')
+    first = None
+    for power in range(15, 21):
+        size = 1 << power
         piece = 'INSERT INTO t (k, a) VALUES (%s, 1);' % ', '.join(['1'] * ((size - 40) // 3))
-        seconds, memory = measure(program, [piece] * 8)
-        growth = seconds / before if before else 0
-        print('%12d   %7.3f %7s  %8.1f' % (len(piece), seconds, '%.2f' % growth if before else '', memory / 1024))
-        if growth > MOST_GROWTH:
-            sys.exit('doubling the piece multiplied the time by %.2f' % growth)
-        before = seconds
+        count = TOTAL // size
+        seconds, memory = measure(program, [piece] * count)
+        cost = seconds / (count * len(piece)) * 1e9
+        print('%9d  %6d  %9.1f  %8.1f' % (len(piece), count, cost, memory / 1024))
+        first = first or cost
+        if cost > MOST_GROWTH * first:
+            sys.exit('a byte of a longer piece took %.1f times the time' % (cost / first))
 
 
 if __name__ == '__main__':
