@@ -10,7 +10,8 @@ use Rattle.sasi_host.specs.View.{View, contents}
 use Rattle.sasi_host.specs.Disk.{Changes, Same}
 use Rattle.sasi_host.specs.Contents.{contents_same}
 use Rattle.sasi_host.proofs.DamageLaws.{shown_as, shown_before}
-use Rattle.sasi_tokentree.specs.Damages.{Node, ShownOf, ShowsOf, ShowsTreeBy, pair_place}
+use Rattle.sasi_tokentree.specs.declared.node_read.Node.{Node}
+use Rattle.sasi_tokentree.specs.Damages.{ShownOf, ShowsOf, ShowsTreeBy, pair_place}
 use Rattle.sasi_tokentree.specs.Damages.ShowsTreeBy.{in_node, in_entry}
 
 -- the file reads as before

@@ -18,7 +18,8 @@ use Rattle.sasi_host.proofs.DamageLaws.{end_shown, shown_as}
 use Rattle.sasi_tokentree.specs.Format.{pair_at, entry, node, nodes, size, entries_of_node, above, level_bytes, levels, tree_bytes, HasTree}
 use Rattle.sasi_tokentree.specs.Sizes.{entry_length, node_length, part_length, level_length, one_level, more_levels, first_above_length}
 use Rattle.sasi_tokentree.specs.Heights.{bytes_below_root, none_below_root, more_below_root, top_is}
-use Rattle.sasi_tokentree.specs.Damages.{BeginsLeaf, Node, IsNodeFrom, IsNodeOf, ShowsOf, ShownOf, ShowsTreeBy, start, pair_place}
+use Rattle.sasi_tokentree.specs.declared.node_read.Node.{Node}
+use Rattle.sasi_tokentree.specs.Damages.{BeginsLeaf, IsNodeFrom, IsNodeOf, ShowsOf, ShownOf, ShowsTreeBy, start, pair_place}
 use Rattle.sasi_tokentree.specs.Damages.ShowsTreeBy.{in_node, in_entry}
 use Rattle.sasi_tokentree.specs.Damages.IsNodeFrom.{of_level, of_above}
 use Rattle.sasi_tokentree.specs.Reads.{HasNode, HasLevels, CountsBelow, IsReached, NoFalseTreeDamage, NoFalseLevelDamage, NoFalsePairDamage}

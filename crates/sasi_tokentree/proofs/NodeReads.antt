@@ -16,7 +16,8 @@ use Rattle.sasi_host.specs.View.{View, contents}
 use Rattle.sasi_host.proofs.Offsets.{at_ends, both_at, differs_in, first_at, inner_at, same_at, window_at}
 use Rattle.sasi_host.proofs.DamageLaws.{shown_as}
 use Rattle.sasi_tokentree.specs.Format.{entry, node_header, node}
-use Rattle.sasi_tokentree.specs.Damages.{Node, IsNodeFrom, EndsWithin, NodeBreaks, ShowsOf, ShownOf}
+use Rattle.sasi_tokentree.specs.declared.node_read.Node.{Node}
+use Rattle.sasi_tokentree.specs.Damages.{IsNodeFrom, EndsWithin, NodeBreaks, ShowsOf, ShownOf}
 use Rattle.sasi_tokentree.specs.Damages.EndsWithin.{in_header, in_entries}
 use Rattle.sasi_tokentree.specs.Damages.IsNodeFrom.{of_level}
 use Rattle.sasi_tokentree.specs.Sizes.{head_length, node_length}

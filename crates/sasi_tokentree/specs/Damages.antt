@@ -11,16 +11,11 @@ use Rattle.sasi_host.specs.declared.fault.ReadFault.{ReadFault}
 use Rattle.sasi_host.specs.Names.{Bytes}
 use Rattle.sasi_host.specs.Damages.{Differs, HasAt, DamageShown, ShowsEnd, seen_bytes}
 use Rattle.sasi_host.specs.View.{View}
+use Rattle.sasi_tokentree.specs.declared.node_read.Node.{Node}
 use Rattle.sasi_tokentree.specs.Format.{entry, node_header, nodes, size, AreFit, IsBefore}
 use Rattle.sasi_tokentree.specs.Heights.{bytes_below_root}
 
 -- ---- the nodes of a tree
-
--- a node: its level, where it begins, and how many entries it has
-pub record Node : Type 0 where
-  pub level : ℕ
-  pub at : ℕ
-  pub count : ℕ
 
 -- it is a node of a level of so many entries at this offset, or of the levels above it
 pub data IsNodeFrom (node : Node) : ℕ → ℕ → ℕ → Type 0 where

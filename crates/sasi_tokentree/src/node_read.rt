@@ -5,7 +5,7 @@ ghost use Rattle.sasi_host.specs.View.{contents, ReadsAtMost};
 ghost use Rattle.sasi_host.specs.Buffered.{unbuffered_pages};
 ghost use Rattle.sasi_host.specs.Damages.{HasAt};
 ghost use Rattle.sasi_host.specs.PageReading.{CanReadOn, HasReadOn};
-ghost use Rattle.sasi_tokentree.specs.Format.{node, node_header};
+ghost use Rattle.sasi_tokentree.specs.Format.{node as encoded_node, node_header};
 ghost use Rattle.sasi_tokentree.specs.Damages.{ShownOf};
 ghost use Rattle.sasi_tokentree.specs.Reads.{IsLowerBound, HasNode, NoFalseNodeDamage};
 
@@ -13,30 +13,36 @@ use crate::node_decode::{ENTRY_BYTES, LowerBound, NODE_HEADER_BYTES, check_heade
 use sasi_host::{BufferedFile, Host, PageReader, ReadFault};
 use sasi_types::Token;
 
-// Fills the buffer with the header of a node, and checks it against this level and number of entries.
+// A node of a tree: its level, where it begins, and how many entries it has.
+#[derive(Clone, Copy)]
+struct Node {
+    level: u8,
+    at: u64,
+    count: usize,
+}
+
+// Fills the buffer with the header of a node, and checks it against the node's level and number of entries.
 fn read_header<H: Host, P: PageReader>(
     host: &mut H,
     pages: &mut P,
     buffered: &mut BufferedFile,
-    at: u64,
-    level: u8,
-    count: usize,
+    node: Node,
     out: &mut [u8],
 ) -> Result<(), ReadFault>
     requires read { CanReadOn (P.agrees pages.old) (H.view host.old) buffered.old }
-    requires place { at < 2 ^ 63 + 2 ^ 60 }
-    requires most { count ≤ 255 }
+    requires place { node.at < 2 ^ 63 + 2 ^ 60 }
+    requires most { node.count ≤ 255 }
     requires length { length out.old ≡ 8 }
-    ensures ok { OnOk result (out.new ≡ node_header level count) }
-    ensures is { OnOk result ((bytes : List ℕ) → contents (H.view host.old) buffered.old.file ≡ Some bytes → HasAt bytes at (node_header level count)) }
-    ensures damaged { IfErr result (ShownOf (λ n. n ≡ record { level = level; at = at; count = count }) (H.view host.old) buffered.old.file) }
-    ensures undamaged { IfErr result (NoFalseNodeDamage (H.view host.old) buffered.old.file level at count) }
+    ensures ok { OnOk result (out.new ≡ node_header node.level node.count) }
+    ensures is { OnOk result ((bytes : List ℕ) → contents (H.view host.old) buffered.old.file ≡ Some bytes → HasAt bytes node.at (node_header node.level node.count)) }
+    ensures damaged { IfErr result (ShownOf (λ n. n ≡ node) (H.view host.old) buffered.old.file) }
+    ensures undamaged { IfErr result (NoFalseNodeDamage (H.view host.old) buffered.old.file node.level node.at node.count) }
     ensures read { HasReadOn (P.agrees pages.new) (P.covers pages.old) (P.covers pages.new) (H.view host.old) (H.view host.new) buffered.old buffered.new }
-    ensures page { OnOk result (buffered.new.page ≡ Some ((at + 7) / 4096)) }
-    ensures causes { ReadsAtMost (unbuffered_pages buffered.old.page at 8) (H.view host.old) (H.view host.new) result }
+    ensures page { OnOk result (buffered.new.page ≡ Some ((node.at + 7) / 4096)) }
+    ensures causes { ReadsAtMost (unbuffered_pages buffered.old.page node.at 8) (H.view host.old) (H.view host.new) result }
 {
-    buffered.read_into(host, pages, at, out)?;
-    check_header(buffered.file(), at, level, count as u16, out)?;
+    buffered.read_into(host, pages, node.at, out)?;
+    check_header(buffered.file(), node.at, node.level, node.count as u16, out)?;
     Ok(())
 }
 
@@ -45,28 +51,26 @@ fn read_node<H: Host, P: PageReader>(
     host: &mut H,
     pages: &mut P,
     buffered: &mut BufferedFile,
-    at: u64,
-    level: u8,
-    count: usize,
+    node: Node,
     out: &mut [u8],
 ) -> Result<(), ReadFault>
     requires read { CanReadOn (P.agrees pages.old) (H.view host.old) buffered.old }
-    requires place { at < 2 ^ 63 + 2 ^ 60 }
-    requires most { count ≤ 255 }
-    requires length { length out.old ≡ 8 + 16 * count }
-    ensures ok { OnOk result ((bytes : List ℕ) (entries : List Pair) → contents (H.view host.old) buffered.old.file ≡ Some bytes → HasNode bytes level at entries → length entries ≡ count → out.new ≡ node level entries) }
-    ensures header { OnOk result (HasAt out.new 0 (node_header level count)) }
-    ensures is { OnOk result ((bytes : List ℕ) → contents (H.view host.old) buffered.old.file ≡ Some bytes → HasAt bytes at out.new) }
-    ensures whole { OnOk result ((bytes : List ℕ) → contents (H.view host.old) buffered.old.file ≡ Some bytes → at + (8 + 16 * count) ≤ length bytes) }
-    ensures damaged { IfErr result (ShownOf (λ n. n ≡ record { level = level; at = at; count = count }) (H.view host.old) buffered.old.file) }
-    ensures undamaged { IfErr result (NoFalseNodeDamage (H.view host.old) buffered.old.file level at count) }
+    requires place { node.at < 2 ^ 63 + 2 ^ 60 }
+    requires most { node.count ≤ 255 }
+    requires length { length out.old ≡ 8 + 16 * node.count }
+    ensures ok { OnOk result ((bytes : List ℕ) (entries : List Pair) → contents (H.view host.old) buffered.old.file ≡ Some bytes → HasNode bytes node.level node.at entries → length entries ≡ node.count → out.new ≡ encoded_node node.level entries) }
+    ensures header { OnOk result (HasAt out.new 0 (node_header node.level node.count)) }
+    ensures is { OnOk result ((bytes : List ℕ) → contents (H.view host.old) buffered.old.file ≡ Some bytes → HasAt bytes node.at out.new) }
+    ensures whole { OnOk result ((bytes : List ℕ) → contents (H.view host.old) buffered.old.file ≡ Some bytes → node.at + (8 + 16 * node.count) ≤ length bytes) }
+    ensures damaged { IfErr result (ShownOf (λ n. n ≡ node) (H.view host.old) buffered.old.file) }
+    ensures undamaged { IfErr result (NoFalseNodeDamage (H.view host.old) buffered.old.file node.level node.at node.count) }
     ensures read { HasReadOn (P.agrees pages.new) (P.covers pages.old) (P.covers pages.new) (H.view host.old) (H.view host.new) buffered.old buffered.new }
     ensures causes { ReadsAtMost 2 (H.view host.old) (H.view host.new) result }
 {
     let header = &mut out[..NODE_HEADER_BYTES];
-    read_header(host, pages, buffered, at, level, count, header)?;
+    read_header(host, pages, buffered, node, header)?;
     let entries = &mut out[NODE_HEADER_BYTES..];
-    buffered.read_into(host, pages, at + NODE_HEADER_BYTES as u64, entries)?;
+    buffered.read_into(host, pages, node.at + NODE_HEADER_BYTES as u64, entries)?;
     Ok(())
 }
 
@@ -94,7 +98,7 @@ pub fn node_below<H: Host, P: PageReader>(
 {
     let mut buffer = [0; 4088];
     let bytes = &mut buffer[..NODE_HEADER_BYTES + ENTRY_BYTES * count];
-    read_node(host, pages, buffered, at, level, count, bytes)?;
+    read_node(host, pages, buffered, Node { level, at, count }, bytes)?;
     let below = find_below(buffered.file(), at, count, bytes, token)?;
     Ok(below)
 }

@@ -55,6 +55,16 @@ impl Eq for Term {
     ghost laws = { Prim.search (comparing, rules) };
 }
 
+impl PartialOrd for Term {
+    ghost partial_cmp = { as_partial_cmp term_cmp };
+
+    ghost laws = { partial_order_from_own_ties (partial_order_from_total nat_list_cmp_total) (Prim.search (comparing, rules)) };
+
+    fn partial_cmp(&self, other: &Term) -> Option<Ordering> {
+        Some(self.cmp(other))
+    }
+}
+
 impl Ord for Term {
     ghost cmp = { term_cmp };
 
@@ -66,16 +76,6 @@ impl Ord for Term {
 
     fn cmp(&self, other: &Term) -> Ordering {
         self.bytes.cmp(&other.bytes)
-    }
-}
-
-impl PartialOrd for Term {
-    ghost partial_cmp = { as_partial_cmp term_cmp };
-
-    ghost laws = { partial_order_from_own_ties (partial_order_from_total nat_list_cmp_total) (Prim.search (comparing, rules)) };
-
-    fn partial_cmp(&self, other: &Term) -> Option<Ordering> {
-        Some(self.cmp(other))
     }
 }
 

@@ -7,7 +7,7 @@ use Rattle.sasi_host.specs.PageReading.{reads_then}
 use Rattle.sasi_host.proofs.Offsets.{at_ends}
 use Rattle.sasi_host.proofs.Pages.{end_before}
 use Rattle.sasi_tokentree.specs.Format.{node_header}
-use Rattle.sasi_tokentree.specs.Damages.{Node}
+use Rattle.sasi_tokentree.specs.declared.node_read.Node.{Node}
 use Rattle.sasi_tokentree.specs.Sizes.{head_length}
 use Rattle.sasi_tokentree.proofs.AfterRead.{reads_still}
 use Rattle.sasi_tokentree.proofs.NodeReads.{node_is, early_spares, entries_end, filled_behind, both_read}
@@ -21,8 +21,8 @@ out_is header old out level count is = filled_behind header old out _ (ap length
 pub returns-in_err-read_into-clause-damaged : goal.returns-in_err-read_into-clause-damaged
 returns-in_err-read_into-clause-damaged g c =
     let p = err_from_is_err_and c.from_residual-in_err-read_into.result c.from_residual-in_err-read_into.ensures.1 in
-    let node : Node = record { level = c.args.level; at = c.args.at; count = c.args.count } in
-    let end = c.args.at + (8 + 16 * c.args.count) in
+    let node : Node = c.args.node in
+    let end = c.args.node.at + (8 + 16 * c.args.node.count) in
     rw (p.1, p.2) (entries_end (λ n. n ≡ node) (g.H.Host.view c.args.host.now) c.args.buffered.now.file end node c.in_err-read_into.field-0.0 refl (omega arith)
     c.in_ok-read_header.ensures.is (end_before _ _ c.args.buffered.now.file _ _ end c.in_err-read_into.field-0.0 c.read_header.ensures.read.changes
     c.read_header.ensures.read.file (omega (arith, c.requires.length)) c.in_err-read_into.ensures.damaged))
@@ -30,8 +30,8 @@ returns-in_err-read_into-clause-damaged g c =
 pub returns-in_err-read_into-clause-undamaged : goal.returns-in_err-read_into-clause-undamaged
 returns-in_err-read_into-clause-undamaged g c =
     let p = err_from_is_err_and c.from_residual-in_err-read_into.result c.from_residual-in_err-read_into.ensures.1 in
-    let end = c.args.at + (8 + 16 * c.args.count) in
-    rw (p.1, p.2) (early_spares (g.H.Host.view c.args.host.now) c.args.buffered.now.file c.args.level c.args.at c.args.count end c.in_err-read_into.field-0.0 (omega arith)
+    let end = c.args.node.at + (8 + 16 * c.args.node.count) in
+    rw (p.1, p.2) (early_spares (g.H.Host.view c.args.host.now) c.args.buffered.now.file c.args.node.level c.args.node.at c.args.node.count end c.in_err-read_into.field-0.0 (omega arith)
     (end_before _ _ c.args.buffered.now.file _ _ end c.in_err-read_into.field-0.0 c.read_header.ensures.read.changes c.read_header.ensures.read.file
     (omega (arith, c.requires.length)) c.in_err-read_into.ensures.damaged))
 
@@ -47,17 +47,17 @@ returns-in_err-read_into-clause-read g c = reads_then _ _ _ _ _ _ _ _ _ _ _ c.re
 pub returns-clause-header : goal.returns-clause-header
 returns-clause-header g c =
     let out = c.read_into.new.out in
-    let head = node_header c.args.level c.args.count in
-    subst (λ (l : Bytes). HasAt l 0 head) (sym (out_is c.read_header.new.out c.args.out.now out c.args.level c.args.count c.in_ok-read_header.ensures.ok))
+    let head = node_header c.args.node.level c.args.node.count in
+    subst (λ (l : Bytes). HasAt l 0 head) (sym (out_is c.read_header.new.out c.args.out.now out c.args.node.level c.args.node.count c.in_ok-read_header.ensures.ok))
     (record { front = []; rest = out; is = refl; offset_is = refl })
 
 pub returns-clause-is : goal.returns-clause-is
 returns-clause-is g c bytes is =
     let out = c.read_into.new.out in
-    let head = node_header c.args.level c.args.count in
+    let head = node_header c.args.node.level c.args.node.count in
     let now = reads_still _ _ c.args.buffered.now.file _ bytes c.read_header.ensures.read.changes c.read_header.ensures.read.file is in
-    subst (λ (l : Bytes). HasAt bytes c.args.at l) (sym (out_is c.read_header.new.out c.args.out.now out c.args.level c.args.count c.in_ok-read_header.ensures.ok))
-    (both_read bytes head out c.args.at _ (c.in_ok-read_header.ensures.is bytes is) (head_length c.args.level c.args.count)
+    subst (λ (l : Bytes). HasAt bytes c.args.node.at l) (sym (out_is c.read_header.new.out c.args.out.now out c.args.node.level c.args.node.count c.in_ok-read_header.ensures.ok))
+    (both_read bytes head out c.args.node.at _ (c.in_ok-read_header.ensures.is bytes is) (head_length c.args.node.level c.args.node.count)
     (c.in_ok-read_into.ensures.ok bytes now) (c.in_ok-read_into.ensures.within bytes now))
 
 -- its length
@@ -68,16 +68,16 @@ out_length header old out level count is long =
 
 pub returns-clause-ok : goal.returns-clause-ok
 returns-clause-ok g c bytes entries is has long =
-    node_is bytes _ c.args.level c.args.at entries has (returns-clause-is g c bytes is)
-    (out_length c.read_header.new.out c.args.out.now c.read_into.new.out c.args.level c.args.count c.in_ok-read_header.ensures.ok (omega (arith, c.requires.length))
+    node_is bytes _ c.args.node.level c.args.node.at entries has (returns-clause-is g c bytes is)
+    (out_length c.read_header.new.out c.args.out.now c.read_into.new.out c.args.node.level c.args.node.count c.in_ok-read_header.ensures.ok (omega (arith, c.requires.length))
     ∙ ap (λ (n : ℕ). 8 + 16 * n) (sym long))
 
 pub returns-clause-whole : goal.returns-clause-whole
 returns-clause-whole g c bytes is =
     omega (
       arith,
-      at_ends bytes c.args.at _ (returns-clause-is g c bytes is),
-      out_length c.read_header.new.out c.args.out.now c.read_into.new.out c.args.level c.args.count c.in_ok-read_header.ensures.ok
+      at_ends bytes c.args.node.at _ (returns-clause-is g c bytes is),
+      out_length c.read_header.new.out c.args.out.now c.read_into.new.out c.args.node.level c.args.node.count c.in_ok-read_header.ensures.ok
           (omega (arith, c.requires.length)),
     )
 
