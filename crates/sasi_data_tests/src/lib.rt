@@ -1,4 +1,4 @@
-//! Tests of memtables, formats, bodies, token trees and data files: their bytes, what is read of them, and damaged ones.
+//! Tests of memtables, merges, formats, bodies, token trees and data files: their bytes, what is read of them, and damaged ones.
 #![tactic(auto)]
 
 #[cfg(test)]
@@ -9,6 +9,8 @@ mod fixture;
 mod formats;
 #[cfg(test)]
 mod memtables;
+#[cfg(test)]
+mod merges;
 #[cfg(test)]
 mod reading;
 #[cfg(test)]

@@ -1,0 +1,2 @@
+pub mod LeastKeys
+pub mod Streams

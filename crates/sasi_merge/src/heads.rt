@@ -1,0 +1,82 @@
+// The heads of sources.
+ghost use Rattle.std.specs.Prelude.{◌≡◌, ◌<◌, ◌++◌, ◌∷◌, [], length, set, Some, IfOk, OnOk, OnErr};
+
+use sasi_cells::Partition;
+use sasi_types::{DecoratedKey, Key, Token};
+use std::alloc::{AllocError, Global};
+use std::marker::Model;
+
+/// The next partition of a source, with the token of its key; None at the source's end.
+pub type Head = Option<(Token, Key, Partition)>;
+
+/// The heads of several sources, the oldest source first.
+#[derive(Drop)]
+pub struct Heads {
+    items: Vec<Head>,
+}
+
+impl Model for Heads {
+    ghost use Rattle.std.specs.Prelude.{List};
+    ghost use Rattle.std.specs.Coded.{coded_list};
+    ghost use Rattle.sasi_merge.specs.Merging.{Head, coded_head};
+
+    ghost Value = { List Head };
+
+    ghost coded = { coded_list coded_head };
+
+    ghost view = { λ a. a.items.items };
+}
+
+impl Heads {
+    /// No sources.
+    pub fn new(alloc: Global) -> Heads
+        ensures { result ≡ [] }
+    {
+        Heads {
+            items: Vec::new(alloc),
+        }
+    }
+
+    /// The heads, in the order of the sources.
+    pub fn as_slice(&self) -> &[Head]
+        ensures { result.now ≡ self.now }
+    {
+        &self.items
+    }
+
+    /// Adds the head of one more source, which is later than the others.
+    pub fn push(&mut self, head: Head) -> Result<(), AllocError>
+        ensures ok { OnOk result (self.new ≡ self.old ++ head ∷ []) }
+        ensures err { OnErr result (self.new ≡ self.old) }
+    {
+        self.items.push(head)?;
+        Ok(())
+    }
+
+    /// Puts the head of the source at this position in the place of the one before.
+    pub fn replace(&mut self, position: usize, head: Head)
+        requires { position < length self.old }
+        ensures { self.new ≡ set self.old position head }
+    {
+        self.items[position] = head;
+    }
+}
+
+/// A copy of an entry in memory, as the head of its source.
+pub fn copy_head(alloc: Global, key: &DecoratedKey, part: &Partition) -> Result<Head, AllocError>
+    ensures { IfOk result (λ head. head ≡ Some (key.now.token, key.now.key, part.now)) }
+{
+    let copy = copy_key(alloc, &key.key)?;
+    let part = part.copy(alloc)?;
+    Ok(Some((key.token, copy, part)))
+}
+
+/// A copy of a key. The bytes of a key are always those of one, so only memory can be missing.
+pub fn copy_key(alloc: Global, key: &Key) -> Result<Key, AllocError>
+    ensures { IfOk result (λ copy. copy ≡ key.now) }
+{
+    match Key::new(alloc, key.bytes()) {
+        Ok(copy) => Ok(copy),
+        Err(_) => Err(AllocError),
+    }
+}
