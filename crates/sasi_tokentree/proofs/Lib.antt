@@ -8,3 +8,4 @@ pub mod StoredLevels
 pub mod Seeks
 pub mod LeafPairs
 pub mod Fitting
+pub mod TreeSizes

@@ -1,10 +1,11 @@
 -- The height of a tree.
-use Rattle.std.specs.Prelude.{◌≡◌, ℕ, zero, suc, ◌+◌, ◌*◌, ◌/◌, ◌^◌, ◌<◌, ◌≤◌, nat_le, if◌then◌else◌}
-use Rattle.std.proofs.Common.{arith, add-one, subst, sym, lit≤, ⊎_elim, ◌-◌, ◌∙◌}
+use Rattle.std.specs.Prelude.{◌≡◌, ℕ, zero, suc, ◌+◌, ◌*◌, ◌/◌, ◌^◌, ◌<◌, ◌≤◌, nat_le, if◌then◌else◌, List, length, refl}
+use Rattle.std.proofs.Common.{ap, arith, add-one, subst, sym, length-append, lit≤, ⊎_elim, ◌-◌, ◌∙◌}
 use Rattle.std.proofs.lemmas.Bool.{le-leb, lt-leb}
 use Rattle.std.proofs.lemmas.Bool.Decides.{leb_tells}
-use Rattle.sasi_tokentree.specs.Format.{nodes, size, top}
-use Rattle.sasi_tokentree.specs.Sizes.{top_one, top_more}
+use Rattle.sasi_types.specs.declared.tree.Pair.{Pair}
+use Rattle.sasi_tokentree.specs.Format.{above, level_bytes, levels, nodes, size, top, tree_bytes}
+use Rattle.sasi_tokentree.specs.Sizes.{first_above_length, level_length, more_levels, one_level, top_one, top_more}
 
 -- how many levels a tree of so many entries has
 unfoldable pub height : ℕ → ℕ → ℕ
@@ -66,3 +67,49 @@ below_root_short (suc most) count le = ⊎_elim
     (λ one. omega (arith, none_below_root most count one.1))
     (λ more. omega (arith, more.1, more_below_root most count more.1, below_root_short most (nodes count) (omega (arith, more.1, le))))
     (leb_tells count 255)
+
+-- ---- sizes
+
+-- how many bytes all levels of so many entries take
+unfoldable pub levels_size : ℕ → ℕ → ℕ
+levels_size zero count = 0
+levels_size (suc most) count = if nat_le count 255 then size count else (size count + levels_size most (nodes count))
+
+pub one_size : (most count : ℕ) → count ≤ 255 → levels_size (suc most) count ≡ size count
+unfolding levels_size
+one_size most count le = rw (le-leb count 255 le)
+
+pub more_size : (most count : ℕ) → 255 < count → levels_size (suc most) count ≡ size count + levels_size most (nodes count)
+unfolding levels_size
+more_size most count lt = rw (lt-leb count 255 lt)
+
+levels_length : (most level at : ℕ) (entries : List Pair) → length entries ≤ most → length (levels most level at entries) ≡ levels_size most (length entries)
+unfolding levels levels_size
+levels_length zero level at entries le = refl
+levels_length (suc most) level at entries le = ⊎_elim
+    (λ one. ap length (one_level most level at entries one.1) ∙ level_length level entries ∙ sym (one_size most (length entries) one.1))
+    (λ more.
+    let next = at + size (length entries) in
+    let count : length (above at entries) ≡ nodes (length entries) = first_above_length at entries (nodes (length entries)) in
+    let higher : length (levels most (suc level) next (above at entries)) ≡ levels_size most (nodes (length entries)) =
+    levels_length most (suc level) next (above at entries) (omega (arith, more.1, count, le)) ∙ ap (λ (n : ℕ). levels_size most n) count
+    in
+    omega (
+      arith,
+      higher,
+      ap length (more_levels most level at entries more.1),
+      length-append (level_bytes level entries) (levels most (suc level) next (above at entries)),
+      level_length level entries,
+      more_size most (length entries) more.1,
+    ))
+    (leb_tells (length entries) 255)
+
+-- so many bytes has a tree
+pub tree_length : (at : ℕ) (pairs : List Pair) → length (tree_bytes at pairs) ≡ levels_size (length pairs) (length pairs)
+tree_length at pairs = levels_length (length pairs) 0 at pairs (omega arith)
+
+-- 16 at least for each pair
+pub levels_least : (most count : ℕ) → count ≤ most → 16 * count ≤ levels_size most count
+unfolding levels_size
+levels_least zero count le = omega arith
+levels_least (suc most) count le = ⊎_elim (λ one. omega (arith, one_size most count one.1)) (λ more. omega (arith, more_size most count more.1)) (leb_tells count 255)

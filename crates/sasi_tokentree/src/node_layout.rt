@@ -1,6 +1,8 @@
 // The layout of a level, by its number of entries.
-ghost use Rattle.std.specs.Prelude.{◌≡◌, ◌*◌, ◌^◌, ◌<◌, ◌≤◌, length};
-ghost use Rattle.sasi_tokentree.specs.Format.{nodes, entries_of_node, size};
+ghost use Rattle.std.specs.Prelude.{◌≡◌, ℕ, ◌*◌, ◌^◌, ◌<◌, ◌≤◌, List, length};
+ghost use Rattle.sasi_types.specs.declared.tree.Pair.{Pair};
+ghost use Rattle.sasi_tokentree.specs.Format.{nodes, entries_of_node, size, tree_bytes};
+ghost use Rattle.sasi_tokentree.specs.Heights.{levels_size};
 ghost use Rattle.sasi_tokentree.specs.Damages.{is_node_place};
 
 use sasi_types::Pair;
@@ -45,4 +47,24 @@ pub fn level_size(entries: usize) -> u64
     ensures { result ≡ size entries }
 {
     16 * entries as u64 + 8 * node_count(entries) as u64
+}
+
+// How many bytes all levels of so many entries take.
+fn levels_size(entries: usize) -> u64
+    requires { entries ≤ 2 ^ 58 }
+    ensures is { (most : ℕ) → entries ≤ most → result ≡ levels_size most entries }
+    ensures short { result ≤ 25 * entries }
+{
+    if entries <= MAX_ENTRIES {
+        return level_size(entries);
+    }
+    level_size(entries) + levels_size(node_count(entries))
+}
+
+/// How many bytes the tree of so many pairs takes.
+pub fn tree_size(pairs: usize) -> u64
+    requires { pairs ≤ 2 ^ 58 }
+    ensures { (at : ℕ) (list : List Pair) → length list ≡ pairs → result ≡ length (tree_bytes at list) }
+{
+    levels_size(pairs)
 }

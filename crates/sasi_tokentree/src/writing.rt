@@ -2,7 +2,7 @@
 ghost use Rattle.std.specs.Prelude.{◌≡◌, ℕ, ◌+◌, ◌^◌, ◌≤◌, ◌<◌, [], ◌∷◌, ◌++◌, length, IfOk, OnOk};
 ghost use Rattle.sasi_host.specs.View.{ListCauses, Reaches};
 ghost use Rattle.sasi_tokentree.specs.Format.{node, size, level_bytes, above, levels, top, tree_bytes, tree_ref, AreFit, IsRising};
-ghost use Rattle.sasi_tokentree.specs.Heights.{level_limit};
+ghost use Rattle.sasi_tokentree.specs.Heights.{level_limit, levels_size};
 ghost use Rattle.sasi_tokentree.specs.Writes.{ChangesFrom, Writes};
 
 use crate::node_encode::node_bytes;
@@ -25,6 +25,7 @@ pub fn write<H: Host>(
     ensures ok { OnOk result (Writes (H.view host.old) (H.view host.new) file at (tree_bytes at pairs.now)) }
     ensures tree { IfOk result (λ tree. tree ≡ tree_ref at pairs.now) }
     ensures fit { OnOk result (AreFit pairs.now) }
+    ensures fits { OnOk result (at ≤ 2 ^ 62 → at + length (tree_bytes at pairs.now) ≤ 2 ^ 62) }
     ensures changes { ChangesFrom file at (H.view host.old) (H.view host.new) }
     ensures causes { ListCauses (H.view host.old) (H.view host.new) result }
 {
@@ -54,6 +55,7 @@ fn write_levels<H: Host>(
     ensures ok { OnOk result ((most : ℕ) → length entries.now ≤ most → Writes (H.view host.old) (H.view host.new) file at (levels most level at entries.now)) }
     ensures top { IfOk result (λ root. (most : ℕ) → length entries.now ≤ most → root ≡ top most at (length entries.now)) }
     ensures fit { OnOk result (AreFit entries.now) }
+    ensures fits { OnOk result ((most : ℕ) → length entries.now ≤ most → at + levels_size most (length entries.now) ≤ 2 ^ 62) }
     ensures changes { ChangesFrom file at (H.view host.old) (H.view host.new) }
     ensures causes { ListCauses (H.view host.old) (H.view host.new) result }
 {

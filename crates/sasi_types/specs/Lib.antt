@@ -1,3 +1,4 @@
+pub mod Codes
 pub mod Key
 pub mod Murmur
 pub mod DecoratedKey

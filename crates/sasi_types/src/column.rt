@@ -1,5 +1,6 @@
 // The columns of a table, as they are declared.
 ghost use Rattle.std.specs.Prelude.{◌≡◌, ◌++◌, ◌∷◌, [], IfOk, OnOk, OnErr};
+ghost use Rattle.sasi_types.specs.Codes.{type_code};
 
 use crate::Name;
 use std::alloc::{AllocError, Global};
@@ -12,6 +13,20 @@ pub enum ColumnType {
     Int,
     BigInt,
     Uuid,
+}
+
+impl ColumnType {
+    /// Its number in files.
+    pub fn code(self) -> u8
+        ensures { result ≡ type_code self }
+    {
+        match self {
+            ColumnType::Text => 0,
+            ColumnType::Int => 1,
+            ColumnType::BigInt => 2,
+            ColumnType::Uuid => 3,
+        }
+    }
 }
 
 /// The columns of a table with their types, in declared order.

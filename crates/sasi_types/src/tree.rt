@@ -53,6 +53,13 @@ impl PairList {
         self.items.push(pair)?;
         Ok(())
     }
+
+    /// Removes all pairs.
+    pub fn clear(&mut self)
+        ensures { self.new ≡ [] }
+    {
+        self.items.clear();
+    }
 }
 
 /// A token tree in a file: the offset of its root and its number of pairs, both 0 for the empty tree.

@@ -3,6 +3,7 @@ use Rattle.sasi_host.specs.View.{Reaches}
 use Rattle.sasi_tokentree.specs.Heights.{rises}
 use Rattle.sasi_tokentree.specs.Writes.{changes_past_on}
 use Rattle.sasi_tokentree.proofs.LevelSteps.{last_written, last_top, more_written, more_top, above_length, up_room}
+use Rattle.sasi_tokentree.proofs.TreeSizes.{last_fits, more_fits}
 use Rattle.sasi_tokentree.proofs.writing.+write_levels.Goals as goal
 
 pub returns-then-entries-le-MAX_ENTRIES-clause-ok : goal.returns-then-entries-le-MAX_ENTRIES-clause-ok
@@ -38,3 +39,12 @@ returns-clause-changes g t c = changes_past_on _ _ _ c.args.file c.args.at (c.ar
 
 pub returns-in_err-root-clause-changes : goal.returns-in_err-root-clause-changes
 returns-in_err-root-clause-changes g t c = changes_past_on _ _ _ c.args.file c.args.at (c.args.at + c.level_size.result) (omega arith) c.write_level.ensures.changes c.write_levels.ensures.changes
+
+pub returns-then-entries-le-MAX_ENTRIES-clause-fits : goal.returns-then-entries-le-MAX_ENTRIES-clause-fits
+returns-then-entries-le-MAX_ENTRIES-clause-fits g t c most enough = last_fits c.args.at most (length c.args.entries.now) c.requires.some (omega arith) enough c.in_ok-above.ensures.fits
+
+pub returns-clause-fits : goal.returns-clause-fits
+returns-clause-fits g t c most enough =
+    more_fits c.args.at most (length c.args.entries.now) (length c.deref.result.now) (omega arith) enough
+    (above_length c.args.at c.args.entries.now c.deref.result.now (c.deref.ensures.value ∙ c.in_ok-above.ensures.above))
+    (rw c.level_size.ensures at c.in_ok-root.ensures.fits)

@@ -1,0 +1,10 @@
+pub mod Lists
+pub mod Grouping
+pub mod Appends
+pub mod TermSteps
+pub mod Endings
+pub mod Fields
+pub mod Taking
+pub mod Callers
+pub mod Making
+pub mod Unique

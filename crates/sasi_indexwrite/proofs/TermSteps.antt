@@ -1,0 +1,83 @@
+-- One more term of an index file.
+use Rattle.std.proofs.Common.{◌≡◌, ℕ, ◌+◌, ◌≤◌, ◌^◌, List, [], ◌∷◌, ◌++◌, length, Some, None, refl, sym, ◌∙◌, ap, subst, arith, append_assoc, append-nil, length-append}
+use Rattle.sasi_types.specs.declared.tree.Pair.{Pair}
+use Rattle.sasi_types.specs.declared.tree.TreeRef.{TreeRef}
+use Rattle.sasi_host.specs.Names.{Bytes}
+use Rattle.sasi_host.specs.View.{View, Holds}
+use Rattle.sasi_tokentree.specs.Format.{tree_bytes, tree_ref}
+use Rattle.sasi_tokentree.specs.Heights.{levels_least, tree_length}
+use Rattle.sasi_tokentree.specs.Writes.{Writes}
+use Rattle.sasi_termblocks.specs.declared.term_entry.TermEntry.{TermEntry}
+use Rattle.sasi_termblocks.specs.Writing.{HasPushed}
+use Rattle.sasi_indexwrite.specs.declared.term_writer.TermWriter.{TermWriter}
+use Rattle.sasi_indexwrite.specs.Content.{IsTerm, TermPairs}
+use Rattle.sasi_indexwrite.specs.Format.{entries_from, trees_bytes}
+use Rattle.sasi_indexwrite.specs.Gathered.{with_pairs}
+use Rattle.sasi_indexwrite.specs.Writing.{HasWritten}
+use Rattle.sasi_indexwrite.proofs.Appends.{written_behind}
+use Rattle.sasi_indexwrite.proofs.Lists.{all_join}
+
+-- its tree stands behind the others
+pub trees_push : (at : ℕ) (closed : List TermPairs) (one : TermPairs) → trees_bytes at (closed ++ one ∷ []) ≡ trees_bytes at closed ++ tree_bytes (at + length (trees_bytes at closed)) one.1
+trees_push at [] one = append-nil (tree_bytes at one.1) ∙ ap (λ (n : ℕ). tree_bytes n one.1) (omega arith)
+trees_push at (first ∷ closed) one =
+    let own = tree_bytes at first.1 in
+    let next = at + length own in
+    ap (λ (l : Bytes). own ++ l) (trees_push next closed one)
+    ∙ ap (λ (n : ℕ). own ++ (trees_bytes next closed ++ tree_bytes n one.1)) (omega (arith, length-append own (trees_bytes next closed)))
+    ∙ sym (append_assoc own (trees_bytes next closed) (tree_bytes (at + length (own ++ trees_bytes next closed)) one.1))
+
+-- the entry of a term whose tree stands there
+abbrev pub entry_at : ℕ → TermPairs → TermEntry
+entry_at at one = record { term = one.0; list = Some (tree_ref at one.1); inline = None }
+
+pub entries_push : (at : ℕ) (closed : List TermPairs) (one : TermPairs) → entries_from at (closed ++ one ∷ []) ≡ entries_from at closed ++ entry_at (at + length (trees_bytes at closed)) one ∷ []
+entries_push at [] one = ap (λ (n : ℕ). entry_at n one ∷ []) (omega arith)
+entries_push at (first ∷ closed) one =
+    let own = tree_bytes at first.1 in
+    let next = at + length own in
+    ap (λ (l : List TermEntry). entry_at at first ∷ l)
+    (entries_push next closed one ∙ ap (λ (n : ℕ). entries_from next closed ++ entry_at n one ∷ []) (omega (arith, length-append own (trees_bytes next closed))))
+
+-- a term with pairs
+pub with_some : (term : Bytes) (pairs : List Pair) → 1 ≤ length pairs → with_pairs term pairs ≡ (term, pairs) ∷ []
+with_some term [] some = absurd (omega arith)
+with_some term (pair ∷ pairs) some = refl
+
+-- the tree was written, and the entry added
+pub term_written : (a b : View) (old new : TermWriter) (term : Bytes) (tree : TreeRef) (size : ℕ) (header : Bytes) (closed : List TermPairs) → new.file ≡ old.file → new.offset ≡ old.offset + size
+    → size ≡ length (tree_bytes old.offset old.pairs) → tree ≡ tree_ref old.offset old.pairs → Writes a b old.file old.offset (tree_bytes old.offset old.pairs) → IsTerm (term, old.pairs)
+    → ((entries : List TermEntry) → HasPushed old.blocks entries → HasPushed new.blocks (entries ++ record { term = term; list = Some tree; inline = None } ∷ []))
+    → HasWritten a old header closed → HasWritten b new header (closed ++ with_pairs term old.pairs)
+term_written a b old new term tree size header closed file offset size_is tree_is written one pushed was =
+    subst (λ (l : List TermPairs). HasWritten b new header (closed ++ l)) (sym (with_some term old.pairs one.some)) (record {
+      begins = was.begins;
+      holds =
+          subst (λ f. Holds b f (header ++ trees_bytes 16 (closed ++ (term, old.pairs) ∷ []))) (sym file)
+          (subst (λ (l : Bytes). Holds b old.file l) whole (written_behind a b old.file old.offset (header ++ trees_bytes 16 closed) (tree_bytes old.offset old.pairs) written ends was.holds));
+      offset_is = omega (arith, offset, size_is, was.offset_is, ap length trees, length-append (trees_bytes 16 closed) (tree_bytes old.offset old.pairs));
+      pushed =
+          subst (λ (l : List TermEntry). HasPushed new.blocks l) entries (pushed (entries_from 16 closed) was.pushed);
+      each = all_join IsTerm closed ((term, old.pairs) ∷ []) was.each (one, tt);
+    })
+  where
+    at_end : 16 + length (trees_bytes 16 closed) ≡ old.offset
+    at_end = sym was.offset_is
+
+    trees : trees_bytes 16 (closed ++ (term, old.pairs) ∷ []) ≡ trees_bytes 16 closed ++ tree_bytes old.offset old.pairs
+    trees = trees_push 16 closed (term, old.pairs) ∙ ap (λ (n : ℕ). trees_bytes 16 closed ++ tree_bytes n old.pairs) at_end
+
+    ends : length (header ++ trees_bytes 16 closed) ≡ old.offset
+    ends = omega (arith, length-append header (trees_bytes 16 closed), was.begins, at_end)
+
+    whole : (header ++ trees_bytes 16 closed) ++ tree_bytes old.offset old.pairs ≡ header ++ trees_bytes 16 (closed ++ (term, old.pairs) ∷ [])
+    whole = append_assoc header (trees_bytes 16 closed) (tree_bytes old.offset old.pairs) ∙ ap (λ (l : Bytes). header ++ l) (sym trees)
+
+    entries : entries_from 16 closed ++ record { term = term; list = Some tree; inline = None } ∷ [] ≡ entries_from 16 (closed ++ (term, old.pairs) ∷ [])
+    entries =
+        ap (λ (t : TreeRef). entries_from 16 closed ++ record { term = term; list = Some t; inline = None } ∷ []) (tree_is ∙ ap (λ (n : ℕ). tree_ref n old.pairs) (sym at_end))
+        ∙ sym (entries_push 16 closed (term, old.pairs))
+
+-- a tree that ends within a file has so few pairs
+pub few_pairs : (at : ℕ) (pairs entries : List Pair) → entries ≡ pairs → at + length (tree_bytes at pairs) ≤ 2 ^ 62 → length entries ≤ 2 ^ 58
+few_pairs at pairs entries is fits = omega (arith, fits, ap length is, tree_length at pairs, levels_least (length pairs) (length pairs) (omega arith))
