@@ -3,7 +3,9 @@ use Rattle.std.proofs.Common.{◌≡◌, ℕ, zero, suc, ◌+◌, ◌-◌, ◌*�
 use Rattle.std.proofs.lemmas.List.{drop_all, drop_more, get_or-map, length-map, nil_from_length}
 use Rattle.std.specs.Prelude.{get_or, nat_lt, if◌then◌else◌}
 use Rattle.sasi_host.specs.Names.{Bytes}
+use Rattle.sasi_host.specs.declared.name.FileName.{FileName}
 use Rattle.sasi_host.specs.Damages.{HasAt}
+use Rattle.sasi_host.specs.View.{View, contents}
 use Rattle.sasi_formats.specs.Formats.{Fits}
 use Rattle.sasi_termblocks.specs.declared.block_ref.BlockRef.{BlockRef}
 use Rattle.sasi_termblocks.specs.declared.term_entry.TermEntry.{TermEntry}
@@ -14,7 +16,7 @@ use Rattle.sasi_termblocks.specs.BlockFaults.{HasPlace}
 use Rattle.sasi_termblocks.specs.Damages.{Leads}
 use Rattle.sasi_termblocks.specs.Damages.Leads.{down}
 use Rattle.sasi_termblocks.specs.Descents.{IsPageFor}
-use Rattle.sasi_termblocks.specs.Scans.{CountsBelow, GivesEntry, HasBlocks, HasPassed, HaveBytes, StepsTo, start_of, terms_of}
+use Rattle.sasi_termblocks.specs.Scans.{CountsBelow, GivesEntry, HasBlocks, HasPassed, HaveBytes, ReadsHere, ReadsSome, StepsTo, start_of, terms_of}
 use Rattle.sasi_termblocks.specs.Scans.IsAt.{at_entry, at_end}
 use Rattle.sasi_termblocks.proofs.CutLaws.{all_blocks}
 use Rattle.sasi_termblocks.proofs.BlockLaws.{count_is, one_entry}
@@ -116,3 +118,9 @@ no_entries bytes r entries sought has none =
       record { within = omega arith; below = λ index lt. absurd (omega (arith, lt)); above = λ index le lt. absurd (omega (arith, lt, all, no_items)) },
       (nil_from_length entries no_items, at_end (omega (arith, has.aligned, empty)) refl (sym (ap (λ (n : ℕ). start_of (blocks (items_of entries)) n) empty))),
     )
+
+-- an entry read there is one of a block of the file
+pub here_some : (a b : View) (was now : FileName) (page index new_page new_index : ℕ) (found : Option TermEntry) → ((bytes : Bytes) → contents a was ≡ Some bytes → contents b now ≡ Some bytes)
+    → ReadsHere b now page index new_page new_index found → ReadsSome a was found
+here_some a b was now page index new_page new_index None still here = tt
+here_some a b was now page index new_page new_index (Some entry) still here = λ bytes is. (let h = here bytes (still bytes is) in (page, index, h.0, h.1, h.2.0, h.2.1))

@@ -98,6 +98,12 @@ ReadsHere v file page index new_page new_index None = Unit {0}
 ReadsHere v file page index new_page new_index (Some entry) =
     (bytes : Bytes) → contents v file ≡ Some bytes → (block : Bytes) × HasAt bytes (4096 * page) block × GivesEntry block page index new_page new_index (Some entry)
 
+-- the entry, if any, is one of a block of the file, even where other blocks are damaged
+abbrev pub ReadsSome : View → FileName → Option TermEntry → Type 0
+ReadsSome v file None = Unit {0}
+ReadsSome v file (Some entry) =
+    (bytes : Bytes) → contents v file ≡ Some bytes → (page : ℕ) × (index : ℕ) × (block : Bytes) × HasAt bytes (4096 * page) block × (index < count_in block) × HasEntry term_entry block index entry
+
 -- corruption is reported only where the file doesn't have the blocks
 abbrev pub NoFalseDamage : View → FileName → BlockRef → ReadFault → Type 0
 NoFalseDamage v file ref = OnDamage (λ _. (bytes : Bytes) (entries : List TermEntry) → contents v file ≡ Some bytes → HasBlocks bytes ref entries → ⊥)

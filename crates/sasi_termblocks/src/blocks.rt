@@ -4,7 +4,7 @@ ghost use Rattle.sasi_host.specs.View.{ReadsAtMost};
 ghost use Rattle.sasi_host.specs.Damages.{DamageShown};
 ghost use Rattle.sasi_host.specs.PageReading.{CanReadOn, HasReadOn};
 ghost use Rattle.sasi_termblocks.specs.Damages.{ShowsBlocks};
-ghost use Rattle.sasi_termblocks.specs.Scans.{NoFalseDamage, ReadsFirst, ReadsHere, ReadsNext};
+ghost use Rattle.sasi_termblocks.specs.Scans.{NoFalseDamage, ReadsFirst, ReadsHere, ReadsNext, ReadsSome};
 
 use crate::block_encode::BLOCK_BYTES;
 use crate::block_ref::BlockRef;
@@ -62,6 +62,8 @@ impl Blocks {
     ) -> Result<Option<TermEntry>, ReadFault>
         requires read { CanReadOn (P.agrees pages.old) (H.view host.old) self.old.buffered }
         ensures ok { IfOk result (λ found. ReadsFirst (H.view host.old) self.old.buffered.file self.old.blocks term.now self.new.page self.new.index found) }
+        // In any file it is an entry of a block.
+        ensures stands { IfOk result (λ found. ReadsSome (H.view host.old) self.old.buffered.file found) }
         ensures damaged { IfErr result (DamageShown (H.view host.old) self.old.buffered.file (ShowsBlocks self.old.buffered.file self.old.blocks)) }
         ensures undamaged { IfErr result (NoFalseDamage (H.view host.old) self.old.buffered.file self.old.blocks) }
         ensures read { HasReadOn (P.agrees pages.new) (P.covers pages.old) (P.covers pages.new) (H.view host.old) (H.view host.new) self.old.buffered self.new.buffered }

@@ -5,7 +5,7 @@ ghost use Rattle.sasi_host.specs.Damages.{DamageShown, HasAt};
 ghost use Rattle.sasi_host.specs.PageReading.{CanReadOn, HasReadOn};
 ghost use Rattle.sasi_termblocks.specs.Windows.{IsFault, count_in};
 ghost use Rattle.sasi_termblocks.specs.Damages.{BreaksTerms, ShowsBlocks};
-ghost use Rattle.sasi_termblocks.specs.Scans.{GivesEntry, ReadsFirst, ReadsHere, ReadsNext};
+ghost use Rattle.sasi_termblocks.specs.Scans.{GivesEntry, ReadsFirst, ReadsHere, ReadsNext, ReadsSome};
 
 use crate::block::{check_order, count_of, entry_at};
 use crate::block_encode::BLOCK_BYTES;
@@ -106,6 +106,7 @@ pub fn first_from<H: Host, P: PageReader>(
 ) -> Result<ScannedEntry, ReadFault>
     requires read { CanReadOn (P.agrees pages.old) (H.view host.old) buffered.old }
     ensures ok { IfOk result (λ found. ReadsFirst (H.view host.old) buffered.old.file blocks sought.now found.position.page found.position.index found.entry) }
+    ensures stands { IfOk result (λ found. ReadsSome (H.view host.old) buffered.old.file found.entry) }
     ensures low { IfOk result (λ found. blocks.first / 4096 ≤ found.position.page) }
     ensures damaged { IfErr result (DamageShown (H.view host.old) buffered.old.file (ShowsBlocks buffered.old.file blocks)) }
     ensures read { HasReadOn (P.agrees pages.new) (P.covers pages.old) (P.covers pages.new) (H.view host.old) (H.view host.new) buffered.old buffered.new }

@@ -6,7 +6,7 @@ use Rattle.sasi_host.specs.PageReading.{reads_nothing, reads_then}
 use Rattle.sasi_termblocks.specs.Damages.{BreaksTerms, ShowsBlock, ShowsBlocks}
 use Rattle.sasi_termblocks.proofs.Descent.{still_reads}
 use Rattle.sasi_termblocks.proofs.Shown.{shown_still, terms_shown, too_long_shown}
-use Rattle.sasi_termblocks.proofs.Steps.{no_entries}
+use Rattle.sasi_termblocks.proofs.Steps.{here_some, no_entries}
 use Rattle.sasi_termblocks.proofs.scan.first_from.Goals as goal
 
 pub returns-then-is_too_long-clause-damaged : goal.returns-then-is_too_long-clause-damaged
@@ -55,6 +55,17 @@ returns-clause-ok g c bytes entries is has =
     let position = c.in_ok-position.ensures.ok bytes c.args.blocks entries still has leaf in
     let later = still_reads _ _ c.leaf_page.new.buffered.file _ bytes c.position_for.ensures.read.changes c.position_for.ensures.read.file still in
     (position.0, position.1, c.in_ok-found.ensures.ok bytes entries position.0 later has position.2)
+
+pub returns-clause-stands : goal.returns-clause-stands
+returns-clause-stands g c =
+    let v = g.H.Host.view c.args.host.now in
+    let w = g.H.Host.view c.leaf_page.new.host in
+    let u = g.H.Host.view c.position_for.new.host in
+    let file = c.args.buffered.now.file in
+    here_some v u file c.position_for.new.buffered.file c.in_ok-position.position.page c.in_ok-position.position.index c.in_ok-found.found.position.page c.in_ok-found.found.position.index c.in_ok-found.found.entry
+    (λ bytes is. still_reads w u c.leaf_page.new.buffered.file c.position_for.new.buffered.file bytes c.position_for.ensures.read.changes c.position_for.ensures.read.file
+    (still_reads v w file c.leaf_page.new.buffered.file bytes c.leaf_page.ensures.read.changes c.leaf_page.ensures.read.file is))
+    c.in_ok-found.ensures.stands
 
 pub returns-clause-read : goal.returns-clause-read
 returns-clause-read g c =

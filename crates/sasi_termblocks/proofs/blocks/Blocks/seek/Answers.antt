@@ -2,7 +2,7 @@ use Rattle.std.proofs.Common.{subst}
 use Rattle.std.proofs.lemmas.Result.{err_from_is_err_and}
 use Rattle.sasi_host.specs.Damages.{DamageShown}
 use Rattle.sasi_termblocks.specs.Damages.{ShowsBlocks}
-use Rattle.sasi_termblocks.specs.Scans.{NoFalseDamage, ReadsFirst, Scan}
+use Rattle.sasi_termblocks.specs.Scans.{NoFalseDamage, ReadsFirst, ReadsSome, Scan}
 use Rattle.sasi_termblocks.proofs.PointersSound.{no_false}
 use Rattle.sasi_termblocks.proofs.blocks.Blocks.seek.Goals as goal
 
@@ -20,3 +20,6 @@ returns-in_err-found-clause-undamaged g c =
     let p = err_from_is_err_and c.from_residual.result c.from_residual.ensures.1 in
     rw (p.1, p.2) (subst (λ (h : Scan). NoFalseDamage (g.H.Host.view c.args.host.now) h.buffered.file h.blocks c.in_err-found.field-0.0) c.self.view_is
     (no_false (g.H.Host.view c.args.host.now) c.self.inside.buffered.file c.self.inside.blocks c.in_err-found.field-0.0 c.in_err-found.ensures.damaged))
+
+pub returns-clause-stands : goal.returns-clause-stands
+returns-clause-stands g c = subst (λ (h : Scan). ReadsSome (g.H.Host.view c.args.host.now) h.buffered.file c.in_ok-found.found.entry) c.self.view_is c.in_ok-found.ensures.stands

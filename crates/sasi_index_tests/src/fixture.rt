@@ -1,0 +1,103 @@
+// Gatherings that are filled in their order, and the files that are written from them.
+ghost use Rattle.std.specs.Prelude.{◌≡◌, ◌≢◌, true, []};
+ghost use Rattle.std.specs.Ordering.{is_lt};
+ghost use Rattle.sasi_types.specs.declared.column.ColumnType.TheVariants.{Uuid};
+ghost use Rattle.sasi_types.specs.declared.mode.Mode.TheVariants.{Prefix};
+ghost use Rattle.sasi_segments.specs.Postings.{posting_cmp};
+ghost use Rattle.sasi_segments.specs.Sorting.{inserted};
+ghost use Rattle.sasi_indexwrite.specs.Gathered.{AreGathered, IsPosting};
+ghost use Rattle.sasi_index_tests.specs.Filling.{AreUpTo};
+
+use sasi_host::{FileName, Kind, MemHost};
+use sasi_indexwrite::write_index;
+use sasi_segments::{Gather, Posting};
+use sasi_types::{ColumnType, IndexDef, ListKind, Mode, Name, Pair, Rule, Term};
+use std::alloc::Global;
+use std::process::Abort;
+
+/// The file that is written.
+pub const FILE: FileName = FileName {
+    kind: Kind::Index,
+    number: 1,
+    index: 1,
+    part: 1,
+};
+
+/// A posting below those that are added.
+pub fn lowest(alloc: Global) -> Posting
+    ensures { AreUpTo [] result }
+{
+    Posting {
+        list: ListKind::Stored,
+        term: Term::new(Vec::new(alloc)),
+        pair: Pair { token: 0, place: 0 },
+    }
+}
+
+/// The next posting is above the last one, and can be gathered.
+fn check(rt: &impl Abort, last: &Posting, next: &Posting)
+    ensures above { is_lt (posting_cmp last.now next.now) ≡ true }
+    ensures one { IsPosting next.now }
+{
+    assert!(rt; last < next);
+    assert!(rt; next.term.bytes().len() <= 1024);
+    assert!(rt; next.list == ListKind::Stored || next.term.bytes().is_empty());
+}
+
+/// Adds a posting.
+fn put(rt: &impl Abort, gather: &mut Gather, next: &Posting)
+    requires { IsPosting next.now }
+    ensures { gather.new.postings ≡ inserted posting_cmp next.now gather.old.postings }
+{
+    gather
+        .add(next.term.bytes(), next.list, next.pair)
+        .expect(rt, "memory");
+}
+
+/// Adds a posting above the last one.
+pub fn add(
+    rt: &impl Abort,
+    alloc: Global,
+    gather: &mut Gather,
+    last: &mut Posting,
+    list: ListKind,
+    term: &[u8],
+    pair: Pair,
+)
+    requires { AreUpTo gather.old.postings last.old }
+    ensures { AreUpTo gather.new.postings last.new }
+{
+    let term = Term::new(term.to_vec(alloc).expect(rt, "memory"));
+    let next = Posting { list, term, pair };
+    check(rt, last, &next);
+    put(rt, gather, &next);
+    *last = next;
+}
+
+/// The definition of an index of a column of this type.
+fn definition(rt: &impl Abort, alloc: Global, kind: ColumnType) -> IndexDef
+    ensures mode { result.mode ≡ Prefix }
+    ensures kind { result.kind ≡ kind }
+{
+    IndexDef {
+        number: 1,
+        table: 1,
+        name: Name::new(b"i".to_vec(alloc).expect(rt, "memory")),
+        column: 1,
+        kind,
+        mode: Mode::Prefix,
+        rule: Some(Rule::Whole { fold: false }),
+    }
+}
+
+/// Writes the file of a gathering to a new folder.
+pub fn write(rt: &impl Abort, alloc: Global, kind: ColumnType, gather: Gather) -> MemHost
+    requires gathered { AreGathered gather.postings }
+    requires terms { kind ≢ Uuid }
+{
+    let mut host = MemHost::new(alloc);
+    assert!(rt; host.bytes(FILE).is_none());
+    let def = definition(rt, alloc, kind);
+    write_index(alloc, &mut host, FILE, &def, gather).expect(rt, "written");
+    host
+}

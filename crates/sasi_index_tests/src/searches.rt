@@ -1,0 +1,328 @@
+// Searches of written files.
+ghost use Rattle.sasi_host.specs.Memory.{host_view, seen};
+ghost use Rattle.sasi_index_tests.specs.Filling.{AreUpTo};
+ghost use Rattle.sasi_index_tests.specs.Searching.{IsSearchOf};
+
+use crate::fixture::{FILE, add, lowest, write};
+use sasi_host::{Direct, MemHost};
+use sasi_indexread::{IndexFile, Search};
+use sasi_segments::{Gather, Posting};
+use sasi_terms::Op;
+use sasi_types::{ColumnType, ListKind, Pair, Token};
+use std::alloc::Global;
+use std::process::Abort;
+
+/// A search of the file.
+fn search(rt: &impl Abort, alloc: Global, host: &mut MemHost, op: Op, body: &[u8]) -> Search
+    ensures { IsSearchOf FILE (host_view (seen host.new)) result }
+{
+    assert!(rt; host.bytes(FILE).is_some());
+    let index = IndexFile::open(host, &mut Direct, FILE).expect(rt, "opened");
+    index.search(alloc, &op, body).expect(rt, "memory")
+}
+
+/// The token of the next pair of a search.
+fn next(rt: &impl Abort, host: &mut MemHost, found: &mut Search) -> Option<Token>
+    requires { IsSearchOf FILE (host_view (seen host.old)) found.old }
+    ensures { IsSearchOf FILE (host_view (seen host.new)) found.new }
+{
+    assert!(rt; host.bytes(FILE).is_some());
+    let pair = found.next(host, &mut Direct).expect(rt, "read")?;
+    assert!(rt; pair.place == pair.token.wrapping_add(16));
+    Some(pair.token)
+}
+
+/// Drops the pairs below the token.
+fn skip(rt: &impl Abort, host: &mut MemHost, found: &mut Search, token: Token)
+    requires { IsSearchOf FILE (host_view (seen host.old)) found.old }
+    ensures { IsSearchOf FILE (host_view (seen host.new)) found.new }
+{
+    found
+        .skip_to(host, &mut Direct, token)
+        .expect(rt, "skipped");
+}
+
+/// A search gives the pairs of these tokens, and then none.
+fn check(
+    rt: &impl Abort,
+    alloc: Global,
+    host: &mut MemHost,
+    op: Op,
+    body: &[u8],
+    tokens: &[Token],
+) {
+    let mut found = search(rt, alloc, host, op, body);
+    for token in tokens {
+        assert!(rt; next(rt, host, &mut found) == Some(*token));
+    }
+    assert!(rt; next(rt, host, &mut found).is_none());
+}
+
+/// Adds a pair with this token.
+fn put(
+    rt: &impl Abort,
+    alloc: Global,
+    gather: &mut Gather,
+    last: &mut Posting,
+    list: ListKind,
+    term: &[u8],
+    token: Token,
+)
+    requires { AreUpTo gather.old.postings last.old }
+    ensures { AreUpTo gather.new.postings last.new }
+{
+    let place = token.wrapping_add(16);
+    add(rt, alloc, gather, last, list, term, Pair { token, place });
+}
+
+/// A file of a few terms.
+fn few(rt: &impl Abort, alloc: Global) -> MemHost {
+    let mut last = lowest(alloc);
+    let mut gather = Gather::new(alloc, 1, 1);
+    put(rt, alloc, &mut gather, &mut last, ListKind::Stored, b"", 9);
+    put(
+        rt,
+        alloc,
+        &mut gather,
+        &mut last,
+        ListKind::Stored,
+        b"blue",
+        4,
+    );
+    put(
+        rt,
+        alloc,
+        &mut gather,
+        &mut last,
+        ListKind::Stored,
+        b"red",
+        1,
+    );
+    put(
+        rt,
+        alloc,
+        &mut gather,
+        &mut last,
+        ListKind::Stored,
+        b"red",
+        5,
+    );
+    put(
+        rt,
+        alloc,
+        &mut gather,
+        &mut last,
+        ListKind::Stored,
+        b"red",
+        7,
+    );
+    put(
+        rt,
+        alloc,
+        &mut gather,
+        &mut last,
+        ListKind::Stored,
+        b"redder",
+        2,
+    );
+    put(
+        rt,
+        alloc,
+        &mut gather,
+        &mut last,
+        ListKind::Stored,
+        b"redder",
+        5,
+    );
+    put(
+        rt,
+        alloc,
+        &mut gather,
+        &mut last,
+        ListKind::Stored,
+        b"sred",
+        3,
+    );
+    put(rt, alloc, &mut gather, &mut last, ListKind::Spill, b"", 6);
+    put(rt, alloc, &mut gather, &mut last, ListKind::Spill, b"", 7);
+    write(rt, alloc, ColumnType::Text, gather)
+}
+
+#[test]
+fn each_operator_finds_its_terms(rt: HostRuntime) {
+    let alloc = rt.alloc();
+    let mut host = few(&rt, alloc);
+    check(&rt, alloc, &mut host, Op::Eq, b"red", &[1, 5, 6, 7]);
+    check(&rt, alloc, &mut host, Op::Eq, b"re", &[6, 7]);
+    check(&rt, alloc, &mut host, Op::Eq, b"", &[6, 7, 9]);
+    check(&rt, alloc, &mut host, Op::Prefix, b"red", &[1, 2, 5, 6, 7]);
+    check(
+        &rt,
+        alloc,
+        &mut host,
+        Op::Prefix,
+        b"",
+        &[1, 2, 3, 4, 5, 6, 7, 9],
+    );
+    check(&rt, alloc, &mut host, Op::Prefix, b"z", &[6, 7]);
+    check(&rt, alloc, &mut host, Op::Suffix, b"red", &[1, 3, 5, 6, 7]);
+    check(
+        &rt,
+        alloc,
+        &mut host,
+        Op::Contains,
+        b"ed",
+        &[1, 2, 3, 5, 6, 7],
+    );
+    let range = Op::Range {
+        least: 0,
+        greatest: 9,
+    };
+    check(&rt, alloc, &mut host, range, b"", &[6, 7]);
+}
+
+#[test]
+fn skips_drop_the_pairs_below(rt: HostRuntime) {
+    let alloc = rt.alloc();
+    let mut host = few(&rt, alloc);
+    let mut found = search(&rt, alloc, &mut host, Op::Prefix, b"");
+    skip(&rt, &mut host, &mut found, 3);
+    assert!(rt; next(&rt, &mut host, &mut found) == Some(3));
+    skip(&rt, &mut host, &mut found, 2);
+    skip(&rt, &mut host, &mut found, 8);
+    assert!(rt; next(&rt, &mut host, &mut found) == Some(9));
+    assert!(rt; next(&rt, &mut host, &mut found).is_none());
+    assert!(rt; next(&rt, &mut host, &mut found).is_none());
+}
+
+/// Adds the numbers from -10 to 9, with the tokens from 0 on.
+fn add_numbers(rt: &impl Abort, alloc: Global, gather: &mut Gather, last: &mut Posting)
+    requires { AreUpTo gather.old.postings last.old }
+    ensures { AreUpTo gather.new.postings last.new }
+{
+    for k in 0..20_u32 {
+        let term = (k.wrapping_sub(10) ^ (1 << 31)).to_be_bytes();
+        put(
+            rt,
+            alloc,
+            gather,
+            last,
+            ListKind::Stored,
+            &term,
+            u64::from(k),
+        );
+    }
+}
+
+#[test]
+fn ranges_find_their_numbers(rt: HostRuntime) {
+    let alloc = rt.alloc();
+    let mut last = lowest(alloc);
+    let mut gather = Gather::new(alloc, 1, 1);
+    add_numbers(&rt, alloc, &mut gather, &mut last);
+    let mut host = write(&rt, alloc, ColumnType::Int, gather);
+    let some = Op::Range {
+        least: -3,
+        greatest: 1,
+    };
+    check(&rt, alloc, &mut host, some, b"", &[7, 8, 9, 10, 11]);
+    let none = Op::Range {
+        least: 3,
+        greatest: 1,
+    };
+    check(&rt, alloc, &mut host, none, b"", &[]);
+}
+
+/// The shortest and the longest terms, and pairs of two lists that alternate.
+fn edges(rt: &impl Abort, alloc: Global) -> MemHost {
+    let mut last = lowest(alloc);
+    let mut gather = Gather::new(alloc, 1, 1);
+    put(rt, alloc, &mut gather, &mut last, ListKind::Stored, b"", 5);
+    put(rt, alloc, &mut gather, &mut last, ListKind::Stored, b"a", 1);
+    put(rt, alloc, &mut gather, &mut last, ListKind::Stored, b"a", 3);
+    put(rt, alloc, &mut gather, &mut last, ListKind::Stored, b"a", 7);
+    let long = [97; 1024];
+    put(
+        rt,
+        alloc,
+        &mut gather,
+        &mut last,
+        ListKind::Stored,
+        &long,
+        2,
+    );
+    put(
+        rt,
+        alloc,
+        &mut gather,
+        &mut last,
+        ListKind::Stored,
+        &long,
+        3,
+    );
+    put(
+        rt,
+        alloc,
+        &mut gather,
+        &mut last,
+        ListKind::Stored,
+        &long,
+        8,
+    );
+    write(rt, alloc, ColumnType::Text, gather)
+}
+
+#[test]
+fn shortest_and_longest_terms_are_found(rt: HostRuntime) {
+    let alloc = rt.alloc();
+    let mut host = edges(&rt, alloc);
+    check(&rt, alloc, &mut host, Op::Eq, b"", &[5]);
+    check(&rt, alloc, &mut host, Op::Eq, b"a", &[1, 3, 7]);
+    check(&rt, alloc, &mut host, Op::Eq, &[97; 1024], &[2, 3, 8]);
+    check(&rt, alloc, &mut host, Op::Eq, &[97; 1023], &[]);
+    check(&rt, alloc, &mut host, Op::Prefix, b"a", &[1, 2, 3, 7, 8]);
+    check(&rt, alloc, &mut host, Op::Suffix, &[97; 1024], &[2, 3, 8]);
+    check(&rt, alloc, &mut host, Op::Contains, b"a", &[1, 2, 3, 7, 8]);
+}
+
+/// A term of 40 bytes with this number.
+fn nth_term(k: u64) -> [u8; 40] {
+    let mut term = [97; 40];
+    term[..8].copy_from_slice(&k.to_be_bytes());
+    term
+}
+
+/// Adds 2,000 terms: several blocks, and a level of pointers above them.
+fn add_many(rt: &impl Abort, alloc: Global, gather: &mut Gather, last: &mut Posting)
+    requires { AreUpTo gather.old.postings last.old }
+    ensures { AreUpTo gather.new.postings last.new }
+{
+    for k in 0..2000 {
+        let token = k * 7 % 2000;
+        put(
+            rt,
+            alloc,
+            gather,
+            last,
+            ListKind::Stored,
+            &nth_term(k),
+            token,
+        );
+    }
+}
+
+#[test]
+fn each_of_many_terms_is_found(rt: HostRuntime) {
+    let alloc = rt.alloc();
+    let mut last = lowest(alloc);
+    let mut gather = Gather::new(alloc, 1, 1);
+    add_many(&rt, alloc, &mut gather, &mut last);
+    let mut host = write(&rt, alloc, ColumnType::Text, gather);
+    for k in 0..2000 {
+        let token = k * 7 % 2000;
+        check(&rt, alloc, &mut host, Op::Eq, &nth_term(k), &[token]);
+    }
+    check(&rt, alloc, &mut host, Op::Eq, &nth_term(2000), &[]);
+    let prefix = [0, 0, 0, 0, 0, 0, 0, 9];
+    check(&rt, alloc, &mut host, Op::Prefix, &prefix, &[63]);
+}

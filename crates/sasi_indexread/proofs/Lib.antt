@@ -1,0 +1,13 @@
+pub mod LevelSizes
+pub mod Ranges
+pub mod Fields
+pub mod Laws
+pub mod Footers
+pub mod AskedLaws
+pub mod Collecting
+pub mod Callers
+pub mod CostLaws
+pub mod ReadChains
+pub mod Scanning
+pub mod Counting
+pub mod Searching

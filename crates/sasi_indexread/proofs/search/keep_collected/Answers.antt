@@ -1,0 +1,20 @@
+use Rattle.std.proofs.Common.{◌≡◌, arith, false, inl, rules}
+use Rattle.sasi_host.specs.ChangeLaws.{stays}
+use Rattle.sasi_indexread.proofs.Counting.{left_first}
+use Rattle.sasi_indexread.proofs.Searching.{now_collected}
+use Rattle.sasi_indexread.proofs.search.keep_collected.Goals as goal
+
+pub returns-then-is_collected-clause-read : goal.returns-then-is_collected-clause-read
+returns-then-is_collected-clause-read g c = record { agrees = c.requires.read.agrees; covers = λ name at. inl at; changes = stays (g.H.Host.view c.args.host.now) }
+
+pub returns-clause-ok : goal.returns-clause-ok
+returns-clause-ok g c content was =
+    now_collected (g.H.Host.view c.args.host.now) (g.H.Host.view c.collect.new.host) c.args.index.now c.args.op.now c.args.body.now c.args.is_collected.now c.args.merge.now c.collect.new.merge content c.collect.ensures.read.changes c.in_ok-collect.ensures.ok was
+
+pub returns-then-is_collected-clause-reads : goal.returns-then-is_collected-clause-reads
+returns-then-is_collected-clause-reads g c content was = omega arith
+
+pub returns-clause-reads : goal.returns-clause-reads
+returns-clause-reads g c content was =
+    let first : c.args.is_collected.now ≡ false = search (rules, c.if-is_collected.false) in
+    omega (arith, c.in_ok-collect.ensures.reads content was.is_open, left_first c.args.index.now c.args.op.now c.args.body.now c.args.is_collected.now c.args.merge.now content first)

@@ -1,0 +1,39 @@
+-- One entry more in the scan of the terms.
+use Rattle.std.specs.Prelude.{◌≡◌, Bool, true, false, not, List, Option, None, Some, if◌then◌else◌}
+use Rattle.sasi_types.specs.declared.tree.Pair.{Pair}
+use Rattle.sasi_types.specs.declared.tree.TreeRef.{TreeRef}
+use Rattle.sasi_host.specs.declared.name.FileName.{FileName}
+use Rattle.sasi_host.specs.declared.damage.Damage.{Damage}
+use Rattle.sasi_host.specs.declared.fault.ReadFault.{ReadFault}
+use Rattle.sasi_host.specs.Names.{Bytes}
+use Rattle.sasi_host.specs.Damages.{OnDamage}
+use Rattle.sasi_host.specs.View.{View, contents}
+use Rattle.sasi_terms.specs.declared.op.Op.{Op}
+use Rattle.sasi_terms.specs.Holds.{holds}
+use Rattle.sasi_tokentree.specs.Damages.{ShowsTree}
+use Rattle.sasi_tokentree.specs.Format.{HasTree}
+use Rattle.sasi_termblocks.specs.declared.term_entry.TermEntry.{TermEntry}
+use Rattle.sasi_treemerge.specs.declared.source.Source.{Source}
+use Rattle.sasi_indexread.specs.Asked.{is_run}
+use Rattle.sasi_treemerge.specs.Merges.{Adds}
+
+-- the tree of an entry is added, if it has one
+abbrev pub AddsList : View → FileName → Option TreeRef → List Source → List Source → Type 0
+AddsList v file None old new = new ≡ old
+AddsList v file (Some list) old new = Adds v file list old new
+
+abbrev pub AddsIf : View → FileName → Op → TermEntry → Bool → Bool → List Source → List Source → Type 0
+AddsIf v file op entry false more old new = (more ≡ not (is_run op)) × (new ≡ old)
+AddsIf v file op entry true more old new = (more ≡ true) × AddsList v file entry.list old new
+
+-- it is added where its term is asked for, and others can be behind it if one is or those that are don't follow one another
+abbrev pub AddsEntry : View → FileName → Op → Bytes → TermEntry → Bool → List Source → List Source → Type 0
+AddsEntry v file op body entry more old new = AddsIf v file op entry (holds op entry.term body) more old new
+
+-- the damage is that of the entry's tree
+abbrev pub ShowsList : FileName → TermEntry → Bytes → Damage → Type 0
+ShowsList file entry bytes damage = (list : TreeRef) × (entry.list ≡ Some list) × ShowsTree file list bytes damage
+
+-- damage is reported only where the file doesn't have that tree
+abbrev pub NoFalseListDamage : View → FileName → TermEntry → ReadFault → Type 0
+NoFalseListDamage v file entry = OnDamage (λ _. (bytes : Bytes) (list : TreeRef) (pairs : List Pair) → contents v file ≡ Some bytes → entry.list ≡ Some list → HasTree bytes list pairs → ⊥)

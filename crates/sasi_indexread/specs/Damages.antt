@@ -1,0 +1,32 @@
+-- Where a file breaks the format of an index file, and what is there.
+use Rattle.std.specs.Prelude.{◌≡◌, ℕ, ◌*◌, Some}
+use Rattle.sasi_types.specs.declared.tree.TreeRef.{TreeRef}
+use Rattle.sasi_host.specs.declared.damage.Damage.{Damage}
+use Rattle.sasi_host.specs.Names.{Bytes}
+use Rattle.sasi_host.specs.Damages.{HasAt}
+use Rattle.sasi_tokentree.specs.Damages.{ShowsTree}
+use Rattle.sasi_termblocks.specs.declared.term_entry.TermEntry.{TermEntry}
+use Rattle.sasi_termblocks.specs.Damages.{ShowsBlocks}
+use Rattle.sasi_termblocks.specs.Entries.{term_entry}
+use Rattle.sasi_termblocks.specs.Windows.{HasEntry, count_in}
+use Rattle.sasi_indexread.specs.Opened.{Opened}
+
+-- an entry of a block leads to the tree with this reference
+pub record LeadsToTree (bytes : Bytes) (tree : TreeRef) : Type 0 where
+  pub page : ℕ
+  pub block : Bytes
+  pub stands : HasAt bytes (4096 * page) block
+  pub index : ℕ
+  pub entry : TermEntry
+  pub has : HasEntry term_entry block index entry
+  pub list : entry.list ≡ Some tree
+
+-- the tree is that of the spill, or one to which an entry leads
+pub data IsListed (opened : Opened) (bytes : Bytes) (tree : TreeRef) : Type 0 where
+  of_spill : tree ≡ opened.spill → IsListed opened bytes tree
+  of_term : LeadsToTree bytes tree → IsListed opened bytes tree
+
+-- the damage is that of the blocks, or of a tree to which the file leads
+pub data ShowsIndex (opened : Opened) (bytes : Bytes) (damage : Damage) : Type 0 where
+  in_blocks : ShowsBlocks opened.file opened.blocks bytes damage → ShowsIndex opened bytes damage
+  in_tree : (tree : TreeRef) → IsListed opened bytes tree → ShowsTree opened.file tree bytes damage → ShowsIndex opened bytes damage

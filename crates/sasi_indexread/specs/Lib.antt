@@ -1,0 +1,7 @@
+pub mod Opened
+pub mod HeaderAndFooter
+pub mod Asked
+pub mod Damages
+pub mod Collects
+pub mod Searches
+pub mod Costs

@@ -1,0 +1,36 @@
+-- An index file that was opened.
+use Rattle.std.specs.Prelude.{◌≡◌, Some}
+use Rattle.sasi_types.specs.declared.column.ColumnType.{ColumnType}
+use Rattle.sasi_types.specs.declared.tree.TreeRef.{TreeRef}
+use Rattle.sasi_host.specs.declared.name.FileName.{FileName}
+use Rattle.sasi_host.specs.declared.fault.ReadFault.{ReadFault}
+use Rattle.sasi_host.specs.Names.{Bytes}
+use Rattle.sasi_host.specs.Damages.{OnDamage}
+use Rattle.sasi_host.specs.View.{View, contents}
+use Rattle.sasi_termblocks.specs.declared.block_ref.BlockRef.{BlockRef}
+use Rattle.sasi_indexwrite.specs.Content.{IndexContent}
+use Rattle.sasi_indexwrite.specs.Files.{IsIndexFile}
+use Rattle.sasi_indexwrite.specs.Format.{spill_ref}
+
+-- what one knows of an index file in hand
+pub record Opened : Type 0 where
+  pub file : FileName
+  -- the type of the indexed column
+  pub kind : ColumnType
+  -- where the blocks of terms are
+  pub blocks : BlockRef
+  -- what refers to the spill tree
+  pub spill : TreeRef
+
+-- the file reads as the index file of a content, and was opened as that
+pub record IsOpenOn (v : View) (opened : Opened) (content : IndexContent) : Type 0 where
+  pub bytes : Bytes
+  pub reads : contents v opened.file ≡ Some bytes
+  pub index_file : IsIndexFile bytes content
+  pub kind : opened.kind ≡ content.kind
+  pub blocks : opened.blocks ≡ index_file.blocks
+  pub spill : opened.spill ≡ spill_ref content
+
+-- damage is reported only where the file isn't an index file
+abbrev pub NoFalseIndexDamage : View → FileName → ReadFault → Type 0
+NoFalseIndexDamage v file = OnDamage (λ _. (bytes : Bytes) (content : IndexContent) → contents v file ≡ Some bytes → IsIndexFile bytes content → ⊥)

@@ -1,0 +1,129 @@
+// Collects the trees of the terms that are asked for.
+ghost use Rattle.std.specs.Prelude.{◌≡◌, ◌+◌, ◌*◌, ◌≤◌, ◌∷◌, [], IfErr, IfOk, OnOk, false};
+ghost use Rattle.sasi_host.specs.Names.{Bytes};
+ghost use Rattle.sasi_host.specs.View.{ReadsAtMost, contents};
+ghost use Rattle.sasi_host.specs.Damages.{DamageShown};
+ghost use Rattle.sasi_host.specs.PageReading.{CanRead, HasRead};
+ghost use Rattle.sasi_tokentree.specs.Damages.{ShowsTree};
+ghost use Rattle.sasi_indexwrite.specs.Content.{IndexContent};
+ghost use Rattle.sasi_indexread.specs.Asked.{asked_lists, asks_none};
+ghost use Rattle.sasi_indexread.specs.Collects.{AddsEntry, NoFalseListDamage, ShowsList};
+ghost use Rattle.sasi_indexread.specs.Costs.{added_pairs, terms_cost, whole_cost};
+ghost use Rattle.sasi_indexread.specs.Damages.{ShowsIndex};
+ghost use Rattle.sasi_treemerge.specs.Merges.{CanMerge, Gives, sources_of, unread_of};
+ghost use Rattle.sasi_indexread.specs.Opened.{IsOpenOn};
+ghost use Rattle.sasi_indexread.specs.Searches.{AreListed, NoFalseSearchDamage};
+
+use crate::IndexFile;
+use crate::asked::{asks_none, is_run, lower};
+use sasi_host::{Host, PageReader, ReadFault};
+use sasi_termblocks::{Blocks, TermEntry};
+use sasi_terms::{Op, holds};
+use sasi_treemerge::Merge;
+use std::alloc::Global;
+
+// Adds the tree of an entry if its term is asked for, and says whether others can be behind it.
+fn add_entry<H: Host, P: PageReader>(
+    host: &mut H,
+    pages: &mut P,
+    op: &Op,
+    body: &[u8],
+    entry: &TermEntry,
+    merge: &mut Merge,
+) -> Result<bool, ReadFault>
+    requires read { CanRead (P.agrees pages.old) (H.view host.old) merge.old.file }
+    requires merge { CanMerge (H.view host.old) merge.old }
+    ensures ok { IfOk result (λ more. AddsEntry (H.view host.old) merge.old.file op.now body.now entry.now more (sources_of merge.old) (sources_of merge.new)) }
+    ensures merge { OnOk result (CanMerge (H.view host.new) merge.new) }
+    ensures damaged { IfErr result (DamageShown (H.view host.old) merge.old.file (ShowsList merge.old.file entry.now)) }
+    ensures undamaged { IfErr result (NoFalseListDamage (H.view host.old) merge.old.file entry.now) }
+    ensures read { HasRead (P.agrees pages.new) (P.covers pages.old) (P.covers pages.new) (H.view host.old) (H.view host.new) merge.old.file }
+    ensures causes { ReadsAtMost 2 (H.view host.old) (H.view host.new) result }
+    ensures reads { OnOk result ((H.view host.new).reads + 2 * unread_of (sources_of merge.new) ≤ (H.view host.old).reads + 2 * unread_of (sources_of merge.old) + 2 * added_pairs op.now body.now entry.now) }
+    ensures same { (merge.new.file ≡ merge.old.file) × (merge.new.last ≡ merge.old.last) × (merge.new.floor ≡ merge.old.floor) }
+{
+    if !holds(op, entry.term.bytes(), body) {
+        return Ok(!is_run(op));
+    }
+    match entry.list {
+        None => Ok(true),
+        Some(list) => {
+            merge.add(host, pages, list)?;
+            Ok(true)
+        }
+    }
+}
+
+// Adds the trees of the terms that are asked for.
+fn add_terms<H: Host, P: PageReader>(
+    alloc: Global,
+    host: &mut H,
+    pages: &mut P,
+    index: &IndexFile,
+    op: &Op,
+    body: &[u8],
+    merge: &mut Merge,
+) -> Result<(), ReadFault>
+    requires read { CanRead (P.agrees pages.old) (H.view host.old) index.now.file }
+    requires named { merge.old.file ≡ index.now.file }
+    requires merge { CanMerge (H.view host.old) merge.old }
+    requires listed { AreListed (H.view host.old) index.now (sources_of merge.old) }
+    requires some { asks_none index.now.kind op.now ≡ false }
+    requires spill { (content : IndexContent) (on : IsOpenOn (H.view host.old) index.now content) → Gives on.bytes (content.spill ∷ []) merge.old.last merge.old.floor (sources_of merge.old) }
+    ensures ok { OnOk result ((content : IndexContent) (on : IsOpenOn (H.view host.old) index.now content) → Gives on.bytes (asked_lists content op.now body.now) merge.new.last merge.new.floor (sources_of merge.new)) }
+    ensures merge { OnOk result (CanMerge (H.view host.new) merge.new) }
+    ensures listed { OnOk result (AreListed (H.view host.old) index.now (sources_of merge.new)) }
+    ensures damaged { IfErr result (DamageShown (H.view host.old) index.now.file (ShowsIndex index.now)) }
+    ensures undamaged { IfErr result (NoFalseSearchDamage (H.view host.old) index.now) }
+    ensures read { HasRead (P.agrees pages.new) (P.covers pages.old) (P.covers pages.new) (H.view host.old) (H.view host.new) index.now.file }
+    ensures causes { ReadsAtMost (index.now.blocks.levels + 2 + 3 * index.now.blocks.terms) (H.view host.old) (H.view host.new) result }
+    ensures reads { OnOk result ((content : IndexContent) → IsOpenOn (H.view host.old) index.now content
+        → (H.view host.new).reads + 2 * unread_of (sources_of merge.new) ≤ (H.view host.old).reads + 2 * unread_of (sources_of merge.old) + index.now.blocks.levels + 2 + terms_cost content op.now body.now) }
+    ensures same { (merge.new.file ≡ merge.old.file) × (merge.new.last ≡ merge.old.last) × (merge.new.floor ≡ merge.old.floor) }
+{
+    let mut blocks = Blocks::new(alloc, index.file(), index.blocks());
+    let mut entry = blocks.seek(host, pages, lower(op, body))?;
+    for _turn in 0..index.blocks().terms {
+        let Some(found) = &entry else {
+            return Ok(());
+        };
+        if !add_entry(host, pages, op, body, found, merge)? {
+            return Ok(());
+        }
+        entry = blocks.next(host, pages)?;
+    }
+    Ok(())
+}
+
+/// Adds the spill tree, and those of the terms that are asked for.
+pub fn collect<H: Host, P: PageReader>(
+    alloc: Global,
+    host: &mut H,
+    pages: &mut P,
+    index: &IndexFile,
+    op: &Op,
+    body: &[u8],
+    merge: &mut Merge,
+) -> Result<(), ReadFault>
+    requires read { CanRead (P.agrees pages.old) (H.view host.old) index.now.file }
+    requires named { merge.old.file ≡ index.now.file }
+    requires merge { CanMerge (H.view host.old) merge.old }
+    requires empty { sources_of merge.old ≡ [] }
+    ensures ok { OnOk result ((content : IndexContent) (on : IsOpenOn (H.view host.old) index.now content) → Gives on.bytes (asked_lists content op.now body.now) merge.new.last merge.new.floor (sources_of merge.new)) }
+    ensures merge { OnOk result (CanMerge (H.view host.new) merge.new) }
+    ensures listed { OnOk result (AreListed (H.view host.old) index.now (sources_of merge.new)) }
+    ensures damaged { IfErr result (DamageShown (H.view host.old) index.now.file (ShowsIndex index.now)) }
+    ensures undamaged { IfErr result (NoFalseSearchDamage (H.view host.old) index.now) }
+    ensures read { HasRead (P.agrees pages.new) (P.covers pages.old) (P.covers pages.new) (H.view host.old) (H.view host.new) index.now.file }
+    ensures causes { ReadsAtMost (index.now.blocks.levels + 4 + 3 * index.now.blocks.terms) (H.view host.old) (H.view host.new) result }
+    ensures reads { OnOk result ((content : IndexContent) → IsOpenOn (H.view host.old) index.now content
+        → (H.view host.new).reads + 2 * unread_of (sources_of merge.new) ≤ (H.view host.old).reads + whole_cost index.now.blocks.levels content op.now body.now) }
+    ensures same { (merge.new.file ≡ merge.old.file) × (merge.new.last ≡ merge.old.last) × (merge.new.floor ≡ merge.old.floor) }
+{
+    merge.add(host, pages, index.spill())?;
+    if asks_none(index.kind(), op) {
+        return Ok(());
+    }
+    add_terms(alloc, host, pages, index, op, body, merge)?;
+    Ok(())
+}

@@ -1,0 +1,114 @@
+// Reads an index file.
+ghost use Rattle.std.specs.Prelude.{◌≡◌, IfErr, IfOk, Some};
+ghost use Rattle.sasi_host.specs.declared.name.FileName.{FileName};
+ghost use Rattle.sasi_host.specs.Names.{Bytes};
+ghost use Rattle.sasi_host.specs.View.{ReadsAtMost, contents};
+ghost use Rattle.sasi_host.specs.Damages.{DamageShown};
+ghost use Rattle.sasi_host.specs.PageReading.{CanRead, HasRead};
+ghost use Rattle.sasi_indexwrite.specs.Content.{IndexContent};
+ghost use Rattle.sasi_indexwrite.specs.Damages.{ShowsHeaderOrFooter};
+ghost use Rattle.sasi_indexwrite.specs.Files.{IsIndexFile};
+ghost use Rattle.sasi_indexread.specs.Opened.{IsOpenOn, NoFalseIndexDamage};
+ghost use Rattle.sasi_indexread.specs.HeaderAndFooter.{HasHeaderAndFooter};
+ghost use Rattle.sasi_indexread.specs.Searches.{IsFresh};
+
+use crate::Search;
+use crate::footer::read_footer;
+use sasi_host::{FileName, Host, PageReader, ReadFault};
+use sasi_termblocks::BlockRef;
+use sasi_terms::Op;
+use sasi_types::{ColumnType, TreeRef};
+use std::alloc::{AllocError, Global};
+use std::marker::Model;
+
+/// An open index file. It keeps the type of the indexed column and the numbers of the footer.
+#[derive(Drop)]
+pub struct IndexFile {
+    file: FileName,
+    kind: ColumnType,
+    blocks: BlockRef,
+    spill: TreeRef,
+}
+
+impl Model for IndexFile {
+    ghost use Rattle.sasi_indexread.specs.Opened.{Opened};
+
+    ghost Value = { Opened };
+
+    ghost view = { λ a. record { file = a.file; kind = a.kind; blocks = a.blocks; spill = a.spill } };
+}
+
+impl IndexFile {
+    /// Opens an index file by its header and its footer. Files of the mode SPARSE aren't read yet.
+    pub fn open<H: Host, P: PageReader>(
+        host: &mut H,
+        pages: &mut P,
+        file: FileName,
+    ) -> Result<IndexFile, ReadFault>
+        requires read { CanRead (P.agrees pages.old) (H.view host.old) file }
+        ensures ok { IfOk result (λ opened. (bytes : Bytes) (content : IndexContent) → contents (H.view host.old) file ≡ Some bytes → IsIndexFile bytes content → IsOpenOn (H.view host.new) opened content) }
+        ensures header_and_footer { IfOk result (λ opened. (bytes : Bytes) → contents (H.view host.old) file ≡ Some bytes → HasHeaderAndFooter bytes opened.kind (record { blocks = opened.blocks; spill = opened.spill })) }
+        ensures file { IfOk result (λ opened. opened.file ≡ file) }
+        ensures damaged { IfErr result (DamageShown (H.view host.old) file (ShowsHeaderOrFooter file)) }
+        ensures undamaged { IfErr result (NoFalseIndexDamage (H.view host.old) file) }
+        ensures read { HasRead (P.agrees pages.new) (P.covers pages.old) (P.covers pages.new) (H.view host.old) (H.view host.new) file }
+        ensures causes { ReadsAtMost 3 (H.view host.old) (H.view host.new) result }
+    {
+        let (kind, footer) = read_footer(host, pages, file)?;
+        Ok(IndexFile {
+            file,
+            kind,
+            blocks: footer.blocks,
+            spill: footer.spill,
+        })
+    }
+
+    /// A search for the terms that the operator and the body ask for, before its first pair. It reads nothing yet. The body of a
+    /// range isn't looked at.
+    pub fn search(&self, alloc: Global, op: &Op, body: &[u8]) -> Result<Search, AllocError>
+        ensures asked { IfOk result (λ search. (search.index ≡ self.now) × (search.op ≡ op.now) × (search.body ≡ body.now)) }
+        ensures fresh { IfOk result IsFresh }
+    {
+        let body = body.to_vec(alloc)?;
+        Ok(Search::new(alloc, self.copy(), *op, body))
+    }
+
+    fn copy(&self) -> IndexFile
+        ensures { result ≡ self.now }
+    {
+        IndexFile {
+            file: self.file,
+            kind: self.kind,
+            blocks: self.blocks,
+            spill: self.spill,
+        }
+    }
+
+    // The name of the file.
+    pub(crate) fn file(&self) -> FileName
+        ensures { result ≡ self.now.file }
+    {
+        self.file
+    }
+
+    // The type of the indexed column.
+    pub(crate) fn kind(&self) -> ColumnType
+        ensures { result ≡ self.now.kind }
+    {
+        self.kind
+    }
+
+    // Where the blocks of terms are.
+    pub(crate) fn blocks(&self) -> BlockRef
+        ensures { result ≡ self.now.blocks }
+    {
+        self.blocks
+    }
+
+    // What refers to the spill tree.
+    pub(crate) fn spill(&self) -> TreeRef
+        ensures { result ≡ self.now.spill }
+    {
+        self.spill
+    }
+}

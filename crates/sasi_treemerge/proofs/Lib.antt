@@ -1,0 +1,3 @@
+pub mod PairOrder
+pub mod Merging
+pub mod Stepping

@@ -1,0 +1,350 @@
+-- What a merge gives, step by step.
+use Rattle.std.specs.Prelude.{◌≡◌, ℕ, zero, suc, ◌+◌, ◌-◌, ◌*◌, ◌<◌, ◌≤◌, ◌⊎◌, Bool, true, false, List, [], ◌∷◌, ◌++◌, length, drop, get_or, All, Contains, Option, None, Some, IfSome, IsSome, refl}
+use Rattle.std.proofs.Common.{◌∙◌, sym, ap, subst, arith, inl, inr, ⊎_elim}
+use Rattle.std.specs.List.{AllByRecursion, sum_by}
+use Rattle.std.specs.List.Sorted.{IsPermutation}
+use Rattle.std.specs.Option.{option_to_list}
+use Rattle.std.specs.Ordering.{is_lt}
+use Rattle.std.specs.BinaryHeap.{IsHeap, IsUpperBound, KeepsHeap}
+use Rattle.std.proofs.lemmas.List.Elements.{All-append, All-cons, All-contains, All-contains_itself, All-from_recursion, All-head, All-nil, All-tail, All-weaker, Contains-append_cases, Contains-append_left, Contains-append_right, Contains-push}
+use Rattle.std.proofs.lemmas.List.Sorted.{All-permutation, Contains-permutation, IsPermutation-sym, length_permutation, sum_by-IsPermutation, sum_by_popped, sum_by_pushed}
+use Rattle.sasi_types.specs.declared.tree.Pair.{Pair}
+use Rattle.sasi_types.specs.declared.tree.TreeRef.{TreeRef}
+use Rattle.sasi_host.specs.declared.name.FileName.{FileName}
+use Rattle.sasi_host.specs.Names.{Bytes}
+use Rattle.sasi_host.specs.View.{View, contents}
+use Rattle.sasi_host.specs.Disk.{Changes, Same}
+use Rattle.sasi_host.specs.Buffered.{Buffered, IsBuffered, buffered_after}
+use Rattle.sasi_host.specs.declared.fault.ReadFault.{ReadFault}
+use Rattle.sasi_host.specs.declared.fault.ReadFault.TheVariants as fault
+use Rattle.sasi_host.specs.Damages.{DamageShown}
+use Rattle.sasi_host.proofs.DamageLaws.{shown_as, shown_before}
+use Rattle.sasi_tokentree.proofs.AfterRead.{reads_still}
+use Rattle.sasi_tokentree.specs.Damages.{ShowsTree}
+use Rattle.sasi_tokentree.specs.Reads.{NoFalseTreeDamage}
+use Rattle.sasi_treemerge.specs.MergeDamages.{NoFalseDamageOf, ShowsSources}
+use Rattle.std.proofs.lemmas.Bool.Decides.{leb_tells}
+use Rattle.sasi_tokentree.specs.Format.{HasTree}
+use Rattle.sasi_tokentree.specs.Scans.{HasPassed, PairScan, ReadsNextPair, StepsToPair}
+use Rattle.sasi_treemerge.specs.declared.merge.Merge.{Merge}
+use Rattle.sasi_treemerge.specs.declared.source.Source.{Source}
+use Rattle.sasi_treemerge.specs.Sources.{is_before, pair_cmp, source_cmp}
+use Rattle.sasi_treemerge.specs.Merges.{Adds, CanMerge, Gives, GoesOn, IsLeast, IsPairOf, IsReadable, IsSourceIn, IsSourceOf, IsStillGiven, Steps, StepsBy, TreesStay, is_left, left_in, left_of, sources_of, unread_in, unread_of}
+use Rattle.sasi_treemerge.proofs.PairOrder.{first_least, not_before_on}
+
+-- ---- lists
+
+contains_first : {X : Type 0} (x : X) (xs : List X) → Contains (x ∷ xs) x
+contains_first x xs = (0, omega arith, refl)
+
+contains_later : {X : Type 0} (x y : X) (xs : List X) → Contains xs y → Contains (x ∷ xs) y
+contains_later x y xs has = (suc has.0, omega (arith, has.1), has.2)
+
+contains_cases : {X : Type 0} (x y : X) (xs : List X) → Contains (x ∷ xs) y → (x ≡ y) ⊎ Contains xs y
+contains_cases {X = X} x y xs has = from has.0 has.1 has.2
+  where
+    from : (k : ℕ) → k < length (x ∷ xs) → get_or (x ∷ xs) k y ≡ y → (x ≡ y) ⊎ Contains xs y
+    from zero lt is = inl is
+    from (suc k) lt is = inr (k, omega (arith, lt), is)
+
+contains_none : {X : Type 0} (xs : List X) (y : X) → xs ≡ [] → Contains xs y → ⊥
+contains_none xs y none has = omega (arith, has.1, ap length none)
+
+-- ---- one step
+
+differ : true ≡ false → ⊥
+differ e = cc
+
+module _ (v : View) (file : FileName) (bytes : Bytes) (lists : List (List Pair)) (old new : List Source) (head : Pair) (steps : StepsBy v head old new)
+    (named : All (λ (s : Source). s.tree.buffered.file ≡ file) old) (reads : contents v file ≡ Some bytes) (each : All (IsSourceIn bytes lists) old) where
+  source_there : Contains old steps.source
+  source_there = Contains-permutation (steps.source ∷ steps.others) old steps.source (IsPermutation-sym old (steps.source ∷ steps.others) steps.taken) (contains_first steps.source steps.others)
+
+  own : IsSourceIn bytes lists steps.source
+  own = All-contains (IsSourceIn bytes lists) old steps.source each source_there
+
+  own_reads : contents v steps.source.tree.buffered.file ≡ Some bytes
+  own_reads = ap (λ (n : FileName). contents v n) (All-contains (λ (s : Source). s.tree.buffered.file ≡ file) old steps.source named source_there) ∙ reads
+
+  head_first : Contains own.pairs steps.source.head
+  head_first =
+      drop_has own.is.before own.pairs steps.source.head (subst (λ (l : List Pair). Contains l steps.source.head) (sym own.is.left) (contains_first steps.source.head (drop steps.source.tree.passed own.pairs)))
+    where
+      drop_has : (n : ℕ) (pairs : List Pair) (p : Pair) → Contains (drop n pairs) p → Contains pairs p
+      drop_has zero pairs p has = has
+      drop_has (suc n) [] p has = has
+      drop_has (suc n) (x ∷ pairs) p has = contains_later x p pairs (drop_has n pairs p has)
+
+  -- the head is one of the lists' pairs
+  pub head_listed : IsPairOf lists head
+  head_listed = record { pairs = own.pairs; listed = own.listed; has = subst (λ (p : Pair). Contains own.pairs p) (sym steps.head_is) head_first }
+
+  -- none of those that are left comes before it
+  pub head_least : (last : Option Pair) (floor : ℕ) → Gives bytes lists last floor old → (pair : Pair) → IsPairOf lists pair → is_left last floor pair ≡ true → is_before pair head ≡ false
+  head_least last floor gives pair of left =
+      let still = gives.all of.pairs pair of.listed of.has left in
+      let first = first_least of.pairs still.is.before still.source.tree.passed still.source.head pair still.is.tree.rising still.is.left still.gives in
+      let bound = All-contains (λ (s : Source). is_lt (source_cmp steps.source s) ≡ false) old still.source (All-from_recursion _ old steps.least) still.there in
+      ap (λ (p : Pair). is_before pair p) steps.head_is ∙ not_before_on pair still.source.head steps.source.head first bound
+
+  -- what the next source of the same list is
+  next_is : (pairs : List Pair) (next : Source) → IsSourceOf bytes pairs steps.source → GoesOn v steps.source.tree (Some next) → IsSourceOf bytes pairs next
+  next_is pairs next is goes = record {
+    tree = subst (λ (t : TreeRef). HasTree bytes t pairs) (sym goes.0) is.tree;
+    before = steps.source.tree.passed;
+    left = goes.3 bytes pairs own_reads is.tree;
+  }
+
+  others_each : All (IsSourceIn bytes lists) steps.others
+  others_each = All-tail (IsSourceIn bytes lists) steps.source steps.others (All-permutation (IsSourceIn bytes lists) old (steps.source ∷ steps.others) steps.taken each)
+
+  pub each_on : All (IsSourceIn bytes lists) new
+  each_on = from steps.next steps.goes steps.put
+    where
+      from : (next : Option Source) → GoesOn v steps.source.tree next → IsPermutation (option_to_list next ++ steps.others) new → All (IsSourceIn bytes lists) new
+      from None goes put = All-permutation (IsSourceIn bytes lists) steps.others new put others_each
+      from (Some next) goes put =
+          All-permutation (IsSourceIn bytes lists) (next ∷ steps.others) new put
+          (All-cons (IsSourceIn bytes lists) next steps.others (record { pairs = own.pairs; listed = own.listed; is = next_is own.pairs next own.is goes }) others_each)
+
+  other_there : (s : Source) → Contains steps.others s → Contains new s
+  other_there s has = Contains-permutation (option_to_list steps.next ++ steps.others) new s steps.put (Contains-append_right (option_to_list steps.next) steps.others s has)
+
+  -- a pair of the source, other than its head, is still given by the next one
+  by_next : (pairs : List Pair) (pair : Pair) (next : Option Source) → IsSourceOf bytes pairs steps.source → GoesOn v steps.source.tree next → IsPermutation (option_to_list next ++ steps.others) new
+      → Contains (drop steps.source.tree.passed pairs) pair → IsStillGiven bytes pairs new pair
+  by_next pairs pair None is goes put has = absurd (contains_none (drop steps.source.tree.passed pairs) pair (goes bytes pairs own_reads is.tree) has)
+  by_next pairs pair (Some next) is goes put has = record {
+    source = next;
+    there = Contains-permutation (next ∷ steps.others) new next put (contains_first next steps.others);
+    is = next_is pairs next is goes;
+    gives = subst (λ (l : List Pair). Contains l pair) (goes.3 bytes pairs own_reads is.tree) has;
+  }
+
+  still_given : (last_now : Option Pair) (floor_now : ℕ) → is_left last_now floor_now head ≡ false → (pairs : List Pair) (pair : Pair) → is_left last_now floor_now pair ≡ true → IsStillGiven bytes pairs old pair → IsStillGiven bytes pairs new pair
+  still_given last_now floor_now gone pairs pair left was = ⊎_elim
+      (λ this.
+      let is : IsSourceOf bytes pairs steps.source = subst (λ (s : Source). IsSourceOf bytes pairs s) (sym this) was.is in
+      let has : Contains (steps.source.head ∷ drop steps.source.tree.passed pairs) pair = subst (λ (s : Source). Contains (s.head ∷ drop s.tree.passed pairs) pair) (sym this) was.gives in
+      ⊎_elim
+      (λ first. absurd (differ (sym left ∙ ap (λ (p : Pair). is_left last_now floor_now p) (sym first ∙ sym steps.head_is) ∙ gone)))
+      (λ later. by_next pairs pair steps.next is steps.goes steps.put later)
+      (contains_cases steps.source.head pair (drop steps.source.tree.passed pairs) has))
+      (λ other. record { source = was.source; there = other_there was.source other; is = was.is; gives = was.gives })
+      (contains_cases steps.source was.source steps.others (Contains-permutation old (steps.source ∷ steps.others) was.source steps.taken was.there))
+
+  -- once the head is no longer left, the others are still given
+  pub gives_on : (last : Option Pair) (floor : ℕ) (last_now : Option Pair) (floor_now : ℕ) → Gives bytes lists last floor old → ((pair : Pair) → is_left last_now floor_now pair ≡ true → is_left last floor pair ≡ true)
+      → is_left last_now floor_now head ≡ false → Gives bytes lists last_now floor_now new
+  gives_on last floor last_now floor_now gives fewer gone = record { each = each_on; all = λ pairs pair listed has left. still_given last_now floor_now gone pairs pair left (gives.all pairs pair listed has (fewer pair left)) }
+
+-- where no source is left, no pair is
+pub gives_none : (bytes : Bytes) (lists : List (List Pair)) (last : Option Pair) (floor : ℕ) (sources : List Source) → sources ≡ [] → Gives bytes lists last floor sources → IsLeast lists last floor None
+gives_none bytes lists last floor sources none gives = λ pair of. by_test (is_left last floor pair) refl of
+  where
+    by_test : {pair : Pair} (test : Bool) → is_left last floor pair ≡ test → IsPairOf lists pair → is_left last floor pair ≡ false
+    by_test true left of = let still = gives.all of.pairs _ of.listed of.has left in absurd (contains_none sources still.source none still.there)
+    by_test false left of = left
+
+-- ---- one list more
+
+one_list : (pairs these : List Pair) → Contains (pairs ∷ []) these → these ≡ pairs
+one_list pairs these has = ⊎_elim (λ same. sym same) (λ none. absurd (contains_none [] these refl none)) (contains_cases pairs these [] has)
+
+pub adds_list : (v : View) (file : FileName) (bytes : Bytes) (lists : List (List Pair)) (last : Option Pair) (floor : ℕ) (list : TreeRef) (pairs : List Pair) (old new : List Source) → Adds v file list old new
+    → contents v file ≡ Some bytes → HasTree bytes list pairs → Gives bytes lists last floor old → Gives bytes (lists ++ pairs ∷ []) last floor new
+adds_list v file bytes lists last floor list pairs old new adds reads tree gives = from adds.next adds.goes adds.put
+  where
+    kept : All (IsSourceIn bytes (lists ++ pairs ∷ [])) old
+    kept = All-weaker (IsSourceIn bytes lists) (IsSourceIn bytes (lists ++ pairs ∷ [])) (λ s is. record { pairs = is.pairs; listed = Contains-append_left lists (pairs ∷ []) is.pairs is.listed; is = is.is }) old gives.each
+
+    from : (next : Option Source) → GoesOn v (record { buffered = record { file = file; page = None; bytes = [] }; tree = list; passed = 0 }) next → IsPermutation (option_to_list next ++ old) new → Gives bytes (lists ++ pairs ∷ []) last floor new
+    from None goes put = record {
+      each = All-permutation (IsSourceIn bytes (lists ++ pairs ∷ [])) old new put kept;
+      all = λ these pair listed has left. ⊎_elim
+          (λ before. let was = gives.all these pair before has left in record { source = was.source; there = Contains-permutation old new was.source put was.there; is = was.is; gives = was.gives })
+          (λ this. absurd (contains_none these pair (one_list pairs these this ∙ goes bytes pairs reads tree) has))
+          (Contains-append_cases lists (pairs ∷ []) these listed);
+    }
+    from (Some next) goes put =
+        let is : IsSourceOf bytes pairs next = record { tree = subst (λ (t : TreeRef). HasTree bytes t pairs) (sym goes.0) tree; before = 0; left = goes.3 bytes pairs reads tree } in
+        record {
+          each = All-permutation (IsSourceIn bytes (lists ++ pairs ∷ [])) (next ∷ old) new put
+              (All-cons (IsSourceIn bytes (lists ++ pairs ∷ [])) next old (record { pairs = pairs; listed = Contains-push lists pairs; is = is }) kept);
+          all = λ these pair listed has left. ⊎_elim
+              (λ before. let was = gives.all these pair before has left in record {
+                source = was.source;
+                there = Contains-permutation (next ∷ old) new was.source put (contains_later next was.source old was.there);
+                is = was.is;
+                gives = was.gives;
+              })
+              (λ this. let same = one_list pairs these this in record {
+                source = next;
+                there = Contains-permutation (next ∷ old) new next put (contains_first next old);
+                is = subst (λ (l : List Pair). IsSourceOf bytes l next) (sym same) is;
+                gives = subst (λ (l : List Pair). Contains (next.head ∷ drop next.tree.passed l) pair) (sym same)
+                    (subst (λ (l : List Pair). Contains l pair) (goes.3 bytes pairs reads tree) (subst (λ (l : List Pair). Contains l pair) same has));
+              })
+              (Contains-append_cases lists (pairs ∷ []) these listed);
+        }
+
+-- ---- how many pairs are left
+
+pub fewer_left : (v : View) (head : Pair) (old new : List Source) → StepsBy v head old new → All (λ (s : Source). s.tree.passed ≤ s.tree.tree.pairs) old → left_of new < left_of old
+fewer_left v head old new steps within = from steps.next steps.goes steps.put
+  where
+    gone : left_of steps.others + left_in steps.source ≡ left_of old
+    gone = sum_by_popped left_in steps.source old steps.others steps.taken
+
+    from : (next : Option Source) → GoesOn v steps.source.tree next → IsPermutation (option_to_list next ++ steps.others) new → left_of new < left_of old
+    from None goes put = omega (arith, gone, sum_by-IsPermutation left_in steps.others new put)
+    from (Some next) goes put =
+        let less : left_in next < left_in steps.source = omega (arith, ap (λ (t : TreeRef). t.pairs) goes.0, goes.1, goes.2) in
+        omega (arith, gone, less, sum_by_pushed left_in next steps.others new put)
+
+-- ---- where the folder stays
+
+pub merge_still : (a b : View) (merge : Merge) → Changes Same a b → CanMerge a merge → CanMerge b merge
+merge_still a b merge same can = record {
+  heap = can.heap;
+  each = All-weaker (IsReadable a merge.file) (IsReadable b merge.file)
+      (λ s is. record { named = is.named; buffered = buffered_after s.tree.buffered a b same is.buffered; within = is.within }) (sources_of merge) can.each;
+}
+
+-- ---- a scan goes on
+
+pub goes_none : (v : View) (scan : PairScan) (after : ℕ) (found : Option Pair) → found ≡ None → ReadsNextPair v scan.buffered.file scan.tree scan.passed after found → GoesOn v scan None
+goes_none v scan after found is reads = λ bytes pairs told has. (subst (λ (o : Option Pair). StepsToPair pairs scan.passed after o) is (reads bytes pairs told has)).0
+
+pub goes_some : (v : View) (scan after : PairScan) (found : Option Pair) (head : Pair) → found ≡ Some head → ReadsNextPair v scan.buffered.file scan.tree scan.passed after.passed found → after.tree ≡ scan.tree
+    → (IsSome found → after.passed ≡ scan.passed + 1) → (IsSome found → HasPassed after.tree after.passed) → GoesOn v scan (Some (record { head = head; tree = after }))
+goes_some v scan after found head is reads same one passed =
+    let there : IsSome found = subst (λ (o : Option Pair). IsSome o) (sym is) refl in
+    let within = (passed there).within in
+    (same, one there, omega (arith, within, ap (λ (t : TreeRef). t.pairs) same), λ bytes pairs told has. subst (λ (o : Option Pair). StepsToPair pairs scan.passed after.passed o) is (reads bytes pairs told has))
+
+-- ---- one source more or less
+
+goes_readable : (v b : View) (file : FileName) (scan : PairScan) (source : Source) → GoesOn v scan (Some source) → source.tree.buffered.file ≡ file → IsBuffered source.tree.buffered b.files → IsReadable b file source
+goes_readable v b file scan source goes named buffered = record { named = named; buffered = buffered; within = omega (arith, ap (λ (t : TreeRef). t.pairs) goes.0, goes.2) }
+
+-- the source that a scan gives
+pub source_readable : (v b : View) (file : FileName) (scan : PairScan) (found : Option Source) (source : Source) → found ≡ Some source → scan.buffered.file ≡ file → IfSome found (λ (s : Source). s.tree.buffered.file ≡ scan.buffered.file)
+    → IfSome found (λ (s : Source). IsBuffered s.tree.buffered b.files) → GoesOn v scan found → IsReadable b file source
+source_readable v b file scan found source is same named buffered goes =
+    let here : source.tree.buffered.file ≡ scan.buffered.file = subst (λ (o : Option Source). IfSome o (λ (s : Source). s.tree.buffered.file ≡ scan.buffered.file)) is named in
+    let page : IsBuffered source.tree.buffered b.files = subst (λ (o : Option Source). IfSome o (λ (s : Source). IsBuffered s.tree.buffered b.files)) is buffered in
+    goes_readable v b file scan source (subst (λ (o : Option Source). GoesOn v scan o) is goes) (here ∙ same) page
+
+pub can_add : (a b : View) (merge new : Merge) (source : Source) → CanMerge a merge → Changes Same a b → KeepsHeap source_cmp (sources_of merge) (sources_of new) → IsPermutation (source ∷ sources_of merge) (sources_of new) → new.file ≡ merge.file
+    → IsReadable b merge.file source → CanMerge b new
+can_add a b merge new source can same keeps put file readable =
+    let now = merge_still a b merge same can in
+    record {
+      heap = keeps can.heap;
+      each = subst (λ (n : FileName). All (IsReadable b n) (sources_of new)) (sym file)
+          (All-permutation (IsReadable b merge.file) (source ∷ sources_of merge) (sources_of new) put (All-cons (IsReadable b merge.file) source (sources_of merge) readable now.each));
+    }
+
+pub first_readable : (v : View) (merge : Merge) (source : Source) (others : List Source) → CanMerge v merge → IsPermutation (sources_of merge) (source ∷ others) → IsReadable v merge.file source
+first_readable v merge source others can taken = All-head (IsReadable v merge.file) source others (All-permutation (IsReadable v merge.file) (sources_of merge) (source ∷ others) taken can.each)
+
+pub rest_can : (a b : View) (merge new : Merge) (source : Source) → CanMerge a merge → Changes Same a b → IsPermutation (sources_of merge) (source ∷ sources_of new) → IsHeap source_cmp (sources_of new) → new.file ≡ merge.file → CanMerge b new
+rest_can a b merge new source can same taken heap file =
+    let now = merge_still a b merge same can in
+    record {
+      heap = heap;
+      each = subst (λ (n : FileName). All (IsReadable b n) (sources_of new)) (sym file)
+          (All-tail (IsReadable b merge.file) source (sources_of new) (All-permutation (IsReadable b merge.file) (sources_of merge) (source ∷ sources_of new) taken now.each));
+    }
+
+-- ---- reads
+
+pub add_reads : (before after : ℕ) (v : View) (scan : PairScan) (source : Source) (old new : List Source) → GoesOn v scan (Some source) → scan.passed ≡ 0 → IsPermutation (source ∷ old) new → after ≤ before + 2
+    → after + 2 * unread_of new ≤ before + 2 * unread_of old + 2 * scan.tree.pairs
+add_reads before after v scan source old new goes first put cost =
+    omega (arith, sum_by_pushed unread_in source old new put, ap (λ (t : TreeRef). t.pairs) goes.0, goes.1, goes.2, first, cost)
+
+pub tree_pairs : (before after : ℕ) (v : View) (scan : PairScan) (list : TreeRef) (source : Source) (old new : List Source) {file : FileName} → scan ≡ record { buffered = record { file = file; page = None; bytes = [] }; tree = list; passed = 0 }
+    → GoesOn v scan (Some source) → IsPermutation (source ∷ old) new → after ≤ before + 2 → after + 2 * unread_of new ≤ before + 2 * unread_of old + 2 * list.pairs
+tree_pairs before after v scan list source old new is goes put cost =
+    omega (arith, add_reads before after v scan source old new goes (ap (λ (s : PairScan). s.passed) is) put cost, ap (λ (s : PairScan). s.tree.pairs) is)
+
+pub ended_reads : (before after : ℕ) (source : Source) (old others : List Source) → IsPermutation old (source ∷ others) → after ≤ before + 2 → (source.tree.tree.pairs ≤ source.tree.passed → after ≡ before)
+    → after + 2 * unread_of others ≤ before + 2 * unread_of old
+ended_reads before after source old others taken cost ended = ⊎_elim
+    (λ over. omega (arith, sum_by_popped unread_in source old others taken, ended over.1))
+    (λ more. omega (arith, sum_by_popped unread_in source old others taken, more.1, cost))
+    (leb_tells source.tree.tree.pairs source.tree.passed)
+
+pub step_reads : (before after : ℕ) (v : View) (source next : Source) (old others new : List Source) → IsPermutation old (source ∷ others) → IsPermutation (next ∷ others) new → GoesOn v source.tree (Some next) → after ≤ before + 2
+    → after + 2 * unread_of new ≤ before + 2 * unread_of old
+step_reads before after v source next old others new taken put goes cost =
+    omega (arith, sum_by_popped unread_in source old others taken, sum_by_pushed unread_in next others new put, ap (λ (t : TreeRef). t.pairs) goes.0, goes.1, goes.2, cost)
+
+-- ---- damage
+
+pub head_shown : (v : View) (file : FileName) (source : Source) (old others : List Source) (f : ReadFault) → IsPermutation old (source ∷ others) → source.tree.buffered.file ≡ file
+    → DamageShown v source.tree.buffered.file (ShowsTree source.tree.buffered.file source.tree.tree) f → DamageShown v file (ShowsSources old file) f
+head_shown v file source old others f taken same shown =
+    shown_as (ShowsTree file source.tree.tree) (ShowsSources old file) v file f
+    (λ bytes damage is shows. record { source = source; there = Contains-permutation (source ∷ others) old source (IsPermutation-sym old (source ∷ others) taken) (contains_first source others); shows = shows })
+    (subst (λ (n : FileName). DamageShown v n (ShowsTree n source.tree.tree) f) same shown)
+
+pub head_spares : (v : View) (file : FileName) (source : Source) (old others : List Source) (f : ReadFault) → IsPermutation old (source ∷ others) → source.tree.buffered.file ≡ file
+    → NoFalseTreeDamage v source.tree.buffered.file source.tree.tree f → NoFalseDamageOf v file old f
+head_spares v file source old others fault.Failed taken same right = tt
+head_spares v file source old others fault.OutOfMemory taken same right = tt
+head_spares v file source old others (fault.Damaged damage) taken same right = λ bytes lists is each.
+    (let own = All-contains (IsSourceIn bytes lists) old source each (Contains-permutation (source ∷ others) old source (IsPermutation-sym old (source ∷ others) taken) (contains_first source others)) in
+    right bytes own.pairs (ap (λ (n : FileName). contents v n) same ∙ is) own.is.tree)
+
+-- ---- trees
+
+pub trees_same : (sources : List Source) → TreesStay sources sources
+trees_same sources = All-weaker (Contains sources) (λ (s : Source). (was : Source) × Contains sources was × (s.tree.tree ≡ was.tree.tree)) (λ s has. (s, has, refl)) sources (All-contains_itself sources)
+
+pub trees_on : (a b c : List Source) → TreesStay a b → TreesStay b c → TreesStay a c
+trees_on a b c first second =
+    All-weaker (λ (s : Source). (was : Source) × Contains b was × (s.tree.tree ≡ was.tree.tree)) (λ (s : Source). (was : Source) × Contains a was × (s.tree.tree ≡ was.tree.tree))
+    (λ s has. (let before = All-contains (λ (t : Source). (was : Source) × Contains a was × (t.tree.tree ≡ was.tree.tree)) b has.0 first has.1 in (before.0, before.1, has.2 ∙ before.2))) c second
+
+next_tree : (v : View) (old : List Source) (source : Source) (next : Option Source) → GoesOn v source.tree next → Contains old source → All (λ (s : Source). (was : Source) × Contains old was × (s.tree.tree ≡ was.tree.tree)) (option_to_list next)
+next_tree v old source None goes there = All-nil (λ (s : Source). (was : Source) × Contains old was × (s.tree.tree ≡ was.tree.tree))
+next_tree v old source (Some next) goes there =
+    All-cons (λ (s : Source). (was : Source) × Contains old was × (s.tree.tree ≡ was.tree.tree)) next [] (source, there, goes.0) (All-nil (λ (s : Source). (was : Source) × Contains old was × (s.tree.tree ≡ was.tree.tree)))
+
+pub trees_step : (v : View) (head : Pair) (old new : List Source) → StepsBy v head old new → TreesStay old new
+trees_step v head old new steps = from steps.next steps.goes steps.put
+  where
+    from : (next : Option Source) → GoesOn v steps.source.tree next → IsPermutation (option_to_list next ++ steps.others) new → TreesStay old new
+    from next goes put =
+        let P = λ (s : Source). (was : Source) × Contains old was × (s.tree.tree ≡ was.tree.tree) in
+        let back = λ (s : Source) (has : Contains (steps.source ∷ steps.others) s). Contains-permutation (steps.source ∷ steps.others) old s (IsPermutation-sym old (steps.source ∷ steps.others) steps.taken) has in
+        All-permutation P (option_to_list next ++ steps.others) new put
+        (All-append P (option_to_list next) steps.others (next_tree v old steps.source next goes (back steps.source (contains_first steps.source steps.others)))
+        (All-weaker (Contains steps.others) P (λ s has. (s, back s (contains_later steps.source s steps.others has), refl)) steps.others (All-contains_itself steps.others)))
+
+pub named_all : (v : View) (merge : Merge) → CanMerge v merge → All (λ (s : Source). s.tree.buffered.file ≡ merge.file) (sources_of merge)
+named_all v merge can = All-weaker (IsReadable v merge.file) (λ (s : Source). s.tree.buffered.file ≡ merge.file) (λ s is. is.named) (sources_of merge) can.each
+
+pub within_all : (v : View) (merge : Merge) → CanMerge v merge → All (λ (s : Source). s.tree.passed ≤ s.tree.tree.pairs) (sources_of merge)
+within_all v merge can = All-weaker (IsReadable v merge.file) (λ (s : Source). s.tree.passed ≤ s.tree.tree.pairs) (λ s is. is.within) (sources_of merge) can.each
+
+pub left_same : (last now : Option Pair) (floor floor_now : ℕ) (pair : Pair) → now ≡ last → floor_now ≡ floor → is_left now floor_now pair ≡ is_left last floor pair
+left_same last now floor floor_now pair same below = ap (λ (l : Option Pair). is_left l floor_now pair) same ∙ ap (λ (n : ℕ). is_left last n pair) below
+
+-- the damage of a source was that of one of the sources before, whose trees these are
+pub shown_of : (a b : View) (file now : FileName) (old new : List Source) (f : ReadFault) → TreesStay old new → Changes Same a b → now ≡ file → DamageShown b now (ShowsSources new now) f → DamageShown a file (ShowsSources old file) f
+shown_of a b file now old new f stay same named shown =
+    shown_before (ShowsSources old file) a b file f same
+    (shown_as (ShowsSources new file) (ShowsSources old file) b file f
+    (λ bytes damage is shows. (let was = All-contains (λ (s : Source). (t : Source) × Contains old t × (s.tree.tree ≡ t.tree.tree)) new shows.source stay shows.there in
+    record { source = was.0; there = was.1; shows = subst (λ (t : TreeRef). ShowsTree file t bytes damage) was.2 shows.shows }))
+    (subst (λ (n : FileName). DamageShown b n (ShowsSources new n) f) named shown))
+
+pub spares_of : (a b : View) (file now : FileName) (old new : List Source) (f : ReadFault) → ((bytes : Bytes) (lists : List (List Pair)) → contents a file ≡ Some bytes → All (IsSourceIn bytes lists) old → All (IsSourceIn bytes lists) new)
+    → Changes Same a b → now ≡ file → NoFalseDamageOf b now new f → NoFalseDamageOf a file old f
+spares_of a b file now old new fault.Failed stay same named right = tt
+spares_of a b file now old new fault.OutOfMemory stay same named right = tt
+spares_of a b file now old new (fault.Damaged damage) stay same named right = λ bytes lists is each. right bytes lists (reads_still a b file now bytes same named is) (stay bytes lists is each)

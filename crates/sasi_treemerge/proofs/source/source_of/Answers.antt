@@ -1,0 +1,18 @@
+use Rattle.std.proofs.Common.{ℕ, ◌≡◌}
+use Rattle.std.proofs.lemmas.Result.{err_from_is_err_and}
+use Rattle.sasi_tokentree.proofs.AfterRead.{tree_shown_more}
+use Rattle.sasi_treemerge.proofs.Merging.{goes_none, goes_some}
+use Rattle.sasi_treemerge.proofs.source.source_of.Goals as goal
+
+pub returns-in_err-next-clause-damaged : goal.returns-in_err-next-clause-damaged
+returns-in_err-next-clause-damaged g c =
+    let p = err_from_is_err_and c.from_residual.result c.from_residual.ensures.1 in
+    rw (p.1, p.2) (tree_shown_more (λ index. index ≡ c.args.tree.passed) (λ index. Unit {0}) (g.H.Host.view c.args.host.now) c.args.tree.buffered.file c.args.tree.tree c.in_err-next.field-0.0
+    (λ bytes index is alone lt short. tt) c.in_err-next.ensures.damaged)
+
+pub returns-in-None-clause-ok : goal.returns-in-None-clause-ok
+returns-in-None-clause-ok g c = goes_none (g.H.Host.view c.args.host.now) c.args.tree c.next.new.self.passed c.in_ok-next.field-0 c.in-None.is c.in_ok-next.ensures.ok
+
+pub returns-in-Some-clause-ok : goal.returns-in-Some-clause-ok
+returns-in-Some-clause-ok g c =
+    goes_some (g.H.Host.view c.args.host.now) c.args.tree c.next.new.self c.in_ok-next.field-0 c.in-Some.head c.in-Some.is c.in_ok-next.ensures.ok c.next.ensures.tree c.in_ok-next.ensures.some c.in_ok-next.ensures.passed

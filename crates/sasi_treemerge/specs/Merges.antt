@@ -1,0 +1,135 @@
+-- A merge of the pairs of several trees of a file.
+use Rattle.std.specs.Prelude.{◌≡◌, ℕ, ◌+◌, ◌-◌, ◌≤◌, nat_le, Bool, true, false, ◌&&◌, List, [], ◌∷◌, ◌++◌, drop, All, Contains, Option, None, Some}
+use Rattle.std.specs.List.{sum_by}
+use Rattle.std.specs.List.Sorted.{IsPermutation}
+use Rattle.std.specs.Option.{option_to_list}
+use Rattle.std.specs.BinaryHeap.{IsHeap, IsUpperBound, heap_items}
+use Rattle.sasi_types.specs.declared.tree.Pair.{Pair}
+use Rattle.sasi_types.specs.declared.tree.TreeRef.{TreeRef}
+use Rattle.sasi_host.specs.declared.name.FileName.{FileName}
+use Rattle.sasi_host.specs.Names.{Bytes}
+use Rattle.sasi_host.specs.View.{View, contents}
+use Rattle.sasi_host.specs.Buffered.{Buffered, IsBuffered}
+use Rattle.sasi_tokentree.specs.Format.{HasTree}
+use Rattle.sasi_tokentree.specs.Scans.{PairScan}
+use Rattle.sasi_treemerge.specs.declared.source.Source.{Source}
+use Rattle.sasi_treemerge.specs.declared.merge.Merge.{Merge}
+use Rattle.sasi_treemerge.specs.Sources.{is_before, source_cmp}
+
+-- ---- what is left
+
+-- the pair comes behind the last one, if there is one
+abbrev pub is_behind : Option Pair → Pair → Bool
+is_behind None pair = true
+is_behind (Some last) pair = is_before last pair
+
+-- a pair is left if it comes behind the last one that was given, and its token isn't below the floor
+abbrev pub is_left : Option Pair → ℕ → Pair → Bool
+is_left last floor pair = is_behind last pair && nat_le floor pair.token
+
+-- a pair of one of the lists that is left
+pub record IsPairOf (lists : List (List Pair)) (pair : Pair) : Type 0 where
+  pub pairs : List Pair
+  pub listed : Contains lists pairs
+  pub has : Contains pairs pair
+
+-- the pair is the least one of the lists that is left; there is none where none is left
+abbrev pub IsLeast : List (List Pair) → Option Pair → ℕ → Option Pair → Type 0
+IsLeast lists last floor None = (pair : Pair) → IsPairOf lists pair → is_left last floor pair ≡ false
+IsLeast lists last floor (Some found) =
+    IsPairOf lists found × (is_left last floor found ≡ true) × ((pair : Pair) → IsPairOf lists pair → is_left last floor pair ≡ true → is_before pair found ≡ false)
+
+-- the last pair that was given, once this one was
+abbrev pub last_after : Option Pair → Option Pair → Option Pair
+last_after last None = last
+last_after last (Some found) = Some found
+
+-- ---- sources
+
+-- the file has the tree of these pairs, and the source is a scan of it that has its next pair in hand
+pub record IsSourceOf (bytes : Bytes) (pairs : List Pair) (source : Source) : Type 0 where
+  pub tree : HasTree bytes source.tree.tree pairs
+  pub before : ℕ
+  pub left : drop before pairs ≡ source.head ∷ drop source.tree.passed pairs
+
+-- such a source of one of the lists
+pub record IsSourceIn (bytes : Bytes) (lists : List (List Pair)) (source : Source) : Type 0 where
+  pub pairs : List Pair
+  pub listed : Contains lists pairs
+  pub is : IsSourceOf bytes pairs source
+
+-- a source that still gives this pair
+pub record IsStillGiven (bytes : Bytes) (pairs : List Pair) (sources : List Source) (pair : Pair) : Type 0 where
+  pub source : Source
+  pub there : Contains sources source
+  pub is : IsSourceOf bytes pairs source
+  pub gives : Contains (source.head ∷ drop source.tree.passed pairs) pair
+
+-- the sources are those of the lists, and give each of their pairs that is left
+pub record Gives (bytes : Bytes) (lists : List (List Pair)) (last : Option Pair) (floor : ℕ) (sources : List Source) : Type 0 where
+  pub each : All (IsSourceIn bytes lists) sources
+  pub all : (pairs : List Pair) (pair : Pair) → Contains lists pairs → Contains pairs pair → is_left last floor pair ≡ true → IsStillGiven bytes pairs sources pair
+
+-- what is known of a source in any file
+pub record IsReadable (v : View) (file : FileName) (source : Source) : Type 0 where
+  pub named : source.tree.buffered.file ≡ file
+  pub buffered : IsBuffered source.tree.buffered v.files
+  pub within : source.tree.passed ≤ source.tree.tree.pairs
+
+-- how many pairs the sources have, with those in hand
+abbrev pub left_in : Source → ℕ
+left_in source = source.tree.tree.pairs - source.tree.passed + 1
+
+abbrev pub left_of : List Source → ℕ
+left_of sources = sum_by left_in sources
+
+-- how many of their pairs weren't read yet
+abbrev pub unread_in : Source → ℕ
+unread_in source = source.tree.tree.pairs - source.tree.passed
+
+abbrev pub unread_of : List Source → ℕ
+unread_of sources = sum_by unread_in sources
+
+-- each tree of the one list is one of the other
+abbrev pub TreesStay : List Source → List Source → Type 0
+TreesStay old new = All (λ source. (was : Source) × Contains old was × (source.tree.tree ≡ was.tree.tree)) new
+
+-- ---- a merge
+
+abbrev pub sources_of : Merge → List Source
+sources_of merge = heap_items merge.sources
+
+-- the merge can go on
+pub record CanMerge (v : View) (merge : Merge) : Type 0 where
+  pub heap : IsHeap source_cmp (sources_of merge)
+  pub each : All (IsReadable v merge.file) (sources_of merge)
+
+-- ---- one step
+
+-- a scan went on to its next pair, if it has one
+abbrev pub GoesOn : View → PairScan → Option Source → Type 0
+GoesOn v scan None = (bytes : Bytes) (pairs : List Pair) → contents v scan.buffered.file ≡ Some bytes → HasTree bytes scan.tree pairs → drop scan.passed pairs ≡ []
+GoesOn v scan (Some source) =
+    (source.tree.tree ≡ scan.tree) × (source.tree.passed ≡ scan.passed + 1) × (source.tree.passed ≤ scan.tree.pairs)
+    × ((bytes : Bytes) (pairs : List Pair) → contents v scan.buffered.file ≡ Some bytes → HasTree bytes scan.tree pairs → drop scan.passed pairs ≡ source.head ∷ drop source.tree.passed pairs)
+
+-- the source with the least pair is gone, and back with its next one if it has one
+pub record StepsBy (v : View) (head : Pair) (old new : List Source) : Type 0 where
+  pub source : Source
+  pub others : List Source
+  pub next : Option Source
+  pub head_is : head ≡ source.head
+  pub taken : IsPermutation old (source ∷ others)
+  pub least : IsUpperBound source_cmp source old
+  pub goes : GoesOn v source.tree next
+  pub put : IsPermutation (option_to_list next ++ others) new
+
+abbrev pub Steps : View → List Source → List Source → Option Pair → Type 0
+Steps v old new None = (old ≡ []) × (new ≡ [])
+Steps v old new (Some head) = StepsBy v head old new
+
+-- one source more, at the first pair of the tree with this reference, if it has one
+pub record Adds (v : View) (file : FileName) (list : TreeRef) (old new : List Source) : Type 0 where
+  pub next : Option Source
+  pub goes : GoesOn v (record { buffered = record { file = file; page = None; bytes = [] }; tree = list; passed = 0 }) next
+  pub put : IsPermutation (option_to_list next ++ old) new

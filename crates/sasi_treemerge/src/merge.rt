@@ -1,0 +1,168 @@
+// Merges the pairs of several trees of a file.
+ghost use Rattle.std.specs.Prelude.{◌≡◌, ◌+◌, ◌*◌, ◌-◌, ◌≤◌, ◌<◌, ◌∷◌, [], List, None, IfErr, IfOk, OnOk, Some, max};
+ghost use Rattle.std.specs.BinaryHeap.{IsHeap, KeepsHeap, heap_items};
+ghost use Rattle.std.specs.List.Sorted.{IsPermutation};
+ghost use Rattle.sasi_types.specs.declared.tree.Pair.{Pair as SpecPair};
+ghost use Rattle.sasi_host.specs.Names.{Bytes};
+ghost use Rattle.sasi_host.specs.View.{ReadsAtMost, contents};
+ghost use Rattle.sasi_host.specs.Damages.{DamageShown};
+ghost use Rattle.sasi_host.specs.PageReading.{CanRead, HasRead};
+ghost use Rattle.sasi_tokentree.specs.Damages.{ShowsTree};
+ghost use Rattle.sasi_tokentree.specs.Reads.{NoFalseTreeDamage};
+ghost use Rattle.sasi_treemerge.specs.Sources.{source_cmp};
+ghost use Rattle.sasi_treemerge.specs.Merges.{Adds, CanMerge, Gives, IsLeast, Steps, TreesStay, is_left, last_after, sources_of, unread_of};
+ghost use Rattle.sasi_treemerge.specs.MergeDamages.{NoFalseDamageOf, ShowsSources};
+
+use crate::source::{Source, source_of};
+use sasi_host::{FileName, Host, PageReader, ReadFault};
+use sasi_tokentree::Tree;
+use sasi_types::{Pair, Token, TreeRef};
+use std::alloc::{AllocError, Global};
+use std::collections::BinaryHeap;
+
+/// A merge of the pairs of trees, in their order and each once. After a fault it isn't used again.
+#[derive(Drop)]
+pub struct Merge {
+    pub file: FileName,
+    pub sources: BinaryHeap<Source, Global>,
+    // The pair that was given last.
+    pub last: Option<Pair>,
+    // Pairs of tokens below this one aren't given.
+    pub floor: Token,
+}
+
+// Whether a pair comes behind the one that was given last, and its token isn't below the floor.
+fn is_left(last: Option<Pair>, floor: Token, pair: Pair) -> bool
+    ensures { result ≡ is_left last floor pair }
+{
+    match last {
+        Some(last) if pair <= last => false,
+        _ => floor <= pair.token,
+    }
+}
+
+// Adds a source.
+fn put(sources: &mut BinaryHeap<Source, Global>, source: Source) -> Result<(), AllocError>
+    ensures put { OnOk result (IsPermutation (source ∷ heap_items sources.old) (heap_items sources.new)) }
+    ensures heap { OnOk result (KeepsHeap source_cmp (heap_items sources.old) (heap_items sources.new)) }
+{
+    sources.push(source)?;
+    Ok(())
+}
+
+impl Merge {
+    /// A merge of no tree of the file.
+    pub fn new(alloc: Global, file: FileName) -> Merge
+        ensures file { result.file ≡ file }
+        ensures sources { sources_of result ≡ [] }
+        ensures heap { IsHeap source_cmp (sources_of result) }
+        ensures last { result.last ≡ None }
+        ensures floor { result.floor ≡ 0 }
+    {
+        Merge {
+            file,
+            sources: BinaryHeap::new(alloc),
+            last: None,
+            floor: 0,
+        }
+    }
+
+    /// Adds the tree with this reference, at its first pair.
+    pub fn add<H: Host, P: PageReader>(
+        &mut self,
+        host: &mut H,
+        pages: &mut P,
+        list: TreeRef,
+    ) -> Result<(), ReadFault>
+        requires read { CanRead (P.agrees pages.old) (H.view host.old) self.old.file }
+        requires merge { CanMerge (H.view host.old) self.old }
+        ensures ok { OnOk result (Adds (H.view host.old) self.old.file list (sources_of self.old) (sources_of self.new)) }
+        ensures merge { OnOk result (CanMerge (H.view host.new) self.new) }
+        ensures damaged { IfErr result (DamageShown (H.view host.old) self.old.file (ShowsTree self.old.file list)) }
+        ensures undamaged { IfErr result (NoFalseTreeDamage (H.view host.old) self.old.file list) }
+        ensures read { HasRead (P.agrees pages.new) (P.covers pages.old) (P.covers pages.new) (H.view host.old) (H.view host.new) self.old.file }
+        ensures causes { ReadsAtMost 2 (H.view host.old) (H.view host.new) result }
+        ensures reads { OnOk result ((H.view host.new).reads + 2 * unread_of (sources_of self.new) ≤ (H.view host.old).reads + 2 * unread_of (sources_of self.old) + 2 * list.pairs) }
+        ensures same { (self.new.file ≡ self.old.file) × (self.new.last ≡ self.old.last) × (self.new.floor ≡ self.old.floor) }
+    {
+        let tree = Tree::new(self.file, list);
+        match source_of(host, pages, tree)? {
+            None => Ok(()),
+            Some(source) => {
+                put(&mut self.sources, source)?;
+                Ok(())
+            }
+        }
+    }
+
+    // Takes the least pair in hand, and moves its source on; none where there is no source.
+    fn take_head<H: Host, P: PageReader>(
+        &mut self,
+        host: &mut H,
+        pages: &mut P,
+    ) -> Result<Option<Pair>, ReadFault>
+        requires read { CanRead (P.agrees pages.old) (H.view host.old) self.old.file }
+        requires merge { CanMerge (H.view host.old) self.old }
+        ensures ok { IfOk result (Steps (H.view host.old) (sources_of self.old) (sources_of self.new)) }
+        ensures merge { OnOk result (CanMerge (H.view host.new) self.new) }
+        ensures damaged { IfErr result (DamageShown (H.view host.old) self.old.file (ShowsSources (sources_of self.old) self.old.file)) }
+        ensures undamaged { IfErr result (NoFalseDamageOf (H.view host.old) self.old.file (sources_of self.old)) }
+        ensures read { HasRead (P.agrees pages.new) (P.covers pages.old) (P.covers pages.new) (H.view host.old) (H.view host.new) self.old.file }
+        ensures causes { ReadsAtMost (2 * unread_of (sources_of self.old)) (H.view host.old) (H.view host.new) result }
+        ensures reads { OnOk result ((H.view host.new).reads + 2 * unread_of (sources_of self.new) ≤ (H.view host.old).reads + 2 * unread_of (sources_of self.old)) }
+        ensures same { (self.new.file ≡ self.old.file) × (self.new.last ≡ self.old.last) × (self.new.floor ≡ self.old.floor) }
+    {
+        let Some(source) = self.sources.pop() else {
+            return Ok(None);
+        };
+        let head = source.head;
+        match source_of(host, pages, source.tree)? {
+            None => Ok(Some(head)),
+            Some(next) => {
+                put(&mut self.sources, next)?;
+                Ok(Some(head))
+            }
+        }
+    }
+
+    /// The least pair that is left; none where none is.
+    pub fn next<H: Host, P: PageReader>(
+        &mut self,
+        host: &mut H,
+        pages: &mut P,
+    ) -> Result<Option<Pair>, ReadFault>
+        requires read { CanRead (P.agrees pages.old) (H.view host.old) self.old.file }
+        requires merge { CanMerge (H.view host.old) self.old }
+        ensures ok { IfOk result (λ found. (bytes : Bytes) (lists : List (List SpecPair)) → contents (H.view host.old) self.old.file ≡ Some bytes → Gives bytes lists self.old.last self.old.floor (sources_of self.old)
+            → IsLeast lists self.old.last self.old.floor found × Gives bytes lists self.new.last self.new.floor (sources_of self.new)) }
+        ensures merge { OnOk result (CanMerge (H.view host.new) self.new) }
+        ensures trees { OnOk result (TreesStay (sources_of self.old) (sources_of self.new)) }
+        ensures damaged { IfErr result (DamageShown (H.view host.old) self.old.file (ShowsSources (sources_of self.old) self.old.file)) }
+        ensures undamaged { IfErr result (NoFalseDamageOf (H.view host.old) self.old.file (sources_of self.old)) }
+        ensures read { HasRead (P.agrees pages.new) (P.covers pages.old) (P.covers pages.new) (H.view host.old) (H.view host.new) self.old.file }
+        // It makes at most two reads for each pair that it takes into hand.
+        ensures causes { ReadsAtMost (2 * unread_of (sources_of self.old)) (H.view host.old) (H.view host.new) result }
+        ensures reads { OnOk result ((H.view host.new).reads + 2 * unread_of (sources_of self.new) ≤ (H.view host.old).reads + 2 * unread_of (sources_of self.old)) }
+        ensures file { self.new.file ≡ self.old.file }
+        ensures floor { self.new.floor ≡ self.old.floor }
+        ensures last { IfOk result (λ found. self.new.last ≡ last_after self.old.last found) }
+    {
+        loop {
+            let Some(pair) = self.take_head(host, pages)? else {
+                return Ok(None);
+            };
+            if is_left(self.last, self.floor, pair) {
+                self.last = Some(pair);
+                return Ok(Some(pair));
+            }
+        }
+    }
+
+    /// Drops the pairs of tokens below this one.
+    pub fn skip_to(&mut self, token: Token)
+        ensures floor { self.new.floor ≡ max self.old.floor token }
+        ensures same { (self.new.file ≡ self.old.file) × (self.new.last ≡ self.old.last) × (sources_of self.new ≡ sources_of self.old) }
+    {
+        self.floor = self.floor.max(token);
+    }
+}

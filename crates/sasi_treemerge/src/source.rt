@@ -1,0 +1,87 @@
+// The sources of a merge.
+ghost use Rattle.std.specs.Prelude.{◌≡◌, ◌+◌, ◌≤◌, IfErr, IfOk, IfSome};
+ghost use Rattle.std.proofs.Common.{rules};
+ghost use Rattle.std.specs.Cmp.{partial_order_from_own_ties, partial_order_from_total};
+ghost use Rattle.std.specs.Cmp.Rules.{comparing};
+ghost use Rattle.std.specs.Ordering.{as_partial_cmp};
+ghost use Rattle.sasi_host.specs.View.{ReadsAtMost};
+ghost use Rattle.sasi_host.specs.Buffered.{IsBuffered};
+ghost use Rattle.sasi_host.specs.Damages.{DamageShown};
+ghost use Rattle.sasi_host.specs.PageReading.{CanReadOn, HasRead};
+ghost use Rattle.sasi_tokentree.specs.Damages.{ShowsTree};
+ghost use Rattle.sasi_tokentree.specs.Reads.{NoFalseTreeDamage};
+ghost use Rattle.sasi_treemerge.specs.Sources.{source_cmp, source_eq, source_total};
+ghost use Rattle.sasi_treemerge.specs.Merges.{GoesOn};
+
+use sasi_host::{Host, PageReader, ReadFault};
+use sasi_tokentree::Tree;
+use sasi_types::Pair;
+use std::cmp::Ordering;
+
+/// A scan of a tree, with the pair that it read last. The source with the least pair is the largest one, so that a heap gives it
+/// first.
+#[derive(Drop)]
+pub struct Source {
+    pub head: Pair,
+    pub tree: Tree,
+}
+
+impl PartialEq for Source {
+    ghost eq = { source_eq };
+
+    ghost laws = { Prim.search (comparing, rules) };
+
+    fn eq(&self, other: &Source) -> bool {
+        self.head == other.head
+    }
+}
+
+impl Eq for Source {
+    ghost laws = { Prim.search (comparing, rules) };
+}
+
+impl PartialOrd for Source {
+    ghost partial_cmp = { as_partial_cmp source_cmp };
+
+    ghost laws = { partial_order_from_own_ties (partial_order_from_total source_total) (Prim.search (comparing, rules)) };
+
+    fn partial_cmp(&self, other: &Source) -> Option<Ordering> {
+        Some(self.cmp(other))
+    }
+}
+
+impl Ord for Source {
+    ghost cmp = { source_cmp };
+
+    ghost total = { source_total };
+
+    ghost matches_partial_cmp = { Prim.search (comparing, rules) };
+
+    ghost matches_eq = { Prim.search (comparing, rules) };
+
+    fn cmp(&self, other: &Source) -> Ordering {
+        other.head.cmp(&self.head)
+    }
+}
+
+/// Moves a scan on to its next pair, if it has one.
+pub fn source_of<H: Host, P: PageReader>(
+    host: &mut H,
+    pages: &mut P,
+    mut tree: Tree,
+) -> Result<Option<Source>, ReadFault>
+    requires read { CanReadOn (P.agrees pages.old) (H.view host.old) tree.buffered }
+    ensures ok { IfOk result (GoesOn (H.view host.old) tree) }
+    ensures named { IfOk result (λ found. IfSome found (λ source. source.tree.buffered.file ≡ tree.buffered.file)) }
+    ensures buffered { IfOk result (λ found. IfSome found (λ source. IsBuffered source.tree.buffered (H.view host.new).files)) }
+    ensures damaged { IfErr result (DamageShown (H.view host.old) tree.buffered.file (ShowsTree tree.buffered.file tree.tree)) }
+    ensures undamaged { IfErr result (NoFalseTreeDamage (H.view host.old) tree.buffered.file tree.tree) }
+    ensures read { HasRead (P.agrees pages.new) (P.covers pages.old) (P.covers pages.new) (H.view host.old) (H.view host.new) tree.buffered.file }
+    ensures causes { ReadsAtMost 2 (H.view host.old) (H.view host.new) result }
+    ensures ended { tree.tree.pairs ≤ tree.passed → (H.view host.new).reads ≡ (H.view host.old).reads }
+{
+    match tree.next(host, pages)? {
+        None => Ok(None),
+        Some(head) => Ok(Some(Source { head, tree })),
+    }
+}
