@@ -8,6 +8,7 @@ DELETE name FROM stock WHERE id = 6f9619ff-8b86-d011-b42d-00cf4fc964ff;
 SELECT * FROM stock;
 DELETE FROM stock WHERE id = 6f9619ff-8b86-d011-b42d-00cf4fc964ff;
 SELECT * FROM stock;
+FLUSH stock;
 -- Bytes of keys are compared unsigned, so -1 comes after 1.
 CREATE TABLE n (k int PRIMARY KEY);
 INSERT INTO n (k) VALUES (-1);

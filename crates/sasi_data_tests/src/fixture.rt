@@ -72,7 +72,7 @@ pub fn bodies_of(rt: &impl Abort, alloc: Global, bodies: &[&[u8]]) -> Vec<Vec<u8
 }
 
 /// The partition with this body, in a table of two texts and an int.
-fn partition_of(rt: &impl Abort, alloc: Global, body: &[u8]) -> (Key, Partition)
+pub fn partition_of(rt: &impl Abort, alloc: Global, body: &[u8]) -> (Key, Partition)
     ensures { HasBody result.0 result.1 }
 {
     let types = [ColumnType::Text, ColumnType::Text, ColumnType::Int];

@@ -12,6 +12,8 @@ mod memtables;
 #[cfg(test)]
 mod merges;
 #[cfg(test)]
+mod pairs;
+#[cfg(test)]
 mod reading;
 #[cfg(test)]
 mod reading_damage;

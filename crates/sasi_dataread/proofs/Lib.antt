@@ -8,3 +8,4 @@ pub mod Footers
 pub mod Opening
 pub mod DataScan
 pub mod Finding
+pub mod Ends

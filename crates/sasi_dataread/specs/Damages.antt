@@ -14,9 +14,11 @@ use Rattle.sasi_formats.specs.Headers.{file_header}
 use Rattle.sasi_formats.specs.Parts.{ShowsBrokenPart}
 use Rattle.sasi_tokentree.specs.Damages.{ShowsTree, pair_place}
 use Rattle.sasi_tokentree.specs.Scans.{HasEntry}
+use Rattle.sasi_datawrite.specs.declared.footer.Footer.{Footer}
 use Rattle.sasi_datawrite.specs.Format.{magic, footer, end_mark}
 use Rattle.sasi_dataread.specs.Opened.{Opened}
 use Rattle.sasi_dataread.specs.Bodies.{length_prefixed, IsLength, IsPartitionPlace}
+use Rattle.sasi_dataread.specs.HeaderAndFooter.{HasHeaderAndFooter}
 
 -- ---- the header and the footer
 
@@ -81,3 +83,14 @@ pub data ShowsPair (opened : Opened) (index place : ℕ) (bytes : Bytes) (damage
 pub data ShowsData (opened : Opened) (bytes : Bytes) (damage : Damage) : Type 0 where
   in_tree : ShowsTree opened.file opened.tree bytes damage → ShowsData opened bytes damage
   at_pair : (index : ℕ) (pair : Pair) → HasEntry bytes opened.tree index pair → ShowsPair opened index pair.place bytes damage → ShowsData opened bytes damage
+
+-- ---- a data file
+
+-- the view of a file of a table with these types, opened by these numbers of its footer
+abbrev pub opened_by : FileName → List ColumnType → Footer → Opened
+opened_by file types numbers = record { file = file; types = types; tree = numbers.tree; max_timestamp = numbers.max_timestamp; end = numbers.end }
+
+-- the damage is that of this data file of a table with these types: of its header or its footer, or of a part to which the footer leads
+pub data ShowsDataFile (types : List ColumnType) (file : FileName) (bytes : Bytes) (damage : Damage) : Type 0 where
+  outside : ShowsHeaderOrFooter file bytes damage → ShowsDataFile types file bytes damage
+  inside : (numbers : Footer) → HasHeaderAndFooter bytes numbers → ShowsData (opened_by file types numbers) bytes damage → ShowsDataFile types file bytes damage

@@ -20,10 +20,10 @@ use sasi_host::{BufferedFile, FileName, FormatRule, Host, PageReader, ReadFault,
 const HEADER: usize = 16;
 
 // The bytes of a footer.
-const FOOTER: usize = 40;
+pub const FOOTER: usize = 40;
 
 // No data file is shorter.
-const MIN_FILE_SIZE: u64 = 97;
+pub const MIN_FILE_SIZE: u64 = 97;
 
 // Reads the header, and checks it.
 fn read_header<H: Host, P: PageReader>(
@@ -45,7 +45,7 @@ fn read_header<H: Host, P: PageReader>(
 }
 
 // Reads the last bytes of a file of this size, and checks that they end with the mark of a footer.
-fn read_footer_bytes<H: Host, P: PageReader>(
+pub fn read_footer_bytes<H: Host, P: PageReader>(
     host: &mut H,
     pages: &mut P,
     buffered: &mut BufferedFile,

@@ -3,6 +3,7 @@
 #![tactic(auto)]
 
 mod data_file;
+mod end;
 mod file_bytes;
 mod find;
 mod footer;
@@ -13,4 +14,5 @@ mod types;
 mod walk;
 
 pub use data_file::DataFile;
+pub use end::read_max_timestamp;
 pub use walk::Walk;

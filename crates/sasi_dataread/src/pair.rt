@@ -7,7 +7,7 @@ ghost use Rattle.sasi_host.specs.View.{ReadsAtMost};
 ghost use Rattle.sasi_host.specs.Damages.{DamageShown};
 ghost use Rattle.sasi_host.specs.Buffered.{IsBuffered};
 ghost use Rattle.sasi_host.specs.PageReading.{CanRead, HasRead};
-ghost use Rattle.sasi_body.specs.Body.{body};
+ghost use Rattle.sasi_body.specs.Body.{body, IsBodyOf};
 ghost use Rattle.sasi_tokentree.specs.Scans.{HasPassed};
 ghost use Rattle.sasi_datawrite.specs.Format.{Content};
 ghost use Rattle.sasi_dataread.specs.Opened.{StandsAt};
@@ -55,6 +55,7 @@ pub fn partition_of_pair<H: Host, P: PageReader>(
     requires tree { tree.now.tree ≡ opened.now.tree }
     requires passed { HasPassed tree.now.tree tree.now.passed }
     ensures ok { IfOk result (λ read. ReadsPartition (H.view host.old) opened.now place read.0 read.1) }
+    ensures in_table { IfOk result (λ read. IsBodyOf opened.now.types read.0 read.1) }
     ensures damaged { IfErr result (DamageShown (H.view host.old) opened.now.file (ShowsPair opened.now (tree.now.passed - 1) place)) }
     ensures undamaged { IfErr result (NoFalsePartitionDamage (H.view host.old) opened.now place) }
     ensures named { buffered.new.file ≡ opened.now.file }

@@ -1,11 +1,12 @@
 // Scans a data file, partition by partition.
-ghost use Rattle.std.specs.Prelude.{◌≡◌, [], IfErr, IfOk, None};
+ghost use Rattle.std.specs.Prelude.{◌≡◌, [], IfErr, IfOk, IfSome, None};
 ghost use Rattle.sasi_host.specs.declared.name.FileName.{FileName};
 ghost use Rattle.sasi_host.specs.View.{ReadsAtMost};
 ghost use Rattle.sasi_host.specs.Damages.{DamageShown};
 ghost use Rattle.sasi_host.specs.Buffered.{IsBuffered};
 ghost use Rattle.sasi_host.specs.PageReading.{CanRead, HasRead};
 ghost use Rattle.sasi_types.specs.declared.partitioner.Partitioner.{Partitioner};
+ghost use Rattle.sasi_body.specs.Body.{IsBodyOf};
 ghost use Rattle.sasi_datawrite.specs.Format.{Content};
 ghost use Rattle.sasi_dataread.specs.Reads.{IsOpenOn};
 ghost use Rattle.sasi_dataread.specs.ReadCosts.{ReadsEachPageOnce, IsSequential, scan_of};
@@ -67,6 +68,8 @@ impl Walk {
         requires pairs_buffered { IsBuffered self.old.pairs_buffered (H.view host.old).files }
         requires buffered { IsBuffered self.old.buffered (H.view host.old).files }
         ensures ok { IfOk result (λ found. ReadsNextPartition (H.view host.old) self.old.opened self.old.passed self.new.passed found) }
+        // In any file it has a body in the table.
+        ensures in_table { IfOk result (λ found. IfSome found (λ one. IsBodyOf self.old.opened.types one.1 one.2)) }
         ensures damaged { IfErr result (DamageShown (H.view host.old) self.old.opened.file (ShowsData self.old.opened)) }
         ensures undamaged { IfErr result (NoFalseOpenedDamage (H.view host.old) self.old.opened) }
         ensures read { HasRead (P.agrees pages.new) (P.covers pages.old) (P.covers pages.new) (H.view host.old) (H.view host.new) self.old.opened.file }
@@ -104,6 +107,7 @@ fn next_partition<H: Host, P: PageReader>(
     requires pairs_buffered { IsBuffered tree.old.buffered (H.view host.old).files }
     requires buffered { IsBuffered buffered.old (H.view host.old).files }
     ensures ok { IfOk result (λ found. ReadsNextPartition (H.view host.old) opened.now tree.old.passed tree.new.passed found) }
+    ensures in_table { IfOk result (λ found. IfSome found (λ one. IsBodyOf opened.now.types one.1 one.2)) }
     ensures damaged { IfErr result (DamageShown (H.view host.old) opened.now.file (ShowsData opened.now)) }
     ensures undamaged { IfErr result (NoFalseOpenedDamage (H.view host.old) opened.now) }
     ensures read { HasRead (P.agrees pages.new) (P.covers pages.old) (P.covers pages.new) (H.view host.old) (H.view host.new) opened.now.file }

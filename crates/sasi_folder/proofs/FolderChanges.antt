@@ -32,17 +32,17 @@ use Rattle.sasi_folder.proofs.FolderLaws.{kinds_apart, numbers_apart, sealed_kep
 
 -- ---- lists
 
-all_both : {A : Type 0} (P : A → Type 0) (xs ys : List A) → AllByRecursion P xs → AllByRecursion P ys → AllByRecursion P (xs ++ ys)
+pub all_both : {A : Type 0} (P : A → Type 0) (xs ys : List A) → AllByRecursion P xs → AllByRecursion P ys → AllByRecursion P (xs ++ ys)
 all_both P [] ys first second = second
 all_both P (x ∷ xs) ys first second = (first.0, all_both P xs ys first.1 second)
 
-all_as : {A : Type 0} (P Q : A → Type 0) → ((x : A) → P x → Q x) → (xs : List A) → AllByRecursion P xs → AllByRecursion Q xs
+pub all_as : {A : Type 0} (P Q : A → Type 0) → ((x : A) → P x → Q x) → (xs : List A) → AllByRecursion P xs → AllByRecursion Q xs
 all_as P Q wider [] all = tt
 all_as P Q wider (x ∷ xs) all = (wider x all.0, all_as P Q wider xs all.1)
 
 -- ---- the last segment
 
-segments_apart : (x : Folder) (tables : Tables) (number : ℕ) (older : List (List Mutation)) (ms : List Mutation) → HasSegments x tables number (older ++ ms ∷ []) → HasSegments x tables number older × HasSegment x tables (number + length older) ms
+pub segments_apart : (x : Folder) (tables : Tables) (number : ℕ) (older : List (List Mutation)) (ms : List Mutation) → HasSegments x tables number (older ++ ms ∷ []) → HasSegments x tables number older × HasSegment x tables (number + length older) ms
 segments_apart x tables number [] ms has = let e : number + 0 ≡ number = omega arith in (tt, subst (λ n. HasSegment x tables n ms) (sym e) has.0)
 segments_apart x tables number (o ∷ older) ms has =
     let rest = segments_apart x tables (suc number) older ms has.1 in
@@ -189,10 +189,10 @@ pub record AddsTable (listing next : Listing) (t : ListedDefinition) : Type 0 wh
   pub tables : next.tables ≡ listing.tables ++ t ∷ []
 
 -- a table's types under its number
-abbrev entry_of : ℕ → ListedDefinition → Tables
+abbrev pub entry_of : ℕ → ListedDefinition → Tables
 entry_of number t = cons_option (option_map (λ types. (number, types)) (column_types t.definition)) []
 
-types_push : (first : ℕ) (tables : List ListedDefinition) (t : ListedDefinition) → numbered_types first (tables ++ t ∷ []) ≡ numbered_types first tables ++ entry_of (first + length tables) t
+pub types_push : (first : ℕ) (tables : List ListedDefinition) (t : ListedDefinition) → numbered_types first (tables ++ t ∷ []) ≡ numbered_types first tables ++ entry_of (first + length tables) t
 types_push first [] t = let e : first ≡ first + 0 = omega arith in ap (λ (n : ℕ). entry_of n t) e
 types_push first (x ∷ tables) t =
     let e : suc first + length tables ≡ first + length (x ∷ tables) = omega arith in
@@ -217,7 +217,7 @@ mutation_kept tables more m is =
     let opened = opened_mutation tables m is in
     listed_mutation (tables ++ more) m (record { types = opened.types; number = opened.number; listed = types_kept tables more m.table opened.types opened.listed; body_is = opened.body_is })
 
-segments_of_more : (x : Folder) (tables more : Tables) (number : ℕ) (logs : List (List Mutation)) → HasSegments x tables number logs → HasSegments x (tables ++ more) number logs
+pub segments_of_more : (x : Folder) (tables more : Tables) (number : ℕ) (logs : List (List Mutation)) → HasSegments x tables number logs → HasSegments x (tables ++ more) number logs
 segments_of_more x tables more number [] has = tt
 segments_of_more x tables more number (ms ∷ logs) has = (
   (has.0.0, has.0.1, record { gated = has.0.2.gated; of_tables = all_as (IsMutationOf tables) (IsMutationOf (tables ++ more)) (mutation_kept tables more) ms has.0.2.of_tables }),

@@ -55,7 +55,7 @@ holds_kept x y number listing logs agree holds = record {
 
 -- ---- a sealed folder holds one thing
 
-highest_same : (x : Folder) (n m : ℕ) → IsSealed x n → IsSealed x m → n ≡ m
+pub highest_same : (x : Folder) (n m : ℕ) → IsSealed x n → IsSealed x m → n ≡ m
 highest_same x n m first second = by (below_or n m)
   where
     below_or : (a b : ℕ) → (a < b) ⊎ ((a ≡ b) ⊎ (b < a))
@@ -72,10 +72,10 @@ highest_same x n m first second = by (below_or n m)
     by (inr (inl is)) = is
     by (inr (inr more)) = absurd (none n first.there (second.highest n more))
 
-one_content : (a b : Bytes) (o : Option Bytes) → o ≡ Some a → o ≡ Some b → a ≡ b
+pub one_content : (a b : Bytes) (o : Option Bytes) → o ≡ Some a → o ≡ Some b → a ≡ b
 one_content a b o first second = let e : Some a ≡ Some b = sym first ∙ second in cc
 
-segments_same : (x : Folder) (tables : Tables) (number : ℕ) (a b : List (List Mutation)) → length a ≡ length b → HasSegments x tables number a → HasSegments x tables number b → a ≡ b
+pub segments_same : (x : Folder) (tables : Tables) (number : ℕ) (a b : List (List Mutation)) → length a ≡ length b → HasSegments x tables number a → HasSegments x tables number b → a ≡ b
 segments_same x tables number [] [] sizes first second = refl
 segments_same x tables number [] (m ∷ b) sizes first second = absurd (omega (arith, sizes))
 segments_same x tables number (m ∷ a) [] sizes first second = absurd (omega (arith, sizes))

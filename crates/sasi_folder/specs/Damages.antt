@@ -1,15 +1,22 @@
 -- The damage that a folder shows: no store can be opened in it.
-use Rattle.std.specs.Prelude.{◌≡◌, ◌≢◌, ◌⊎◌, ℕ, ◌≤◌, [], IsSome, None, Some}
+use Rattle.std.specs.Prelude.{◌≡◌, ◌≢◌, ◌⊎◌, ℕ, ◌≤◌, true, List, [], Contains, IsSome, None, Some}
 use Rattle.std.specs.FinMap.{get}
+use Rattle.std.specs.List.{list_any}
 use Rattle.sasi_host.specs.declared.damage.Damage.{Damage}
 use Rattle.sasi_host.specs.declared.damage.FormatRule.TheVariants.{Missing, NoSeal}
 use Rattle.sasi_host.specs.declared.name.FileName.{FileName}
 use Rattle.sasi_host.specs.Damages.{seen_bytes}
-use Rattle.sasi_host.specs.Names.{Bytes, Folder, log_name, manifest_name, seal_name}
+use Rattle.sasi_host.specs.Names.{Bytes, Folder, data_name, log_name, manifest_name, seal_name}
+use Rattle.sasi_model.specs.Abbreviations.{types_of}
+use Rattle.sasi_dataread.specs.Damages.{ShowsData, ShowsHeaderOrFooter}
+use Rattle.sasi_dataread.specs.HeaderAndFooter.{HasHeaderAndFooter}
+use Rattle.sasi_dataread.specs.Opened.{Opened}
 use Rattle.sasi_commitlog.specs.Damages.{ShowsLog}
 use Rattle.sasi_manifest.specs.declared.listing.Listing.{Listing}
 use Rattle.sasi_manifest.specs.Damages.{ShowsDamage}
 use Rattle.sasi_manifest.specs.Format.{IsManifest}
+use Rattle.sasi_manifest.specs.ListedDefinition.{ListedDefinition}
+use Rattle.sasi_manifest.specs.ListedFiles.{has_file}
 use Rattle.sasi_folder.specs.Stands.{IsSealed, types_listed}
 
 -- there is no seal, and this file is none that an unfinished creation of a store leaves
@@ -37,11 +44,31 @@ pub record ShowsSegment (folder : Folder) (listing : Listing) (damage : Damage) 
   pub below : segment ≤ listing.last
   pub shows : ShowsMissing folder (log_name segment) damage ⊎ ((bytes : Bytes) × (get folder (log_name segment) ≡ Some bytes) × ShowsLog (types_listed listing) (log_name segment) bytes damage)
 
--- the manifest of this number isn't there, breaks its format, or lists a segment that does
+-- one of the tables has the data file of this number
+abbrev pub IsListed : List ListedDefinition → ℕ → Type 0
+IsListed tables number = list_any (λ t. has_file t.files number) tables ≡ true
+
+-- a listed data file was opened, for the types of its table, by the header and the footer that it has
+pub record IsOpenedFrom (tables : List ListedDefinition) (number : ℕ) (bytes : Bytes) (opened : Opened) : Type 0 where
+  pub table : ListedDefinition
+  pub listed : Contains tables table
+  pub has : has_file table.files number ≡ true
+  pub named : opened.file ≡ data_name number
+  pub types : opened.types ≡ types_of table.definition
+  pub parts : HasHeaderAndFooter bytes (record { tree = opened.tree; max_timestamp = opened.max_timestamp; end = opened.end })
+
+-- A listed data file isn't there, or breaks its format: its end, its header or the numbers of its footer, which an opening of the folder and a reader look at, or what these lead to.
+pub data ShowsDataFile (folder : Folder) (tables : List ListedDefinition) (damage : Damage) : Type 0 where
+  missing_data : (number : ℕ) → IsListed tables number → ShowsMissing folder (data_name number) damage → ShowsDataFile folder tables damage
+  broken_ends : (number : ℕ) (bytes : Bytes) → IsListed tables number → get folder (data_name number) ≡ Some bytes → ShowsHeaderOrFooter (data_name number) bytes damage → ShowsDataFile folder tables damage
+  broken_content : (number : ℕ) (bytes : Bytes) (opened : Opened) → get folder (data_name number) ≡ Some bytes → IsOpenedFrom tables number bytes opened → ShowsData opened bytes damage → ShowsDataFile folder tables damage
+
+-- the manifest of this number isn't there, breaks its format, or lists a segment or a data file that does
 pub data ShowsListed (folder : Folder) (number : ℕ) (damage : Damage) : Type 0 where
   no_manifest : ShowsMissing folder (manifest_name number) damage → ShowsListed folder number damage
   broken_manifest : (bytes : Bytes) → get folder (manifest_name number) ≡ Some bytes → ShowsDamage number bytes damage → ShowsListed folder number damage
   broken_log : (bytes : Bytes) (listing : Listing) → get folder (manifest_name number) ≡ Some bytes → IsManifest number bytes listing → ShowsSegment folder listing damage → ShowsListed folder number damage
+  broken_data : (bytes : Bytes) (listing : Listing) → get folder (manifest_name number) ≡ Some bytes → IsManifest number bytes listing → ShowsDataFile folder listing.tables damage → ShowsListed folder number damage
 
 -- the same of the manifest of the highest seal
 pub record ShowsSealed (folder : Folder) (damage : Damage) : Type 0 where

@@ -1,4 +1,5 @@
 pub mod Replay
 pub mod Stands
 pub mod Damages
+pub mod Opens
 pub mod DurableStore

@@ -6,6 +6,7 @@ pub mod KeyLiterals
 pub mod Passed
 pub mod Picked
 pub mod StatementPreparing
+pub mod PreparedPieces
 pub mod Printed
 pub mod Stored
 pub mod CellEntries
@@ -18,6 +19,7 @@ pub mod KeyBytes
 pub mod TableColumns
 pub mod StatementBodies
 pub mod TablesOfMemtables
+pub mod NumberedTables
 pub mod StatementStepping
 pub mod WholePieces
 pub mod WriteTimes

@@ -1,79 +1,86 @@
 -- What statements prepare.
 use Rattle.std.proofs.Common.{◌≡◌, drop, is_some, ℕ, zero, suc, ◌+◌, ◌-◌, ◌<◌, ◌≤◌, List, [], ◌∷◌, ◌++◌, length, map, set, slice_get, Option, Some, None, Result, Ok, Err, IfOk, refl, sym, ap, subst, ◌∙◌, arith}
 use Rattle.std.specs.Prelude.{max}
+use Rattle.std.specs.FinMap as fin
+use Rattle.std.specs.Option.{option_map, option_map_or}
+use Rattle.std.proofs.lemmas.List.{length-map}
 use Rattle.sasi_types.specs.declared.partitioner.Partitioner.{Partitioner}
+use Rattle.sasi_types.specs.declared.partitioner.Partitioner.TheVariants.{Lead8}
+use Rattle.sasi_types.specs.declared.statement.Select.{Select}
 use Rattle.sasi_types.specs.declared.statement.Statement.{Statement}
-use Rattle.sasi_types.specs.declared.statement.Statement.TheVariants.{CreateTable}
+use Rattle.sasi_types.specs.declared.statement.Statement.TheVariants.{CreateTable, Flush, Query}
 use Rattle.sasi_cells.specs.Rows.{IsStored}
+use Rattle.sasi_cells.specs.declared.picked.PickedColumn.{PickedColumn}
+use Rattle.sasi_model.specs.Asked as ask
+use Rattle.sasi_model.specs.Asked.{Asked, asks, parsed_asks}
 use Rattle.sasi_model.specs.Cells.{Partition, max_timestamp_of}
-use Rattle.sasi_model.specs.Abbreviations.{max_timestamp_in, max_timestamp_of_tables, definitions, ok_line, TIME_LIMIT, TableExists, first_of, new_definition, key_type, types_of}
-use Rattle.sasi_model.specs.Stored.{Entry, IsBodyOf, IsCell, IsValueOf, cells_of}
+use Rattle.sasi_model.specs.Abbreviations.{key_position, max_timestamp_in, max_timestamp_of_tables, definitions, ok_line, selected_lines, TIME_LIMIT, NoTable, TableExists, first_of, new_definition, key_type, types_of}
+use Rattle.sasi_model.specs.Stored.{Entry, IsBodyOf, IsCell, IsValueOf, cells_of, column_types}
 use Rattle.sasi_model.specs.WellFormed.{IsWellFormed}
 use Rattle.sasi_types.specs.declared.column.ColumnType.{ColumnType}
 use Rattle.sasi_types.specs.declared.column.ColumnType.TheVariants as types
 use Rattle.std.specs.List.{AllByRecursion}
 use Rattle.sasi_machine.proofs.StatementBodies.{change_fits}
-use Rattle.sasi_model.specs.Changes.{changed_tables, with_new_table}
+use Rattle.sasi_model.specs.Changes.{changed_tables, empty_table, with_new_table}
+use Rattle.sasi_model.specs.Lines.{rows_lines}
 use Rattle.sasi_model.specs.Pieces.{Piece}
-use Rattle.sasi_model.specs.Refusals.{Rule, Says, create_rules, read, refusal, rules}
+use Rattle.sasi_model.specs.Refusals.{Refusal, Rule, Says, create_rules, flush_rules, read, refusal, rules, select_rules}
 use Rattle.sasi_model.specs.State as model
 use Rattle.sasi_model.specs.State.{Column, Definition, State, definition_of, max_timestamp, decorated}
-use Rattle.sasi_model.specs.Step.{StepResult, step, step_as, step_by, tables_after}
+use Rattle.sasi_model.specs.Step.{StepResult, answer_of, live_rows, primary_key, selected_columns, step, step_as, step_by, tables_after}
+use Rattle.sasi_schema.specs.Answers.{IsFirstRefusal}
 use Rattle.sasi_schema.specs.Defined.{definition}
+use Rattle.sasi_schema.specs.Numbers.{number_of_table}
 use Rattle.sasi_schema.specs.declared.table.Table.{Table}
 use Rattle.sasi_machine.specs.declared.outcome.Outcome.{Outcome}
 use Rattle.sasi_machine.specs.declared.prepared.Prepared.{Prepared}
-use Rattle.sasi_machine.specs.declared.prepared.Prepared.TheVariants.{Answered, Create, Write as Writes}
+use Rattle.sasi_machine.specs.declared.prepared.Prepared.TheVariants.{Answered, Create, Write as Writes, Flush as Flushes, Select as Selects}
+use Rattle.sasi_machine.specs.declared.prepared.Selection.{Selection}
 use Rattle.sasi_cells.specs.declared.mutation.Mutation.{Mutation}
 use Rattle.sasi_memtable.specs.MemtableView.{MemtableView, empty_memtable}
 use Rattle.sasi_machine.specs.Outcome.{outcome_of}
+use Rattle.sasi_machine.specs.Picks.{pick}
 use Rattle.sasi_cells.specs.Mutations.{state_with_mutation}
-use Rattle.sasi_machine.specs.Prepares.{StatementPrepares, IsApplicable, IsNewTable, CreatesTable, Prepares, StepsTo, WritesTo}
-use Rattle.sasi_machine.specs.TableRows.{KeysStored}
+use Rattle.sasi_machine.specs.Prepares.{CreatesTable, FlushesTable, HasRows, HasTable, IsApplicable, IsNewTable, IsPrepared, IsPreparedFor, IsQuery, IsSelect, IsStateOf, IsTimeless, Prepares, StatementPrepares, SelectsRows, StepsTo, WritesTo, answer_rows, asked_by, lines_of}
+use Rattle.sasi_machine.specs.Selections.{IsSelection, PreparesRows}
+use Rattle.sasi_machine.specs.TableRows.{KeysStored, rows_picked}
 use Rattle.sasi_machine.specs.Tables.{AreMemtables, IsMachineState, HasMemtableFor, IsWrittenAt, state_of, table_with, tables_of, written}
-use Rattle.sasi_machine.specs.StatementSteps.{StatementStepsTo}
+use Rattle.sasi_machine.specs.StatementSteps.{IsRefused, StatementStepsTo}
 use Rattle.sasi_machine.specs.Writes.{IsWrite, IsWriting, table_named}
 use Rattle.sasi_machine.proofs.MaxTimestamps.{greatest_put, greatest_set}
+use Rattle.sasi_machine.proofs.NumberedTables.{number_some, table_numbered}
+use Rattle.sasi_machine.proofs.Picked.{rows_by_numbers}
 use Rattle.sasi_machine.proofs.Stored.{put_stored}
 use Rattle.sasi_machine.proofs.TablesOfMemtables.{changed_at, memtable_at, memtable_inside, definitions_of, memtables_set, length_tables, tables_push, under_at, under_set}
 use Rattle.sasi_machine.proofs.WrittenKeys.{found_rules}
 use Rattle.sasi_schema.proofs.Allowed.{allowed}
 use Rattle.sasi_schema.proofs.Keys.{column_types_are, types_are}
-use Rattle.sasi_machine.proofs.StatementStepping.{answers_ok, created_tables, max_timestamp_kept, has_memtable, rules_kept, takes, write_tables}
-
--- ---- the state that is kept
-
--- a statement that no rule refuses is not refused
-not_refused : (p : Partitioner) (ds : List Definition) (cs : List MemtableView) (g : ℕ) (statement : Statement) → IsMachineState p ds cs g → first_of
-    (rules ds g statement) ≡ None → refusal (state_of p ds cs) statement ≡ None
-unfolding refusal
-not_refused p ds cs g statement kept none = ap first_of (rules_kept p ds cs g statement kept) ∙ none
-
-no_rule : (p : Partitioner) (ds : List Definition) (cs : List MemtableView) (g : ℕ) (statement : Statement) → IsMachineState p ds cs g → refusal
-    (state_of p ds cs) statement ≡ None → first_of (rules ds g statement) ≡ None
-unfolding refusal
-no_rule p ds cs g statement kept none = sym (ap first_of (rules_kept p ds cs g statement kept)) ∙ none
-
--- a write is known by what is kept
-kept_write : (p : Partitioner) (ds : List Definition) (cs : List MemtableView) (g : ℕ) (statement : Statement) (w : Mutation) → IsMachineState p ds cs g
-    → IsWrite ds g statement w → IsWrite (definitions (tables_of ds cs)) (max_timestamp (state_of p ds cs)) statement w
-kept_write p ds cs g statement w kept write =
-    subst (λ (tables : List Definition). IsWrite tables (max_timestamp (state_of p ds cs)) statement w) (sym (definitions_of ds cs kept.held))
-    (subst (λ (time : ℕ). IsWrite ds time statement w) (sym (max_timestamp_kept p ds cs g kept)) write)
+use Rattle.sasi_machine.proofs.StatementStepping.{answers_ok, asked_numbered, created_tables, no_rule, not_refused, refuses, taken_asks, takes, write_asked, write_tables}
 
 -- ---- CREATE TABLE
 
-pub create_asks : (p : Partitioner) (ds : List Definition) (cs : List MemtableView) (g : ℕ) (table : List ℕ) (columns : List Column)
-    (keys : List (List ℕ)) (t : Table) (reply_old reply_new : List ℕ) → IsMachineState p ds cs g → first_of (create_rules ds table columns keys) ≡ None
-    → definition t ≡ new_definition table columns keys → t.number ≡ length ds + 1 → reply_new ≡ reply_old ++ ok_line → StatementPrepares
-    (state_of p ds cs) (CreateTable table columns keys) reply_old reply_new (Create t)
-create_asks p ds cs g table columns keys t reply_old reply_new kept none is number reply_is =
-    let s = state_of p ds cs in (
-      takes p ds cs g (CreateTable table columns keys) (with_new_table s (definition t)) reply_old reply_new (outcome_of None) kept none
-          (ap (with_new_table s) is ∙ ap (λ (tables : List model.Table). record { partitioner = p; tables = tables }) (created_tables s table columns keys (allowed ds table columns keys none).key_found))
-          reply_is refl,
-      (not_refused p ds cs g (CreateTable table columns keys) kept none, is, number ∙ ap (λ n. n + 1) (sym (length_tables ds cs kept.held))),
-    )
+-- as many tables as definitions
+tables_counted : (s : State) (ds : List Definition) (g : ℕ) → IsStateOf ds g s → length ds ≡ length s.tables
+tables_counted s ds g is = ap length (sym is.definitions_are) ∙ length-map s.tables (λ t. t.definition)
+
+create_asked : (ds : List Definition) (g : ℕ) (table : List ℕ) (columns : List Column) (keys : List (List ℕ)) (t : Table) → primary_key columns keys ≡ Some (key_position columns keys) → definition t ≡ new_definition table columns keys
+    → option_map_or (λ key. ask.Creates (record { name = table; columns = columns; key = key })) (primary_key columns keys) ask.NoChange ≡ ask.Creates (definition t)
+create_asked ds g table columns keys t found is = ap (λ (o : Option ℕ). option_map_or (λ key. ask.Creates (record { name = table; columns = columns; key = key })) o ask.NoChange) found ∙ ap ask.Creates (sym is)
+
+pub create_asks : (ds : List Definition) (g : ℕ) (table : List ℕ) (columns : List Column) (keys : List (List ℕ)) (t : Table) (reply_old reply_new : List ℕ) → first_of (create_rules ds table columns keys) ≡ None
+    → definition t ≡ new_definition table columns keys → t.number ≡ length ds + 1 → reply_new ≡ reply_old ++ ok_line → IsPrepared ds g (CreateTable table columns keys) reply_old reply_new (Create t)
+create_asks ds g table columns keys t reply_old reply_new none is number reply_is =
+    let found = (allowed ds table columns keys none).key_found in
+    let statement = CreateTable table columns keys in
+    record {
+      asked_is = taken_asks ds g statement none ∙ create_asked ds g table columns keys t found is;
+      of_state = λ s of. (
+        takes s statement (with_new_table s (definition t)) reply_old reply_new (outcome_of None) (not_refused s ds g statement of none)
+            (ap (with_new_table s) is ∙ ap (λ (tables : List model.Table). record { partitioner = s.partitioner; tables = tables }) (created_tables s table columns keys found))
+            reply_is refl,
+        (not_refused s ds g statement of none, is, number ∙ ap (λ n. n + 1) (tables_counted s ds g of)),
+      );
+    }
 
 -- ---- writes
 
@@ -89,23 +96,102 @@ written_tables p ds cs w c held some got = by w.table (omega arith) some
         let same : at ≡ w.table - 1 = omega arith in
         rw same (changed_at ds cs (w.table - 1) (decorated p w.key) w.change c held got (written p w c) refl)
 
-pub write_asks : (p : Partitioner) (ds : List Definition) (cs : List MemtableView) (g : ℕ) (statement : Statement) (w : Mutation)
-    (reply_old reply_new : List ℕ) → IsMachineState p ds cs g → IsWriting statement → IsWrite ds g statement w → first_of (rules ds g statement) ≡ None
-    → reply_new ≡ reply_old ++ ok_line → StatementPrepares (state_of p ds cs) statement reply_old reply_new (Writes w)
-write_asks p ds cs g statement w reply_old reply_new kept writing write none reply_is =
-    let s = state_of p ds cs in
-    let h = has_memtable ds cs (table_named statement) w.table write.definition kept.held write.number write.found in
-    let new = set cs (w.table - 1) (written p w h.memtables) in
-    let at : IsWrittenAt p cs w new = (λ c got. let same : h.memtables ≡ c = (let e : Some h.memtables ≡ Some c = sym h.got ∙ got in cc) in ap
-    (λ (c : MemtableView). set cs (w.table - 1) (written p w c)) same) in
-    let tables : changed_tables w.table (decorated p w.key) w.change s.tables ≡ tables_after s statement = written_tables p ds cs w
-    h.memtables kept.held h.some h.got ∙ write_tables p ds cs new g statement w kept writing write none at in (
-      takes p ds cs g statement (state_with_mutation s w) reply_old reply_new (outcome_of None) kept none
-          (ap (λ (tables : List model.Table). record { partitioner = p; tables = tables }) tables)
-          (reply_is ∙ ap (λ line. reply_old ++ line) (sym (answers_ok s statement writing)))
-          refl,
-      record { writing = writing; taken = not_refused p ds cs g statement kept none; write = kept_write p ds cs g statement w kept write },
-    )
+pub write_asks : (ds : List Definition) (g : ℕ) (statement : Statement) (w : Mutation) (reply_old reply_new : List ℕ) → IsWriting statement → IsWrite ds g statement w → first_of (rules ds g statement) ≡ None
+    → reply_new ≡ reply_old ++ ok_line → IsPrepared ds g statement reply_old reply_new (Writes w)
+write_asks ds g statement w reply_old reply_new writing write none reply_is = record {
+  asked_is = taken_asks ds g statement none ∙ write_asked ds g statement w writing write none;
+  of_state = λ s of. (
+    takes s statement (state_with_mutation s w) reply_old reply_new (outcome_of None) (not_refused s ds g statement of none)
+        (ap (λ (tables : List model.Table). record { partitioner = s.partitioner; tables = tables }) (write_tables s ds g statement w of writing write none))
+        (reply_is ∙ ap (λ line. reply_old ++ line) (sym (answers_ok s statement writing)))
+        refl,
+    record {
+      writing = writing;
+      taken = not_refused s ds g statement of none;
+      write = subst (λ (tables : List Definition). IsWrite tables (max_timestamp s) statement w) (sym of.definitions_are) (subst (λ (time : ℕ). IsWrite ds time statement w) (sym of.newest_is) write);
+    },
+  );
+}
+
+-- ---- FLUSH
+
+found_flush : (ds : List Definition) (table : List ℕ) (d : Definition) → definition_of table ds ≡ Some d → first_of (flush_rules table (definition_of table ds)) ≡ None
+found_flush ds table d found = ap (λ (o : Option Definition). first_of (flush_rules table o)) found
+
+pub flush_asks : (ds : List Definition) (g : ℕ) (table : List ℕ) (number : ℕ) (d : Definition) (reply_old reply_new : List ℕ) → number_of_table table ds ≡ Some number → definition_of table ds ≡ Some d
+    → reply_new ≡ reply_old ++ ok_line → IsPrepared ds g (Flush table) reply_old reply_new (Flushes number)
+flush_asks ds g table number d reply_old reply_new numbered found reply_is =
+    let none = found_flush ds table d found in
+    record {
+      asked_is = taken_asks ds g (Flush table) none ∙ asked_numbered table (λ n d. ask.Flushes n) ds number d numbered found;
+      of_state = λ s of.
+          let here : number_of_table table (definitions s.tables) ≡ Some number = ap (number_of_table table) of.definitions_are ∙ numbered in
+          let t = table_numbered table s.tables number d here (ap (definition_of table) of.definitions_are ∙ found) in (
+            takes s (Flush table) s reply_old reply_new (outcome_of None) (not_refused s ds g (Flush table) of none) refl reply_is refl,
+            (not_refused s ds g (Flush table) of none, here, record { some = number_some table ds number numbered; inside = omega (arith, t.inside, number_some table ds number numbered) }),
+          );
+    }
+
+-- no table of the name
+pub flush_refused : (ds : List Definition) (g : ℕ) (table : List ℕ) (reply_old reply_new : List ℕ) (outcome : Outcome) → definition_of table ds ≡ None → IsRefused (Some (NoTable table)) reply_old reply_new outcome → IsPrepared ds g (Flush table) reply_old reply_new (Answered outcome)
+flush_refused ds g table reply_old reply_new outcome absent refused =
+    refuses ds g (Flush table) (Some (NoTable table)) reply_old reply_new outcome (ap (λ (o : Option Definition). first_of (flush_rules table o)) absent) refused
+
+-- ---- SELECT
+
+first_is : (rules : List Rule) → IsFirstRefusal (first_of rules) rules
+first_is rules = by (first_of rules) refl
+  where
+    by : (o : Option Refusal) → first_of rules ≡ o → IsFirstRefusal o rules
+    by None is = tt
+    by (Some r) is = is
+
+answer_is : (s : State) (d : Definition) (select : Select) (rows : Selection) (t : Table) (found : model.Table) → model.table_of select.table s.tables ≡ Some found → slice_get s.tables (rows.table - 1) ≡ Some found
+    → found.definition ≡ definition t → IsSelection t select.columns rows → answer_of s (Query select) ≡ answer_rows s rows
+answer_is s d select rows t found named there is selection =
+    let entries = fin.entries found.partitions in
+    let numbers : Definition → List ℕ = λ d. selected_columns d select.columns in
+    ap (λ (o : Option model.Table). selected_lines select.columns o) named
+    ∙ ap (λ (d : Definition). rows_lines (live_rows d (numbers d) entries)) is
+    ∙ ap rows_lines (sym (rows_by_numbers (definition t) (numbers (definition t)) entries t.key_is_there))
+    ∙ ap (λ (kind : ColumnType). rows_lines (rows_picked kind (map pick (numbers (definition t))) entries)) (sym selection.key)
+    ∙ ap (λ (columns : List PickedColumn). rows_lines (rows_picked rows.picked.key columns entries)) (sym selection.columns_are)
+    ∙ ap (λ (o : Option model.Table). option_map_or (λ t. lines_of rows t.partitions) o []) (sym there)
+
+pub select_asks : (ds : List Definition) (g : ℕ) (select : Select) (found : Option Table) (reply_old reply_new : List ℕ) (prepared : Prepared) → option_map definition found ≡ definition_of select.table ds → option_map (λ (t : Table). t.number) found ≡ number_of_table select.table ds
+    → PreparesRows found select.table select.columns reply_old reply_new prepared → IsPrepared ds g (Query select) reply_old reply_new prepared
+select_asks ds g select found reply_old reply_new (Answered outcome) defined numbered prepares =
+    let refused = first_of (select_rules select.table select.columns (option_map definition found)) in
+    refuses ds g (Query select) refused reply_old reply_new outcome (subst (λ (o : Option Definition). IsFirstRefusal refused (select_rules select.table select.columns o)) defined (first_is (select_rules select.table select.columns (option_map definition found)))) prepares
+select_asks ds g select None reply_old reply_new (Selects rows) defined numbered prepares = absurd prepares.2
+select_asks ds g select (Some t) reply_old reply_new (Selects rows) defined numbered prepares =
+    let none : first_of (rules ds g (Query select)) ≡ None = subst (λ (o : Option Definition). first_of (select_rules select.table select.columns o) ≡ None) defined prepares.0 in
+    record {
+      asked_is = taken_asks ds g (Query select) none;
+      of_state = λ s of.
+          let at = table_numbered select.table s.tables t.number (definition t) (ap (number_of_table select.table) of.definitions_are ∙ sym numbered) (ap (definition_of select.table) of.definitions_are ∙ sym defined) in
+          let there : slice_get s.tables (rows.table - 1) ≡ Some at.table = ap (λ (n : ℕ). slice_get s.tables (n - 1)) prepares.2.number ∙ at.there in (
+            prepares.1,
+            (
+              not_refused s ds g (Query select) of none,
+              answer_is s (definition t) select rows t at.table at.found there at.definition_is prepares.2,
+              record {
+                some = omega (arith, number_some select.table ds t.number (sym numbered), prepares.2.number);
+                table = at.table;
+                there = there;
+                key = prepares.2.key ∙ ap key_type (sym at.definition_is);
+              },
+            ),
+          );
+    }
+select_asks ds g select found reply_old reply_new (Create t) defined numbered prepares = absurd prepares
+select_asks ds g select found reply_old reply_new (Writes w) defined numbered prepares = absurd prepares
+select_asks ds g select found reply_old reply_new (Flushes table) defined numbered prepares = absurd prepares
+
+-- whatever the largest timestamp
+pub for_any : {E : Type 0} (ds : List Definition) (g : ℕ) (statement : Statement) (reply_old reply_new : List ℕ) (result : Result Prepared E) → IfOk result (λ prepared. (newest : ℕ) → IsPrepared ds newest statement reply_old reply_new prepared) → IfOk result (IsPreparedFor ds g statement reply_old reply_new)
+for_any ds g statement reply_old reply_new (Ok prepared) of = record { now = of g; timeless = λ timeless other. of other }
+for_any ds g statement reply_old reply_new (Err e) of = tt
 
 -- ---- what is done
 
@@ -127,25 +213,26 @@ cells_limit : (deleted : ℕ) (es : List Entry) → AllByRecursion (IsCell delet
 cells_limit deleted [] all = omega arith
 cells_limit deleted (e ∷ es) all = omega (arith, all.0.time, cells_limit deleted es all.1)
 
-body_limit : (types : List ColumnType) (key : List ℕ) (change : Partition) → IsBodyOf types key change → max_timestamp_of change ≤ TIME_LIMIT
+pub body_limit : (types : List ColumnType) (key : List ℕ) (change : Partition) → IsBodyOf types key change → max_timestamp_of change ≤ TIME_LIMIT
 body_limit types key change body = omega (arith, body.has.deleted, cells_limit change.deleted (cells_of change) body.has.cells)
 
 -- a mutation that was prepared can be applied
-pub write_is_fit : (p : Partitioner) (ds : List Definition) (cs : List MemtableView) (g : ℕ) (statement : Statement) (w : Mutation)
-    → IsMachineState p ds cs g → IsWriting statement → IsWellFormed statement → first_of (rules ds g statement) ≡ None → IsWrite ds g statement w → IsApplicable
-    (state_of p ds cs) w
-write_is_fit p ds cs g statement w kept writing written none write =
+writes_fit : (s : State) (statement : Statement) (w : Mutation) → IsWellFormed statement → WritesTo s statement w → IsApplicable s w
+writes_fit s statement w well writes =
+    let ds = definitions s.tables in
+    let write = writes.write in
     let d = write.definition in
-    let h = has_memtable ds cs (table_named statement) w.table d kept.held write.number write.found in
+    let none = no_rule s ds (max_timestamp s) statement (record { definitions_are = refl; newest_is = refl }) writes.taken in
     let change = write.written.change in
-    let fits = change_fits d g statement write.written.time writing written write.key_is_there write.few write.written.time_is.above
-    write.written.time_is.limit (found_rules ds g statement d writing write.found none) in
+    let fits = change_fits d (max_timestamp s) statement write.written.time writes.writing well write.key_is_there write.few write.written.time_is.above
+    write.written.time_is.limit (found_rules ds (max_timestamp s) statement d writes.writing write.found none) in
+    let t = table_numbered (table_named statement) s.tables w.table d write.number write.found in
     record {
-      some = h.some;
-      table = table_with d h.memtables;
-      there = h.there.numbered;
+      some = number_some (table_named statement) ds w.table write.number;
+      table = t.table;
+      there = t.there;
       types = types_of d;
-      types_are = column_types_are d write.key_is_there;
+      types_are = ap column_types t.definition_is ∙ column_types_are d write.key_is_there;
       body = rw (change.key_is, change.change_is) fits;
     }
 
@@ -213,35 +300,41 @@ steps s piece statement state reply_old reply outcome says empty takes =
       outcome_is = takes.outcome_is ∙ ap (λ (x : StepResult). outcome_of x.refused) (sym same);
     }
 
--- a mutation that was prepared in a state can be applied to it
-writes_fit : (p : Partitioner) (ds : List Definition) (cs : List MemtableView) (g : ℕ) (statement : Statement) (w : Mutation) → IsMachineState p ds cs g
-    → IsWellFormed statement → WritesTo (state_of p ds cs) statement w → IsApplicable (state_of p ds cs) w
-writes_fit p ds cs g statement w kept written writes =
-    write_is_fit p ds cs g statement w kept writes.writing written (no_rule p ds cs g statement kept writes.taken)
-    (subst (λ (tables : List Definition). IsWrite tables g statement w) (definitions_of ds cs kept.held)
-    (subst (λ (time : ℕ). IsWrite (definitions (tables_of ds cs)) time statement w) (max_timestamp_kept p ds cs g kept) writes.write))
+-- the answer of a SELECT, once its rows are printed
+rows_step : (s : State) (statement : Statement) (rows : Selection) → SelectsRows s statement rows → StatementStepsTo s statement s [] (answer_rows s rows) (outcome_of None)
+rows_step s (Query select) rows selects = takes s (Query select) s [] (answer_rows s rows) (outcome_of None) selects.0 refl (sym selects.1) refl
+rows_step s statement rows selects = absurd selects
 
-statement_prepares : (p : Partitioner) (ds : List Definition) (cs : List MemtableView) (g : ℕ) (piece : Piece) (statement : Statement)
-    (reply_old reply : List ℕ) (prepared : Prepared) → IsMachineState p ds cs g → read piece ≡ Says statement → IsWellFormed statement → reply_old ≡ []
-    → StatementPrepares (state_of p ds cs) statement reply_old reply prepared
-    → Prepares (state_of p ds cs) piece reply prepared
-statement_prepares p ds cs g piece statement reply_old reply (Answered outcome) kept says written empty asks =
-    steps (state_of p ds cs) piece statement (state_of p ds cs) reply_old reply outcome says empty asks
-statement_prepares p ds cs g piece statement reply_old reply (Create t) kept says written empty asks =
-    let s = state_of p ds cs in
-    (steps s piece statement (with_new_table s (definition t)) reply_old reply (outcome_of None) says empty asks.0, (statement, says, written, asks.1), makes_next s statement t asks.1)
-statement_prepares p ds cs g piece statement reply_old reply (Writes w) kept says written empty asks =
-    let s = state_of p ds cs in
-    (steps s piece statement (state_with_mutation s w) reply_old reply (outcome_of None) says empty asks.0, (statement, says, written, asks.1), writes_fit p ds cs g statement w kept written asks.1)
+rows_there : (s : State) (statement : Statement) (rows : Selection) → SelectsRows s statement rows → HasRows s rows
+rows_there s (Query select) rows selects = selects.2
+rows_there s statement rows selects = absurd selects
 
-pub plans : {E : Type 0} (s : State) (p : Partitioner) (ds : List Definition) (cs : List MemtableView) (g : ℕ) (piece : Piece)
-    (statement : Statement) (reply_old reply : List ℕ) (result : Result Prepared E) → state_of p ds cs ≡ s → IsMachineState p ds cs g
-    → read piece ≡ Says statement → IsWellFormed statement → reply_old ≡ []
-    → IfOk result (λ prepared. StatementPrepares s statement reply_old reply prepared) → IfOk result (λ prepared. Prepares s piece reply prepared)
-plans s p ds cs g piece statement reply_old reply (Ok prepared) is kept says written empty asks =
-    subst (λ (s : State). Prepares s piece reply prepared) is
-    (statement_prepares p ds cs g piece statement reply_old reply prepared kept says written empty (subst (λ (s : State). StatementPrepares s statement reply_old reply prepared) (sym is) asks))
-plans s p ds cs g piece statement reply_old reply (Err e) is kept says written empty asks = tt
+flush_there : (s : State) (statement : Statement) (table : ℕ) → FlushesTable s statement table → HasTable s table
+flush_there s (Flush name) table flushes = flushes.2
+flush_there s statement table flushes = absurd flushes
+
+pub prepares : (s : State) (piece : Piece) (statement : Statement) (reply_old reply : List ℕ) (prepared : Prepared) → read piece ≡ Says statement → IsWellFormed statement → reply_old ≡ []
+    → StatementPrepares s statement reply_old reply prepared → Prepares s piece reply prepared
+prepares s piece statement reply_old reply (Answered outcome) says well empty asks =
+    steps s piece statement s reply_old reply outcome says empty asks
+prepares s piece statement reply_old reply (Create t) says well empty asks =
+    (steps s piece statement (with_new_table s (definition t)) reply_old reply (outcome_of None) says empty asks.0, (statement, says, well, asks.1), makes_next s statement t asks.1)
+prepares s piece statement reply_old reply (Writes w) says well empty asks =
+    (steps s piece statement (state_with_mutation s w) reply_old reply (outcome_of None) says empty asks.0, (statement, says, well, asks.1), writes_fit s statement w well asks.1)
+prepares s piece statement reply_old reply (Flushes table) says well empty asks =
+    (steps s piece statement s reply_old reply (outcome_of None) says empty asks.0, (statement, says, well, asks.1), flush_there s statement table asks.1)
+prepares s piece statement reply_old reply (Selects rows) says well empty asks =
+    (steps s piece statement s [] (answer_rows s rows) (outcome_of None) says refl (rows_step s statement rows asks.1), asks.0 ∙ empty, rows_there s statement rows asks.1)
+
+pub piece_prepares : {E : Type 0} (ds : List Definition) (g : ℕ) (piece : Piece) (statement : Statement) (reply_old reply : List ℕ) (result : Result Prepared E) → read piece ≡ Says statement → IsWellFormed statement → reply_old ≡ []
+    → IfOk result (IsPreparedFor ds g statement reply_old reply) → IfOk result (λ prepared. (s : State) → IsStateOf ds g s → Prepares s piece reply prepared)
+piece_prepares ds g piece statement reply_old reply (Ok prepared) says well empty asks = λ s is. prepares s piece statement reply_old reply prepared says well empty (asks.now.of_state s is)
+piece_prepares ds g piece statement reply_old reply (Err e) says well empty asks = tt
+
+pub piece_asks : {E : Type 0} (ds : List Definition) (g : ℕ) (piece : Piece) (statement : Statement) (reply_old reply : List ℕ) (result : Result Prepared E) → read piece ≡ Says statement
+    → IfOk result (IsPreparedFor ds g statement reply_old reply) → IfOk result (λ prepared. asks ds g piece ≡ asked_by prepared)
+piece_asks ds g piece statement reply_old reply (Ok prepared) says is = ap (parsed_asks ds g) says ∙ is.now.asked_is
+piece_asks ds g piece statement reply_old reply (Err e) says is = tt
 
 -- ---- one more table
 
@@ -254,3 +347,32 @@ next_free s p ds cs g t is kept next = ap (definition_of t.name) (sym (definitio
 pub created_state : (p : Partitioner) (ds : List Definition) (cs : List MemtableView) (g : ℕ) (d : Definition) → IsMachineState p ds cs g → state_of p
     (ds ++ d ∷ []) (cs ++ empty_memtable p ∷ []) ≡ with_new_table (state_of p ds cs) d
 created_state p ds cs g d kept = ap (λ (tables : List model.Table). record { partitioner = p; tables = tables }) (tables_push ds cs d (empty_memtable p) kept.held)
+
+pub piece_timeless : {E : Type 0} (ds : List Definition) (g : ℕ) (piece : Piece) (statement : Statement) (reply_old reply : List ℕ) (result : Result Prepared E) → read piece ≡ Says statement → IsWellFormed statement → reply_old ≡ []
+    → IfOk result (IsPreparedFor ds g statement reply_old reply) → IfOk result (λ prepared. IsTimeless prepared → (s : State) → definitions s.tables ≡ ds → Prepares s piece reply prepared)
+piece_timeless ds g piece statement reply_old reply (Ok prepared) says well empty asks =
+    λ timeless s are. prepares s piece statement reply_old reply prepared says well empty ((asks.timeless timeless (max_timestamp s)).of_state s (record { definitions_are = are; newest_is = refl }))
+piece_timeless ds g piece statement reply_old reply (Err e) says well empty asks = tt
+
+-- definitions, as empty tables
+empty_definitions : (ds : List Definition) → definitions (map empty_table ds) ≡ ds
+empty_definitions [] = refl
+empty_definitions (d ∷ ds) = ap (λ (l : List Definition). d ∷ l) (empty_definitions ds)
+
+rows_query : (s : State) (statement : Statement) (rows : Selection) → SelectsRows s statement rows → IsQuery (Says statement)
+rows_query s (Query select) rows selects = tt
+rows_query s statement rows selects = absurd selects
+
+query_of : (ds : List Definition) (g : ℕ) (statement : Statement) (reply_old reply : List ℕ) (prepared : Prepared) → IsPreparedFor ds g statement reply_old reply prepared → IsSelect prepared → IsQuery (Says statement)
+query_of ds g statement reply_old reply (Selects rows) asks select =
+    let s : State = record { partitioner = Lead8; tables = map empty_table ds } in
+    rows_query s statement rows ((asks.timeless tt (max_timestamp s)).of_state s (record { definitions_are = empty_definitions ds; newest_is = refl })).1
+query_of ds g statement reply_old reply (Answered outcome) asks select = absurd select
+query_of ds g statement reply_old reply (Create t) asks select = absurd select
+query_of ds g statement reply_old reply (Writes w) asks select = absurd select
+query_of ds g statement reply_old reply (Flushes table) asks select = absurd select
+
+pub piece_selects : {E : Type 0} (ds : List Definition) (g : ℕ) (piece : Piece) (statement : Statement) (reply_old reply : List ℕ) (result : Result Prepared E) → read piece ≡ Says statement
+    → IfOk result (IsPreparedFor ds g statement reply_old reply) → IfOk result (λ prepared. IsSelect prepared → IsQuery (read piece))
+piece_selects ds g piece statement reply_old reply (Ok prepared) says asks = λ select. subst IsQuery (sym says) (query_of ds g statement reply_old reply prepared asks select)
+piece_selects ds g piece statement reply_old reply (Err e) says asks = tt

@@ -1,112 +1,148 @@
--- The steps of statements: of those that are refused, and of those that are not.
-use Rattle.std.proofs.Common.{◌≡◌, false, true, is_some, inl, inr, ℕ, suc, ◌-◌, ◌<◌, ◌≤◌, List, [], ◌∷◌, ◌++◌, length, get_or, slice_get, Option, Some, None, Result, Ok, Err, OnOk, IfOk, refl, sym, ap, subst, ◌∙◌, arith}
+-- The steps of statements over a state of which the definitions and the largest timestamp are known: of those that are refused,
+-- and of those that are not.
+use Rattle.std.proofs.Common.{◌≡◌, false, true, is_some, ℕ, zero, suc, ◌+◌, ◌-◌, ◌<◌, ◌≤◌, List, [], ◌∷◌, ◌++◌, length, map, slice_get, Option, Some, None, refl, sym, ap, subst, ◌∙◌, inl, inr, arith}
 use Rattle.std.specs.FinMap as fin
 use Rattle.std.specs.Option.{option_and_then, option_map, option_map_or}
 use Rattle.sasi_types.specs.declared.partitioner.Partitioner.{Partitioner}
-use Rattle.std.proofs.lemmas.Option.{get_or_from_slice_get, slice_get_cases}
-use Rattle.sasi_types.specs.declared.statement.Select.{Select}
+use Rattle.sasi_types.specs.declared.literal.Literal.{Literal}
+use Rattle.sasi_types.specs.declared.value.Value.{Value}
+use Rattle.sasi_types.specs.Value.{stored}
 use Rattle.sasi_types.specs.declared.statement.Statement.{Statement}
-use Rattle.sasi_types.specs.declared.statement.Statement.TheVariants.{CreateTable, Insert, Update, Delete, Query}
+use Rattle.sasi_types.specs.declared.statement.Statement.TheVariants.{CreateTable, Insert, Update, Delete, Query, Flush}
+use Rattle.sasi_model.specs.Asked as ask
+use Rattle.sasi_model.specs.Asked.{Asked, asked_of, key_given, parsed_asks, statement_asks, write_of}
 use Rattle.sasi_model.specs.Cells.{Partition}
-use Rattle.sasi_model.specs.Changes.{empty_table}
+use Rattle.sasi_model.specs.Changes.{changed_behind, changed_tables, empty_table}
+use Rattle.sasi_model.specs.Statements.{same}
 use Rattle.sasi_types.specs.declared.decorated_key.DecoratedKey.{DecoratedKey}
 use Rattle.sasi_types.specs.DecoratedKey.{decorated_cmp}
-use Rattle.sasi_model.specs.State.{Column, Definition, State, Table, definition_of, max_timestamp, decorated, table_of, with_table}
-use Rattle.sasi_model.specs.Abbreviations.{definitions, key_position, max_timestamp_of_tables, stored_of, selected_lines, ok_line, NoTable, first_of, new_definition, key_type}
-use Rattle.sasi_model.specs.Refusals.{Refusal, refusal, rules, select_rules}
-use Rattle.sasi_model.specs.Lines.{refusal_line, rows_lines}
-use Rattle.sasi_model.specs.Step.{answer_of, applied, selected_columns, execute, decorated_given, live_rows, primary_key, tables_after, timestamp, value_given}
+use Rattle.sasi_model.specs.State.{Column, Definition, State, Table, apply, definition_of, max_timestamp, decorated, table_of, with_table}
+use Rattle.sasi_model.specs.Abbreviations.{definitions, key_position, max_timestamp_of_tables, stored_of, ok_line, first_of, new_definition, key_type}
+use Rattle.sasi_model.specs.Refusals.{Refusal, Rule, Says, refusal, rules}
+use Rattle.sasi_model.specs.Lines.{refusal_line}
+use Rattle.sasi_model.specs.Step.{answer_of, applied, execute, decorated_given, primary_key, tables_after, timestamp, value_given}
 use Rattle.sasi_schema.specs.Answers.{IsFirstRefusal}
 use Rattle.sasi_schema.specs.Numbers.{IsKeyAt, number_of_table}
 use Rattle.sasi_machine.specs.declared.outcome.Outcome.{Outcome}
+use Rattle.sasi_machine.specs.declared.prepared.Prepared.TheVariants.{Answered}
 use Rattle.sasi_cells.specs.declared.mutation.Mutation.{Mutation}
 use Rattle.sasi_machine.specs.KeyLiteral.{IsKeyLiteral}
 use Rattle.sasi_memtable.specs.MemtableView.{MemtableView, empty_memtable}
 use Rattle.sasi_machine.specs.Outcome.{outcome_of}
+use Rattle.sasi_machine.specs.Prepares.{IsPrepared, IsStateOf}
 use Rattle.sasi_machine.specs.TableRows.{KeysStored}
-use Rattle.sasi_machine.specs.Tables.{AreMemtables, IsMachineState, IsWrittenAt, state_of, table_with, tables_of, written}
-use Rattle.sasi_machine.specs.StatementSteps.{IsAnswered, IsRefused, StatementStepsTo}
+use Rattle.sasi_machine.specs.Tables.{IsMachineState, state_of, table_with, tables_of}
+use Rattle.sasi_machine.specs.StatementSteps.{IsRefused, StatementStepsTo}
 use Rattle.sasi_machine.specs.Writes.{IsWrite, IsWriting, change_in, key_in, table_named, time_in}
 use Rattle.sasi_machine.proofs.MaxTimestamps.{greatest_push, nothing_held}
-use Rattle.sasi_machine.proofs.TablesOfMemtables.{IsThere, definitions_of, memtables_push, is_there, number_inside, number_some, tables_push, under_push}
-use Rattle.sasi_machine.proofs.WrittenKeys.{decorated_in, found_rules, given_in, key_in_accepted}
+use Rattle.sasi_machine.proofs.NumberedTables.{first_or_later, number_some, table_numbered}
+use Rattle.sasi_machine.proofs.TablesOfMemtables.{definitions_of, memtables_push, tables_push, under_push}
+use Rattle.sasi_machine.proofs.WrittenKeys.{decorated_in, found_rules, given_in, key_asked, key_in_accepted}
 
 -- ---- whatever the statement
 
--- the rules are tried on the schema and the largest timestamp
-pub rules_kept : (p : Partitioner) (ds : List Definition) (cs : List MemtableView) (g : ℕ) (statement : Statement) → IsMachineState p ds cs g → rules
-    (definitions (tables_of ds cs)) (max_timestamp (state_of p ds cs)) statement ≡ rules ds g statement
+-- the machine's state is one of its definitions and its largest timestamp
+pub is_state_of : (p : Partitioner) (ds : List Definition) (cs : List MemtableView) (g : ℕ) → IsMachineState p ds cs g → IsStateOf ds g (state_of p ds cs)
 unfolding max_timestamp
-rules_kept p ds cs g statement kept =
-    ap (λ (tables : List Definition). rules tables (max_timestamp (state_of p ds cs)) statement) (definitions_of ds cs kept.held)
-    ∙ ap (λ (time : ℕ). rules ds time statement) (sym kept.max_timestamp_is)
+is_state_of p ds cs g kept = record { definitions_are = definitions_of ds cs kept.held; newest_is = sym kept.max_timestamp_is }
 
-told_refuses : (s : State) (statement : Statement) (refusal_of_fault : Option Refusal) (reply_old reply_new : List ℕ) (outcome : Outcome) → IsFirstRefusal refusal_of_fault
-    (rules (definitions s.tables) (max_timestamp s) statement) → IsRefused refusal_of_fault reply_old reply_new outcome
-    → StatementStepsTo s statement s reply_old reply_new outcome
+-- the rules are tried on the definitions and the largest timestamp
+pub rules_are : (s : State) (ds : List Definition) (g : ℕ) (statement : Statement) → IsStateOf ds g s → rules (definitions s.tables) (max_timestamp s) statement ≡ rules ds g statement
+rules_are s ds g statement is =
+    ap (λ (tables : List Definition). rules tables (max_timestamp s) statement) is.definitions_are ∙ ap (λ (time : ℕ). rules ds time statement) is.newest_is
+
+pub not_refused : (s : State) (ds : List Definition) (g : ℕ) (statement : Statement) → IsStateOf ds g s → first_of (rules ds g statement) ≡ None → refusal s statement ≡ None
 unfolding refusal
-told_refuses s statement None reply_old reply_new outcome refusal_of_fault refused = absurd refused
-told_refuses s statement (Some r) reply_old reply_new outcome refusal_of_fault refused = rw refusal_of_fault (record { state_is = refl; reply_is = refused.0; outcome_is = refused.1 })
+not_refused s ds g statement is none = ap first_of (rules_are s ds g statement is) ∙ none
+
+is_refusal : (s : State) (ds : List Definition) (g : ℕ) (statement : Statement) (r : Refusal) → IsStateOf ds g s → first_of (rules ds g statement) ≡ Some r → refusal s statement ≡ Some r
+unfolding refusal
+is_refusal s ds g statement r is first = ap first_of (rules_are s ds g statement is) ∙ first
+
+pub no_rule : (s : State) (ds : List Definition) (g : ℕ) (statement : Statement) → IsStateOf ds g s → refusal s statement ≡ None → first_of (rules ds g statement) ≡ None
+unfolding refusal
+no_rule s ds g statement is none = sym (ap first_of (rules_are s ds g statement is)) ∙ none
 
 -- a statement that is refused
-pub refuses : {E : Type 0} (p : Partitioner) (ds : List Definition) (cs : List MemtableView) (g : ℕ) (statement : Statement)
-    (refusal_of_fault : Option Refusal) (reply_old reply_new : List ℕ) (result : Result Outcome E) → IsMachineState p ds cs g → IsFirstRefusal refusal_of_fault (rules ds g statement)
-    → IfOk result (λ o. IsRefused refusal_of_fault reply_old reply_new o) → IfOk result (λ o. StatementStepsTo (state_of p ds cs) statement (state_of p ds cs) reply_old reply_new o)
-refuses p ds cs g statement refusal_of_fault reply_old reply_new (Ok o) kept is refused =
-    told_refuses (state_of p ds cs) statement refusal_of_fault reply_old reply_new o (subst (IsFirstRefusal refusal_of_fault) (sym (rules_kept p ds cs g statement kept)) is) refused
-refuses p ds cs g statement refusal_of_fault reply_old reply_new (Err e) kept is refused = tt
+pub refuses : (ds : List Definition) (g : ℕ) (statement : Statement) (refused : Option Refusal) (reply_old reply_new : List ℕ) (outcome : Outcome)
+    → IsFirstRefusal refused (rules ds g statement) → IsRefused refused reply_old reply_new outcome → IsPrepared ds g statement reply_old reply_new (Answered outcome)
+refuses ds g statement None reply_old reply_new outcome first refused = absurd refused
+refuses ds g statement (Some r) reply_old reply_new outcome first refused = record {
+  asked_is = ap (λ (o : Option Refusal). option_map_or (λ _. ask.NoChange) o (statement_asks ds g statement)) first;
+  of_state = λ s is. rw (is_refusal s ds g statement r is first) (record { state_is = refl; reply_is = refused.0; outcome_is = refused.1 });
+}
 
 -- a statement that isn't
-pub takes : (p : Partitioner) (ds : List Definition) (cs : List MemtableView) (g : ℕ) (statement : Statement) (new : State)
-    (reply_old reply_new : List ℕ) (outcome : Outcome) → IsMachineState p ds cs g → first_of (rules ds g statement) ≡ None
-    → new ≡ (execute (state_of p ds cs) statement).state → reply_new ≡ reply_old ++ answer_of (state_of p ds cs) statement
-    → outcome ≡ outcome_of None → StatementStepsTo (state_of p ds cs) statement new reply_old reply_new outcome
-unfolding refusal
-takes p ds cs g statement new reply_old reply_new outcome kept none new_is reply_is outcome_is =
-    rw (ap first_of (rules_kept p ds cs g statement kept) ∙ none) (record { state_is = new_is; reply_is = reply_is; outcome_is = outcome_is })
+pub takes : (s : State) (statement : Statement) (new : State) (reply_old reply_new : List ℕ) (outcome : Outcome) → refusal s statement ≡ None
+    → new ≡ (execute s statement).state → reply_new ≡ reply_old ++ answer_of s statement
+    → outcome ≡ outcome_of None → StatementStepsTo s statement new reply_old reply_new outcome
+takes s statement new reply_old reply_new outcome none new_is reply_is outcome_is = rw none (record { state_is = new_is; reply_is = reply_is; outcome_is = outcome_is })
 
--- ---- writes
+-- what it asks
+pub taken_asks : (ds : List Definition) (g : ℕ) (statement : Statement) → first_of (rules ds g statement) ≡ None → parsed_asks ds g (Says statement) ≡ statement_asks ds g statement
+taken_asks ds g statement none = ap (λ (o : Option Refusal). option_map_or (λ _. ask.NoChange) o (statement_asks ds g statement)) none
 
--- the memtable of the table of a number
-pub record HasMemtable (ds : List Definition) (cs : List MemtableView) (name : List ℕ) (number : ℕ) (d : Definition) : Type 0 where
-  pub memtables : MemtableView
-  pub some : 0 < number
-  pub inside : number ≤ length cs
-  pub got : slice_get cs (number - 1) ≡ Some memtables
-  pub there : IsThere name ds cs (number - 1) d memtables
+-- ---- what is asked of a named table
 
-pub has_memtable : (ds : List Definition) (cs : List MemtableView) (name : List ℕ) (number : ℕ) (d : Definition) → AreMemtables ds cs
-    → number_of_table name ds ≡ Some number → definition_of name ds ≡ Some d → HasMemtable ds cs name number d
-has_memtable ds cs name number d held numbered found =
-    let some : 0 < number = number_some name ds number numbered in
-    let suc_is : number ≡ suc (number - 1) = omega arith in
-    let at : number_of_table name ds ≡ Some (suc (number - 1)) = numbered ∙ ap Some suc_is in
-    let inside : number - 1 < length cs = number_inside name ds cs (number - 1) held at in
-    elim (slice_get_cases cs (number - 1)).1 [
-      | inl (c, below, got, read) ↦ record { memtables = c; some = some; inside = omega arith; got = got; there = is_there name ds cs (number - 1) d c held at found got }
-      | inr past ↦ absurd (omega arith)
+pub asked_found : (name : List ℕ) (ask_of : ℕ → Definition → Asked) (ds : List Definition) (n at : ℕ) (d : Definition) → number_of_table name ds ≡ Some (suc at) → definition_of name ds ≡ Some d
+    → asked_of n name ask_of ds ≡ ask_of (n + at) d
+asked_found name ask_of [] n at d is found = cc
+asked_found name ask_of (x ∷ ds) n at d is found =
+    elim (first_or_later name x ds at is) [
+      | inl first ↦
+          let same_is : x ≡ d = (let e : Some x ≡ Some d = rw first.0 at found in cc) in
+          let here : n ≡ n + at = omega (arith, first.1) in
+          rw first.0 (ap (λ (k : ℕ). ask_of k x) here ∙ ap (ask_of (n + at)) same_is)
+      | inr later ↦
+          let on : suc n + later.index ≡ n + at = omega (arith, later.index_is) in
+          rw later.other (asked_found name ask_of ds (suc n) later.index d later.later (rw later.other at found) ∙ ap (λ (k : ℕ). ask_of k d) on)
     ]
 
--- what was read there
-pub read_memtable : (ds : List Definition) (cs : List MemtableView) (name : List ℕ) (number : ℕ) (d : Definition) → (h : HasMemtable ds cs name number d)
-    (c : MemtableView) → c ≡ get_or cs (number - 1) c → c ≡ h.memtables
-read_memtable ds cs name number d h c is = is ∙ get_or_from_slice_get cs (number - 1) h.memtables c h.got
+pub asked_numbered : (name : List ℕ) (ask_of : ℕ → Definition → Asked) (ds : List Definition) (number : ℕ) (d : Definition) → number_of_table name ds ≡ Some number → definition_of name ds ≡ Some d
+    → asked_of 1 name ask_of ds ≡ ask_of number d
+asked_numbered name ask_of ds number d is found =
+    let some = number_some name ds number is in
+    let suc_is : number ≡ suc (number - 1) = omega arith in
+    let on : 1 + (number - 1) ≡ number = omega arith in
+    asked_found name ask_of ds 1 (number - 1) d (is ∙ ap Some suc_is) found ∙ ap (λ (k : ℕ). ask_of k d) on
+
+-- ---- writes
 
 -- what a write does to a table, by the largest timestamp of the state
 change_of : Partitioner → ℕ → Statement → Table → Table
 change_of p g statement t = applied (option_and_then (decorated_given p t.definition) (given_in t.definition statement)) (option_map (λ time. change_in t.definition time statement) (timestamp g (time_in statement))) t
 
+-- a write to the table of this definition
+record IsWriteFor (g : ℕ) (statement : Statement) (w : Mutation) (d : Definition) : Type 0 where
+  at : IsKeyAt d.key d.columns
+  accepted : IsKeyLiteral (key_type d) (key_in d statement)
+  time : ℕ
+  time_is : timestamp g (time_in statement) ≡ Some time
+  key_is : w.key ≡ stored_of (value_given (key_type d) (key_in d statement))
+  change_is : w.change ≡ change_in d time statement
+
+write_for : (ds : List Definition) (g : ℕ) (statement : Statement) (w : Mutation) → IsWriting statement → (write : IsWrite ds g statement w) → first_of (rules ds g statement) ≡ None → IsWriteFor g statement w write.definition
+write_for ds g statement w writing write none = record {
+  at = write.key_is_there;
+  accepted = key_in_accepted write.definition g statement writing write.key_is_there (found_rules ds g statement write.definition writing write.found none);
+  time = write.written.time;
+  time_is = write.written.time_is.is;
+  key_is = write.written.change.key_is;
+  change_is = write.written.change.change_is;
+}
+
+changes_are : (g : ℕ) (statement : Statement) (w : Mutation) (d : Definition) → (f : IsWriteFor g statement w d) → option_map (λ time. change_in d time statement) (timestamp g (time_in statement)) ≡ Some w.change
+changes_are g statement w d f = ap (option_map (λ time. change_in d time statement)) f.time_is ∙ ap Some (sym f.change_is)
+
 -- the table after the write
-written_table : (p : Partitioner) (d : Definition) (g : ℕ) (statement : Statement) (t : ℕ) (w : Mutation) (c : MemtableView) → IsWriting statement → IsKeyAt d.key d.columns
-    → IsKeyLiteral (key_type d) (key_in d statement) → timestamp g (time_in statement) ≡ Some t → w.key ≡ stored_of (value_given (key_type d) (key_in d statement))
-    → w.change ≡ change_in d t statement → change_of p g statement (table_with d c) ≡ table_with d (written p w c)
+written_table : (p : Partitioner) (g : ℕ) (statement : Statement) (w : Mutation) (t : Table) → IsWriting statement → IsWriteFor g statement w t.definition → change_of p g statement t ≡ apply (decorated p w.key) w.change t
 unfolding change_of
-written_table p d g statement t w c writing at accepted time key change =
+written_table p g statement w t writing f =
+    let d = t.definition in
     let changes = option_map (λ time. change_in d time statement) (timestamp g (time_in statement)) in
-    let decorated_key : option_and_then (decorated_given p d) (given_in d statement) ≡ Some (decorated p w.key) = decorated_in p d statement writing at accepted ∙ ap (λ key. Some (decorated p key)) (sym key) in
-    let changed : changes ≡ Some w.change = ap (option_map (λ time. change_in d time statement)) time ∙ ap Some (sym change) in
-    ap (λ (k : Option DecoratedKey). applied k changes (table_with d c)) decorated_key
-    ∙ ap (λ (o : Option Partition). applied (Some (decorated p w.key)) o (table_with d c)) changed
+    let key : option_and_then (decorated_given p d) (given_in d statement) ≡ Some (decorated p w.key) = decorated_in p d statement writing f.at f.accepted ∙ ap (λ key. Some (decorated p key)) (sym f.key_is) in
+    ap (λ (k : Option DecoratedKey). applied k changes t) key
+    ∙ ap (λ (o : Option Partition). applied (Some (decorated p w.key)) o t) (changes_are g statement w d f)
 
 writes_table : (s : State) (statement : Statement) → IsWriting statement → tables_after s statement ≡ with_table (table_named statement) (change_of s.partitioner (max_timestamp s) statement) s.tables
 unfolding change_of
@@ -121,22 +157,38 @@ answers_ok s (Update table time sets key value) is = refl
 answers_ok s (Delete table columns time key value) is = refl
 answers_ok s statement is = absurd is
 
-pub max_timestamp_kept : (p : Partitioner) (ds : List Definition) (cs : List MemtableView) (g : ℕ) → IsMachineState p ds cs g → max_timestamp (state_of p ds cs) ≡ g
-unfolding max_timestamp
-max_timestamp_kept p ds cs g kept = sym kept.max_timestamp_is
+behind_is : (number : ℕ) (key : DecoratedKey) (change : Partition) (ts : List Table) → 0 < number → changed_tables number key change ts ≡ changed_behind (number - 1) key change ts
+behind_is zero key change ts some = absurd (omega (arith, some))
+behind_is (suc before) key change ts some = let e : before ≡ suc before - 1 = omega arith in ap (λ (k : ℕ). changed_behind k key change ts) e
 
-pub write_tables : (p : Partitioner) (ds : List Definition) (cs new : List MemtableView) (g : ℕ) (statement : Statement) (w : Mutation)
-    → IsMachineState p ds cs g → IsWriting statement → IsWrite ds g statement w → first_of (rules ds g statement) ≡ None → IsWrittenAt p cs w new
-    → tables_of ds new ≡ tables_after (state_of p ds cs) statement
-write_tables p ds cs new g statement w kept writing write none is =
-    let s = state_of p ds cs in
+pub write_tables : (s : State) (ds : List Definition) (g : ℕ) (statement : Statement) (w : Mutation) → IsStateOf ds g s → IsWriting statement → IsWrite ds g statement w → first_of (rules ds g statement) ≡ None
+    → changed_tables w.table (decorated s.partitioner w.key) w.change s.tables ≡ tables_after s statement
+write_tables s ds g statement w is writing write none =
+    let name = table_named statement in
+    let key = decorated s.partitioner w.key in
+    let number : number_of_table name (definitions s.tables) ≡ Some w.table = ap (number_of_table name) is.definitions_are ∙ write.number in
+    let found : definition_of name (definitions s.tables) ≡ Some write.definition = ap (definition_of name) is.definitions_are ∙ write.found in
+    let t = table_numbered name s.tables w.table write.definition number found in
+    let f : IsWriteFor (max_timestamp s) statement w t.table.definition = subst (IsWriteFor (max_timestamp s) statement w) (sym t.definition_is)
+    (subst (λ (time : ℕ). IsWriteFor time statement w write.definition) (sym is.newest_is) (write_for ds g statement w writing write none)) in
+    behind_is w.table key w.change s.tables (number_some name ds w.table write.number)
+    ∙ sym (writes_table s statement writing ∙ t.changed (change_of s.partitioner (max_timestamp s) statement) key w.change (written_table s.partitioner (max_timestamp s) statement w t.table writing f))
+
+-- what it asks
+asks_write : (ds : List Definition) (g : ℕ) (statement : Statement) → IsWriting statement → statement_asks ds g statement ≡ asked_of 1 (table_named statement) (λ n d. write_of n (option_and_then (key_given d) (given_in d statement)) (option_map (λ time. change_in d time statement) (timestamp g (time_in statement)))) ds
+asks_write ds g (Insert table columns values time) is = refl
+asks_write ds g (Update table time sets key value) is = refl
+asks_write ds g (Delete table columns time key value) is = refl
+asks_write ds g statement is = absurd is
+
+pub write_asked : (ds : List Definition) (g : ℕ) (statement : Statement) (w : Mutation) → IsWriting statement → IsWrite ds g statement w → first_of (rules ds g statement) ≡ None → statement_asks ds g statement ≡ ask.Writes w.table w.key w.change
+write_asked ds g statement w writing write none =
     let d = write.definition in
-    let h = has_memtable ds cs (table_named statement) w.table d kept.held write.number write.found in
-    let time : timestamp (max_timestamp s) (time_in statement) ≡ Some write.written.time = ap (λ (g : ℕ). timestamp g (time_in statement)) (max_timestamp_kept p ds cs g kept) ∙ write.written.time_is.is in
-    let accepted = key_in_accepted d g statement writing write.key_is_there (found_rules ds g statement d writing write.found none) in
-    ap (tables_of ds) (is h.memtables h.got)
-    ∙ sym (writes_table s statement writing ∙ h.there.changed (change_of p (max_timestamp s) statement) (written p w h.memtables)
-    (written_table p d (max_timestamp s) statement write.written.time w h.memtables writing write.key_is_there accepted time write.written.change.key_is write.written.change.change_is))
+    let f = write_for ds g statement w writing write none in
+    asks_write ds g statement writing
+    ∙ asked_numbered (table_named statement) (λ n d. write_of n (option_and_then (key_given d) (given_in d statement)) (option_map (λ time. change_in d time statement) (timestamp g (time_in statement)))) ds w.table d write.number write.found
+    ∙ ap (λ (k : Option (List ℕ)). write_of w.table k (option_map (λ time. change_in d time statement) (timestamp g (time_in statement)))) (key_asked d statement writing f.at f.accepted ∙ ap Some (sym f.key_is))
+    ∙ ap (write_of w.table (Some w.key)) (changes_are g statement w d f)
 
 -- ---- CREATE TABLE
 
@@ -157,57 +209,7 @@ create_kept p ds cs g d kept =
 pub pushed : (p : Partitioner) (cs room new : List MemtableView) (c : MemtableView) → room ≡ cs → new ≡ room ++ c ∷ [] → c ≡ empty_memtable p → new ≡ cs ++ empty_memtable p ∷ []
 pushed p cs room new c same push is = push ∙ ap (λ (cs : List MemtableView). cs ++ c ∷ []) same ∙ ap (λ (c : MemtableView). cs ++ c ∷ []) is
 
--- a refusal after the reply was cleared
-pub refused_anew : {E : Type 0} (refusal_of_fault other : Option Refusal) (reply_old cleared reply_new : List ℕ) (result : Result Outcome E)
-    → other ≡ refusal_of_fault → reply_old ≡ [] → cleared ≡ [] → IfOk result (λ o. IsRefused other cleared reply_new o) → IfOk result
-    (λ o. IsRefused refusal_of_fault reply_old reply_new o)
-refused_anew refusal_of_fault other reply_old cleared reply_new (Ok o) same empty is refused = rw (← same, empty, ← is) refused
-refused_anew refusal_of_fault other reply_old cleared reply_new (Err e) same empty is refused = tt
-
 pub created_tables : (s : State) (table : List ℕ) (columns : List Column) (keys : List (List ℕ)) → primary_key columns keys ≡ Some (key_position columns keys)
     → s.tables ++ empty_table (new_definition table columns keys) ∷ [] ≡ tables_after s (CreateTable table columns keys)
 created_tables s table columns keys found =
     ap (λ (o : Option ℕ). option_map_or (λ key. s.tables ++ empty_table (record { name = table; columns = columns; key = key }) ∷ []) o s.tables) (sym found)
-
--- ---- SELECT
-
-query_absent : (p : Partitioner) (ds : List Definition) (cs : List MemtableView) (g : ℕ) (select : Select) (reply_old reply_new : List ℕ)
-    (outcome : Outcome) → IsMachineState p ds cs g → definition_of select.table ds ≡ None → IsRefused (Some (NoTable select.table)) reply_old reply_new outcome
-    → StatementStepsTo (state_of p ds cs) (Query select) (state_of p ds cs) reply_old reply_new outcome
-query_absent p ds cs g select reply_old reply_new outcome kept absent refused =
-    refuses {E = ℕ} p ds cs g (Query select) (Some (NoTable select.table)) reply_old reply_new (Ok outcome) kept (rw absent refl) refused
-
-pub query_none : {E : Type 0} (p : Partitioner) (ds : List Definition) (cs : List MemtableView) (g : ℕ) (select : Select)
-    (name reply_old reply_new : List ℕ) (result : Result Outcome E) → IsMachineState p ds cs g → definition_of select.table ds ≡ None → name ≡ select.table
-    → OnOk result (reply_new ≡ reply_old ++ refusal_line (NoTable name)) → IfOk result (λ o. o ≡ outcome_of (Some (NoTable name)))
-    → IfOk result (λ o. StatementStepsTo (state_of p ds cs) (Query select) (state_of p ds cs) reply_old reply_new o)
-query_none p ds cs g select name reply_old reply_new (Ok o) kept absent is reply_is outcome_is =
-    query_absent p ds cs g select reply_old reply_new o kept absent
-    (reply_is ∙ ap (λ (name : List ℕ). reply_old ++ refusal_line (NoTable name)) is, outcome_is ∙ ap (λ (name : List ℕ). outcome_of (Some (NoTable name))) is)
-query_none p ds cs g select name reply_old reply_new (Err e) kept absent is reply_is outcome_is = tt
-
-query_by : (p : Partitioner) (ds : List Definition) (cs : List MemtableView) (g : ℕ) (select : Select) (d : Definition) (c : MemtableView)
-    (r : Option Refusal) (reply_old reply_new : List ℕ) (outcome : Outcome) → IsMachineState p ds cs g → table_of select.table
-    (tables_of ds cs) ≡ Some (table_with d c)
-    → first_of (rules ds g (Query select)) ≡ r → IsAnswered r (rows_lines (live_rows d (selected_columns d select.columns) (fin.entries c.partitions))) reply_old reply_new outcome
-    → StatementStepsTo (state_of p ds cs) (Query select) (state_of p ds cs) reply_old reply_new outcome
-query_by p ds cs g select d c None reply_old reply_new outcome kept there is answered =
-    takes p ds cs g (Query select) (state_of p ds cs) reply_old reply_new outcome kept is refl
-    (answered.0 ∙ sym (ap (λ t. reply_old ++ selected_lines select.columns t) there)) answered.1
-query_by p ds cs g select d c (Some r) reply_old reply_new outcome kept there is refused =
-    refuses {E = ℕ} p ds cs g (Query select) (Some r) reply_old reply_new (Ok outcome) kept is refused
-
-pub query_taken : {E : Type 0} (p : Partitioner) (ds : List Definition) (cs : List MemtableView) (g : ℕ) (select : Select) (d : Definition)
-    (c : MemtableView) (reply_old reply_new : List ℕ) (result : Result Outcome E) → IsMachineState p ds cs g → definition_of select.table ds ≡ Some d
-    → table_of select.table (tables_of ds cs) ≡ Some (table_with d c)
-    → IfOk result (λ o. IsAnswered (first_of (select_rules select.table select.columns (Some d)))
-    (rows_lines (live_rows d (selected_columns d select.columns) (fin.entries c.partitions))) reply_old reply_new o)
-    → IfOk result (λ o. StatementStepsTo (state_of p ds cs) (Query select) (state_of p ds cs) reply_old reply_new o)
-query_taken p ds cs g select d c reply_old reply_new (Ok o) kept found there answered =
-    query_by p ds cs g select d c (first_of (select_rules select.table select.columns (Some d))) reply_old reply_new o kept there
-    (rw found refl) answered
-query_taken p ds cs g select d c reply_old reply_new (Err e) kept found there answered = tt
-
--- an answer that no rule refuses
-pub answered : (first : Option Refusal) (answer reply_old reply_new : List ℕ) → first ≡ None → reply_new ≡ reply_old ++ answer → IsAnswered first answer reply_old reply_new (outcome_of None)
-answered first answer reply_old reply_new none reply_is = rw none (reply_is, refl)

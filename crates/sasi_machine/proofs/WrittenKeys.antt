@@ -10,6 +10,7 @@ use Rattle.sasi_types.specs.declared.statement.Statement.{Statement}
 use Rattle.sasi_types.specs.declared.statement.Statement.TheVariants.{Insert, Update, Delete}
 use Rattle.sasi_types.specs.declared.value.Value.{Value}
 use Rattle.sasi_types.specs.Value.{stored}
+use Rattle.sasi_model.specs.Asked as asked
 use Rattle.sasi_model.specs.State.{Column, Definition, decorated, definition_of}
 use Rattle.sasi_model.specs.Refusals.{Rule, no_column, repeat_rules, rules}
 use Rattle.sasi_model.specs.Abbreviations.{first_of, stored_of, key_type}
@@ -81,3 +82,18 @@ pub decorated_in : (p : Partitioner) (d : Definition) (statement : Statement) �
     → option_and_then (decorated_given p d) (given_in d statement) ≡ Some (decorated p (stored_of (value_given (key_type d) (key_in d statement))))
 decorated_in p d statement writing at is =
     ap (option_and_then (decorated_given p d)) (given_is d (key_type d) statement writing is) ∙ decorated_is p d (key_in d statement) at is
+
+-- ---- the key that is asked
+
+stored_by : (given : Option Value) (value : Value) → given ≡ Some value → option_map stored given ≡ Some (stored_of given)
+stored_by None value is = cc
+stored_by (Some v) value is = refl
+
+pub key_asked : (d : Definition) (statement : Statement) → IsWriting statement → IsKeyAt d.key d.columns → IsKeyLiteral (key_type d) (key_in d statement)
+    → option_and_then (asked.key_given d) (given_in d statement) ≡ Some (stored_of (value_given (key_type d) (key_in d statement)))
+key_asked d statement writing at is =
+    let literal = key_in d statement in
+    let given = key_given (key_type d) literal is in
+    ap (option_and_then (asked.key_given d)) (given_is d (key_type d) statement writing is)
+    ∙ ap (λ (o : Option Column). option_map stored (option_and_then (λ column. value_given column.1 literal) o)) (key_is d at)
+    ∙ stored_by (value_given (key_type d) literal) given.value given.is

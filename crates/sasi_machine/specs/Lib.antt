@@ -9,6 +9,7 @@ pub mod Prepares
 pub mod ParsedPiece
 pub mod Refusal
 pub mod Rules
+pub mod Selections
 pub mod Tables
 pub mod StatementSteps
 pub mod Writes

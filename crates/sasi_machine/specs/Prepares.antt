@@ -1,27 +1,41 @@
--- What a piece prepares: an answer alone, a new table, or a mutation.
-use Rattle.std.specs.Prelude.{◌≡◌, ℕ, ◌+◌, ◌-◌, ◌<◌, List, length, slice_get, None, Some}
+-- What a piece prepares: an answer alone, a new table, a mutation, a flush, or rows to print.
+use Rattle.std.specs.Prelude.{◌≡◌, ℕ, ◌+◌, ◌-◌, ◌<◌, ◌≤◌, List, length, slice_get, [], None, Some, ⊤}
+use Rattle.std.specs.FinMap as map_
+use Rattle.std.specs.Option.{option_map_or}
 use Rattle.sasi_types.specs.declared.column.ColumnType.{ColumnType}
 use Rattle.sasi_types.specs.declared.statement.Statement.{Statement}
-use Rattle.sasi_types.specs.declared.statement.Statement.TheVariants.{CreateTable}
+use Rattle.sasi_types.specs.declared.statement.Statement.TheVariants.{CreateTable, Flush, Query}
 use Rattle.sasi_cells.specs.declared.mutation.Mutation.{Mutation}
+use Rattle.sasi_cells.specs.declared.picked.Picked.{Picked}
 use Rattle.sasi_cells.specs.Mutations.{state_with_mutation}
 use Rattle.sasi_schema.specs.Defined.{definition}
+use Rattle.sasi_schema.specs.Numbers.{number_of_table}
 use Rattle.sasi_schema.specs.declared.table.Table.{Table}
+use Rattle.sasi_model.specs.Lines.{rows_lines}
 use Rattle.sasi_model.specs.Pieces.{Piece}
 use Rattle.sasi_model.specs.State as model
-use Rattle.sasi_model.specs.State.{State, definition_of, max_timestamp}
-use Rattle.sasi_model.specs.Abbreviations.{definitions, new_definition}
+use Rattle.sasi_model.specs.State.{Definition, State, definition_of, max_timestamp}
+use Rattle.sasi_model.specs.Asked as ask
+use Rattle.sasi_model.specs.Asked.{Asked, asks, parsed_asks}
+use Rattle.sasi_model.specs.Abbreviations.{Partitions, definitions, key_type, new_definition}
 use Rattle.sasi_model.specs.Changes.{with_new_table}
-use Rattle.sasi_model.specs.Refusals.{Says, read, refusal}
-use Rattle.sasi_model.specs.Step.{step}
+use Rattle.sasi_model.specs.Refusals.{ParsedPiece, Says, read, refusal}
+use Rattle.sasi_model.specs.Step.{answer_of, step}
 use Rattle.sasi_model.specs.Stored.{IsBodyOf, column_types}
 use Rattle.sasi_model.specs.WellFormed.{IsWellFormed}
 use Rattle.sasi_machine.specs.Outcome.{outcome_of}
 use Rattle.sasi_machine.specs.StatementSteps.{StatementStepsTo}
+use Rattle.sasi_machine.specs.TableRows.{rows_picked}
 use Rattle.sasi_machine.specs.Writes.{IsWrite, IsWriting}
 use Rattle.sasi_machine.specs.declared.outcome.Outcome.{Outcome}
 use Rattle.sasi_machine.specs.declared.prepared.Prepared.{Prepared}
-use Rattle.sasi_machine.specs.declared.prepared.Prepared.TheVariants.{Answered, Create, Write as Writes}
+use Rattle.sasi_machine.specs.declared.prepared.Prepared.TheVariants.{Answered, Create, Write as Writes, Flush as Flushes, Select as Selects}
+use Rattle.sasi_machine.specs.declared.prepared.Selection.{Selection}
+
+-- what is prepared depends on no more of a state than its definitions and its largest timestamp
+pub record IsStateOf (tables : List Definition) (newest : ℕ) (s : State) : Type 0 where
+  pub definitions_are : definitions s.tables ≡ tables
+  pub newest_is : max_timestamp s ≡ newest
 
 -- ---- what can be done to a state
 
@@ -39,6 +53,11 @@ pub record IsApplicable (s : State) (w : Mutation) : Type 0 where
   pub types_are : column_types table.definition ≡ Some types
   pub body : IsBodyOf types w.key w.change
 
+-- there is a table of this number
+pub record HasTable (s : State) (number : ℕ) : Type 0 where
+  pub some : 0 < number
+  pub inside : number ≤ length s.tables
+
 -- ---- what a statement asks for
 
 -- the statement isn't refused, and creates this table
@@ -52,13 +71,76 @@ pub record WritesTo (s : State) (statement : Statement) (w : Mutation) : Type 0 
   pub taken : refusal s statement ≡ None
   pub write : IsWrite (definitions s.tables) (max_timestamp s) statement w
 
--- what a statement prepares, with its reply appended
+-- the statement isn't refused, and flushes the table of this number
+abbrev pub FlushesTable : State → Statement → ℕ → Type 0
+FlushesTable s (Flush table) number = (refusal s (Flush table) ≡ None) × (number_of_table table (definitions s.tables) ≡ Some number) × HasTable s number
+FlushesTable s statement number = ⊥
+
+-- the table of the rows is there, with a key of this type
+pub record HasRows (s : State) (rows : Selection) : Type 0 where
+  pub some : 0 < rows.table
+  pub table : model.Table
+  pub there : slice_get s.tables (rows.table - 1) ≡ Some table
+  pub key : rows.picked.key ≡ key_type table.definition
+
+-- the lines of the picked rows of partitions
+abbrev pub lines_of : Selection → Partitions → List ℕ
+lines_of rows partitions = rows_lines (rows_picked rows.picked.key rows.picked.columns (map_.entries partitions))
+
+-- those of the table that they name
+abbrev pub answer_rows : State → Selection → List ℕ
+answer_rows s rows = option_map_or (λ t. lines_of rows t.partitions) (slice_get s.tables (rows.table - 1)) []
+
+-- the statement isn't refused, and asks for these rows
+abbrev pub SelectsRows : State → Statement → Selection → Type 0
+SelectsRows s (Query select) rows = (refusal s (Query select) ≡ None) × (answer_of s (Query select) ≡ answer_rows s rows) × HasRows s rows
+SelectsRows s statement rows = ⊥
+
+-- what a statement prepares, with its reply appended; that of a SELECT is still to come
 abbrev pub StatementPrepares : State → Statement → List ℕ → List ℕ → Prepared → Type 0
 StatementPrepares s statement reply_old reply_new (Answered outcome) = StatementStepsTo s statement s reply_old reply_new outcome
 StatementPrepares s statement reply_old reply_new (Create t) = StatementStepsTo s statement (with_new_table s (definition t)) reply_old reply_new (outcome_of None) × CreatesTable s statement t
 StatementPrepares s statement reply_old reply_new (Writes w) = StatementStepsTo s statement (state_with_mutation s w) reply_old reply_new (outcome_of None) × WritesTo s statement w
+StatementPrepares s statement reply_old reply_new (Flushes table) = StatementStepsTo s statement s reply_old reply_new (outcome_of None) × FlushesTable s statement table
+StatementPrepares s statement reply_old reply_new (Selects rows) = (reply_new ≡ reply_old) × SelectsRows s statement rows
+
+-- what is asked of the tables
+abbrev pub asked_by : Prepared → Asked
+asked_by (Answered outcome) = ask.NoChange
+asked_by (Create t) = ask.Creates (definition t)
+asked_by (Writes w) = ask.Writes w.table w.key w.change
+asked_by (Flushes table) = ask.Flushes table
+asked_by (Selects rows) = ask.NoChange
+
+-- what a statement prepares over tables of these definitions, where this is the largest timestamp of their state
+pub record IsPrepared (tables : List Definition) (newest : ℕ) (statement : Statement) (reply_old reply_new : List ℕ) (prepared : Prepared) : Type 0 where
+  pub asked_is : parsed_asks tables newest (Says statement) ≡ asked_by prepared
+  pub of_state : (s : State) → IsStateOf tables newest s → StatementPrepares s statement reply_old reply_new prepared
+
+-- a new table, a flush and rows don't depend on the time
+abbrev pub IsTimeless : Prepared → Type 0
+IsTimeless (Answered outcome) = ⊥
+IsTimeless (Create t) = ⊤
+IsTimeless (Writes w) = ⊥
+IsTimeless (Flushes table) = ⊤
+IsTimeless (Selects rows) = ⊤
+
+-- the same, where what doesn't depend on the time is prepared whatever the largest timestamp
+pub record IsPreparedFor (tables : List Definition) (newest : ℕ) (statement : Statement) (reply_old reply_new : List ℕ) (prepared : Prepared) : Type 0 where
+  pub now : IsPrepared tables newest statement reply_old reply_new prepared
+  pub timeless : IsTimeless prepared → (other : ℕ) → IsPrepared tables other statement reply_old reply_new prepared
 
 -- ---- what a piece asks for
+
+-- the rows of a SELECT are to be printed
+abbrev pub IsSelect : Prepared → Type 0
+IsSelect (Selects rows) = ⊤
+IsSelect prepared = ⊥
+
+-- the piece is a SELECT
+abbrev pub IsQuery : ParsedPiece → Type 0
+IsQuery (Says (Query select)) = ⊤
+IsQuery parsed = ⊥
 
 -- the step of the piece has this state, this reply and this outcome
 pub record StepsTo (s : State) (piece : Piece) (state : State) (reply : List ℕ) (outcome : Outcome) : Type 0 where
@@ -70,8 +152,10 @@ pub record StepsTo (s : State) (piece : Piece) (state : State) (reply : List ℕ
 abbrev pub SaysOne : Piece → (Statement → Type 0) → Type 0
 SaysOne piece P = (statement : Statement) × (read piece ≡ Says statement) × IsWellFormed statement × P statement
 
--- what a piece prepares
+-- what a piece prepares; the rows of a SELECT are still to come
 abbrev pub Prepares : State → Piece → List ℕ → Prepared → Type 0
 Prepares s piece reply (Answered outcome) = StepsTo s piece s reply outcome
 Prepares s piece reply (Create t) = StepsTo s piece (with_new_table s (definition t)) reply (outcome_of None) × SaysOne piece (λ statement. CreatesTable s statement t) × IsNewTable s t
 Prepares s piece reply (Writes w) = StepsTo s piece (state_with_mutation s w) reply (outcome_of None) × SaysOne piece (λ statement. WritesTo s statement w) × IsApplicable s w
+Prepares s piece reply (Flushes table) = StepsTo s piece s reply (outcome_of None) × SaysOne piece (λ statement. FlushesTable s statement table) × HasTable s table
+Prepares s piece reply (Selects rows) = StepsTo s piece s (answer_rows s rows) (outcome_of None) × (reply ≡ []) × HasRows s rows

@@ -19,7 +19,8 @@ pub fn is_built(statement: &Statement) -> bool
         Statement::CreateTable { .. }
         | Statement::Insert { .. }
         | Statement::Update { .. }
-        | Statement::Delete { .. } => true,
+        | Statement::Delete { .. }
+        | Statement::Flush { .. } => true,
         Statement::Query { select } => is_plain(select),
         _ => false,
     }

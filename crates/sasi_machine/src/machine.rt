@@ -1,5 +1,5 @@
 // The machine.
-ghost use Rattle.std.specs.Prelude.{◌≡◌, IfOk, OnOk, OnErr};
+ghost use Rattle.std.specs.Prelude.{◌≡◌, ◌++◌, IfOk, OnOk, OnErr};
 ghost use Rattle.sasi_model.specs.Pieces.{piece_of};
 ghost use Rattle.sasi_model.specs.Abbreviations.{empty_state};
 ghost use Rattle.sasi_model.specs.Changes.{with_new_table};
@@ -7,10 +7,12 @@ ghost use Rattle.sasi_model.specs.Step.{step};
 ghost use Rattle.sasi_schema.specs.Defined.{definition};
 ghost use Rattle.sasi_machine.specs.Outcome.{outcome_of};
 ghost use Rattle.sasi_cells.specs.Mutations.{state_with_mutation};
-ghost use Rattle.sasi_machine.specs.Prepares.{IsApplicable, IsNewTable};
+ghost use Rattle.sasi_machine.specs.Prepares.{HasRows, IsApplicable, IsNewTable, Prepares, answer_rows};
 
 use crate::memtables::{add_within, merge_into, reserve_one};
-use crate::prepared::Prepared;
+use crate::prepared::{Prepared, Selection};
+use crate::preparing::prepare;
+use crate::table_rows::print_rows;
 use crate::{Outcome, Reply};
 use sasi_cells::Mutation;
 use sasi_memtable::Memtable;
@@ -87,7 +89,40 @@ impl Machine {
                 self.apply(mutation)?;
                 Ok(Outcome::Done)
             }
+            Prepared::Flush(_) => Ok(Outcome::Done),
+            Prepared::Select(rows) => {
+                self.print(&rows, reply)?;
+                Ok(Outcome::Done)
+            }
         }
+    }
+
+    // Prepares a piece. The reply is replaced; after an error it may be incomplete.
+    fn prepare(
+        &self,
+        piece: &[u8],
+        end: PieceEnd,
+        reply: &mut Reply,
+    ) -> Result<Prepared, AllocError>
+        ensures { IfOk result (λ prepared. Prepares self.now (piece_of end piece.now) reply.new prepared) }
+    {
+        prepare(
+            self.alloc,
+            &self.schema,
+            self.max_timestamp,
+            piece,
+            end,
+            reply,
+        )
+    }
+
+    // Prints the rows that a SELECT asks for.
+    fn print(&self, rows: &Selection, reply: &mut Reply) -> Result<(), AllocError>
+        requires { HasRows self.now rows.now }
+        ensures { OnOk result (reply.new ≡ reply.old ++ answer_rows self.now rows.now) }
+    {
+        let memtable = &self.memtables[rows.table as usize - 1];
+        print_rows(self.alloc, memtable, &rows.picked, reply)
     }
 
     /// Creates a table that was prepared, or that a manifest lists.

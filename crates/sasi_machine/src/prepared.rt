@@ -1,15 +1,27 @@
 // Prepared pieces.
 use crate::Outcome;
-use sasi_cells::Mutation;
+use sasi_cells::{Mutation, Picked};
 use sasi_schema::Table;
+use sasi_types::TableNumber;
 
 /// What is left to do for a piece, once its reply is known.
 #[derive(Drop)]
 pub enum Prepared {
-    /// Nothing: the piece is a SELECT, or refused, or has no reply.
+    /// Nothing: the piece is refused, or has no reply.
     Answered(Outcome),
     /// A table to create.
     Create(Table),
     /// A mutation to apply.
     Write(Mutation),
+    /// A table to flush.
+    Flush(TableNumber),
+    /// The rows of a table to print, behind the reply so far.
+    Select(Selection),
+}
+
+/// The rows that a SELECT asks for.
+#[derive(Drop)]
+pub struct Selection {
+    pub table: TableNumber,
+    pub picked: Picked,
 }

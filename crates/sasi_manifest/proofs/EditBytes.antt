@@ -1,7 +1,8 @@
 -- The bytes of edits: they are the same whatever is listed, and each edit has at least one.
 use Rattle.std.proofs.Common.{◌≡◌, ◌<◌, ◌≤◌, ◌+◌, ◌*◌, ◌^◌, ℕ, List, [], ◌∷◌, ◌++◌, length, drop, get_or, Option, None, Some, refl, sym, ap, ◌∙◌, arith, length-append, append-nil, append_assoc, subst}
 use Rattle.std.proofs.lemmas.List.{drop_all, drop_more}
-use Rattle.std.specs.List.{flat_map}
+use Rattle.std.specs.List.{AllByRecursion, flat_map, sum_by}
+use Rattle.std.proofs.lemmas.List.Sums.{sum_by-cons}
 use Rattle.std.specs.Int.{to_be_bytes, w8, w16, w32}
 use Rattle.sasi_types.specs.declared.partitioner.Partitioner.{Partitioner}
 use Rattle.sasi_host.specs.Names.{Bytes}
@@ -10,9 +11,13 @@ use Rattle.sasi_model.specs.Refusals.{names_in}
 use Rattle.sasi_formats.specs.Formats.{encoded_items}
 use Rattle.sasi_formats.specs.Formats as formats
 use Rattle.sasi_manifest.specs.declared.edit.Edit.{Edit}
-use Rattle.sasi_manifest.specs.declared.edit.Edit.TheVariants.{Start, CreateTable}
+use Rattle.sasi_manifest.specs.declared.edit.Edit.TheVariants.{Start, CreateTable, Replace}
+use Rattle.sasi_manifest.specs.declared.files.ListedFile.{ListedFile}
+use Rattle.sasi_manifest.specs.declared.files.PartNumber.{PartNumber}
 use Rattle.sasi_manifest.specs.declared.listing.Listing.{Listing}
-use Rattle.sasi_manifest.specs.Edits.{columns, type_code, edit, edits, encoded, Applies}
+use Rattle.sasi_manifest.specs.Edits.{columns, type_code, edit, edits, encoded, Applies, new_file, new_files, parts, replace, files_of, part, removed_number, removed_numbers}
+use Rattle.sasi_manifest.specs.ListedDefinition.{ListedDefinition}
+use Rattle.sasi_manifest.specs.ListedFiles.{file_length}
 use Rattle.sasi_manifest.specs.Abbreviations.{column}
 use Rattle.sasi_manifest.specs.Listings.{after_all}
 use Rattle.sasi_manifest.specs.Naming.{AreNames, IsName}
@@ -35,6 +40,34 @@ column_bytes c = name_bytes c.0 ++ to_be_bytes w8 (type_code c.1)
 pub columns_bytes : (all : List Column) → formats.encoded columns all ≡ to_be_bytes w16 (length all) ++ flat_map column_bytes all
 columns_bytes all = ap (λ (l : Bytes). to_be_bytes w16 (length all) ++ l) (items_flat (λ before. formats.encoded (column before)) column_bytes (λ before c. refl) [] all)
 
+-- ---- files
+
+pub numbers_bytes : (files : List ListedFile) (ns : List ℕ) → formats.encoded (removed_numbers files) ns ≡ to_be_bytes w32 (length ns) ++ flat_map (to_be_bytes w32) ns
+numbers_bytes files ns = ap (λ (l : Bytes). to_be_bytes w32 (length ns) ++ l) (items_flat (λ before. formats.encoded (removed_number files before)) (to_be_bytes w32) (λ before n. refl) [] ns)
+
+abbrev pub part_bytes : PartNumber → Bytes
+part_bytes p = to_be_bytes w32 p.index ++ to_be_bytes w32 p.part
+
+pub parts_bytes : (ps : List PartNumber) → formats.encoded parts ps ≡ to_be_bytes w16 (length ps) ++ flat_map part_bytes ps
+parts_bytes ps = ap (λ (l : Bytes). to_be_bytes w16 (length ps) ++ l) (items_flat (λ before. formats.encoded part) part_bytes (λ before p. refl) [] ps)
+
+abbrev pub file_bytes : ListedFile → Bytes
+file_bytes f = to_be_bytes w32 f.number ++ formats.encoded parts f.parts
+
+pub files_bytes : (tables : List ListedDefinition) (removed : List ℕ) (fs : List ListedFile) → formats.encoded (new_files tables removed) fs ≡ to_be_bytes w32 (length fs) ++ flat_map file_bytes fs
+files_bytes tables removed fs = ap (λ (l : Bytes). to_be_bytes w32 (length fs) ++ l) (items_flat (λ before. formats.encoded (new_file tables removed before)) file_bytes (λ before f. refl) [] fs)
+
+-- the bytes of files in the place of others
+abbrev pub segments_bytes : ℕ → ℕ → ℕ → Bytes
+segments_bytes since floor last = to_be_bytes w32 since ++ (to_be_bytes w32 floor ++ to_be_bytes w32 last)
+
+pub replace_bytes : (tables : List ListedDefinition) (table : ℕ) (removed : List ℕ) (added : List ListedFile) (since floor last : ℕ) → formats.encoded (replace tables) (Replace table removed added since floor last)
+    ≡ to_be_bytes w32 table ++ ((formats.encoded (removed_numbers []) removed ++ formats.encoded (new_files [] []) added) ++ segments_bytes since floor last)
+unfolding replace
+replace_bytes tables table removed added since floor last =
+    ap (λ (l : Bytes). to_be_bytes w32 table ++ ((l ++ formats.encoded (new_files tables removed) added) ++ segments_bytes since floor last)) (numbers_bytes (files_of tables table) removed ∙ sym (numbers_bytes [] removed))
+    ∙ ap (λ (l : Bytes). to_be_bytes w32 table ++ ((formats.encoded (removed_numbers []) removed ++ l) ++ segments_bytes since floor last)) (files_bytes tables removed added ∙ sym (files_bytes [] [] added))
+
 -- ---- edits
 
 -- the bytes of an edit
@@ -47,6 +80,8 @@ unfolding edit
 same_edit None e = refl
 same_edit (Some listing) (Start _ _ _) = refl
 same_edit (Some listing) (CreateTable _ _ _ _ _) = refl
+same_edit (Some listing) (Replace table removed added since floor last) =
+    ap (λ (l : Bytes). to_be_bytes w8 5 ++ l) (replace_bytes listing.tables table removed added since floor last ∙ sym (replace_bytes [] table removed added since floor last))
 
 -- a record in its parts
 pub record_parts : (from : Option Listing) (es : List Edit) → formats.encoded (edits from) es ≡ to_be_bytes w32 (length es) ++ flat_map edit_bytes es
@@ -81,6 +116,43 @@ columns_size : (all : List Column) → AreNames (names_in all) → length (flat_
 columns_size [] names = omega arith
 columns_size (c ∷ all) names = omega (arith, names.0.short, columns_size all names.1, length-append (column_bytes c) (flat_map column_bytes all), length-append c.0 (to_be_bytes w8 (type_code c.1)))
 
+numbers_length : (ns : List ℕ) → length (flat_map (to_be_bytes w32) ns) ≡ 4 * length ns
+numbers_length [] = omega arith
+numbers_length (n ∷ ns) = omega (arith, numbers_length ns, length-append (to_be_bytes w32 n) (flat_map (to_be_bytes w32) ns))
+
+parts_length : (ps : List PartNumber) → length (flat_map part_bytes ps) ≡ 8 * length ps
+parts_length [] = omega arith
+parts_length (p ∷ ps) = omega (arith, parts_length ps, length-append (part_bytes p) (flat_map part_bytes ps))
+
+pub file_size : (f : ListedFile) → length (file_bytes f) ≡ file_length f
+file_size f =
+    omega (arith, length-append (to_be_bytes w32 f.number) (formats.encoded parts f.parts), ap length (parts_bytes f.parts), length-append (to_be_bytes w16 (length f.parts)) (flat_map part_bytes f.parts), parts_length f.parts)
+
+files_length : (fs : List ListedFile) → length (flat_map file_bytes fs) ≡ sum_by file_length fs
+files_length [] = refl
+files_length (f ∷ fs) = omega (arith, files_length fs, file_size f, sum_by-cons file_length f fs, length-append (file_bytes f) (flat_map file_bytes fs))
+
+-- the length of an edit that puts files in the place of others
+pub replace_length : (table : ℕ) (removed : List ℕ) (added : List ListedFile) (since floor last : ℕ) → length (edit_bytes (Replace table removed added since floor last)) ≡ 25 + (4 * length removed + sum_by file_length added)
+unfolding edit
+replace_length table removed added since floor last =
+    let numbers = formats.encoded (removed_numbers []) removed in
+    let files = formats.encoded (new_files [] []) added in
+    let segments = segments_bytes since floor last in
+    omega (
+      arith,
+      ap length (replace_bytes [] table removed added since floor last),
+      length-append (to_be_bytes w32 table) ((numbers ++ files) ++ segments),
+      length-append (numbers ++ files) segments,
+      length-append numbers files,
+      ap length (numbers_bytes [] removed),
+      length-append (to_be_bytes w32 (length removed)) (flat_map (to_be_bytes w32) removed),
+      numbers_length removed,
+      ap length (files_bytes [] [] added),
+      length-append (to_be_bytes w32 (length added)) (flat_map file_bytes added),
+      files_length added,
+    )
+
 -- is small
 pub create_short : (listing : Listing) (number : ℕ) (name : Bytes) (all : List Column) (key since : ℕ) → Applies (Some listing) (CreateTable number name all key since) → length (encoded (CreateTable number name all key since ∷ [])) ≤ 4096
 create_short listing number name all key since applies =
@@ -101,6 +173,7 @@ some_byte : (e : Edit) → 1 ≤ length (edit_bytes e)
 unfolding edit
 some_byte (Start _ _ _) = omega arith
 some_byte (CreateTable _ _ _ _ _) = omega arith
+some_byte (Replace _ _ _ _ _ _) = omega arith
 
 many_bytes : (es : List Edit) → length es ≤ length (flat_map edit_bytes es)
 many_bytes [] = omega arith
@@ -133,3 +206,18 @@ columns_put all at old new end put = all_put column_bytes all at (to_be_bytes w1
 
 pub edits_put : (es : List Edit) (at : ℕ) (old new : Bytes) → length es ≤ at → new ++ flat_map edit_bytes (drop at es) ≡ old ++ (to_be_bytes w32 (length es) ++ flat_map edit_bytes es) → new ≡ old ++ encoded es
 edits_put es at old new end put = all_put edit_bytes es at (to_be_bytes w32 (length es)) old new end put ∙ ap (λ (l : Bytes). old ++ l) (sym (encoded_is es))
+
+pub numbers_put : (ns : List ℕ) (at : ℕ) (old new : Bytes) → length ns ≤ at → new ++ flat_map (to_be_bytes w32) (drop at ns) ≡ old ++ (to_be_bytes w32 (length ns) ++ flat_map (to_be_bytes w32) ns) → new ≡ old ++ formats.encoded (removed_numbers []) ns
+numbers_put ns at old new end put = all_put (to_be_bytes w32) ns at (to_be_bytes w32 (length ns)) old new end put ∙ ap (λ (l : Bytes). old ++ l) (sym (numbers_bytes [] ns))
+
+pub parts_put : (ps : List PartNumber) (at : ℕ) (old new : Bytes) → length ps ≤ at → new ++ flat_map part_bytes (drop at ps) ≡ old ++ (to_be_bytes w16 (length ps) ++ flat_map part_bytes ps) → new ≡ old ++ formats.encoded parts ps
+parts_put ps at old new end put = all_put part_bytes ps at (to_be_bytes w16 (length ps)) old new end put ∙ ap (λ (l : Bytes). old ++ l) (sym (parts_bytes ps))
+
+pub files_put : (fs : List ListedFile) (at : ℕ) (old new : Bytes) → length fs ≤ at → new ++ flat_map file_bytes (drop at fs) ≡ old ++ (to_be_bytes w32 (length fs) ++ flat_map file_bytes fs) → new ≡ old ++ formats.encoded (new_files [] []) fs
+files_put fs at old new end put = all_put file_bytes fs at (to_be_bytes w32 (length fs)) old new end put ∙ ap (λ (l : Bytes). old ++ l) (sym (files_bytes [] [] fs))
+
+-- the parts of the files that are left
+pub parts_at : (fs : List ListedFile) (i : ℕ) (f : ListedFile) → i < length fs → f ≡ get_or fs i f → AllByRecursion (λ f. length f.parts < 2 ^ 16) (drop i fs) → (length f.parts < 2 ^ 16) × AllByRecursion (λ f. length f.parts < 2 ^ 16) (drop (i + 1) fs)
+parts_at fs i f within is all =
+    let split : drop i fs ≡ f ∷ drop (i + 1) fs = drop_more fs i f within ∙ ap (λ (g : ListedFile). g ∷ drop (i + 1) fs) (sym is) in
+    subst (λ (l : List ListedFile). AllByRecursion (λ f. length f.parts < 2 ^ 16) l) split all

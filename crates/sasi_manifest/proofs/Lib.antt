@@ -1,4 +1,6 @@
 pub mod Applying
+pub mod Replacing
+pub mod Places
 pub mod EditBytes
 pub mod Sizes
 pub mod Consistency

@@ -18,12 +18,13 @@ use Rattle.sasi_formats.proofs.Fitting.{fits_range, range_fits}
 use Rattle.sasi_formats.proofs.ItemSteps.{SoFar, items_begin, items_more, items_fail, items_end}
 use Rattle.sasi_formats.proofs.WholeLaws.{reads_all}
 use Rattle.sasi_manifest.specs.declared.edit.Edit.{Edit}
-use Rattle.sasi_manifest.specs.declared.edit.Edit.TheVariants.{Start, CreateTable}
+use Rattle.sasi_manifest.specs.declared.edit.Edit.TheVariants.{Start, CreateTable, Replace}
 use Rattle.sasi_manifest.specs.declared.listing.Listing.{Listing}
 use Rattle.sasi_manifest.specs.Edits.{edit, edits, encoded, Applies, AllApply}
 use Rattle.sasi_manifest.specs.ReadEdits.{read_edits}
-use Rattle.sasi_manifest.specs.Listings.{after, after_all, with_record_counted, records_of, length_of}
-use Rattle.sasi_manifest.proofs.Applying.{no_start, no_create}
+use Rattle.sasi_manifest.specs.Abbreviations.{created_table, started, with_listed_table}
+use Rattle.sasi_manifest.specs.Listings.{after, after_all, at_number, replaced, with_record_counted, records_of, length_of}
+use Rattle.sasi_manifest.proofs.Applying.{no_start, no_create, no_replace}
 use Rattle.sasi_manifest.proofs.EditBytes.{edits_few, same_record}
 
 -- ---- edits that apply one after another
@@ -150,14 +151,17 @@ record_encodes from es apply some short =
 still_listed : (listing : Listing) (es : List Edit) → ApplyInTurn (Some listing) es → after_all (Some listing) es ≡ None → ⊥
 still_listed listing [] all none = cc
 still_listed listing (Start p floor last ∷ es) all none = absurd (no_start listing p floor last all.0)
-still_listed listing (CreateTable n name columns key since ∷ es) all none = still_listed _ es all.1 none
+still_listed listing (CreateTable n name columns key since ∷ es) all none = still_listed (with_listed_table (created_table name columns key since) listing) es all.1 none
+still_listed listing (Replace table removed added since floor last ∷ es) all none = still_listed (record listing { floor = floor; last = last; tables = at_number 1 table (replaced removed added since) listing.tables }) es all.1 none
 
 listed_in_turn : (from : Option Listing) (es : List Edit) → ApplyInTurn from es → 1 ≤ length es → after_all from es ≡ None → ⊥
 listed_in_turn from [] all some none = omega (arith, some)
-listed_in_turn None (Start p floor last ∷ es) all some none = still_listed _ es all.1 none
+listed_in_turn None (Start p floor last ∷ es) all some none = still_listed (started p floor last) es all.1 none
 listed_in_turn None (CreateTable n name columns key since ∷ es) all some none = absurd (no_create n name columns key since all.0)
+listed_in_turn None (Replace table removed added since floor last ∷ es) all some none = absurd (no_replace table removed added since floor last all.0)
 listed_in_turn (Some listing) (Start p floor last ∷ es) all some none = absurd (no_start listing p floor last all.0)
-listed_in_turn (Some listing) (CreateTable n name columns key since ∷ es) all some none = still_listed _ es all.1 none
+listed_in_turn (Some listing) (CreateTable n name columns key since ∷ es) all some none = still_listed (with_listed_table (created_table name columns key since) listing) es all.1 none
+listed_in_turn (Some listing) (Replace table removed added since floor last ∷ es) all some none = still_listed (record listing { floor = floor; last = last; tables = at_number 1 table (replaced removed added since) listing.tables }) es all.1 none
 
 -- edits list something
 pub something_listed : (from : Option Listing) (es : List Edit) → AllApply from es → 1 ≤ length es → after_all from es ≡ None → ⊥
@@ -165,10 +169,12 @@ something_listed from es all some none = listed_in_turn from es (in_turn from []
 
 sizes_in_turn : (from : Option Listing) (es : List Edit) → ApplyInTurn from es → (records_of (after_all from es) ≡ records_of from) × (length_of (after_all from es) ≡ length_of from)
 sizes_in_turn from [] all = (refl, refl)
-sizes_in_turn None (Start p floor last ∷ es) all = sizes_in_turn _ es all.1
+sizes_in_turn None (Start p floor last ∷ es) all = sizes_in_turn (Some (started p floor last)) es all.1
 sizes_in_turn None (CreateTable n name columns key since ∷ es) all = absurd (no_create n name columns key since all.0)
+sizes_in_turn None (Replace table removed added since floor last ∷ es) all = absurd (no_replace table removed added since floor last all.0)
 sizes_in_turn (Some listing) (Start p floor last ∷ es) all = absurd (no_start listing p floor last all.0)
-sizes_in_turn (Some listing) (CreateTable n name columns key since ∷ es) all = sizes_in_turn _ es all.1
+sizes_in_turn (Some listing) (CreateTable n name columns key since ∷ es) all = sizes_in_turn (Some (with_listed_table (created_table name columns key since) listing)) es all.1
+sizes_in_turn (Some listing) (Replace table removed added since floor last ∷ es) all = sizes_in_turn (Some (record listing { floor = floor; last = last; tables = at_number 1 table (replaced removed added since) listing.tables })) es all.1
 
 -- edits count no record
 pub sizes_stay : (from : Option Listing) (es : List Edit) → AllApply from es → (records_of (after_all from es) ≡ records_of from) × (length_of (after_all from es) ≡ length_of from)

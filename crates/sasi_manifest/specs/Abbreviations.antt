@@ -1,8 +1,7 @@
 -- Short names for parts of the definitions, which contracts and proofs cite.
-use Rattle.std.specs.Prelude.{ℕ, ◌-◌, ◌^◌, nat_le, Bool, not, ◌&&◌, nat_lt, List, [], ◌∷◌, ◌++◌, length, map, Option, None, Some}
+use Rattle.std.specs.Prelude.{ℕ, ◌-◌, ◌^◌, nat_le, Bool, not, ◌&&◌, nat_lt, List, [], ◌∷◌, ◌++◌, length, map, None, Some}
 use Rattle.std.specs.List.{list_any, list_all}
 use Rattle.std.specs.Int.{w16, w32}
-use Rattle.std.specs.Option.{option_map_or}
 use Rattle.sasi_types.specs.declared.partitioner.Partitioner.{Partitioner}
 use Rattle.sasi_host.specs.Names.{Bytes}
 use Rattle.sasi_host.specs.declared.damage.FormatRule.TheVariants as rule
@@ -29,7 +28,7 @@ started partitioner floor last = record { partitioner = partitioner; floor = flo
 
 -- a table as an edit makes it
 abbrev pub created_table : Bytes → List Column → ℕ → ℕ → ListedDefinition
-created_table name columns key since = record { definition = record { name = name; columns = columns; key = key }; since = since }
+created_table name columns key since = record { definition = record { name = name; columns = columns; key = key }; since = since; files = [] }
 
 abbrev pub with_listed_table : ListedDefinition → Listing → Listing
 with_listed_table table listing = record listing { tables = listing.tables ++ table ∷ [] }
@@ -47,10 +46,6 @@ is_open_name taken name = list_all is_word_byte name && not (list_any (same name
 -- the position of the key among the columns
 abbrev pub key : List Column → Format ℕ
 key columns = checked rule.Number 2 (λ key. nat_lt key (length columns)) (number w16)
-
--- a manifest begins with its start, and no other edit is one
-abbrev pub next_tag : Option Listing → ℕ
-next_tag from = option_map_or (λ _. 2) from 1
 
 -- the first and the last live segment of the log
 abbrev pub segments : Format (ℕ × ℕ)

@@ -1,7 +1,8 @@
 -- The format of a record: edits one after another. The fields that an edit may have depend on what is listed before it.
-use Rattle.std.specs.Prelude.{ℕ, ◌+◌, ◌-◌, ◌^◌, ◌==◌, not, ◌&&◌, nat_lt, nat_le, min, List, [], ◌∷◌, length, map, Option, None, Some, refl}
+use Rattle.std.specs.Prelude.{ℕ, suc, ◌+◌, ◌-◌, ◌^◌, ◌==◌, Bool, true, false, not, ◌&&◌, ◌||◌, nat_eq, nat_lt, nat_le, min, List, [], ◌∷◌, length, map, slice_get, Option, None, Some, refl}
 use Rattle.std.specs.Int.{w8, w16, w32}
 use Rattle.std.specs.List.{list_any, list_all}
+use Rattle.std.specs.Option.{option_map_or}
 use Rattle.sasi_types.specs.declared.column.ColumnType.{ColumnType}
 use Rattle.sasi_types.specs.declared.column.ColumnType.TheVariants as types
 use Rattle.sasi_types.specs.declared.partitioner.Partitioner.{Partitioner}
@@ -17,9 +18,12 @@ use Rattle.sasi_formats.specs.Formats as formats
 use Rattle.sasi_formats.specs.Codings.{one_of, passing}
 use Rattle.sasi_formats.specs.Fields.{◌&◌, number, in_range, checked, mapped, tagged, select}
 use Rattle.sasi_manifest.specs.declared.edit.Edit.{Edit}
-use Rattle.sasi_manifest.specs.declared.edit.Edit.TheVariants.{Start, CreateTable}
+use Rattle.sasi_manifest.specs.declared.edit.Edit.TheVariants.{Start, CreateTable, Replace}
+use Rattle.sasi_manifest.specs.declared.files.ListedFile.{ListedFile}
+use Rattle.sasi_manifest.specs.declared.files.PartNumber.{PartNumber}
 use Rattle.sasi_manifest.specs.declared.listing.Listing.{Listing}
 use Rattle.sasi_manifest.specs.ListedDefinition.{ListedDefinition}
+use Rattle.sasi_manifest.specs.ListedFiles.{has_file, is_among}
 use Rattle.sasi_manifest.specs.Listings.{after_all}
 
 -- ---- names and types
@@ -87,17 +91,117 @@ create_fields _ = (0, ([], ([], (0, 0))))
 abbrev pub create : List ListedDefinition → ℕ → Format Edit
 create tables last = mapped create_of create_fields (λ _. refl) (new_table tables last)
 
+-- ---- files in the place of others
+
+-- the files of the table with this number
+abbrev pub files_of : List ListedDefinition → ℕ → List ListedFile
+files_of tables table = option_map_or (λ t. t.files) (slice_get tables (table - 1)) []
+
+-- one of the files has the number, and it isn't removed
+abbrev pub is_current : List ListedFile → List ℕ → ℕ → Bool
+is_current files removed n = has_file files n && not (is_among removed n)
+
+-- the number of one of the files that isn't among those before
+abbrev pub removed_number : List ListedFile → List ℕ → Format ℕ
+removed_number files before = checked rule.Number 4 (is_current files before) (number w32)
+
+abbrev pub removed_numbers : List ListedFile → Format (List ℕ)
+removed_numbers files = Counted (number w32) (removed_number files)
+
+-- a part of an index; no index is defined yet, so no number names one
+abbrev pub part : Format PartNumber
+part = mapped (λ p. record { index = p.0; part = p.1 }) (λ p. (p.index, p.part)) (λ _. refl)
+    (checked rule.Number 4 (λ _. false) (number w32) & in_range w32 1 (2 ^ 32 - 1))
+
+abbrev pub parts : Format (List PartNumber)
+parts = Counted (number w16) (λ _. part)
+
+-- a file of another table, or one that stays, has the number
+abbrev pub is_taken : List ListedDefinition → List ℕ → ℕ → Bool
+is_taken tables removed n = list_any (λ t. has_file t.files n) tables && not (is_among removed n)
+
+-- neither such a file has the number, nor one of these
+abbrev pub is_new : List ListedDefinition → List ℕ → List ListedFile → ℕ → Bool
+is_new tables removed before n = not (is_taken tables removed n) && not (has_file before n)
+
+abbrev pub new_number : List ListedDefinition → List ℕ → List ListedFile → Format ℕ
+new_number tables removed before = checked rule.Number 4 (is_new tables removed before) (in_range w32 1 (2 ^ 32 - 1))
+
+-- a file with a new number, and its parts
+abbrev pub new_file : List ListedDefinition → List ℕ → List ListedFile → Format ListedFile
+new_file tables removed before = mapped (λ f. record { number = f.0; parts = f.1 }) (λ f. (f.number, f.parts)) (λ _. refl)
+    (new_number tables removed before & parts)
+
+abbrev pub new_files : List ListedDefinition → List ℕ → Format (List ListedFile)
+new_files tables removed = Counted (number w32) (new_file tables removed)
+
+-- the numbers of files of the table, and new files
+abbrev pub files : List ListedDefinition → ℕ → Format (List ℕ × List ListedFile)
+files tables table = Then (removed_numbers (files_of tables table)) (new_files tables)
+
+-- no table but this one begins after the segment; the first of them has the given number
+abbrev pub are_within : ℕ → ℕ → ℕ → List ListedDefinition → Bool
+are_within last table n [] = true
+are_within last table n (t ∷ tables) = (nat_eq n table || nat_le t.since last) && are_within last table (suc n) tables
+
+-- no other table begins after the segment; where it is before one of those that stand first, that one is reported
+abbrev pub is_last : List ListedDefinition → ℕ → ℕ → ℕ → ℕ → Bool
+is_last tables table since floor last = nat_lt last since || (nat_lt last floor || are_within last table 1 tables)
+
+-- the last live segment, after the first segment of the table and the first live one
+abbrev pub last_segment : List ListedDefinition → ℕ → ℕ → ℕ → Format ℕ
+last_segment tables table since floor = checked rule.Number 4 (is_last tables table since floor) (in_range w32 1 (2 ^ 32 - 1))
+
+-- the first and the last live segment
+abbrev pub live_segments : List ListedDefinition → ℕ → ℕ → Format (ℕ × ℕ)
+live_segments tables table since =
+    checked rule.Number 4 (λ s. nat_lt s.1 since || nat_le s.0 s.1) (Then (in_range w32 1 (2 ^ 32 - 1)) (last_segment tables table since))
+
+-- the first segment that can have mutations of the table, and the live ones
+abbrev pub new_segments : List ListedDefinition → ℕ → Format (ℕ × (ℕ × ℕ))
+new_segments tables table = checked rule.Number 4 (λ s. nat_le s.0 s.1.1) (Then (in_range w32 1 (2 ^ 32 - 1)) (live_segments tables table))
+
+abbrev pub ReplaceFields : Type 0
+ReplaceFields = ℕ × ((List ℕ × List ListedFile) × (ℕ × (ℕ × ℕ)))
+
+abbrev pub replace_of : ReplaceFields → Edit
+replace_of f = Replace f.0 f.1.0.0 f.1.0.1 f.1.1.0 f.1.1.1.0 f.1.1.1.1
+
+abbrev pub replace_fields : Edit → ReplaceFields
+replace_fields (Replace table removed added since floor last) = (table, ((removed, added), (since, (floor, last))))
+replace_fields _ = (0, (([], []), (0, (0, 0))))
+
+-- the files of a table that go and those that come, and the segments
+abbrev pub replacing : List ListedDefinition → ℕ → Format ((List ℕ × List ListedFile) × (ℕ × (ℕ × ℕ)))
+replacing tables table = files tables table & new_segments tables table
+
+-- the number of the table before them
+abbrev pub replacement : List ListedDefinition → Format ReplaceFields
+replacement tables = Then (in_range w32 1 (length tables)) (replacing tables)
+
+unfoldable pub replace : List ListedDefinition → Format Edit
+replace tables = mapped replace_of replace_fields (λ _. refl) (replacement tables)
+
 -- ---- edits
 
 -- the byte that names an edit
 abbrev pub tag_of : Edit → ℕ
 tag_of (Start _ _ _) = 1
 tag_of (CreateTable _ _ _ _ _) = 2
+tag_of (Replace _ _ _ _ _ _) = 5
+
+-- the tags that a manifest has after its start
+abbrev pub later_tag : Format ℕ
+later_tag = checked rule.Number 1 (λ n. n == 2 || n == 5) (number w8)
+
+-- the edit with this tag
+abbrev pub by_tag : List ListedDefinition → ℕ → ℕ → Format Edit
+by_tag tables last n = select (n == 1) start (select (n == 2) (create tables last) (replace tables))
 
 -- An edit after this listing; before the first edit there is none. A manifest begins with its start, and no other edit is one.
 unfoldable pub edit : Option Listing → Format Edit
-edit None = tagged (in_range w8 1 1) tag_of (λ n. select (n == 1) start (create [] 0))
-edit (Some listing) = tagged (in_range w8 2 2) tag_of (λ n. select (n == 1) start (create listing.tables listing.last))
+edit None = tagged (in_range w8 1 1) tag_of (by_tag [] 0)
+edit (Some listing) = tagged later_tag tag_of (by_tag listing.tables listing.last)
 
 -- the number of edits, at least one, and each of them after those before
 abbrev pub edits : Option Listing → Format (List Edit)

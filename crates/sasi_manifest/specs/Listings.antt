@@ -1,14 +1,16 @@
 -- The listing of a manifest, and the effect of edits on it.
-use Rattle.std.specs.Prelude.{ℕ, suc, ◌+◌, ◌<◌, ◌≤◌, ◌^◌, List, [], ◌∷◌, ◌++◌, length, map, Option, Some, None}
-use Rattle.std.specs.List.{fold}
+use Rattle.std.specs.Prelude.{ℕ, suc, ◌+◌, ◌<◌, ◌≤◌, ◌^◌, nat_eq, List, [], ◌∷◌, ◌++◌, length, map, Option, Some, None, if◌then◌else◌}
+use Rattle.std.specs.List.{AllByRecursion, fold}
 use Rattle.std.specs.Option.{option_map}
 use Rattle.sasi_host.specs.Names.{Bytes}
 use Rattle.sasi_model.specs.State.{Definition}
 use Rattle.sasi_model.specs.Refusals.{names_in}
 use Rattle.sasi_manifest.specs.declared.edit.Edit.{Edit}
-use Rattle.sasi_manifest.specs.declared.edit.Edit.TheVariants.{Start, CreateTable}
+use Rattle.sasi_manifest.specs.declared.edit.Edit.TheVariants.{Start, CreateTable, Replace}
+use Rattle.sasi_manifest.specs.declared.files.ListedFile.{ListedFile}
 use Rattle.sasi_manifest.specs.declared.listing.Listing.{Listing}
 use Rattle.sasi_manifest.specs.ListedDefinition.{ListedDefinition}
+use Rattle.sasi_manifest.specs.ListedFiles.{with_files, without}
 use Rattle.sasi_manifest.specs.Naming.{AreNames}
 
 -- the definitions of the listed tables
@@ -27,13 +29,26 @@ pub record CanStart (floor last : ℕ) : Type 0 where
 abbrev pub IsWritable : Edit → Type 0
 IsWritable (Start partitioner floor last) = Unit {0}
 IsWritable (CreateTable number name columns key since) = (length name ≤ 48) × (length columns ≤ 64) × AreNames (names_in columns)
+IsWritable (Replace table removed added since floor last) = (length removed < 2 ^ 32) × (length added < 2 ^ 32) × AllByRecursion (λ f. length f.parts < 2 ^ 16) added
+
+-- the list with the item of this number changed, from the number of its first item on
+abbrev pub at_number : {A : Type 0} → ℕ → ℕ → (A → A) → List A → List A
+at_number n number change [] = []
+at_number n number change (x ∷ xs) = (if nat_eq n number then change x else x) ∷ at_number (suc n) number change xs
+
+-- the table with these files in the place of others
+abbrev pub replaced : List ℕ → List ListedFile → ℕ → ListedDefinition → ListedDefinition
+replaced removed added since t = record t { since = since; files = with_files added (without removed t.files) }
 
 -- The listing after an edit. A start has no tables and no record yet; the header and the closed gate have 17 bytes.
 abbrev pub after : Option Listing → Edit → Option Listing
 after from (Start partitioner floor last) = Some (record { partitioner = partitioner; floor = floor; last = last; records = 0; length = 17; tables = [] })
 after None (CreateTable number name columns key since) = None
 after (Some listing) (CreateTable number name columns key since) =
-    Some (record listing { tables = listing.tables ++ record { definition = record { name = name; columns = columns; key = key }; since = since } ∷ [] })
+    Some (record listing { tables = listing.tables ++ record { definition = record { name = name; columns = columns; key = key }; since = since; files = [] } ∷ [] })
+after None (Replace table removed added since floor last) = None
+after (Some listing) (Replace table removed added since floor last) =
+    Some (record listing { floor = floor; last = last; tables = at_number 1 table (replaced removed added since) listing.tables })
 
 -- the listing after edits
 abbrev pub after_all : Option Listing → List Edit → Option Listing
@@ -54,10 +69,22 @@ length_of (Some listing) = listing.length
 
 -- ---- the record that builds up a listing anew
 
+abbrev pub create_edit : ℕ → ListedDefinition → Edit
+create_edit number t = CreateTable number t.definition.name t.definition.columns t.definition.key t.since
+
 abbrev pub create_edits : ℕ → List ListedDefinition → List Edit
 create_edits number [] = []
-create_edits number (t ∷ tables) = CreateTable number t.definition.name t.definition.columns t.definition.key t.since ∷ create_edits (suc number) tables
+create_edits number (t ∷ tables) = create_edit number t ∷ create_edits (suc number) tables
 
--- the start, then the tables in order
+abbrev pub files_edit : ℕ → ℕ → ℕ → ℕ → List ListedFile → List Edit
+files_edit number since floor last [] = []
+files_edit number since floor last (f ∷ files) = Replace number [] (f ∷ files) since floor last ∷ []
+
+-- nothing is removed, and all files are added, in each table that has some
+abbrev pub file_edits : ℕ → ℕ → ℕ → List ListedDefinition → List Edit
+file_edits number floor last [] = []
+file_edits number floor last (t ∷ tables) = files_edit number t.since floor last t.files ++ file_edits (suc number) floor last tables
+
+-- the start, then the tables in order, then their files
 abbrev pub edits_of : Listing → List Edit
-edits_of listing = Start listing.partitioner listing.floor listing.last ∷ create_edits 1 listing.tables
+edits_of listing = Start listing.partitioner listing.floor listing.last ∷ (create_edits 1 listing.tables ++ file_edits 1 listing.floor listing.last listing.tables)

@@ -1,4 +1,5 @@
 // Edits of a manifest.
+use crate::files::{ListedFiles, NumberList};
 use sasi_host::SegmentNumber;
 use sasi_types::{Columns, Name, Partitioner, TableNumber};
 
@@ -19,5 +20,14 @@ pub enum Edit {
         columns: Columns,
         key: u16,
         since: SegmentNumber,
+    },
+    /// Data files of a table that take the place of others. `since`, `floor` and `last` are as they are from then on.
+    Replace {
+        table: TableNumber,
+        removed: NumberList,
+        added: ListedFiles,
+        since: SegmentNumber,
+        floor: SegmentNumber,
+        last: SegmentNumber,
     },
 }

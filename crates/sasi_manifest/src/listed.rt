@@ -4,9 +4,11 @@ ghost use Rattle.sasi_schema.specs.Defined.{definition};
 ghost use Rattle.sasi_schema.specs.Numbers.{RisesFrom};
 ghost use Rattle.sasi_manifest.specs.Naming.{AreApart, IsFree};
 
-use crate::table_list::{copies, is_listed};
-use sasi_host::SegmentNumber;
+use crate::files::{ListedFile, ListedFiles};
+use crate::table_list::{are_within, copies, files_at, is_file_listed, is_listed, replace_at};
+use sasi_host::{DataNumber, SegmentNumber};
 use sasi_schema::Table;
+use sasi_types::TableNumber;
 use std::alloc::{AllocError, Global};
 use std::marker::Model;
 
@@ -16,6 +18,8 @@ pub struct ListedTable {
     pub table: Table,
     /// The first segment of the log that can have mutations of the table.
     pub since: SegmentNumber,
+    /// Its data files, rising by number.
+    pub files: ListedFiles,
 }
 
 /// The tables that a manifest lists, numbered from 1 in their order.
@@ -44,6 +48,9 @@ impl ListedTables {
     ghost use Rattle.sasi_model.specs.Statements.{same};
     ghost use Rattle.sasi_manifest.specs.ListedTables.{listed};
     ghost use Rattle.sasi_manifest.specs.Abbreviations.{listed_names};
+    ghost use Rattle.sasi_manifest.specs.Edits.{are_within, files_of};
+    ghost use Rattle.sasi_manifest.specs.ListedFiles.{has_file};
+    ghost use Rattle.sasi_manifest.specs.Listings.{at_number, replaced};
 
     /// No tables.
     pub fn new(alloc: Global) -> ListedTables
@@ -69,15 +76,58 @@ impl ListedTables {
         is_listed(name, &self.items)
     }
 
+    /// Whether one of their files has the number.
+    pub fn has_file(&self, number: DataNumber) -> bool
+        ensures { result ≡ list_any (λ t. has_file t.files number) self.now }
+    {
+        is_file_listed(number, &self.items)
+    }
+
+    /// The files of the table with this number; none where there is no such table.
+    pub fn files_of(&self, table: TableNumber) -> &[ListedFile]
+        ensures { result.now ≡ files_of self.now table }
+    {
+        files_at(&self.items, table)
+    }
+
+    /// Whether no table but this one begins after the segment.
+    pub fn are_within(&self, table: TableNumber, last: SegmentNumber) -> bool
+        ensures { result ≡ are_within last table 1 self.now }
+    {
+        are_within(&self.items, table, last)
+    }
+
+    /// Puts files of a table in the place of others, and changes its first segment.
+    pub fn replace(
+        &mut self,
+        alloc: Global,
+        table: TableNumber,
+        removed: &[DataNumber],
+        added: &[ListedFile],
+        since: SegmentNumber,
+    ) -> Result<(), AllocError>
+        requires some { 0 < table }
+        requires within { table ≤ length self.old }
+        ensures ok { OnOk result (self.new ≡ at_number 1 table (replaced removed.now added.now since) self.old) }
+        ensures err { OnErr result (self.new ≡ self.old) }
+    {
+        replace_at(alloc, &mut self.items, table, removed, added, since)
+    }
+
     /// Adds a table at the end.
     pub fn push(&mut self, table: Table, since: SegmentNumber) -> Result<(), AllocError>
         requires number { table.number ≡ length self.old + 1 }
         requires few { length self.old < 256 }
         requires free { IsFree (listed_names self.old) table.name }
-        ensures ok { OnOk result (self.new ≡ self.old ++ record { definition = definition table; since = since } ∷ []) }
+        ensures ok { OnOk result (self.new ≡ self.old ++ record { definition = definition table; since = since; files = [] } ∷ []) }
         ensures err { OnErr result (self.new ≡ self.old) }
     {
-        self.items.push(ListedTable { table, since })?;
+        let files = ListedFiles::new(*self.items.allocator());
+        self.items.push(ListedTable {
+            table,
+            since,
+            files,
+        })?;
         Ok(())
     }
 

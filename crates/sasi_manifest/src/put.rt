@@ -1,18 +1,21 @@
 // The encoding of edits.
-ghost use Rattle.std.specs.Prelude.{◌≡◌, ◌++◌, ◌≤◌, [], length, None, OnOk};
+ghost use Rattle.std.specs.Prelude.{◌≡◌, ◌++◌, ◌<◌, ◌≤◌, ◌^◌, [], length, None, OnOk};
+ghost use Rattle.std.specs.Int.{to_be_bytes, w32};
+ghost use Rattle.std.specs.List.{AllByRecursion};
 ghost use Rattle.sasi_model.specs.Refusals.{names_in};
 ghost use Rattle.sasi_formats.specs.Formats.{encoded};
-ghost use Rattle.sasi_manifest.specs.Edits.{edit as edit_format, columns as columns_format, name as name_format, partitioner_code, type_code};
+ghost use Rattle.sasi_manifest.specs.Edits.{edit as edit_format, columns as columns_format, name as name_format, new_file, new_files, partitioner_code, parts as parts_format, removed_numbers, type_code};
 ghost use Rattle.sasi_manifest.specs.Abbreviations.{column as column_format};
 ghost use Rattle.sasi_manifest.specs.Naming.{AreNames};
 ghost use Rattle.sasi_manifest.specs.Listings.{IsWritable};
 
-use crate::Edit;
+use crate::{Edit, ListedFile, PartNumber};
 use sasi_fields::{put_bytes, put_u8, put_u16, put_u32};
+use sasi_host::{DataNumber, SegmentNumber};
 use sasi_types::{ColumnType, Name, Partitioner};
 use std::alloc::AllocError;
 
-#[tactic(auto, unfolding(crate::specs::Edits::edit))]
+#[tactic(auto, unfolding(crate::specs::Edits::edit, crate::specs::Edits::replace))]
 pub fn put_edit(out: &mut Vec<u8>, edit: &Edit) -> Result<(), AllocError>
     requires { IsWritable edit.now }
     ensures { OnOk result (out.new.items ≡ out.old.items ++ encoded (edit_format None) edit.now) }
@@ -42,7 +45,82 @@ pub fn put_edit(out: &mut Vec<u8>, edit: &Edit) -> Result<(), AllocError>
             put_u16(out, *key)?;
             put_u32(out, *since)
         }
+        Edit::Replace {
+            table,
+            removed,
+            added,
+            since,
+            floor,
+            last,
+        } => {
+            put_u8(out, 5)?;
+            put_u32(out, *table)?;
+            put_numbers(out, removed.as_slice())?;
+            put_files(out, added.as_slice())?;
+            put_segments(out, *since, *floor, *last)
+        }
     }
+}
+
+// The three numbers of segments of a replacement.
+fn put_segments(
+    out: &mut Vec<u8>,
+    since: SegmentNumber,
+    floor: SegmentNumber,
+    last: SegmentNumber,
+) -> Result<(), AllocError>
+    ensures { OnOk result (out.new.items ≡ out.old.items ++ (to_be_bytes w32 since ++ (to_be_bytes w32 floor ++ to_be_bytes w32 last))) }
+{
+    put_u32(out, since)?;
+    put_u32(out, floor)?;
+    put_u32(out, last)
+}
+
+// Appends the number of data numbers, then each of them.
+fn put_numbers(out: &mut Vec<u8>, numbers: &[DataNumber]) -> Result<(), AllocError>
+    requires { length numbers.now < 2 ^ 32 }
+    ensures { OnOk result (out.new.items ≡ out.old.items ++ encoded (removed_numbers []) numbers.now) }
+{
+    put_u32(out, numbers.len() as u32)?;
+    for number in numbers {
+        put_u32(out, *number)?;
+    }
+    Ok(())
+}
+
+// Appends the number of files, then each of them.
+fn put_files(out: &mut Vec<u8>, files: &[ListedFile]) -> Result<(), AllocError>
+    requires few { length files.now < 2 ^ 32 }
+    requires parts { AllByRecursion (λ f. length f.parts < 2 ^ 16) files.now }
+    ensures { OnOk result (out.new.items ≡ out.old.items ++ encoded (new_files [] []) files.now) }
+{
+    put_u32(out, files.len() as u32)?;
+    for file in files {
+        put_file(out, file)?;
+    }
+    Ok(())
+}
+
+// Appends the number of a file, then its parts.
+fn put_file(out: &mut Vec<u8>, file: &ListedFile) -> Result<(), AllocError>
+    requires { length file.now.parts < 2 ^ 16 }
+    ensures { OnOk result (out.new.items ≡ out.old.items ++ encoded (new_file [] [] []) file.now) }
+{
+    put_u32(out, file.number)?;
+    put_parts(out, file.parts.as_slice())
+}
+
+// Appends the number of parts, then each of them.
+fn put_parts(out: &mut Vec<u8>, parts: &[PartNumber]) -> Result<(), AllocError>
+    requires { length parts.now < 2 ^ 16 }
+    ensures { OnOk result (out.new.items ≡ out.old.items ++ encoded parts_format parts.now) }
+{
+    put_u16(out, parts.len() as u16)?;
+    for part in parts {
+        put_u32(out, part.index)?;
+        put_u32(out, part.part)?;
+    }
+    Ok(())
 }
 
 // The byte that names a partitioner.

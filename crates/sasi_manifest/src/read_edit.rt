@@ -3,10 +3,11 @@ ghost use Rattle.std.specs.Prelude.{◌≡◌, None, Some};
 ghost use Rattle.std.specs.Option.{option_copied};
 ghost use Rattle.sasi_formats.specs.Reader.{read};
 ghost use Rattle.sasi_formats.specs.Gives.{Gives};
-ghost use Rattle.sasi_manifest.specs.Edits.{create, edit, partitioner, shape, start};
+ghost use Rattle.sasi_manifest.specs.Edits.{create, edit, later_tag, partitioner, shape, start};
 ghost use Rattle.sasi_manifest.specs.Abbreviations.{segments};
 
 use crate::columns::{read_columns, read_key};
+use crate::read_replace::read_replace;
 use crate::text::read_table_name;
 use crate::{Edit, Listing};
 use sasi_fields::FieldReader;
@@ -48,8 +49,23 @@ fn read_later(
 ) -> Result<Edit, FormatFault>
     ensures { Gives (read (edit (Some listing.now)) reader.old) result reader.new }
 {
-    let _tag = read_u8_in_range(reader, 2, 2)?;
-    read_create(alloc, reader, listing)
+    let tag = read_later_tag(reader)?;
+    if tag == 2 {
+        return read_create(alloc, reader, listing);
+    }
+    read_replace(alloc, reader, &listing.tables)
+}
+
+// Reads the tag of an edit after a start.
+fn read_later_tag(reader: &mut FieldReader) -> Result<u8, FormatFault>
+    ensures { Gives (read later_tag reader.old) result reader.new }
+{
+    let start = FieldStart::of(reader);
+    let tag = read_u8(reader)?;
+    if tag != 2 && tag != 5 {
+        return Err(start.broken(FormatRule::Number, 1));
+    }
+    Ok(tag)
 }
 
 // Reads the fields of a start.

@@ -1,10 +1,12 @@
 // The length of a record of edits.
-ghost use Rattle.std.specs.Prelude.{◌≡◌, ◌+◌, ◌^◌, ◌-◌, [], min, length, None};
+ghost use Rattle.std.specs.Prelude.{◌≡◌, ◌+◌, ◌*◌, ◌^◌, ◌-◌, [], min, length, None};
+ghost use Rattle.std.specs.List.{sum_by};
 ghost use Rattle.sasi_formats.specs.Formats as formats;
+ghost use Rattle.sasi_manifest.specs.ListedFiles.{file_length};
 ghost use Rattle.sasi_manifest.specs.Edits.{columns as columns_format, edit as edit_format, encoded};
 ghost use Rattle.sasi_manifest.specs.Abbreviations.{column as column_format};
 
-use crate::Edit;
+use crate::{Edit, ListedFile, ListedFiles, NumberList};
 use sasi_types::{ColumnType, Columns, Name};
 
 // The length of the payload of their record, or `u64::MAX` where it is longer.
@@ -18,14 +20,44 @@ pub fn edits_size(edits: &[Edit]) -> u64
     size
 }
 
-#[tactic(auto, unfolding(crate::specs::Edits::edit))]
+#[tactic(auto, unfolding(crate::specs::Edits::edit, crate::specs::Edits::replace))]
 fn edit_size(edit: &Edit) -> u64
     ensures { result ≡ min (length (formats.encoded (edit_format None) edit.now)) (2 ^ 64 - 1) }
 {
     match edit {
         Edit::Start { .. } => 10,
         Edit::CreateTable { name, columns, .. } => create_size(name, columns),
+        Edit::Replace { removed, added, .. } => replace_size(removed, added),
     }
+}
+
+// A tag, the number of the table, two counts, the data numbers and the files, and three segments.
+fn replace_size(removed: &NumberList, added: &ListedFiles) -> u64
+    ensures { result ≡ min (25 + (4 * length removed.now + sum_by file_length added.now)) (2 ^ 64 - 1) }
+{
+    (removed.as_slice().len() as u64)
+        .saturating_mul(4)
+        .saturating_add(files_size(added.as_slice()))
+        .saturating_add(25)
+}
+
+fn files_size(files: &[ListedFile]) -> u64
+    ensures { result ≡ min (sum_by file_length files.now) (2 ^ 64 - 1) }
+{
+    let mut size = 0u64;
+    for file in files {
+        size = size.saturating_add(file_size(file));
+    }
+    size
+}
+
+// The number of the file and the count of its parts, and 8 bytes for each part.
+fn file_size(file: &ListedFile) -> u64
+    ensures { result ≡ min (file_length file.now) (2 ^ 64 - 1) }
+{
+    (file.parts.as_slice().len() as u64)
+        .saturating_mul(8)
+        .saturating_add(6)
 }
 
 fn create_size(name: &Name, columns: &Columns) -> u64

@@ -1,11 +1,17 @@
-// Names and copies of listed tables.
-ghost use Rattle.std.specs.Prelude.{◌≡◌, map, IfOk};
+// Lists of listed tables: names, files and copies.
+ghost use Rattle.std.specs.Prelude.{◌≡◌, ◌-◌, ◌<◌, ◌≤◌, length, map, slice_get, slice_set, Some, IfOk, OnOk, OnErr};
 ghost use Rattle.std.specs.List.{list_any};
 ghost use Rattle.sasi_model.specs.Statements.{same};
-ghost use Rattle.sasi_manifest.specs.ListedTables.{listed};
+ghost use Rattle.sasi_manifest.specs.Edits.{are_within, files_of};
+ghost use Rattle.sasi_manifest.specs.ListedFiles.{has_file};
+ghost use Rattle.sasi_manifest.specs.ListedTables.{IsReplacedAt, listed};
 ghost use Rattle.sasi_manifest.specs.Abbreviations.{listed_names};
 
 use crate::ListedTable;
+use crate::file_list::{copy_files, has_file, replaced_files};
+use crate::files::{ListedFile, ListedFiles};
+use sasi_host::{DataNumber, SegmentNumber};
+use sasi_types::TableNumber;
 use std::alloc::{AllocError, Global};
 
 // Whether one of the tables has the name.
@@ -20,6 +26,64 @@ pub fn is_listed(name: &[u8], tables: &[ListedTable]) -> bool
     false
 }
 
+// Whether one of the tables has a file of this number.
+pub fn is_file_listed(number: DataNumber, tables: &[ListedTable]) -> bool
+    ensures { result ≡ list_any (λ t. has_file t.files number) (map listed tables.now) }
+{
+    for table in tables {
+        if has_file(table.files.as_slice(), number) {
+            return true;
+        }
+    }
+    false
+}
+
+// The files of the table with this number, if there is one.
+pub fn files_at(tables: &[ListedTable], table: TableNumber) -> &[ListedFile]
+    ensures { result.now ≡ files_of (map listed tables.now) table }
+{
+    match tables.get((table as usize).saturating_sub(1)) {
+        Some(found) => found.files.as_slice(),
+        None => &[],
+    }
+}
+
+// Whether no table but this one begins after the segment.
+pub fn are_within(tables: &[ListedTable], table: TableNumber, last: SegmentNumber) -> bool
+    requires { length tables.now ≤ 256 }
+    ensures { result ≡ are_within last table 1 (map listed tables.now) }
+{
+    let mut number = 1u32;
+    for other in tables {
+        if number != table && other.since > last {
+            return false;
+        }
+        number += 1;
+    }
+    true
+}
+
+// Puts files of the table with this number in the place of others, and changes its first segment.
+pub fn replace_at(
+    alloc: Global,
+    tables: &mut Vec<ListedTable>,
+    table: TableNumber,
+    removed: &[DataNumber],
+    added: &[ListedFile],
+    since: SegmentNumber,
+) -> Result<(), AllocError>
+    requires some { 0 < table }
+    requires within { table ≤ length tables.old.items }
+    ensures ok { OnOk result (IsReplacedAt table removed.now added.now since tables.old.items tables.new.items) }
+    ensures err { OnErr result (tables.new.items ≡ tables.old.items) }
+{
+    let changed = &mut tables[table as usize - 1];
+    let files = replaced_files(alloc, changed.files.as_slice(), removed, added)?;
+    changed.files = ListedFiles::from_vec(files);
+    changed.since = since;
+    Ok(())
+}
+
 // A copy of the tables.
 pub fn copies(alloc: Global, tables: &[ListedTable]) -> Result<Vec<ListedTable>, AllocError>
     ensures same { IfOk result (λ copies. map listed copies.items ≡ map listed tables.now) }
@@ -27,10 +91,20 @@ pub fn copies(alloc: Global, tables: &[ListedTable]) -> Result<Vec<ListedTable>,
 {
     let mut copies = Vec::with_capacity(alloc, tables.len())?;
     for table in tables {
-        copies.push(ListedTable {
-            table: table.table.copy(alloc)?,
-            since: table.since,
-        })?;
+        copies.push(copy_table(alloc, table)?)?;
     }
     Ok(copies)
+}
+
+// A copy of a table.
+fn copy_table(alloc: Global, table: &ListedTable) -> Result<ListedTable, AllocError>
+    ensures same { IfOk result (λ copy. listed copy ≡ listed table.now) }
+    ensures number { IfOk result (λ copy. copy.table.number ≡ table.now.table.number) }
+{
+    let files = copy_files(alloc, table.files.as_slice())?;
+    Ok(ListedTable {
+        table: table.table.copy(alloc)?,
+        since: table.since,
+        files: ListedFiles::from_vec(files),
+    })
 }

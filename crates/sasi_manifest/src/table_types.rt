@@ -23,8 +23,8 @@ pub fn table_types(alloc: Global, tables: &[ListedTable]) -> Result<TableTypes, 
     Ok(types)
 }
 
-// The types of a table's columns, the key's first.
-fn types_of(alloc: Global, table: &Table) -> Result<TypeList, AllocError>
+/// The types of a table's columns, the key's first.
+pub fn types_of(alloc: Global, table: &Table) -> Result<TypeList, AllocError>
     ensures { IfOk result (λ types. types ≡ types_of (definition table.now)) }
 {
     let columns = table.columns.as_slice();

@@ -14,5 +14,6 @@ pub mod Stored
 pub mod Refusals
 pub mod Lines
 pub mod Step
+pub mod Asked
 pub mod Abbreviations
 pub mod Codes

@@ -16,7 +16,7 @@ use Rattle.sasi_types.specs.declared.literal.Number.{Number}
 use Rattle.sasi_types.specs.declared.literal.Number.TheVariants.{Fits, Wide}
 use Rattle.sasi_types.specs.declared.statement.Statement.{Statement}
 use Rattle.sasi_types.specs.declared.statement.Select.{Select}
-use Rattle.sasi_types.specs.declared.statement.Statement.TheVariants.{CreateTable, Insert, Update, Delete, Query}
+use Rattle.sasi_types.specs.declared.statement.Statement.TheVariants.{CreateTable, Insert, Update, Delete, Query, Flush}
 use Rattle.sasi_model.specs.Pieces.{Piece, Whole, TooLong, Unfinished}
 use Rattle.sasi_model.specs.Tokens.{same}
 use Rattle.sasi_model.specs.Parsers.{Parsed, Parses, FailsAt, Parser, grammar_parser}
@@ -46,6 +46,7 @@ is_built (Insert table columns values time) = true
 is_built (Update table time sets key value) = true
 is_built (Delete table columns time key value) = true
 is_built (Query select) = is_plain select
+is_built (Flush table) = true
 is_built statement = false
 
 -- A statement that isn't built is refused. So is a text without a statement, with the same refusal until more is built.
@@ -214,6 +215,10 @@ select_rules table columns None = (true, (4, codes "NoTable " ++ table)) ∷ []
 select_rules table None (Some d) = []
 select_rules table (Some columns) (Some d) = map (no_column d) columns
 
+abbrev pub flush_rules : List ℕ → Option Definition → List Rule
+flush_rules table None = (true, (4, codes "NoTable " ++ table)) ∷ []
+flush_rules table (Some d) = []
+
 -- the rules for these tables and this largest timestamp of the state; none for a statement that isn't built
 abbrev pub rules : List Definition → ℕ → Statement → List Rule
 rules tables max_timestamp (CreateTable table columns keys) = create_rules tables table columns keys
@@ -221,6 +226,7 @@ rules tables max_timestamp (Insert table columns values time) = insert_rules max
 rules tables max_timestamp (Update table time sets key value) = update_rules max_timestamp table sets key value time (definition_of table tables)
 rules tables max_timestamp (Delete table columns time key value) = delete_rules max_timestamp table columns key value time (definition_of table tables)
 rules tables max_timestamp (Query select) = select_rules select.table select.columns (definition_of select.table tables)
+rules tables max_timestamp (Flush table) = flush_rules table (definition_of table tables)
 rules tables max_timestamp statement = []
 
 -- that of the first rule that applies

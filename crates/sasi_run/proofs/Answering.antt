@@ -1,215 +1,271 @@
--- The answer to one piece, with what a crash leaves meanwhile.
-use Rattle.std.proofs.Common.{◌≡◌, ℕ, ◌+◌, ◌^◌, ◌<◌, List, [], ◌∷◌, ◌++◌, Option, Some, None, is_some, if◌then◌else◌, refl, sym, ap, ◌∙◌, subst, arith, append_assoc}
+-- The answer to one piece, and what is fed byte by byte.
+use Rattle.std.proofs.Common.{◌≡◌, ℕ, ◌+◌, ◌^◌, ◌<◌, List, [], ◌∷◌, ◌++◌, map, Option, Some, None, is_some, if◌then◌else◌, refl, sym, ap, ◌∙◌, subst, arith, append_assoc}
 use Rattle.std.proofs.lemmas.List.{append-nil}
 use Rattle.std.specs.Io.KnownBytes.{Appends}
-use Rattle.sasi_host.specs.declared.fault.HostFault.{HostFault}
-use Rattle.sasi_host.specs.declared.fault.HostFault.TheVariants as host_fault
-use Rattle.sasi_host.specs.View.{AllOut, Emits, IsTold, View, counted, counted_by}
+use Rattle.sasi_host.specs.View.{AllOut, Emits, View, counted, counted_by}
 use Rattle.sasi_host.specs.Disk.{Changes}
+use Rattle.sasi_layout.specs.Between.{Between}
+use Rattle.sasi_layout.specs.Layout.{TableParts, state_of, table_of}
+use Rattle.sasi_layout.specs.Running.{after_pieces}
+use Rattle.sasi_layout.specs.Serving.{StoreInHand}
+use Rattle.sasi_layout.specs.Spent.{spent}
+use Rattle.sasi_layout.specs.Worlds.{ServesWorld, World, steps}
 use Rattle.sasi_model.specs.Pieces.{Piece}
 use Rattle.sasi_model.specs.Refusals.{Refusal}
+use Rattle.sasi_model.specs.Abbreviations.{definitions}
+use Rattle.sasi_model.specs.State.{Definition}
 use Rattle.sasi_model.specs.Step.{step}
 use Rattle.sasi_cql.specs.SplitterState.{resume, behind}
 use Rattle.sasi_machine.specs.declared.outcome.Outcome.{Outcome}
 use Rattle.sasi_machine.specs.Outcome.{outcome_of}
-use Rattle.sasi_run.specs.Crashing.{AnswersCrashSafe, FailsCrashSafe, FinishesCrashSafe, CrashLeavesPieces, StaysDurable, StopsCrashSafe, FeedsCrashSafe}
-use Rattle.sasi_run.specs.EmitCounts.{MakesEmits, emits_failed, emits_of}
+use Rattle.sasi_machine.specs.Prepares.{IsStateOf}
+use Rattle.sasi_store.specs.Answers.{Answered, AnyFolderChange}
+use Rattle.sasi_store.specs.Faults.{OnSpent, OnStepDamage}
+use Rattle.sasi_store.specs.StoreView.{IsReady, StoreView}
+use Rattle.sasi_store.specs.declared.fault.StepFault.{StepFault}
+use Rattle.sasi_store.specs.declared.fault.StepFault.TheVariants as fault
+use Rattle.sasi_run.specs.EmitCounts.{emits_of}
+use Rattle.sasi_run.specs.Crashing.{AnswersCrashSafe, CrashLeavesPieces, FailsCrashSafe, FeedsCrashSafe, FinishesCrashSafe, RanPieces, StoppedPieces, StopsCrashSafe}
 use Rattle.sasi_run.specs.FileCalls.{emits_after}
-use Rattle.sasi_run.specs.Headline.{status_of_stop}
-use Rattle.sasi_run.specs.Session.{counted_outcome, refused_by, stop_of}
-use Rattle.sasi_run.specs.Storing.{IsAtomic, IsReady, IsStoreDurable, AnyFolderChange}
+use Rattle.sasi_run.specs.Session.{counted_outcome, refusals_of, stop_of}
 use Rattle.sasi_run.specs.declared.session.Session.{Session}
 use Rattle.sasi_run.specs.declared.session.Stop.{Stop}
 use Rattle.sasi_run.specs.declared.session.Stop.TheVariants.{Memory, Output}
-use Rattle.sasi_run.specs.declared.store.Store.{Store}
-use Rattle.sasi_run.proofs.Crashing.{leaves_answered, leaves_both, leaves_nothing, leaves_recorded, ready_still, durable_answered, durable_both, durable_nothing}
-use Rattle.sasi_run.proofs.EmitLaws.{makes_alone, makes_behind_none, makes_more, makes_more_and, makes_none, makes_one, makes_reply}
-use Rattle.sasi_run.proofs.RunParts.{appends_none, stops_at, stops_before, stops_later, feeds_answer, feeds_both, feeds_nothing, feeds_no_end}
+use Rattle.sasi_run.proofs.Running.{each_of_shape, leaves_answered, leaves_moved, leaves_nothing, ready_still, serves_still}
+use Rattle.sasi_run.proofs.EmitLaws.{emits_reply, makes_alone, makes_behind_none, makes_none, makes_one, makes_reply}
+use Rattle.sasi_run.proofs.RunParts.{appends_none, grows_both, grows_nothing, ran_both, ran_nothing, reads_on, stopped_behind, unmoved}
 
 -- ---- the answer
 
-unmoved : (a b : View) → b.emitted ≡ a.emitted → Appends a.emitted b.emitted []
-unmoved a b same = subst (λ (l : Option (List ℕ)). Appends a.emitted l []) (sym same) (appends_none a.emitted)
+-- what a store promises of a piece that it didn't do
+pub record StepFailed (fault : StepFault) (session : Session) (a b : View) (piece : Piece) : Type 0 where
+  pub change : Changes AnyFolderChange a b
+  pub moments : (w : World) → ServesWorld a session.store.hand w → Changes (λ x y. Between w.layout (steps.moves w piece) y) a b
+  pub spends : OnSpent (λ kind. (w : World) → ServesWorld a session.store.hand w → spent w.layout (steps.moves w piece) ≡ Some kind) fault
+  pub undamaged : (w : World) → ServesWorld a session.store.hand w → OnStepDamage (λ _. ⊥) fault
 
--- the folder or memory failed before anything was emitted
-pub fails_recorded : (fault : HostFault) (session : Session) (a b : View) (piece : Piece) → Changes AnyFolderChange a b
-    → (IsStoreDurable a session.store → IsAtomic a b session.store.machine (step session.store.machine piece).state)
-    → FailsCrashSafe (stop_of fault) session a b (piece ∷ [])
-fails_recorded host_fault.Failed session a b piece change moves = record {
-  shown = unmoved a b change.emitted;
-  crashes = leaves_recorded a b session.store session.store piece moves;
-  emits = makes_none a.emits b.emits change.emits;
+stopped_moving : (f : StepFault) (session : Session) (a b : View) (piece : Piece) → StepFailed f session a b piece → (w : World)
+    → ServesWorld a session.store.hand w → StoppedPieces (stop_of f) w [] (piece ∷ []) a b
+stopped_moving fault.Failed session a b piece failed w serves = record {
+  shown = unmoved a b failed.change.emitted;
+  crashes = leaves_moved a b w piece (failed.moments w serves);
+  emits = makes_behind_none 0 a.emits b.emits (makes_none a.emits b.emits failed.change.emits);
+  unspent = tt;
 }
-fails_recorded host_fault.OutOfMemory session a b piece change moves = record {
-  shown = unmoved a b change.emitted;
-  crashes = leaves_recorded a b session.store session.store piece moves;
-  emits = makes_none a.emits b.emits change.emits;
+stopped_moving fault.OutOfMemory session a b piece failed w serves = record {
+  shown = unmoved a b failed.change.emitted;
+  crashes = leaves_moved a b w piece (failed.moments w serves);
+  emits = makes_behind_none 0 a.emits b.emits (makes_none a.emits b.emits failed.change.emits);
+  unspent = tt;
+}
+stopped_moving (fault.Damaged damage) session a b piece failed w serves = absurd (failed.undamaged w serves)
+stopped_moving (fault.NumbersSpent kind) session a b piece failed w serves = record {
+  shown = (piece, refl, unmoved a b failed.change.emitted, failed.spends w serves);
+  crashes = leaves_moved a b w piece (failed.moments w serves);
+  emits = makes_behind_none 0 a.emits b.emits (makes_none a.emits b.emits failed.change.emits);
+  unspent = tt;
 }
 
-module _ (session : Session) (a b d : View) (later : Store) (piece : Piece) (reply : List ℕ)
-    (said : reply ≡ (step session.store.machine piece).reply) (made : later.machine ≡ (step session.store.machine piece).state)
-    (change : Changes AnyFolderChange a b)
-    (moves : IsStoreDurable a session.store → IsAtomic a b session.store.machine (step session.store.machine piece).state)
-    (durable : IsTold a → IsStoreDurable a session.store → IsStoreDurable b later) (emits : Emits reply b d) where
+-- the store failed before anything was emitted
+pub fails_moving : (f : StepFault) (session : Session) (a b : View) (piece : Piece) → StepFailed f session a b piece
+    → FailsCrashSafe (stop_of f) session a b (piece ∷ [])
+fails_moving f session a b piece failed = record {
+  grows = grows_nothing a b failed.change.emitted;
+  stopped = λ w serves. stopped_moving f session a b piece failed w serves;
+}
+
+-- what a store promises of a piece that it did
+pub record StepDone (session : Session) (later : StoreView) (a b : View) (piece : Piece) (reply : List ℕ) (outcome : Outcome) : Type 0 where
+  pub change : Changes AnyFolderChange a b
+  pub moments : (w : World) → ServesWorld a session.store.hand w → Changes (λ x y. Between w.layout (steps.moves w piece) y) a b
+  pub answers : (w : World) → ServesWorld a session.store.hand w → Answered b later.hand w piece reply outcome
+
+module _ (session : Session) (later : StoreView) (a b d : View) (piece : Piece) (reply bytes : List ℕ) (outcome : Outcome)
+    (done : StepDone session later a b piece reply outcome) (same : bytes ≡ reply) (emits : Emits bytes b d) where
+  crashes : (w : World) → ServesWorld a session.store.hand w → CrashLeavesPieces a d w (piece ∷ [])
+  crashes w serves =
+      let is = done.answers w serves in
+      leaves_answered a b w piece (done.moments w serves) d bytes (same ∙ is.reply_is) (each_of_shape b later.hand _ is.serves) emits
+
   -- the reply was not emitted whole
   pub fails_shown : d.emits ≡ counted b.emits → FailsCrashSafe Output session a d (piece ∷ [])
   fails_shown once = record {
-    shown = (
-      piece,
-      emits.front,
-      emits.back,
-      refl,
-      sym said
-          ∙ emits.parts,
-      subst (λ (l : Option (List ℕ)). Appends l d.emitted emits.front) change.emitted emits.out,
-    );
-    crashes = leaves_answered a b session.store later piece moves d reply said made durable emits;
-    emits = makes_one a.emits d.emits (once ∙ ap counted change.emits);
+    grows = (emits.front, subst (λ (l : Option (List ℕ)). Appends l d.emitted emits.front) done.change.emitted emits.out);
+    stopped = λ w serves.
+        (let is = done.answers w serves in
+        record {
+          shown = (
+            piece,
+            emits.front,
+            emits.back,
+            refl,
+            sym (same ∙ is.reply_is) ∙ emits.parts,
+            subst (λ (l : Option (List ℕ)). Appends l d.emitted emits.front) done.change.emitted emits.out,
+          );
+          crashes = crashes w serves;
+          emits = makes_behind_none 1 a.emits d.emits (makes_one a.emits d.emits (once ∙ ap counted done.change.emits));
+          unspent = tt;
+        });
   }
 
   counts : (refused : ℕ) (o : Option Refusal) → refused < 2 ^ 64
-      → counted_outcome refused (outcome_of o) ≡ counted_by refused (if is_some o then 1 else 0)
+      → counted_outcome refused (outcome_of o) ≡ counted_by refused ((if is_some o then 1 else 0) + 0)
   counts refused None small = omega arith
   counts refused (Some r) small = omega arith
 
-  pub answers_on : (new : Session) (outcome : Outcome) → new.store ≡ later → session.refused < 2 ^ 64
-      → outcome ≡ outcome_of (step session.store.machine piece).refused → new.refused ≡ counted_outcome session.refused outcome
-      → new.splitter ≡ session.splitter → IsReady b later → AllOut reply b d
-      → d.emits ≡ emits_after a.emits (step session.store.machine piece).reply → AnswersCrashSafe session new a d piece
-  answers_on new outcome store_is small outcome_is count reading ready all call = record {
-    answers = record {
-      state = ap (λ (s : Store). s.machine) store_is ∙ made;
-      shown = subst (λ (l : Option (List ℕ)). Appends l d.emitted (step session.store.machine piece).reply) change.emitted
-          (subst (λ (l : List ℕ). Appends b.emitted d.emitted l) said all);
-      count = count ∙ ap (counted_outcome session.refused) outcome_is ∙ counts session.refused (step session.store.machine piece).refused small;
-      reading = reading;
-    };
-    ready = subst (λ (s : Store). IsReady d s) (sym store_is) (ready_still b d later emits.files ready);
-    durable = subst (λ (s : Store). StaysDurable a d session.store s (step session.store.machine piece).reply) (sym store_is)
-        (subst (λ (l : List ℕ). StaysDurable a d session.store later l) said
-        (durable_answered a b session.store later piece moves d reply said made durable emits all));
-    crashes = leaves_answered a b session.store later piece moves d reply said made durable emits;
-    emits = makes_reply a.emits d.emits (step session.store.machine piece).reply call;
+  pub answers_on : (new : Session) → new.store ≡ later → session.refused < 2 ^ 64 → new.refused ≡ counted_outcome session.refused outcome
+      → new.splitter ≡ session.splitter → IsReady b later → AllOut bytes b d → d.emits ≡ emits_after b.emits bytes → AnswersCrashSafe session new a d piece
+  answers_on new store_is small count reading ready all call = record {
+    reading = reading;
+    grows = (bytes, subst (λ (l : Option (List ℕ)). Appends l d.emitted bytes) done.change.emitted all);
+    ready = rw store_is (ready_still b d later emits.files emits.image ready);
+    ran = λ w serves.
+        (let is = done.answers w serves in
+        record {
+          serves = rw store_is (serves_still b d later.hand _ emits.files emits.image is.serves);
+          shown = subst (λ (r : List ℕ). Appends a.emitted d.emitted r) (same ∙ is.reply_is ∙ sym (append-nil (steps.reply w piece)))
+              (subst (λ (l : Option (List ℕ)). Appends l d.emitted bytes) done.change.emitted all);
+          count = count ∙ ap (counted_outcome session.refused) is.outcome_is ∙ counts session.refused (step (state_of w.layout) piece).refused small;
+          crashes = crashes w serves;
+          emits = makes_alone (emits_of (steps.reply w piece)) a.emits d.emits
+              (makes_reply a.emits d.emits (steps.reply w piece) (emits_reply a.emits b.emits d.emits bytes (steps.reply w piece) done.change.emits (same ∙ is.reply_is) call));
+          unspent = (is.unspent, tt);
+        });
   }
 
 -- ---- one byte
 
 -- no piece ended
-pub feeds_no_end_crash_safe : (old new : Session) (a : View) (byte : ℕ) → IsReady a old.store → old.refused < 2 ^ 64
-    → ((left : List ℕ) → resume old.splitter (byte ∷ left) ≡ behind [] (resume new.splitter left)) → new.store ≡ old.store
-    → new.refused ≡ old.refused → FeedsCrashSafe old new a a (byte ∷ [])
-unfolding feeds_no_end
-feeds_no_end_crash_safe old new a byte ready small next store count = record {
-  feeds = feeds_no_end old new a.emitted byte small next (ap (λ (s : Store). s.machine) store) count;
-  ready = subst (λ (s : Store). IsReady a s) (sym store) ready;
-  durable = subst (λ (s : Store). StaysDurable a a old.store s []) (sym store) (durable_nothing a old.store);
-  crashes = leaves_nothing a old.store [];
-  emits = makes_none a.emits a.emits refl;
+pub feeds_no_end : (old new : Session) (a : View) (byte : ℕ) → IsReady a old.store → old.refused < 2 ^ 64
+    → ((left : List ℕ) → resume old.splitter (byte ∷ left) ≡ behind [] (resume new.splitter left)) → new.store ≡ old.store → new.refused ≡ old.refused
+    → FeedsCrashSafe old new a a (byte ∷ [])
+feeds_no_end old new a byte ready small next store count = record {
+  feeds = record { done = []; reading = next };
+  grows = grows_nothing a a refl;
+  ready = rw store ready;
+  ran = λ w serves. ran_nothing w old new a small store count serves;
 }
 
--- the emits of the reply to one piece
-one_emit : (old stand : Session) (a b : View) (piece : Piece) → stand.store ≡ old.store
-    → MakesEmits (emits_of (step stand.store.machine piece).reply) a.emits b.emits
-    → MakesEmits (emits_of (step old.store.machine piece).reply + 0) a.emits b.emits
-one_emit old stand a b piece store makes =
-    subst (λ (s : Store). MakesEmits (emits_of (step s.machine piece).reply + 0) a.emits b.emits) store
-    (makes_alone (emits_of (step stand.store.machine piece).reply) a.emits b.emits makes)
+-- nothing was taken yet
+pub feeds_nothing : (session : Session) (a : View) → IsReady a session.store → session.refused < 2 ^ 64 → FeedsCrashSafe session session a a []
+feeds_nothing session a ready small = record {
+  feeds = record { done = []; reading = λ left. refl };
+  grows = grows_nothing a a refl;
+  ready = ready;
+  ran = λ w serves. ran_nothing w session session a small refl refl serves;
+}
 
--- a piece ended, and was answered
-pub feeds_answer_crash_safe : (old stand new : Session) (a b : View) (byte : ℕ) (piece : Piece)
-    → ((left : List ℕ) → resume old.splitter (byte ∷ left) ≡ behind (piece ∷ []) (resume stand.splitter left)) → stand.store ≡ old.store
-    → stand.refused ≡ old.refused → AnswersCrashSafe stand new a b piece → FeedsCrashSafe old new a b (byte ∷ [])
-unfolding feeds_answer
-feeds_answer_crash_safe old stand new a b byte piece next store count answered = record {
-  feeds = feeds_answer old stand new a.emitted b.emitted byte piece next (ap (λ (s : Store). s.machine) store) count answered.answers;
-  ready = answered.ready;
-  durable = subst (λ (s : Store). StaysDurable a b s new.store ((step s.machine piece).reply ++ [])) store
-      (subst (λ (l : List ℕ). StaysDurable a b stand.store new.store l) (sym (append-nil (step stand.store.machine piece).reply))
-      answered.durable);
-  crashes = subst (λ (s : Store). CrashLeavesPieces a b s (piece ∷ [])) store answered.crashes;
-  emits = one_emit old stand a b piece store answered.emits;
+-- `stand` is the session with what the splitter has read since
+module _ (old stand : Session) (store : stand.store ≡ old.store) (count : stand.refused ≡ old.refused) where
+  ran_from : (w : World) (pieces : List Piece) (new : Session) (a b : View) → RanPieces w pieces stand new a b → RanPieces w pieces old new a b
+  ran_from w pieces new a b ran = record {
+    serves = ran.serves;
+    shown = ran.shown;
+    count = ran.count ∙ ap (λ n. counted_by n (refusals_of w pieces)) count;
+    crashes = ran.crashes;
+    emits = ran.emits;
+    unspent = ran.unspent;
+  }
+
+  -- a piece ended, and was answered
+  pub feeds_answer : (new : Session) (a b : View) (byte : ℕ) (piece : Piece)
+      → ((left : List ℕ) → resume old.splitter (byte ∷ left) ≡ behind (piece ∷ []) (resume stand.splitter left)) → AnswersCrashSafe stand new a b piece
+      → FeedsCrashSafe old new a b (byte ∷ [])
+  feeds_answer new a b byte piece next answered = record {
+    feeds = record { done = piece ∷ []; reading = λ left. rw answered.reading (next left) };
+    grows = answered.grows;
+    ready = answered.ready;
+    ran = λ w serves. ran_from w (piece ∷ []) new a b (answered.ran w (rw store serves));
+  }
+
+  -- it stopped at the answer
+  pub stops_at : (stop : Stop) (a b : View) (byte : ℕ) (piece : Piece)
+      → ((left : List ℕ) → resume old.splitter (byte ∷ left) ≡ behind (piece ∷ []) (resume stand.splitter left)) → FailsCrashSafe stop stand a b (piece ∷ [])
+      → StopsCrashSafe stop old a b (byte ∷ [])
+  stops_at stop a b byte piece next fails = record {
+    stops = record { taken = byte ∷ []; rest = []; parts = refl; done = []; next = piece ∷ []; stand = stand.splitter; reading = next };
+    grows = fails.grows;
+    stopped = λ w serves. fails.stopped w (rw store serves);
+  }
+
+  -- ---- the last piece
+
+  pub finishes_answer : (new : Session) (a b : View) (piece : Piece) → (resume old.splitter []).last ≡ piece ∷ [] → AnswersCrashSafe stand new a b piece
+      → FinishesCrashSafe old new a b
+  finishes_answer new a b piece last answered = record {
+    grows = answered.grows;
+    ready = answered.ready;
+    ran = λ w serves. rw last (ran_from w (piece ∷ []) new a b (answered.ran w (rw store serves)));
+  }
+
+  pub fails_last : (stop : Stop) (a b : View) (piece : Piece) → (resume old.splitter []).last ≡ piece ∷ [] → FailsCrashSafe stop stand a b (piece ∷ [])
+      → FailsCrashSafe stop old a b (resume old.splitter []).last
+  fails_last stop a b piece last fails = record {
+    grows = fails.grows;
+    stopped = λ w serves. rw last (fails.stopped w (rw store serves));
+  }
+
+pub finishes_nothing : (old new : Session) (a : View) → (resume old.splitter []).last ≡ [] → new.store ≡ old.store → new.refused ≡ old.refused
+    → old.refused < 2 ^ 64 → IsReady a old.store → FinishesCrashSafe old new a a
+finishes_nothing old new a last store count small ready = record {
+  grows = grows_nothing a a refl;
+  ready = rw store ready;
+  ran = λ w serves. rw last (ran_nothing w old new a small store count serves);
 }
 
 -- it stopped before the byte was taken
-pub stops_before_on : (old : Session) (a : View) (bytes : List ℕ) → StopsCrashSafe Memory old a a bytes
-unfolding stops_before
-stops_before_on old a bytes = record {
-  stops = stops_before old a.emitted bytes;
-  crashes = leaves_nothing a old.store [];
-  emits = makes_none a.emits a.emits refl;
+pub stops_before : (old : Session) (a : View) (bytes : List ℕ) → StopsCrashSafe Memory old a a bytes
+stops_before old a bytes = record {
+  stops = record { taken = []; rest = bytes; parts = refl; done = []; next = []; stand = old.splitter; reading = λ left. refl };
+  grows = grows_nothing a a refl;
+  stopped = λ w serves. record { shown = appends_none a.emitted; crashes = leaves_nothing a w []; emits = makes_behind_none 0 a.emits a.emits (makes_none a.emits a.emits refl); unspent = tt };
 }
 
--- it stopped at the answer
-pub stops_at_on : (stop : Stop) (old stand : Session) (a b : View) (byte : ℕ) (piece : Piece)
-    → ((left : List ℕ) → resume old.splitter (byte ∷ left) ≡ behind (piece ∷ []) (resume stand.splitter left)) → stand.store ≡ old.store
-    → FailsCrashSafe stop stand a b (piece ∷ []) → StopsCrashSafe stop old a b (byte ∷ [])
-unfolding stops_at
-stops_at_on stop old stand a b byte piece next store fails = record {
-  stops = stops_at stop old stand a.emitted b.emitted byte piece next (ap (λ (s : Store). s.machine) store) fails.shown;
-  crashes = subst (λ (s : Store). CrashLeavesPieces a b s (piece ∷ [])) store fails.crashes;
-  emits = makes_behind_none (emits_failed (status_of_stop stop)) a.emits b.emits fails.emits;
-}
+-- ---- bytes, one part after another
 
--- ---- more bytes
-
-pub feeds_nothing_crash_safe : (session : Session) (a : View) → IsReady a session.store → session.refused < 2 ^ 64 → FeedsCrashSafe session session a a []
-unfolding feeds_nothing
-feeds_nothing_crash_safe session a ready small = record {
-  feeds = feeds_nothing session a.emitted small;
-  ready = ready;
-  durable = durable_nothing a session.store;
-  crashes = leaves_nothing a session.store [];
-  emits = makes_none a.emits a.emits refl;
-}
-
-pub feeds_both_crash_safe : (old mid new : Session) (a b c : View) (xs ys : List ℕ) → FeedsCrashSafe old mid a b xs → FeedsCrashSafe mid new b c ys
+pub feeds_both : (old mid new : Session) (a b c : View) (xs ys : List ℕ) → FeedsCrashSafe old mid a b xs → FeedsCrashSafe mid new b c ys
     → FeedsCrashSafe old new a c (xs ++ ys)
-unfolding feeds_both
-feeds_both_crash_safe old mid new a b c xs ys t u = record {
-  feeds = feeds_both old mid new a.emitted b.emitted c.emitted xs ys t.feeds u.feeds;
-  ready = u.ready;
-  durable = durable_both a b c old.store mid.store new.store t.feeds.done u.feeds.done t.feeds.state t.durable u.durable;
-  crashes = leaves_both a b c old.store mid.store t.feeds.done u.feeds.done t.feeds.state t.durable t.crashes u.crashes;
-  emits = makes_more old.store.machine mid.store.machine t.feeds.done u.feeds.done a.emits b.emits c.emits t.feeds.state t.emits u.emits;
-}
-
-pub stops_later_on : (stop : Stop) (old mid : Session) (a b c : View) (bytes xs ys rest : List ℕ) → FeedsCrashSafe old mid a b xs
-    → StopsCrashSafe stop mid b c ys → bytes ≡ xs ++ ys ++ rest → StopsCrashSafe stop old a c bytes
-unfolding stops_later
-stops_later_on stop old mid a b c bytes xs ys rest t u parts = record {
-  stops = stops_later stop old mid a.emitted b.emitted c.emitted bytes xs ys rest t.feeds u.stops parts;
-  crashes = subst (λ (l : List Piece). CrashLeavesPieces a c old.store l) (sym (append_assoc t.feeds.done u.stops.done u.stops.next))
-      (leaves_both a b c old.store mid.store t.feeds.done (u.stops.done ++ u.stops.next) t.feeds.state t.durable t.crashes u.crashes);
-  emits = makes_more_and old.store.machine mid.store.machine t.feeds.done u.stops.done a.emits b.emits c.emits t.feeds.state t.emits
-      (emits_failed (status_of_stop stop)) u.emits;
-}
-
--- ---- the last piece
-
-pub finishes_nothing : (old new : Session) (a : View) → (resume old.splitter []).last ≡ [] → new.store ≡ old.store
-    → new.refused ≡ old.refused → old.refused < 2 ^ 64 → IsReady a old.store → FinishesCrashSafe old new a a
-finishes_nothing old new a last store count small ready = record {
-  finishes = record { shown = rw last (appends_none a.emitted); count = rw last (omega (arith, count, small)) };
-  state = rw last (ap (λ (s : Store). s.machine) store);
-  ready = subst (λ (s : Store). IsReady a s) (sym store) ready;
-  durable = rw last (subst (λ (s : Store). StaysDurable a a old.store s []) (sym store) (durable_nothing a old.store));
-  crashes = rw last (leaves_nothing a old.store []);
-  emits = rw last (makes_none a.emits a.emits refl);
-}
-
-pub finishes_answer : (old stand new : Session) (a b : View) (piece : Piece) → (resume old.splitter []).last ≡ piece ∷ []
-    → stand.store ≡ old.store → stand.refused ≡ old.refused → AnswersCrashSafe stand new a b piece → FinishesCrashSafe old new a b
-finishes_answer old stand new a b piece last store count answered = record {
-  finishes = record {
-    shown = rw (last, append-nil) (subst (λ (s : Store). Appends a.emitted b.emitted (step s.machine piece).reply) store answered.answers.shown);
-    count = rw last
-        (subst (λ (s : Store). new.refused ≡ counted_by old.refused (refused_by s.machine piece + 0)) store
-        (subst (λ n. new.refused ≡ counted_by n (refused_by stand.store.machine piece + 0)) count
-        (answered.answers.count ∙ ap (counted_by stand.refused) (omega arith))));
+feeds_both old mid new a b c xs ys t u = record {
+  feeds = record {
+    done = t.feeds.done ++ u.feeds.done;
+    reading = reads_on old.splitter mid.splitter xs ys t.feeds.done t.feeds.reading new.splitter u.feeds.done u.feeds.reading;
   };
-  state = rw last (subst (λ (s : Store). new.store.machine ≡ (step s.machine piece).state) store answered.answers.state);
-  ready = answered.ready;
-  durable = rw (last, append-nil) (subst (λ (s : Store). StaysDurable a b s new.store (step s.machine piece).reply) store answered.durable);
-  crashes = rw last (subst (λ (s : Store). CrashLeavesPieces a b s (piece ∷ [])) store answered.crashes);
-  emits = rw last (one_emit old stand a b piece store answered.emits);
+  grows = grows_both a b c t.grows u.grows;
+  ready = u.ready;
+  ran = λ w serves.
+      (let first = t.ran w serves in
+      ran_both w t.feeds.done u.feeds.done old mid new a b c first (u.ran (after_pieces steps w t.feeds.done) first.serves));
+}
+
+-- a part, and then a stop
+pub stops_later : (stop : Stop) (old mid : Session) (a b c : View) (bytes xs ys rest : List ℕ) → FeedsCrashSafe old mid a b xs
+    → StopsCrashSafe stop mid b c ys → bytes ≡ xs ++ ys ++ rest → StopsCrashSafe stop old a c bytes
+stops_later stop old mid a b c bytes xs ys rest t u parts = record {
+  stops = record {
+    taken = xs ++ u.stops.taken;
+    rest = u.stops.rest ++ rest;
+    parts = parts ∙ ap (λ zs. (xs ++ zs) ++ rest) u.stops.parts ∙ simp append_assoc;
+    done = t.feeds.done ++ u.stops.done;
+    next = u.stops.next;
+    stand = u.stops.stand;
+    reading = λ left. reads_on old.splitter mid.splitter xs u.stops.taken t.feeds.done t.feeds.reading u.stops.stand (u.stops.done ++ u.stops.next) u.stops.reading left
+        ∙ ap (λ ps. behind ps (resume u.stops.stand left)) (sym (append_assoc t.feeds.done u.stops.done u.stops.next));
+  };
+  grows = grows_both a b c t.grows u.grows;
+  stopped = λ w serves.
+      (let first = t.ran w serves in
+      stopped_behind stop w t.feeds.done u.stops.done u.stops.next old mid a b c first (u.stopped (after_pieces steps w t.feeds.done) first.serves));
+}
+
+-- ---- the state of a store
+
+of_tables : (ts : List TableParts) → definitions (map table_of ts) ≡ map (λ (t : TableParts). t.definition) ts
+of_tables [] = refl
+of_tables (t ∷ ts) = ap (λ (ds : List Definition). t.definition ∷ ds) (of_tables ts)
+
+-- the state of the world that a store serves has its definitions and its largest timestamp
+pub state_served : (v : View) (store : StoreInHand) (w : World) → ServesWorld v store w → IsStateOf store.definitions store.max_timestamp (state_of w.layout)
+state_served v store w serves = record {
+  definitions_are = of_tables w.layout.tables ∙ sym serves.definitions;
+  newest_is = sym serves.timestamp;
 }

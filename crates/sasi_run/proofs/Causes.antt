@@ -1,99 +1,158 @@
 -- The causes of a run's status.
-use Rattle.std.proofs.Common.{◌≡◌, ◌≢◌, List, ℕ, length, ◌≤◌, IfSome, Option, Some, None, refl, subst}
-use Rattle.sasi_types.specs.declared.partitioner.Partitioner.TheVariants.{Lead8}
-use Rattle.sasi_model.specs.State.{State}
-use Rattle.sasi_host.specs.declared.fault.ReadFault.{ReadFault}
-use Rattle.sasi_host.specs.declared.fault.ReadFault.TheVariants as read_fault
+use Rattle.std.proofs.Common.{◌≡◌, ◌≢◌, List, ℕ, Some, refl, subst, inl, inr, Err}
+use Rattle.sasi_types.specs.declared.partitioner.Partitioner.{Partitioner}
 use Rattle.sasi_host.specs.Names.{Folder}
 use Rattle.sasi_host.specs.View.{SourceView, View}
-use Rattle.sasi_host.specs.Damages.{OnDamage}
 use Rattle.sasi_host.specs.declared.damage.Damage.{Damage}
 use Rattle.sasi_folder.specs.Damages.{FolderShows}
-use Rattle.sasi_folder.specs.Stands.{Stands}
-use Rattle.sasi_run.specs.Causes.{FailedCalls, RanThrough, ReportsDamage, RunCauses}
+use Rattle.sasi_folder.specs.Opens.{CanOpen, KeepsPartitioner}
+use Rattle.sasi_layout.specs.Layout.{Layout}
+use Rattle.sasi_layout.specs.Shape.{ShapeOf}
+use Rattle.sasi_layout.specs.Worlds.{ServesWorld, new_world}
+use Rattle.sasi_recover.specs.Faults.{OnDiffers, OnOpenDamage, TellsDifference}
+use Rattle.sasi_recover.specs.declared.fault.OpenFault.{OpenFault}
+use Rattle.sasi_recover.specs.declared.fault.OpenFault.TheVariants as open_fault
+use Rattle.sasi_store.specs.StoreView.{StoreView}
+use Rattle.sasi_run.specs.Causes.{ComparesPartitioners, FailedCalls, IsOfStore, IsRefusal, ReportsAtStart, ReportsDifference, ReportsNow, RunCauses}
+use Rattle.sasi_run.specs.CommandLine.{IsCommandLine, asked_by}
 use Rattle.sasi_run.specs.Crashing.{RunsCrashSafe}
-use Rattle.sasi_run.specs.Headline.{SCRIPT_MOST, status_of_fault}
+use Rattle.sasi_run.specs.Headline.{status_of_fault}
 use Rattle.sasi_run.specs.declared.status.Status.{Status}
-use Rattle.sasi_run.specs.declared.status.Status.TheVariants.{Usage, OutOfMemory, Damaged}
-use Rattle.sasi_run.specs.CommandLine.{IsCommandLine}
-use Rattle.sasi_run.specs.declared.store.Store.{Store}
+use Rattle.sasi_run.specs.declared.status.Status.TheVariants.{Usage, Damaged, PartitionerDiffers}
 use Rattle.sasi_run.proofs.Complete.{through}
 use Rattle.sasi_run.proofs.CountedEmits.{counts_opened, counts_unopened, counts_unused}
-use Rattle.sasi_run.proofs.FailedCalls.{nothing_failed, rose, unfailed_calls}
+use Rattle.sasi_run.proofs.FailedCalls.{damage_same, nothing_failed, rose, unfailed_calls}
+use Rattle.sasi_run.proofs.RunParts.{unmoved}
+use Rattle.sasi_run.proofs.WholeRun.{first_bytes}
 
--- the words name no script
+-- ---- the words name no script
+
 pub causes_unused : (words : List (List ℕ)) (script : SourceView) (a : View) → (IsCommandLine words → ⊥) → RunCauses words Usage script script a a
 causes_unused words script a none = record {
   usage = (λ is. none, λ no. refl);
   calls = unfailed_calls Usage script script a a (λ is. cc) (λ is. cc) (λ is. cc) (nothing_failed script a);
-  emits = λ folder s files stands. counts_unused s script a;
+  counts = λ folder l files shape. counts_unused l script a;
   damaged = λ damage is. cc;
-  refused = λ folder files none. record { refusal = tt; unread = refl; silent = refl };
-  undamaged = λ folder s damage files stands is. cc;
+  undamaged = λ folder l damage files shape is. cc;
+  refused = λ folder files no. record { refusal = tt; unread = refl; silent = refl };
+  differs = λ asked kept is. cc;
+  compares = λ folder asked kept files asks keeps other. tt;
   complete = λ are x y z. absurd (none are);
 }
 
-damage_same : (x y : Damage) → Damaged x ≡ Damaged y → x ≡ y
-damage_same x y is = cc
+-- ---- the folder wasn't opened
 
--- the folder wasn't opened
-pub causes_unopened : (words : List (List ℕ)) (fault : ReadFault) (script : SourceView) (a b : View) → IsCommandLine words → b.emitted ≡ a.emitted
-    → b.emits ≡ a.emits → FailedCalls (status_of_fault fault) script script a b
-    → ((folder : Folder) → a.files ≡ Some folder → OnDamage (FolderShows folder) fault)
-    → ((folder : Folder) (s : State) → a.files ≡ Some folder → Stands Lead8 folder s → OnDamage (λ _. ⊥) fault)
-    → RunCauses words (status_of_fault fault) script script a b
-causes_unopened words read_fault.Failed script a b are silent none_out calls shown undamaged = record {
-  usage = (λ is. cc, λ no. absurd (no are));
-  calls = calls;
-  emits = λ folder s files stands. counts_unopened read_fault.Failed s script a b silent none_out;
-  damaged = λ damage is. cc;
-  refused = λ folder files none. record { refusal = tt; unread = refl; silent = silent };
-  undamaged = λ folder s damage files stands is. cc;
-  complete = λ words x y disk. absurd (disk (rose a.disk_faults b.disk_faults b.failed_last (calls.folder_fault refl)));
-}
-causes_unopened words read_fault.OutOfMemory script a b are silent none_out calls shown undamaged = record {
-  usage = (λ is. cc, λ no. absurd (no are));
-  calls = calls;
-  emits = λ folder s files stands. counts_unopened read_fault.OutOfMemory s script a b silent none_out;
-  damaged = λ damage is. cc;
-  refused = λ folder files none. record { refusal = tt; unread = refl; silent = silent };
-  undamaged = λ folder s damage files stands is. cc;
-  complete = λ words x y disk. through_memory script.left;
-}
-  where
-    through_memory : (l : Option (List ℕ)) → IfSome l (λ script. length script ≤ SCRIPT_MOST → RanThrough OutOfMemory)
-    through_memory None = tt
-    through_memory (Some script) = λ _. tt
-causes_unopened words (read_fault.Damaged damage) script a b are silent none_out calls shown undamaged = record {
-  usage = (λ is. cc, λ no. absurd (no are));
-  calls = calls;
-  emits = λ folder s files stands. counts_unopened (read_fault.Damaged damage) s script a b silent none_out;
-  damaged = λ told is. subst (λ (d : Damage). ReportsDamage d script script a b) (damage_same damage told is)
-      (record { shows = shown; unread = refl; silent = silent });
-  refused = λ folder files none. record { refusal = tt; unread = refl; silent = silent };
-  undamaged = λ folder s told files stands is. undamaged folder s files stands;
-  complete = λ words x y disk. through_damage script.left;
-}
-  where
-    through_damage : (l : Option (List ℕ)) → IfSome l (λ script. length script ≤ SCRIPT_MOST → RanThrough (Damaged damage))
-    through_damage None = tt
-    through_damage (Some script) = λ _. tt
+-- what an opening promises that failed
+pub record OpenFailed (T : Type 0) (words : List (List ℕ)) (fault : OpenFault) (script : SourceView) (a b : View) : Type 0 where
+  pub silent : b.emitted ≡ a.emitted
+  pub none_out : b.emits ≡ a.emits
+  pub calls : FailedCalls (status_of_fault fault) script script a b
+  pub shows : (folder : Folder) → a.files ≡ Some folder → OnOpenDamage (FolderShows folder) fault
+  pub undamaged : (folder : Folder) (l : Layout) → a.files ≡ Some folder → ShapeOf (asked_by words) folder l → OnOpenDamage (λ _. ⊥) fault
+  pub tells : (folder : Folder) (wanted kept : Partitioner) → a.files ≡ Some folder → asked_by words ≡ Some wanted → KeepsPartitioner folder kept → wanted ≢ kept
+      → TellsDifference {T = T} wanted kept (Err fault)
+  pub differs : (folder : Folder) → a.files ≡ Some folder
+      → OnDiffers (λ wanted kept. (asked_by words ≡ Some wanted) × KeepsPartitioner folder kept × (wanted ≢ kept)) fault
 
--- the script was run
-pub causes_opened : (words : List (List ℕ)) (status : Status) (script later : SourceView) (a b c : View) (store : Store) → IsCommandLine words
-    → ((folder : Folder) → a.files ≡ Some folder → Stands Lead8 folder store.machine)
-    → ((folder : Folder) (s : State) → a.files ≡ Some folder → Stands Lead8 folder s → store.machine ≡ s) → b.emitted ≡ a.emitted
-    → b.emits ≡ a.emits → RunsCrashSafe status store script.left later.left b c
-    → FailedCalls status script later a c → status ≢ Usage → ((damage : Damage) → status ≢ Damaged damage)
+module _ (T : Type 0) (words : List (List ℕ)) (script : SourceView) (a b : View) (are : IsCommandLine words) where
+  is_refusal : (fault : OpenFault) → IsRefusal (status_of_fault fault)
+  is_refusal open_fault.Failed = tt
+  is_refusal open_fault.OutOfMemory = tt
+  is_refusal (open_fault.Damaged damage) = tt
+  is_refusal (open_fault.PartitionerDiffers asked kept) = tt
+
+  not_usage : (fault : OpenFault) → status_of_fault fault ≢ Usage
+  not_usage open_fault.Failed is = cc
+  not_usage open_fault.OutOfMemory is = cc
+  not_usage (open_fault.Damaged damage) is = cc
+  not_usage (open_fault.PartitionerDiffers asked kept) is = cc
+
+  damaged : (fault : OpenFault) → OpenFailed T words fault script a b → (damage : Damage) → status_of_fault fault ≡ Damaged damage
+      → ReportsAtStart damage script script a b
+  damaged open_fault.Failed failed damage is = cc
+  damaged open_fault.OutOfMemory failed damage is = cc
+  damaged (open_fault.Damaged told) failed damage is =
+      subst (λ (d : Damage). ReportsAtStart d script script a b) (damage_same told damage is) (record { shows = failed.shows; unread = refl; silent = failed.silent })
+  damaged (open_fault.PartitionerDiffers asked kept) failed damage is = cc
+
+  undamaged : (fault : OpenFault) → OpenFailed T words fault script a b → (folder : Folder) (l : Layout) (damage : Damage) → a.files ≡ Some folder
+      → ShapeOf (asked_by words) folder l → status_of_fault fault ≢ Damaged damage
+  undamaged open_fault.Failed failed folder l damage files shape is = cc
+  undamaged open_fault.OutOfMemory failed folder l damage files shape is = cc
+  undamaged (open_fault.Damaged told) failed folder l damage files shape is = failed.undamaged folder l files shape
+  undamaged (open_fault.PartitionerDiffers asked kept) failed folder l damage files shape is = cc
+
+  asked_same : (x y z u : Partitioner) → PartitionerDiffers x y ≡ PartitionerDiffers z u → (x ≡ z) × (y ≡ u)
+  asked_same x y z u is = (cc, cc)
+
+  differs : (fault : OpenFault) → OpenFailed T words fault script a b → (asked kept : Partitioner) → status_of_fault fault ≡ PartitionerDiffers asked kept
+      → ReportsDifference words asked kept script script a b
+  differs open_fault.Failed failed asked kept is = cc
+  differs open_fault.OutOfMemory failed asked kept is = cc
+  differs (open_fault.Damaged told) failed asked kept is = cc
+  differs (open_fault.PartitionerDiffers x y) failed asked kept is =
+      let same = asked_same x y asked kept is in
+      subst (λ (p : Partitioner). ReportsDifference words p kept script script a b) same.0
+      (subst (λ (p : Partitioner). ReportsDifference words x p script script a b) same.1
+      (record {
+        shows = λ folder files. (let is = failed.differs folder files in record { asks = is.0; keeps = is.1; other = is.2 });
+        unread = refl;
+        silent = failed.silent;
+      }))
+
+  compares : (fault : OpenFault) → OpenFailed T words fault script a b → (folder : Folder) (asked kept : Partitioner) → a.files ≡ Some folder
+      → asked_by words ≡ Some asked → KeepsPartitioner folder kept → asked ≢ kept → ComparesPartitioners (status_of_fault fault) asked kept
+  compares open_fault.Failed failed folder asked kept files asks keeps other = tt
+  compares open_fault.OutOfMemory failed folder asked kept files asks keeps other = tt
+  compares (open_fault.Damaged told) failed folder asked kept files asks keeps other = failed.tells folder asked kept files asks keeps other
+  compares (open_fault.PartitionerDiffers x y) failed folder asked kept files asks keeps other = failed.tells folder asked kept files asks keeps other
+
+  pub causes_unopened : (fault : OpenFault) → OpenFailed T words fault script a b → RunCauses words (status_of_fault fault) script script a b
+  causes_unopened fault failed = record {
+    usage = (λ is. absurd (not_usage fault is), λ no. absurd (no are));
+    calls = failed.calls;
+    counts = λ folder l files shape. counts_unopened fault l script a b (unmoved a b failed.silent) failed.none_out;
+    damaged = λ damage is. inl (damaged fault failed damage is);
+    undamaged = λ folder l damage files shape. undamaged fault failed folder l damage files shape;
+    refused = λ folder files no. record { refusal = is_refusal fault; unread = refl; silent = failed.silent };
+    differs = λ asked kept is. differs fault failed asked kept is;
+    compares = λ folder asked kept files asks keeps other. compares fault failed folder asked kept files asks keeps other;
+    complete = λ words x y z. through (status_of_fault fault) script.left script.left a.emitted b.emitted
+        (first_bytes fault script.left a.emitted b.emitted (unmoved a b failed.silent)) (not_usage fault)
+        (λ is. x (rose script.faults script.faults script.failed_last (failed.calls.script_fault is)))
+        (λ is. y (rose a.out_faults b.out_faults b.failed_last (failed.calls.output_fault is)))
+        (λ is. z (rose a.disk_faults b.disk_faults b.failed_last (failed.calls.folder_fault is)));
+  }
+
+-- ---- the script was run
+
+-- what an opening promises that succeeded
+pub record OpenDone (words : List (List ℕ)) (store : StoreView) (a b : View) : Type 0 where
+  pub silent : b.emitted ≡ a.emitted
+  pub none_out : b.emits ≡ a.emits
+  pub opens : (folder : Folder) → a.files ≡ Some folder → CanOpen folder
+  pub serves : (folder : Folder) (l : Layout) → a.files ≡ Some folder → ShapeOf (asked_by words) folder l → ServesWorld b store.hand (new_world l)
+  pub agrees : (folder : Folder) (wanted kept : Partitioner) → a.files ≡ Some folder → asked_by words ≡ Some wanted → KeepsPartitioner folder kept → wanted ≢ kept → ⊥
+
+of_store_used : (status : Status) → IsOfStore status → status ≢ Usage
+of_store_used status of is = subst (λ (s : Status). IsOfStore s) is of
+
+of_store_differs : (status : Status) (asked kept : Partitioner) → IsOfStore status → status ≢ PartitionerDiffers asked kept
+of_store_differs status asked kept of is = subst (λ (s : Status). IsOfStore s) is of
+
+pub causes_opened : (words : List (List ℕ)) (status : Status) (script later : SourceView) (a b c : View) (store : StoreView) → IsCommandLine words
+    → OpenDone words store a b → RunsCrashSafe status store script.left later.left b c → FailedCalls status script later a c → ReportsNow status c → IsOfStore status
     → RunCauses words status script later a c
-causes_opened words status script later a b c store are stands known silent none_out on calls used undamaged = record {
-  usage = (λ is. absurd (used is), λ no. absurd (no are));
+causes_opened words status script later a b c store are opened on calls reports of = record {
+  usage = (λ is. absurd (of_store_used status of is), λ no. absurd (no are));
   calls = calls;
-  emits = λ folder s files stood. counts_opened status s script later a b c store (known folder s files stood) silent none_out on;
-  damaged = λ damage is. absurd (undamaged damage is);
-  refused = λ folder files none. absurd (none store.machine (stands folder files));
-  undamaged = λ folder s damage files stands. undamaged damage;
-  complete = λ words x y z. through status store.machine script.left later.left b.emitted c.emitted on.runs used
+  counts = λ folder l files shape. counts_opened status l script later a b c opened.silent opened.none_out (on.from (new_world l) (opened.serves folder l files shape));
+  damaged = λ damage is. inr (reports damage is);
+  undamaged = λ folder l damage files shape. (on.from (new_world l) (opened.serves folder l files shape)).undamaged damage;
+  refused = λ folder files no. absurd (no (opened.opens folder files));
+  differs = λ asked kept is. absurd (of_store_differs status asked kept of is);
+  compares = λ folder asked kept files asks keeps other. absurd (opened.agrees folder asked kept files asks keeps other);
+  complete = λ words x y z. through status script.left later.left b.emitted c.emitted on.bytes (of_store_used status of)
       (λ is. x (rose script.faults later.faults later.failed_last (calls.script_fault is)))
       (λ is. y (rose a.out_faults c.out_faults c.failed_last (calls.output_fault is)))
       (λ is. z (rose a.disk_faults c.disk_faults c.failed_last (calls.folder_fault is)));

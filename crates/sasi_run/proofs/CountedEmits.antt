@@ -1,59 +1,97 @@
--- The emits of a whole run.
+-- The emits of a whole run, and the numbers that its pieces needed.
 use Rattle.std.proofs.Common.{◌≡◌, ℕ, List, [], Option, refl, subst}
+use Rattle.std.specs.Io.KnownBytes.{Appends}
+use Rattle.sasi_layout.specs.Layout.{Layout, state_of}
+use Rattle.sasi_layout.specs.Worlds.{new_world}
 use Rattle.sasi_model.specs.State.{State}
 use Rattle.sasi_model.specs.Parsers.{grammar_parser}
 use Rattle.sasi_host.specs.View.{SourceView, View}
-use Rattle.sasi_host.specs.declared.fault.ReadFault.{ReadFault}
-use Rattle.sasi_host.specs.declared.fault.ReadFault.TheVariants as read_fault
 use Rattle.sasi_cql.proofs.Parsing.{is_parser}
-use Rattle.sasi_run.specs.Crashing.{RunsCrashSafe}
-use Rattle.sasi_run.specs.EmitCounts.{CountsEmits, EmitsCounted}
+use Rattle.sasi_recover.specs.declared.fault.OpenFault.{OpenFault}
+use Rattle.sasi_recover.specs.declared.fault.OpenFault.TheVariants as open_fault
+use Rattle.sasi_run.specs.Causes.{CountsFrom}
+use Rattle.sasi_run.specs.Crashing.{RunsWorld}
+use Rattle.sasi_run.specs.EmitCounts.{EmitsCounted}
 use Rattle.sasi_run.specs.Headline.{script_of, status_of_fault}
 use Rattle.sasi_run.specs.declared.status.Status.{Status}
 use Rattle.sasi_run.specs.declared.status.Status.TheVariants.{Usage}
-use Rattle.sasi_run.specs.declared.store.Store.{Store}
 use Rattle.sasi_run.proofs.EmitLaws.{makes_none}
-use Rattle.sasi_run.proofs.WholeRun.{first_runs, moved, nothing_read, nothing_runs}
+use Rattle.sasi_run.proofs.WholeRun.{first_runs, moved, nothing_runs}
 
 -- the words name no script
-pub counts_unused : (s : State) (script : SourceView) (a : View) → CountsEmits Usage s script.left script.left a a
-counts_unused s script a = record {
-  parser = grammar_parser;
-  parses = is_parser;
-  runs = nothing_runs s script.left a.emitted;
-  counted = record { answered = []; by_status = refl; emits = makes_none a.emits a.emits refl };
+pub counts_unused : (l : Layout) (script : SourceView) (a : View) → CountsFrom Usage l script script a a
+counts_unused l script a = record {
+  emits = record {
+    parser = grammar_parser;
+    parses = is_parser;
+    runs = nothing_runs (state_of l) script.left a.emitted;
+    counted = record { answered = []; by_status = refl; emits = makes_none a.emits a.emits refl };
+  };
+  numbers = tt;
 }
 
-none_counted : (fault : ReadFault) (s : State) (l o o2 : Option (List ℕ)) (same : o2 ≡ o) (n m : ℕ) → m ≡ n
-    → EmitsCounted grammar_parser (status_of_fault fault) s (script_of l (first_runs fault s l o o2 same).read) (first_runs fault s l o o2 same).read
-    (first_runs fault s l o o2 same).shown n m
-unfolding first_runs nothing_read
-none_counted read_fault.Failed s l o o2 same n m none =
-    record { answered = []; by_status = ((first_runs read_fault.Failed s l o o2 same).shows, refl); emits = makes_none n m none }
-none_counted read_fault.OutOfMemory s l o o2 same n m none =
-    record { answered = []; by_status = ((first_runs read_fault.OutOfMemory s l o o2 same).shows, refl); emits = makes_none n m none }
-none_counted (read_fault.Damaged damage) s l o o2 same n m none = record { answered = []; by_status = refl; emits = makes_none n m none }
+module _ (s : State) (l o o2 : Option (List ℕ)) (silent : Appends o o2 []) (n m : ℕ) (none : m ≡ n) where
+  none_counted : (fault : OpenFault)
+      → EmitsCounted grammar_parser (status_of_fault fault) s (script_of l (first_runs fault s l o o2 silent).read) (first_runs fault s l o o2 silent).read
+      (first_runs fault s l o o2 silent).shown n m
+  unfolding first_runs
+  none_counted open_fault.Failed =
+      record { answered = []; by_status = ((first_runs open_fault.Failed s l o o2 silent).shows, refl); emits = makes_none n m none }
+  none_counted open_fault.OutOfMemory =
+      record { answered = []; by_status = ((first_runs open_fault.OutOfMemory s l o o2 silent).shows, refl); emits = makes_none n m none }
+  none_counted (open_fault.Damaged damage) = record { answered = []; by_status = refl; emits = makes_none n m none }
+  none_counted (open_fault.PartitionerDiffers asked kept) = record { answered = []; by_status = refl; emits = makes_none n m none }
 
 -- the folder wasn't opened
-pub counts_unopened : (fault : ReadFault) (s : State) (script : SourceView) (a b : View) → b.emitted ≡ a.emitted → b.emits ≡ a.emits
-    → CountsEmits (status_of_fault fault) s script.left script.left a b
-counts_unopened fault s script a b silent none = record {
-  parser = grammar_parser;
-  parses = is_parser;
-  runs = first_runs fault s script.left a.emitted b.emitted silent;
-  counted = none_counted fault s script.left a.emitted b.emitted silent a.emits b.emits none;
+pub counts_unopened : (fault : OpenFault) (l : Layout) (script : SourceView) (a b : View) → Appends a.emitted b.emitted [] → b.emits ≡ a.emits
+    → CountsFrom (status_of_fault fault) l script script a b
+counts_unopened open_fault.Failed l script a b silent none = record {
+  emits = record {
+    parser = grammar_parser;
+    parses = is_parser;
+    runs = first_runs open_fault.Failed (state_of l) script.left a.emitted b.emitted silent;
+    counted = none_counted (state_of l) script.left a.emitted b.emitted silent a.emits b.emits none open_fault.Failed;
+  };
+  numbers = tt;
+}
+counts_unopened open_fault.OutOfMemory l script a b silent none = record {
+  emits = record {
+    parser = grammar_parser;
+    parses = is_parser;
+    runs = first_runs open_fault.OutOfMemory (state_of l) script.left a.emitted b.emitted silent;
+    counted = none_counted (state_of l) script.left a.emitted b.emitted silent a.emits b.emits none open_fault.OutOfMemory;
+  };
+  numbers = tt;
+}
+counts_unopened (open_fault.Damaged damage) l script a b silent none = record {
+  emits = record {
+    parser = grammar_parser;
+    parses = is_parser;
+    runs = first_runs (open_fault.Damaged damage) (state_of l) script.left a.emitted b.emitted silent;
+    counted = none_counted (state_of l) script.left a.emitted b.emitted silent a.emits b.emits none (open_fault.Damaged damage);
+  };
+  numbers = tt;
+}
+counts_unopened (open_fault.PartitionerDiffers asked kept) l script a b silent none = record {
+  emits = record {
+    parser = grammar_parser;
+    parses = is_parser;
+    runs = first_runs (open_fault.PartitionerDiffers asked kept) (state_of l) script.left a.emitted b.emitted silent;
+    counted = none_counted (state_of l) script.left a.emitted b.emitted silent a.emits b.emits none (open_fault.PartitionerDiffers asked kept);
+  };
+  numbers = tt;
 }
 
 -- the script was run
-pub counts_opened : (status : Status) (s : State) (script later : SourceView) (a b c : View) (store : Store) → store.machine ≡ s
-    → b.emitted ≡ a.emitted → b.emits ≡ a.emits → RunsCrashSafe status store script.left later.left b c
-    → CountsEmits status s script.left later.left a c
+pub counts_opened : (status : Status) (l : Layout) (script later : SourceView) (a b c : View) → b.emitted ≡ a.emitted → b.emits ≡ a.emits
+    → RunsWorld status (new_world l) script.left later.left b c → CountsFrom status l script later a c
 unfolding moved
-counts_opened status s script later a b c store is silent none on = record {
-  parser = grammar_parser;
-  parses = is_parser;
-  runs = moved status script.left later.left s store.machine is b.emitted a.emitted c.emitted silent on.runs;
-  counted = subst (λ (n : ℕ). EmitsCounted grammar_parser status s (script_of script.left on.runs.read) on.runs.read on.runs.shown n c.emits) none
-      (subst (λ (t : State). EmitsCounted grammar_parser status t (script_of script.left on.runs.read) on.runs.read on.runs.shown b.emits c.emits) is
-      on.emits);
+counts_opened status l script later a b c silent none on = record {
+  emits = record {
+    parser = grammar_parser;
+    parses = is_parser;
+    runs = moved status (state_of l) script.left later.left b.emitted a.emitted c.emitted silent on.runs;
+    counted = subst (λ (n : ℕ). EmitsCounted grammar_parser status (state_of l) (script_of script.left on.runs.read) on.runs.read on.runs.shown n c.emits) none on.emits;
+  };
+  numbers = on.spends;
 }

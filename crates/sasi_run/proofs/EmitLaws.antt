@@ -1,14 +1,12 @@
 -- How many emits replies take.
-use Rattle.std.proofs.Common.{◌≡◌, ◌==◌, ◌+◌, ◌∙◌, ℕ, zero, suc, Bool, true, false, List, [], ◌∷◌, ◌++◌, length, Err, refl, sym, ap, subst, arith, rules, add-zero}
-use Rattle.sasi_host.specs.declared.fault.HostFault.{HostFault}
-use Rattle.sasi_host.specs.declared.fault.HostFault.TheVariants.{Failed, OutOfMemory}
+use Rattle.std.proofs.Common.{◌≡◌, ◌==◌, ◌+◌, ◌∙◌, ℕ, zero, suc, Bool, true, false, List, [], ◌∷◌, ◌++◌, length, refl, sym, subst, arith, rules, add-zero}
 use Rattle.sasi_host.specs.View.{counted, counted_by}
 use Rattle.sasi_model.specs.Pieces.{Piece}
-use Rattle.sasi_model.specs.State.{State}
-use Rattle.sasi_model.specs.Step.{state_after, step}
-use Rattle.sasi_run.specs.EmitCounts.{MakesEmits, emits_for, emits_of}
-use Rattle.sasi_run.specs.FileCalls.{emits_after, emits_by}
-use Rattle.sasi_run.specs.Session.{stop_of}
+use Rattle.sasi_layout.specs.Running.{after_pieces}
+use Rattle.sasi_layout.specs.Worlds.{World, steps}
+use Rattle.sasi_run.specs.EmitCounts.{MakesEmits, emits_in, emits_of}
+use Rattle.sasi_run.specs.FileCalls.{emits_after}
+use Rattle.sasi_run.proofs.Worlds.{emits_both}
 
 -- ---- one reply
 
@@ -20,11 +18,6 @@ no_reply n (byte ∷ reply) test tested is =
 pub one_reply : (n m : ℕ) (reply : List ℕ) (test : Bool) → test ≡ (length reply == 0) → test ≡ false → m ≡ counted n → m ≡ emits_after n reply
 one_reply n m [] test tested is once = (let empty : test ≡ true = tested in cc)
 one_reply n m (byte ∷ reply) test tested is once = once
-
--- a change that wasn't made
-pub emits_nothing : (T : Type 0) (f : HostFault) (n m : ℕ) (reply : List ℕ) → m ≡ n → m ≡ emits_by {T = T} (Err (stop_of f)) n reply
-emits_nothing T Failed n m reply same = same
-emits_nothing T OutOfMemory n m reply same = same
 
 -- the reply behind a change
 pub emits_reply : (n m k : ℕ) (bytes reply : List ℕ) → m ≡ n → bytes ≡ reply → k ≡ emits_after m bytes → k ≡ emits_after n reply
@@ -66,20 +59,13 @@ makes_both (suc j) (suc k) a b c first second = record { none = λ is. absurd (o
 
 -- ---- the replies to pieces
 
-pub emits_for-append : (ps qs : List Piece) (s : State) → emits_for s (ps ++ qs) ≡ emits_for s ps + emits_for (state_after s ps) qs
-emits_for-append [] qs s = omega arith
-emits_for-append (p ∷ ps) qs s = let e = emits_for-append ps qs (step s p).state in omega (arith, e)
-
-module _ (s m : State) (ps qs : List Piece) (a b c : ℕ) (is : m ≡ state_after s ps) (first : MakesEmits (emits_for s ps) a b) where
-  joined : emits_for s ps + emits_for m qs ≡ emits_for s (ps ++ qs)
-  joined = ap (λ (t : State). emits_for s ps + emits_for t qs) is ∙ sym (emits_for-append ps qs s)
-
+module _ (w : World) (ps qs : List Piece) (a b c : ℕ) (first : MakesEmits (emits_in w ps) a b) where
   -- the replies to more pieces
-  pub makes_more : MakesEmits (emits_for m qs) b c → MakesEmits (emits_for s (ps ++ qs)) a c
-  makes_more second = makes_same _ _ a c joined (makes_both (emits_for s ps) (emits_for m qs) a b c first second)
+  pub makes_more : MakesEmits (emits_in (after_pieces steps w ps) qs) b c → MakesEmits (emits_in w (ps ++ qs)) a c
+  makes_more second = makes_same _ _ a c (sym (emits_both ps qs w)) (makes_both (emits_in w ps) (emits_in (after_pieces steps w ps) qs) a b c first second)
 
   -- and other emits behind them
-  pub makes_more_and : (others : ℕ) → MakesEmits (emits_for m qs + others) b c → MakesEmits (emits_for s (ps ++ qs) + others) a c
+  pub makes_more_and : (others : ℕ) → MakesEmits (emits_in (after_pieces steps w ps) qs + others) b c → MakesEmits (emits_in w (ps ++ qs) + others) a c
   makes_more_and others second =
-      let sum : emits_for s ps + (emits_for m qs + others) ≡ emits_for s (ps ++ qs) + others = omega (arith, joined) in
-      makes_same _ _ a c sum (makes_both (emits_for s ps) (emits_for m qs + others) a b c first second)
+      let sum : emits_in w ps + (emits_in (after_pieces steps w ps) qs + others) ≡ emits_in w (ps ++ qs) + others = omega (arith, emits_both ps qs w) in
+      makes_same _ _ a c sum (makes_both (emits_in w ps) (emits_in (after_pieces steps w ps) qs + others) a b c first second)

@@ -1,19 +1,23 @@
 -- Which calls failed in a run, part by part.
-use Rattle.std.proofs.Common.{◌≢◌, ◌==◌, ℕ, Bool, true, false, if◌then◌else◌, refl, ◌∙◌, arith, Ok, Err}
-use Rattle.sasi_host.specs.declared.fault.HostFault.{HostFault}
-use Rattle.sasi_host.specs.declared.fault.HostFault.TheVariants as host_fault
-use Rattle.sasi_host.specs.declared.fault.ReadFault.{ReadFault}
-use Rattle.sasi_host.specs.declared.fault.ReadFault.TheVariants as read_fault
-use Rattle.sasi_host.specs.View.{FailedAtLast, FailsOnlyAsTold, ListCauses, OutCauses, Rose, SourceCauses, SourceView, View}
+use Rattle.std.proofs.Common.{◌≢◌, ◌≡◌, ◌==◌, ℕ, Bool, true, false, if◌then◌else◌, refl, subst, ◌∙◌, arith, Ok, Err, Some}
+use Rattle.sasi_host.specs.declared.damage.Damage.{Damage}
+use Rattle.sasi_host.specs.Names.{Folder}
+use Rattle.sasi_host.specs.View.{DiskCauses, FailedAtLast, FailsOnlyAsTold, OutCauses, Rose, SourceCauses, SourceView, View}
 use Rattle.sasi_host.specs.FailingLaws.{failed_behind, read_told_none, read_told_on, told_none, told_on}
-use Rattle.sasi_gated.specs.Causes.{ReadingCauses}
+use Rattle.sasi_folder.specs.Damages.{FolderShows}
+use Rattle.sasi_recover.specs.Faults.{OpenCauses}
+use Rattle.sasi_recover.specs.declared.fault.OpenFault.{OpenFault}
+use Rattle.sasi_recover.specs.declared.fault.OpenFault.TheVariants as open_fault
+use Rattle.sasi_store.specs.Faults.{OnStepDamage, StepCauses}
+use Rattle.sasi_store.specs.declared.fault.StepFault.{StepFault}
+use Rattle.sasi_store.specs.declared.fault.StepFault.TheVariants as step_fault
 use Rattle.sasi_run.specs.declared.session.Stop.{Stop}
-use Rattle.sasi_run.specs.declared.session.Stop.TheVariants.{Disk, Memory, Output}
+use Rattle.sasi_run.specs.declared.session.Stop.TheVariants.{Disk, Memory, Output, Corrupt, Spent}
 use Rattle.sasi_run.specs.declared.status.Status.{Status}
-use Rattle.sasi_run.specs.declared.status.Status.TheVariants.{Done, Refused, ScriptFault, FolderFault, OutputFault, Damaged}
-use Rattle.sasi_run.specs.Causes.{FailedCalls}
+use Rattle.sasi_run.specs.declared.status.Status.TheVariants.{Done, Refused, ScriptFault, FolderFault, OutputFault, Damaged, NumbersSpent, PartitionerDiffers}
+use Rattle.sasi_run.specs.Causes.{FailedCalls, ReportsNow}
 use Rattle.sasi_run.specs.Headline.{status_of_count, status_of_fault, status_of_stop}
-use Rattle.sasi_run.specs.Session.{NoneFailed, StopFaults, stop_of}
+use Rattle.sasi_run.specs.Session.{NoneFailed, ShowsNow, StopFaults, stop_of}
 use Rattle.sasi_run.specs.StatusCauses.{FailedWith, NothingFailed}
 
 pub none_failed : (v : View) → NoneFailed v v
@@ -26,23 +30,28 @@ none_on a b c first second = record { disk = second.disk ∙ first.disk; out = s
 
 -- a part behind one in which nothing failed
 pub stops_behind : (stop : Stop) (a b c : View) → NoneFailed a b → StopFaults stop b c → StopFaults stop a c
-stops_behind Memory a b c none stops = record { disk = stops.disk ∙ none.disk; out = stops.out ∙ none.out }
+stops_behind Memory a b c none stops = none_on a b c none stops
 stops_behind Disk a b c none stops = record {
   disk = failed_behind a.disk_faults b.disk_faults c.disk_faults c.failed_last none.disk stops.disk;
   out = stops.out ∙ none.out;
 }
+stops_behind (Corrupt damage) a b c none stops = (none_on a b c none stops.0, stops.1)
+stops_behind (Spent kind) a b c none stops = none_on a b c none stops
 stops_behind Output a b c none stops = record {
   disk = stops.disk ∙ none.disk;
   out = failed_behind a.out_faults b.out_faults c.out_faults c.failed_last none.out stops.out;
 }
 
--- a change of the store that wasn't made
-pub step_stops : {T : Type 0} (f : HostFault) (a b : View) → ListCauses {T = T} a b (Err f) → StopFaults (stop_of f) a b
-step_stops host_fault.Failed a b causes = record { disk = causes.failed refl; out = causes.out }
-step_stops host_fault.OutOfMemory a b causes = record { disk = causes.memory refl; out = causes.out }
+-- a statement that wasn't done
+pub step_stops : {T : Type 0} (f : StepFault) (a b : View) → StepCauses {T = T} a b (Err f)
+    → ((folder : Folder) → b.files ≡ Some folder → OnStepDamage (FolderShows folder) f) → StopFaults (stop_of f) a b
+step_stops step_fault.Failed a b causes shows = record { disk = causes.failed refl; out = causes.out }
+step_stops step_fault.OutOfMemory a b causes shows = record { disk = causes.others (λ is. cc); out = causes.out }
+step_stops (step_fault.Damaged damage) a b causes shows = (record { disk = causes.others (λ is. cc); out = causes.out }, shows)
+step_stops (step_fault.NumbersSpent kind) a b causes shows = record { disk = causes.others (λ is. cc); out = causes.out }
 
 -- and one that was
-pub step_went : {T : Type 0} (x : T) (a b : View) → ListCauses a b (Ok x) → NoneFailed a b
+pub step_went : {T : Type 0} (x : T) (a b : View) → StepCauses a b (Ok x) → NoneFailed a b
 step_went x a b causes = record { disk = causes.ok; out = causes.out }
 
 -- the reply behind it couldn't be emitted
@@ -127,7 +136,7 @@ script_calls fault script later a read = record {
   host_told = told_none a;
 }
 
--- a run that the host or memory stopped
+-- a run that the host, its folder, its numbers or memory stopped
 pub stop_calls : (stop : Stop) (script : SourceView) (a b : View) → StopFaults stop a b → FailsOnlyAsTold a b
     → FailedCalls (status_of_stop stop) script script a b
 stop_calls Memory script a b stops told = record {
@@ -150,6 +159,10 @@ stop_calls Disk script a b stops told = record {
   script_told = read_told_none script;
   host_told = told;
 }
+stop_calls (Corrupt damage) script a b stops told =
+    unfailed_calls (Damaged damage) script script a b (λ is. cc) (λ is. cc) (λ is. cc) (nothing_of_host script a b stops.0 told)
+stop_calls (Spent kind) script a b stops told =
+    unfailed_calls (NumbersSpent kind) script script a b (λ is. cc) (λ is. cc) (λ is. cc) (nothing_of_host script a b stops told)
 stop_calls Output script a b stops told = record {
   script_fault = λ is. cc;
   folder_fault = λ is. cc;
@@ -161,22 +174,57 @@ stop_calls Output script a b stops told = record {
   host_told = told;
 }
 
+-- a use of the store that couldn't be ended
+pub unclosed_calls : {T E : Type 0} (fault : E) (script : SourceView) (a b : View) → DiskCauses {T = T} a b (Err fault) → FailsOnlyAsTold a b
+    → FailedCalls FolderFault script script a b
+unclosed_calls fault script a b causes told = stop_calls Disk script a b (record { disk = causes.failed; out = causes.out }) told
+
+-- and one that was
+pub closed_nothing : {T E : Type 0} (x : T) (script : SourceView) (a b : View) → DiskCauses {T = T} {E = E} a b (Ok x) → FailsOnlyAsTold a b → NothingFailed script script a b
+closed_nothing x script a b causes told = nothing_of_host script a b (record { disk = causes.ok; out = causes.out }) told
+
 pub ended_calls : (status : Status) (script : SourceView) (a b : View) → FailedWith status a b → FailsOnlyAsTold a b → FailedCalls status script script a b
 ended_calls status script a b ended told = rw ended.gives (stop_calls ended.stop script a b ended.faults told)
 
 -- a folder that wasn't opened
-pub unopened_calls : {T : Type 0} (fault : ReadFault) (script : SourceView) (a b : View) → ReadingCauses {T = T} a b (Err fault) → FailsOnlyAsTold a b
+pub unopened_calls : {T : Type 0} (fault : OpenFault) (script : SourceView) (a b : View) → OpenCauses {T = T} a b (Err fault) → FailsOnlyAsTold a b
     → FailedCalls (status_of_fault fault) script script a b
-unopened_calls read_fault.Failed script a b causes told = stop_calls Disk script a b (record { disk = causes.failed refl; out = causes.out }) told
-unopened_calls read_fault.OutOfMemory script a b causes told = stop_calls Memory script a b (record { disk = causes.memory refl; out = causes.out }) told
-unopened_calls (read_fault.Damaged damage) script a b causes told =
+unopened_calls open_fault.Failed script a b causes told = stop_calls Disk script a b (record { disk = causes.failed refl; out = causes.out }) told
+unopened_calls open_fault.OutOfMemory script a b causes told = stop_calls Memory script a b (record { disk = causes.others (λ is. cc); out = causes.out }) told
+unopened_calls (open_fault.Damaged damage) script a b causes told =
     unfailed_calls (Damaged damage) script script a b (λ is. cc) (λ is. cc) (λ is. cc)
-    (nothing_of_host script a b (record { disk = causes.damaged damage refl; out = causes.out }) told)
+    (nothing_of_host script a b (record { disk = causes.others (λ is. cc); out = causes.out }) told)
+unopened_calls (open_fault.PartitionerDiffers asked kept) script a b causes told =
+    unfailed_calls (PartitionerDiffers asked kept) script script a b (λ is. cc) (λ is. cc) (λ is. cc)
+    (nothing_of_host script a b (record { disk = causes.others (λ is. cc); out = causes.out }) told)
 
 -- and one that was
-pub opened_calls : {T : Type 0} (store : T) (script : SourceView) (a b : View) → ReadingCauses a b (Ok store) → FailsOnlyAsTold a b
+pub opened_calls : {T : Type 0} (store : T) (script : SourceView) (a b : View) → OpenCauses a b (Ok store) → FailsOnlyAsTold a b
     → NothingFailed script script a b
 opened_calls store script a b causes told = nothing_of_host script a b (record { disk = causes.ok; out = causes.out }) told
+
+-- ---- what is damaged
+
+pub damage_same : (x y : Damage) → Damaged x ≡ Damaged y → x ≡ y
+damage_same x y is = cc
+
+-- the folder that stopped the run shows the damage
+pub stop_reports : (stop : Stop) (a b : View) → StopFaults stop a b → ReportsNow (status_of_stop stop) b
+stop_reports Memory a b stops damage is = cc
+stop_reports Disk a b stops damage is = cc
+stop_reports Output a b stops damage is = cc
+stop_reports (Spent kind) a b stops damage is = cc
+stop_reports (Corrupt told) a b stops damage is = subst (λ (d : Damage). ShowsNow b d) (damage_same told damage is) stops.1
+
+pub ended_reports : (status : Status) (a b : View) → FailedWith status a b → ReportsNow status b
+ended_reports status a b ended = rw ended.gives (stop_reports ended.stop a b ended.faults)
+
+pub count_reports : (n : ℕ) (b : View) → ReportsNow (status_of_count n) b
+count_reports n b = by (n == 0)
+  where
+    by : (none : Bool) → ReportsNow (if none then Done else Refused n) b
+    by true damage is = cc
+    by false damage is = cc
 
 -- where one call failed the count rose
 pub rose : (before now : ℕ) (last : Bool) → FailedAtLast before now last → Rose before now

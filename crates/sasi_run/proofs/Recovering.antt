@@ -11,10 +11,20 @@ use Rattle.sasi_model.specs.State.{State}
 use Rattle.sasi_model.specs.Parsers.{grammar_parser}
 use Rattle.sasi_model.specs.Step.{step, step_as, step_by, state_after, replies}
 use Rattle.sasi_model.specs.Abbreviations.{execute_or}
-use Rattle.sasi_folder.specs.Stands.{StandsSealed}
-use Rattle.sasi_run.specs.Crashing.{Crashed, IsAnswering, IsBetweenPieces}
+use Rattle.sasi_layout.specs.Shape.{StandsSealed}
 use Rattle.sasi_run.specs.Recovering.{IsReplyCount, IsPartOfNextReply, next_reply, IsStateAfter}
-use Rattle.sasi_run.proofs.RunParts.{replies-append, state_after-append}
+use Rattle.sasi_run.proofs.Moments.{Crashed, IsAnswering, IsBetweenPieces}
+
+-- ---- runs of the model, joined
+
+state_after-append : (ps qs : List Piece) (s : State) → state_after s (ps ++ qs) ≡ state_after (state_after s ps) qs
+state_after-append [] qs s = refl
+state_after-append (p ∷ ps) qs s = state_after-append ps qs (step s p).state
+
+replies-append : (ps qs : List Piece) (s : State) → replies s (ps ++ qs) ≡ replies s ps ++ replies (state_after s ps) qs
+replies-append [] qs s = refl
+replies-append (p ∷ ps) qs s = rw (replies-append ps qs (step s p).state)
+    (sym (append_assoc (step s p).reply (replies (step s p).state ps) (replies (state_after (step s p).state ps) qs)))
 
 -- ---- a piece without a reply changes nothing
 

@@ -1,148 +1,137 @@
 -- What a crash leaves of a whole run, from its folder's opening on.
-use Rattle.std.proofs.Common.{◌≡◌, ℕ, List, [], ◌∷◌, ◌++◌, Option, Some, None, IsSome, refl, sym, ◌∙◌, ap, subst, inl, inr, ⊎_elim, arith}
+use Rattle.std.proofs.Common.{◌≡◌, ◌⊎◌, ℕ, List, [], ◌++◌, Option, Some, refl, sym, ◌∙◌, subst, inl, inr, ⊎_elim, arith}
 use Rattle.std.proofs.lemmas.List.{append-nil}
 use Rattle.std.specs.Io.KnownBytes.{Appends}
-use Rattle.sasi_types.specs.declared.partitioner.Partitioner.TheVariants.{Lead8}
+use Rattle.sasi_types.specs.declared.partitioner.Partitioner.{Partitioner}
+use Rattle.sasi_host.specs.Names.{Folder}
+use Rattle.sasi_host.specs.View.{IsSound, IsTold, LeavesNow, SourceView, View}
+use Rattle.sasi_host.specs.Disk.{Changes, FromImage, Same}
+use Rattle.sasi_host.specs.Contents.{told_files}
+use Rattle.sasi_host.specs.ChangeLaws.{changes_as, crash_leaves_on, since_start, stays}
+use Rattle.sasi_layout.specs.Layout.{Layout, state_of}
+use Rattle.sasi_layout.specs.Running.{Crashed, after_pieces}
+use Rattle.sasi_layout.specs.Serving.{Ended, closed}
+use Rattle.sasi_layout.specs.Shape.{ShapeOf}
+use Rattle.sasi_layout.specs.Wells.{IsWell}
+use Rattle.sasi_layout.specs.Worlds.{ServesWorld, new_world, steps}
+use Rattle.sasi_layout.proofs.LayoutLaws.{bare_state}
 use Rattle.sasi_model.specs.Pieces.{Piece, all_pieces}
 use Rattle.sasi_model.specs.State.{State}
-use Rattle.sasi_model.specs.Abbreviations.{empty_state}
 use Rattle.sasi_model.specs.Parsers.{grammar_parser}
-use Rattle.sasi_model.specs.Step.{replies, state_after}
-use Rattle.sasi_host.specs.declared.fault.ReadFault.{ReadFault}
-use Rattle.sasi_host.specs.declared.fault.ReadFault.TheVariants as read_fault
-use Rattle.sasi_host.specs.Names.{Folder}
-use Rattle.sasi_host.specs.View.{IsSound, IsTold, LeavesNow, SourceView, View, contents_in}
-use Rattle.sasi_host.specs.Disk.{Changes, FromImage, Same}
-use Rattle.sasi_host.specs.Contents.{told_after, told_files}
-use Rattle.sasi_host.specs.ChangeLaws.{changes_as, crash_leaves_on, since_start, stays}
-use Rattle.sasi_folder.specs.Stands.{Stands}
-use Rattle.sasi_run.specs.Crashing.{Crashed, HasDurableStore, CrashLeavesPieces, RunsCrashSafe, IsDurableAfter}
-use Rattle.sasi_run.specs.Headline.{Headline, RanToEnd, Runs, RunsFrom, EmitsByStatus, EmitsFirstReplies, StandsWithoutUnlisted, StartsFrom, script_of, status_of_fault}
-use Rattle.sasi_run.specs.Recovering.{Recovers}
-use Rattle.sasi_run.specs.Storing.{IsReady, UnchangedOrStands, IsStoreDurable}
+use Rattle.sasi_model.specs.Step.{replies}
+use Rattle.sasi_cql.proofs.Parsing.{is_parser}
+use Rattle.sasi_recover.specs.declared.fault.OpenFault.{OpenFault}
+use Rattle.sasi_recover.specs.declared.fault.OpenFault.TheVariants as open_fault
+use Rattle.sasi_store.specs.StoreView.{StoreView}
+use Rattle.sasi_run.specs.Crashing.{CrashLeavesPieces, RunsCrashSafe, RunsWorld}
+use Rattle.sasi_run.specs.Headline.{EmitsFirstReplies, Headline, RanToEnd, ReadsBytes, Runs, RunsFrom, StandsForEnd, StartsFrom, script_of, status_of_fault}
+use Rattle.sasi_run.specs.Recovering.{HasShapeOfImage, LeavesShape, Recovers}
 use Rattle.sasi_run.specs.declared.status.Status.{Status}
 use Rattle.sasi_run.specs.declared.status.Status.TheVariants.{Usage}
-use Rattle.sasi_run.specs.declared.store.Store.{Store}
-use Rattle.sasi_cql.proofs.Parsing.{is_parser}
-use Rattle.sasi_run.proofs.Crashing.{one_of}
 use Rattle.sasi_run.proofs.ConsumedBytes.{consumes_nothing}
+use Rattle.sasi_run.proofs.Moments as moments
+use Rattle.sasi_run.proofs.Moments.{by_states}
 use Rattle.sasi_run.proofs.Recovering.{after_crash, counted, nothing_shown}
+use Rattle.sasi_run.proofs.Running.{one_of}
 use Rattle.sasi_run.proofs.RunParts.{appends_none}
-use Rattle.sasi_run.proofs.NotKept.{not_kept}
+use Rattle.sasi_run.proofs.Worlds.{state_is}
+
+-- the folder is as it was, or has the shape of the layout
+abbrev pub UnchangedOrShaped : Option Partitioner → Layout → Folder → Folder → Type 0
+UnchangedOrShaped asked l x y = (y ≡ x) ⊎ ShapeOf asked y l
 
 -- ---- the start, and the opening
 
-module _ (a : View) (s : State) (starts : StartsFrom a s) (before : List ℕ) (emitted : a.emitted ≡ Some before) (pieces : List Piece) where
-  -- nothing was shown, and the folder stands for the state of an image of the start
-  from_image : (folder image : Folder) (out : List ℕ) (state : State) → a.emitted ≡ Some out → a.image image → Stands Lead8 image state
-      → Stands Lead8 folder state → Recovers grammar_parser a s pieces before folder out
-  from_image folder image out state said was stood stands =
-      let n = counted s pieces [] in
-      record {
-        shown = [];
-        went = one_of out before (sym said ∙ emitted)
-            ∙ sym (append-nil before);
-        count = n.0;
-        whole = n.1;
-        next = nothing_shown s pieces n.0 n.1;
-        state = state;
-        stands = stands;
-        after = inl (record { nothing = refl; image = image; was = was; stood = stood });
-      }
+module _ (asked : Option Partitioner) (a : View) (l : Layout) (starts : StartsFrom asked a l) (before : List ℕ) (emitted : a.emitted ≡ Some before) where
+  from_image : (folder image : Folder) (out : List ℕ) (m : Layout) → a.emitted ≡ Some out → a.image image → ShapeOf asked image m → ShapeOf asked folder m
+      → HasShapeOfImage asked a before folder out
+  from_image folder image out m said was had has =
+      record { nothing = one_of out before (sym said ∙ emitted); image = image; was = was; shape = m; had = had; has = has }
 
-  at_start : (folder : Folder) (out : List ℕ) → LeavesNow a folder out → Recovers grammar_parser a s pieces before folder out
-  at_start folder out now =
-      let stood = starts.images folder now.0 in from_image folder folder out stood.0 now.1 now.0 stood.1 stood.1
+  at_start : (folder : Folder) (out : List ℕ) → LeavesNow a folder out → HasShapeOfImage asked a before folder out
+  at_start folder out now = let had = starts.images folder now.0 in from_image folder folder out had.0 now.1 now.0 had.1 had.1
 
-  while_opening : IsSound a → (folder : Folder) (out : List ℕ) → FromImage (UnchangedOrStands Lead8 s) a folder out → Recovers grammar_parser a s pieces before folder out
+  while_opening : IsSound a → (folder : Folder) (out : List ℕ) → FromImage (UnchangedOrShaped asked l) a folder out → HasShapeOfImage asked a before folder out
   while_opening sound folder out (was, image, opens, said) =
-      let stood = starts.images was image in
+      let had = starts.images was image in
       ⊎_elim
-      (λ same. from_image folder was out stood.0 said image stood.1
-      (subst (λ (f : Folder). Stands Lead8 f stood.0) (sym same) stood.1))
-      (λ stands. from_image folder starts.folder out s said (sound.reads starts.folder starts.reads) starts.stands stands)
+      (λ same. from_image folder was out had.0 said image had.1 (subst (λ (f : Folder). ShapeOf asked f had.0) (sym same) had.1))
+      (λ has. from_image folder starts.folder out l said (sound.reads starts.folder starts.reads) starts.shape has)
       opens
 
   -- the run stopped in the opening
-  pub recovers_opening : (b : View) → IsSound a → Changes (UnchangedOrStands Lead8 s) a b → (folder : Folder) (out : List ℕ)
-      → b.left a.moment folder out → Recovers grammar_parser a s pieces before folder out
-  recovers_opening b sound change folder out left = ⊎_elim (at_start folder out) (while_opening sound folder out)
-      (since_start a b (FromImage (UnchangedOrStands Lead8 s) a) sound change.during folder out left)
+  pub leaves_opening : (b : View) → IsSound a → Changes (UnchangedOrShaped asked l) a b → (folder : Folder) (out : List ℕ) → b.left a.moment folder out
+      → HasShapeOfImage asked a before folder out
+  leaves_opening b sound change folder out left = ⊎_elim (at_start folder out) (while_opening sound folder out)
+      (since_start a b (FromImage (UnchangedOrShaped asked l) a) sound change.during folder out left)
 
-  from_moment : (folder : Folder) (out shown : List ℕ) → out ≡ before ++ shown → Crashed s before pieces folder out → Recovers grammar_parser a s pieces before folder out
-  from_moment folder out shown went was =
-      let n = counted s pieces shown in
-      let after = after_crash s before pieces folder out shown went n.0 n.1 was in
-      record {
-        shown = shown;
-        went = went;
-        count = n.0;
-        whole = n.1;
-        next = after.0;
-        state = after.1.0;
-        stands = inr after.1.1;
-        after = inr after.1.2;
-      }
+  module _ (pieces : List Piece) where
+    -- it went on behind it
+    pub leaves_run : (b c : View) → IsSound a → Changes (UnchangedOrShaped asked l) a b → CrashLeavesPieces b c (new_world l) pieces → (folder : Folder)
+        (out : List ℕ) → c.left a.moment folder out → LeavesShape grammar_parser asked a l pieces before folder out
+    leaves_run b c sound change leaves folder out left =
+        let both = crash_leaves_on a b c (FromImage (UnchangedOrShaped asked l) a) (Crashed steps (new_world l) before pieces)
+        (λ x e. LeavesShape grammar_parser asked a l pieces before x e) change.during (leaves before (change.emitted ∙ emitted))
+        (λ x e p. inl (while_opening sound x e p)) (λ x e p. inr p) in
+        ⊎_elim (λ now. inl (at_start folder out now)) (λ r. r)
+        (since_start a c (λ x e. LeavesShape grammar_parser asked a l pieces before x e) sound both folder out left)
 
-  crashed : (folder : Folder) (out : List ℕ) → Crashed s before pieces folder out → Recovers grammar_parser a s pieces before folder out
-  crashed folder out was = ⊎_elim (λ quiet. from_moment folder out (replies s was.done) quiet.went was)
-      (λ answering. from_moment folder out (replies s was.done ++ answering.front) answering.went was) was.stands
+    -- ---- by states
 
-  -- it went on behind it
-  pub recovers_run : (b c : View) (store : Store) → IsSound a → Changes (UnchangedOrStands Lead8 s) a b → IsStoreDurable b store → store.machine ≡ s
-      → CrashLeavesPieces b c store pieces → (folder : Folder) (out : List ℕ) → c.left a.moment folder out
-      → Recovers grammar_parser a s pieces before folder out
-  recovers_run b c store sound change durable is leaves folder out left =
-      let told : IsTold a = subst (λ (f : Option Folder). IsSome f) (sym starts.reads) refl in
-      let serving : HasDurableStore b store before = record
-      { told = told_after (UnchangedOrStands Lead8 s) a b change told; durable = durable; emitted = change.emitted ∙ emitted } in
-      let both = crash_leaves_on a b c (FromImage (UnchangedOrStands Lead8 s) a) (Crashed store.machine before pieces)
-      (λ x e. Recovers grammar_parser a s pieces before x e) change.during (leaves before serving) (while_opening sound)
-      (λ x e p. crashed x e (subst (λ (t : State). Crashed t before pieces x e) is p)) in
-      ⊎_elim (at_start folder out) (λ r. r) (since_start a c (λ x e. Recovers grammar_parser a s pieces before x e) sound both folder out left)
+    pub recovers_image : (folder : Folder) (out : List ℕ) → HasShapeOfImage asked a before folder out
+        → Recovers grammar_parser asked a (state_of l) pieces before folder out
+    recovers_image folder out is =
+        let n = counted (state_of l) pieces [] in
+        record {
+          shown = [];
+          went = is.nothing ∙ sym (append-nil before);
+          count = n.0;
+          whole = n.1;
+          next = nothing_shown (state_of l) pieces n.0 n.1;
+          state = state_of is.shape;
+          stands = record { shape = is.shape; has = is.has; state_is = refl };
+          after = inl (record { nothing = refl; image = is.image; was = is.was; stood = record { shape = is.shape; has = is.had; state_is = refl } });
+        }
+
+    from_moment : (folder : Folder) (out shown : List ℕ) → out ≡ before ++ shown → moments.Crashed (state_of l) before pieces folder out
+        → Recovers grammar_parser asked a (state_of l) pieces before folder out
+    from_moment folder out shown went was =
+        let n = counted (state_of l) pieces shown in
+        let after = after_crash (state_of l) before pieces folder out shown went n.0 n.1 was in
+        record {
+          shown = shown;
+          went = went;
+          count = n.0;
+          whole = n.1;
+          next = after.0;
+          state = after.1.0;
+          stands = record { shape = after.1.1.shape; has = inr after.1.1.has; state_is = after.1.1.state_is };
+          after = inr after.1.2;
+        }
+
+    pub recovers : IsWell l → (folder : Folder) (out : List ℕ) → LeavesShape grammar_parser asked a l pieces before folder out
+        → Recovers grammar_parser asked a (state_of l) pieces before folder out
+    recovers well folder out left = ⊎_elim (recovers_image folder out)
+        (λ crashed.
+        (let was = by_states (new_world l) well before folder out pieces crashed in
+        ⊎_elim (λ quiet. from_moment folder out (replies (state_of l) was.done) quiet.went was)
+        (λ answering. from_moment folder out (replies (state_of l) was.done ++ answering.front) answering.went was) was.stands))
+        left
 
 -- ---- the end
 
-some_out : (o : Option (List ℕ)) → IsSome o → (out : List ℕ) × (o ≡ Some out)
-some_out None is = cc
-some_out (Some out) is = (out, refl)
-
--- a store in hand tells what its folder stands for
-alone_there : (v : View) (store : Store) → IsSound v → IsTold v → IsReady v store → IsStoreDurable v store → StandsWithoutUnlisted v store.machine
-alone_there v store sound told ready durable =
+-- a store whose use has ended leaves the files of its layout
+stands_for_end : (v : View) (l : Layout) (s : State) → IsSound v → IsTold v → Ended v (closed l) → state_of l ≡ s → StandsForEnd v (closed l) s
+stands_for_end v l s sound told ended is =
     let files = told_files v told in
     record {
       folder = files.0;
       reads = files.1;
-      stands = record {
-        number = store.manifest.number;
-        listing = store.manifest.listing;
-        logs = durable.older ++ durable.current ∷ [];
-        holds = durable.held files.0 (sound.reads files.0 files.1);
-        makes = durable.makes;
-      };
-      alone = λ name no_manifest no_seal no_log. sym (ap (λ (o : Option Folder). contents_in o name) files.1)
-          ∙ ready.no_other name (not_kept store.manifest.number store.manifest.listing.floor store.manifest.listing.last name no_manifest no_seal no_log);
-      images = λ image now. record {
-        number = store.manifest.number;
-        listing = store.manifest.listing;
-        logs = durable.older
-            ++ durable.current ∷ [];
-        holds = durable.held image now;
-        makes = durable.makes;
-      };
+      exactly = ended.exactly files.0 files.1;
+      shape = ended.shape files.0 (sound.reads files.0 files.1);
+      images = λ image now. ended.shape image now;
+      state_is = bare_state l ∙ is;
     }
-
-ends_alone : (a b c : View) (s : State) (store : Store) → StartsFrom a s → (before : List ℕ) → a.emitted ≡ Some before
-    → Changes (UnchangedOrStands Lead8 s) a b → IsStoreDurable b store → store.machine ≡ s → IsSound c → (pieces : List Piece)
-    → IsDurableAfter store b c pieces → StandsWithoutUnlisted c (state_after s pieces)
-ends_alone a b c s store starts before emitted change durable is sound pieces after =
-    let told : IsTold a = subst (λ (f : Option Folder). IsSome f) (sym starts.reads) refl in
-    let serving : HasDurableStore b store before = record
-    { told = told_after (UnchangedOrStands Lead8 s) a b change told; durable = durable; emitted = change.emitted ∙ emitted } in
-    let later = after.durable before serving in
-    subst (λ (t : State). StandsWithoutUnlisted c t) (after.state ∙ ap (λ (t : State). state_after t pieces) is)
-    (alone_there c after.last sound later.told after.ready later.durable)
 
 -- ---- what a run does
 
@@ -158,15 +147,18 @@ nothing_runs s l o = record {
   bounded = omega arith;
 }
 
-pub runs_nothing : (a : View) (s : State) (l : Option (List ℕ)) → IsSound a → StartsFrom a s → RunsFrom grammar_parser Usage s l l a a
-runs_nothing a s l sound starts = record {
-  runs = nothing_runs s l a.emitted;
-  crash = λ before emitted folder out left. recovers_opening a s starts before emitted _ a sound
-      (changes_as a a Same (UnchangedOrStands Lead8 s) (stays a) (λ x y same. inl same)) folder out left;
-  ends = λ is. absurd is;
-}
+runs_nothing : (asked : Option Partitioner) (a : View) (m : Layout) (l : Option (List ℕ)) → IsSound a → StartsFrom asked a m
+    → RunsFrom grammar_parser asked Usage m l l a a
+runs_nothing asked a m l sound starts =
+    let same : Changes (UnchangedOrShaped asked m) a a = changes_as a a Same (UnchangedOrShaped asked m) (stays a) (λ x y is. inl is) in
+    record {
+      runs = nothing_runs (state_of m) l a.emitted;
+      crash = λ before emitted folder out left. recovers_image asked a m starts before emitted _ folder out (leaves_opening asked a m starts before emitted a sound same folder out left);
+      shapes = λ before emitted folder out left. inl (leaves_opening asked a m starts before emitted a sound same folder out left);
+      ends = λ is. absurd is;
+    }
 
-unfoldable pub nothing_read : (s : State) (script : List ℕ) → EmitsFirstReplies grammar_parser s script [] []
+abbrev nothing_read : (s : State) (script : List ℕ) → EmitsFirstReplies grammar_parser s script [] []
 nothing_read s script = record {
   done = [];
   first = record {
@@ -184,122 +176,139 @@ nothing_read s script = record {
   replied = refl;
 }
 
-unfoldable pub first_runs : (fault : ReadFault) (s : State) (l o o2 : Option (List ℕ)) → o2 ≡ o → Runs grammar_parser (status_of_fault fault) s l l o o2
-first_runs read_fault.Failed s l o o2 same = record {
+-- the folder wasn't opened
+unfoldable pub first_runs : (fault : OpenFault) (s : State) (l o o2 : Option (List ℕ)) → Appends o o2 [] → Runs grammar_parser (status_of_fault fault) s l l o o2
+first_runs open_fault.Failed s l o o2 silent = record {
   read = [];
   shown = [];
   consumed = consumes_nothing l;
-  emitted = subst (λ (x : Option (List ℕ)). Appends o x []) (sym same)
-      (appends_none o);
+  emitted = silent;
   at_end = tt;
   shows = nothing_read s (script_of l []);
   bounded = omega arith;
 }
-first_runs read_fault.OutOfMemory s l o o2 same = record {
+first_runs open_fault.OutOfMemory s l o o2 silent = record {
   read = [];
   shown = [];
   consumed = consumes_nothing l;
-  emitted = subst (λ (x : Option (List ℕ)). Appends o x []) (sym same)
-      (appends_none o);
+  emitted = silent;
   at_end = tt;
   shows = nothing_read s (script_of l []);
   bounded = omega arith;
 }
-first_runs (read_fault.Damaged damage) s l o o2 same = record {
+first_runs (open_fault.Damaged damage) s l o o2 silent = record {
   read = [];
   shown = [];
   consumed = consumes_nothing l;
-  emitted = subst (λ (x : Option (List ℕ)). Appends o x []) (sym same)
-      (appends_none o);
+  emitted = silent;
+  at_end = tt;
+  shows = (refl, refl);
+  bounded = omega arith;
+}
+first_runs (open_fault.PartitionerDiffers asked kept) s l o o2 silent = record {
+  read = [];
+  shown = [];
+  consumed = consumes_nothing l;
+  emitted = silent;
   at_end = tt;
   shows = (refl, refl);
   bounded = omega arith;
 }
 
-not_ended : (fault : ReadFault) → RanToEnd (status_of_fault fault) → ⊥
-not_ended read_fault.Failed is = is
-not_ended read_fault.OutOfMemory is = is
-not_ended (read_fault.Damaged damage) is = is
+pub first_bytes : (fault : OpenFault) (l o o2 : Option (List ℕ)) → Appends o o2 [] → ReadsBytes (status_of_fault fault) l l o o2
+first_bytes open_fault.Failed l o o2 silent = record { read = []; shown = []; consumed = consumes_nothing l; emitted = silent; at_end = tt; by_status = tt; bounded = omega arith }
+first_bytes open_fault.OutOfMemory l o o2 silent = record { read = []; shown = []; consumed = consumes_nothing l; emitted = silent; at_end = tt; by_status = tt; bounded = omega arith }
+first_bytes (open_fault.Damaged damage) l o o2 silent = record { read = []; shown = []; consumed = consumes_nothing l; emitted = silent; at_end = tt; by_status = tt; bounded = omega arith }
+first_bytes (open_fault.PartitionerDiffers asked kept) l o o2 silent =
+    record { read = []; shown = []; consumed = consumes_nothing l; emitted = silent; at_end = tt; by_status = (refl, refl); bounded = omega arith }
 
--- the folder wasn't opened
-pub runs_unopened : (fault : ReadFault) (a b : View) (s : State) (l : Option (List ℕ)) → IsSound a → StartsFrom a s
-    → Changes (UnchangedOrStands Lead8 s) a b → RunsFrom grammar_parser (status_of_fault fault) s l l a b
-runs_unopened fault a b s l sound starts change = record {
-  runs = first_runs fault s l a.emitted b.emitted change.emitted;
-  crash = λ before emitted folder out left. recovers_opening a s starts before emitted _ b sound change folder out left;
+not_ended : (fault : OpenFault) → RanToEnd (status_of_fault fault) → ⊥
+not_ended open_fault.Failed is = is
+not_ended open_fault.OutOfMemory is = is
+not_ended (open_fault.Damaged damage) is = is
+not_ended (open_fault.PartitionerDiffers asked kept) is = is
+
+runs_unopened : (asked : Option Partitioner) (fault : OpenFault) (a b : View) (m : Layout) (l : Option (List ℕ)) → IsSound a → StartsFrom asked a m
+    → Appends a.emitted b.emitted [] → Changes (UnchangedOrShaped asked m) a b → RunsFrom grammar_parser asked (status_of_fault fault) m l l a b
+runs_unopened asked fault a b m l sound starts silent change = record {
+  runs = first_runs fault (state_of m) l a.emitted b.emitted silent;
+  crash = λ before emitted folder out left. recovers_image asked a m starts before emitted _ folder out (leaves_opening asked a m starts before emitted b sound change folder out left);
+  shapes = λ before emitted folder out left. inl (leaves_opening asked a m starts before emitted b sound change folder out left);
   ends = λ is. absurd (not_ended fault is);
 }
 
--- the opening emits nothing, and finds this state
-unfoldable pub moved : (status : Status) (l l2 : Option (List ℕ)) (t m : State) → m ≡ t → (o p q : Option (List ℕ)) → o ≡ p → Runs grammar_parser status m l l2 o q
-    → Runs grammar_parser status t l l2 p q
-moved status l l2 t m e o p q f runs = record {
+-- the opening emits nothing
+unfoldable pub moved : (status : Status) (s : State) (l l2 o p q : Option (List ℕ)) → o ≡ p → Runs grammar_parser status s l l2 o q → Runs grammar_parser status s l l2 p q
+moved status s l l2 o p q same runs = record {
   read = runs.read;
   shown = runs.shown;
   consumed = runs.consumed;
-  emitted = subst (λ (x : Option (List ℕ)). Appends x q runs.shown) f runs.emitted;
+  emitted = subst (λ (x : Option (List ℕ)). Appends x q runs.shown) same runs.emitted;
   at_end = runs.at_end;
-  shows = subst (λ (x : State). EmitsByStatus grammar_parser status x (script_of l runs.read) runs.read runs.shown) e runs.shows;
+  shows = runs.shows;
   bounded = runs.bounded;
 }
 
--- it was, and the script run
-pub runs_opened : (status : Status) (a b c : View) (s : State) (store : Store) (l l2 : Option (List ℕ)) → IsSound a → StartsFrom a s
-    → Changes (UnchangedOrStands Lead8 s) a b → IsStoreDurable b store → store.machine ≡ s → IsSound c → RunsCrashSafe status store l l2 b c
-    → RunsFrom grammar_parser status s l l2 a c
+-- it was opened, and the script run
+runs_opened : (asked : Option Partitioner) (status : Status) (a b c : View) (m : Layout) (store : StoreView) (l l2 : Option (List ℕ)) → IsSound a
+    → StartsFrom asked a m → Changes (UnchangedOrShaped asked m) a b → ServesWorld b store.hand (new_world m) → IsSound c
+    → RunsWorld status (new_world m) l l2 b c → RunsFrom grammar_parser asked status m l l2 a c
 unfolding moved
-runs_opened status a b c s store l l2 sound starts change durable is sound_c on = record {
-  runs = moved status l l2 s store.machine is b.emitted a.emitted c.emitted change.emitted on.runs;
-  crash = λ before emitted folder out left. recovers_run a s starts before emitted
-      (all_pieces (script_of l (moved status l l2 s store.machine is b.emitted a.emitted c.emitted change.emitted on.runs).read)) b c store sound change durable is
-      (same_read s store.machine is b.emitted a.emitted change.emitted) folder out left;
-  ends = λ ran said.
-      (let out = some_out a.emitted said in ends_alone a b c s store starts out.0 out.1 change durable is sound_c
-      (all_pieces (script_of l on.runs.read)) (on.ends ran));
+runs_opened asked status a b c m store l l2 sound starts change serves sound_c on = record {
+  runs = moved status (state_of m) l l2 b.emitted a.emitted c.emitted change.emitted on.runs;
+  crash = λ before emitted folder out left. recovers asked a m starts before emitted (all_pieces (script_of l on.runs.read)) serves.well folder out
+      (leaves_run asked a m starts before emitted (all_pieces (script_of l on.runs.read)) b c sound change on.crashes folder out left);
+  shapes = λ before emitted folder out left. leaves_run asked a m starts before emitted (all_pieces (script_of l on.runs.read)) b c sound change on.crashes folder out left;
+  ends = λ ran. stands_for_end c (after_pieces steps (new_world m) (all_pieces (script_of l on.runs.read))).layout _ sound_c (on.told ran) (on.ends ran)
+      (state_is (all_pieces (script_of l on.runs.read)) (new_world m) serves.well);
 }
-  where
-    same_read : (t m : State) (e : m ≡ t) (o p : Option (List ℕ)) (f : o ≡ p) → CrashLeavesPieces b c store (all_pieces (script_of l on.runs.read))
-    same_read t m e o p f = on.crashes
 
 -- ---- the headline
 
 -- the words name no script
-pub headline_unused : (script : SourceView) (a : View) → IsSound a → Headline Usage script script a a
-headline_unused script a sound = record {
+pub headline_unused : (asked : Option Partitioner) (script : SourceView) (a : View) → IsSound a → Headline asked Usage script script a a
+headline_unused asked script a sound = record {
   parser = grammar_parser;
   parses = is_parser;
-  some_state = (empty_state Lead8, nothing_runs (empty_state Lead8) script.left a.emitted);
-  as_it_reads = λ folder s files stands. nothing_runs s script.left a.emitted;
-  shows = λ s starts. runs_nothing a s script.left sound starts;
+  on_every_host = record { read = []; shown = []; consumed = consumes_nothing script.left; emitted = appends_none a.emitted; at_end = tt; by_status = (refl, refl); bounded = omega arith };
+  as_it_reads = λ folder l files shape. nothing_runs (state_of l) script.left a.emitted;
+  shows = λ l starts. runs_nothing asked a l script.left sound starts;
 }
 
 -- the folder wasn't opened
-pub headline_unopened : (fault : ReadFault) (script : SourceView) (a b : View) → IsSound a → b.emitted ≡ a.emitted
-    → ((folder : Folder) (s : State) → a.files ≡ Some folder → Stands Lead8 folder s → Changes (UnchangedOrStands Lead8 s) a b)
-    → Headline (status_of_fault fault) script script a b
-headline_unopened fault script a b sound silent change = record {
+pub headline_unopened : (asked : Option Partitioner) (fault : OpenFault) (script : SourceView) (a b : View) → IsSound a → Appends a.emitted b.emitted []
+    → ((folder : Folder) (l : Layout) → a.files ≡ Some folder → ShapeOf asked folder l → Changes (UnchangedOrShaped asked l) a b)
+    → Headline asked (status_of_fault fault) script script a b
+headline_unopened asked fault script a b sound silent change = record {
   parser = grammar_parser;
   parses = is_parser;
-  some_state = (empty_state Lead8, first_runs fault (empty_state Lead8) script.left a.emitted b.emitted silent);
-  as_it_reads = λ folder s files stands. first_runs fault s script.left a.emitted b.emitted silent;
-  shows = λ s starts. runs_unopened fault a b s script.left sound starts (change starts.folder s starts.reads starts.stands);
+  on_every_host = first_bytes fault script.left a.emitted b.emitted silent;
+  as_it_reads = λ folder l files shape. first_runs fault (state_of l) script.left a.emitted b.emitted silent;
+  shows = λ l starts. runs_unopened asked fault a b l script.left sound starts silent (change starts.folder l starts.reads starts.shape);
 }
 
 -- the script was run
-pub headline_opened : (status : Status) (script later : SourceView) (a b c : View) (store : Store) → IsSound a → IsSound c → b.emitted ≡ a.emitted
-    → ((folder : Folder) (s : State) → a.files ≡ Some folder → Stands Lead8 folder s → Changes (UnchangedOrStands Lead8 s) a b)
-    → ((folder : Folder) (s : State) → a.files ≡ Some folder → Stands Lead8 folder s → IsStoreDurable b store × (store.machine ≡ s))
-    → RunsCrashSafe status store script.left later.left b c → Headline status script later a c
-headline_opened status script later a b c store sound sound_c silent change opened on = record {
+pub headline_opened : (asked : Option Partitioner) (status : Status) (script later : SourceView) (a b c : View) (store : StoreView) → IsSound a → IsSound c
+    → b.emitted ≡ a.emitted
+    → ((folder : Folder) (l : Layout) → a.files ≡ Some folder → ShapeOf asked folder l → Changes (UnchangedOrShaped asked l) a b)
+    → ((folder : Folder) (l : Layout) → a.files ≡ Some folder → ShapeOf asked folder l → ServesWorld b store.hand (new_world l))
+    → RunsCrashSafe status store script.left later.left b c → Headline asked status script later a c
+headline_opened asked status script later a b c store sound sound_c silent change opened on = record {
   parser = grammar_parser;
   parses = is_parser;
-  some_state = (
-    store.machine,
-    moved status script.left later.left store.machine store.machine refl b.emitted a.emitted c.emitted silent on.runs,
-  );
-  as_it_reads = λ folder s files stands.
-      moved status script.left later.left s store.machine (opened folder s files stands).1 b.emitted a.emitted c.emitted silent on.runs;
-  shows = λ s starts.
-      (let known = opened starts.folder s starts.reads starts.stands in runs_opened status a b c s store script.left later.left sound
-      starts (change starts.folder s starts.reads starts.stands) known.0 known.1 sound_c on);
+  on_every_host = record {
+    read = on.bytes.read;
+    shown = on.bytes.shown;
+    consumed = on.bytes.consumed;
+    emitted = subst (λ (x : Option (List ℕ)). Appends x c.emitted on.bytes.shown) silent on.bytes.emitted;
+    at_end = on.bytes.at_end;
+    by_status = on.bytes.by_status;
+    bounded = on.bytes.bounded;
+  };
+  as_it_reads = λ folder l files shape.
+      moved status (state_of l) script.left later.left b.emitted a.emitted c.emitted silent (on.from (new_world l) (opened folder l files shape)).runs;
+  shows = λ l starts.
+      (let serves = opened starts.folder l starts.reads starts.shape in
+      runs_opened asked status a b c l store script.left later.left sound starts (change starts.folder l starts.reads starts.shape) serves sound_c
+      (on.from (new_world l) serves));
 }

@@ -1,31 +1,49 @@
 -- When each status comes: its cause, what a damaged folder shows, and completeness.
-use Rattle.std.specs.Prelude.{◌≡◌, ◌≢◌, ◌≤◌, ℕ, List, length, Some, IfSome, ◌↔◌}
-use Rattle.sasi_types.specs.declared.partitioner.Partitioner.TheVariants.{Lead8}
+use Rattle.std.specs.Prelude.{◌≡◌, ◌≢◌, ◌⊎◌, ◌≤◌, ℕ, List, length, Some, IfSome, ◌↔◌}
+use Rattle.sasi_types.specs.declared.partitioner.Partitioner.{Partitioner}
 use Rattle.sasi_host.specs.View.{FailedAtLast, FailsOnlyAsTold, ReadsOnlyFailAsTold, Rose, SourceView, View}
 use Rattle.sasi_host.specs.declared.damage.Damage.{Damage}
 use Rattle.sasi_host.specs.Names.{Folder}
-use Rattle.sasi_model.specs.State.{State}
 use Rattle.sasi_folder.specs.Damages.{FolderShows}
-use Rattle.sasi_folder.specs.Stands.{Stands}
-use Rattle.sasi_run.specs.CommandLine.{IsCommandLine}
+use Rattle.sasi_folder.specs.Opens.{CanOpen, KeepsPartitioner}
+use Rattle.sasi_layout.specs.Layout.{Layout, state_of}
+use Rattle.sasi_layout.specs.Shape.{ShapeOf}
+use Rattle.sasi_layout.specs.Worlds.{new_world}
+use Rattle.sasi_run.specs.CommandLine.{IsCommandLine, asked_by}
 use Rattle.sasi_run.specs.EmitCounts.{CountsEmits}
-use Rattle.sasi_run.specs.Headline.{SCRIPT_MOST}
+use Rattle.sasi_run.specs.Headline.{SCRIPT_MOST, script_of}
+use Rattle.sasi_run.specs.Session.{ShowsNow}
+use Rattle.sasi_run.specs.Spending.{SpendsByStatus}
 use Rattle.sasi_run.specs.declared.status.Status.{Status}
-use Rattle.sasi_run.specs.declared.status.Status.TheVariants.{Done, Refused, Usage, ScriptFault, FolderFault, OutputFault, OutOfMemory, Damaged}
+use Rattle.sasi_run.specs.declared.status.Status.TheVariants.{Done, Refused, Usage, ScriptFault, FolderFault, OutputFault, OutOfMemory, Damaged, PartitionerDiffers, NumbersSpent}
 
--- a run that nothing outside stopped; where the folder stands for a state, it is not damaged
+-- a run that nothing outside stopped; the other clauses tell where it isn't damaged, keeps the partitioner and has the numbers that it needs
 abbrev pub RanThrough : Status → Type 0
 RanThrough Done = Unit {0}
 RanThrough (Refused n) = Unit {0}
 RanThrough OutOfMemory = Unit {0}
 RanThrough (Damaged damage) = Unit {0}
+RanThrough (PartitionerDiffers asked kept) = Unit {0}
+RanThrough (NumbersSpent kind) = Unit {0}
 RanThrough _ = ⊥
 
--- **A damaged folder.** It shows the damage that is told, and the run took nothing of the script and emitted nothing.
-pub record ReportsDamage (damage : Damage) (script_old script_new : SourceView) (host_old host_new : View) : Type 0 where
+-- ---- damage
+
+-- the folder at the start shows the damage, and the run took nothing of the script and emitted nothing
+pub record ReportsAtStart (damage : Damage) (script_old script_new : SourceView) (host_old host_new : View) : Type 0 where
   pub shows : (folder : Folder) → host_old.files ≡ Some folder → FolderShows folder damage
   pub unread : script_new ≡ script_old
   pub silent : host_new.emitted ≡ host_old.emitted
+
+-- the folder as it reads at the run's end shows the damage
+abbrev pub ReportsNow : Status → View → Type 0
+ReportsNow status host_new = (damage : Damage) → status ≡ Damaged damage → ShowsNow host_new damage
+
+-- **A damaged folder.** It shows the damage that is told: at the start, where nothing was run, or as it reads at the run's end.
+abbrev pub ReportsDamage : Damage → SourceView → SourceView → View → View → Type 0
+ReportsDamage damage script_old script_new host_old host_new = ReportsAtStart damage script_old script_new host_old host_new ⊎ ShowsNow host_new damage
+
+-- ---- runs that don't begin
 
 -- a run that didn't begin, of words or of a folder
 abbrev pub IsRefusal : Status → Type 0
@@ -33,13 +51,42 @@ IsRefusal Usage = Unit {0}
 IsRefusal FolderFault = Unit {0}
 IsRefusal OutOfMemory = Unit {0}
 IsRefusal (Damaged damage) = Unit {0}
+IsRefusal (PartitionerDiffers asked kept) = Unit {0}
 IsRefusal _ = ⊥
 
--- **A folder that stands for no state** isn't run on.
+-- **A folder that can't be opened** isn't run on.
 pub record RefusesFolder (status : Status) (script_old script_new : SourceView) (host_old host_new : View) : Type 0 where
   pub refusal : IsRefusal status
   pub unread : script_new ≡ script_old
   pub silent : host_new.emitted ≡ host_old.emitted
+
+-- a run that began, over an open store
+abbrev pub IsOfStore : Status → Type 0
+IsOfStore Usage = ⊥
+IsOfStore (PartitionerDiffers asked kept) = ⊥
+IsOfStore _ = Unit {0}
+
+-- nothing ended the run before the partitioners were compared, but a failed call or memory
+abbrev pub ComparesPartitioners : Status → Partitioner → Partitioner → Type 0
+ComparesPartitioners (PartitionerDiffers a k) asked kept = (a ≡ asked) × (k ≡ kept)
+ComparesPartitioners Usage asked kept = Unit {0}
+ComparesPartitioners FolderFault asked kept = Unit {0}
+ComparesPartitioners OutOfMemory asked kept = Unit {0}
+ComparesPartitioners _ asked kept = ⊥
+
+-- the words ask for the one partitioner, and the folder keeps the other
+pub record ShowsDifference (words : List (List ℕ)) (asked kept : Partitioner) (folder : Folder) : Type 0 where
+  pub asks : asked_by words ≡ Some asked
+  pub keeps : KeepsPartitioner folder kept
+  pub other : asked ≢ kept
+
+-- **Another partitioner** is kept than is asked, and the run took nothing of the script and emitted nothing.
+pub record ReportsDifference (words : List (List ℕ)) (asked kept : Partitioner) (script_old script_new : SourceView) (host_old host_new : View) : Type 0 where
+  pub shows : (folder : Folder) → host_old.files ≡ Some folder → ShowsDifference words asked kept folder
+  pub unread : script_new ≡ script_old
+  pub silent : host_new.emitted ≡ host_old.emitted
+
+-- ---- calls
 
 -- **Which calls failed.** A status that tells of an I/O error tells of one call, the last of its kind, and no other failed. A call
 -- fails only where the source or the host tells that it is to, or memory couldn't grow.
@@ -53,15 +100,27 @@ pub record FailedCalls (status : Status) (script_old script_new : SourceView) (h
   pub script_told : ReadsOnlyFailAsTold script_old script_new
   pub host_told : FailsOnlyAsTold host_old host_new
 
+-- ---- a run from a layout
+
+-- how many emits the run made, and which numbers its pieces needed
+pub record CountsFrom (status : Status) (l : Layout) (script_old script_new : SourceView) (host_old host_new : View) : Type 0 where
+  pub emits : CountsEmits status (state_of l) script_old.left script_new.left host_old host_new
+  pub numbers : SpendsByStatus status (new_world l) (script_of script_old.left emits.runs.read) emits.runs.read emits.runs.shown
+
+-- ---- all of them
+
 -- the causes of a status, by what the source and the host tell before the run and after it
 pub record RunCauses (words : List (List ℕ)) (status : Status) (script_old script_new : SourceView) (host_old host_new : View) : Type 0 where
   pub usage : (status ≡ Usage) ↔ ¬ (IsCommandLine words)
   pub calls : FailedCalls status script_old script_new host_old host_new
-  pub emits : (folder : Folder) (s : State) → host_old.files ≡ Some folder → Stands Lead8 folder s
-      → CountsEmits status s script_old.left script_new.left host_old host_new
+  pub counts : (folder : Folder) (l : Layout) → host_old.files ≡ Some folder → ShapeOf (asked_by words) folder l
+      → CountsFrom status l script_old script_new host_old host_new
   pub damaged : (damage : Damage) → status ≡ Damaged damage → ReportsDamage damage script_old script_new host_old host_new
-  pub refused : (folder : Folder) → host_old.files ≡ Some folder → ((s : State) → ¬ Stands Lead8 folder s) → RefusesFolder status script_old script_new host_old host_new
-  pub undamaged : (folder : Folder) (s : State) (damage : Damage) → host_old.files ≡ Some folder → Stands Lead8 folder s → status ≢ Damaged damage
+  pub undamaged : (folder : Folder) (l : Layout) (damage : Damage) → host_old.files ≡ Some folder → ShapeOf (asked_by words) folder l → status ≢ Damaged damage
+  pub refused : (folder : Folder) → host_old.files ≡ Some folder → ¬ CanOpen folder → RefusesFolder status script_old script_new host_old host_new
+  pub differs : (asked kept : Partitioner) → status ≡ PartitionerDiffers asked kept → ReportsDifference words asked kept script_old script_new host_old host_new
+  pub compares : (folder : Folder) (asked kept : Partitioner) → host_old.files ≡ Some folder → asked_by words ≡ Some asked → KeepsPartitioner folder kept → asked ≢ kept
+      → ComparesPartitioners status asked kept
   -- completeness, on every host
   pub complete : IsCommandLine words → ¬ (Rose script_old.faults script_new.faults) → ¬ (Rose host_old.out_faults host_new.out_faults) → ¬ (Rose host_old.disk_faults host_new.disk_faults)
       → IfSome script_old.left (λ script. length script ≤ SCRIPT_MOST → RanThrough status)

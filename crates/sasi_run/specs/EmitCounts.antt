@@ -5,9 +5,10 @@ use Rattle.sasi_model.specs.Pieces.{Piece, pieces, all_pieces}
 use Rattle.sasi_model.specs.State.{State}
 use Rattle.sasi_model.specs.Parsers.{Parser, IsParser, grammar_parser}
 use Rattle.sasi_model.specs.Step.{step_by}
-use Rattle.sasi_run.specs.Headline.{EmitsCutReply, EmitsFirstReplies, Runs, SCRIPT_MOST, script_of}
+use Rattle.sasi_layout.specs.Worlds.{World, steps}
+use Rattle.sasi_run.specs.Headline.{EmitsBeforePiece, EmitsCutReply, EmitsFirstReplies, Runs, SCRIPT_MOST, script_of}
 use Rattle.sasi_run.specs.declared.status.Status.{Status}
-use Rattle.sasi_run.specs.declared.status.Status.TheVariants.{Done, Refused, Usage, ScriptFault, FolderFault, OutputFault, OutOfMemory, Damaged, ScriptTooLong}
+use Rattle.sasi_run.specs.declared.status.Status.TheVariants.{Done, Refused, Usage, ScriptFault, FolderFault, OutputFault, OutOfMemory, Damaged, PartitionerDiffers, NumbersSpent, ScriptTooLong}
 
 -- the emits of one reply
 abbrev pub emits_of : List ℕ → ℕ
@@ -21,6 +22,11 @@ emits_for_by parser s (p ∷ ps) = emits_of (step_by parser s p).reply + emits_f
 
 abbrev pub emits_for : State → List Piece → ℕ
 emits_for = emits_for_by grammar_parser
+
+-- the same of the replies from a world
+abbrev pub emits_in : World → List Piece → ℕ
+emits_in w [] = 0
+emits_in w (p ∷ ps) = emits_of (steps.reply w p) + emits_in (steps.after w p) ps
 
 -- so many emits were made: none leaves the count as it is
 pub record MakesEmits (emits old new : ℕ) : Type 0 where
@@ -42,6 +48,8 @@ AnsweredByStatus parser ScriptTooLong s script read shown answered = answered �
 AnsweredByStatus parser OutOfMemory s script read shown answered = (emits : EmitsFirstReplies parser s script read shown) × (answered ≡ emits.done)
 AnsweredByStatus parser FolderFault s script read shown answered = (emits : EmitsFirstReplies parser s script read shown) × (answered ≡ emits.done)
 AnsweredByStatus parser (Damaged damage) s script read shown answered = answered ≡ []
+AnsweredByStatus parser (PartitionerDiffers asked kept) s script read shown answered = answered ≡ []
+AnsweredByStatus parser (NumbersSpent kind) s script read shown answered = (emits : EmitsBeforePiece parser s script read shown) × (answered ≡ emits.done)
 AnsweredByStatus parser OutputFault s script read shown answered = (emits : EmitsCutReply parser s script read shown) × (answered ≡ emits.done)
 
 -- one emit for each reply with a byte to the pieces that were answered, and the one that failed

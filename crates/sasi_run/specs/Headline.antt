@@ -1,24 +1,28 @@
 -- The headline: what a run reads and emits, by the status that it answers, and what a crash leaves. The emitted bytes are
--- the replies that the model gives to the pieces of the script, and each status says how many of them.
-use Rattle.std.specs.Prelude.{◌≡◌, ◌≢◌, ℕ, ◌+◌, ◌-◌, ◌^◌, ◌≤◌, ◌<◌, ◌==◌, if◌then◌else◌, min, List, [], ◌∷◌, ◌++◌, length, take, Option, None, Some, IsSome, unwrap_or}
+-- the replies that the model gives to the pieces of the script, and each status says how many of them. A run goes through
+-- layouts, of which the folder always has the shape of one; their states are those of the model.
+use Rattle.std.specs.Prelude.{◌≡◌, ℕ, ◌+◌, ◌-◌, ◌^◌, ◌≤◌, ◌<◌, ◌==◌, if◌then◌else◌, min, List, [], ◌∷◌, ◌++◌, length, take, Option, Some, unwrap_or}
 use Rattle.std.specs.Io.KnownBytes.{Appends, Consumes, IsAtEnd}
-use Rattle.std.specs.FinMap.{get}
-use Rattle.sasi_types.specs.declared.partitioner.Partitioner.TheVariants.{Lead8}
+use Rattle.sasi_types.specs.declared.partitioner.Partitioner.{Partitioner}
 use Rattle.sasi_host.specs.View.{SourceView, View}
-use Rattle.sasi_host.specs.declared.fault.ReadFault.{ReadFault}
-use Rattle.sasi_host.specs.declared.fault.ReadFault.TheVariants as read_fault
-use Rattle.sasi_host.specs.Names.{Folder, log_name, manifest_name, seal_name}
-use Rattle.sasi_host.specs.declared.name.FileName.{FileName}
+use Rattle.sasi_host.specs.Names.{Folder}
 use Rattle.sasi_model.specs.Pieces.{Piece, pieces, all_pieces}
 use Rattle.sasi_model.specs.State.{State}
 use Rattle.sasi_model.specs.Parsers.{Parser, IsParser}
 use Rattle.sasi_model.specs.Step.{step_by, state_by, replies_by, refusals_by}
-use Rattle.sasi_folder.specs.Stands.{Stands, StandsSealed}
-use Rattle.sasi_run.specs.Recovering.{Recovers}
+use Rattle.sasi_layout.specs.Kept.{HasExactly}
+use Rattle.sasi_layout.specs.Layout.{Layout, bare, state_of}
+use Rattle.sasi_layout.specs.Running.{after_pieces}
+use Rattle.sasi_layout.specs.Serving.{closed}
+use Rattle.sasi_layout.specs.Shape.{IsOfShape, ShapeOf}
+use Rattle.sasi_layout.specs.Worlds.{new_world, steps_by}
+use Rattle.sasi_recover.specs.declared.fault.OpenFault.{OpenFault}
+use Rattle.sasi_recover.specs.declared.fault.OpenFault.TheVariants as open_fault
+use Rattle.sasi_run.specs.Recovering.{LeavesShape, Recovers}
 use Rattle.sasi_run.specs.declared.session.Stop.{Stop}
-use Rattle.sasi_run.specs.declared.session.Stop.TheVariants.{Disk, Output, Memory}
+use Rattle.sasi_run.specs.declared.session.Stop.TheVariants.{Disk, Output, Memory, Corrupt, Spent}
 use Rattle.sasi_run.specs.declared.status.Status.{Status}
-use Rattle.sasi_run.specs.declared.status.Status.TheVariants.{Done, Refused, Usage, ScriptFault, FolderFault, OutputFault, OutOfMemory, Damaged, ScriptTooLong}
+use Rattle.sasi_run.specs.declared.status.Status.TheVariants.{Done, Refused, Usage, ScriptFault, FolderFault, OutputFault, OutOfMemory, Damaged, PartitionerDiffers, NumbersSpent, ScriptTooLong}
 
 -- the most bytes of a script that are run
 abbrev pub SCRIPT_MOST : ℕ
@@ -67,6 +71,13 @@ pub record EmitsFirstReplies (parser : Parser) (s : State) (script read shown : 
   pub first : IsFirstPart script read done []
   pub replied : shown ≡ replies_by parser s done
 
+-- whole replies of a first part of the pieces were emitted, of all before the one that wasn't run
+pub record EmitsBeforePiece (parser : Parser) (s : State) (script read shown : List ℕ) : Type 0 where
+  pub done : List Piece
+  pub piece : Piece
+  pub first : IsFirstPart script read done (piece ∷ [])
+  pub replied : shown ≡ replies_by parser s done
+
 -- and a first part of the next reply behind them
 pub record EmitsCutReply (parser : Parser) (s : State) (script read shown : List ℕ) : Type 0 where
   pub done : List Piece
@@ -87,6 +98,8 @@ EmitsByStatus parser ScriptTooLong s script read shown = EmitsUpToLimit parser s
 EmitsByStatus parser OutOfMemory s script read shown = EmitsFirstReplies parser s script read shown
 EmitsByStatus parser FolderFault s script read shown = EmitsFirstReplies parser s script read shown
 EmitsByStatus parser (Damaged damage) s script read shown = (read ≡ []) × (shown ≡ [])
+EmitsByStatus parser (PartitionerDiffers asked kept) s script read shown = (read ≡ []) × (shown ≡ [])
+EmitsByStatus parser (NumbersSpent kind) s script read shown = EmitsBeforePiece parser s script read shown
 EmitsByStatus parser OutputFault s script read shown = EmitsCutReply parser s script read shown
 
 -- the script was read to its end
@@ -111,40 +124,68 @@ pub record Runs (parser : Parser) (status : Status) (s : State) (left_old left_n
   pub shows : EmitsByStatus parser status s (script_of left_old read) read shown
   pub bounded : length read ≤ SCRIPT_MOST + READ_MOST
 
--- A run on this host begins in this state: its folder, as it reads, stands for it, and each image of it stands for a state.
-pub record StartsFrom (host : View) (s : State) : Type 0 where
+-- ---- on every host
+
+-- how much was read, by the status, and where nothing was read that nothing was emitted
+abbrev pub ReadsByStatus : Status → List ℕ → List ℕ → Type 0
+ReadsByStatus Done read shown = length read ≤ SCRIPT_MOST
+ReadsByStatus (Refused n) read shown = (0 < n) × (length read ≤ SCRIPT_MOST)
+ReadsByStatus Usage read shown = (read ≡ []) × (shown ≡ [])
+ReadsByStatus ScriptFault read shown = length read ≤ SCRIPT_MOST
+ReadsByStatus ScriptTooLong read shown = SCRIPT_MOST < length read
+ReadsByStatus (PartitionerDiffers asked kept) read shown = (read ≡ []) × (shown ≡ [])
+ReadsByStatus _ read shown = Unit {0}
+
+-- the run read these bytes, and the known output grew
+pub record ReadsBytes (status : Status) (left_old left_new out_old out_new : Option (List ℕ)) : Type 0 where
+  pub read : List ℕ
+  pub shown : List ℕ
+  pub consumed : Consumes left_old left_new read
+  pub emitted : Appends out_old out_new shown
+  pub at_end : ReadsToEnd status left_new
+  pub by_status : ReadsByStatus status read shown
+  pub bounded : length read ≤ SCRIPT_MOST + READ_MOST
+
+-- ---- from a layout
+
+-- A run on this host begins with this layout: its folder, as it reads, has that shape, and each image of it has some shape.
+pub record StartsFrom (asked : Option Partitioner) (host : View) (l : Layout) : Type 0 where
   pub folder : Folder
   pub reads : host.files ≡ Some folder
-  pub stands : Stands Lead8 folder s
-  pub images : (image : Folder) → host.image image → (t : State) × Stands Lead8 image t
+  pub shape : ShapeOf asked folder l
+  pub images : (image : Folder) → host.image image → (m : Layout) × ShapeOf asked image m
 
--- The folder as it reads stands for the state, and has no file but those that tell it: a manifest, its seal, and the live segments of the log. Each image of it stands for the state.
-pub record StandsWithoutUnlisted (v : View) (s : State) : Type 0 where
+-- The folder as it reads has exactly the files of the layout, and each image of it has its shape, which stands for the state.
+pub record StandsForEnd (v : View) (l : Layout) (s : State) : Type 0 where
   pub folder : Folder
   pub reads : v.files ≡ Some folder
-  pub stands : StandsSealed folder s
-  pub alone : (name : FileName) → name ≢ manifest_name stands.number → name ≢ seal_name stands.number
-      → ((segment : ℕ) → stands.listing.floor ≤ segment → segment ≤ stands.listing.last → name ≢ log_name segment) → get folder name ≡ None
-  pub images : (image : Folder) → v.image image → StandsSealed image s
+  pub exactly : HasExactly l folder
+  pub shape : IsOfShape (bare l) folder
+  pub images : (image : Folder) → v.image image → IsOfShape (bare l) image
+  pub state_is : state_of (bare l) ≡ s
 
--- **The replies, and what a crash leaves.** What was emitted are replies as the status says, and at each moment since the start a crash leaves the state after the pieces whose replies were emitted, or after one more. A run to the script's end leaves the state after all of them, and no other file.
-pub record RunsFrom (parser : Parser) (status : Status) (s : State) (left_old left_new : Option (List ℕ)) (host_old host_new : View) : Type 0 where
-  pub runs : Runs parser status s left_old left_new host_old.emitted host_new.emitted
-  pub crash : (before : List ℕ) → host_old.emitted ≡ Some before → (folder : Folder) (out : List ℕ) → host_new.left host_old.moment folder out → Recovers parser host_old s (all_pieces (script_of left_old runs.read)) before folder out
-  pub ends : RanToEnd status → IsSome host_old.emitted → StandsWithoutUnlisted host_new (state_by parser s (all_pieces (script_of left_old runs.read)))
+-- **The replies, and what a crash leaves.** What was emitted are replies as the status says, and at each moment since the start a crash leaves the state after the pieces whose replies were emitted, or after one more: the folder has the shape of the layout after these pieces and a first part of the moves of the next one. A run to the script's end leaves the layout after all of them, and no other file.
+pub record RunsFrom (parser : Parser) (asked : Option Partitioner) (status : Status) (l : Layout) (left_old left_new : Option (List ℕ)) (host_old host_new : View) : Type 0 where
+  pub runs : Runs parser status (state_of l) left_old left_new host_old.emitted host_new.emitted
+  pub crash : (before : List ℕ) → host_old.emitted ≡ Some before → (folder : Folder) (out : List ℕ) → host_new.left host_old.moment folder out
+      → Recovers parser asked host_old (state_of l) (all_pieces (script_of left_old runs.read)) before folder out
+  pub shapes : (before : List ℕ) → host_old.emitted ≡ Some before → (folder : Folder) (out : List ℕ) → host_new.left host_old.moment folder out
+      → LeavesShape parser asked host_old l (all_pieces (script_of left_old runs.read)) before folder out
+  pub ends : RanToEnd status → StandsForEnd host_new (closed (after_pieces (steps_by parser) (new_world l) (all_pieces (script_of left_old runs.read))).layout)
+      (state_by parser (state_of l) (all_pieces (script_of left_old runs.read)))
 
--- what a run does, by what its source and its host tell before it and after it
-pub record Headline (status : Status) (script_old script_new : SourceView) (host_old host_new : View) : Type 0 where
+-- what a run does where this partitioner is asked, by what its source and its host tell before it and after it
+pub record Headline (asked : Option Partitioner) (status : Status) (script_old script_new : SourceView) (host_old host_new : View) : Type 0 where
   -- the parser of the grammar, by which each piece is read
   pub parser : Parser
   pub parses : IsParser parser
-  -- the replies from some state, on every host: also where its files aren't told, or stand for no state
-  pub some_state : (s : State) × Runs parser status s script_old.left script_new.left host_old.emitted host_new.emitted
-  -- and from the state for which the folder as it reads stands, whatever its images stand for
-  pub as_it_reads : (folder : Folder) (s : State) → host_old.files ≡ Some folder → Stands Lead8 folder s
-      → Runs parser status s script_old.left script_new.left host_old.emitted host_new.emitted
+  -- what was read, on every host: also where its files aren't told, or have no shape
+  pub on_every_host : ReadsBytes status script_old.left script_new.left host_old.emitted host_new.emitted
+  -- the replies, from the layout whose shape the folder as it reads has, whatever its images have
+  pub as_it_reads : (folder : Folder) (l : Layout) → host_old.files ≡ Some folder → ShapeOf asked folder l
+      → Runs parser status (state_of l) script_old.left script_new.left host_old.emitted host_new.emitted
   -- the replies, and the crash
-  pub shows : (s : State) → StartsFrom host_old s → RunsFrom parser status s script_old.left script_new.left host_old host_new
+  pub shows : (l : Layout) → StartsFrom asked host_old l → RunsFrom parser asked status l script_old.left script_new.left host_old host_new
 
 -- ---- the status of a run's end
 
@@ -152,11 +193,14 @@ abbrev pub status_of_stop : Stop → Status
 status_of_stop Memory = OutOfMemory
 status_of_stop Output = OutputFault
 status_of_stop Disk = FolderFault
+status_of_stop (Corrupt damage) = Damaged damage
+status_of_stop (Spent kind) = NumbersSpent kind
 
-abbrev pub status_of_fault : ReadFault → Status
-status_of_fault read_fault.Failed = FolderFault
-status_of_fault read_fault.OutOfMemory = OutOfMemory
-status_of_fault (read_fault.Damaged damage) = Damaged damage
+abbrev pub status_of_fault : OpenFault → Status
+status_of_fault open_fault.Failed = FolderFault
+status_of_fault open_fault.OutOfMemory = OutOfMemory
+status_of_fault (open_fault.Damaged damage) = Damaged damage
+status_of_fault (open_fault.PartitionerDiffers asked kept) = PartitionerDiffers asked kept
 
 abbrev pub status_of_count : ℕ → Status
 status_of_count n = if n == 0 then Done else Refused n

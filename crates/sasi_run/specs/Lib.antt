@@ -4,15 +4,9 @@ pub mod StatusCodes
 pub mod StatusCauses
 pub mod Session
 pub mod CommandLine
-pub mod Storing
 pub mod Crashing
 pub mod Recovering
-pub mod Replaying
-pub mod Opening
-pub mod OpeningReads
-pub mod Deletion
-pub mod NewFolder
-pub mod SealedFolder
+pub mod Spending
 pub mod FileCalls
 pub mod EmitCounts
 pub mod InMemory

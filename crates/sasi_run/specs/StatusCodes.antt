@@ -1,7 +1,7 @@
--- The exit status of the program for each status of a run. The numbers between them belong to statuses that are still to come.
+-- The exit status of the program for each status of a run. The number between them belongs to a status that is still to come.
 use Rattle.std.specs.Prelude.{ℕ}
 use Rattle.sasi_run.specs.declared.status.Status.{Status}
-use Rattle.sasi_run.specs.declared.status.Status.TheVariants.{Done, Refused, Usage, ScriptFault, FolderFault, OutputFault, OutOfMemory, Damaged, ScriptTooLong}
+use Rattle.sasi_run.specs.declared.status.Status.TheVariants.{Done, Refused, Usage, ScriptFault, FolderFault, OutputFault, OutOfMemory, Damaged, PartitionerDiffers, NumbersSpent, ScriptTooLong}
 
 abbrev pub code_of : Status → ℕ
 code_of Done = 0
@@ -12,4 +12,6 @@ code_of FolderFault = 4
 code_of OutputFault = 5
 code_of OutOfMemory = 6
 code_of (Damaged damage) = 7
+code_of (PartitionerDiffers asked kept) = 9
+code_of (NumbersSpent kind) = 10
 code_of ScriptTooLong = 11

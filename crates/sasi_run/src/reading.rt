@@ -1,17 +1,18 @@
 // The loop over the reads of a script.
 ghost use Rattle.std.specs.Prelude.{◌≡◌, ◌≢◌, IfErr, IfOk, IsErrOf, OnOk};
 ghost use Rattle.sasi_host.specs.View.{FailsOnlyAsTold};
-ghost use Rattle.sasi_host.specs.declared.damage.Damage.{Damage};
-ghost use Rattle.sasi_run.specs.Crashing.{EndsAtRead, FeedsCrashSafe, FeedsRead, RunsCrashSafe, StopsWith};
+ghost use Rattle.sasi_store.specs.StoreView.{IsReady};
+ghost use Rattle.sasi_run.specs.Crashing.{EndsAtRead, FeedsCrashSafe, FeedsRead, RanScript, RunsCrashSafe, StopsWith};
 ghost use Rattle.sasi_run.specs.Session.{IsAtScriptStart};
-ghost use Rattle.sasi_run.specs.Storing.{IsReady};
-ghost use Rattle.sasi_run.specs.Causes.{FailedCalls};
+ghost use Rattle.sasi_run.specs.Causes.{FailedCalls, IsOfStore, ReportsNow};
 ghost use Rattle.sasi_run.specs.StatusCauses.{HostCauses, NothingFailed};
 ghost use Rattle.sasi_run.specs.Headline.{status_of_stop, status_of_count};
 
 use crate::Status;
 use crate::session::{Session, Stop, feed, finish};
 use sasi_host::{Failed, Host, Source};
+use sasi_store::Store;
+use std::alloc::Global;
 
 /// The most bytes of a script that are run.
 pub const SCRIPT_LIMIT: u64 = 1 << 40;
@@ -26,6 +27,8 @@ fn stop_status(stop: Stop) -> Status
         Stop::Disk => Status::FolderFault,
         Stop::Output => Status::OutputFault,
         Stop::Memory => Status::OutOfMemory,
+        Stop::Corrupt(damage) => Status::Damaged(damage),
+        Stop::Spent(kind) => Status::NumbersSpent(kind),
     }
 }
 
@@ -46,7 +49,6 @@ fn feed_bytes<H: Host>(session: &mut Session, host: &mut H, bytes: &[u8]) -> Res
     ensures err { IfErr result (λ status. StopsWith status session.old (H.view host.old) (H.view host.new) bytes.now) }
     ensures causes { HostCauses (H.view host.old) (H.view host.new) result }
     ensures told { FailsOnlyAsTold (H.view host.old) (H.view host.new) }
-    ensures reads { (H.view host.new).reads ≡ (H.view host.old).reads }
 {
     match feed(session, host, bytes) {
         Ok(()) => Ok(()),
@@ -67,7 +69,7 @@ fn read_once<S: Source, H: Host>(
     ensures unread { IsErrOf result Status.ScriptFault → host.new ≡ host.old }
     ensures unfailed { OnOk result (NothingFailed (S.view script.old) (S.view script.new) (H.view host.old) (H.view host.new)) }
     ensures calls { IfErr result (λ status. FailedCalls status (S.view script.old) (S.view script.new) (H.view host.old) (H.view host.new)) }
-    ensures reads { (H.view host.new).reads ≡ (H.view host.old).reads }
+    ensures damage { IfErr result (λ status. ReportsNow status (H.view host.new)) }
 {
     let mut buf = [0; READ_SIZE];
     let count = match script.read(&mut buf) {
@@ -81,32 +83,63 @@ fn read_once<S: Source, H: Host>(
     }
 }
 
-/// Runs the script to its end, or until a fault stops the run.
-pub fn run_script<S: Source, H: Host>(session: &mut Session, script: &mut S, host: &mut H) -> Status
+// Runs the script to its end. At Err something has ended the run before.
+fn run_script<S: Source, H: Host>(
+    session: &mut Session,
+    script: &mut S,
+    host: &mut H,
+) -> Result<(), Status>
     requires fresh { IsAtScriptStart session.old }
     requires ready { IsReady (H.view host.old) session.old.store }
-    ensures runs { RunsCrashSafe result session.old.store (S.view script.old).left (S.view script.new).left (H.view host.old) (H.view host.new) }
-    ensures calls { FailedCalls result (S.view script.old) (S.view script.new) (H.view host.old) (H.view host.new) }
-    ensures reads { (H.view host.new).reads ≡ (H.view host.old).reads }
-    ensures words { result ≢ Status.Usage }
-    ensures undamaged { (damage : Damage) → result ≢ Status.Damaged damage }
+    ensures ran { OnOk result (RanScript session.old session.new (S.view script.old).left (S.view script.new).left (H.view host.old) (H.view host.new)) }
+    ensures runs { IfErr result (λ status. RunsCrashSafe status session.old.store (S.view script.old).left (S.view script.new).left (H.view host.old) (H.view host.new)) }
+    ensures unfailed { OnOk result (NothingFailed (S.view script.old) (S.view script.new) (H.view host.old) (H.view host.new)) }
+    ensures calls { IfErr result (λ status. FailedCalls status (S.view script.old) (S.view script.new) (H.view host.old) (H.view host.new)) }
+    ensures damage { IfErr result (λ status. ReportsNow status (H.view host.new)) }
+    ensures of_store { IfErr result IsOfStore }
 {
     let mut taken: u64 = 0;
     'reads: loop {
         let room = (SCRIPT_LIMIT - taken) as usize;
         let count = match read_once(session, script, host, room) {
             Ok(count) => count,
-            Err(status) => return status,
+            Err(status) => return Err(status),
         };
         if count == 0 {
             return match finish(session, host) {
-                Ok(()) => end_status(session.refused),
-                Err(stop) => stop_status(stop),
+                Ok(()) => Ok(()),
+                Err(stop) => Err(stop_status(stop)),
             };
         }
         if count > room {
-            return Status::ScriptTooLong;
+            return Err(Status::ScriptTooLong);
         }
         taken += count as u64;
+    }
+}
+
+/// Runs the script over an open store to its end, or until a fault stops the run.
+pub fn run_store<S: Source, H: Host>(
+    alloc: Global,
+    store: Store,
+    script: &mut S,
+    host: &mut H,
+) -> Status
+    requires ready { IsReady (H.view host.old) store }
+    ensures runs { RunsCrashSafe result store (S.view script.old).left (S.view script.new).left (H.view host.old) (H.view host.new) }
+    ensures calls { FailedCalls result (S.view script.old) (S.view script.new) (H.view host.old) (H.view host.new) }
+    ensures damage { ReportsNow result (H.view host.new) }
+    ensures of_store { IsOfStore result }
+{
+    let mut session = Session::new(alloc, store);
+    match run_script(&mut session, script, host) {
+        Err(status) => status,
+        Ok(()) => {
+            let refused = session.refused;
+            match session.into_store().finish(host) {
+                Ok(()) => end_status(refused),
+                Err(Failed) => Status::FolderFault,
+            }
+        }
     }
 }

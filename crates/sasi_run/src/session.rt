@@ -1,27 +1,27 @@
 // A session: a run between two reads of its script.
 ghost use Rattle.std.specs.Prelude.{◌≡◌, OnErr, OnOk, IfErr, ◌∷◌, []};
 ghost use Rattle.sasi_host.specs.View.{AllOut, Emits, FailsOnlyAsTold, OutCauses, counted};
-ghost use Rattle.sasi_host.specs.declared.fault.HostFault.TheVariants as host_fault;
+ghost use Rattle.sasi_layout.specs.Layout.{state_of};
+ghost use Rattle.sasi_layout.specs.Worlds.{ServesWorld, World};
 ghost use Rattle.sasi_model.specs.Pieces.{piece_of};
-ghost use Rattle.sasi_model.specs.Step.{step};
 ghost use Rattle.sasi_cql.specs.SplitterState.{resume};
-ghost use Rattle.sasi_run.specs.declared.session.Stop.TheVariants.{Disk, Memory, Output};
+ghost use Rattle.sasi_store.specs.Answers.{NeedsNoFile};
+ghost use Rattle.sasi_store.specs.StoreView.{IsReady};
+ghost use Rattle.sasi_run.specs.declared.session.Stop.TheVariants.{Memory, Output};
 ghost use Rattle.sasi_run.specs.Crashing.{AnswersCrashSafe, FailsCrashSafe, FinishesCrashSafe, StopsCrashSafe, FeedsCrashSafe};
-ghost use Rattle.sasi_run.specs.FileCalls.{NeedsNoFile, emits_after, emits_by};
+ghost use Rattle.sasi_run.specs.FileCalls.{emits_after};
 ghost use Rattle.sasi_run.specs.Session.{counted_outcome, EmitAppends, Faults};
-ghost use Rattle.sasi_run.specs.Storing.{IsReady};
 
-use crate::store::{Store, step};
 use sasi_cql::Splitter;
-use sasi_host::{Failed, Host, HostFault};
+use sasi_host::{Damage, Failed, Host};
 use sasi_machine::{Outcome, Reply};
+use sasi_store::{NumberKind, StepFault, Store};
 use sasi_types::PieceEnd;
 use std::alloc::{AllocError, Global};
 
 /// A run between two reads of its script: its store, the splitter of the script, and the last reply.
 #[derive(Drop)]
 pub struct Session {
-    pub alloc: Global,
     pub store: Store,
     pub splitter: Splitter,
     pub reply: Reply,
@@ -35,6 +35,8 @@ pub enum Stop {
     Disk,
     Output,
     Memory,
+    Corrupt(Damage),
+    Spent(NumberKind),
 }
 
 impl From<AllocError> for Stop {
@@ -53,15 +55,17 @@ impl From<Failed> for Stop {
     }
 }
 
-impl From<HostFault> for Stop {
+impl From<StepFault> for Stop {
     ghost use Rattle.sasi_run.specs.Session.{stop_of};
 
     ghost from_gives = { λ fault e. e ≡ stop_of fault };
 
-    fn from(fault: HostFault) -> Self {
+    fn from(fault: StepFault) -> Self {
         match fault {
-            HostFault::Failed => Stop::Disk,
-            HostFault::OutOfMemory => Stop::Memory,
+            StepFault::Failed => Stop::Disk,
+            StepFault::OutOfMemory => Stop::Memory,
+            StepFault::Damaged(damage) => Stop::Corrupt(damage),
+            StepFault::NumbersSpent(kind) => Stop::Spent(kind),
         }
     }
 }
@@ -96,20 +100,13 @@ pub fn answer<H: Host>(session: &mut Session, host: &mut H, end: PieceEnd) -> Re
     requires ready { IsReady (H.view host.old) session.old.store }
     ensures ok { OnOk result (AnswersCrashSafe session.old session.new (H.view host.old) (H.view host.new) (piece_of end session.old.splitter.text)) }
     ensures err { IfErr result (λ stop. FailsCrashSafe stop session.old (H.view host.old) (H.view host.new) (piece_of end session.old.splitter.text ∷ [])) }
-    ensures emits { (H.view host.new).emits ≡ emits_by result (H.view host.old).emits (step session.old.store.machine (piece_of end session.old.splitter.text)).reply }
-    ensures spared { NeedsNoFile session.old.store.machine (piece_of end session.old.splitter.text) → (H.view host.new).calls ≡ (H.view host.old).calls }
+    ensures spared { (w : World) → ServesWorld (H.view host.old) session.old.store.hand w → NeedsNoFile (state_of w.layout) (piece_of end session.old.splitter.text) → (H.view host.new).calls ≡ (H.view host.old).calls }
     ensures causes { Faults (H.view host.old) (H.view host.new) result }
     ensures told { FailsOnlyAsTold (H.view host.old) (H.view host.new) }
-    ensures reads { (H.view host.new).reads ≡ (H.view host.old).reads }
 {
-    let outcome = step(
-        session.alloc,
-        &mut session.store,
-        host,
-        session.splitter.piece(),
-        end,
-        &mut session.reply,
-    )?;
+    let outcome = session
+        .store
+        .step(host, session.splitter.piece(), end, &mut session.reply)?;
     session.refused = count_refused(session.refused, outcome);
     emit_reply(host, session.reply.bytes())?;
     Ok(())
@@ -122,7 +119,6 @@ fn feed_byte<H: Host>(session: &mut Session, host: &mut H, byte: u8) -> Result<(
     ensures err { IfErr result (λ stop. StopsCrashSafe stop session.old (H.view host.old) (H.view host.new) (byte ∷ [])) }
     ensures causes { Faults (H.view host.old) (H.view host.new) result }
     ensures told { FailsOnlyAsTold (H.view host.old) (H.view host.new) }
-    ensures reads { (H.view host.new).reads ≡ (H.view host.old).reads }
 {
     let _refused = session.refused;
     match session.splitter.push(byte)? {
@@ -138,7 +134,6 @@ pub fn feed<H: Host>(session: &mut Session, host: &mut H, bytes: &[u8]) -> Resul
     ensures err { IfErr result (λ stop. StopsCrashSafe stop session.old (H.view host.old) (H.view host.new) bytes.now) }
     ensures causes { Faults (H.view host.old) (H.view host.new) result }
     ensures told { FailsOnlyAsTold (H.view host.old) (H.view host.new) }
-    ensures reads { (H.view host.new).reads ≡ (H.view host.old).reads }
 {
     for byte in bytes {
         feed_byte(session, host, *byte)?;
@@ -153,7 +148,6 @@ pub fn finish<H: Host>(session: &mut Session, host: &mut H) -> Result<(), Stop>
     ensures err { IfErr result (λ stop. FailsCrashSafe stop session.old (H.view host.old) (H.view host.new) (resume session.old.splitter []).last) }
     ensures causes { Faults (H.view host.old) (H.view host.new) result }
     ensures told { FailsOnlyAsTold (H.view host.old) (H.view host.new) }
-    ensures reads { (H.view host.new).reads ≡ (H.view host.old).reads }
 {
     let _refused = session.refused;
     match session.splitter.end() {
@@ -171,11 +165,23 @@ impl Session {
         ensures store { result.store ≡ store }
     {
         Session {
-            alloc,
             store,
             splitter: Splitter::new(alloc),
             reply: Reply::new(alloc),
             refused: 0,
         }
+    }
+
+    /// Ends the session, and gives back its store.
+    pub fn into_store(self) -> Store
+        ensures { result ≡ self.store }
+    {
+        let Session {
+            store,
+            splitter: _splitter,
+            reply: _reply,
+            refused: _refused,
+        } = self;
+        store
     }
 }

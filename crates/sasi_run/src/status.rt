@@ -3,6 +3,8 @@ ghost use Rattle.std.specs.Prelude.{◌≡◌};
 ghost use Rattle.sasi_run.specs.StatusCodes.{code_of};
 
 use sasi_host::Damage;
+use sasi_layout::NumberKind;
+use sasi_types::Partitioner;
 
 /// How a run ended.
 #[derive(Clone, Copy, Debug, PartialEq, Eq)]
@@ -22,6 +24,13 @@ pub enum Status {
     OutOfMemory,
     /// A file of the folder breaks its format.
     Damaged(Damage),
+    /// The words ask for a partitioner, and the folder keeps another.
+    PartitionerDiffers {
+        asked: Partitioner,
+        kept: Partitioner,
+    },
+    /// A statement needs another number of this kind, and the last one is used.
+    NumbersSpent(NumberKind),
     /// The source gave more than 2^40 bytes.
     ScriptTooLong,
 }
@@ -40,6 +49,8 @@ impl Status {
             Status::OutputFault => 5,
             Status::OutOfMemory => 6,
             Status::Damaged(_) => 7,
+            Status::PartitionerDiffers { .. } => 9,
+            Status::NumbersSpent(_) => 10,
             Status::ScriptTooLong => 11,
         }
     }

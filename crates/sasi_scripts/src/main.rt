@@ -5,6 +5,7 @@
 //! - `new` begins a new folder.
 //! - `put NAME DIGITS` puts a file of these bytes, in hexadecimal, into the folder.
 //! - `then SCRIPT` runs a script over the folder.
+//! - `ask NAME SCRIPT` does so where the partitioner of this name is asked.
 //! - `cut NAME FROM TO SCRIPT` runs a script over copies of the folder in which the file is cut to each of these lengths. It
 //!   prints the length, and then whether the run left the file as it was.
 //! - `change NAME OFFSET BYTE SCRIPT` does so with a copy in which the file has this byte at this offset.
@@ -24,7 +25,7 @@ mod runs;
 
 use crate::crashes::{Shown, run_crashes};
 use crate::files::{print_files, put_file, run_changed, run_cuts};
-use crate::runs::{run_filled, run_outside, run_script, run_words};
+use crate::runs::{run_asking, run_filled, run_outside, run_script, run_words};
 use sasi_host::MemHost;
 use std::alloc::Global;
 use std::io::{self, BufRead, BufReader};
@@ -34,6 +35,7 @@ fn take_line(rt: &impl Print, alloc: Global, host: &mut MemHost, line: &str) -> 
     let (word, rest) = line.split_once(' ').unwrap_or((line, ""));
     match word {
         "then" => run_script(rt, alloc, rest, host),
+        "ask" => run_asking(rt, alloc, rest, host),
         "put" => put_file(rt, alloc, rest, host),
         "cut" => run_cuts(rt, alloc, rest, host),
         "change" => run_changed(rt, alloc, rest, host),

@@ -12,6 +12,16 @@ fn two_words(alloc: Global) -> Result<Vec<String>, AllocError> {
     Ok(words)
 }
 
+// The words of a command line that asks for a partitioner.
+fn four_words(alloc: Global, partitioner: &str) -> Result<Vec<String>, AllocError> {
+    let mut words = Vec::new(alloc);
+    words.push(String::from_str(alloc, "--partitioner")?)?;
+    words.push(String::from_str(alloc, partitioner)?)?;
+    words.push(String::from_str(alloc, "folder")?)?;
+    words.push(String::from_str(alloc, "script")?)?;
+    Ok(words)
+}
+
 // A source of the script that gives at most so many bytes a read, and whose read of this number fails.
 fn source_of(
     alloc: Global,
@@ -48,6 +58,26 @@ pub fn run_script(
 ) -> io::Result<()> {
     let mut source = source_of(alloc, script, 4096, 0)?;
     run_from(rt, alloc, &two_words(alloc)?, &mut source, host)
+}
+
+/// Runs a script where a partitioner is asked: `NAME SCRIPT`.
+pub fn run_asking(
+    rt: &impl Print,
+    alloc: Global,
+    line: &str,
+    host: &mut MemHost,
+) -> io::Result<()> {
+    let Some((partitioner, script)) = line.split_once(' ') else {
+        return println!(rt; "a name is missing");
+    };
+    let mut source = source_of(alloc, script, 4096, 0)?;
+    run_from(
+        rt,
+        alloc,
+        &four_words(alloc, partitioner)?,
+        &mut source,
+        host,
+    )
 }
 
 // The number before the first space, and what stands behind it.

@@ -1,7 +1,8 @@
 // The line that the program prints of a status.
 use sasi_filehost::NameText;
 use sasi_host::{Damage, Seen};
-use sasi_run::Status;
+use sasi_run::{NumberKind, Status};
+use sasi_types::Partitioner;
 use std::fmt;
 
 /// The line on standard error, empty where there is none.
@@ -18,6 +19,10 @@ impl fmt::Display for Message {
             Status::OutputFault => write!(f, "output failed"),
             Status::OutOfMemory => write!(f, "out of memory"),
             Status::Damaged(damage) => write_damage(f, damage),
+            Status::PartitionerDiffers { asked, kept } => {
+                write_partitioners(f, partitioner_name(asked), partitioner_name(kept))
+            }
+            Status::NumbersSpent(kind) => write_spent(f, kind),
             Status::ScriptTooLong => write!(f, "script too long"),
         }
     }
@@ -33,6 +38,33 @@ fn write_damage<W: fmt::Write>(f: &mut fmt::Formatter<W>, damage: Damage) -> fmt
     let file = NameText(file);
     let seen = SeenText(seen);
     write!(f, "damaged {file} at {at} rule {rule:?} seen {seen}")
+}
+
+fn write_partitioners<W: fmt::Write>(
+    f: &mut fmt::Formatter<W>,
+    asked: &str,
+    kept: &str,
+) -> fmt::Result {
+    write!(f, "partitioner differs: asked {asked}, kept {kept}")
+}
+
+fn partitioner_name(partitioner: Partitioner) -> &'static str {
+    match partitioner {
+        Partitioner::Lead8 => "lead8",
+        Partitioner::Murmur3 => "murmur3",
+    }
+}
+
+fn write_spent<W: fmt::Write>(f: &mut fmt::Formatter<W>, kind: NumberKind) -> fmt::Result {
+    let kind = match kind {
+        NumberKind::Manifest => "manifest",
+        NumberKind::Log => "log",
+        NumberKind::Data => "data",
+        NumberKind::Index => "index",
+        NumberKind::Part => "part",
+        NumberKind::Record => return write!(f, "record too long"),
+    };
+    write!(f, "no {kind} number is left")
 }
 
 // The seen bytes in hexadecimal.

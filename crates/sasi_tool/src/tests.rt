@@ -1,7 +1,8 @@
 // The lines on standard error.
 use crate::message::Message;
 use sasi_host::{Damage, FileName, FormatRule, Kind, found};
-use sasi_run::Status;
+use sasi_run::{NumberKind, Status};
+use sasi_types::Partitioner;
 use std::alloc::Global;
 use std::process::Abort;
 
@@ -67,5 +68,30 @@ fn other_faults_have_their_lines(rt: HostRuntime) {
     ];
     for (status, line) in cases {
         check(&rt, rt.alloc(), status, line);
+    }
+}
+
+#[test]
+fn other_partitioner_is_told(rt: HostRuntime) {
+    let status = Status::PartitionerDiffers {
+        asked: Partitioner::Murmur3,
+        kept: Partitioner::Lead8,
+    };
+    let line = "partitioner differs: asked murmur3, kept lead8";
+    check(&rt, rt.alloc(), status, line);
+}
+
+#[test]
+fn spent_numbers_have_their_lines(rt: HostRuntime) {
+    let cases = [
+        (NumberKind::Manifest, "no manifest number is left"),
+        (NumberKind::Log, "no log number is left"),
+        (NumberKind::Data, "no data number is left"),
+        (NumberKind::Index, "no index number is left"),
+        (NumberKind::Part, "no part number is left"),
+        (NumberKind::Record, "record too long"),
+    ];
+    for (kind, line) in cases {
+        check(&rt, rt.alloc(), Status::NumbersSpent(kind), line);
     }
 }

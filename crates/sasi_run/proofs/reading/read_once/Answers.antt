@@ -1,8 +1,8 @@
 use Rattle.std.proofs.Common.{arith, ℕ, List, take, inr, ap, ◌∙◌, subst}
 use Rattle.std.proofs.lemmas.List.{length-take, take_min}
 use Rattle.sasi_run.specs.Crashing.{FeedsCrashSafe, StopsWith}
-use Rattle.sasi_run.proofs.CrashesAtEnd.{stops_after_read}
-use Rattle.sasi_run.proofs.FailedCalls.{calls_behind, ended_calls, none_failed, nothing_read, script_calls}
+use Rattle.sasi_run.proofs.RunsAtEnd.{stops_after_read}
+use Rattle.sasi_run.proofs.FailedCalls.{calls_behind, ended_calls, ended_reports, none_failed, nothing_read, script_calls}
 use Rattle.sasi_host.specs.FailingLaws.{told_none}
 use Rattle.sasi_run.proofs.reading.read_once.Goals as goal
 
@@ -48,3 +48,9 @@ returns-in-Err-feed_bytes-clause-calls g c =
     calls_behind c.in-Err-feed_bytes.status script later later start start stopped
     (nothing_read script later start start c.in-Ok.count c.in-Ok.ensures.causes (none_failed start) (told_none start))
     (ended_calls c.in-Err-feed_bytes.status later start stopped c.in-Err-feed_bytes.ensures.causes.ended c.feed_bytes.ensures.told)
+
+pub returns-in-Err-clause-damage : goal.returns-in-Err-clause-damage
+returns-in-Err-clause-damage g c = λ damage is. cc
+
+pub returns-in-Err-feed_bytes-clause-damage : goal.returns-in-Err-feed_bytes-clause-damage
+returns-in-Err-feed_bytes-clause-damage g c = ended_reports c.in-Err-feed_bytes.status _ _ c.in-Err-feed_bytes.ensures.causes.ended

@@ -1,4 +1,4 @@
-use Rattle.std.proofs.Common.{◌≡◌, ◌≤◌, ◌-◌, ◌^◌}
+use Rattle.std.proofs.Common.{◌≤◌, ◌-◌, ◌^◌}
 use Rattle.sasi_run.specs.Crashing.{ReadsCrashSafe}
 use Rattle.sasi_run.specs.StatusCauses.{NothingFailed}
 use Rattle.sasi_run.proofs.reading.run_script.Given as goal
@@ -9,7 +9,6 @@ invariant-reads g l = record {
       (g.H.Host.view l.host) l.taken;
   few : l.taken ≤ 2 ^ 40;
   unfailed : NothingFailed (g.S.Source.view l.fn.script) (g.S.Source.view l.script) (g.H.Host.view l.fn.host) (g.H.Host.view l.host);
-  reads : (g.H.Host.view l.host).reads ≡ (g.H.Host.view l.fn.host).reads;
 }
 
 abbrev pub decreases-reads : goal.decreases-reads

@@ -2,46 +2,52 @@ use Rattle.std.proofs.Common.{arith, ap, ◌∙◌, refl}
 use Rattle.std.proofs.lemmas.Result.{err_from_is_err_and}
 use Rattle.sasi_model.specs.Pieces.{piece_of}
 use Rattle.sasi_host.specs.FailingLaws.{told_on}
+use Rattle.sasi_run.proofs.Answering.{answers_on, fails_moving, fails_shown, state_served}
 use Rattle.sasi_run.proofs.FailedCalls.{output_stops, output_went, step_stops, step_went}
-use Rattle.sasi_run.proofs.EmitLaws.{emits_nothing, emits_reply}
-use Rattle.sasi_run.proofs.Answering.{answers_on, fails_recorded, fails_shown}
 use Rattle.sasi_run.proofs.session.answer.Goals as goal
 
 pub returns-in_err-outcome-clause-err : goal.returns-in_err-outcome-clause-err
 returns-in_err-outcome-clause-err g c =
     let p = err_from_is_err_and c.from_residual.result c.from_residual.ensures.1 in
-    let moves = rw c.piece.ensures at c.step.ensures.any_moment in
     rw (p.1, p.2)
-    (fails_recorded c.in_err-outcome.field-0.0 c.args.session.now (g.H.Host.view c.args.host.now) (g.H.Host.view c.step.new.host)
-    (piece_of c.args.end c.args.session.now.splitter.text) c.step.ensures.changes moves)
+    (fails_moving c.in_err-outcome.field-0.0 c.args.session.now (g.H.Host.view c.args.host.now) (g.H.Host.view c.step.new.host)
+    (piece_of c.args.end c.args.session.now.splitter.text)
+    (record {
+      change = c.step.ensures.changes;
+      moments = rw c.piece.ensures at c.step.ensures.any_moment;
+      spends = rw c.piece.ensures at c.in_err-outcome.ensures.spent;
+      undamaged = c.in_err-outcome.ensures.undamaged;
+    }))
 
 pub returns-in_err-emit_reply-clause-err : goal.returns-in_err-emit_reply-clause-err
 returns-in_err-emit_reply-clause-err g c =
     let p = err_from_is_err_and c.from_residual-in_err-emit_reply.result c.from_residual-in_err-emit_reply.ensures.1 in
-    let moves = rw c.piece.ensures at c.step.ensures.any_moment in
-    let made = rw c.piece.ensures at c.in_ok-outcome.ensures.state in
-    let said = c.bytes.ensures ∙ (rw c.piece.ensures at c.in_ok-outcome.ensures.reply) in
     rw (p.1, p.2)
-    (fails_shown c.args.session.now (g.H.Host.view c.args.host.now) (g.H.Host.view c.step.new.host) (g.H.Host.view c.emit_reply.new.host)
-    c.step.new.store (piece_of c.args.end c.args.session.now.splitter.text) c.bytes.result.now said made c.step.ensures.changes moves
-    c.in_ok-outcome.ensures.durable c.emit_reply.ensures.emits c.in_err-emit_reply.ensures.failed_call)
+    (fails_shown c.args.session.now c.step.new.self (g.H.Host.view c.args.host.now) (g.H.Host.view c.step.new.host) (g.H.Host.view c.emit_reply.new.host)
+    (piece_of c.args.end c.args.session.now.splitter.text) c.step.new.reply c.bytes.result.now c.in_ok-outcome.outcome
+    (record {
+      change = c.step.ensures.changes;
+      moments = rw c.piece.ensures at c.step.ensures.any_moment;
+      answers = rw c.piece.ensures at c.in_ok-outcome.ensures.answers;
+    })
+    c.bytes.ensures c.emit_reply.ensures.emits c.in_err-emit_reply.ensures.failed_call)
 
 pub returns-clause-ok : goal.returns-clause-ok
 returns-clause-ok g c =
-    let moves = rw c.piece.ensures at c.step.ensures.any_moment in
-    let made = rw c.piece.ensures at c.in_ok-outcome.ensures.state in
-    let said = c.bytes.ensures ∙ (rw c.piece.ensures at c.in_ok-outcome.ensures.reply) in
-    let outcome = rw c.piece.ensures at c.in_ok-outcome.ensures.outcome in
-    answers_on c.args.session.now (g.H.Host.view c.args.host.now) (g.H.Host.view c.step.new.host) (g.H.Host.view c.emit_reply.new.host)
-    c.step.new.store (piece_of c.args.end c.args.session.now.splitter.text) c.bytes.result.now said made c.step.ensures.changes moves
-    c.in_ok-outcome.ensures.durable c.emit_reply.ensures.emits
-    _ c.in_ok-outcome.outcome refl (omega arith) outcome c.count_refused-session.ensures refl c.in_ok-outcome.ensures.ready c.in_ok-emit_reply.ensures.all
-    (emits_reply _ _ _ c.bytes.result.now _ c.step.ensures.changes.emits said c.emit_reply.ensures.call)
+    answers_on c.args.session.now c.step.new.self (g.H.Host.view c.args.host.now) (g.H.Host.view c.step.new.host) (g.H.Host.view c.emit_reply.new.host)
+    (piece_of c.args.end c.args.session.now.splitter.text) c.step.new.reply c.bytes.result.now c.in_ok-outcome.outcome
+    (record {
+      change = c.step.ensures.changes;
+      moments = rw c.piece.ensures at c.step.ensures.any_moment;
+      answers = rw c.piece.ensures at c.in_ok-outcome.ensures.answers;
+    })
+    c.bytes.ensures c.emit_reply.ensures.emits _ refl (omega arith) c.count_refused-session.ensures refl c.in_ok-outcome.ensures.ready
+    c.in_ok-emit_reply.ensures.all c.emit_reply.ensures.call
 
 pub returns-in_err-outcome-clause-causes : goal.returns-in_err-outcome-clause-causes
 returns-in_err-outcome-clause-causes g c =
     let p = err_from_is_err_and c.from_residual.result c.from_residual.ensures.1 in
-    rw (p.1, p.2) (record { ok = tt; stopped = step_stops c.in_err-outcome.field-0.0 _ _ c.in_err-outcome.ensures.causes })
+    rw (p.1, p.2) (record { ok = tt; stopped = step_stops c.in_err-outcome.field-0.0 _ _ c.in_err-outcome.ensures.causes c.in_err-outcome.ensures.damaged })
 
 pub returns-in_err-outcome-clause-told : goal.returns-in_err-outcome-clause-told
 returns-in_err-outcome-clause-told g c = c.step.ensures.changes.told
@@ -60,33 +66,17 @@ returns-clause-causes g c = record { ok = output_went _ _ _ _ (step_went _ _ _ c
 pub returns-clause-told : goal.returns-clause-told
 returns-clause-told g c = told_on _ _ _ c.step.ensures.changes.told c.emit_reply.ensures.emits.told
 
-pub returns-in_err-outcome-clause-emits : goal.returns-in_err-outcome-clause-emits
-returns-in_err-outcome-clause-emits g c =
-    let p = err_from_is_err_and c.from_residual.result c.from_residual.ensures.1 in
-    rw (p.1, p.2) (emits_nothing (Unit {0}) c.in_err-outcome.field-0.0 _ _ _ c.step.ensures.changes.emits)
-
-pub returns-in_err-emit_reply-clause-emits : goal.returns-in_err-emit_reply-clause-emits
-returns-in_err-emit_reply-clause-emits g c =
-    let p = err_from_is_err_and c.from_residual-in_err-emit_reply.result c.from_residual-in_err-emit_reply.ensures.1 in
-    let said = c.bytes.ensures ∙ (rw c.piece.ensures at c.in_ok-outcome.ensures.reply) in
-    rw (p.1, p.2) (emits_reply _ _ _ c.bytes.result.now _ c.step.ensures.changes.emits said c.emit_reply.ensures.call)
-
-pub returns-clause-emits : goal.returns-clause-emits
-returns-clause-emits g c =
-    let said = c.bytes.ensures ∙ (rw c.piece.ensures at c.in_ok-outcome.ensures.reply) in
-    emits_reply _ _ _ c.bytes.result.now _ c.step.ensures.changes.emits said c.emit_reply.ensures.call
-
 pub returns-in_err-outcome-clause-spared : goal.returns-in_err-outcome-clause-spared
-returns-in_err-outcome-clause-spared g c needs =
+returns-in_err-outcome-clause-spared g c w serves needs =
     let spared = rw c.piece.ensures at c.step.ensures.spared in
-    ap (λ h. (g.H.Host.view h).calls) (spared needs)
+    ap (λ h. (g.H.Host.view h).calls) (spared _ (state_served _ _ w serves) needs)
 
 pub returns-in_err-emit_reply-clause-spared : goal.returns-in_err-emit_reply-clause-spared
-returns-in_err-emit_reply-clause-spared g c needs =
+returns-in_err-emit_reply-clause-spared g c w serves needs =
     let spared = rw c.piece.ensures at c.step.ensures.spared in
-    c.emit_reply.ensures.causes.calls ∙ ap (λ h. (g.H.Host.view h).calls) (spared needs)
+    c.emit_reply.ensures.causes.calls ∙ ap (λ h. (g.H.Host.view h).calls) (spared _ (state_served _ _ w serves) needs)
 
 pub returns-clause-spared : goal.returns-clause-spared
-returns-clause-spared g c needs =
+returns-clause-spared g c w serves needs =
     let spared = rw c.piece.ensures at c.step.ensures.spared in
-    c.emit_reply.ensures.causes.calls ∙ ap (λ h. (g.H.Host.view h).calls) (spared needs)
+    c.emit_reply.ensures.causes.calls ∙ ap (λ h. (g.H.Host.view h).calls) (spared _ (state_served _ _ w serves) needs)

@@ -1,4 +1,4 @@
-use Rattle.std.proofs.Common.{take, ◌≡◌}
+use Rattle.std.proofs.Common.{take}
 use Rattle.sasi_host.specs.View.{FailsOnlyAsTold}
 use Rattle.sasi_run.specs.Crashing.{FeedsCrashSafe}
 use Rattle.sasi_run.specs.Session.{NoneFailed}
@@ -9,5 +9,4 @@ invariant-loop-byte g l = record {
   taken : FeedsCrashSafe l.fn.session l.session (g.H.Host.view l.fn.host) (g.H.Host.view l.host) (take l.byte-index l.bytes);
   none : NoneFailed (g.H.Host.view l.fn.host) (g.H.Host.view l.host);
   told : FailsOnlyAsTold (g.H.Host.view l.fn.host) (g.H.Host.view l.host);
-  reads : (g.H.Host.view l.host).reads ≡ (g.H.Host.view l.fn.host).reads;
 }

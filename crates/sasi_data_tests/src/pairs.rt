@@ -1,0 +1,53 @@
+// Data files that are durable before a manifest lists them, or given up.
+ghost use Rattle.std.specs.Prelude.{◌≤◌, length, IsTrue};
+ghost use Rattle.sasi_host.specs.Memory.{host_view, seen};
+ghost use Rattle.sasi_host.specs.View.{Reaches};
+
+use crate::fixture::{DATA, INSERTED, ONE, partition_of};
+use sasi_host::{BytePick, MemHost, NamePick, Pick};
+use sasi_manifest::PartNumbers;
+use sasi_pairs::PairWriter;
+use sasi_types::Partitioner;
+use std::alloc::Global;
+use std::process::Abort;
+
+// A writer of a data file, with one partition.
+fn pushed(rt: &impl Abort, alloc: Global, host: &mut MemHost) -> PairWriter
+    ensures room { Reaches (host_view (seen host.new)) result.file result.offset }
+    ensures some { 1 ≤ length result.pairs }
+    ensures usable { IsTrue result.usable }
+{
+    assert!(rt; host.bytes(DATA).is_none());
+    let (key, part) = partition_of(rt, alloc, &INSERTED);
+    let mut writer = PairWriter::begin(alloc, host, 7, Partitioner::Lead8).expect(rt, "begun");
+    writer.push(host, &key, &part).expect(rt, "pushed");
+    writer
+}
+
+// Seals a data file of one partition.
+fn seal(rt: &impl Abort, alloc: Global, host: &mut MemHost) {
+    let writer = pushed(rt, alloc, host);
+    writer
+        .seal(host, &PartNumbers::new(alloc))
+        .expect(rt, "sealed");
+}
+
+#[test]
+fn crash_leaves_a_sealed_file(rt: HostRuntime) {
+    let mut host = MemHost::new(rt.alloc());
+    seal(&rt, rt.alloc(), &mut host);
+    let pick = Pick {
+        names: NamePick::AsSynced,
+        bytes: BytePick::Ones,
+    };
+    let left = host.crash(pick).expect(&rt, "a crash");
+    assert!(rt; left.bytes(DATA) == Some(ONE.as_slice()));
+}
+
+#[test]
+fn file_that_is_given_up_is_gone(rt: HostRuntime) {
+    let mut host = MemHost::new(rt.alloc());
+    let writer = pushed(&rt, rt.alloc(), &mut host);
+    writer.give_up(&mut host).expect(&rt, "deleted");
+    assert!(rt; host.bytes(DATA).is_none());
+}

@@ -1,0 +1,69 @@
+-- The file of a flush is there once its bytes are.
+use Rattle.std.specs.Prelude.{ℕ, suc, List, Some, length, map, ◌≡◌, ◌^◌, ◌≤◌, ◌∷◌, []}
+use Rattle.std.proofs.Common.{◌∙◌, ap, subst}
+use Rattle.std.specs.FinMap.{get}
+use Rattle.std.specs.List.{AllByRecursion}
+use Rattle.sasi_types.specs.declared.partitioner.Partitioner.{Partitioner}
+use Rattle.sasi_model.specs.Abbreviations.{types_of}
+use Rattle.sasi_model.specs.State.{Definition}
+use Rattle.sasi_cells.specs.Maps.{merged}
+use Rattle.sasi_host.specs.ChangeLaws.{Each}
+use Rattle.sasi_host.specs.Disk.{IsFileDurable}
+use Rattle.sasi_host.specs.Names.{Bytes, Folder, data_name}
+use Rattle.sasi_host.specs.View.{View}
+use Rattle.sasi_manifest.proofs.Replacing.{At}
+use Rattle.sasi_manifest.specs.declared.listing.Listing.{Listing}
+use Rattle.sasi_folder.proofs.FolderChanges.{all_both}
+use Rattle.sasi_layout.proofs.Contents.{has_written}
+use Rattle.sasi_layout.proofs.Storable.{merged_storable, entries_storable}
+use Rattle.sasi_layout.specs.Flushed.{IsWritten, HasFlushed}
+use Rattle.sasi_layout.specs.Layout.{Layout, TableParts, unflushed}
+use Rattle.sasi_layout.specs.Moves.{flushed_file}
+use Rattle.sasi_layout.specs.Serving.{AreStorable, AreTablesReady, TableInHand, StoreInHand, IsReady, Serves, table_in_hand}
+use Rattle.sasi_layout.specs.Shape.{HasFile}
+
+-- what isn't flushed of the table can be stored in it
+abbrev pub CanFlush : Partitioner → TableParts → Type 0
+CanFlush p t = AreStorable p (types_of t.definition) (merged (unflushed t))
+
+flushed_there : (x : Folder) (p : Partitioner) (file table n : ℕ) (bytes : Bytes) (ts : List TableParts) → get x (data_name file) ≡ Some bytes → length bytes ≤ 2 ^ 62 → At n table (CanFlush p) ts → At n table (IsWritten p bytes) ts
+    → At n table (λ t. HasFile x p t.definition (flushed_file file t)) ts
+flushed_there x p file table n bytes [] there fits can is = tt
+flushed_there x p file table n bytes (t ∷ ts) there fits can is = (
+  (λ own.
+      let written = is.0 own in
+      has_written x p t.definition (flushed_file file t) (record { some = written.some; storable = entries_storable p (types_of t.definition) (merged (unflushed t)) (can.0 own) })
+      (there ∙ ap (λ (b : Bytes). Some b) written.bytes_are) (subst (λ (b : Bytes). length b ≤ 2 ^ 62) written.bytes_are fits)),
+  flushed_there x p file table (suc n) bytes ts there fits can.1 is.1,
+)
+
+-- Once each image has the bytes that are written of what isn't flushed, each has the file of the flush.
+pub flushed_each : (l : Layout) (table : ℕ) (bytes : Bytes) (v : View) → At 1 table (CanFlush l.partitioner) l.tables → At 1 table (IsWritten l.partitioner bytes) l.tables → IsFileDurable v (data_name (suc l.used.file)) bytes → length bytes ≤ 2 ^ 62 → Each v (HasFlushed table l)
+flushed_each l table bytes v can is kept fits x now = flushed_there x l.partitioner (suc l.used.file) table 1 bytes l.tables (kept x now) fits can is
+
+-- ---- what a store in memory can flush
+
+can_flush : (p : Partitioner) (floor last n table : ℕ) (ds : List Definition) (hs : List TableInHand) (ts : List TableParts) → AreTablesReady p floor last ds hs → ds ≡ map (λ (t : TableParts). t.definition) ts → hs ≡ map table_in_hand ts → At n table (CanFlush p) ts
+can_flush p floor last n table [] hs [] ready definitions tables = tt
+can_flush p floor last n table [] hs (t ∷ ts) ready definitions tables = cc
+can_flush p floor last n table (d ∷ ds) hs [] ready definitions tables = cc
+can_flush p floor last n table (d ∷ ds) [] (t ∷ ts) ready definitions tables = cc
+can_flush p floor last n table (d ∷ ds) (h ∷ hs) (t ∷ ts) ready definitions tables =
+    let definition : d ≡ t.definition = cc in
+    let more : ds ≡ map (λ (t : TableParts). t.definition) ts = cc in
+    let hand : h ≡ table_in_hand t = cc in
+    let others : hs ≡ map table_in_hand ts = cc in (
+      (λ own.
+          let frozen : AllByRecursion (AreStorable p (types_of d)) t.frozen = subst (λ (k : TableInHand). AllByRecursion (AreStorable p (types_of d)) k.frozen) hand ready.0.frozen in
+          let memtable : AreStorable p (types_of d) t.memtable = subst (λ (k : TableInHand). AreStorable p (types_of d) k.memtable) hand ready.0.memtable in
+          subst (λ (k : Definition). AreStorable p (types_of k) (merged (unflushed t))) definition
+          (merged_storable p (types_of d) ready.0.typed.few (unflushed t) (all_both (AreStorable p (types_of d)) t.frozen (t.memtable ∷ []) frozen (memtable, tt)))),
+      can_flush p floor last (suc n) table ds hs ts ready.1 more others,
+    )
+
+-- A store that is ready can flush each table.
+pub ready_flush : (v : View) (store : StoreInHand) (l : Layout) (table : ℕ) → IsReady v store → Serves v store l → At 1 table (CanFlush l.partitioner) l.tables
+ready_flush v store l table ready serves =
+    let partitioner : store.manifest.listing.partitioner ≡ l.partitioner = ap (λ (e : Listing). e.partitioner) serves.listing in
+    subst (λ p. At 1 table (CanFlush p) l.tables) partitioner
+    (can_flush store.manifest.listing.partitioner store.manifest.listing.floor store.manifest.listing.last 1 table store.definitions store.tables l.tables ready.tables serves.definitions serves.tables)

@@ -1,0 +1,99 @@
+-- What a store holds, part by part: in files that the manifest lists, and in maps that aren't in a file yet.
+use Rattle.std.specs.Prelude.{◌≡◌, ℕ, max, List, [], ◌∷◌, ◌++◌, map, Option}
+use Rattle.sasi_types.specs.declared.partitioner.Partitioner.{Partitioner}
+use Rattle.sasi_cells.specs.Maps.{merged}
+use Rattle.sasi_model.specs.State.{Definition, State, Table}
+use Rattle.sasi_model.specs.Abbreviations.{Partitions}
+use Rattle.sasi_manifest.specs.declared.files.ListedFile.{ListedFile}
+use Rattle.sasi_manifest.specs.declared.listing.Listing.{Listing}
+use Rattle.sasi_manifest.specs.ListedDefinition.{ListedDefinition}
+
+-- ---- a layout
+
+-- a current data file, with the partitions that it has
+pub record File : Type 0 where
+  pub listed : ListedFile
+  pub holds : Partitions
+
+-- the parts of a table
+pub record TableParts : Type 0 where
+  pub definition : Definition
+  -- the first segment of the log that can have mutations of the table
+  pub since : ℕ
+  -- the least live segment from there on that has one
+  pub first : Option ℕ
+  -- rising by number
+  pub files : List File
+  -- maps that no write changes any more, the oldest first
+  pub frozen : List Partitions
+  pub memtable : Partitions
+
+-- the last used number of each kind
+pub record Used : Type 0 where
+  -- that of the sealed manifest
+  pub manifest : ℕ
+  pub log : ℕ
+  pub file : ℕ
+  pub index : ℕ
+  pub part : ℕ
+
+pub record Layout : Type 0 where
+  pub partitioner : Partitioner
+  -- the live segments of the log are those from the floor to the last
+  pub floor : ℕ
+  pub last : ℕ
+  -- the number of records of the manifest, and its length
+  pub records : ℕ
+  pub length : ℕ
+  pub tables : List TableParts
+  pub used : Used
+
+-- ---- what the manifest lists of it
+
+abbrev pub listed_of : TableParts → ListedDefinition
+listed_of t = record { definition = t.definition; since = t.since; files = map (λ (f : File). f.listed) t.files }
+
+abbrev pub listing_of : Layout → Listing
+listing_of l = record { partitioner = l.partitioner; floor = l.floor; last = l.last; records = l.records; length = l.length; tables = map listed_of l.tables }
+
+-- ---- the state
+
+-- what isn't in a file, the oldest first
+abbrev pub unflushed : TableParts → List Partitions
+unflushed t = t.frozen ++ t.memtable ∷ []
+
+-- all parts, the oldest first
+abbrev pub parts : TableParts → List Partitions
+parts t = map (λ (f : File). f.holds) t.files ++ unflushed t
+
+abbrev pub table_of : TableParts → Table
+table_of t = record { definition = t.definition; partitions = merged (parts t) }
+
+-- The state: of each table the merge of all its parts.
+abbrev pub state_of : Layout → State
+state_of l = record { partitioner = l.partitioner; tables = map table_of l.tables }
+
+-- ---- what a crash leaves of it
+
+abbrev pub greatest_file : List ListedFile → ℕ
+greatest_file [] = 0
+greatest_file (f ∷ fs) = max f.number (greatest_file fs)
+
+abbrev pub greatest_data : List ListedDefinition → ℕ
+greatest_data [] = 0
+greatest_data (t ∷ ts) = max (greatest_file t.files) (greatest_data ts)
+
+-- the greatest numbers that are listed, under the manifest of this number
+abbrev pub used_in : ℕ → Listing → Used
+used_in manifest listing = record { manifest = manifest; log = listing.last; file = greatest_data listing.tables; index = 0; part = 0 }
+
+-- no map is frozen
+abbrev pub IsIdle : TableParts → Type 0
+IsIdle t = t.frozen ≡ []
+
+abbrev pub bare_table : TableParts → TableParts
+bare_table t = record t { frozen = []; memtable = merged (unflushed t) }
+
+-- What isn't flushed is one map, and the last used numbers are those that are listed.
+abbrev pub bare : Layout → Layout
+bare l = record l { tables = map bare_table l.tables; used = used_in l.used.manifest (listing_of l) }

@@ -1,0 +1,13 @@
+pub mod Layout
+pub mod Moves
+pub mod Wells
+pub mod Statements
+pub mod Spent
+pub mod Kept
+pub mod Shape
+pub mod Frames
+pub mod Flushed
+pub mod Between
+pub mod Serving
+pub mod Worlds
+pub mod Running

@@ -1,0 +1,132 @@
+-- The moves of a layout: a mutation is put, a memtable is frozen, what isn't flushed becomes a file, and a table is created.
+use Rattle.std.specs.Prelude.{ℕ, suc, ◌+◌, min, nat_eq, if◌then◌else◌, List, [], ◌∷◌, ◌++◌, length, Option, None, Some}
+use Rattle.std.specs.FinMap as map_
+use Rattle.sasi_types.specs.declared.partitioner.Partitioner.{Partitioner}
+use Rattle.sasi_cells.specs.Maps.{merged, put}
+use Rattle.sasi_cells.specs.Mutations.{state_with_mutation}
+use Rattle.sasi_cells.specs.declared.mutation.Mutation.{Mutation}
+use Rattle.sasi_model.specs.Changes.{with_new_table}
+use Rattle.sasi_model.specs.State.{Definition, State, decorated}
+use Rattle.sasi_manifest.specs.declared.edit.Edit.{Edit}
+use Rattle.sasi_manifest.specs.declared.edit.Edit.TheVariants.{CreateTable, Replace}
+use Rattle.sasi_manifest.specs.declared.files.ListedFile.{ListedFile}
+use Rattle.sasi_manifest.specs.Edits.{encoded}
+use Rattle.sasi_manifest.specs.Listings.{at_number}
+use Rattle.sasi_layout.specs.Layout.{File, Layout, TableParts, unflushed}
+
+-- the first, and else the second
+abbrev pub or_else : Option ℕ → Option ℕ → Option ℕ
+or_else None b = b
+or_else (Some a) b = Some a
+
+-- ---- put
+
+abbrev pub put_table : Partitioner → ℕ → Mutation → TableParts → TableParts
+put_table partitioner last m t = record t { first = or_else t.first (Some last); memtable = put t.memtable (decorated partitioner m.key) m.change }
+
+-- a mutation is merged into its table's memtable
+abbrev pub after_put : Mutation → Layout → Layout
+after_put m l = record l { tables = at_number 1 m.table (put_table l.partitioner l.last m) l.tables }
+
+-- ---- freeze
+
+abbrev pub freeze_table : TableParts → TableParts
+freeze_table t = record t { frozen = t.frozen ++ t.memtable ∷ []; memtable = map_.empty }
+
+-- the table's memtable is one of the frozen maps, and a new one is empty
+abbrev pub after_freeze : ℕ → Layout → Layout
+after_freeze table l = record l { tables = at_number 1 table freeze_table l.tables }
+
+-- ---- flush
+
+-- the file of a flush, as the manifest lists it
+abbrev pub new_file : ℕ → ListedFile
+new_file number = record { number = number; parts = [] }
+
+-- the file of what isn't flushed
+abbrev pub flushed_file : ℕ → TableParts → File
+flushed_file number t = record { listed = new_file number; holds = merged (unflushed t) }
+
+abbrev pub flush_table : ℕ → ℕ → TableParts → TableParts
+flush_table number last t = record t { since = last; first = None; files = t.files ++ flushed_file number t ∷ []; frozen = []; memtable = map_.empty }
+
+-- the lesser of two segments, if there is one
+abbrev pub lesser : Option ℕ → ℕ → ℕ
+lesser None n = n
+lesser (Some m) n = min m n
+
+-- the least segment that has a mutation of another table, and else the new one
+abbrev pub floor_without : ℕ → ℕ → ℕ → List TableParts → ℕ
+floor_without n table last [] = last
+floor_without n table last (t ∷ ts) = if nat_eq n table then floor_without (suc n) table last ts else lesser t.first (floor_without (suc n) table last ts)
+
+-- the first live segment after the flush of a table
+abbrev pub next_floor : ℕ → Layout → ℕ
+next_floor table l = floor_without 1 table (suc l.last) l.tables
+
+-- the manifest's record of it
+abbrev pub flush_edits : ℕ → Layout → List Edit
+flush_edits table l = Replace table [] (new_file (suc l.used.file) ∷ []) (suc l.last) (next_floor table l) (suc l.last) ∷ []
+
+-- All that isn't flushed of the table becomes a file of the next data number, and the log goes on in its next segment.
+abbrev pub after_flush : ℕ → Layout → Layout
+after_flush table l = record l {
+  floor = next_floor table l;
+  last = suc l.last;
+  records = l.records + 1;
+  length = l.length + (5 + length (encoded (flush_edits table l)));
+  tables = at_number 1 table (flush_table (suc l.used.file) (suc l.last)) l.tables;
+  used = record l.used { log = suc l.last; file = suc l.used.file };
+}
+
+-- ---- create
+
+-- a table without parts, whose mutations come in this segment or later
+abbrev pub new_parts : Definition → ℕ → TableParts
+new_parts d last = record { definition = d; since = last; first = None; files = []; frozen = []; memtable = map_.empty }
+
+-- the manifest's record of a new table
+abbrev pub create_edits : Definition → Layout → List Edit
+create_edits d l = CreateTable (suc (length l.tables)) d.name d.columns d.key l.last ∷ []
+
+-- there is one more table
+abbrev pub after_create : Definition → Layout → Layout
+after_create d l = record l { records = l.records + 1; length = l.length + (5 + length (encoded (create_edits d l))); tables = l.tables ++ new_parts d l.last ∷ [] }
+
+-- ---- moves
+
+pub data Move : Type 0 where
+  Put : Mutation → Move
+  -- the number of the table
+  Freeze : ℕ → Move
+  -- the number of the table
+  Flush : ℕ → Move
+  Create : Definition → Move
+
+abbrev pub moved : Move → Layout → Layout
+moved (Put m) l = after_put m l
+moved (Freeze table) l = after_freeze table l
+moved (Flush table) l = after_flush table l
+moved (Create d) l = after_create d l
+
+abbrev pub after_moves : List Move → Layout → Layout
+after_moves [] l = l
+after_moves (m ∷ ms) l = after_moves ms (moved m l)
+
+-- what a move does to the state
+abbrev pub moved_state : Move → State → State
+moved_state (Put m) s = state_with_mutation s m
+moved_state (Freeze table) s = s
+moved_state (Flush table) s = s
+moved_state (Create d) s = with_new_table s d
+
+abbrev pub states : List Move → State → State
+states [] s = s
+states (m ∷ ms) s = states ms (moved_state m s)
+
+-- the edits of the manifest's record of a move; none where it lists nothing
+abbrev pub edits_of : Layout → Move → List Edit
+edits_of l (Put m) = []
+edits_of l (Freeze table) = []
+edits_of l (Flush table) = flush_edits table l
+edits_of l (Create d) = create_edits d l

@@ -1,0 +1,106 @@
+-- What the calls of a preparation give.
+use Rattle.std.proofs.Common.{◌≡◌, ◌++◌, ◌-◌, ◌<◌, ◌≤◌, ℕ, List, [], length, get_or, slice_get, Option, Some, None, Result, Ok, Err, IfOk, OnOk, refl, sym, ap, subst, ◌∙◌, arith}
+use Rattle.std.specs.FinMap as fin
+use Rattle.std.specs.Option.{option_map, option_map_or}
+use Rattle.std.proofs.lemmas.Option.{get_or_from_slice_get}
+use Rattle.sasi_types.specs.declared.partitioner.Partitioner.{Partitioner}
+use Rattle.sasi_types.specs.declared.column.ColumnType.{ColumnType}
+use Rattle.sasi_types.specs.declared.statement.Select.{Select}
+use Rattle.sasi_types.specs.declared.statement.Statement.TheVariants.{Query}
+use Rattle.sasi_memtable.specs.MemtableView.{MemtableView}
+use Rattle.sasi_model.specs.Abbreviations.{first_of, key_type}
+use Rattle.sasi_model.specs.Lines.{refusal_line, rows_lines}
+use Rattle.sasi_model.specs.Pieces.{Piece}
+use Rattle.sasi_model.specs.Refusals.{Bad, Nothing, Refusal, Rule, read}
+use Rattle.sasi_model.specs.State as model
+use Rattle.sasi_model.specs.State.{Definition, State, definition_of}
+use Rattle.sasi_model.specs.Step.{StepResult, step, step_as, step_by}
+use Rattle.sasi_schema.specs.Answers.{IsFirstRefusal}
+use Rattle.sasi_schema.specs.Defined.{definition}
+use Rattle.sasi_schema.specs.Numbers.{number_of_table}
+use Rattle.sasi_schema.specs.declared.table.Table.{Table}
+use Rattle.sasi_machine.specs.Outcome.{outcome_of}
+use Rattle.sasi_machine.specs.Prepares.{HasRows, IsPrepared, IsStateOf, Prepares, StepsTo, answer_rows, lines_of}
+use Rattle.sasi_machine.specs.Selections.{PreparesRows}
+use Rattle.sasi_machine.specs.StatementSteps.{IsRefused}
+use Rattle.sasi_machine.specs.TableRows.{KeysStored, rows_picked}
+use Rattle.sasi_machine.specs.Tables.{IsMachineState, state_of}
+use Rattle.sasi_machine.specs.declared.outcome.Outcome.{Outcome}
+use Rattle.sasi_machine.specs.declared.outcome.Outcome.TheVariants.{Done}
+use Rattle.sasi_machine.specs.declared.prepared.Prepared.{Prepared}
+use Rattle.sasi_machine.specs.declared.prepared.Selection.{Selection}
+use Rattle.sasi_machine.proofs.StatementPreparing.{select_asks}
+use Rattle.sasi_machine.proofs.StatementStepping.{is_state_of}
+use Rattle.sasi_machine.proofs.TablesOfMemtables.{memtable_at, memtable_inside}
+
+-- ---- refusals
+
+-- a refusal that is the first
+pub refused_first : (refused : Option Refusal) (rules : List Rule) (reply_old reply_new : List ℕ) (outcome : Outcome) → IsFirstRefusal refused rules → IsRefused refused reply_old reply_new outcome → IsRefused (first_of rules) reply_old reply_new outcome
+refused_first None rules reply_old reply_new outcome first refused = absurd refused
+refused_first (Some r) rules reply_old reply_new outcome first refused = subst (λ (o : Option Refusal). IsRefused o reply_old reply_new outcome) (sym first) refused
+
+-- ---- SELECT
+
+pub rows_any : {E : Type 0} (ds : List Definition) (select : Select) (found : Option Table) (reply_old reply_new : List ℕ) (result : Result Prepared E) → option_map definition found ≡ definition_of select.table ds → option_map (λ (t : Table). t.number) found ≡ number_of_table select.table ds
+    → IfOk result (λ prepared. PreparesRows found select.table select.columns reply_old reply_new prepared) → IfOk result (λ prepared. (newest : ℕ) → IsPrepared ds newest (Query select) reply_old reply_new prepared)
+rows_any ds select found reply_old reply_new (Ok prepared) defined numbered prepares = λ newest. select_asks ds newest select found reply_old reply_new prepared defined numbered prepares
+rows_any ds select found reply_old reply_new (Err e) defined numbered prepares = tt
+
+-- ---- pieces without a statement
+
+pub nothing_steps : (s : State) (piece : Piece) (reply : List ℕ) → read piece ≡ Nothing → reply ≡ [] → StepsTo s piece s reply Done
+unfolding step_by
+nothing_steps s piece reply nothing empty =
+    let same : step s piece ≡ step_as s Nothing = ap (step_as s) nothing in
+    record {
+      state_is = ap (λ (x : StepResult). x.state) same;
+      reply_is = ap (λ (x : StepResult). x.reply) same ∙ sym empty;
+      outcome_is = ap (λ (x : StepResult). outcome_of x.refused) (sym same);
+    }
+
+pub bad_steps : (s : State) (piece : Piece) (r : Refusal) (cleared reply : List ℕ) (outcome : Outcome) → read piece ≡ Bad r → cleared ≡ [] → reply ≡ cleared ++ refusal_line r → outcome ≡ outcome_of (Some r) → StepsTo s piece s reply outcome
+unfolding step_by
+bad_steps s piece r cleared reply outcome bad empty reply_is outcome_is =
+    let same : step s piece ≡ step_as s (Bad r) = ap (step_as s) bad in
+    record {
+      state_is = ap (λ (x : StepResult). x.state) same;
+      reply_is = ap (λ (x : StepResult). x.reply) same ∙ sym (reply_is ∙ ap (λ (front : List ℕ). front ++ refusal_line r) empty);
+      outcome_is = outcome_is ∙ ap (λ (x : StepResult). outcome_of x.refused) (sym same);
+    }
+
+-- ---- the machine
+
+pub at_state : {E : Type 0} (p : Partitioner) (ds : List Definition) (cs : List MemtableView) (g : ℕ) (s : State) (piece : Piece) (reply : List ℕ) (result : Result Prepared E) → state_of p ds cs ≡ s → IsMachineState p ds cs g
+    → IfOk result (λ prepared. (s : State) → IsStateOf ds g s → Prepares s piece reply prepared) → IfOk result (λ prepared. Prepares s piece reply prepared)
+at_state p ds cs g s piece reply (Ok prepared) is kept prepares = subst (λ (s : State). Prepares s piece reply prepared) is (prepares (state_of p ds cs) (is_state_of p ds cs g kept))
+at_state p ds cs g s piece reply (Err e) is kept prepares = tt
+
+-- the memtable of the rows
+pub record HasRowsAt (cs : List MemtableView) (s : State) (rows : Selection) : Type 0 where
+  pub memtable : MemtableView
+  pub got : slice_get cs (rows.table - 1) ≡ Some memtable
+  pub inside : rows.table - 1 < length cs
+  pub some : 0 < rows.table
+  pub stored : KeysStored rows.picked.key memtable.partitions
+  pub answer : answer_rows s rows ≡ lines_of rows memtable.partitions
+
+pub rows_at : (p : Partitioner) (ds : List Definition) (cs : List MemtableView) (g : ℕ) (s : State) (rows : Selection) → state_of p ds cs ≡ s → IsMachineState p ds cs g → HasRows s rows → HasRowsAt cs s rows
+rows_at p ds cs g s rows is kept has =
+    let there : slice_get (state_of p ds cs).tables (rows.table - 1) ≡ Some has.table = ap (λ (s : State). slice_get s.tables (rows.table - 1)) is ∙ has.there in
+    let held = memtable_at ds cs (rows.table - 1) has.table kept.held there in
+    record {
+      memtable = held.0;
+      got = held.1;
+      inside = memtable_inside cs (rows.table - 1) held.0 held.1;
+      some = has.some;
+      stored = subst (λ (kind : ColumnType). KeysStored kind held.0.partitions) (sym has.key) held.2;
+      answer = ap (λ (o : Option model.Table). option_map_or (λ t. lines_of rows t.partitions) o []) has.there ∙ ap (lines_of rows) held.3;
+    }
+
+pub read_at : (cs : List MemtableView) (at : ℕ) (c x : MemtableView) → slice_get cs at ≡ Some x → c ≡ get_or cs at c → c ≡ x
+read_at cs at c x got is = is ∙ get_or_from_slice_get cs at x c got
+
+pub ok_same : {T E X : Type 0} (result : Result T E) (a b c : X) → OnOk result (a ≡ b) → b ≡ c → OnOk result (a ≡ c)
+ok_same (Ok y) a b c is on = is ∙ on
+ok_same (Err e) a b c is on = tt

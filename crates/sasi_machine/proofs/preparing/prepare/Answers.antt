@@ -1,0 +1,46 @@
+use Rattle.std.proofs.Common.{ap, sym, subst, ◌∙◌}
+use Rattle.sasi_machine.specs.ParsedPiece.{IsReadFrom, model_piece}
+use Rattle.sasi_machine.specs.Refusal.{refusal_of}
+use Rattle.sasi_machine.proofs.PreparedPieces.{bad_steps, nothing_steps}
+use Rattle.sasi_machine.proofs.StatementPreparing.{piece_asks, piece_prepares, piece_selects, piece_timeless}
+use Rattle.sasi_machine.proofs.preparing.prepare.Goals as goal
+
+pub returns-in-Nothing-clause-prepares : goal.returns-in-Nothing-clause-prepares
+returns-in-Nothing-clause-prepares c s of = nothing_steps s _ c.clear.new.self (sym c.in_ok-read.ensures.reads ∙ ap model_piece c.in-Nothing.is) c.clear.ensures
+
+pub returns-in_ok-outcome-in-Bad-clause-prepares : goal.returns-in_ok-outcome-in-Bad-clause-prepares
+returns-in_ok-outcome-in-Bad-clause-prepares c s of =
+    bad_steps s _ (refusal_of c.in-Bad.refusal) c.clear.new.self c.reply_refusal.new.reply c.in_ok-outcome-in-Bad.outcome (sym c.in_ok-read.ensures.reads ∙ ap model_piece c.in-Bad.is) c.clear.ensures
+    c.in_ok-outcome-in-Bad.ensures.reply c.in_ok-outcome-in-Bad.ensures.outcome
+
+pub returns-in-Says-clause-prepares : goal.returns-in-Says-clause-prepares
+returns-in-Says-clause-prepares c =
+    piece_prepares c.args.schema.now c.args.max_timestamp _ c.in-Says.statement c.clear.new.self c.prepare_statement.new.reply c.prepare_statement.result
+    (sym c.in_ok-read.ensures.reads ∙ ap model_piece c.in-Says.is) (subst IsReadFrom c.in-Says.is c.in_ok-read.ensures.written).0 c.clear.ensures c.prepare_statement.ensures
+
+pub returns-in-Says-clause-asked : goal.returns-in-Says-clause-asked
+returns-in-Says-clause-asked c =
+    piece_asks c.args.schema.now c.args.max_timestamp _ c.in-Says.statement c.clear.new.self c.prepare_statement.new.reply c.prepare_statement.result
+    (sym c.in_ok-read.ensures.reads ∙ ap model_piece c.in-Says.is) c.prepare_statement.ensures
+
+pub returns-in-Nothing-clause-timeless : goal.returns-in-Nothing-clause-timeless
+returns-in-Nothing-clause-timeless c = λ none. absurd none
+
+pub returns-in_ok-outcome-in-Bad-clause-timeless : goal.returns-in_ok-outcome-in-Bad-clause-timeless
+returns-in_ok-outcome-in-Bad-clause-timeless c = λ none. absurd none
+
+pub returns-in-Says-clause-timeless : goal.returns-in-Says-clause-timeless
+returns-in-Says-clause-timeless c =
+    piece_timeless c.args.schema.now c.args.max_timestamp _ c.in-Says.statement c.clear.new.self c.prepare_statement.new.reply c.prepare_statement.result
+    (sym c.in_ok-read.ensures.reads ∙ ap model_piece c.in-Says.is) (subst IsReadFrom c.in-Says.is c.in_ok-read.ensures.written).0 c.clear.ensures c.prepare_statement.ensures
+
+pub returns-in-Nothing-clause-selects : goal.returns-in-Nothing-clause-selects
+returns-in-Nothing-clause-selects c = λ none. absurd none
+
+pub returns-in_ok-outcome-in-Bad-clause-selects : goal.returns-in_ok-outcome-in-Bad-clause-selects
+returns-in_ok-outcome-in-Bad-clause-selects c = λ none. absurd none
+
+pub returns-in-Says-clause-selects : goal.returns-in-Says-clause-selects
+returns-in-Says-clause-selects c =
+    piece_selects c.args.schema.now c.args.max_timestamp _ c.in-Says.statement c.clear.new.self c.prepare_statement.new.reply c.prepare_statement.result
+    (sym c.in_ok-read.ensures.reads ∙ ap model_piece c.in-Says.is) c.prepare_statement.ensures

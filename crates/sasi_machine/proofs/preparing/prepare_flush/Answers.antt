@@ -1,0 +1,12 @@
+use Rattle.std.proofs.Common.{sym}
+use Rattle.sasi_schema.specs.Defined.{definition}
+use Rattle.sasi_machine.proofs.StatementPreparing.{flush_asks, flush_refused}
+use Rattle.sasi_machine.proofs.preparing.prepare_flush.Goals as goal
+
+pub returns-in_ok-ok-in-Some : goal.returns-in_ok-ok-in-Some
+returns-in_ok-ok-in-Some c newest =
+    flush_asks c.args.schema.now newest c.args.table c.in-Some.table.now.number (definition c.in-Some.table.now) c.args.reply.now c.ok.new.self (sym c.in-Some.ensures.number) (sym c.in-Some.ensures.definition) c.in_ok-ok-in-Some.ensures.ok
+
+pub returns-in_ok-outcome-in-None : goal.returns-in_ok-outcome-in-None
+returns-in_ok-outcome-in-None c newest =
+    flush_refused c.args.schema.now newest c.args.table c.args.reply.now c.reply_refusal.new.reply c.in_ok-outcome-in-None.outcome (sym c.in-None.ensures.definition) (c.in_ok-outcome-in-None.ensures.reply, c.in_ok-outcome-in-None.ensures.outcome)

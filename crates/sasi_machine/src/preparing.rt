@@ -1,0 +1,139 @@
+// The preparing of pieces, before anything changes.
+ghost use Rattle.std.specs.Prelude.{◌≡◌, ◌≤◌, ℕ, true, IfOk};
+ghost use Rattle.sasi_types.specs.declared.statement.Statement.TheVariants.{CreateTable, Flush};
+ghost use Rattle.sasi_model.specs.Abbreviations.{TIME_LIMIT as time_limit};
+ghost use Rattle.sasi_model.specs.Asked.{asks};
+ghost use Rattle.sasi_model.specs.Pieces.{piece_of};
+ghost use Rattle.sasi_model.specs.Abbreviations.{definitions};
+ghost use Rattle.sasi_model.specs.Refusals.{is_built, read as parsed};
+ghost use Rattle.sasi_model.specs.State.{State};
+ghost use Rattle.sasi_machine.specs.Prepares.{IsPrepared, IsPreparedFor, IsQuery, IsSelect, IsStateOf, IsTimeless, Prepares, asked_by};
+ghost use Rattle.sasi_machine.specs.Writes.{IsWriting};
+
+use crate::builder::MutationBuilder;
+use crate::fault::Fault;
+use crate::prepared::Prepared;
+use crate::read::{ParsedPiece, read};
+use crate::reply_refusal::{reply_fault, reply_refusal};
+use crate::select::prepare_select;
+use crate::statement_mutation::statement_mutation;
+use crate::{Outcome, Refusal, Reply};
+use sasi_schema::Schema;
+use sasi_types::{Columns, Name, Names, PieceEnd, Statement};
+use std::alloc::{AllocError, Global};
+
+/// Prepares a piece for these tables, where this is the largest timestamp of their state. The reply is replaced; after an
+/// error it may be incomplete.
+pub fn prepare(
+    alloc: Global,
+    schema: &Schema,
+    max_timestamp: u64,
+    piece: &[u8],
+    end: PieceEnd,
+    reply: &mut Reply,
+) -> Result<Prepared, AllocError>
+    requires { max_timestamp ≤ time_limit }
+    ensures asked { IfOk result (λ prepared. asks schema.now max_timestamp (piece_of end piece.now) ≡ asked_by prepared) }
+    ensures prepares { IfOk result (λ prepared. (s : State) → IsStateOf schema.now max_timestamp s → Prepares s (piece_of end piece.now) reply.new prepared) }
+    // What doesn't depend on the time is prepared for each state with these definitions.
+    ensures timeless { IfOk result (λ prepared. IsTimeless prepared → (s : State) → definitions s.tables ≡ schema.now → Prepares s (piece_of end piece.now) reply.new prepared) }
+    ensures selects { IfOk result (λ prepared. IsSelect prepared → IsQuery (parsed (piece_of end piece.now))) }
+{
+    reply.clear();
+    match read(alloc, piece, end)? {
+        ParsedPiece::Nothing => Ok(Prepared::Answered(Outcome::Done)),
+        ParsedPiece::Bad(refusal) => {
+            let outcome = reply_refusal(reply, refusal)?;
+            Ok(Prepared::Answered(outcome))
+        }
+        ParsedPiece::Says(statement) => {
+            let builder = MutationBuilder {
+                alloc,
+                max_timestamp,
+            };
+            prepare_statement(&builder, schema, statement, reply)
+        }
+    }
+}
+
+// Prepares a statement that is built, or replies with its refusal.
+fn prepare_statement(
+    builder: &MutationBuilder,
+    schema: &Schema,
+    statement: Statement,
+    reply: &mut Reply,
+) -> Result<Prepared, AllocError>
+    requires limit { builder.now.max_timestamp ≤ time_limit }
+    requires built { is_built statement ≡ true }
+    ensures { IfOk result (IsPreparedFor schema.now builder.now.max_timestamp statement reply.old reply.new) }
+{
+    match statement {
+        Statement::CreateTable {
+            table,
+            columns,
+            keys,
+        } => prepare_table(schema, &table, &columns, &keys, reply),
+        Statement::Query { select } => prepare_select(builder.alloc, schema, &select, reply),
+        Statement::Flush { table } => prepare_flush(schema, table, reply),
+        write => prepare_mutation(builder, schema, write, reply),
+    }
+}
+
+fn prepare_table(
+    schema: &Schema,
+    table: &Name,
+    columns: &Columns,
+    keys: &Names,
+    reply: &mut Reply,
+) -> Result<Prepared, AllocError>
+    ensures { IfOk result (λ prepared. (newest : ℕ) → IsPrepared schema.now newest (CreateTable table.now columns.now keys.now) reply.old reply.new prepared) }
+{
+    match schema.prepare_table(table, columns, keys) {
+        Ok(table) => {
+            reply.ok()?;
+            Ok(Prepared::Create(table))
+        }
+        Err(fault) => {
+            let outcome = reply_fault(reply, Fault::of_schema(fault))?;
+            Ok(Prepared::Answered(outcome))
+        }
+    }
+}
+
+fn prepare_flush(schema: &Schema, table: Name, reply: &mut Reply) -> Result<Prepared, AllocError>
+    ensures { IfOk result (λ prepared. (newest : ℕ) → IsPrepared schema.now newest (Flush table) reply.old reply.new prepared) }
+{
+    match schema.table(&table) {
+        Some(table) => {
+            reply.ok()?;
+            Ok(Prepared::Flush(table.number))
+        }
+        None => {
+            let outcome = reply_refusal(reply, Refusal::NoTable(table))?;
+            Ok(Prepared::Answered(outcome))
+        }
+    }
+}
+
+// An INSERT, an UPDATE or a DELETE.
+fn prepare_mutation(
+    builder: &MutationBuilder,
+    schema: &Schema,
+    statement: Statement,
+    reply: &mut Reply,
+) -> Result<Prepared, AllocError>
+    requires limit { builder.now.max_timestamp ≤ time_limit }
+    requires writing { IsWriting statement }
+    ensures { IfOk result (IsPreparedFor schema.now builder.now.max_timestamp statement reply.old reply.new) }
+{
+    match statement_mutation(builder, schema, statement) {
+        Ok(mutation) => {
+            reply.ok()?;
+            Ok(Prepared::Write(mutation))
+        }
+        Err(fault) => {
+            let outcome = reply_fault(reply, fault)?;
+            Ok(Prepared::Answered(outcome))
+        }
+    }
+}

@@ -1,7 +1,0 @@
-use Rattle.std.proofs.Common.{◌≡◌, ◌+◌, ◌++◌, drop, map}
-use Rattle.sasi_manifest.specs.ListedTables.{listed}
-use Rattle.sasi_manifest.specs.Listings.{create_edits, edits_of}
-use Rattle.sasi_manifest.proofs.rewrite.edits_of.Given as goal
-
-abbrev pub invariant-loop-i : goal.invariant-loop-i
-invariant-loop-i l = l.edits.items ++ create_edits (l.i + 1) (map listed (drop l.i l.tables)) ≡ edits_of l.listing

@@ -1,0 +1,192 @@
+use Rattle.std.proofs.Common.{◌≡◌, ◌∙◌, All, IfErr, List, None, OnOk, Option, Some, ap, inl, inr, is_some, subst, true}
+use Rattle.std.proofs.lemmas.Result.{IfErr-weaker, err_from_is_err_and}
+use Rattle.sasi_host.specs.declared.name.FileName.{FileName}
+use Rattle.sasi_host.specs.Names.{Folder, seal_name}
+use Rattle.sasi_recover.specs.Faults.{OnOpenDamage}
+use Rattle.sasi_recover.specs.NewFolder.{ReportsForeign, is_initial}
+use Rattle.sasi_recover.specs.declared.opened.Opened.{Opened}
+use Rattle.sasi_recover.specs.Opening.{IsHighestSeal}
+use Rattle.sasi_recover.proofs.Damaged.{sealed_highest}
+use Rattle.sasi_recover.proofs.Differences.{causes_behind, host_causes, host_damage, host_differs, host_differs_only}
+use Rattle.sasi_recover.proofs.FolderOpening.{files_same, never_differs, new_damage, new_moments, new_opens, new_serves, new_undamaged, same_moments_of, same_then_any, sealed_damage, sealed_differs, sealed_keeps, sealed_moments, sealed_opens, sealed_shape, unsealed_fresh, unsealed_keeps}
+use Rattle.sasi_recover.proofs.ReadsOfOpening.{store_behind}
+use Rattle.sasi_recover.proofs.SealedStore.{listed_is_there}
+use Rattle.sasi_recover.proofs.Settling.{same_any}
+use Rattle.sasi_recover.proofs.SyncedFolder.{settled_fresh}
+use Rattle.sasi_recover.proofs.opening.open.Goals as goal
+
+pub returns-in_err-names-clause-any_moment : goal.returns-in_err-names-clause-any_moment
+returns-in_err-names-clause-any_moment g c folder l files shape = same_moments_of (g.H.Host.view c.args.host.now) (g.H.Host.view c.sync_all.new.host) c.args.asked l c.sync_all.ensures.changes
+
+pub returns-in_err-names-clause-damaged : goal.returns-in_err-names-clause-damaged
+returns-in_err-names-clause-damaged g c folder files =
+    let p = err_from_is_err_and c.from_residual.result c.from_residual.ensures.1 in
+    rw (p.1, p.2) (host_damage _ c.in_err-names.field-0.0)
+
+pub returns-in_err-names-clause-undamaged : goal.returns-in_err-names-clause-undamaged
+returns-in_err-names-clause-undamaged g c folder l files shape =
+    let p = err_from_is_err_and c.from_residual.result c.from_residual.ensures.1 in
+    rw (p.1, p.2) (host_damage _ c.in_err-names.field-0.0)
+
+pub returns-in_err-names-clause-differs : goal.returns-in_err-names-clause-differs
+returns-in_err-names-clause-differs g c folder wanted kept files asks keeps apart =
+    let p = err_from_is_err_and c.from_residual.result c.from_residual.ensures.1 in
+    rw (p.1, p.2) (host_differs Opened wanted kept c.in_err-names.field-0.0)
+
+pub returns-in_err-names-clause-differs_only : goal.returns-in_err-names-clause-differs_only
+returns-in_err-names-clause-differs_only g c folder files =
+    let p = err_from_is_err_and c.from_residual.result c.from_residual.ensures.1 in
+    rw (p.1, p.2) (host_differs_only _ c.in_err-names.field-0.0)
+
+pub returns-in_err-names-clause-changes : goal.returns-in_err-names-clause-changes
+returns-in_err-names-clause-changes g c = same_any (g.H.Host.view c.args.host.now) (g.H.Host.view c.sync_all.new.host) c.sync_all.ensures.changes
+
+pub returns-in_err-names-clause-once : goal.returns-in_err-names-clause-once
+returns-in_err-names-clause-once g c folder files = inl c.sync_all.ensures.causes.reads
+
+pub returns-in_err-names-clause-causes : goal.returns-in_err-names-clause-causes
+returns-in_err-names-clause-causes g c =
+    let p = err_from_is_err_and c.from_residual.result c.from_residual.ensures.1 in
+    rw (p.1, p.2) (host_causes _ _ c.in_err-names.field-0.0 c.in_err-names.ensures.causes)
+
+pub returns-in-None-clause-serves : goal.returns-in-None-clause-serves
+returns-in-None-clause-serves g c folder l files shape =
+    let b = g.H.Host.view c.sync_all.new.host in
+    let files_b = files_same (g.H.Host.view c.args.host.now) b folder c.sync_all.ensures.changes files in
+    let none = subst (λ (l : List FileName). IsHighestSeal l None) c.deref.ensures.value c.in-None.ensures in
+    let new = unsealed_fresh b c.in_ok-names.names.items c.args.asked folder l c.in_ok-names.ensures.names files_b none shape in
+    new_serves b (g.H.Host.view c.open_new.new.host) l _ c.open_new.result new.1 c.open_new.ensures.serves (ap (λ (o : Option Folder). is_some o) files_b)
+    (settled_fresh b folder (g.met.H.Host.sound c.sync_all.new.host) c.in_ok-names.ensures.folder_durable files_b new.0)
+
+pub returns-in-None-clause-opens : goal.returns-in-None-clause-opens
+returns-in-None-clause-opens g c folder files =
+    let b = g.H.Host.view c.sync_all.new.host in
+    let files_b = files_same (g.H.Host.view c.args.host.now) b folder c.sync_all.ensures.changes files in
+    let firsts = subst (λ (l : List FileName). OnOk c.open_new.result (All (λ name. is_initial name ≡ true) l)) c.deref-in-None.ensures.value c.open_new.ensures.firsts in
+    new_opens b c.in_ok-names.names.items folder c.open_new.result c.in_ok-names.ensures.names files_b firsts
+
+pub returns-in-None-clause-any_moment : goal.returns-in-None-clause-any_moment
+returns-in-None-clause-any_moment g c folder l files shape =
+    let a = g.H.Host.view c.args.host.now in
+    let b = g.H.Host.view c.sync_all.new.host in
+    let files_b = files_same a b folder c.sync_all.ensures.changes files in
+    let none = subst (λ (l : List FileName). IsHighestSeal l None) c.deref.ensures.value c.in-None.ensures in
+    let new = unsealed_fresh b c.in_ok-names.names.items c.args.asked folder l c.in_ok-names.ensures.names files_b none shape in
+    let fresh = settled_fresh b folder (g.met.H.Host.sound c.sync_all.new.host) c.in_ok-names.ensures.folder_durable files_b new.0 in
+    new_moments a b (g.H.Host.view c.open_new.new.host) c.args.asked l new.1 c.sync_all.ensures.changes (c.open_new.ensures.any_moment fresh)
+
+pub returns-in-None-clause-damaged : goal.returns-in-None-clause-damaged
+returns-in-None-clause-damaged g c folder files =
+    let b = g.H.Host.view c.sync_all.new.host in
+    let files_b = files_same (g.H.Host.view c.args.host.now) b folder c.sync_all.ensures.changes files in
+    let none = subst (λ (l : List FileName). IsHighestSeal l None) c.deref.ensures.value c.in-None.ensures in
+    let foreign = subst (λ (l : List FileName). IfErr c.open_new.result (OnOpenDamage (ReportsForeign l))) c.deref-in-None.ensures.value c.open_new.ensures.damaged in
+    IfErr-weaker c.open_new.result _ _ (λ fault. new_damage b folder c.in_ok-names.names.items files_b c.in_ok-names.ensures.names fault none) foreign
+
+pub returns-in-None-clause-undamaged : goal.returns-in-None-clause-undamaged
+returns-in-None-clause-undamaged g c folder l files shape =
+    let b = g.H.Host.view c.sync_all.new.host in
+    let files_b = files_same (g.H.Host.view c.args.host.now) b folder c.sync_all.ensures.changes files in
+    let none = subst (λ (l : List FileName). IsHighestSeal l None) c.deref.ensures.value c.in-None.ensures in
+    let new = unsealed_fresh b c.in_ok-names.names.items c.args.asked folder l c.in_ok-names.ensures.names files_b none shape in
+    IfErr-weaker c.open_new.result _ _ (λ fault spares. new_undamaged b folder fault spares files_b new.0) c.open_new.ensures.undamaged
+
+pub returns-in-None-clause-differs : goal.returns-in-None-clause-differs
+returns-in-None-clause-differs g c folder wanted kept files asks keeps apart =
+    let b = g.H.Host.view c.sync_all.new.host in
+    let files_b = files_same (g.H.Host.view c.args.host.now) b folder c.sync_all.ensures.changes files in
+    let none = subst (λ (l : List FileName). IsHighestSeal l None) c.deref.ensures.value c.in-None.ensures in
+    absurd (unsealed_keeps b c.in_ok-names.names.items folder kept c.in_ok-names.ensures.names files_b none keeps)
+
+pub returns-in-None-clause-differs_only : goal.returns-in-None-clause-differs_only
+returns-in-None-clause-differs_only g c folder files = IfErr-weaker c.open_new.result _ _ (λ fault never. never_differs _ fault never) c.open_new.ensures.same
+
+pub returns-in-None-clause-changes : goal.returns-in-None-clause-changes
+returns-in-None-clause-changes g c = same_then_any (g.H.Host.view c.args.host.now) (g.H.Host.view c.sync_all.new.host) (g.H.Host.view c.open_new.new.host) c.sync_all.ensures.changes c.open_new.ensures.changes
+
+pub returns-in-None-clause-once : goal.returns-in-None-clause-once
+returns-in-None-clause-once g c folder files = inl (c.open_new.ensures.reads ∙ c.sync_all.ensures.causes.reads)
+
+pub returns-in-None-clause-causes : goal.returns-in-None-clause-causes
+returns-in-None-clause-causes g c = causes_behind (g.H.Host.view c.args.host.now) (g.H.Host.view c.sync_all.new.host) (g.H.Host.view c.open_new.new.host) c.open_new.result c.in_ok-names.ensures.causes.ok c.sync_all.ensures.causes.out c.open_new.ensures.causes
+
+pub open_sealed-requires-clause-sealed : goal.open_sealed-requires-clause-sealed
+open_sealed-requires-clause-sealed g c =
+    let highest = subst (λ (l : List FileName). IsHighestSeal l (Some c.in-Some.number)) c.deref.ensures.value c.in-Some.ensures in
+    listed_is_there (g.H.Host.view c.sync_all.new.host) c.in_ok-names.names.items (seal_name c.in-Some.number) c.in_ok-names.ensures.names highest.0
+
+pub returns-clause-serves : goal.returns-clause-serves
+returns-clause-serves g c folder l files shape =
+    let b = g.H.Host.view c.sync_all.new.host in
+    let files_b = files_same (g.H.Host.view c.args.host.now) b folder c.sync_all.ensures.changes files in
+    let highest = subst (λ (l : List FileName). IsHighestSeal l (Some c.in-Some.number)) c.deref.ensures.value c.in-Some.ensures in
+    let has = sealed_shape b c.in_ok-names.names.items c.args.asked folder l c.in_ok-names.ensures.names files_b c.in-Some.number highest shape in
+    c.open_sealed.ensures.serves folder l has.1.0 files_b has.0 has.1.1
+
+pub returns-clause-opens : goal.returns-clause-opens
+returns-clause-opens g c folder files =
+    let b = g.H.Host.view c.sync_all.new.host in
+    let files_b = files_same (g.H.Host.view c.args.host.now) b folder c.sync_all.ensures.changes files in
+    let highest = subst (λ (l : List FileName). IsHighestSeal l (Some c.in-Some.number)) c.deref.ensures.value c.in-Some.ensures in
+    let sealed = sealed_highest b folder files_b c.in_ok-names.names.items c.in_ok-names.ensures.names c.in-Some.number highest in
+    sealed_opens folder c.open_sealed.result (c.open_sealed.ensures.opens folder files_b sealed)
+
+pub returns-clause-any_moment : goal.returns-clause-any_moment
+returns-clause-any_moment g c folder l files shape =
+    let a = g.H.Host.view c.args.host.now in
+    let b = g.H.Host.view c.sync_all.new.host in
+    let files_b = files_same a b folder c.sync_all.ensures.changes files in
+    let highest = subst (λ (l : List FileName). IsHighestSeal l (Some c.in-Some.number)) c.deref.ensures.value c.in-Some.ensures in
+    let has = sealed_shape b c.in_ok-names.names.items c.args.asked folder l c.in_ok-names.ensures.names files_b c.in-Some.number highest shape in
+    sealed_moments a b (g.H.Host.view c.open_sealed.new.host) c.args.asked l has.1.0 c.sync_all.ensures.changes (c.open_sealed.ensures.any_moment folder l has.1.0 files_b has.0 has.1.1)
+
+pub returns-clause-damaged : goal.returns-clause-damaged
+returns-clause-damaged g c folder files =
+    let b = g.H.Host.view c.sync_all.new.host in
+    let files_b = files_same (g.H.Host.view c.args.host.now) b folder c.sync_all.ensures.changes files in
+    let highest = subst (λ (l : List FileName). IsHighestSeal l (Some c.in-Some.number)) c.deref.ensures.value c.in-Some.ensures in
+    let sealed = sealed_highest b folder files_b c.in_ok-names.names.items c.in_ok-names.ensures.names c.in-Some.number highest in
+    IfErr-weaker c.open_sealed.result _ _ (λ fault. sealed_damage folder c.in-Some.number fault sealed) (c.open_sealed.ensures.damaged folder files_b)
+
+pub returns-clause-undamaged : goal.returns-clause-undamaged
+returns-clause-undamaged g c folder l files shape =
+    let b = g.H.Host.view c.sync_all.new.host in
+    let files_b = files_same (g.H.Host.view c.args.host.now) b folder c.sync_all.ensures.changes files in
+    let highest = subst (λ (l : List FileName). IsHighestSeal l (Some c.in-Some.number)) c.deref.ensures.value c.in-Some.ensures in
+    let has = sealed_shape b c.in_ok-names.names.items c.args.asked folder l c.in_ok-names.ensures.names files_b c.in-Some.number highest shape in
+    c.open_sealed.ensures.undamaged folder l has.1.0 files_b has.0 has.1.1
+
+pub returns-clause-differs : goal.returns-clause-differs
+returns-clause-differs g c folder wanted kept files asks keeps apart =
+    let b = g.H.Host.view c.sync_all.new.host in
+    let files_b = files_same (g.H.Host.view c.args.host.now) b folder c.sync_all.ensures.changes files in
+    let highest = subst (λ (l : List FileName). IsHighestSeal l (Some c.in-Some.number)) c.deref.ensures.value c.in-Some.ensures in
+    let sealed = sealed_highest b folder files_b c.in_ok-names.names.items c.in_ok-names.ensures.names c.in-Some.number highest in
+    c.open_sealed.ensures.differs folder wanted kept files_b asks (sealed_keeps b c.in_ok-names.names.items folder c.in-Some.number kept sealed keeps) apart
+
+pub returns-clause-differs_only : goal.returns-clause-differs_only
+returns-clause-differs_only g c folder files =
+    let b = g.H.Host.view c.sync_all.new.host in
+    let files_b = files_same (g.H.Host.view c.args.host.now) b folder c.sync_all.ensures.changes files in
+    let highest = subst (λ (l : List FileName). IsHighestSeal l (Some c.in-Some.number)) c.deref.ensures.value c.in-Some.ensures in
+    let sealed = sealed_highest b folder files_b c.in_ok-names.names.items c.in_ok-names.ensures.names c.in-Some.number highest in
+    IfErr-weaker c.open_sealed.result _ _ (λ fault. sealed_differs folder c.in-Some.number c.args.asked fault sealed) (c.open_sealed.ensures.differs_only folder files_b)
+
+pub returns-clause-changes : goal.returns-clause-changes
+returns-clause-changes g c = same_then_any (g.H.Host.view c.args.host.now) (g.H.Host.view c.sync_all.new.host) (g.H.Host.view c.open_sealed.new.host) c.sync_all.ensures.changes c.open_sealed.ensures.changes
+
+pub returns-clause-once : goal.returns-clause-once
+returns-clause-once g c folder files =
+    let b = g.H.Host.view c.sync_all.new.host in
+    let files_b = files_same (g.H.Host.view c.args.host.now) b folder c.sync_all.ensures.changes files in
+    let highest = subst (λ (l : List FileName). IsHighestSeal l (Some c.in-Some.number)) c.deref.ensures.value c.in-Some.ensures in
+    let sealed = sealed_highest b folder files_b c.in_ok-names.names.items c.in_ok-names.ensures.names c.in-Some.number highest in
+    inr (
+      c.in-Some.number,
+      sealed,
+      store_behind (g.H.Host.view c.args.host.now) b (g.H.Host.view c.open_sealed.new.host) folder c.in-Some.number
+          c.sync_all.ensures.causes.reads (c.open_sealed.ensures.once folder files_b),
+    )
+
+pub returns-clause-causes : goal.returns-clause-causes
+returns-clause-causes g c = causes_behind (g.H.Host.view c.args.host.now) (g.H.Host.view c.sync_all.new.host) (g.H.Host.view c.open_sealed.new.host) c.open_sealed.result c.in_ok-names.ensures.causes.ok c.sync_all.ensures.causes.out c.open_sealed.ensures.causes

@@ -1,0 +1,10 @@
+pub mod DataFiles
+pub mod Deletion
+pub mod Faults
+pub mod NewFolder
+pub mod OpenedFolder
+pub mod Opening
+pub mod OpeningReads
+pub mod ReplayState
+pub mod Replaying
+pub mod SealedFolder

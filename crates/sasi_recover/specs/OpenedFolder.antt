@@ -1,0 +1,30 @@
+-- An opened folder as a store in hand.
+use Rattle.std.specs.Prelude.{[], map}
+use Rattle.sasi_host.specs.Names.{Folder}
+use Rattle.sasi_layout.specs.Layout.{Used}
+use Rattle.sasi_layout.specs.Serving.{StoreInHand, TableInHand}
+use Rattle.sasi_manifest.specs.ListedDefinition.{ListedDefinition}
+use Rattle.sasi_recover.specs.declared.opened.Numbers.{Numbers}
+use Rattle.sasi_recover.specs.declared.opened.Opened.{Opened}
+use Rattle.sasi_recover.specs.declared.opened.TableMap.{TableMap}
+
+abbrev pub used_numbers : Numbers → Used
+used_numbers n = record { manifest = n.manifest; log = n.log; file = n.«data»; index = n.index; part = n.part }
+
+abbrev pub table_in_hand : TableMap → TableInHand
+table_in_hand t = record { first = t.first; frozen = []; memtable = t.memtable.partitions }
+
+-- any change of the folder
+abbrev pub AnyFolderChange : Folder → Folder → Type 0
+AnyFolderChange old new = Unit {0}
+
+-- what a store that goes on from here has in hand
+abbrev pub in_hand : Opened → StoreInHand
+in_hand opened = record {
+  definitions = map (λ (t : ListedDefinition). t.definition) opened.manifest.listing.tables;
+  manifest = opened.manifest;
+  log = opened.log;
+  tables = map table_in_hand opened.tables.items;
+  used = used_numbers opened.numbers;
+  max_timestamp = opened.greatest;
+}

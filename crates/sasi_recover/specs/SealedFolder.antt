@@ -1,0 +1,84 @@
+-- A folder with a seal: which damage is reported of a file that is missing.
+use Rattle.std.specs.Prelude.{◌≡◌, ◌⊎◌, ℕ, ◌+◌, ◌≤◌, ◌<◌, All, Bool, false, IsTrue, List, [], Contains, Some}
+use Rattle.std.specs.List.Sorted.{IsNonDecreasing}
+use Rattle.sasi_host.specs.declared.damage.Damage.{Damage}
+use Rattle.sasi_host.specs.declared.damage.FormatRule.TheVariants.{Missing}
+use Rattle.sasi_host.specs.declared.name.FileName.{FileName}
+use Rattle.sasi_host.specs.Damages.{seen_bytes}
+use Rattle.sasi_host.specs.Names.{Bytes, data_name, log_name, manifest_name, seal_name}
+use Rattle.sasi_host.specs.Disk.{Changes, IsFileDurable}
+use Rattle.sasi_host.specs.View.{IsAbsent, IsThere, IsTold, Reaches, View, contents}
+use Rattle.sasi_manifest.specs.Consistent.{IsConsistent}
+use Rattle.sasi_manifest.specs.ListedFiles.{is_among}
+use Rattle.sasi_manifest.specs.OpenManifest.{ManifestState, ManifestStands}
+use Rattle.sasi_manifest.specs.Reading.{ReadsListing}
+use Rattle.sasi_layout.specs.Kept.{is_listed}
+use Rattle.sasi_recover.specs.DataFiles.{HasDataEnd, IsLargestOf}
+use Rattle.sasi_recover.specs.Deletion.{Deletes, keeps}
+use Rattle.sasi_recover.specs.Replaying.{LiveSegmentsExist}
+use Rattle.sasi_recover.specs.declared.unlisted_files.Keep.TheVariants.{Store}
+use Rattle.sasi_manifest.specs.declared.listing.Listing.{Listing}
+
+-- ---- what isn't there
+
+-- the damage reports that this file isn't among the names
+pub record ReportsMissing (names : List FileName) (file : FileName) (damage : Damage) : Type 0 where
+  pub absent : ¬ Contains names file
+  pub named : damage.file ≡ file
+  pub rule : damage.rule ≡ Missing
+  pub offset_is : damage.at ≡ 0
+  pub seen : seen_bytes damage.seen ≡ []
+
+-- the damage reports the first live segment of the log that isn't among them
+pub record ReportsMissingSegment (names : List FileName) (floor last : ℕ) (damage : Damage) : Type 0 where
+  pub segment : ℕ
+  pub above : floor ≤ segment
+  pub below : segment ≤ last
+  pub earlier : (number : ℕ) → floor ≤ number → number < segment → Contains names (log_name number)
+  pub missing : ReportsMissing names (log_name segment) damage
+
+-- or the first of these data files
+pub record ReportsMissingData (names : List FileName) (files : List ℕ) (damage : Damage) : Type 0 where
+  pub number : ℕ
+  pub listed : Contains files number
+  pub missing : ReportsMissing names (data_name number) damage
+
+-- a live segment or a data file
+abbrev pub ReportsMissingListed : List FileName → ℕ → ℕ → List ℕ → Damage → Type 0
+ReportsMissingListed names floor last files damage = ReportsMissingSegment names floor last damage ⊎ ReportsMissingData names files damage
+
+-- ---- what is there
+
+-- the live segments and the data files are among the names
+pub record AreNamed (names : List FileName) (floor last : ℕ) (files : List ℕ) : Type 0 where
+  pub segments : (segment : ℕ) → floor ≤ segment → segment ≤ last → Contains names (log_name segment)
+  pub there : All (λ n. Contains names (data_name n)) files
+
+-- the manifest was opened, and is as it reads
+pub record IsManifestRead (v : View) (m : ManifestState) : Type 0 where
+  pub there : IsThere v (manifest_name m.number)
+  pub sealed : IsThere v (seal_name m.number)
+  pub reads : ReadsListing v m.number m.listing
+  pub stands : (bytes : Bytes) → IsTold v → IsFileDurable v (manifest_name m.number) bytes → ManifestStands v m.number m.at m.listing
+  pub consistent : IsConsistent m.listing
+  pub room : Reaches v (manifest_name m.number) (m.at + 1)
+  pub usable : IsTrue m.usable
+
+-- these are the numbers of the listed data files, in their order
+pub record AreListedFiles (listing : Listing) (files : List ℕ) : Type 0 where
+  pub sorted : IsNonDecreasing files
+  pub listed : (n : ℕ) → is_among files n ≡ is_listed listing.tables n
+
+-- the files that a store with this manifest keeps
+abbrev pub kept_with : ManifestState → List ℕ → FileName → Bool
+kept_with m files = keeps (Store m.number m.listing.floor m.listing.last) files
+
+-- What the manifest lists was checked: the segments are there, and the data files with their ends. The other files were deleted.
+pub record IsSettled (old new : View) (m : ManifestState) (files : List ℕ) (time : ℕ) : Type 0 where
+  pub deletes : Changes (Deletes (kept_with m files)) old new
+  pub gone : (name : FileName) → kept_with m files name ≡ false → IsAbsent new name
+  pub live : LiveSegmentsExist new m.listing
+  pub there : (n : ℕ) → Contains files n → IsThere old (data_name n)
+  pub durable : (n : ℕ) (bytes : Bytes) → Contains files n → contents old (data_name n) ≡ Some bytes → IsFileDurable new (data_name n) bytes
+  pub ends : (n : ℕ) → Contains files n → HasDataEnd old n
+  pub tells : IsLargestOf old files time

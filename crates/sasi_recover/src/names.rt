@@ -1,0 +1,55 @@
+// The names of the files of a folder.
+ghost use Rattle.std.specs.Prelude.{◌≡◌, ◌≢◌, ◌≤◌, Contains, IfErr, OnOk, false, true, ℕ};
+ghost use Rattle.sasi_host.specs.Names.{log_name};
+ghost use Rattle.sasi_recover.specs.SealedFolder.{ReportsMissing, ReportsMissingSegment};
+
+use sasi_host::{Damage, FileName, FormatRule, SegmentNumber, found};
+
+/// Passes where each segment of the commit log from `floor` to `last` exists, and else reports the first missing one.
+pub fn check_segments(
+    names: &[FileName],
+    floor: SegmentNumber,
+    last: SegmentNumber,
+) -> Result<(), Damage>
+    requires { floor ≤ last }
+    ensures there { OnOk result ((segment : ℕ) → floor ≤ segment → segment ≤ last → Contains names.now (log_name segment)) }
+    ensures missing { IfErr result (ReportsMissingSegment names.now floor last) }
+{
+    for segment in floor..last {
+        check_there(names, FileName::log(segment))?;
+    }
+    check_there(names, FileName::log(last))?;
+    Ok(())
+}
+
+/// Passes where the file is among the names, and else reports it as missing.
+pub fn check_there(names: &[FileName], file: FileName) -> Result<(), Damage>
+    ensures there { OnOk result (Contains names.now file) }
+    ensures missing { IfErr result (ReportsMissing names.now file) }
+{
+    if is_listed(names, file) {
+        Ok(())
+    } else {
+        Err(found(file, 0, FormatRule::Missing, &[]))
+    }
+}
+
+fn is_listed(names: &[FileName], file: FileName) -> bool
+    ensures yes { result ≡ true → Contains names.now file }
+    ensures no { result ≡ false → ¬ Contains names.now file }
+{
+    for name in names {
+        if is_same(*name, file) {
+            return true;
+        }
+    }
+    false
+}
+
+// Whether the two names are one.
+fn is_same(name: FileName, other: FileName) -> bool
+    ensures yes { result ≡ true → name ≡ other }
+    ensures no { result ≡ false → name ≢ other }
+{
+    name == other
+}

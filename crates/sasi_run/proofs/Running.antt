@@ -1,0 +1,231 @@
+-- What a crash leaves of a run, part after part, and that the store serves the world that the run has come to.
+use Rattle.std.proofs.Common.{◌≡◌, ◌⊎◌, ℕ, List, [], ◌∷◌, ◌++◌, take, drop, Option, Some, None, IsSome, refl, sym, ◌∙◌, ap, subst, inl, inr, ⊎_elim, append_assoc, arith}
+use Rattle.std.proofs.lemmas.List.{append-nil, take-append-drop}
+use Rattle.std.specs.Io.KnownBytes.{Appends}
+use Rattle.sasi_host.specs.Names.{Bytes, Folder}
+use Rattle.sasi_host.specs.View.{CrashLeaves, Emits, PartlyOut, View}
+use Rattle.sasi_host.specs.Disk.{Changes, FromImage}
+use Rattle.sasi_host.specs.ChangeLaws.{Each, crash_leaves_on}
+use Rattle.sasi_model.specs.Pieces.{Piece}
+use Rattle.sasi_layout.specs.Between.{Between}
+use Rattle.sasi_layout.specs.Layout.{Layout, bare, listing_of}
+use Rattle.sasi_layout.specs.Moves.{Move, after_moves}
+use Rattle.sasi_layout.specs.Running.{Crashed, IsBusy, IsQuiet, after_pieces, replies_of}
+use Rattle.sasi_layout.specs.Serving.{Serves, StoreInHand}
+use Rattle.sasi_layout.specs.Shape.{IsOfShape}
+use Rattle.sasi_layout.specs.Worlds.{World, steps}
+use Rattle.sasi_manifest.specs.declared.listing.Listing.{Listing}
+use Rattle.sasi_manifest.specs.OpenManifest.{ManifestStands}
+use Rattle.sasi_store.specs.StoreView.{IsReady, StoreView}
+use Rattle.sasi_run.specs.Crashing.{CrashLeavesPieces}
+use Rattle.sasi_run.proofs.Worlds.{after_both, replies_both}
+
+pub one_of : (a b : Bytes) → Some a ≡ Some b → a ≡ b
+one_of a b is = cc
+
+pub grown : (old new : Option Bytes) (before more : List ℕ) → old ≡ Some before → Appends old new more → new ≡ Some (before ++ more)
+grown None new before more is appends = cc
+grown (Some o) None before more is appends = absurd appends
+grown (Some o) (Some n) before more is appends =
+    let same : o ≡ before = cc in
+    ap (λ (l : List ℕ). Some l) (appends ∙ ap (λ (l : List ℕ). l ++ more) same)
+
+-- ---- the store
+
+-- where no image is new the manifest ends where it did
+manifest_still : (a b : View) (number at : ℕ) (listing : Listing) → ((x : Folder) → b.image x → a.image x) → ManifestStands a number at listing
+    → ManifestStands b number at listing
+manifest_still a b number at listing fewer end = record {
+  records = end.records;
+  at_end = record {
+    bytes = end.at_end.bytes;
+    rest = end.at_end.rest;
+    kept = λ x now. end.at_end.kept x (fewer x now);
+    at_gate = end.at_end.at_gate;
+    closed = end.at_end.closed;
+  };
+  builds = end.builds;
+}
+
+-- after an emit a store serves the same layout
+pub serves_still : (a b : View) (store : StoreInHand) (l : Layout) → b.files ≡ a.files → ((x : Folder) → b.image x → a.image x) → Serves a store l → Serves b store l
+serves_still a b store l same fewer serves = record {
+  told = subst (λ (f : Option Folder). IsSome f) (sym same) serves.told;
+  well = serves.well;
+  definitions = serves.definitions;
+  tables = serves.tables;
+  used = serves.used;
+  timestamp = serves.timestamp;
+  listing = serves.listing;
+  manifest = serves.manifest;
+  log = serves.log;
+  older = serves.older;
+  current = serves.current;
+  log_end = record {
+    bytes = serves.log_end.bytes;
+    rest = serves.log_end.rest;
+    kept = λ x now. serves.log_end.kept x (fewer x now);
+    at_gate = serves.log_end.at_gate;
+    closed = serves.log_end.closed;
+  };
+  manifest_end = manifest_still a b l.used.manifest store.manifest.at (listing_of l) fewer serves.manifest_end;
+  shape = λ x now. serves.shape x (fewer x now);
+}
+
+-- and can make a change as before
+pub ready_still : (a b : View) (store : StoreView) → b.files ≡ a.files → ((x : Folder) → b.image x → a.image x) → IsReady a store → IsReady b store
+ready_still a b store same fewer ready = record {
+  hand = record {
+    consistent = ready.hand.consistent;
+    definitions = ready.hand.definitions;
+    tables = ready.hand.tables;
+    numbered = ready.hand.numbered;
+    timestamp = ready.hand.timestamp;
+    log_file = ready.hand.log_file;
+    manifest_room = rw same ready.hand.manifest_room;
+    log_room = rw same ready.hand.log_room;
+    manifest_usable = ready.hand.manifest_usable;
+    stands = λ told. manifest_still a b store.hand.manifest.number store.hand.manifest.at store.hand.manifest.listing fewer
+        (ready.hand.stands (subst (λ (f : Option Folder). IsSome f) same told));
+    log_usable = ready.hand.log_usable;
+    kept = rw same ready.hand.kept;
+  };
+  usable = ready.usable;
+}
+
+-- each image has the shape of the layout that is served
+pub each_of_shape : (v : View) (store : StoreInHand) (l : Layout) → Serves v store l → Each v (IsOfShape (bare l))
+each_of_shape v store l serves x now = (serves.older ++ serves.current ∷ [], serves.shape x now)
+
+-- ---- nothing is done
+
+crash_stays : (v : View) (P : Folder → Bytes → Type 0) → CrashLeaves v v P
+crash_stays v P = record { later = omega arith; left = λ t x e le gone. inl gone }
+
+pub leaves_nothing : (v : View) (w : World) (pieces : List Piece) → CrashLeavesPieces v v w pieces
+leaves_nothing v w pieces out emitted = crash_stays v (Crashed steps w out pieces)
+
+-- ---- one part after another
+
+module _ (w : World) (before : List ℕ) (xs ys : List Piece) (folder : Folder) (out : List ℕ) where
+  crashed_early : Crashed steps w before xs folder out → Crashed steps w before (xs ++ ys) folder out
+  crashed_early c = record {
+    done = c.done;
+    rest = c.rest ++ ys;
+    parts = ap (λ (k : List Piece). k ++ ys) c.parts ∙ append_assoc c.done c.rest ys;
+    stands = ⊎_elim (λ quiet. inl quiet)
+        (λ busy. inr (record { piece = busy.piece; others = busy.others ++ ys; next = ap (λ (k : List Piece). k ++ ys) busy.next; stands = busy.stands }))
+        c.stands;
+  }
+
+  crashed_late : Crashed steps (after_pieces steps w xs) (before ++ replies_of steps w xs) ys folder out → Crashed steps w before (xs ++ ys) folder out
+  crashed_late c =
+      let said : (before ++ replies_of steps w xs) ++ replies_of steps (after_pieces steps w xs) c.done ≡ before ++ replies_of steps w (xs ++ c.done) =
+      append_assoc before (replies_of steps w xs) (replies_of steps (after_pieces steps w xs) c.done) ∙ ap (λ (l : List ℕ). before ++ l) (sym (replies_both xs c.done w)) in
+      record {
+        done = xs ++ c.done;
+        rest = c.rest;
+        parts = ap (λ (k : List Piece). xs ++ k) c.parts ∙ sym (append_assoc xs c.done c.rest);
+        stands = subst
+            (λ (k : World). IsQuiet k.layout (before ++ replies_of steps w (xs ++ c.done)) folder out ⊎ IsBusy steps k (before ++ replies_of steps w (xs ++ c.done)) c.rest folder out)
+            (sym (after_both xs c.done w))
+            (subst
+            (λ (e : List ℕ). IsQuiet (after_pieces steps (after_pieces steps w xs) c.done).layout e folder out ⊎ IsBusy steps (after_pieces steps (after_pieces steps w xs) c.done) e c.rest folder out)
+            said c.stands);
+      }
+
+pub leaves_both : (a b c : View) (w : World) (xs ys : List Piece) → Appends a.emitted b.emitted (replies_of steps w xs) → CrashLeavesPieces a b w xs
+    → CrashLeavesPieces b c (after_pieces steps w xs) ys → CrashLeavesPieces a c w (xs ++ ys)
+leaves_both a b c w xs ys shown first second out emitted =
+    crash_leaves_on a b c (Crashed steps w out xs) (Crashed steps (after_pieces steps w xs) (out ++ replies_of steps w xs) ys) (Crashed steps w out (xs ++ ys))
+    (first out emitted) (second (out ++ replies_of steps w xs) (grown a.emitted b.emitted out (replies_of steps w xs) emitted shown))
+    (λ x e p. crashed_early w out xs ys x e p) (λ x e p. crashed_late w out xs ys x e p)
+
+pub leaves_more : (a b : View) (w : World) (pieces more : List Piece) → CrashLeavesPieces a b w pieces → CrashLeavesPieces a b w (pieces ++ more)
+leaves_more a b w pieces more leaves out emitted =
+    crash_leaves_on a a b (Crashed steps w out (pieces ++ more)) (Crashed steps w out pieces) (Crashed steps w out (pieces ++ more))
+    (crash_stays a (Crashed steps w out (pieces ++ more))) (leaves out emitted) (λ x e p. p) (λ x e p. crashed_early w out pieces more x e p)
+
+-- ---- one piece
+
+module _ (a b : View) (w : World) (piece : Piece) (moments : Changes (λ x y. Between w.layout (steps.moves w piece) y) a b) where
+  moving : (out : List ℕ) → a.emitted ≡ Some out → (x : Folder) (e : Bytes) → FromImage (λ x y. Between w.layout (steps.moves w piece) y) a x e
+      → Crashed steps w out (piece ∷ []) x e
+  moving out emitted x e (was, image, between, said) = record {
+    done = [];
+    rest = piece ∷ [];
+    parts = refl;
+    stands = inr
+        (record {
+          piece = piece;
+          others = [];
+          next = refl;
+          stands = inl (record { went = one_of e out (sym said ∙ emitted) ∙ sym (append-nil out); between = between });
+        });
+  }
+
+  -- some of its moves were made, and nothing emitted
+  pub leaves_moved : CrashLeavesPieces a b w (piece ∷ [])
+  leaves_moved out emitted =
+      crash_leaves_on a a b (Crashed steps w out (piece ∷ [])) (FromImage (λ x y. Between w.layout (steps.moves w piece) y) a) (Crashed steps w out (piece ∷ []))
+      (crash_stays a (Crashed steps w out (piece ∷ []))) moments.during (λ x e p. p) (moving out emitted)
+
+  module _ (c : View) (reply : List ℕ) (said : reply ≡ steps.reply w piece) (shape : Each b (IsOfShape (bare (steps.after w piece).layout))) (emits : Emits reply b c) where
+    partly : (out : List ℕ) → a.emitted ≡ Some out → (x : Folder) (e : Bytes) → PartlyOut b reply x e → Crashed steps w out (piece ∷ []) x e
+    partly out emitted x e (image, bytes, k, told, went) =
+        let same : bytes ≡ out = one_of bytes out (sym told ∙ moments.emitted ∙ emitted) in
+        record {
+          done = [];
+          rest = piece ∷ [];
+          parts = refl;
+          stands = inr
+              (record {
+                piece = piece;
+                others = [];
+                next = refl;
+                stands = inr
+                    (record {
+                      front = take k reply;
+                      back = drop k reply;
+                      parts = sym said ∙ sym (take-append-drop k reply);
+                      went = went ∙ ap (λ (l : List ℕ). l ++ take k reply) (same ∙ sym (append-nil out));
+                      shape = shape x image;
+                    });
+              });
+        }
+
+    -- all of them were, and its reply emitted or a first part of it
+    pub leaves_answered : CrashLeavesPieces a c w (piece ∷ [])
+    leaves_answered out emitted =
+        crash_leaves_on a b c (Crashed steps w out (piece ∷ [])) (PartlyOut b reply) (Crashed steps w out (piece ∷ [])) (leaves_moved out emitted) emits.during
+        (λ x e p. p) (partly out emitted)
+
+-- ---- the end of the script
+
+not_empty : (m : Move) (ms : List Move) → [] ≡ m ∷ ms → ⊥
+not_empty m ms is = cc
+
+-- the use of the store was ended behind all pieces
+pub leaves_closed : (a b c : View) (w : World) (pieces : List Piece) → Appends a.emitted b.emitted (replies_of steps w pieces) → CrashLeavesPieces a b w pieces
+    → Changes (λ x y. Between (after_pieces steps w pieces).layout [] y) b c → CrashLeavesPieces a c w pieces
+leaves_closed a b c w pieces shown first moments out emitted =
+    crash_leaves_on a b c (Crashed steps w out pieces) (FromImage (λ x y. Between (after_pieces steps w pieces).layout [] y) b) (Crashed steps w out pieces)
+    (first out emitted) moments.during (λ x e p. p) closing
+  where
+    told : b.emitted ≡ Some (out ++ replies_of steps w pieces)
+    told = grown a.emitted b.emitted out (replies_of steps w pieces) emitted shown
+
+    no_moves : (x : Folder) → Between (after_pieces steps w pieces).layout [] x → IsOfShape (bare (after_pieces steps w pieces).layout) x
+    no_moves x between = by between.done between.rest between.parts between.shape
+      where
+        by : (done rest : List Move) → [] ≡ done ++ rest → IsOfShape (bare (after_moves done (after_pieces steps w pieces).layout)) x → IsOfShape (bare (after_pieces steps w pieces).layout) x
+        by [] rest is shape = shape
+        by (m ∷ done) rest is shape = absurd (not_empty m (done ++ rest) is)
+
+    closing : (x : Folder) (e : Bytes) → FromImage (λ x y. Between (after_pieces steps w pieces).layout [] y) b x e → Crashed steps w out pieces x e
+    closing x e (was, image, between, said) = record {
+      done = pieces;
+      rest = [];
+      parts = sym (append-nil pieces);
+      stands = inl (record { went = one_of e (out ++ replies_of steps w pieces) (sym said ∙ told); shape = no_moves x between });
+    }

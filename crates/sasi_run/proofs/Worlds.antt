@@ -1,0 +1,68 @@
+-- Pieces run from a world, one after another, and that they show what the model shows at its state.
+use Rattle.std.proofs.Common.{◌≡◌, ℕ, ◌+◌, List, [], ◌∷◌, ◌++◌, refl, sym, ap, ◌∙◌, arith, append_assoc}
+use Rattle.sasi_model.specs.Pieces.{Piece}
+use Rattle.sasi_model.specs.State.{State}
+use Rattle.sasi_model.specs.Step.{refusals, replies, state_after}
+use Rattle.sasi_layout.specs.Layout.{state_of}
+use Rattle.sasi_layout.specs.Running.{after_pieces, replies_of}
+use Rattle.sasi_layout.specs.Wells.{IsWell}
+use Rattle.sasi_layout.specs.Worlds.{World, steps}
+use Rattle.sasi_layout.proofs.StatementLaws.{step_state, step_well}
+use Rattle.sasi_run.specs.EmitCounts.{emits_for, emits_in, emits_of}
+use Rattle.sasi_run.specs.Session.{refusals_of, refused_by}
+use Rattle.sasi_run.specs.Spending.{SpendsNone}
+
+-- ---- one after another
+
+pub after_both : (xs ys : List Piece) (w : World) → after_pieces steps w (xs ++ ys) ≡ after_pieces steps (after_pieces steps w xs) ys
+after_both [] ys w = refl
+after_both (x ∷ xs) ys w = after_both xs ys (steps.after w x)
+
+pub replies_both : (xs ys : List Piece) (w : World) → replies_of steps w (xs ++ ys) ≡ replies_of steps w xs ++ replies_of steps (after_pieces steps w xs) ys
+replies_both [] ys w = refl
+replies_both (x ∷ xs) ys w =
+    let later : World = steps.after w x in
+    ap (λ (l : List ℕ). steps.reply w x ++ l) (replies_both xs ys later)
+    ∙ sym (append_assoc (steps.reply w x) (replies_of steps later xs) (replies_of steps (after_pieces steps later xs) ys))
+
+pub refusals_both : (xs ys : List Piece) (w : World) → refusals_of w (xs ++ ys) ≡ refusals_of w xs + refusals_of (after_pieces steps w xs) ys
+refusals_both [] ys w = omega arith
+refusals_both (x ∷ xs) ys w = let e = refusals_both xs ys (steps.after w x) in omega (arith, e)
+
+pub emits_both : (xs ys : List Piece) (w : World) → emits_in w (xs ++ ys) ≡ emits_in w xs + emits_in (after_pieces steps w xs) ys
+emits_both [] ys w = omega arith
+emits_both (x ∷ xs) ys w = let e = emits_both xs ys (steps.after w x) in omega (arith, e)
+
+pub spends_both : (xs ys : List Piece) (w : World) → SpendsNone w xs → SpendsNone (after_pieces steps w xs) ys → SpendsNone w (xs ++ ys)
+spends_both [] ys w none later = later
+spends_both (x ∷ xs) ys w none later = (none.0, spends_both xs ys (steps.after w x) none.1 later)
+
+-- ---- by the model
+
+pub well_after : (ps : List Piece) (w : World) → IsWell w.layout → IsWell (after_pieces steps w ps).layout
+well_after [] w well = well
+well_after (p ∷ ps) w well = well_after ps (steps.after w p) (step_well w p well)
+
+-- the state after the pieces is that of the model
+pub state_is : (ps : List Piece) (w : World) → IsWell w.layout → state_of (after_pieces steps w ps).layout ≡ state_after (state_of w.layout) ps
+state_is [] w well = refl
+state_is (p ∷ ps) w well = state_is ps (steps.after w p) (step_well w p well) ∙ ap (λ (s : State). state_after s ps) (step_state w p well)
+
+-- and so are their replies
+pub replies_are : (ps : List Piece) (w : World) → IsWell w.layout → replies_of steps w ps ≡ replies (state_of w.layout) ps
+replies_are [] w well = refl
+replies_are (p ∷ ps) w well =
+    ap (λ (l : List ℕ). steps.reply w p ++ l)
+    (replies_are ps (steps.after w p) (step_well w p well) ∙ ap (λ (s : State). replies s ps) (step_state w p well))
+
+pub refusals_are : (ps : List Piece) (w : World) → IsWell w.layout → refusals_of w ps ≡ refusals (state_of w.layout) ps
+refusals_are [] w well = refl
+refusals_are (p ∷ ps) w well =
+    ap (λ (n : ℕ). refused_by w p + n)
+    (refusals_are ps (steps.after w p) (step_well w p well) ∙ ap (λ (s : State). refusals s ps) (step_state w p well))
+
+pub emits_are : (ps : List Piece) (w : World) → IsWell w.layout → emits_in w ps ≡ emits_for (state_of w.layout) ps
+emits_are [] w well = refl
+emits_are (p ∷ ps) w well =
+    ap (λ (n : ℕ). emits_of (steps.reply w p) + n)
+    (emits_are ps (steps.after w p) (step_well w p well) ∙ ap (λ (s : State). emits_for s ps) (step_state w p well))

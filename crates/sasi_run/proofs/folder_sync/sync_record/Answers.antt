@@ -1,5 +1,0 @@
-use Rattle.sasi_host.specs.ChangeLaws.{stays}
-use Rattle.sasi_run.proofs.folder_sync.sync_record.Goals as goal
-
-pub returns-clause-changes : goal.returns-clause-changes
-returns-clause-changes g c = stays (g.H.Host.view c.args.host.now)

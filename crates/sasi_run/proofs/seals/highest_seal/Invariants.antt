@@ -1,7 +1,0 @@
-use Rattle.std.proofs.Common.{take}
-use Rattle.sasi_run.specs.Opening.{IsHighestSeal}
-use Rattle.sasi_run.proofs.seals.highest_seal.Given as goal
-
--- the highest of those so far
-abbrev pub invariant-loop-name : goal.invariant-loop-name
-invariant-loop-name l = IsHighestSeal (take l.name-index l.names) l.highest

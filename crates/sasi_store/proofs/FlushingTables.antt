@@ -1,0 +1,358 @@
+-- The flush of a table of a store: what it needs, and what the store is afterwards.
+use Rattle.std.proofs.Common.{◌≡◌, ◌≢◌, ◌⊎◌, ◌||◌, ◌&&◌, not, inl, inr, drop, Bool, true, false, cond, nat_eq, nat_le, is_some, ℕ, zero, suc, ◌+◌, ◌-◌, ◌^◌, ◌<◌, ◌≤◌, List, [], ◌∷◌, ◌++◌, length, map, slice_get, Option, None, Some, Result, Ok, Err, refl, sym, ap, subst, ◌∙◌, arith}
+use Rattle.std.specs.Prelude.{IsTrue}
+use Rattle.std.proofs.lemmas.Bool.Decides.{nat_tests}
+use Rattle.std.proofs.lemmas.List.{length-map}
+use Rattle.std.specs.FinMap as map_
+use Rattle.std.specs.FinMap.{get}
+use Rattle.std.specs.List.{AllByRecursion}
+use Rattle.std.specs.Ordering.{eq_by_cmp}
+use Rattle.sasi_host.specs.declared.name.FileName.{FileName}
+use Rattle.sasi_host.specs.Contents.{told_after, told_before, told_files}
+use Rattle.sasi_host.specs.ChangeLaws.{Each}
+use Rattle.sasi_host.specs.Disk.{Changes, Relation}
+use Rattle.sasi_host.specs.NameLaws.{same_name, test_here}
+use Rattle.sasi_host.specs.Names.{Bytes, Folder, data_name, log_name, manifest_name, name_cmp}
+use Rattle.sasi_host.specs.View.{IsSound, IsTold, ListCauses, Reaches, View, contents_in}
+use Rattle.sasi_body.specs.Body.{HasBody}
+use Rattle.sasi_cells.specs.Maps.{merged}
+use Rattle.sasi_cells.specs.declared.mutation.Mutation.{Mutation}
+use Rattle.sasi_gated.specs.Handles.{Handle}
+use Rattle.sasi_layout.proofs.KeptLaws.{FlushesFiles, dead_segment, flushed_kept, free_name, kept_there, keeps_data, keeps_manifest, keeps_segment, listed_flushed, unlisted_above}
+use Rattle.sasi_layout.proofs.LayoutLaws.{flush_state}
+use Rattle.sasi_commitlog.specs.LogPosition.{IsAtLogEnd}
+use Rattle.sasi_layout.proofs.ListingLaws.{rising_bound}
+use Rattle.sasi_layout.proofs.NewFiles.{ready_flush}
+use Rattle.sasi_layout.proofs.Numbered.{all_changed, seen_at, unseen_at}
+use Rattle.sasi_layout.proofs.Storable.{entries_storable, none_storable}
+use Rattle.sasi_layout.proofs.WellMoves.{moved_well}
+use Rattle.sasi_layout.specs.Between.{Between}
+use Rattle.sasi_layout.specs.Flushed.{logs_after}
+use Rattle.sasi_layout.specs.Kept.{HasKept, Kept, is_listed}
+use Rattle.sasi_layout.specs.Layout.{Layout, TableParts, Used, bare, listing_of, state_of, unflushed}
+use Rattle.sasi_layout.specs.Moves.{Flush, after_flush, flush_table, floor_without, lesser, new_file, next_floor}
+use Rattle.sasi_layout.specs.Serving.{AreTablesReady, IsLive, IsReady, IsStorable, IsTableReady, Serves, StoreInHand, TableInHand, kept_by, table_in_hand}
+use Rattle.sasi_layout.specs.Statements.{definitions_of}
+use Rattle.sasi_layout.specs.Wells.{IsWellTable, Rising}
+use Rattle.sasi_manifest.proofs.Applying.{replace_applies}
+use Rattle.sasi_manifest.proofs.Consistency.{record_consistent}
+use Rattle.sasi_manifest.specs.declared.edit.Edit.{Edit}
+use Rattle.sasi_manifest.specs.declared.edit.Edit.TheVariants.{Replace}
+use Rattle.sasi_manifest.specs.declared.listing.Listing.{Listing}
+use Rattle.sasi_manifest.proofs.Replacing.{At}
+use Rattle.sasi_manifest.specs.Consistent.{IsConsistent}
+use Rattle.sasi_manifest.specs.declared.files.ListedFile.{ListedFile}
+use Rattle.sasi_manifest.specs.ListedFiles.{has_file, is_among, with_file, with_files, without}
+use Rattle.sasi_manifest.specs.Edits.{Applies, are_within, encoded, is_new}
+use Rattle.sasi_manifest.specs.Format.{IsNext}
+use Rattle.sasi_manifest.specs.ListedDefinition.{ListedDefinition}
+use Rattle.sasi_manifest.specs.Listings.{at_number, listed_definitions, replaced}
+use Rattle.sasi_manifest.specs.OpenManifest.{ManifestState, ManifestStands}
+use Rattle.sasi_memtable.specs.MemtableView.{MemtableView}
+use Rattle.sasi_model.specs.Abbreviations.{Partitions, types_of}
+use Rattle.sasi_model.specs.State.{Definition, max_timestamp}
+use Rattle.sasi_model.specs.Cells.{Partition}
+use Rattle.sasi_types.specs.declared.column.ColumnType.{ColumnType}
+use Rattle.sasi_types.specs.declared.decorated_key.DecoratedKey.{DecoratedKey}
+use Rattle.sasi_types.specs.declared.partitioner.Partitioner.{Partitioner}
+use Rattle.sasi_store.specs.Floors.{HoldsAny, floor_in_hand, flushed_in_hand, hand_after_flush}
+use Rattle.sasi_store.proofs.OneMap.{one_map}
+use Rattle.sasi_store.specs.Flushing.{CanFlush, ChangesInFlush, HasFlushedFiles, HaveBodies, IsFlushOf, IsFlushed, edit_of}
+use Rattle.sasi_store.specs.declared.flush.FlushNumbers.{FlushNumbers}
+use Rattle.sasi_store.proofs.Frames.{reached_there}
+use Rattle.sasi_store.proofs.TablesInHand.{as_many, at_numbered, ready_in_hand, seen_as, there_inside}
+
+-- ---- the floor
+
+-- a floor below which no live segment is needed
+floor_most : (n table last : ℕ) (ts : List TableInHand) → floor_in_hand n table last ts ≤ last
+floor_most n table last [] = omega arith
+floor_most n table last (t ∷ ts) =
+    let rest = floor_most (suc n) table last ts in
+    elim (nat_eq n table) as (λ b. cond b (floor_in_hand (suc n) table last ts) (lesser t.first (floor_in_hand (suc n) table last ts)) ≤ last) [
+      | true ↦ rest
+      | false ↦ by t.first rest
+    ]
+  where
+    by : (o : Option ℕ) → floor_in_hand (suc n) table last ts ≤ last → lesser o (floor_in_hand (suc n) table last ts) ≤ last
+    by None is = is
+    by (Some k) is = omega (arith, is)
+
+floor_least : (p : Partitioner) (floor most n table last : ℕ) (ds : List Definition) (ts : List TableInHand) → AreTablesReady p floor most ds ts → floor ≤ last → floor ≤ floor_in_hand n table last ts
+floor_least p floor most n table last ds [] ready under = under
+floor_least p floor most n table last [] (t ∷ ts) ready under = absurd ready
+floor_least p floor most n table last (d ∷ ds) (t ∷ ts) ready under =
+    let rest = floor_least p floor most (suc n) table last ds ts ready.1 under in
+    elim (nat_eq n table) as (λ b. floor ≤ cond b (floor_in_hand (suc n) table last ts) (lesser t.first (floor_in_hand (suc n) table last ts))) [
+      | true ↦ rest
+      | false ↦ by t.first ready.0.first rest
+    ]
+  where
+    by : (o : Option ℕ) → IsLive floor most o → floor ≤ floor_in_hand (suc n) table last ts → floor ≤ lesser o (floor_in_hand (suc n) table last ts)
+    by None live is = is
+    by (Some k) live is = omega (arith, live.0, is)
+
+-- that of a layout
+floor_is : (n table last : ℕ) (ts : List TableParts) → floor_in_hand n table last (map table_in_hand ts) ≡ floor_without n table last ts
+floor_is n table last [] = refl
+floor_is n table last (t ∷ ts) = let rest = floor_is (suc n) table last ts in λ i. cond (nat_eq n table) (rest i) (lesser t.first (rest i))
+
+-- the flushed table holds nothing, and the first segments of the others stay live
+flushed_ready : (p : Partitioner) (floor most new n table last : ℕ) (ds : List Definition) (ts : List TableInHand) → AreTablesReady p floor most ds ts → new ≤ floor_in_hand n table last ts → most ≤ last → AreTablesReady p new last ds (at_number n table flushed_in_hand ts)
+flushed_ready p floor most new n table last [] [] ready above on = tt
+flushed_ready p floor most new n table last [] (t ∷ ts) ready above on = absurd ready
+flushed_ready p floor most new n table last (d ∷ ds) [] ready above on = absurd ready
+flushed_ready p floor most new n table last (d ∷ ds) (t ∷ ts) ready above on =
+    elim (nat_eq n table) as (λ b. new ≤ cond b (floor_in_hand (suc n) table last ts) (lesser t.first (floor_in_hand (suc n) table last ts)) → IsTableReady p new last d (cond b (flushed_in_hand t) t) × AreTablesReady p new last ds (at_number (suc n) table flushed_in_hand ts)) [
+      | true ↦ λ over. (record { typed = ready.0.typed; first = tt; frozen = tt; memtable = none_storable p (types_of d) }, flushed_ready p floor most new (suc n) table last ds ts ready.1 over on)
+      | false ↦ λ over.
+          let parts = by t.first ready.0.first over in
+          (record { typed = ready.0.typed; first = parts.0; frozen = ready.0.frozen; memtable = ready.0.memtable }, flushed_ready p floor most new (suc n) table last ds ts ready.1 parts.1 on)
+    ] above
+  where
+    by : (o : Option ℕ) → IsLive floor most o → new ≤ lesser o (floor_in_hand (suc n) table last ts) → IsLive new last o × (new ≤ floor_in_hand (suc n) table last ts)
+    by None live over = (tt, over)
+    by (Some k) live over = ((omega (arith, over), omega (arith, live.1, on)), omega (arith, over))
+
+-- ---- files
+
+rising_higher : (low a b : ℕ) (fs : List ListedFile) → a ≤ b → Rising low a fs → Rising low b fs
+rising_higher low a b [] le rise = omega (arith, le, rise)
+rising_higher low a b (f ∷ fs) le rise = (rise.0, rising_higher f.number a b fs le rise.1)
+
+none_without : (fs : List ListedFile) → without [] fs ≡ fs
+none_without [] = refl
+none_without (f ∷ fs) = ap (λ (l : List ListedFile). f ∷ l) (none_without fs)
+
+rising_put : (f : ListedFile) (low high : ℕ) (fs : List ListedFile) → Rising low high fs → high < f.number → Rising low f.number (with_file f fs)
+rising_put f low high [] rise above = (omega (arith, rise, above), omega arith)
+rising_put f low high (g ∷ gs) rise above =
+    let bound = rising_bound g.number high gs rise.1 in
+    let other : nat_le f.number g.number ≡ false = grind (arith, nat_tests, bound, above) in
+    subst (λ b. Rising low f.number (cond b (f ∷ g ∷ gs) (g ∷ with_file f gs))) (sym other) (rise.0, rising_put f g.number high gs rise.1 above)
+
+rising_with : (f : ListedFile) (low high : ℕ) (fs : List ListedFile) → Rising low high fs → high < f.number → Rising low f.number (with_files (f ∷ []) (without [] fs))
+rising_with f low high fs rise above = subst (λ (l : List ListedFile). Rising low f.number (with_file f l)) (sym (none_without fs)) (rising_put f low high fs rise above)
+
+one_folder : (x y : Folder) → Some x ≡ Some y → x ≡ y
+one_folder x y e = cc
+
+never : true ≡ false → ⊥
+never e = cc
+
+-- ---- what it needs
+
+bodies_of : (p : Partitioner) (types : List ColumnType) (es : List (DecoratedKey × Partition)) → AllByRecursion (IsStorable p types) es → AllByRecursion (λ e. HasBody e.0.key e.1) es
+bodies_of p types [] all = tt
+bodies_of p types (e ∷ es) all = (all.0.body.has, bodies_of p types es all.1)
+
+within_all : (last table n : ℕ) (ts : List ListedDefinition) → AllByRecursion (λ t. t.since ≤ last) ts → are_within (suc last) table n ts ≡ true
+within_all last table n [] all = refl
+within_all last table n (t ∷ ts) all =
+    let le : nat_le t.since (suc last) ≡ true = grind (arith, nat_tests, all.0) in
+    ap (λ b. (nat_eq n table || b) && are_within (suc last) table (suc n) ts) le ∙ both (nat_eq n table) (within_all last table (suc n) ts all.1)
+  where
+    both : (a : Bool) {b : Bool} → b ≡ true → ((a || true) && b) ≡ true
+    both true is = is
+    both false is = is
+
+module _ (a : View) (store : StoreInHand) (ready : IsReady a store) (n : FlushNumbers) (m : MemtableView) (held : HoldsAny n.table store) (file : n.file ≡ suc store.used.file) (last : n.last ≡ suc store.manifest.listing.last)
+    (floor : n.floor ≡ floor_in_hand 1 n.table n.last store.tables) (fits : (n.table < 2 ^ 32) × (n.file < 2 ^ 32) × (n.last < 2 ^ 32))
+    (memtable : m.partitions ≡ held.there_is.memtable) (under : m.partitioner ≡ store.manifest.listing.partitioner) where
+  abbrev pub listing : Listing
+  listing = store.manifest.listing
+
+  abbrev pub kept : Kept
+  kept = kept_by store
+
+  inside : n.table ≤ length listing.tables
+  inside =
+      let count = as_many listing.partitioner listing.floor listing.last store.definitions store.tables ready.tables in
+      let definitions : length store.definitions ≡ length listing.tables = ap length ready.definitions ∙ length-map listing.tables (λ (t : ListedDefinition). t.definition) in
+      omega (arith, there_inside store.tables (n.table - 1) held.there_is held.there, count, definitions, held.some)
+
+  raised : listing.floor ≤ n.floor
+  raised = subst (λ (k : ℕ). listing.floor ≤ k) (sym floor) (floor_least listing.partitioner listing.floor listing.last 1 n.table n.last store.definitions store.tables ready.tables (omega (arith, last, ready.consistent.start.ordered)))
+
+  below : n.floor ≤ n.last
+  below = subst (λ (k : ℕ). k ≤ n.last) (sym floor) (floor_most 1 n.table n.last store.tables)
+
+  -- the table in memory with its definition
+  defined : (d : Definition) × IsTableReady listing.partitioner listing.floor listing.last d held.there_is
+  defined = ready_in_hand listing.partitioner listing.floor listing.last (n.table - 1) store.definitions store.tables held.there_is ready.tables held.there
+
+  new_number : is_listed listing.tables n.file ≡ false
+  new_number = unlisted_above store.used.file listing.last n.file listing.tables ready.numbered.files (omega (arith, file))
+
+  applies : Applies (Some listing) (edit_of n)
+  applies = replace_applies listing n.table [] (new_file n.file ∷ []) n.last n.floor n.last (record {
+    some = held.some;
+    within = inside;
+    table_fits = fits.0;
+    few_removed = omega arith;
+    current = tt;
+    few_added = omega arith;
+    new = (record { some = omega (arith, file); number_fits = fits.1; free = new_is listing.tables n.file new_number; no_parts = refl }, tt);
+    since_some = omega (arith, last);
+    since_within = omega arith;
+    floor_some = omega (arith, raised, ready.consistent.start.floor_some);
+    floor_within = below;
+    last_fits = fits.2;
+    others = subst (λ (k : ℕ). are_within k n.table 1 listing.tables ≡ true) (sym last) (within_all listing.last n.table 1 listing.tables ready.consistent.since);
+  })
+    where
+      new_is : (ts : List ListedDefinition) (number : ℕ) → is_listed ts number ≡ false → is_new ts [] [] number ≡ true
+      new_is ts number none = ap (λ b. not (b && not (is_among [] number)) && not (has_file [] number)) none
+
+  -- **The flush can be made.**
+  pub can_flush : CanFlush a store.manifest m n
+  can_flush = record {
+    file = free_name a kept (data_name n.file) ready.kept (keeps_data kept n.file ∙ new_number);
+    segment = free_name a kept (log_name n.last) ready.kept (dead_segment kept n.last (inr (omega (arith, last))));
+    former = λ segment above under. kept_there a kept (log_name segment) ready.kept (keeps_segment kept segment above (omega (arith, under, below, last)));
+    room = ready.manifest_room;
+    usable = ready.manifest_usable;
+    partitioner = under;
+    some = subst (λ (k : Partitions). 1 ≤ length (map_.entries k)) (sym memtable) held.held;
+    bodies = subst HaveBodies (sym memtable) (bodies_of listing.partitioner (types_of defined.0) (map_.entries held.there_is.memtable) (entries_storable listing.partitioner (types_of defined.0) held.there_is.memtable defined.1.memtable));
+    applies = applies;
+  }
+
+  -- ---- what the manifest lists then
+
+  module _ (next : Listing) (is : IsNext listing (edit_of n ∷ []) next) where
+    pub listed_after : (next.partitioner ≡ listing.partitioner) × (next.floor ≡ n.floor) × (next.last ≡ n.last) × (next.tables ≡ at_number 1 n.table (replaced [] (new_file n.file ∷ []) n.last) listing.tables)
+    listed_after = (cc, cc, cc, cc)
+
+    pub next_consistent : IsConsistent next
+    next_consistent = record_consistent (Some listing) (encoded (edit_of n ∷ [])) (edit_of n ∷ []) next (applies, tt) is ready.consistent
+
+    pub next_definitions : store.definitions ≡ listed_definitions next.tables
+    next_definitions = ready.definitions ∙ sym (unseen_at (λ (t : ListedDefinition). t.definition) (replaced [] (new_file n.file ∷ []) n.last) (λ t. refl) 1 n.table listing.tables) ∙ ap listed_definitions (sym listed_after.3)
+
+    pub next_files : AllByRecursion (IsWellTable n.file next.last) next.tables
+    next_files = rw (listed_after.2, listed_after.3) (all_changed (IsWellTable store.used.file listing.last) (IsWellTable n.file n.last) (replaced [] (new_file n.file ∷ []) n.last)
+        (λ t well. record { rise = rising_with (new_file n.file) 0 store.used.file t.files well.rise (omega (arith, file)); since = omega arith })
+        (λ t well. record { rise = rising_higher 0 store.used.file n.file t.files (omega (arith, file)) well.rise; since = omega (arith, well.since, last) })
+        1 n.table listing.tables ready.numbered.files)
+
+    -- the files of the folder afterwards
+    pub next_kept : (b : View) (manifest : ManifestState) → manifest.listing ≡ next → manifest.number ≡ store.manifest.number → Changes (ChangesInFlush store.manifest.number listing.floor n) a b → HasFlushedFiles b listing.floor n
+        → Reaches b (manifest_name manifest.number) (manifest.at + 1) → (folder : Folder) → b.files ≡ Some folder → HasKept (record { manifest = manifest.number; listing = manifest.listing }) folder
+    next_kept b manifest listed number change flushed room folder files =
+        let was = told_files a (told_before (ChangesInFlush store.manifest.number listing.floor n) a b change (ap (λ (o : Option Folder). is_some o) files)) in
+        let now = change.seen was.0 was.1 in
+        let same : now.0 ≡ folder = one_folder now.0 folder (sym now.1 ∙ files) in
+        let step : ChangesInFlush store.manifest.number listing.floor n was.0 folder = subst (ChangesInFlush store.manifest.number listing.floor n was.0) same now.2 in
+        subst (λ (k : ℕ). HasKept (record { manifest = k; listing = manifest.listing }) folder) (sym number)
+        (subst (λ (e : Listing). HasKept (record { manifest = store.manifest.number; listing = e }) folder) (sym listed)
+        (flushed_kept kept (record { manifest = store.manifest.number; listing = next }) n.file refl (listed_after.2 ∙ last)
+        (subst (λ (k : ℕ). listing.floor ≤ k) (sym listed_after.1) raised)
+        (rw (listed_after.1, listed_after.2) below)
+        (λ number. ap (λ (ts : List ListedDefinition). is_listed ts number) listed_after.3 ∙ listed_flushed number n.file n.table n.last 1 listing.tables held.some (omega (arith, inside)))
+        was.0 folder (rw (listed_after.1, listed_after.2) (files_are was.0 folder step files was.1)) (ready.kept was.0 was.1)))
+      where
+        files_are : (x y : Folder) → ChangesInFlush store.manifest.number listing.floor n x y → b.files ≡ Some y → a.files ≡ Some x → FlushesFiles n.file n.last listing.floor n.floor x y
+        files_are x y step seen before =
+            let told : IsTold b = ap (λ (o : Option Folder). is_some o) seen in
+            record {
+              new_data = subst (λ (o : Option Folder). is_some (contents_in o (data_name n.file)) ≡ true) seen (flushed.file told);
+              segment = subst (λ (o : Option Folder). is_some (contents_in o (log_name n.last)) ≡ true) seen (flushed.segment told);
+              gone = λ segment above under. subst (λ (o : Option Folder). contents_in o (log_name segment) ≡ None) seen (flushed.gone segment above under);
+              others = λ name no_data no_log old. by name no_data no_log old (eq_by_cmp name_cmp name (manifest_name store.manifest.number)) refl;
+            }
+          where
+            by : (name : FileName) → name ≢ data_name n.file → name ≢ log_name n.last → ((segment : ℕ) → listing.floor ≤ segment → segment < n.floor → name ≢ log_name segment)
+                → (t : Bool) → eq_by_cmp name_cmp name (manifest_name store.manifest.number) ≡ t → is_some (get y name) ≡ is_some (get x name)
+            by name no_data no_log old true is =
+                let same = same_name name (manifest_name store.manifest.number) is in
+                let here : is_some (get y (manifest_name store.manifest.number)) ≡ true = reached_there b (manifest_name store.manifest.number) (manifest.at + 1) (subst (λ (k : ℕ). Reaches b (manifest_name k) (manifest.at + 1)) number room) y seen in
+                ap (λ (k : FileName). is_some (get y k)) same ∙ here ∙ sym (ready.kept x before (manifest_name store.manifest.number) ∙ keeps_manifest kept) ∙ ap (λ (k : FileName). is_some (get x k)) (sym same)
+            by name no_data no_log old false is =
+                ap (λ (o : Option Bytes). is_some o) (step name no_data no_log (λ same. never (sym (ap (λ (k : FileName). eq_by_cmp name_cmp k (manifest_name store.manifest.number)) same ∙ test_here (manifest_name store.manifest.number)) ∙ is)) old)
+
+  -- ---- the layout
+
+  module _ (b : View) (l : Layout) (serves : Serves a store l) where
+    abbrev pub logs : List (List Mutation)
+    logs = serves.older ++ serves.current ∷ []
+
+    last_is : n.last ≡ suc l.last
+    last_is = last ∙ ap (λ (e : Listing). suc e.last) serves.listing
+
+    floor_of : n.floor ≡ next_floor n.table l
+    floor_of = floor ∙ ap (floor_in_hand 1 n.table n.last) serves.tables ∙ floor_is 1 n.table n.last l.tables ∙ ap (λ (k : ℕ). floor_without 1 n.table k l.tables) last_is
+
+    file_is : n.file ≡ suc l.used.file
+    file_is = file ∙ ap (λ (u : Used). suc u.file) serves.used
+
+    unflushed_is : At 1 n.table (λ t. merged (unflushed t) ≡ m.partitions) l.tables
+    unflushed_is =
+        let t = seen_as table_in_hand l.tables (n.table - 1) held.there_is (ap (λ (ts : List TableInHand). slice_get ts (n.table - 1)) (sym serves.tables) ∙ held.there) in
+        let frozen : t.0.frozen ≡ [] = ap (λ (h : TableInHand). h.frozen) t.2 ∙ held.idle in
+        at_numbered (λ (t : TableParts). merged (unflushed t) ≡ m.partitions) n.table l.tables t.0 held.some t.1
+        (ap (λ (k : List Partitions). merged (k ++ t.0.memtable ∷ [])) frozen ∙ ap (λ (h : TableInHand). merged (h.memtable ∷ [])) t.2 ∙ one_map listing.partitioner (types_of defined.0) held.there_is.memtable defined.1.memtable ∙ sym memtable)
+
+    -- **It is the flush of the layout's table.**
+    pub flush_of : IsFlushOf a store.manifest m n l logs
+    flush_of = record {
+      shape = serves.shape;
+      well = serves.well;
+      number = serves.manifest;
+      listing = serves.listing;
+      stands = subst (λ (k : ℕ). ManifestStands a k store.manifest.at listing) (sym serves.manifest) (subst (ManifestStands a l.used.manifest store.manifest.at) (sym serves.listing) serves.manifest_end);
+      file = file_is;
+      last = last_is;
+      floor = floor_of;
+      holds = unflushed_is;
+      storable = ready_flush a store l n.table ready serves;
+    }
+
+    -- **The store serves the layout after it.**
+    pub flush_serves : {S : Relation} (manifest : ManifestState) (log : Handle) → Changes S a b → manifest.number ≡ store.manifest.number → log.file ≡ log_name n.last → IsFlushed b manifest log n l logs → Serves b (hand_after_flush n.table manifest log store) (after_flush n.table l)
+    flush_serves {S} manifest log change number log_file flushed =
+        let used_log : store.used.log ≡ l.last = ready.numbered.log_is ∙ ap (λ (e : Listing). e.last) serves.listing in
+        let change_table : TableParts → TableParts = flush_table (suc l.used.file) (suc l.last) in
+        record {
+          told = told_after S a b change serves.told;
+          well = moved_well (Flush n.table) l serves.well;
+          definitions = serves.definitions ∙ sym (unseen_at (λ (t : TableParts). t.definition) change_table (λ t. refl) 1 n.table l.tables);
+          tables = ap (at_number 1 n.table flushed_in_hand) serves.tables ∙ sym (seen_at table_in_hand change_table flushed_in_hand (λ t. refl) 1 n.table l.tables);
+          used = ap (λ (k : ℕ). record store.used { log = suc k; file = suc store.used.file }) used_log ∙ ap (λ (u : Used). record u { log = suc l.last; file = suc u.file }) serves.used;
+          timestamp = serves.timestamp ∙ sym (ap max_timestamp (flush_state n.table l));
+          listing = flushed.listing;
+          manifest = number ∙ serves.manifest;
+          log = log_file ∙ ap log_name last_is;
+          older = drop (next_floor n.table l - l.floor) logs;
+          current = [];
+          log_end = subst (λ (k : ℕ). IsAtLogEnd b (log_name k) log.at []) last_is flushed.log_end;
+          manifest_end = subst (λ (k : ℕ). ManifestStands b k manifest.at (listing_of (after_flush n.table l))) (number ∙ serves.manifest) (subst (ManifestStands b manifest.number manifest.at) flushed.listing flushed.stands);
+          shape = flushed.shape;
+        }
+
+  -- **It is ready after it.**
+  pub flush_ready : (b : View) (manifest : ManifestState) (log : Handle) → IsNext listing (edit_of n ∷ []) manifest.listing → manifest.number ≡ store.manifest.number → Reaches b (manifest_name manifest.number) (manifest.at + 1) → IsTrue manifest.usable
+      → log.file ≡ log_name n.last → Reaches b log.file (log.at + 1) → IsTrue log.usable → Changes (ChangesInFlush store.manifest.number listing.floor n) a b → HasFlushedFiles b listing.floor n
+      → (ManifestStands a store.manifest.number store.manifest.at listing → ManifestStands b manifest.number manifest.at manifest.listing) → IsReady b (hand_after_flush n.table manifest log store)
+  flush_ready b manifest log is number room usable log_file log_room log_usable change flushed stands =
+      let after = listed_after manifest.listing is in
+      record {
+        consistent = next_consistent manifest.listing is;
+        definitions = next_definitions manifest.listing is;
+        tables = rw (after.0, after.1, after.2) (flushed_ready listing.partitioner listing.floor listing.last n.floor 1 n.table n.last store.definitions store.tables ready.tables
+            (subst (λ (k : ℕ). k ≤ floor_in_hand 1 n.table n.last store.tables) (sym floor) (omega arith)) (omega (arith, last)));
+        numbered = record {
+          manifest_is = ready.numbered.manifest_is ∙ sym number;
+          log_is = ap (λ (k : ℕ). suc k) ready.numbered.log_is ∙ sym last ∙ sym after.2;
+          files = subst (λ (k : ℕ). AllByRecursion (IsWellTable k manifest.listing.last) manifest.listing.tables) file (next_files manifest.listing is);
+          fits = subst (λ (k : ℕ). k < 2 ^ 32) file fits.1;
+        };
+        timestamp = ready.timestamp;
+        log_file = log_file ∙ ap log_name (sym after.2);
+        manifest_room = room;
+        log_room = log_room;
+        manifest_usable = usable;
+        log_usable = log_usable;
+        stands = λ told. stands (ready.stands (told_before (ChangesInFlush store.manifest.number listing.floor n) a b change told));
+        kept = next_kept manifest.listing is b manifest refl number change flushed room;
+      }

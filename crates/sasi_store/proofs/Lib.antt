@@ -1,0 +1,30 @@
+mod Costs
+mod Steps
+mod Moves
+mod Advancing
+mod Openings
+mod Tables
+mod Printing
+mod Pages
+pub mod SegmentDeletions
+pub mod MapWriting
+pub mod FlushFrames
+pub mod FlushLaws
+pub mod FlushedFiles
+pub mod FlushedNames
+pub mod Frames
+pub mod TablesInHand
+pub mod Timestamps
+pub mod BodyTimes
+pub mod OneMap
+pub mod MoveCauses
+pub mod Putting
+pub mod Creating
+pub mod ListedSchema
+pub mod FlushingTables
+pub mod Composition
+pub mod Stepping
+pub mod FloorLaws
+pub mod FlushingParts
+pub mod Selecting
+pub mod Prepared

@@ -1,0 +1,197 @@
+-- The sources whose heads have the least key go on: what all have left, and what they stay.
+use Rattle.std.proofs.Common.{◌≡◌, ◌<◌, ℕ, suc, zero, true, false, cond, List, [], ◌∷◌, length, map, set, get_or, slice_get, Option, None, Some, refl, sym, ap, subst, ◌∙◌, arith}
+use Rattle.std.specs.List.{AllByRecursion}
+use Rattle.sasi_types.specs.declared.column.ColumnType.{ColumnType}
+use Rattle.sasi_types.specs.declared.decorated_key.DecoratedKey.{DecoratedKey}
+use Rattle.sasi_types.specs.declared.partitioner.Partitioner.{Partitioner}
+use Rattle.sasi_model.specs.Cells.{Partition}
+use Rattle.sasi_cells.specs.Rows.{IsStored}
+use Rattle.sasi_cells.specs.declared.picked.Picked.{Picked}
+use Rattle.sasi_host.specs.declared.fault.ReadFault.{ReadFault}
+use Rattle.sasi_host.specs.Names.{Folder}
+use Rattle.sasi_host.specs.Damages.{OnDamage}
+use Rattle.sasi_manifest.specs.declared.files.ListedFile.{ListedFile}
+use Rattle.sasi_merge.specs.Merging.{GivesLeast, Head, has_key, with_token}
+use Rattle.sasi_merge.specs.Streams.{Entries, IsRising, behind, head_of, merged_entries, moved}
+use Rattle.sasi_merge.proofs.LeastKeys.{given_has}
+use Rattle.sasi_merge.proofs.Streams.{all_rising, next_entry, no_entry}
+use Rattle.sasi_store.specs.declared.source.Source.{Source}
+use Rattle.sasi_store.specs.Sources.{AreMoved, AreReady, CanStep, IsHeadKeyed, IsKeyed, IsListed, IsMoved, IsMovedAt, NoFalseSourceDamage, StepsTo, goes, stays}
+use Rattle.sasi_store.specs.Left.{AreLeft, ArePrinted, HasLeft, IsLeft, IsNextPrinted}
+use Rattle.sasi_store.proofs.Steps.{source_spares, steps_can, steps_keyed, steps_left, steps_listed}
+
+-- ---- positions
+
+pub got : {X : Type 0} (xs : List X) (at : ℕ) (x : X) → at < length xs → x ≡ get_or xs at x → slice_get xs at ≡ Some x
+got [] at x inside is = absurd (omega arith)
+got (y ∷ ys) zero x inside is = ap Some (sym is)
+got (y ∷ ys) (suc at) x inside is = got ys at x (omega arith) is
+
+pub set_itself : {X : Type 0} (xs : List X) (at : ℕ) (x : X) → slice_get xs at ≡ Some x → xs ≡ set xs at x
+set_itself [] at x is = refl
+set_itself (y ∷ ys) zero x is = let same : y ≡ x = cc in ap (λ z. z ∷ ys) same
+set_itself (y ∷ ys) (suc at) x is = ap (λ zs. y ∷ zs) (set_itself ys at x is)
+
+pub all_at : {X : Type 0} (P : X → Type 0) (xs : List X) (at : ℕ) (x : X) → AllByRecursion P xs → slice_get xs at ≡ Some x → P x
+all_at P [] at x all is = absurd (let no : None ≡ Some x = is in cc)
+all_at P (y ∷ ys) zero x all is = let same : y ≡ x = cc in subst P same all.0
+all_at P (y ∷ ys) (suc at) x all is = all_at P ys at x all.1 is
+
+-- ---- one source more
+
+module _ (seen : Option Folder) (key : DecoratedKey) where
+  pub moved_none : (heads : List Head) (sources : List Source) → AreMoved seen key 0 heads sources heads sources
+  moved_none heads sources = (refl, refl)
+
+  more : (n : ℕ) (heads : List Head) (sources : List Source) (nexts : List Head) (afters : List Source) (head : Head) (source : Source) (next : Head) (after : Source) → AreMoved seen key n heads sources nexts afters → slice_get nexts n ≡ Some head → slice_get afters n ≡ Some source → IsMoved seen key head source next after → AreMoved seen key (suc n) heads sources (set nexts n next) (set afters n after)
+  more zero heads sources nexts afters head source next after so_far had was moved =
+      subst (λ (hs : List Head). AreMoved seen key 1 hs sources (set nexts 0 next) (set afters 0 after)) so_far.0
+      (subst (λ (ss : List Source). AreMoved seen key 1 nexts ss (set nexts 0 next) (set afters 0 after)) so_far.1 (first nexts afters had was))
+    where
+      first : (hs : List Head) (ss : List Source) → slice_get hs 0 ≡ Some head → slice_get ss 0 ≡ Some source → AreMoved seen key 1 hs ss (set hs 0 next) (set ss 0 after)
+      first [] ss had was = absurd (let no : None ≡ Some head = had in cc)
+      first (h ∷ hs) [] had was = absurd (let no : None ≡ Some source = was in cc)
+      first (h ∷ hs) (s ∷ ss) had was =
+          let same_head : head ≡ h = cc in
+          let same_source : source ≡ s = cc in
+          (subst (λ (x : Head). IsMoved seen key x s next after) same_head (subst (λ (x : Source). IsMoved seen key head x next after) same_source moved), (refl, refl))
+  more (suc n) (h ∷ heads) (s ∷ sources) (i ∷ nexts) (t ∷ afters) head source next after so_far had was moved = (so_far.0, more n heads sources nexts afters head source next after so_far.1 had was moved)
+  more (suc n) heads sources nexts afters head source next after so_far had was moved = absurd so_far
+
+  pub moved_more : (n : ℕ) (heads : List Head) (sources : List Source) (nexts : List Head) (afters : List Source) (heads_new : List Head) (sources_new : List Source) → AreMoved seen key n heads sources nexts afters → IsMovedAt seen key n nexts afters heads_new sources_new → AreMoved seen key (suc n) heads sources heads_new sources_new
+  moved_more n heads sources nexts afters heads_new sources_new so_far at =
+      subst (λ (hs : List Head). AreMoved seen key (suc n) heads sources hs sources_new) (sym at.heads_are)
+      (subst (λ (ss : List Source). AreMoved seen key (suc n) heads sources (set nexts n at.next) ss) (sym at.sources_are)
+      (more n heads sources nexts afters at.head at.source at.next at.after so_far at.had at.was at.moved))
+
+  -- ---- as many
+
+  pub as_many_heads : (n : ℕ) (heads : List Head) (sources : List Source) (nexts : List Head) (afters : List Source) → AreMoved seen key n heads sources nexts afters → length nexts ≡ length heads
+  as_many_heads zero heads sources nexts afters moved = ap length moved.0
+  as_many_heads (suc n) (h ∷ heads) (s ∷ sources) (i ∷ nexts) (t ∷ afters) moved = ap (λ k. suc k) (as_many_heads n heads sources nexts afters moved.1)
+  as_many_heads (suc n) heads sources nexts afters moved = absurd moved
+
+  pub as_many_sources : (n : ℕ) (heads : List Head) (sources : List Source) (nexts : List Head) (afters : List Source) → AreMoved seen key n heads sources nexts afters → length afters ≡ length sources
+  as_many_sources zero heads sources nexts afters moved = ap length moved.1
+  as_many_sources (suc n) (h ∷ heads) (s ∷ sources) (i ∷ nexts) (t ∷ afters) moved = ap (λ k. suc k) (as_many_sources n heads sources nexts afters moved.1)
+  as_many_sources (suc n) heads sources nexts afters moved = absurd moved
+
+  -- ---- what stays of the sources
+
+  -- what each step keeps of a source, stays of all
+  sources_keep : (P : Source → Type 0) → ((source : Source) (head : Head) (after : Source) → StepsTo seen source head after → P source → P after) → (n : ℕ) (heads : List Head) (sources : List Source) (nexts : List Head) (afters : List Source) → AreMoved seen key n heads sources nexts afters → AllByRecursion P sources → AllByRecursion P afters
+  sources_keep P keeps zero heads sources nexts afters moved all = subst (AllByRecursion P) (sym moved.1) all
+  sources_keep P keeps (suc n) (h ∷ heads) (s ∷ sources) (i ∷ nexts) (t ∷ afters) moved all = (one moved.0, sources_keep P keeps n heads sources nexts afters moved.1 all.1)
+    where
+      one : IsMoved seen key h s i t → P t
+      one (goes has steps) = keeps s i t steps all.0
+      one (stays has next_is after_is) = subst P (sym after_is) all.0
+  sources_keep P keeps (suc n) heads sources nexts afters moved all = absurd moved
+
+  pub moved_can : (n : ℕ) (heads : List Head) (sources : List Source) (nexts : List Head) (afters : List Source) → AreMoved seen key n heads sources nexts afters → AllByRecursion (CanStep seen) sources → AllByRecursion (CanStep seen) afters
+  moved_can = sources_keep (CanStep seen) (λ source head after steps can. steps_can seen source head after steps)
+
+  pub moved_listed : (files : List ListedFile) (types : List ColumnType) (n : ℕ) (heads : List Head) (sources : List Source) (nexts : List Head) (afters : List Source) → AreMoved seen key n heads sources nexts afters → AllByRecursion (IsListed seen files types) sources → AllByRecursion (IsListed seen files types) afters
+  moved_listed files types = sources_keep (IsListed seen files types) (λ source head after steps listed. steps_listed seen files types source head after steps listed)
+
+  moved_keyed : (kind : ColumnType) (n : ℕ) (heads : List Head) (sources : List Source) (nexts : List Head) (afters : List Source) → AreMoved seen key n heads sources nexts afters → AllByRecursion (IsKeyed kind) sources → AllByRecursion (IsKeyed kind) afters
+  moved_keyed kind = sources_keep (IsKeyed kind) (λ source head after steps keyed. (steps_keyed seen kind source head after steps keyed).source_keyed)
+
+  heads_keyed : (kind : ColumnType) (n : ℕ) (heads : List Head) (sources : List Source) (nexts : List Head) (afters : List Source) → AreMoved seen key n heads sources nexts afters → AllByRecursion (IsKeyed kind) sources → AllByRecursion (IsHeadKeyed kind) heads → AllByRecursion (IsHeadKeyed kind) nexts
+  heads_keyed kind zero heads sources nexts afters moved all had = subst (AllByRecursion (IsHeadKeyed kind)) (sym moved.0) had
+  heads_keyed kind (suc n) (h ∷ heads) (s ∷ sources) (i ∷ nexts) (t ∷ afters) moved all had = (one moved.0, heads_keyed kind n heads sources nexts afters moved.1 all.1 had.1)
+    where
+      one : IsMoved seen key h s i t → IsHeadKeyed kind i
+      one (goes has steps) = (steps_keyed seen kind s i t steps all.0).head_keyed
+      one (stays has next_is after_is) = subst (IsHeadKeyed kind) (sym next_is) had.0
+  heads_keyed kind (suc n) heads sources nexts afters moved all had = absurd moved
+
+  pub moved_ready : (kind : ColumnType) (n : ℕ) (heads : List Head) (sources : List Source) (nexts : List Head) (afters : List Source) → AreMoved seen key n heads sources nexts afters → AreReady seen kind heads sources → AreReady seen kind nexts afters
+  moved_ready kind n heads sources nexts afters moved ready = record {
+    can = moved_can n heads sources nexts afters moved ready.can;
+    keyed = moved_keyed kind n heads sources nexts afters moved ready.keyed;
+    heads_keyed = heads_keyed kind n heads sources nexts afters moved ready.keyed ready.heads_keyed;
+    counted = as_many_heads n heads sources nexts afters moved ∙ ready.counted ∙ sym (as_many_sources n heads sources nexts afters moved);
+  }
+
+  -- ---- what is left
+
+  one_left : (p : Partitioner) (head : Head) (source : Source) (next : Head) (after : Source) (left : Entries) → IsMoved seen key head source next after → IsLeft seen p head source left → IsLeft seen p next after (moved key left)
+  one_left p head source next after left (goes has steps) is =
+      let has_it : has_key key (head_of left) ≡ true = sym (ap (has_key key) is.head_is) ∙ has in
+      let gives = steps_left seen p source (behind left) next after is.behind_it steps in
+      subst (IsLeft seen p next after) (sym (ap (λ b. cond b (behind left) left) has_it)) (record { head_is = gives.head_is; behind_it = gives.behind_it })
+  one_left p head source next after left (stays has next_is after_is) is =
+      let has_not : has_key key (head_of left) ≡ false = sym (ap (has_key key) is.head_is) ∙ has in
+      subst (IsLeft seen p next after) (sym (ap (λ b. cond b (behind left) left) has_not)) (record {
+        head_is = next_is ∙ is.head_is;
+        behind_it = subst (λ (s : Source). HasLeft seen p s (behind left)) (sym after_is) is.behind_it;
+      })
+
+  -- the first so many have moved
+  abbrev pub some_left : ℕ → List Entries → List Entries
+  some_left zero lefts = lefts
+  some_left (suc n) [] = []
+  some_left (suc n) (left ∷ lefts) = moved key left ∷ some_left n lefts
+
+  pub moved_left : (p : Partitioner) (n : ℕ) (heads : List Head) (sources : List Source) (nexts : List Head) (afters : List Source) (lefts : List Entries) → AreMoved seen key n heads sources nexts afters → AreLeft seen p heads sources lefts → AreLeft seen p nexts afters (some_left n lefts)
+  moved_left p zero heads sources nexts afters lefts moved are =
+      subst (λ (hs : List Head). AreLeft seen p hs afters lefts) (sym moved.0) (subst (λ (ss : List Source). AreLeft seen p heads ss lefts) (sym moved.1) are)
+  moved_left p (suc n) (h ∷ heads) (s ∷ sources) (i ∷ nexts) (t ∷ afters) (left ∷ lefts) moved are = (one_left p h s i t left moved.0 are.0, moved_left p n heads sources nexts afters lefts moved.1 are.1)
+  moved_left p (suc n) (h ∷ heads) (s ∷ sources) (i ∷ nexts) (t ∷ afters) [] moved are = absurd are
+  moved_left p (suc n) heads sources nexts afters lefts moved are = absurd moved
+
+  all_some : (p : Partitioner) (heads : List Head) (sources : List Source) (lefts : List Entries) → AreLeft seen p heads sources lefts → some_left (length sources) lefts ≡ map (moved key) lefts
+  all_some p [] sources lefts are = ap (λ (ls : List Entries). some_left (length sources) ls) are.1 ∙ none (length sources) ∙ sym (ap (map (moved key)) are.1)
+    where
+      none : (n : ℕ) → some_left n [] ≡ []
+      none zero = refl
+      none (suc n) = refl
+  all_some p (h ∷ heads) (s ∷ sources) (left ∷ lefts) are = ap (λ (ls : List Entries). moved key left ∷ ls) (all_some p heads sources lefts are.1)
+  all_some p (h ∷ heads) [] lefts are = absurd are
+  all_some p (h ∷ heads) (s ∷ sources) [] are = absurd are
+
+  pub all_moved : (p : Partitioner) (heads : List Head) (sources : List Source) (nexts : List Head) (afters : List Source) (lefts : List Entries) → AreMoved seen key (length sources) heads sources nexts afters → AreLeft seen p heads sources lefts → AreLeft seen p nexts afters (map (moved key) lefts)
+  all_moved p heads sources nexts afters lefts moved are = subst (AreLeft seen p nexts afters) (all_some p heads sources lefts are) (moved_left p (length sources) heads sources nexts afters lefts moved are)
+
+-- ---- heads
+
+pub heads_are : (seen : Option Folder) (p : Partitioner) (heads : List Head) (sources : List Source) (lefts : List Entries) → AreLeft seen p heads sources lefts → heads ≡ map head_of lefts
+heads_are seen p [] sources lefts are = sym (ap (map head_of) are.1)
+heads_are seen p (h ∷ heads) (s ∷ sources) (left ∷ lefts) are = let one = are.0.head_is in let rest = heads_are seen p heads sources lefts are.1 in λ i. one i ∷ rest i
+heads_are seen p (h ∷ heads) [] lefts are = absurd are
+heads_are seen p (h ∷ heads) (s ∷ sources) [] are = absurd are
+
+-- a source at a position has something left
+pub left_at : (seen : Option Folder) (p : Partitioner) (heads : List Head) (sources : List Source) (lefts : List Entries) (at : ℕ) (source : Source) (f : ReadFault) → AreLeft seen p heads sources lefts → slice_get sources at ≡ Some source → NoFalseSourceDamage seen source f → OnDamage (λ _. ⊥) f
+left_at seen p [] sources lefts at source f are was spared = absurd (let no : None ≡ Some source = sym (ap (λ (ss : List Source). slice_get ss at) are.0) ∙ was in cc)
+left_at seen p (h ∷ heads) (s ∷ sources) (left ∷ lefts) zero source f are was spared =
+    let same : source ≡ s = cc in
+    source_spares seen p s (behind left) f are.0.behind_it (subst (λ (x : Source). NoFalseSourceDamage seen x f) same spared)
+left_at seen p (h ∷ heads) (s ∷ sources) (left ∷ lefts) (suc at) source f are was spared = left_at seen p heads sources lefts at source f are.1 was spared
+left_at seen p (h ∷ heads) [] lefts at source f are was spared = absurd are
+left_at seen p (h ∷ heads) (s ∷ sources) [] at source f are was spared = absurd are
+
+-- ---- the next partition of the merge
+
+-- the key that is given is one of the type
+pub least_keyed : (kind : ColumnType) (heads : List Head) (token : ℕ) (key : List ℕ) (part : Partition) → AllByRecursion (IsHeadKeyed kind) heads → GivesLeast heads token (Some (key, part)) → IsStored kind key
+least_keyed kind heads token key part keyed least = given_has (IsStored kind) (with_token token key) None heads part keyed least.0 refl
+
+-- nothing is left where each source is at its end
+pub none_given : (seen : Option Folder) (p : Partitioner) (heads : List Head) (sources : List Source) (lefts : List Entries) (token : ℕ) → AreLeft seen p heads sources lefts → GivesLeast heads token None → merged_entries lefts ≡ []
+none_given seen p heads sources lefts token are least = no_entry lefts (subst (AllByRecursion (λ h. h ≡ None)) (heads_are seen p heads sources lefts are) least)
+
+-- the row of the least key was printed, and the sources went on
+pub next_given : (seen : Option Folder) (p : Partitioner) (picked : Picked) (heads : List Head) (sources : List Source) (nexts : List Head) (afters : List Source) (lefts : List Entries) (token : ℕ) (key : List ℕ) (part : Partition) (reply_old reply_new : List ℕ) (rows : ℕ) → AreLeft seen p heads sources lefts → AllByRecursion IsRising lefts → GivesLeast heads token (Some (key, part)) → AreMoved seen (with_token token key) (length sources) heads sources nexts afters → ArePrinted picked ((with_token token key, part) ∷ []) reply_old reply_new rows
+    → IsNextPrinted seen p picked lefts nexts afters reply_old reply_new rows
+next_given seen p picked heads sources nexts afters lefts token key part reply_old reply_new rows are rising least moved_all printed =
+    let on = subst (λ (hs : List Head). GivesLeast hs token (Some (key, part))) (heads_are seen p heads sources lefts are) least in
+    record {
+      entry = (with_token token key, part);
+      rest = map (moved (with_token token key)) lefts;
+      gives = next_entry (with_token token key) part lefts rising on.1 on.0;
+      left = all_moved seen (with_token token key) p heads sources nexts afters lefts moved_all are;
+      rising = all_rising (with_token token key) lefts rising;
+      printed = printed;
+    }

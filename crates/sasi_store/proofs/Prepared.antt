@@ -1,0 +1,192 @@
+-- What a prepared piece may be made of, whatever state the store has.
+use Rattle.std.proofs.Common.{◌≡◌, ◌+◌, ◌-◌, ◌^◌, ◌<◌, ◌≤◌, ℕ, zero, suc, List, [], ◌∷◌, length, map, slice_get, Option, None, Some, refl, sym, ap, subst, ◌∙◌, arith}
+use Rattle.std.specs.Prelude.{max}
+use Rattle.std.proofs.Common.{nat_cmp}
+use Rattle.sasi_types.specs.DecoratedKey.{decorated_cmp}
+use Rattle.sasi_types.specs.declared.cell.Cell.{Cell}
+use Rattle.sasi_types.specs.declared.decorated_key.DecoratedKey.{DecoratedKey}
+use Rattle.std.proofs.lemmas.List.{length-map}
+use Rattle.std.specs.FinMap as map_
+use Rattle.std.specs.FinMap.{FinMap}
+use Rattle.std.specs.Map.{lookup}
+use Rattle.std.specs.Option.{option_map_or}
+use Rattle.sasi_cells.specs.Mutations.{state_with_mutation}
+use Rattle.sasi_cells.specs.declared.mutation.Mutation.{Mutation}
+use Rattle.sasi_folder.proofs.Creating.{can_create}
+use Rattle.sasi_host.specs.View.{View}
+use Rattle.sasi_layout.specs.Serving.{IsReady}
+use Rattle.sasi_machine.specs.Prepares.{CreatesTable, HasRows, HasTable, IsApplicable, IsNewTable, IsQuery, IsSelect, IsStateOf, IsTimeless, Prepares, asked_by}
+use Rattle.sasi_machine.specs.declared.prepared.Prepared.{Prepared}
+use Rattle.sasi_machine.specs.declared.prepared.Prepared.TheVariants.{Create, Write as Writes}
+use Rattle.sasi_machine.specs.declared.prepared.Selection.{Selection}
+use Rattle.sasi_manifest.specs.Edits.{Applies}
+use Rattle.sasi_manifest.specs.declared.edit.Edit.TheVariants as edits
+use Rattle.sasi_manifest.specs.declared.listing.Listing.{Listing}
+use Rattle.sasi_manifest.specs.ListedDefinition.{ListedDefinition}
+use Rattle.sasi_model.specs.Abbreviations.{definitions, max_timestamp_of_tables}
+use Rattle.sasi_model.specs.Asked as ask
+use Rattle.sasi_model.specs.Asked.{asks, parsed_asks, statement_asks}
+use Rattle.sasi_model.specs.Cells.{Partition, largest, max_timestamp_of}
+use Rattle.sasi_model.specs.Changes.{empty_table}
+use Rattle.sasi_model.specs.Pieces.{Piece}
+use Rattle.sasi_model.specs.Refusals.{Bad, Nothing, ParsedPiece, Refusal, Says, read, rules}
+use Rattle.sasi_model.specs.State as model
+use Rattle.sasi_model.specs.State.{Definition, State, definition_of, max_timestamp}
+use Rattle.sasi_model.specs.Step.{primary_key}
+use Rattle.sasi_model.specs.Stored.{IsBodyOf}
+use Rattle.sasi_model.specs.WellFormed.{IsWellFormed}
+use Rattle.sasi_recover.specs.OpenedFolder.{table_in_hand}
+use Rattle.sasi_schema.proofs.Keys.{types_are}
+use Rattle.sasi_schema.specs.Defined.{definition}
+use Rattle.sasi_schema.specs.declared.table.Table.{Table}
+use Rattle.sasi_types.specs.declared.column.ColumnType.{ColumnType}
+use Rattle.sasi_types.specs.declared.partitioner.Partitioner.{Partitioner}
+use Rattle.sasi_types.specs.declared.statement.Statement.{Statement}
+use Rattle.sasi_types.specs.declared.statement.Statement.TheVariants.{CreateTable}
+use Rattle.sasi_store.specs.Puts.{HasTableFor}
+use Rattle.sasi_store.specs.Selects.{IsSelectable}
+use Rattle.sasi_store.specs.StoreView.{hand_of}
+use Rattle.sasi_store.specs.Writable.{IsCreatable, IsWritable}
+use Rattle.sasi_store.specs.declared.parts.Parts.{Parts}
+use Rattle.sasi_store.proofs.Putting.{empty_definitions}
+use Rattle.sasi_store.proofs.TablesInHand.{as_many, map_there}
+use Rattle.sasi_store.proofs.Timestamps.{put_timestamp}
+
+module _ (v : View) (p : Parts) (ready : IsReady v (hand_of p)) where
+  abbrev listing : Listing
+  listing = p.manifest.listing
+
+  -- the state of empty tables
+  abbrev pub blank : State
+  blank = record { partitioner = listing.partitioner; tables = map empty_table p.schema }
+
+  pub blank_definitions : definitions blank.tables ≡ p.schema
+  blank_definitions = empty_definitions p.schema
+
+  counted : length p.schema ≡ length listing.tables
+  counted = ap length ready.definitions ∙ length-map listing.tables (λ (t : ListedDefinition). t.definition)
+
+  create_applies : (t : Table) (statement : Statement) → IsWellFormed statement → CreatesTable blank statement t → Applies (Some listing) (edits.CreateTable t.number t.name t.columns t.key listing.last)
+  create_applies t (CreateTable table columns keys) well creates =
+      let all = can_create listing blank table columns keys ready.consistent (blank_definitions ∙ ready.definitions) well creates.0 in
+      let size : length (map empty_table p.schema) ≡ length p.schema = length-map p.schema empty_table in
+      let number : suc (length listing.tables) ≡ t.number = omega (arith, creates.2, counted, size) in
+      let is = sym creates.1 in
+      subst (λ (n : ℕ). Applies (Some listing) (edits.CreateTable n t.name t.columns t.key listing.last)) number
+      (subst (λ (d : Definition). Applies (Some listing) (edits.CreateTable (suc (length listing.tables)) d.name d.columns d.key listing.last)) is all)
+  create_applies t statement well creates = absurd creates
+
+  pub creatable : (t : Table) (piece : Piece) (reply : List ℕ) → Prepares blank piece reply (Create t) → IsCreatable (hand_of p) t
+  creatable t piece reply prepared =
+      let size : length (map empty_table p.schema) ≡ length p.schema = length-map p.schema empty_table in
+      let number = prepared.2.number in
+      record {
+        number = omega (arith, number, size);
+        free = subst (λ (ds : List Definition). definition_of t.name ds ≡ None) blank_definitions prepared.2.free;
+        applies = create_applies t prepared.1.0 prepared.1.2 prepared.1.3;
+      }
+
+  pub has_table_for : (number : ℕ) → HasTable blank number → HasTableFor number p.tables.items
+  has_table_for number has =
+      let size : length (map empty_table p.schema) ≡ length p.schema = length-map p.schema empty_table in
+      let count = as_many listing.partitioner listing.floor listing.last p.schema (map table_in_hand p.tables.items) ready.tables in
+      let maps : length (map table_in_hand p.tables.items) ≡ length p.tables.items = length-map p.tables.items table_in_hand in
+      record { some = has.some; inside = omega (arith, has.inside, size, count, maps) }
+
+  pub selectable : (rows : Selection) → HasRows blank rows → IsSelectable (hand_of p) rows
+  selectable rows has = record {
+    some = has.some;
+    definition = has.table.definition;
+    there = ap (λ (ds : List Definition). slice_get ds (rows.table - 1)) (sym blank_definitions) ∙ map_there (λ (t : model.Table). t.definition) blank.tables (rows.table - 1) has.table has.there;
+    key = has.key;
+  }
+
+-- ---- a write
+
+none_of : {A : Type 0} (xs : List A) → length xs ≡ 0 → xs ≡ []
+none_of [] e = refl
+none_of (x ∷ xs) e = absurd (omega (arith, e))
+
+no_time : (d : Definition) → largest (map max_timestamp_of (map_.values (empty_table d).partitions)) ≡ 0
+no_time d =
+    let none = none_of (map_.entries (empty_table d).partitions) (sym (map_.len-entries (empty_table d).partitions) ∙ map_.len-empty decorated_cmp Partition) in
+    ap (λ (es : List (DecoratedKey × Partition)). largest (map max_timestamp_of (map (λ e. e.1) es))) none
+
+abbrev no_cells : FinMap nat_cmp Cell
+no_cells = map_.empty
+
+no_cell : (time : ℕ) → max_timestamp_of (record { deleted = time; cells = no_cells }) ≡ max time 0
+no_cell time =
+    let none = none_of (map_.entries no_cells) (sym (map_.len-entries no_cells) ∙ map_.len-empty nat_cmp Cell) in
+    ap (λ (es : List (ℕ × Cell)). max time (largest (map (λ (cell : Cell). cell.time) (map (λ e. e.1) es)))) none
+
+-- empty tables have no timestamps
+blank_times : (ds : List Definition) → max_timestamp_of_tables (map empty_table ds) ≡ 0
+blank_times [] = refl
+blank_times (d ∷ ds) = omega (arith, no_time d, blank_times ds)
+
+-- a deletion with this timestamp
+abbrev deletion : ℕ → Mutation
+deletion time = record { table = suc zero; key = []; change = record { deleted = time; cells = map_.empty } }
+
+blank_time : (q : Partitioner) (ds : List Definition) → max_timestamp (record { partitioner = q; tables = map empty_table ds }) ≡ 0
+unfolding max_timestamp
+blank_time q ds = blank_times ds
+
+-- where there is a table, there is a state with this largest timestamp
+timed : (q : Partitioner) (d : Definition) (ds : List Definition) (time : ℕ) → IsStateOf (d ∷ ds) time (state_with_mutation (record { partitioner = q; tables = map empty_table (d ∷ ds) }) (deletion time))
+timed q d ds time =
+    let s : State = record { partitioner = q; tables = map empty_table (d ∷ ds) } in
+    let here : slice_get s.tables (suc zero - 1) ≡ Some (empty_table d) = refl in
+    let put = put_timestamp s (deletion time) (empty_table d) (omega arith) here in
+    record {
+      definitions_are = ap (λ (l : List Definition). d ∷ l) (empty_definitions ds);
+      newest_is = omega (arith, put, no_cell time, blank_time q (d ∷ ds));
+    }
+
+-- and where there is none, nothing is written
+none_asked : (time : ℕ) (statement : Statement) (n : ℕ) (key : List ℕ) (change : Partition) → statement_asks [] time statement ≡ ask.Writes n key change → ⊥
+none_asked time (CreateTable table columns keys) n key change is = by (primary_key columns keys) is
+  where
+    by : (o : Option ℕ) → option_map_or (λ k. ask.Creates (record { name = table; columns = columns; key = k })) o ask.NoChange ≡ ask.Writes n key change → ⊥
+    by None is = cc
+    by (Some k) is = cc
+none_asked time statement n key change is = cc
+
+none_written : (time : ℕ) (parsed : ParsedPiece) (n : ℕ) (key : List ℕ) (change : Partition) → parsed_asks [] time parsed ≡ ask.Writes n key change → ⊥
+none_written time Nothing n key change is = cc
+none_written time (Bad r) n key change is = cc
+none_written time (Says statement) n key change is = by (lookup (λ applies. applies) (rules [] time statement)) is
+  where
+    by : (o : Option Refusal) → option_map_or (λ r. ask.NoChange) o (statement_asks [] time statement) ≡ ask.Writes n key change → ⊥
+    by None is = none_asked time statement n key change is
+    by (Some r) is = cc
+
+module _ (v : View) (p : Parts) (ready : IsReady v (hand_of p)) where
+  writable_in : (s : State) → definitions s.tables ≡ p.schema → (w : Mutation) → w.table < 2 ^ 32 → IsApplicable s w → IsWritable (hand_of p) w
+  writable_in s are w small fits = record {
+    some = fits.some;
+    small = small;
+    definition = fits.table.definition;
+    there = ap (λ (ds : List Definition). slice_get ds (w.table - 1)) (sym are) ∙ map_there (λ (t : model.Table). t.definition) s.tables (w.table - 1) fits.table fits.there;
+    body = subst (λ (ts : List ColumnType). IsBodyOf ts w.key w.change) (sym (types_are fits.table.definition fits.types fits.types_are)) fits.body;
+  }
+
+  -- **A mutation that is prepared can be written.**
+  pub writable : (w : Mutation) (piece : Piece) (reply : List ℕ) → w.table < 2 ^ 32 → asks p.schema p.max_timestamp piece ≡ ask.Writes w.table w.key w.change → ((s : State) → IsStateOf p.schema p.max_timestamp s → Prepares s piece reply (Writes w)) → IsWritable (hand_of p) w
+  writable w piece reply small asked prepared = by p.schema refl
+    where
+      by : (ds : List Definition) → p.schema ≡ ds → IsWritable (hand_of p) w
+      by [] none = absurd (none_written p.max_timestamp (read piece) w.table w.key w.change (ap (λ (ds : List Definition). asks ds p.max_timestamp piece) (sym none) ∙ asked))
+      by (d ∷ ds) some =
+          let s : State = state_with_mutation (record { partitioner = p.manifest.listing.partitioner; tables = map empty_table (d ∷ ds) }) (deletion p.max_timestamp) in
+          let of : IsStateOf p.schema p.max_timestamp s = subst (λ (l : List Definition). IsStateOf l p.max_timestamp s) (sym some) (timed p.manifest.listing.partitioner d ds p.max_timestamp) in
+          writable_in s of.definitions_are w small (prepared s of).2
+
+-- ---- what a piece prepared
+
+pub record HasPrepared (p : Parts) (piece : Piece) (reply : List ℕ) (prepared : Prepared) : Type 0 where
+  pub asked : asks p.schema p.max_timestamp piece ≡ asked_by prepared
+  pub prepares : (s : State) → IsStateOf p.schema p.max_timestamp s → Prepares s piece reply prepared
+  pub timeless : IsTimeless prepared → (s : State) → definitions s.tables ≡ p.schema → Prepares s piece reply prepared
+  pub selects : IsSelect prepared → IsQuery (read piece)

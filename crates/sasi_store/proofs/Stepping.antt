@@ -1,0 +1,273 @@
+-- What the parts of a step make of its promises.
+use Rattle.std.proofs.Common.{◌≡◌, ◌⊎◌, ◌++◌, ◌∷◌, ℕ, List, [], Option, None, Some, IsSome, Result, Ok, Err, refl, sym, ap, subst, ◌∙◌, inl, inr, append_assoc}
+use Rattle.std.specs.Prelude.{IfErr, OnOk, IfOk}
+use Rattle.sasi_folder.specs.Damages.{FolderShows}
+use Rattle.sasi_host.specs.ChangeLaws.{at_each_moment, stays}
+use Rattle.sasi_host.specs.Contents.{contents_same, reaches_where, told_after, told_before}
+use Rattle.sasi_host.specs.declared.damage.Damage.{Damage}
+use Rattle.sasi_host.specs.Disk.{Changes, Same}
+use Rattle.sasi_host.specs.declared.name.FileName.{FileName}
+use Rattle.sasi_host.specs.Names.{Bytes, Folder, log_name, manifest_name}
+use Rattle.sasi_host.specs.View.{IsSound, View}
+use Rattle.sasi_gated.specs.Handles.{IsAtEnd}
+use Rattle.sasi_layout.proofs.StatementLaws.{definitions_are}
+use Rattle.sasi_layout.proofs.Trails.{moves_none, none_done}
+use Rattle.sasi_layout.specs.Between.{Between}
+use Rattle.sasi_layout.specs.Layout.{Layout, bare, state_of}
+use Rattle.sasi_layout.specs.Moves.{Move, after_moves}
+use Rattle.sasi_layout.specs.Serving.{IsReady, Serves, StoreInHand}
+use Rattle.sasi_layout.specs.Shape.{HasShape}
+use Rattle.sasi_layout.specs.Spent.{spent}
+use Rattle.sasi_layout.specs.Statements.{definitions_of, moves_asked}
+use Rattle.sasi_layout.specs.Worlds.{ServesWorld, World, steps}
+use Rattle.sasi_layout.specs.declared.number_kind.NumberKind.{NumberKind}
+use Rattle.sasi_machine.specs.Outcome.{outcome_of}
+use Rattle.sasi_machine.specs.Prepares.{IsQuery, IsStateOf, SaysOne, StepsTo}
+use Rattle.sasi_machine.specs.declared.outcome.Outcome.{Outcome}
+use Rattle.sasi_machine.specs.declared.outcome.Outcome.TheVariants.{Done, Refused}
+use Rattle.sasi_types.specs.declared.statement.Statement.{Statement}
+use Rattle.sasi_manifest.specs.declared.listing.Listing.{Listing}
+use Rattle.sasi_manifest.specs.OpenManifest.{ManifestStands}
+use Rattle.sasi_model.specs.Asked as ask
+use Rattle.sasi_model.specs.Asked.{Asked, asks}
+use Rattle.sasi_model.specs.Pieces.{Piece}
+use Rattle.sasi_model.specs.Refusals.{Nothing, ParsedPiece, Refusal, Says, read}
+use Rattle.sasi_model.specs.State.{Definition, State, max_timestamp}
+use Rattle.sasi_model.specs.Step.{step}
+use Rattle.sasi_store.specs.Answers.{Answered, NeedsNoFile}
+use Rattle.sasi_store.specs.Faults.{OnSpent, OnStepDamage, StepCauses}
+use Rattle.sasi_store.specs.MakesMoves.{MakesMoves}
+use Rattle.sasi_store.specs.Steps.{Steps}
+use Rattle.sasi_store.specs.declared.fault.StepFault.{StepFault}
+use Rattle.sasi_store.specs.declared.fault.StepFault.TheVariants as fault
+use Rattle.sasi_store.proofs.MoveCauses.{any_change, none_made}
+
+-- ---- a world and its state
+
+pub state_is : (v : View) (store : StoreInHand) (l : Layout) → Serves v store l → IsStateOf store.definitions store.max_timestamp (state_of l)
+state_is v store l serves = record { definitions_are = sym (serves.definitions ∙ definitions_are l); newest_is = sym serves.timestamp }
+
+module _ (v : View) (store : StoreInHand) (piece : Piece) (asked : Asked) (is : asks store.definitions store.max_timestamp piece ≡ asked) where
+  pub moves_are : (w : World) → ServesWorld v store w → steps.moves w piece ≡ moves_asked w.layout asked
+  moves_are w serves =
+      ap (λ (ds : List Definition). moves_asked w.layout (asks ds (max_timestamp (state_of w.layout)) piece)) (sym serves.definitions)
+      ∙ ap (λ (time : ℕ). moves_asked w.layout (asks store.definitions time piece)) (sym serves.timestamp)
+      ∙ ap (moves_asked w.layout) is
+
+-- ---- moves
+
+by_spent : (P Q : NumberKind → Type 0) → ((kind : NumberKind) → P kind → Q kind) → (e : StepFault) → OnSpent P e → OnSpent Q e
+by_spent P Q f fault.Failed is = tt
+by_spent P Q f fault.OutOfMemory is = tt
+by_spent P Q f (fault.Damaged damage) is = tt
+by_spent P Q f (fault.NumbersSpent kind) is = f kind is
+
+by_damage : (P Q : Damage → Type 0) → ((damage : Damage) → P damage → Q damage) → (e : StepFault) → OnStepDamage P e → OnStepDamage Q e
+by_damage P Q f fault.Failed is = tt
+by_damage P Q f fault.OutOfMemory is = tt
+by_damage P Q f (fault.Damaged damage) is = f damage is
+by_damage P Q f (fault.NumbersSpent kind) is = tt
+
+module _ {T : Type 0} (a b : View) (old new : StoreInHand) (piece : Piece) (reply : List ℕ) (asked : Asked) (is : asks old.definitions old.max_timestamp piece ≡ asked) (changing : asked ≡ ask.NoChange → ⊥) where
+  -- its moves were made
+  pub step_made : (x : T) → MakesMoves {T = T} (λ l. moves_asked l asked) a b old new (Ok x)
+      → ((s : State) → IsStateOf old.definitions old.max_timestamp s → (step s piece).reply ≡ reply) → ((s : State) → IsStateOf old.definitions old.max_timestamp s → Done ≡ outcome_of (step s piece).refused)
+      → Steps piece a b old new reply (Ok Done)
+  step_made x makes replied outcome = record {
+    answers = λ w serves. record {
+      serves = subst (λ (ms : List Move). Serves b new (after_moves ms w.layout)) (sym (moves_are a old piece asked is w serves)) (makes.serves w.layout serves);
+      reply_is = sym (replied (state_of w.layout) (state_is a old w.layout serves));
+      outcome_is = outcome (state_of w.layout) (state_is a old w.layout serves);
+      unspent = ap (spent w.layout) (moves_are a old piece asked is w serves) ∙ makes.unspent w.layout serves;
+    };
+    ready = makes.ready;
+    any_moment = λ w serves. subst (λ (ms : List Move). Changes (λ x y. Between w.layout ms y) a b) (sym (moves_are a old piece asked is w serves)) (makes.any_moment w.layout serves);
+    spent_is = tt;
+    damaged = λ folder files. tt;
+    undamaged = λ w serves. tt;
+    reads_only = λ none. absurd (changing (sym is ∙ none));
+    unread = λ other. makes.reads;
+    changes = makes.changes;
+    causes = record { disk = makes.causes.disk; out = makes.causes.out; ok = makes.causes.ok; failed = tt; others = tt };
+  }
+
+  -- they weren't, or not all of them
+  pub step_failed : (e : StepFault) → MakesMoves {T = T} (λ l. moves_asked l asked) a b old new (Err e) → Steps piece a b old new reply (Err e)
+  step_failed e makes = record {
+    answers = tt;
+    ready = tt;
+    any_moment = λ w serves. subst (λ (ms : List Move). Changes (λ x y. Between w.layout ms y) a b) (sym (moves_are a old piece asked is w serves)) (makes.any_moment w.layout serves);
+    spent_is = by_spent _ _ (λ kind on w serves. ap (spent w.layout) (moves_are a old piece asked is w serves) ∙ on w.layout serves) e makes.spent_is;
+    damaged = λ folder files. by_damage (λ _. ⊥) (FolderShows folder) (λ damage none. absurd none) e makes.undamaged;
+    undamaged = λ w serves. makes.undamaged;
+    reads_only = λ none. absurd (changing (sym is ∙ none));
+    unread = λ other. makes.reads;
+    changes = makes.changes;
+    causes = record { disk = makes.causes.disk; out = makes.causes.out; ok = tt; failed = makes.causes.failed; others = makes.causes.others };
+  }
+
+-- ---- no move
+
+no_kind : (kind : NumberKind) → None ≡ Some kind → ⊥
+no_kind kind e = cc
+
+abbrev none_left : Result Outcome StepFault
+none_left = Err fault.OutOfMemory
+
+-- memory was out before anything was done
+pub step_full : (v : View) (sound : IsSound v) (old : StoreInHand) (piece : Piece) (reply : List ℕ) → Steps piece v v old old reply (Err fault.OutOfMemory)
+step_full v sound old piece reply = record {
+  answers = tt;
+  ready = tt;
+  any_moment = λ w serves. moves_none w.layout v (steps.moves w piece) sound (λ x now. (_, serves.shape x now));
+  spent_is = tt;
+  damaged = λ folder files. tt;
+  undamaged = λ w serves. tt;
+  reads_only = λ none. stays v;
+  unread = λ other. refl;
+  changes = any_change Same v v (stays v);
+  causes = none_made v (Err fault.OutOfMemory) (λ e is same. memory_only e is same);
+}
+  where
+    memory_only : (e : StepFault) → none_left ≡ Err e → e ≡ fault.Failed → ⊥
+    memory_only e is same = (let one : fault.OutOfMemory ≡ e = cc in both (one ∙ same))
+      where
+        both : fault.OutOfMemory ≡ fault.Failed → ⊥
+        both e = cc
+
+-- it is answered without a change
+pub step_answered : (v : View) (sound : IsSound v) (old : StoreInHand) (piece : Piece) (reply : List ℕ) (outcome : Outcome) → IsReady v old → asks old.definitions old.max_timestamp piece ≡ ask.NoChange
+    → ((s : State) → IsStateOf old.definitions old.max_timestamp s → StepsTo s piece s reply outcome) → Steps piece v v old old reply (Ok outcome)
+step_answered v sound old piece reply outcome ready is steps_to = record {
+  answers = λ w serves.
+      let to = steps_to (state_of w.layout) (state_is v old w.layout serves) in
+      record {
+        serves = subst (λ (ms : List Move). Serves v old (after_moves ms w.layout)) (sym (moves_are v old piece ask.NoChange is w serves)) serves;
+        reply_is = sym to.reply_is;
+        outcome_is = to.outcome_is;
+        unspent = ap (spent w.layout) (moves_are v old piece ask.NoChange is w serves);
+      };
+  ready = ready;
+  any_moment = λ w serves. moves_none w.layout v (steps.moves w piece) sound (λ x now. (_, serves.shape x now));
+  spent_is = tt;
+  damaged = λ folder files. tt;
+  undamaged = λ w serves. tt;
+  reads_only = λ none. stays v;
+  unread = λ other. refl;
+  changes = any_change Same v v (stays v);
+  causes = none_made v (Ok outcome) (λ e same. cc);
+}
+
+-- ---- a SELECT
+
+module _ (a b : View) (change : Changes Same a b) where
+  -- each image was one before
+  image_before : (y : Folder) → b.image y → a.image y
+  image_before y now = let from = change.image y now in subst a.image (sym from.2) from.1
+
+  end_same : (file : FileName) (at : ℕ) (records : List Bytes) → IsAtEnd a file at records → IsAtEnd b file at records
+  end_same file at records end = record { bytes = end.bytes; rest = end.rest; kept = λ y now. end.kept y (image_before y now); at_gate = end.at_gate; closed = end.closed }
+
+  manifest_same : (number at : ℕ) (listing : Listing) → ManifestStands a number at listing → ManifestStands b number at listing
+  manifest_same number at listing stands = record { records = stands.records; at_end = end_same (manifest_name number) at stands.records stands.at_end; builds = stands.builds }
+
+  pub serves_same : (store : StoreInHand) (l : Layout) → Serves a store l → Serves b store l
+  serves_same store l serves = record {
+    told = told_after Same a b change serves.told;
+    well = serves.well;
+    definitions = serves.definitions;
+    tables = serves.tables;
+    used = serves.used;
+    timestamp = serves.timestamp;
+    listing = serves.listing;
+    manifest = serves.manifest;
+    log = serves.log;
+    older = serves.older;
+    current = serves.current;
+    log_end = end_same (log_name l.last) store.log.at _ serves.log_end;
+    manifest_end = manifest_same l.used.manifest store.manifest.at _ serves.manifest_end;
+    shape = λ y now. serves.shape y (image_before y now);
+  }
+
+  pub files_before : (folder : Folder) → b.files ≡ Some folder → a.files ≡ Some folder
+  files_before folder files = by a.files refl
+    where
+      one : (x y : Folder) → Some x ≡ Some y → x ≡ y
+      one x y e = cc
+
+      untold : None ≡ Some folder → ⊥
+      untold e = cc
+
+      by : (o : Option Folder) → a.files ≡ o → a.files ≡ Some folder
+      by None is = absurd (untold (sym (change.untold is) ∙ files))
+      by (Some was) is = (let now = change.seen was is in is ∙ ap Some (sym now.2 ∙ one now.0 folder (sym now.1 ∙ files)))
+
+  pub ready_same : (store : StoreInHand) → IsReady a store → IsReady b store
+  ready_same store ready = record {
+    consistent = ready.consistent;
+    definitions = ready.definitions;
+    tables = ready.tables;
+    numbered = ready.numbered;
+    timestamp = ready.timestamp;
+    log_file = ready.log_file;
+    manifest_room = reaches_where a b Same (manifest_name store.manifest.number) _ change (contents_same a b (manifest_name store.manifest.number) change) ready.manifest_room;
+    log_room = reaches_where a b Same store.log.file _ change (contents_same a b store.log.file change) ready.log_room;
+    manifest_usable = ready.manifest_usable;
+    log_usable = ready.log_usable;
+    stands = λ told. manifest_same store.manifest.number store.manifest.at _ (ready.stands (told_before Same a b change told));
+    kept = λ folder files. ready.kept folder (files_before folder files);
+  }
+
+module _ (a b : View) (sound : IsSound a) (old : StoreInHand) (piece : Piece) (change : Changes Same a b) (is : asks old.definitions old.max_timestamp piece ≡ ask.NoChange) (query : IsQuery (read piece)) where
+  moments : (w : World) → ServesWorld a old w → Changes (λ x y. Between w.layout (steps.moves w piece) y) a b
+  moments w serves = at_each_moment a b Same (λ x. HasShape x (bare w.layout) (serves.older ++ serves.current ∷ [])) (λ y. Between w.layout (steps.moves w piece) y) sound change serves.shape
+      (λ x y has same. none_done w.layout (steps.moves w piece) y (_, subst (λ (z : Folder). HasShape z (bare w.layout) (serves.older ++ serves.current ∷ [])) (sym same) has))
+
+  pub select_answered : {T : Type 0} (x : T) (reply : List ℕ) → IsReady a old → ((w : World) → ServesWorld a old w → (step (state_of w.layout) piece).reply ≡ reply) → ((w : World) → ServesWorld a old w → Done ≡ outcome_of (step (state_of w.layout) piece).refused)
+      → StepCauses {T = T} a b (Ok x) → Steps piece a b old old reply (Ok Done)
+  select_answered x reply ready replied outcome causes = record {
+    answers = λ w serves. record {
+      serves = subst (λ (ms : List Move). Serves b old (after_moves ms w.layout)) (sym (moves_are a old piece ask.NoChange is w serves)) (serves_same a b change old w.layout serves);
+      reply_is = sym (replied w serves);
+      outcome_is = outcome w serves;
+      unspent = ap (spent w.layout) (moves_are a old piece ask.NoChange is w serves);
+    };
+    ready = ready_same a b change old ready;
+    any_moment = moments;
+    spent_is = tt;
+    damaged = λ folder files. tt;
+    undamaged = λ w serves. tt;
+    reads_only = λ none. change;
+    unread = λ other. absurd (other query);
+    changes = any_change Same a b change;
+    causes = record { disk = causes.disk; out = causes.out; ok = causes.ok; failed = tt; others = tt };
+  }
+
+  pub select_failed : {T : Type 0} (e : StepFault) (reply : List ℕ) → ((folder : Folder) → b.files ≡ Some folder → OnStepDamage (FolderShows folder) e) → ((l : Layout) → Serves a old l → OnStepDamage (λ _. ⊥) e) → OnSpent (λ _. ⊥) e
+      → StepCauses {T = T} a b (Err e) → Steps piece a b old old reply (Err e)
+  select_failed e reply damaged undamaged unspent causes = record {
+    answers = tt;
+    ready = tt;
+    any_moment = moments;
+    spent_is = by_spent (λ _. ⊥) _ (λ kind none. absurd none) e unspent;
+    damaged = damaged;
+    undamaged = λ w serves. undamaged w.layout serves;
+    reads_only = λ none. change;
+    unread = λ other. absurd (other query);
+    changes = any_change Same a b change;
+    causes = record { disk = causes.disk; out = causes.out; ok = tt; failed = causes.failed; others = causes.others };
+  }
+
+-- ---- pieces that need no file
+
+refused_not : (o : Option Refusal) → Done ≡ outcome_of o → IsSome o → ⊥
+refused_not None done some = cc
+refused_not (Some r) done some = cc
+
+-- a piece that isn't refused and is a statement needs more
+pub needs_more : (s : State) (piece : Piece) (P : Statement → Type 0) → Done ≡ outcome_of (step s piece).refused → SaysOne piece P → NeedsNoFile s piece → ⊥
+needs_more s piece P done says (inl refused) = refused_not (step s piece).refused done refused
+needs_more s piece P done says (inr nothing) = nothing_said (sym nothing ∙ says.1)
+  where
+    nothing_said : {statement : Statement} → Nothing ≡ Says statement → ⊥
+    nothing_said e = cc

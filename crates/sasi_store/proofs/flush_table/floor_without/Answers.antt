@@ -1,0 +1,12 @@
+use Rattle.sasi_store.proofs.FloorLaws.{lowering_done, lowering_first, lowering_more}
+use Rattle.sasi_store.proofs.flush_table.floor_without.Goals as goal
+
+pub loop-held-init : goal.loop-held-init
+loop-held-init c = lowering_first c.args.table c.args.last c.args.tables.now c.requires
+
+pub loop-held-preserved : goal.loop-held-preserved
+loop-held-preserved c =
+    lowering_more c.loop-held.floor c.args.table c.args.last c.args.tables.now c.loop-held.held-index c.held-item.result c.loop-held.invariant c.loop-held-test.true c.held-item.is c.lower-floor.result c.lower-floor.ensures
+
+pub returns : goal.returns
+returns c = lowering_done c.loop-held.floor c.args.table c.args.last c.args.tables.now c.loop-held.held-index c.loop-held.invariant c.loop-held-test.false

@@ -1,0 +1,5 @@
+use Rattle.sasi_store.proofs.FloorLaws.{IsLowering}
+use Rattle.sasi_store.proofs.flush_table.floor_without.Given as goal
+
+abbrev pub invariant-loop-held : goal.invariant-loop-held
+invariant-loop-held l = IsLowering l.floor l.table l.last l.tables l.held-index

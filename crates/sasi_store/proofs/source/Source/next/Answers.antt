@@ -1,0 +1,12 @@
+use Rattle.sasi_host.specs.ChangeLaws.{stays}
+use Rattle.std.proofs.Common.{arith}
+use Rattle.sasi_store.proofs.source.Source.next.Goals as goal
+
+pub returns-in_err-next-in-Map-clause-changes : goal.returns-in_err-next-in-Map-clause-changes
+returns-in_err-next-in-Map-clause-changes g c = stays _
+
+pub returns-in_ok-next-in-Map-clause-changes : goal.returns-in_ok-next-in-Map-clause-changes
+returns-in_ok-next-in-Map-clause-changes g c = stays _
+
+pub returns-in_ok-next-in-Map-clause-reads : goal.returns-in_ok-next-in-Map-clause-reads
+returns-in_ok-next-in-Map-clause-reads g c p paged = record { paged = tt; reads = omega arith }

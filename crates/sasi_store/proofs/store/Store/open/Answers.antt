@@ -1,0 +1,27 @@
+use Rattle.std.proofs.Common.{List, subst, sym}
+use Rattle.std.proofs.lemmas.Result.{err_from_is_err_and}
+use Rattle.sasi_layout.specs.Serving.{Serves, StoreInHand}
+use Rattle.sasi_manifest.specs.OpenManifest.{ManifestState}
+use Rattle.sasi_recover.specs.declared.opened.TableMap.{TableMap}
+use Rattle.sasi_store.specs.StoreView.{AreTables, hand_of}
+use Rattle.sasi_store.proofs.TablesInHand.{opened_tables}
+use Rattle.sasi_store.proofs.store.Store.open.Goals as goal
+
+pub returns-in_err-opened-clause-undamaged : goal.returns-in_err-opened-clause-undamaged
+returns-in_err-opened-clause-undamaged g c folder l files shape =
+    let p = err_from_is_err_and c.from_residual.result c.from_residual.ensures.1 in
+    rw (p.1, p.2) (c.in_err-opened.ensures.undamaged folder l files shape)
+
+pub returns-in_err-opened-clause-differs : goal.returns-in_err-opened-clause-differs
+returns-in_err-opened-clause-differs g c folder wanted kept files asked keeps apart =
+    let p = err_from_is_err_and c.from_residual.result c.from_residual.ensures.1 in
+    rw (p.1, p.2) (c.in_err-opened.ensures.differs folder wanted kept files asked keeps apart)
+
+pub invariant_of-result : goal.invariant_of-result
+invariant_of-result g c usable =
+    subst (λ (ts : List TableMap). AreTables c.in-Ok.parts.manifest.listing.partitioner ts) (sym c.in-Ok.ensures.tables)
+    (subst (λ (m : ManifestState). AreTables m.listing.partitioner c.in_ok-opened.opened.tables.items) (sym c.in-Ok.ensures.manifest) (opened_tables c.in_ok-opened.opened.manifest.listing c.in_ok-opened.opened.tables.items c.in_ok-opened.ensures.tables))
+
+pub returns-clause-serves : goal.returns-clause-serves
+returns-clause-serves g c folder l files shape =
+    subst (λ (s : StoreInHand). Serves (g.H.Host.view c.open.new.host) s l) (sym c.in-Ok.ensures.hand) (c.in_ok-opened.ensures.serves folder l files shape)

@@ -1,0 +1,21 @@
+use Rattle.std.proofs.Common.{subst, sym}
+use Rattle.std.proofs.lemmas.Result.{err_from_is_err_and}
+use Rattle.sasi_host.specs.Disk.{Changes}
+use Rattle.sasi_layout.specs.Between.{Between}
+use Rattle.sasi_layout.specs.Worlds.{ServesWorld, World, steps}
+use Rattle.sasi_model.specs.Pieces.{piece_of}
+use Rattle.sasi_store.specs.StoreView.{StoreView}
+use Rattle.sasi_store.proofs.store.Store.step.Goals as goal
+
+pub returns-in_err-outcome-clause-any_moment : goal.returns-in_err-outcome-clause-any_moment
+returns-in_err-outcome-clause-any_moment g c =
+    let a = g.H.Host.view c.args.host.now in
+    let b = g.H.Host.view c.step.new.host in
+    let piece = piece_of c.args.end c.args.piece.now in
+    subst (λ (store : StoreView). (w : World) → ServesWorld a store.hand w → Changes (λ x y. Between w.layout (steps.moves w piece) y) a b) c.self.view_is c.step.ensures.steps.any_moment
+
+pub returns-in_err-outcome-clause-undamaged : goal.returns-in_err-outcome-clause-undamaged
+returns-in_err-outcome-clause-undamaged g c w serves =
+    let p = err_from_is_err_and c.from_residual.result c.from_residual.ensures.1 in
+    let a = g.H.Host.view c.args.host.now in
+    rw (p.1, p.2) (c.in_err-outcome.ensures.steps.undamaged w (subst (λ (store : StoreView). ServesWorld a store.hand w) (sym c.self.view_is) serves))

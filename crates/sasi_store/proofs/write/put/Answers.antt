@@ -1,0 +1,58 @@
+use Rattle.std.specs.Prelude.{max, ◌∷◌, []}
+use Rattle.std.proofs.Common.{◌≡◌, Ok, List, ap, refl, sym, subst, ◌∙◌, ℕ}
+use Rattle.std.proofs.lemmas.Result.{err_from_is_err_and}
+use Rattle.sasi_types.specs.Token.{AreBytes}
+use Rattle.sasi_layout.specs.Moves.{Put}
+use Rattle.sasi_layout.specs.Serving.{StoreInHand}
+use Rattle.sasi_store.specs.MakesMoves.{MakesMoves}
+use Rattle.sasi_store.specs.StoreView.{hand_of}
+use Rattle.sasi_store.specs.declared.fault.StepFault.TheVariants.{OutOfMemory}
+use Rattle.sasi_store.specs.Faults.{fault_of_call}
+use Rattle.sasi_store.proofs.MoveCauses.{call_failed, call_made, call_plain, made_then_full}
+use Rattle.sasi_store.proofs.Putting.{has_table, put_hand, put_made, put_of_parts, put_stopped, put_there}
+use Rattle.sasi_store.proofs.write.put.Goals as goal
+
+pub merge-requires : goal.merge-requires
+merge-requires g c = has_table (g.H.Host.view c.args.host.now) c.args.parts.now c.args.mutation.table c.requires.writable.definition c.requires.ready c.requires.writable.some c.requires.writable.there
+
+pub returns-in_err-append-clause-makes : goal.returns-in_err-append-clause-makes
+returns-in_err-append-clause-makes g c =
+    let p = err_from_is_err_and c.from_residual.result c.from_residual.ensures.1 in
+    let a = g.H.Host.view c.args.host.now in
+    let b = g.H.Host.view c.append.new.host in
+    let bytes = subst AreBytes c.bytes.ensures c.note_bytes.ensures in
+    rw (p.1, p.2) (put_stopped a b (g.met.H.Host.sound c.args.host.now) (hand_of c.args.parts.now) c.args.mutation c.requires.ready c.requires.writable bytes _ (fault_of_call c.in_err-append.field-0.0)
+    c.append.ensures.any_moment c.append.ensures.changes c.in_err-append.ensures.causes.reads (call_plain c.in_err-append.field-0.0) (call_failed a b c.in_err-append.field-0.0 c.in_err-append.ensures.causes))
+
+pub returns-in_err-time-clause-makes : goal.returns-in_err-time-clause-makes
+returns-in_err-time-clause-makes g c =
+    let p = err_from_is_err_and c.from_residual-in_err-time.result c.from_residual-in_err-time.ensures.1 in
+    let a = g.H.Host.view c.args.host.now in
+    let b = g.H.Host.view c.append.new.host in
+    let bytes = subst AreBytes c.bytes.ensures c.note_bytes.ensures in
+    rw (p.1, p.2) (put_stopped a b (g.met.H.Host.sound c.args.host.now) (hand_of c.args.parts.now) c.args.mutation c.requires.ready c.requires.writable bytes _ OutOfMemory
+    c.append.ensures.any_moment c.append.ensures.changes c.in_ok-append.ensures.causes.reads tt (made_then_full a b _ c.in_ok-append.ensures.causes))
+
+pub returns-clause-makes : goal.returns-clause-makes
+returns-clause-makes g c =
+    let a = g.H.Host.view c.args.host.now in
+    let b = g.H.Host.view c.append.new.host in
+    let bytes = subst AreBytes c.bytes.ensures c.note_bytes.ensures in
+    let there = has_table a c.args.parts.now c.args.mutation.table c.requires.writable.definition c.requires.ready c.requires.writable.some c.requires.writable.there in
+    let e = c.in_ok-append.ensures in
+    subst (λ (s : StoreInHand). MakesMoves (λ l. Put c.args.mutation ∷ []) a b (hand_of c.args.parts.now) s (Ok tt))
+    (sym (put_hand c.args.parts.now c.args.mutation c.requires.parts there c.merge.new.tables.items c.in_ok-time.ensures.ok c.append.new.self _ (c.max-parts.ensures ∙ ap (λ (n : ℕ). max c.args.parts.now.max_timestamp n) c.in_ok-time.ensures.time)))
+    (put_made a b (g.met.H.Host.sound c.args.host.now) (hand_of c.args.parts.now) c.args.mutation c.requires.ready c.requires.writable bytes tt c.append.new.self
+    e.any_moment e.changes e.ok e.file e.room e.usable e.causes.reads (call_made a b _ tt e.causes))
+
+pub returns-clause-parts : goal.returns-clause-parts
+returns-clause-parts g c =
+    let a = g.H.Host.view c.args.host.now in
+    let there = has_table a c.args.parts.now c.args.mutation.table c.requires.writable.definition c.requires.ready c.requires.writable.some c.requires.writable.there in
+    put_of_parts c.args.parts.now c.args.mutation c.requires.parts there c.merge.new.tables.items c.in_ok-time.ensures.ok
+
+pub returns-clause-there : goal.returns-clause-there
+returns-clause-there g c =
+    let a = g.H.Host.view c.args.host.now in
+    let there = has_table a c.args.parts.now c.args.mutation.table c.requires.writable.definition c.requires.ready c.requires.writable.some c.requires.writable.there in
+    put_there c.args.parts.now c.args.mutation c.requires.parts there c.merge.new.tables.items c.in_ok-time.ensures.ok

@@ -1,0 +1,29 @@
+-- What a step answers, for each world that the store serves.
+use Rattle.std.specs.Prelude.{◌≡◌, ◌⊎◌, ℕ, List, IsSome, None}
+use Rattle.sasi_host.specs.Names.{Folder}
+use Rattle.sasi_host.specs.View.{View}
+use Rattle.sasi_layout.specs.Layout.{state_of}
+use Rattle.sasi_layout.specs.Serving.{StoreInHand}
+use Rattle.sasi_layout.specs.Spent.{spent}
+use Rattle.sasi_layout.specs.Worlds.{ServesWorld, World, steps}
+use Rattle.sasi_machine.specs.Outcome.{outcome_of}
+use Rattle.sasi_machine.specs.declared.outcome.Outcome.{Outcome}
+use Rattle.sasi_model.specs.Pieces.{Piece}
+use Rattle.sasi_model.specs.Refusals.{Nothing, read}
+use Rattle.sasi_model.specs.State.{State}
+use Rattle.sasi_model.specs.Step.{step}
+
+-- any change of the folder
+abbrev pub AnyFolderChange : Folder → Folder → Type 0
+AnyFolderChange old new = Unit {0}
+
+-- The store serves the world after the piece, the reply and the outcome are those of the model's step, and no number that the piece needs is spent.
+pub record Answered (v : View) (store : StoreInHand) (w : World) (piece : Piece) (reply : List ℕ) (outcome : Outcome) : Type 0 where
+  pub serves : ServesWorld v store (steps.after w piece)
+  pub reply_is : reply ≡ steps.reply w piece
+  pub outcome_is : outcome ≡ outcome_of (step (state_of w.layout) piece).refused
+  pub unspent : spent w.layout (steps.moves w piece) ≡ None
+
+-- the piece is refused, or has no reply
+abbrev pub NeedsNoFile : State → Piece → Type 0
+NeedsNoFile s piece = IsSome (step s piece).refused ⊎ (read piece ≡ Nothing)

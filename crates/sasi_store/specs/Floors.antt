@@ -1,0 +1,39 @@
+-- The first live segment after the flush of a table, and what a flush leaves in memory.
+use Rattle.std.specs.Prelude.{◌≡◌, ◌-◌, ◌<◌, ◌≤◌, ℕ, suc, nat_eq, if◌then◌else◌, List, [], ◌∷◌, length, slice_get, Option, None, Some}
+use Rattle.std.specs.FinMap as map_
+use Rattle.sasi_gated.specs.Handles.{Handle}
+use Rattle.sasi_layout.specs.Layout.{Used}
+use Rattle.sasi_layout.specs.Moves.{lesser}
+use Rattle.sasi_layout.specs.Serving.{StoreInHand, TableInHand}
+use Rattle.sasi_manifest.specs.Listings.{at_number}
+use Rattle.sasi_manifest.specs.OpenManifest.{ManifestState}
+
+-- the least segment that has a mutation of another table than this one, and else the last
+abbrev pub floor_in_hand : ℕ → ℕ → ℕ → List TableInHand → ℕ
+floor_in_hand n table last [] = last
+floor_in_hand n table last (t ∷ ts) = if nat_eq n table then floor_in_hand (suc n) table last ts else lesser t.first (floor_in_hand (suc n) table last ts)
+
+-- nothing is held of the table any more
+abbrev pub flushed_in_hand : TableInHand → TableInHand
+flushed_in_hand t = record { first = None; frozen = []; memtable = map_.empty }
+
+-- the store after the flush of a table, whose manifest and log go on from there
+abbrev pub hand_after_flush : ℕ → ManifestState → Handle → StoreInHand → StoreInHand
+hand_after_flush table manifest log store = record store {
+  manifest = manifest;
+  log = log;
+  tables = at_number 1 table flushed_in_hand store.tables;
+  used = record store.used { log = suc store.used.log; file = suc store.used.file };
+}
+
+-- the table is there, with something in its memtable
+pub record HoldsAny (table : ℕ) (store : StoreInHand) : Type 0 where
+  pub some : 0 < table
+  pub there_is : TableInHand
+  pub there : slice_get store.tables (table - 1) ≡ Some there_is
+  pub idle : there_is.frozen ≡ []
+  pub held : 1 ≤ length (map_.entries there_is.memtable)
+
+-- a floor, or the first segment of a table of this number where it is lower; that of the flushed table counts for nothing
+abbrev pub lowered : ℕ → ℕ → ℕ → Option ℕ → ℕ
+lowered table floor number first = if nat_eq number table then floor else lesser first floor

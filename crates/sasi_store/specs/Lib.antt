@@ -1,0 +1,16 @@
+pub mod Faults
+pub mod StoreView
+pub mod Codes
+pub mod Answers
+pub mod MakesMoves
+pub mod Puts
+pub mod Writable
+pub mod Selects
+pub mod Steps
+pub mod Floors
+pub mod Numbers
+pub mod Flushing
+pub mod Sources
+pub mod Left
+pub mod Scanning
+pub mod Paging

@@ -1,0 +1,28 @@
+-- What a part of a step promises that makes moves of the layout.
+use Rattle.std.specs.Prelude.{◌≡◌, ℕ, List, IfErr, OnOk, None, Some, Result}
+use Rattle.sasi_host.specs.Disk.{Changes}
+use Rattle.sasi_host.specs.View.{View}
+use Rattle.sasi_layout.specs.Between.{Between}
+use Rattle.sasi_layout.specs.Layout.{Layout}
+use Rattle.sasi_layout.specs.Moves.{Move, after_moves}
+use Rattle.sasi_layout.specs.Serving.{IsReady, Serves, StoreInHand}
+use Rattle.sasi_layout.specs.Spent.{spent}
+use Rattle.sasi_store.specs.Answers.{AnyFolderChange}
+use Rattle.sasi_store.specs.Faults.{OnSpent, OnStepDamage, StepCauses}
+use Rattle.sasi_store.specs.declared.fault.StepFault.{StepFault}
+
+-- the moves of each layout
+abbrev pub MovesOf : Type 0
+MovesOf = Layout → List Move
+
+-- Whichever layout the store serves, each moment is one between its moves. Afterwards it serves the layout after them. It ends early only where a number is spent that they need, or where a call or memory fails.
+pub record MakesMoves {T : Type 0} (moves : MovesOf) (a b : View) (old new : StoreInHand) (result : Result T StepFault) : Type 0 where
+  pub any_moment : (l : Layout) → Serves a old l → Changes (λ x y. Between l (moves l) y) a b
+  pub serves : OnOk result ((l : Layout) → Serves a old l → Serves b new (after_moves (moves l) l))
+  pub ready : OnOk result (IsReady b new)
+  pub unspent : OnOk result ((l : Layout) → Serves a old l → spent l (moves l) ≡ None)
+  pub spent_is : IfErr result (OnSpent (λ kind. (l : Layout) → Serves a old l → spent l (moves l) ≡ Some kind))
+  pub undamaged : IfErr result (OnStepDamage (λ _. ⊥))
+  pub changes : Changes AnyFolderChange a b
+  pub reads : b.reads ≡ a.reads
+  pub causes : StepCauses a b result

@@ -1,0 +1,60 @@
+// New tables.
+ghost use Rattle.std.specs.Prelude.{◌≡◌, ◌++◌, ◌∷◌, [], IfOk, OnOk};
+ghost use Rattle.sasi_layout.specs.Serving.{IsReady};
+ghost use Rattle.sasi_layout.specs.Statements.{moves_asked};
+ghost use Rattle.sasi_model.specs.Asked.{Creates};
+ghost use Rattle.sasi_schema.specs.Defined.{definition};
+ghost use Rattle.sasi_store.specs.MakesMoves.{MakesMoves};
+ghost use Rattle.sasi_store.specs.StoreView.{IsOfParts, hand_of};
+ghost use Rattle.sasi_store.specs.Writable.{IsCreatable};
+
+use crate::StepFault;
+use crate::parts::Parts;
+use sasi_host::{Host, SegmentNumber};
+use sasi_manifest::{Edit, EditList};
+use sasi_memtable::Memtable;
+use sasi_recover::TableMap;
+use sasi_schema::Table;
+use std::alloc::{AllocError, Global};
+
+/// Lists a table in the manifest, and creates it.
+pub fn create<H: Host>(parts: &mut Parts, host: &mut H, table: Table) -> Result<(), StepFault>
+    requires ready { IsReady (H.view host.old) (hand_of parts.old) }
+    requires parts { IsOfParts parts.old }
+    requires creatable { IsCreatable (hand_of parts.old) table }
+    ensures makes { MakesMoves (λ l. moves_asked l (Creates (definition table))) (H.view host.old) (H.view host.new) (hand_of parts.old) (hand_of parts.new) result }
+    ensures parts { OnOk result (IsOfParts parts.new) }
+{
+    let edits = edits_of(parts.alloc, &table, parts.manifest.listing().last)?;
+    parts.manifest.append(host, &edits)?;
+    let new = TableMap {
+        number: table.number,
+        memtable: Memtable::new(parts.alloc, parts.manifest.listing().partitioner),
+        first: None,
+    };
+    parts.schema.restore_table(table)?;
+    push(&mut parts.tables, new)?;
+    Ok(())
+}
+
+fn push(tables: &mut Vec<TableMap>, table: TableMap) -> Result<(), AllocError>
+    ensures { OnOk result (tables.new.items ≡ tables.old.items ++ table ∷ []) }
+{
+    tables.push(table)?;
+    Ok(())
+}
+
+// The edit that lists a table whose mutations stand in the segments of the log from this one on.
+fn edits_of(alloc: Global, table: &Table, since: SegmentNumber) -> Result<EditList, AllocError>
+    ensures { IfOk result (λ edits. edits ≡ Edit.CreateTable table.now.number table.now.name table.now.columns table.now.key since ∷ []) }
+{
+    let mut edits = EditList::new(alloc);
+    edits.push(Edit::CreateTable {
+        number: table.number,
+        name: table.name.copy(alloc)?,
+        columns: table.columns.copy(alloc)?,
+        key: table.key,
+        since,
+    })?;
+    Ok(edits)
+}

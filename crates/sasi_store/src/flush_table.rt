@@ -1,0 +1,122 @@
+// The flush of a table of a store.
+ghost use Rattle.std.specs.Prelude.{◌≡◌, ◌<◌, ◌∷◌, [], None, Some, length, map, slice_get, slice_set, IfErr, IfOk, OnOk};
+ghost use Rattle.sasi_layout.specs.Moves.{Flush};
+ghost use Rattle.sasi_layout.specs.Serving.{IsReady};
+ghost use Rattle.sasi_layout.specs.Statements.{flush_where, hold_any};
+ghost use Rattle.sasi_recover.specs.OpenedFolder.{table_in_hand};
+ghost use Rattle.sasi_recover.specs.declared.opened.TableMap.{TableMap as ATableMap};
+ghost use Rattle.sasi_schema.specs.Numbers.{RisesFrom};
+ghost use Rattle.sasi_store.specs.Floors.{HoldsAny, floor_in_hand, lowered};
+ghost use Rattle.sasi_store.specs.MakesMoves.{MakesMoves};
+ghost use Rattle.sasi_store.specs.Numbers.{AreNext, AreSpent};
+ghost use Rattle.sasi_store.specs.Puts.{HasTableFor};
+ghost use Rattle.sasi_store.specs.StoreView.{IsOfParts, hand_of};
+
+use crate::StepFault;
+use crate::flush::{FlushNumbers, flush};
+use crate::parts::Parts;
+use sasi_host::{Host, SegmentNumber};
+use sasi_layout::NumberKind;
+use sasi_memtable::Memtable;
+use sasi_recover::{Numbers, TableMap};
+use sasi_types::TableNumber;
+
+/// Flushes a table that holds anything in memory.
+pub fn flush_held<H: Host>(
+    parts: &mut Parts,
+    host: &mut H,
+    table: TableNumber,
+) -> Result<(), StepFault>
+    requires ready { IsReady (H.view host.old) (hand_of parts.old) }
+    requires parts { IsOfParts parts.old }
+    requires there { HasTableFor table parts.old.tables.items }
+    ensures makes { MakesMoves (flush_where hold_any table) (H.view host.old) (H.view host.new) (hand_of parts.old) (hand_of parts.new) result }
+    ensures parts { OnOk result (IsOfParts parts.new) }
+{
+    if parts.tables[table as usize - 1].memtable.is_empty() {
+        return Ok(());
+    }
+    flush_table(parts, host, table)
+}
+
+/// Flushes a table: its memtable becomes a data file, and the log goes on in a new segment.
+pub fn flush_table<H: Host>(
+    parts: &mut Parts,
+    host: &mut H,
+    table: TableNumber,
+) -> Result<(), StepFault>
+    requires ready { IsReady (H.view host.old) (hand_of parts.old) }
+    requires parts { IsOfParts parts.old }
+    requires held { HoldsAny table (hand_of parts.old) }
+    ensures makes { MakesMoves (λ l. Flush table ∷ []) (H.view host.old) (H.view host.new) (hand_of parts.old) (hand_of parts.new) result }
+    ensures parts { OnOk result (IsOfParts parts.new) }
+{
+    let next = next_numbers(parts.numbers)?;
+    let index = table as usize - 1;
+    let numbers = FlushNumbers {
+        table,
+        file: next.data,
+        floor: floor_without(&parts.tables, table, next.log),
+        last: next.log,
+    };
+    let memtable = &parts.tables[index].memtable;
+    parts.log = flush(parts.alloc, host, &mut parts.manifest, memtable, numbers)?;
+    parts.numbers = next;
+    let partitioner = parts.manifest.listing().partitioner;
+    clear(
+        &mut parts.tables,
+        index,
+        Memtable::new(parts.alloc, partitioner),
+    );
+    Ok(())
+}
+
+// The last used numbers with the next data file and the next segment of the log, or the kind of which no number is left.
+fn next_numbers(numbers: Numbers) -> Result<Numbers, NumberKind>
+    ensures next { IfOk result (AreNext numbers) }
+    ensures spent { IfErr result (AreSpent numbers) }
+{
+    let Some(data) = numbers.data.checked_add(1) else {
+        return Err(NumberKind::Data);
+    };
+    let Some(log) = numbers.log.checked_add(1) else {
+        return Err(NumberKind::Log);
+    };
+    Ok(Numbers {
+        data,
+        log,
+        ..numbers
+    })
+}
+
+// The first segment that has a mutation of another table than this one, or the last segment where none has.
+fn floor_without(tables: &[TableMap], table: TableNumber, last: SegmentNumber) -> SegmentNumber
+    requires { RisesFrom 1 (map (λ t. t.number) tables.now) }
+    ensures { result ≡ floor_in_hand 1 table last (map table_in_hand tables.now) }
+{
+    let mut floor = last;
+    for held in tables {
+        floor = lower(floor, held, table);
+    }
+    floor
+}
+
+// The segment, or the first one of a table other than this one where that is lower.
+fn lower(floor: SegmentNumber, held: &TableMap, table: TableNumber) -> SegmentNumber
+    ensures { result ≡ lowered table floor held.now.number held.now.first }
+{
+    match held.first {
+        Some(first) if held.number != table => floor.min(first),
+        _ => floor,
+    }
+}
+
+// Puts an empty memtable in the place of a table's own.
+fn clear(tables: &mut Vec<TableMap>, index: usize, memtable: Memtable)
+    requires { index < length tables.old.items }
+    ensures { (held : ATableMap) → slice_get tables.old.items index ≡ Some held → tables.new.items ≡ slice_set tables.old.items index (record held { memtable = memtable; first = None }) }
+{
+    let table = &mut tables[index];
+    table.memtable = memtable;
+    table.first = None;
+}

@@ -1,0 +1,25 @@
+//! A store: it answers the pieces of a script over a folder, keeps memtables of what isn't in a data file yet, and logs each
+//! change before it is applied. It stands on sasi_recover, which opens the folder, and on sasi_machine, which prepares pieces,
+//! and promises the model's reply for each layout that the folder may have, and what a crash leaves at each moment.
+#![tactic(auto)]
+
+mod create;
+mod fault;
+mod flush;
+mod flush_file;
+mod flush_table;
+mod map_scan;
+mod old_segments;
+mod parts;
+mod query;
+mod select;
+mod source;
+mod sources;
+mod step;
+mod store;
+mod write;
+
+pub use fault::StepFault;
+pub use sasi_layout::NumberKind;
+pub use sasi_recover::OpenFault;
+pub use store::Store;

@@ -1,0 +1,24 @@
+// Deletes segments of the commit log that no table needs any more.
+ghost use Rattle.std.specs.Prelude.{OnOk};
+ghost use Rattle.sasi_host.specs.View.{DiskCauses};
+ghost use Rattle.sasi_host.specs.Disk.{Changes};
+ghost use Rattle.sasi_store.specs.Flushing.{AreAbsent, AreThere, DeletesSegments};
+
+use sasi_host::{Failed, FileName, Host, SegmentNumber};
+
+/// Deletes the segments from the first one up to before the other, and syncs the folder.
+pub fn delete_segments<H: Host>(
+    host: &mut H,
+    first: SegmentNumber,
+    floor: SegmentNumber,
+) -> Result<(), Failed>
+    requires { AreThere (H.view host.old) first floor }
+    ensures gone { OnOk result (AreAbsent (H.view host.new) first floor) }
+    ensures changes { Changes (DeletesSegments first floor) (H.view host.old) (H.view host.new) }
+    ensures causes { DiskCauses (H.view host.old) (H.view host.new) result }
+{
+    for segment in first..floor {
+        host.delete(FileName::log(segment))?;
+    }
+    host.sync_folder()
+}

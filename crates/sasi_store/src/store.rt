@@ -1,0 +1,145 @@
+// Stores.
+ghost use Rattle.std.specs.Prelude.{◌≡◌, ◌≢◌, ◌⊎◌, [], IfErr, IfOk, OnOk, Some, is_ok};
+ghost use Rattle.sasi_types.specs.declared.partitioner.Partitioner.{Partitioner as APartitioner};
+ghost use Rattle.sasi_host.specs.Disk.{Changes, Same};
+ghost use Rattle.sasi_host.specs.Names.{Folder};
+ghost use Rattle.sasi_host.specs.View.{DiskCauses, counted};
+ghost use Rattle.sasi_model.specs.Asked.{NoChange, asks};
+ghost use Rattle.sasi_model.specs.Pieces.{piece_of};
+ghost use Rattle.sasi_model.specs.Refusals.{read};
+ghost use Rattle.sasi_model.specs.State.{State};
+ghost use Rattle.sasi_folder.specs.Damages.{FolderShows};
+ghost use Rattle.sasi_folder.specs.Opens.{CanOpen, KeepsPartitioner};
+ghost use Rattle.sasi_layout.specs.Between.{Between};
+ghost use Rattle.sasi_layout.specs.Layout.{Layout};
+ghost use Rattle.sasi_layout.specs.Serving.{Ended, closed};
+ghost use Rattle.sasi_layout.specs.Shape.{ShapeOf};
+ghost use Rattle.sasi_layout.specs.Spent.{spent};
+ghost use Rattle.sasi_layout.specs.Worlds.{ServesWorld, World, new_world, steps};
+ghost use Rattle.sasi_machine.specs.Prepares.{IsQuery, IsStateOf};
+ghost use Rattle.sasi_recover.specs.Faults.{OnDiffers, OnOpenDamage, OpenCauses, TellsDifference};
+ghost use Rattle.sasi_recover.specs.OpeningReads.{OpensReadingOnce};
+ghost use Rattle.sasi_store.specs.Answers.{Answered, AnyFolderChange, NeedsNoFile};
+ghost use Rattle.sasi_store.specs.Faults.{OnSpent, OnStepDamage, StepCauses};
+ghost use Rattle.sasi_store.specs.StoreView.{IsReady};
+
+use crate::StepFault;
+use crate::parts::{Parts, parts_of};
+use crate::step::step;
+use sasi_host::{Failed, Host};
+use sasi_machine::{Outcome, Reply};
+use sasi_recover::OpenFault;
+use sasi_types::{Partitioner, PieceEnd};
+use std::alloc::Global;
+use std::marker::Model;
+
+/// A store over a folder.
+#[derive(Drop)]
+pub struct Store {
+    parts: Parts,
+    steps: u64,
+    usable: bool,
+}
+
+impl Model for Store {
+    ghost use Rattle.std.specs.Prelude.{IsTrue};
+    ghost use Rattle.sasi_store.specs.Codes.{coded_store};
+    ghost use Rattle.sasi_store.specs.StoreView.{IsOfParts, StoreView, hand_of};
+
+    ghost Value = { StoreView };
+
+    ghost coded = { coded_store };
+
+    ghost view = { λ a. record { hand = hand_of a.parts; steps = a.steps; usable = a.usable } };
+
+    ghost invariant = { λ a. IsTrue a.usable → IsOfParts a.parts };
+}
+
+impl Store {
+    /// Opens the store of a folder, or creates one where the folder has no seal: with the asked partitioner, or else lead8.
+    pub fn open<H: Host>(
+        alloc: Global,
+        host: &mut H,
+        asked: Option<Partitioner>,
+    ) -> Result<Store, OpenFault>
+        ensures ready { IfOk result (λ store. IsReady (H.view host.new) store) }
+        ensures serves { (folder : Folder) (l : Layout) → (H.view host.old).files ≡ Some folder → ShapeOf asked folder l → IfOk result (λ store. ServesWorld (H.view host.new) store.hand (new_world l)) }
+        ensures opens { (folder : Folder) → (H.view host.old).files ≡ Some folder → OnOk result (CanOpen folder) }
+        ensures any_moment { (folder : Folder) (l : Layout) → (H.view host.old).files ≡ Some folder → ShapeOf asked folder l → Changes (λ x y. (y ≡ x) ⊎ ShapeOf asked y l) (H.view host.old) (H.view host.new) }
+        ensures damaged { (folder : Folder) → (H.view host.old).files ≡ Some folder → IfErr result (OnOpenDamage (FolderShows folder)) }
+        ensures undamaged { (folder : Folder) (l : Layout) → (H.view host.old).files ≡ Some folder → ShapeOf asked folder l → IfErr result (OnOpenDamage (λ _. ⊥)) }
+        ensures differs { (folder : Folder) (wanted kept : APartitioner) → (H.view host.old).files ≡ Some folder → asked ≡ Some wanted → KeepsPartitioner folder kept → wanted ≢ kept → TellsDifference wanted kept result }
+        ensures differs_only { (folder : Folder) → (H.view host.old).files ≡ Some folder → IfErr result (OnDiffers (λ wanted kept. (asked ≡ Some wanted) × KeepsPartitioner folder kept × (wanted ≢ kept))) }
+        ensures changes { Changes AnyFolderChange (H.view host.old) (H.view host.new) }
+        ensures once { (folder : Folder) → (H.view host.old).files ≡ Some folder → OpensReadingOnce folder (H.view host.old) (H.view host.new) }
+        ensures causes { OpenCauses (H.view host.old) (H.view host.new) result }
+        ensures steps { IfOk result (λ store. store.steps ≡ 0) }
+    {
+        let opened = sasi_recover::open(alloc, host, asked)?;
+        let Ok(parts) = parts_of(alloc, opened) else {
+            return Err(OpenFault::OutOfMemory);
+        };
+        Ok(Store {
+            parts,
+            steps: 0,
+            usable: true,
+        })
+    }
+
+    /// Answers a piece: the reply is replaced. A piece that isn't refused makes its moves before this returns. After a fault the
+    /// reply may be a part of one.
+    pub fn step<H: Host>(
+        &mut self,
+        host: &mut H,
+        piece: &[u8],
+        end: PieceEnd,
+        reply: &mut Reply,
+    ) -> Result<Outcome, StepFault>
+        requires { IsReady (H.view host.old) self.old }
+        ensures answers { IfOk result (λ outcome. (w : World) → ServesWorld (H.view host.old) self.old.hand w → Answered (H.view host.new) self.new.hand w (piece_of end piece.now) reply.new outcome) }
+        ensures ready { OnOk result (IsReady (H.view host.new) self.new) }
+        ensures any_moment { (w : World) → ServesWorld (H.view host.old) self.old.hand w → Changes (λ x y. Between w.layout (steps.moves w (piece_of end piece.now)) y) (H.view host.old) (H.view host.new) }
+        ensures spent { IfErr result (OnSpent (λ kind. (w : World) → ServesWorld (H.view host.old) self.old.hand w → spent w.layout (steps.moves w (piece_of end piece.now)) ≡ Some kind)) }
+        ensures damaged { (folder : Folder) → (H.view host.new).files ≡ Some folder → IfErr result (OnStepDamage (FolderShows folder)) }
+        ensures undamaged { (w : World) → ServesWorld (H.view host.old) self.old.hand w → IfErr result (OnStepDamage (λ _. ⊥)) }
+        ensures spared { (s : State) → IsStateOf self.old.hand.definitions self.old.hand.max_timestamp s → NeedsNoFile s (piece_of end piece.now) → host.new ≡ host.old }
+        ensures reads_only { asks self.old.hand.definitions self.old.hand.max_timestamp (piece_of end piece.now) ≡ NoChange → Changes Same (H.view host.old) (H.view host.new) }
+        ensures unread { (IsQuery (read (piece_of end piece.now)) → ⊥) → (H.view host.new).reads ≡ (H.view host.old).reads }
+        ensures changes { Changes AnyFolderChange (H.view host.old) (H.view host.new) }
+        ensures usable { self.new.usable ≡ is_ok result }
+        ensures steps { self.new.steps ≡ counted self.old.steps }
+        ensures causes { StepCauses (H.view host.old) (H.view host.new) result }
+    {
+        self.steps = self.steps.saturating_add(1);
+        self.usable = false;
+        let outcome = step(&mut self.parts, host, piece, end, reply)?;
+        self.usable = true;
+        Ok(outcome)
+    }
+
+    /// How many steps were begun, at most 2^64 - 1.
+    pub fn steps(&self) -> u64
+        ensures { result ≡ self.now.steps }
+    {
+        self.steps
+    }
+
+    /// Whether every step succeeded.
+    pub fn is_usable(&self) -> bool
+        ensures { result ≡ self.now.usable }
+    {
+        self.usable
+    }
+
+    /// Ends the use of the store: the folder is left with the files of its tables and of the log alone.
+    pub fn finish<H: Host>(self, host: &mut H) -> Result<(), Failed>
+        requires { IsReady (H.view host.old) self }
+        ensures ends { OnOk result ((w : World) → ServesWorld (H.view host.old) self.hand w → Ended (H.view host.new) (closed w.layout)) }
+        ensures any_moment { (w : World) → ServesWorld (H.view host.old) self.hand w → Changes (λ x y. Between w.layout [] y) (H.view host.old) (H.view host.new) }
+        ensures unchanged { host.new ≡ host.old }
+        ensures causes { DiskCauses (H.view host.old) (H.view host.new) result }
+    {
+        let _ = host;
+        Ok(())
+    }
+}
