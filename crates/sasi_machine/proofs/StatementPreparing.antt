@@ -181,6 +181,7 @@ select_asks ds g select (Some t) reply_old reply_new (Selects rows) defined numb
                 there = there;
                 key = prepares.2.key ∙ ap key_type (sym at.definition_is);
               },
+              ap (number_of_table select.table) of.definitions_are ∙ sym numbered ∙ ap Some (sym prepares.2.number),
             ),
           );
     }
@@ -324,7 +325,7 @@ prepares s piece statement reply_old reply (Writes w) says well empty asks =
 prepares s piece statement reply_old reply (Flushes table) says well empty asks =
     (steps s piece statement s reply_old reply (outcome_of None) says empty asks.0, (statement, says, well, asks.1), flush_there s statement table asks.1)
 prepares s piece statement reply_old reply (Selects rows) says well empty asks =
-    (steps s piece statement s [] (answer_rows s rows) (outcome_of None) says refl (rows_step s statement rows asks.1), asks.0 ∙ empty, rows_there s statement rows asks.1)
+    (steps s piece statement s [] (answer_rows s rows) (outcome_of None) says refl (rows_step s statement rows asks.1), asks.0 ∙ empty, rows_there s statement rows asks.1, (statement, says, well, asks.1))
 
 pub piece_prepares : {E : Type 0} (ds : List Definition) (g : ℕ) (piece : Piece) (statement : Statement) (reply_old reply : List ℕ) (result : Result Prepared E) → read piece ≡ Says statement → IsWellFormed statement → reply_old ≡ []
     → IfOk result (IsPreparedFor ds g statement reply_old reply) → IfOk result (λ prepared. (s : State) → IsStateOf ds g s → Prepares s piece reply prepared)

@@ -91,9 +91,9 @@ lines_of rows partitions = rows_lines (rows_picked rows.picked.key rows.picked.c
 abbrev pub answer_rows : State → Selection → List ℕ
 answer_rows s rows = option_map_or (λ t. lines_of rows t.partitions) (slice_get s.tables (rows.table - 1)) []
 
--- the statement isn't refused, and asks for these rows
+-- the statement isn't refused, and asks for these rows of the table that it names
 abbrev pub SelectsRows : State → Statement → Selection → Type 0
-SelectsRows s (Query select) rows = (refusal s (Query select) ≡ None) × (answer_of s (Query select) ≡ answer_rows s rows) × HasRows s rows
+SelectsRows s (Query select) rows = (refusal s (Query select) ≡ None) × (answer_of s (Query select) ≡ answer_rows s rows) × HasRows s rows × (number_of_table select.table (definitions s.tables) ≡ Some rows.table)
 SelectsRows s statement rows = ⊥
 
 -- what a statement prepares, with its reply appended; that of a SELECT is still to come
@@ -158,4 +158,4 @@ Prepares s piece reply (Answered outcome) = StepsTo s piece s reply outcome
 Prepares s piece reply (Create t) = StepsTo s piece (with_new_table s (definition t)) reply (outcome_of None) × SaysOne piece (λ statement. CreatesTable s statement t) × IsNewTable s t
 Prepares s piece reply (Writes w) = StepsTo s piece (state_with_mutation s w) reply (outcome_of None) × SaysOne piece (λ statement. WritesTo s statement w) × IsApplicable s w
 Prepares s piece reply (Flushes table) = StepsTo s piece s reply (outcome_of None) × SaysOne piece (λ statement. FlushesTable s statement table) × HasTable s table
-Prepares s piece reply (Selects rows) = StepsTo s piece s (answer_rows s rows) (outcome_of None) × (reply ≡ []) × HasRows s rows
+Prepares s piece reply (Selects rows) = StepsTo s piece s (answer_rows s rows) (outcome_of None) × (reply ≡ []) × HasRows s rows × SaysOne piece (λ statement. SelectsRows s statement rows)

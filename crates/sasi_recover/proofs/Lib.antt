@@ -25,3 +25,4 @@ pub mod ShapeTimes
 pub mod SyncedFolder
 pub mod Timestamps
 pub mod TypedTables
+pub mod Untimed

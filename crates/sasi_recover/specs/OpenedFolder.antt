@@ -1,5 +1,5 @@
 -- An opened folder as a store in hand.
-use Rattle.std.specs.Prelude.{[], map}
+use Rattle.std.specs.Prelude.{◌≡◌, [], map}
 use Rattle.sasi_host.specs.Names.{Folder}
 use Rattle.sasi_layout.specs.Layout.{Used}
 use Rattle.sasi_layout.specs.Serving.{StoreInHand, TableInHand}
@@ -28,3 +28,7 @@ in_hand opened = record {
   used = used_numbers opened.numbers;
   max_timestamp = opened.greatest;
 }
+
+-- without a table there is no timestamp
+abbrev pub IsTimed : StoreInHand → Type 0
+IsTimed store = store.definitions ≡ [] → store.max_timestamp ≡ 0

@@ -12,7 +12,7 @@ ghost use Rattle.sasi_folder.specs.Stands.{IsFresh};
 ghost use Rattle.sasi_layout.specs.Serving.{IsReady, Serves};
 ghost use Rattle.sasi_layout.specs.Shape.{new_layout};
 ghost use Rattle.sasi_recover.specs.NewFolder.{IsFreshOrNew, ReportsForeign, NoFalseFreshDamage, is_initial};
-ghost use Rattle.sasi_recover.specs.OpenedFolder.{AnyFolderChange, in_hand};
+ghost use Rattle.sasi_recover.specs.OpenedFolder.{AnyFolderChange, IsTimed, in_hand};
 ghost use Rattle.sasi_recover.specs.ReplayState.{AreMaps};
 
 use crate::unlisted_files::{Keep, delete_unlisted};
@@ -34,6 +34,7 @@ pub fn create_store<H: Host>(
     requires lists { Lists (H.view host.old) names.now }
     requires sorted { IsStrictlySortedBy name_cmp names.now }
     ensures tables { IfOk result (λ opened. AreMaps opened.manifest.listing opened.tables.items) }
+    ensures timed { IfOk result (λ opened. IsTimed (in_hand opened)) }
     ensures ready { IfOk result (λ opened. IsReady (H.view host.new) (in_hand opened)) }
     ensures serves { IfOk result (λ opened. IsTold (H.view host.old) → Each (H.view host.old) IsFresh → Serves (H.view host.new) (in_hand opened) (new_layout partitioner)) }
     ensures any_moment { Each (H.view host.old) IsFresh → Changes (IsFreshOrNew partitioner) (H.view host.old) (H.view host.new) }
@@ -79,6 +80,7 @@ fn clear_and_create<H: Host>(
     requires lists { Lists (H.view host.old) names.now }
     requires sorted { IsStrictlySortedBy name_cmp names.now }
     ensures tables { IfOk result (λ opened. AreMaps opened.manifest.listing opened.tables.items) }
+    ensures timed { IfOk result (λ opened. IsTimed (in_hand opened)) }
     ensures ready { IfOk result (λ opened. IsReady (H.view host.new) (in_hand opened)) }
     ensures serves { IfOk result (λ opened. IsTold (H.view host.old) → Each (H.view host.old) IsFresh → Serves (H.view host.new) (in_hand opened) (new_layout partitioner)) }
     ensures any_moment { Each (H.view host.old) IsFresh → Changes (IsFreshOrNew partitioner) (H.view host.old) (H.view host.new) }
@@ -99,6 +101,7 @@ fn create_files<H: Host>(
     requires none { (name : AName) → IsAbsent (H.view host.old) name }
     requires synced { IsFolderSynced (H.view host.old) }
     ensures tables { IfOk result (λ opened. AreMaps opened.manifest.listing opened.tables.items) }
+    ensures timed { IfOk result (λ opened. IsTimed (in_hand opened)) }
     ensures ready { IfOk result (λ opened. IsReady (H.view host.new) (in_hand opened)) }
     ensures serves { IfOk result (λ opened. IsTold (H.view host.old) → Each (H.view host.old) IsFresh → Serves (H.view host.new) (in_hand opened) (new_layout partitioner)) }
     ensures any_moment { Each (H.view host.old) IsFresh → Changes (IsFreshOrNew partitioner) (H.view host.old) (H.view host.new) }

@@ -16,7 +16,7 @@ ghost use Rattle.sasi_layout.specs.Serving.{IsReady, Serves};
 ghost use Rattle.sasi_layout.specs.Shape.{HasShape, ShapeOf, new_layout};
 ghost use Rattle.sasi_recover.specs.Faults.{IsDifference, OnDiffers, OnOpenDamage, OpenCauses, TellsDifference};
 ghost use Rattle.sasi_recover.specs.NewFolder.{IsFreshOrNew, NoFalseFreshDamage, ReportsForeign, is_initial};
-ghost use Rattle.sasi_recover.specs.OpenedFolder.{AnyFolderChange, in_hand};
+ghost use Rattle.sasi_recover.specs.OpenedFolder.{AnyFolderChange, IsTimed, in_hand};
 ghost use Rattle.sasi_recover.specs.Opening.{IsFolderDurable};
 ghost use Rattle.sasi_recover.specs.OpeningReads.{OpensReadingOnce, ReadsStoreOnce};
 ghost use Rattle.sasi_recover.specs.ReplayState.{AreMaps};
@@ -38,6 +38,7 @@ pub fn open<H: Host>(
 ) -> Result<Opened, OpenFault>
     ensures ready { IfOk result (λ opened. IsReady (H.view host.new) (in_hand opened)) }
     ensures tables { IfOk result (λ opened. AreMaps opened.manifest.listing opened.tables.items) }
+    ensures timed { IfOk result (λ opened. IsTimed (in_hand opened)) }
     ensures serves { (folder : Folder) (l : Layout) → (H.view host.old).files ≡ Some folder → ShapeOf asked folder l → IfOk result (λ opened. Serves (H.view host.new) (in_hand opened) l) }
     ensures opens { (folder : Folder) → (H.view host.old).files ≡ Some folder → OnOk result (CanOpen folder) }
     ensures any_moment { (folder : Folder) (l : Layout) → (H.view host.old).files ≡ Some folder → ShapeOf asked folder l → Changes (λ x y. (y ≡ x) ⊎ ShapeOf asked y l) (H.view host.old) (H.view host.new) }
@@ -67,6 +68,7 @@ fn open_new<H: Host>(
     requires sorted { IsStrictlySortedBy name_cmp names.now }
     ensures ready { IfOk result (λ opened. IsReady (H.view host.new) (in_hand opened)) }
     ensures tables { IfOk result (λ opened. AreMaps opened.manifest.listing opened.tables.items) }
+    ensures timed { IfOk result (λ opened. IsTimed (in_hand opened)) }
     ensures serves { IfOk result (λ opened. IsTold (H.view host.old) → Each (H.view host.old) IsFresh → Serves (H.view host.new) (in_hand opened) (new_layout (unwrap_or asked partitioner.Lead8))) }
     ensures any_moment { Each (H.view host.old) IsFresh → Changes (IsFreshOrNew (unwrap_or asked partitioner.Lead8)) (H.view host.old) (H.view host.new) }
     ensures firsts { OnOk result (All (λ name. is_initial name ≡ true) names.now) }
@@ -95,6 +97,7 @@ fn open_sealed<H: Host>(
     requires sealed { IsThere (H.view host.old) (seal_name number) }
     ensures ready { IfOk result (λ opened. IsReady (H.view host.new) (in_hand opened)) }
     ensures tables { IfOk result (λ opened. AreMaps opened.manifest.listing opened.tables.items) }
+    ensures timed { IfOk result (λ opened. IsTimed (in_hand opened)) }
     ensures serves { (folder : Folder) (l : Layout) (logs : List (List Mutation)) → (H.view host.old).files ≡ Some folder → l.used.manifest ≡ number → HasShape folder l logs → IfOk result (λ opened. Serves (H.view host.new) (in_hand opened) l) }
     ensures opens { (folder : Folder) → (H.view host.old).files ≡ Some folder → IsSealed folder number → OnOk result (Opens folder) }
     ensures any_moment { (folder : Folder) (l : Layout) (logs : List (List Mutation)) → (H.view host.old).files ≡ Some folder → l.used.manifest ≡ number → HasShape folder l logs → Changes (λ x y. (y ≡ x) ⊎ HasShape y l logs) (H.view host.old) (H.view host.new) }

@@ -16,7 +16,7 @@ ghost use Rattle.sasi_folder.specs.Stands.{IsSealed};
 ghost use Rattle.sasi_layout.specs.Layout.{Layout, used_in};
 ghost use Rattle.sasi_layout.specs.Serving.{IsReady, Serves};
 ghost use Rattle.sasi_layout.specs.Shape.{HasShape};
-ghost use Rattle.sasi_recover.specs.OpenedFolder.{AnyFolderChange, in_hand, used_numbers};
+ghost use Rattle.sasi_recover.specs.OpenedFolder.{AnyFolderChange, IsTimed, in_hand, used_numbers};
 ghost use Rattle.sasi_recover.specs.Opening.{IsFolderDurable};
 ghost use Rattle.sasi_recover.specs.OpeningReads.{ReadsFileOnce, ReadsListingOnce};
 ghost use Rattle.sasi_recover.specs.ReplayState.{AreMaps};
@@ -71,6 +71,7 @@ pub fn open_listed<H: Host>(
     requires read { IsManifestRead (H.view host.old) manifest }
     ensures ready { IfOk result (λ opened. IsReady (H.view host.new) (in_hand opened)) }
     ensures tables { IfOk result (λ opened. AreMaps opened.manifest.listing opened.tables.items) }
+    ensures timed { IfOk result (λ opened. IsTimed (in_hand opened)) }
     ensures serves { (folder : Folder) (l : Layout) (logs : List (List Mutation)) → (H.view host.old).files ≡ Some folder → l.used.manifest ≡ manifest.number → HasShape folder l logs → IfOk result (λ opened. Serves (H.view host.new) (in_hand opened) l) }
     ensures opens { (folder : Folder) → (H.view host.old).files ≡ Some folder → IsSealed folder manifest.number → OnOk result (Opens folder) }
     ensures any_moment { (folder : Folder) (l : Layout) (logs : List (List Mutation)) → (H.view host.old).files ≡ Some folder → l.used.manifest ≡ manifest.number → HasShape folder l logs → Changes (λ x y. (y ≡ x) ⊎ HasShape y l logs) (H.view host.old) (H.view host.new) }

@@ -13,27 +13,28 @@ use Rattle.sasi_layout.specs.Worlds.{ServesWorld, World, steps}
 use Rattle.sasi_model.specs.Pieces.{Piece}
 use Rattle.sasi_model.specs.Refusals.{Refusal}
 use Rattle.sasi_model.specs.Abbreviations.{definitions}
-use Rattle.sasi_model.specs.State.{Definition}
-use Rattle.sasi_model.specs.Step.{step}
+use Rattle.sasi_model.specs.State.{Definition, State}
+use Rattle.sasi_model.specs.Step.{state_after, step}
 use Rattle.sasi_cql.specs.SplitterState.{resume, behind}
 use Rattle.sasi_machine.specs.declared.outcome.Outcome.{Outcome}
 use Rattle.sasi_machine.specs.Outcome.{outcome_of}
 use Rattle.sasi_machine.specs.Prepares.{IsStateOf}
-use Rattle.sasi_store.specs.Answers.{Answered, AnyFolderChange}
+use Rattle.sasi_store.specs.Answers.{Answered, AnsweredButRows, AnyFolderChange}
 use Rattle.sasi_store.specs.Faults.{OnSpent, OnStepDamage}
 use Rattle.sasi_store.specs.StoreView.{IsReady, StoreView}
 use Rattle.sasi_store.specs.declared.fault.StepFault.{StepFault}
 use Rattle.sasi_store.specs.declared.fault.StepFault.TheVariants as fault
 use Rattle.sasi_run.specs.EmitCounts.{emits_of}
-use Rattle.sasi_run.specs.Crashing.{AnswersCrashSafe, CrashLeavesPieces, FailsCrashSafe, FeedsCrashSafe, FinishesCrashSafe, RanPieces, StoppedPieces, StopsCrashSafe}
+use Rattle.sasi_run.specs.Crashing.{AnswersCrashSafe, CrashLeavesPieces, EmittedButRows, FailsCrashSafe, FeedsCrashSafe, FinishesCrashSafe, IsOfState, RanPieces, StoppedPieces, StopsCrashSafe}
 use Rattle.sasi_run.specs.FileCalls.{emits_after}
 use Rattle.sasi_run.specs.Session.{counted_outcome, refusals_of, stop_of}
 use Rattle.sasi_run.specs.declared.session.Session.{Session}
 use Rattle.sasi_run.specs.declared.session.Stop.{Stop}
 use Rattle.sasi_run.specs.declared.session.Stop.TheVariants.{Memory, Output}
+use Rattle.sasi_run.proofs.ButRows.{ran_both_but, ran_from_but, ran_nothing_but, stopped_behind_but}
 use Rattle.sasi_run.proofs.Running.{each_of_shape, leaves_answered, leaves_moved, leaves_nothing, ready_still, serves_still}
 use Rattle.sasi_run.proofs.EmitLaws.{emits_reply, makes_alone, makes_behind_none, makes_none, makes_one, makes_reply}
-use Rattle.sasi_run.proofs.RunParts.{appends_none, grows_both, grows_nothing, ran_both, ran_nothing, reads_on, stopped_behind, unmoved}
+use Rattle.sasi_run.proofs.RunParts.{appends_none, ran_both, ran_nothing, reads_on, stopped_behind, unmoved}
 
 -- ---- the answer
 
@@ -66,11 +67,18 @@ stopped_moving (fault.NumbersSpent kind) session a b piece failed w serves = rec
   unspent = tt;
 }
 
+-- nothing of the piece was emitted
+stopped_silent : (f : StepFault) (s : State) (piece : Piece) → EmittedButRows (stop_of f) s [] (piece ∷ []) []
+stopped_silent fault.Failed s piece = refl
+stopped_silent fault.OutOfMemory s piece = refl
+stopped_silent (fault.Damaged damage) s piece = refl
+stopped_silent (fault.NumbersSpent kind) s piece = (piece, refl, refl)
+
 -- the store failed before anything was emitted
 pub fails_moving : (f : StepFault) (session : Session) (a b : View) (piece : Piece) → StepFailed f session a b piece
     → FailsCrashSafe (stop_of f) session a b (piece ∷ [])
 fails_moving f session a b piece failed = record {
-  grows = grows_nothing a b failed.change.emitted;
+  anywhere = λ s of. record { shown = []; emitted = unmoved a b failed.change.emitted; replies = stopped_silent f s piece };
   stopped = λ w serves. stopped_moving f session a b piece failed w serves;
 }
 
@@ -79,6 +87,7 @@ pub record StepDone (session : Session) (later : StoreView) (a b : View) (piece 
   pub change : Changes AnyFolderChange a b
   pub moments : (w : World) → ServesWorld a session.store.hand w → Changes (λ x y. Between w.layout (steps.moves w piece) y) a b
   pub answers : (w : World) → ServesWorld a session.store.hand w → Answered b later.hand w piece reply outcome
+  pub anywhere : (s : State) → IsOfState session.store s → AnsweredButRows later.hand s piece reply outcome
 
 module _ (session : Session) (later : StoreView) (a b d : View) (piece : Piece) (reply bytes : List ℕ) (outcome : Outcome)
     (done : StepDone session later a b piece reply outcome) (same : bytes ≡ reply) (emits : Emits bytes b d) where
@@ -90,7 +99,13 @@ module _ (session : Session) (later : StoreView) (a b d : View) (piece : Piece) 
   -- the reply was not emitted whole
   pub fails_shown : d.emits ≡ counted b.emits → FailsCrashSafe Output session a d (piece ∷ [])
   fails_shown once = record {
-    grows = (emits.front, subst (λ (l : Option (List ℕ)). Appends l d.emitted emits.front) done.change.emitted emits.out);
+    anywhere = λ s of.
+        let is = done.anywhere s of in
+        record {
+          shown = emits.front;
+          emitted = subst (λ (l : Option (List ℕ)). Appends l d.emitted emits.front) done.change.emitted emits.out;
+          replies = (piece, [], emits.front, emits.back, refl, refl, (λ none. sym emits.parts ∙ same ∙ is.reply_is none), refl);
+        };
     stopped = λ w serves.
         (let is = done.answers w serves in
         record {
@@ -117,7 +132,15 @@ module _ (session : Session) (later : StoreView) (a b d : View) (piece : Piece) 
       → new.splitter ≡ session.splitter → IsReady b later → AllOut bytes b d → d.emits ≡ emits_after b.emits bytes → AnswersCrashSafe session new a d piece
   answers_on new store_is small count reading ready all call = record {
     reading = reading;
-    grows = (bytes, subst (λ (l : Option (List ℕ)). Appends l d.emitted bytes) done.change.emitted all);
+    anywhere = λ s of.
+        let is = done.anywhere s of in
+        record {
+          state = subst (λ (k : StoreView). IsOfState k (step s piece).state) (sym store_is) is.state_is;
+          shown = bytes;
+          emitted = subst (λ (l : Option (List ℕ)). Appends l d.emitted bytes) done.change.emitted all;
+          replies = (bytes, [], sym (append-nil bytes), (λ none. same ∙ is.reply_is none), refl);
+          count = count ∙ ap (counted_outcome session.refused) is.outcome_is ∙ counts session.refused (step s piece).refused small;
+        };
     ready = rw store_is (ready_still b d later emits.files emits.image ready);
     ran = λ w serves.
         (let is = done.answers w serves in
@@ -141,7 +164,7 @@ pub feeds_no_end : (old new : Session) (a : View) (byte : ℕ) → IsReady a old
     → FeedsCrashSafe old new a a (byte ∷ [])
 feeds_no_end old new a byte ready small next store count = record {
   feeds = record { done = []; reading = next };
-  grows = grows_nothing a a refl;
+  anywhere = λ s of. ran_nothing_but s old new a small store count of;
   ready = rw store ready;
   ran = λ w serves. ran_nothing w old new a small store count serves;
 }
@@ -150,13 +173,16 @@ feeds_no_end old new a byte ready small next store count = record {
 pub feeds_nothing : (session : Session) (a : View) → IsReady a session.store → session.refused < 2 ^ 64 → FeedsCrashSafe session session a a []
 feeds_nothing session a ready small = record {
   feeds = record { done = []; reading = λ left. refl };
-  grows = grows_nothing a a refl;
+  anywhere = λ s of. ran_nothing_but s session session a small refl refl of;
   ready = ready;
   ran = λ w serves. ran_nothing w session session a small refl refl serves;
 }
 
 -- `stand` is the session with what the splitter has read since
 module _ (old stand : Session) (store : stand.store ≡ old.store) (count : stand.refused ≡ old.refused) where
+  stands_of : (s : State) → IsOfState old.store s → IsOfState stand.store s
+  stands_of s of = subst (λ (k : StoreView). IsOfState k s) (sym store) of
+
   ran_from : (w : World) (pieces : List Piece) (new : Session) (a b : View) → RanPieces w pieces stand new a b → RanPieces w pieces old new a b
   ran_from w pieces new a b ran = record {
     serves = ran.serves;
@@ -173,7 +199,7 @@ module _ (old stand : Session) (store : stand.store ≡ old.store) (count : stan
       → FeedsCrashSafe old new a b (byte ∷ [])
   feeds_answer new a b byte piece next answered = record {
     feeds = record { done = piece ∷ []; reading = λ left. rw answered.reading (next left) };
-    grows = answered.grows;
+    anywhere = λ s of. ran_from_but s (piece ∷ []) old stand new a b count (answered.anywhere s (stands_of s of));
     ready = answered.ready;
     ran = λ w serves. ran_from w (piece ∷ []) new a b (answered.ran w (rw store serves));
   }
@@ -184,7 +210,7 @@ module _ (old stand : Session) (store : stand.store ≡ old.store) (count : stan
       → StopsCrashSafe stop old a b (byte ∷ [])
   stops_at stop a b byte piece next fails = record {
     stops = record { taken = byte ∷ []; rest = []; parts = refl; done = []; next = piece ∷ []; stand = stand.splitter; reading = next };
-    grows = fails.grows;
+    anywhere = λ s of. fails.anywhere s (stands_of s of);
     stopped = λ w serves. fails.stopped w (rw store serves);
   }
 
@@ -193,7 +219,7 @@ module _ (old stand : Session) (store : stand.store ≡ old.store) (count : stan
   pub finishes_answer : (new : Session) (a b : View) (piece : Piece) → (resume old.splitter []).last ≡ piece ∷ [] → AnswersCrashSafe stand new a b piece
       → FinishesCrashSafe old new a b
   finishes_answer new a b piece last answered = record {
-    grows = answered.grows;
+    anywhere = λ s of. rw last (ran_from_but s (piece ∷ []) old stand new a b count (answered.anywhere s (stands_of s of)));
     ready = answered.ready;
     ran = λ w serves. rw last (ran_from w (piece ∷ []) new a b (answered.ran w (rw store serves)));
   }
@@ -201,14 +227,14 @@ module _ (old stand : Session) (store : stand.store ≡ old.store) (count : stan
   pub fails_last : (stop : Stop) (a b : View) (piece : Piece) → (resume old.splitter []).last ≡ piece ∷ [] → FailsCrashSafe stop stand a b (piece ∷ [])
       → FailsCrashSafe stop old a b (resume old.splitter []).last
   fails_last stop a b piece last fails = record {
-    grows = fails.grows;
+    anywhere = λ s of. rw last (fails.anywhere s (stands_of s of));
     stopped = λ w serves. rw last (fails.stopped w (rw store serves));
   }
 
 pub finishes_nothing : (old new : Session) (a : View) → (resume old.splitter []).last ≡ [] → new.store ≡ old.store → new.refused ≡ old.refused
     → old.refused < 2 ^ 64 → IsReady a old.store → FinishesCrashSafe old new a a
 finishes_nothing old new a last store count small ready = record {
-  grows = grows_nothing a a refl;
+  anywhere = λ s of. rw last (ran_nothing_but s old new a small store count of);
   ready = rw store ready;
   ran = λ w serves. rw last (ran_nothing w old new a small store count serves);
 }
@@ -217,7 +243,7 @@ finishes_nothing old new a last store count small ready = record {
 pub stops_before : (old : Session) (a : View) (bytes : List ℕ) → StopsCrashSafe Memory old a a bytes
 stops_before old a bytes = record {
   stops = record { taken = []; rest = bytes; parts = refl; done = []; next = []; stand = old.splitter; reading = λ left. refl };
-  grows = grows_nothing a a refl;
+  anywhere = λ s of. record { shown = []; emitted = appends_none a.emitted; replies = refl };
   stopped = λ w serves. record { shown = appends_none a.emitted; crashes = leaves_nothing a w []; emits = makes_behind_none 0 a.emits a.emits (makes_none a.emits a.emits refl); unspent = tt };
 }
 
@@ -230,7 +256,9 @@ feeds_both old mid new a b c xs ys t u = record {
     done = t.feeds.done ++ u.feeds.done;
     reading = reads_on old.splitter mid.splitter xs ys t.feeds.done t.feeds.reading new.splitter u.feeds.done u.feeds.reading;
   };
-  grows = grows_both a b c t.grows u.grows;
+  anywhere = λ s of.
+      let first = t.anywhere s of in
+      ran_both_but s t.feeds.done u.feeds.done old mid new a b c first (u.anywhere (state_after s t.feeds.done) first.state);
   ready = u.ready;
   ran = λ w serves.
       (let first = t.ran w serves in
@@ -251,7 +279,9 @@ stops_later stop old mid a b c bytes xs ys rest t u parts = record {
     reading = λ left. reads_on old.splitter mid.splitter xs u.stops.taken t.feeds.done t.feeds.reading u.stops.stand (u.stops.done ++ u.stops.next) u.stops.reading left
         ∙ ap (λ ps. behind ps (resume u.stops.stand left)) (sym (append_assoc t.feeds.done u.stops.done u.stops.next));
   };
-  grows = grows_both a b c t.grows u.grows;
+  anywhere = λ s of.
+      let first = t.anywhere s of in
+      stopped_behind_but stop s t.feeds.done u.stops.done u.stops.next old mid a b c first (u.anywhere (state_after s t.feeds.done) first.state);
   stopped = λ w serves.
       (let first = t.ran w serves in
       stopped_behind stop w t.feeds.done u.stops.done u.stops.next old mid a b c first (u.stopped (after_pieces steps w t.feeds.done) first.serves));

@@ -9,13 +9,14 @@ use Rattle.sasi_folder.specs.Opens.{CanOpen, KeepsPartitioner}
 use Rattle.sasi_layout.specs.Layout.{Layout}
 use Rattle.sasi_layout.specs.Shape.{ShapeOf}
 use Rattle.sasi_layout.specs.Worlds.{ServesWorld, new_world}
+use Rattle.sasi_model.specs.State.{State}
 use Rattle.sasi_recover.specs.Faults.{OnDiffers, OnOpenDamage, TellsDifference}
 use Rattle.sasi_recover.specs.declared.fault.OpenFault.{OpenFault}
 use Rattle.sasi_recover.specs.declared.fault.OpenFault.TheVariants as open_fault
 use Rattle.sasi_store.specs.StoreView.{StoreView}
 use Rattle.sasi_run.specs.Causes.{ComparesPartitioners, FailedCalls, IsOfStore, IsRefusal, ReportsAtStart, ReportsDifference, ReportsNow, RunCauses}
 use Rattle.sasi_run.specs.CommandLine.{IsCommandLine, asked_by}
-use Rattle.sasi_run.specs.Crashing.{RunsCrashSafe}
+use Rattle.sasi_run.specs.Crashing.{IsOfState, RunsCrashSafe}
 use Rattle.sasi_run.specs.Headline.{status_of_fault}
 use Rattle.sasi_run.specs.declared.status.Status.{Status}
 use Rattle.sasi_run.specs.declared.status.Status.TheVariants.{Usage, Damaged, PartitionerDiffers}
@@ -128,6 +129,7 @@ module _ (T : Type 0) (words : List (List ℕ)) (script : SourceView) (a b : Vie
 
 -- what an opening promises that succeeded
 pub record OpenDone (words : List (List ℕ)) (store : StoreView) (a b : View) : Type 0 where
+  pub state : (s : State) × IsOfState store s
   pub silent : b.emitted ≡ a.emitted
   pub none_out : b.emits ≡ a.emits
   pub opens : (folder : Folder) → a.files ≡ Some folder → CanOpen folder
@@ -152,7 +154,7 @@ causes_opened words status script later a b c store are opened on calls reports 
   refused = λ folder files no. absurd (no (opened.opens folder files));
   differs = λ asked kept is. absurd (of_store_differs status asked kept of is);
   compares = λ folder asked kept files asks keeps other. absurd (opened.agrees folder asked kept files asks keeps other);
-  complete = λ words x y z. through status script.left later.left b.emitted c.emitted on.bytes (of_store_used status of)
+  complete = λ words x y z. through status script.left later.left b.emitted c.emitted (on.anywhere opened.state.0 opened.state.1).bytes (of_store_used status of)
       (λ is. x (rose script.faults later.faults later.failed_last (calls.script_fault is)))
       (λ is. y (rose a.out_faults c.out_faults c.failed_last (calls.output_fault is)))
       (λ is. z (rose a.disk_faults c.disk_faults c.failed_last (calls.folder_fault is)));

@@ -5,6 +5,7 @@ pub mod Running
 pub mod EmitLaws
 pub mod RepliesAtEnd
 pub mod Complete
+pub mod ButRows
 pub mod Answering
 pub mod RunsAtEnd
 pub mod Moments

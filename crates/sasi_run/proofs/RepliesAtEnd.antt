@@ -16,8 +16,8 @@ use Rattle.sasi_cql.specs.SplitterState.{resume, behind}
 use Rattle.sasi_cql.proofs.Resumed.{resume_nothing}
 use Rattle.sasi_run.specs.Crashing.{CrashLeavesPieces, RunsWorld, StoppedPieces}
 use Rattle.sasi_run.specs.EmitCounts.{MakesEmits, emits_for, emits_in}
-use Rattle.sasi_run.specs.Headline.{EmitsFirstReplies, IsFirstPart, ReadsBytes, SCRIPT_MOST, READ_MOST, script_of, status_of_stop}
-use Rattle.sasi_run.specs.Session.{Feeds, Grows, IsAtScriptStart}
+use Rattle.sasi_run.specs.Headline.{EmitsFirstReplies, IsFirstPart, SCRIPT_MOST, READ_MOST, script_of, status_of_stop}
+use Rattle.sasi_run.specs.Session.{Feeds, IsAtScriptStart}
 use Rattle.sasi_run.specs.declared.session.Session.{Session}
 use Rattle.sasi_run.specs.declared.session.Stop.{Stop}
 use Rattle.sasi_run.specs.declared.session.Stop.TheVariants.{Disk, Output, Memory, Corrupt, Spent}
@@ -89,15 +89,6 @@ without_next script read done next first = record {
   more = first.more;
   has = first.has;
 }
-
--- on every host
-pub stop_bytes : (stop : Stop) (read : List ℕ) (l l2 : Option (List ℕ)) (a c : View) → Consumes l l2 read → length read ≤ SCRIPT_MOST + READ_MOST
-    → Grows a.emitted c.emitted → ReadsBytes (status_of_stop stop) l l2 a.emitted c.emitted
-stop_bytes Memory read l l2 a c consumed bounded grows = record { read = read; shown = grows.0; consumed = consumed; emitted = grows.1; at_end = tt; by_status = tt; bounded = bounded }
-stop_bytes Disk read l l2 a c consumed bounded grows = record { read = read; shown = grows.0; consumed = consumed; emitted = grows.1; at_end = tt; by_status = tt; bounded = bounded }
-stop_bytes Output read l l2 a c consumed bounded grows = record { read = read; shown = grows.0; consumed = consumed; emitted = grows.1; at_end = tt; by_status = tt; bounded = bounded }
-stop_bytes (Corrupt damage) read l l2 a c consumed bounded grows = record { read = read; shown = grows.0; consumed = consumed; emitted = grows.1; at_end = tt; by_status = tt; bounded = bounded }
-stop_bytes (Spent kind) read l l2 a c consumed bounded grows = record { read = read; shown = grows.0; consumed = consumed; emitted = grows.1; at_end = tt; by_status = tt; bounded = bounded }
 
 module _ (w : World) (well : IsWell w.layout) (read : List ℕ) (done next : List Piece) (l l2 : Option (List ℕ)) (a c : View) (consumed : Consumes l l2 read)
     (bounded : length read ≤ SCRIPT_MOST + READ_MOST) (first : IsFirstPart (script_of l read) read done next) where

@@ -11,7 +11,7 @@ use Rattle.sasi_cql.specs.SplitterState.{SplitterState, resume, behind}
 use Rattle.sasi_run.specs.Crashing.{CrashLeavesPieces, RanPieces, StoppedPieces}
 use Rattle.sasi_run.specs.EmitCounts.{emits_failed}
 use Rattle.sasi_run.specs.Headline.{status_of_stop}
-use Rattle.sasi_run.specs.Session.{EmittedAtStop, Grows, refusals_of}
+use Rattle.sasi_run.specs.Session.{EmittedAtStop, refusals_of}
 use Rattle.sasi_run.specs.declared.session.Session.{Session}
 use Rattle.sasi_run.specs.declared.session.Stop.{Stop}
 use Rattle.sasi_run.specs.declared.session.Stop.TheVariants.{Disk, Output, Memory, Corrupt, Spent}
@@ -34,12 +34,6 @@ appends_both (Some a) (Some b) (Some c) xs ys p q = rw (q, p) (append_assoc a xs
 -- nothing was emitted
 pub unmoved : (a b : View) → b.emitted ≡ a.emitted → Appends a.emitted b.emitted []
 unmoved a b same = subst (λ (l : Option (List ℕ)). Appends a.emitted l []) (sym same) (appends_none a.emitted)
-
-pub grows_nothing : (a b : View) → b.emitted ≡ a.emitted → Grows a.emitted b.emitted
-grows_nothing a b same = ([], unmoved a b same)
-
-pub grows_both : (a b c : View) → Grows a.emitted b.emitted → Grows b.emitted c.emitted → Grows a.emitted c.emitted
-grows_both a b c first second = (first.0 ++ second.0, appends_both a.emitted b.emitted c.emitted first.0 second.0 first.1 second.1)
 
 -- ---- what was read
 

@@ -14,13 +14,14 @@ use Rattle.sasi_layout.specs.Serving.{Ended, closed}
 use Rattle.sasi_layout.specs.Worlds.{ServesWorld, World, steps}
 use Rattle.sasi_model.specs.Pieces.{Piece, pieces, all_pieces}
 use Rattle.sasi_model.specs.Parsers.{grammar_parser}
-use Rattle.sasi_model.specs.Step.{refusals, replies}
+use Rattle.sasi_model.specs.State.{State}
+use Rattle.sasi_model.specs.Step.{refusals, replies, state_after}
 use Rattle.sasi_cql.specs.SplitterState.{resume, behind}
 use Rattle.sasi_store.specs.StoreView.{IsReady}
 use Rattle.sasi_run.specs.Causes.{IsOfStore}
-use Rattle.sasi_run.specs.Crashing.{CrashLeavesPieces, EndsAtRead, FailsCrashSafe, FeedsCrashSafe, FeedsRead, FinishesCrashSafe, RanPieces, RanScript, ReadsCrashSafe, RunsCrashSafe, StoppedPieces, StopsCrashSafe, StopsWith}
+use Rattle.sasi_run.specs.Crashing.{CrashLeavesPieces, EndsAtRead, FailsCrashSafe, FeedsCrashSafe, FeedsRead, FinishesCrashSafe, IsOfState, RanButRows, RanPieces, RanScript, ReadsCrashSafe, RunsCrashSafe, StoppedButRows, StoppedPieces, StopsCrashSafe, StopsWith}
 use Rattle.sasi_run.specs.EmitCounts.{MakesEmits, emits_for, emits_in}
-use Rattle.sasi_run.specs.Headline.{EmitsAllReplies, READ_MOST, SCRIPT_MOST, script_of, status_of_count, status_of_stop}
+use Rattle.sasi_run.specs.Headline.{AreRepliesButRows, EmitsAllButRows, EmitsAllReplies, IsFirstPart, READ_MOST, ReadsBytes, ReadsByStatus, ReadsToEnd, SCRIPT_MOST, script_of, status_of_count, status_of_stop}
 use Rattle.sasi_run.specs.Session.{IsAtScriptStart, refusals_of}
 use Rattle.sasi_run.specs.Spending.{SpendsNone}
 use Rattle.sasi_run.specs.declared.session.Session.{Session}
@@ -29,11 +30,12 @@ use Rattle.sasi_run.specs.declared.session.Stop.TheVariants.{Disk, Output, Memor
 use Rattle.sasi_run.specs.declared.status.Status.{Status}
 use Rattle.sasi_run.specs.declared.status.Status.TheVariants.{Done, FolderFault, Refused, ScriptFault, ScriptTooLong}
 use Rattle.sasi_run.proofs.Answering.{feeds_both, feeds_nothing}
+use Rattle.sasi_run.proofs.ButRows.{ran_both_but, stop_runs, stopped_behind_but}
 use Rattle.sasi_run.proofs.ConsumedBytes.{consumes_both, consumes_kept, consumes_none, consumes_nothing}
 use Rattle.sasi_run.proofs.EmitLaws.{makes_alone}
-use Rattle.sasi_run.proofs.RepliesAtEnd.{all_behind, all_now, answered_first, behind_twice, pieces_on, script_parts, script_whole, stop_bytes, stops_world, whole_now, widened}
+use Rattle.sasi_run.proofs.RepliesAtEnd.{all_behind, all_now, answered_first, behind_twice, pieces_on, script_parts, script_whole, stops_world, whole_now, widened}
 use Rattle.sasi_run.proofs.Running.{leaves_closed}
-use Rattle.sasi_run.proofs.RunParts.{grows_both, ran_both, stopped_behind}
+use Rattle.sasi_run.proofs.RunParts.{ran_both, stopped_behind}
 use Rattle.sasi_run.proofs.Worlds.{emits_are, refusals_are, replies_are}
 
 -- ---- a read failed
@@ -46,7 +48,12 @@ ends_fault from mid l l1 l2 a b n fresh on few kept =
     let size : length on.read ≤ SCRIPT_MOST = omega (arith, on.length_is, few) in
     let first = answered_first from mid l l2 on.read fresh t consumed in
     record {
-      bytes = record { read = on.read; shown = on.feeds.grows.0; consumed = consumed; emitted = on.feeds.grows.1; at_end = tt; by_status = size; bounded = omega (arith, size) };
+      anywhere = λ s of.
+          let ran = on.feeds.anywhere s of in
+          record {
+            bytes = record { read = on.read; shown = ran.shown; consumed = consumed; emitted = ran.emitted; at_end = tt; by_status = size; bounded = omega (arith, size) };
+            shows = subst (λ (ps : List Piece). AreRepliesButRows grammar_parser s ps ran.shown) (sym (whole_now from mid on.read fresh t)) ran.replies;
+          };
       from = λ w serves.
           (let ran = on.feeds.ran w serves in
           record {
@@ -82,7 +89,10 @@ ends_script from mid to l l1 l2 a b c n none fresh on few ate empty end fin = re
   consumed = consumes_none l l1 l2 on.read none on.consumed ate empty;
   short = omega (arith, on.length_is, few);
   at_end = end;
-  grows = grows_both a b c on.feeds.grows fin.grows;
+  anywhere = λ s of.
+      let first = on.feeds.anywhere s of in
+      subst (λ (ps : List Piece). RanButRows s ps from to a c) (sym (all_now from mid on.read fresh on.feeds.feeds))
+      (ran_both_but s on.feeds.feeds.done (resume mid.splitter []).last from mid to a b c first (fin.anywhere (state_after s on.feeds.feeds.done) first.state));
   ready = fin.ready;
   ran = λ w serves.
       (let first = on.feeds.ran w serves in
@@ -123,6 +133,23 @@ module _ (from to : Session) (l l2 : Option (List ℕ)) (a b c : View) (fresh : 
           short = on.short;
         }
 
+  module _ (s : State) (of : IsOfState from.store s) where
+    abbrev bytes_all : (status : Status) → ReadsToEnd status l2 → ReadsByStatus status on.read (on.anywhere s of).shown → ReadsBytes status l l2 a.emitted c.emitted
+    bytes_all status end by_status = record {
+      read = on.read;
+      shown = (on.anywhere s of).shown;
+      consumed = on.consumed;
+      emitted = appends_on (on.anywhere s of).shown (on.anywhere s of).emitted;
+      at_end = end;
+      by_status = by_status;
+      bounded = omega (arith, on.short);
+    }
+
+    all_but_rows : (n : ℕ) → to.refused ≡ n → EmitsAllButRows grammar_parser s on.read (on.anywhere s of).shown n
+    all_but_rows n is =
+        let count : to.refused ≡ counted_by from.refused (refusals s (all_pieces on.read)) = (on.anywhere s of).count in
+        record { all = (on.anywhere s of).replies; count = omega (arith, is, count, fresh.count) }
+
   -- ---- the use of the store was ended
 
   module _ (ends : (w : World) → ServesWorld b to.store.hand w → Ended c (closed w.layout)) where
@@ -130,7 +157,7 @@ module _ (from to : Session) (l l2 : Option (List ℕ)) (a b c : View) (fresh : 
     ended_by true is =
         let zero_is : to.refused ≡ 0 = grind arith in
         record {
-          bytes = record { read = on.read; shown = on.grows.0; consumed = on.consumed; emitted = appends_on on.grows.0 on.grows.1; at_end = on.at_end; by_status = on.short; bounded = omega (arith, on.short) };
+          anywhere = λ s of. record { bytes = bytes_all s of Done on.at_end on.short; shows = all_but_rows s of 0 zero_is };
           from = λ w serves.
               (let ran = on.ran w serves in
               record {
@@ -154,7 +181,7 @@ module _ (from to : Session) (l l2 : Option (List ℕ)) (a b c : View) (fresh : 
     ended_by false is =
         let some : 0 < to.refused = grind arith in
         record {
-          bytes = record { read = on.read; shown = on.grows.0; consumed = on.consumed; emitted = appends_on on.grows.0 on.grows.1; at_end = on.at_end; by_status = (some, on.short); bounded = omega (arith, on.short) };
+          anywhere = λ s of. record { bytes = bytes_all s of (Refused to.refused) on.at_end (some, on.short); shows = all_but_rows s of to.refused refl };
           from = λ w serves.
               (let ran = on.ran w serves in
               record {
@@ -182,23 +209,12 @@ module _ (from to : Session) (l l2 : Option (List ℕ)) (a b c : View) (fresh : 
   -- and wasn't, since a call failed
   pub ends_unclosed : RunsCrashSafe FolderFault from.store l l2 a c
   ends_unclosed = record {
-    bytes = stop_bytes Disk on.read l l2 a c on.consumed (omega (arith, on.short)) (on.grows.0, appends_on on.grows.0 on.grows.1);
+    anywhere = λ s of.
+        let ran = on.anywhere s of in
+        stop_runs Disk s on.read l l2 a c (all_pieces on.read) [] on.consumed (omega (arith, on.short)) first (record { shown = ran.shown; emitted = appends_on ran.shown ran.emitted; replies = ran.replies });
     from = λ w serves.
         (let ran = on.ran w serves in
-        stops_world w serves.well on.read (all_pieces on.read) [] l l2 a c on.consumed (omega (arith, on.short))
-        (record {
-          rest = [];
-          parts = ap all_pieces (script_whole l l2 on.read on.consumed on.at_end) ∙ nothing_behind;
-          left_over = [];
-          of_read = nothing_behind;
-          before = on.read;
-          last = [];
-          reads = sym (append-nil on.read);
-          short = omega arith;
-          more = (pieces on.read).last;
-          has = refl;
-        })
-        Disk
+        stops_world w serves.well on.read (all_pieces on.read) [] l l2 a c on.consumed (omega (arith, on.short)) first Disk
         (record {
           shown = appends_on _ ran.shown;
           crashes = subst (λ (ps : List Piece). CrashLeavesPieces a c w ps) (sym (append-nil (all_pieces on.read))) (crashes w serves);
@@ -209,6 +225,20 @@ module _ (from to : Session) (l l2 : Option (List ℕ)) (a b c : View) (fresh : 
     where
       nothing_behind : all_pieces on.read ≡ all_pieces on.read ++ [] ++ []
       nothing_behind = sym (append-nil (all_pieces on.read ++ []) ∙ append-nil (all_pieces on.read))
+
+      first : IsFirstPart (script_of l on.read) on.read (all_pieces on.read) []
+      first = record {
+        rest = [];
+        parts = ap all_pieces (script_whole l l2 on.read on.consumed on.at_end) ∙ nothing_behind;
+        left_over = [];
+        of_read = nothing_behind;
+        before = on.read;
+        last = [];
+        reads = sym (append-nil on.read);
+        short = omega arith;
+        more = (pieces on.read).last;
+        has = refl;
+      }
 
 -- ---- the last piece wasn't answered
 
@@ -221,24 +251,27 @@ ends_last stop from mid l l1 l2 a b c n none fresh on few ate empty end fails =
     let consumed = consumes_none l l1 l2 on.read none on.consumed ate empty in
     let bounded : length on.read ≤ SCRIPT_MOST + READ_MOST = omega (arith, on.length_is, few) in
     let all : all_pieces on.read ≡ t.done ++ last ++ [] = all_now from mid on.read fresh t ∙ sym (append-nil (t.done ++ last)) in
+    let first : IsFirstPart (script_of l on.read) on.read t.done last = record {
+      rest = [];
+      parts = ap all_pieces (script_whole l l2 on.read consumed end) ∙ all;
+      left_over = [];
+      of_read = all;
+      before = on.read;
+      last = [];
+      reads = sym (append-nil on.read);
+      short = omega arith;
+      more = [];
+      has = sym (whole_now from mid on.read fresh t) ∙ sym (append-nil (pieces on.read).whole);
+    } in
     record {
-      bytes = stop_bytes stop on.read l l2 a c consumed bounded (grows_both a b c on.feeds.grows fails.grows);
+      anywhere = λ s of.
+          let ran = on.feeds.anywhere s of in
+          stop_runs stop s on.read l l2 a c t.done last consumed bounded first
+          (subst (λ (ps : List Piece). StoppedButRows stop s ps last a c) (append-nil t.done)
+          (stopped_behind_but stop s t.done [] last from mid a b c ran (fails.anywhere (state_after s t.done) ran.state)));
       from = λ w serves.
           (let ran = on.feeds.ran w serves in
-          stops_world w serves.well on.read t.done last l l2 a c consumed bounded
-          (record {
-            rest = [];
-            parts = ap all_pieces (script_whole l l2 on.read consumed end) ∙ all;
-            left_over = [];
-            of_read = all;
-            before = on.read;
-            last = [];
-            reads = sym (append-nil on.read);
-            short = omega arith;
-            more = [];
-            has = sym (whole_now from mid on.read fresh t) ∙ sym (append-nil (pieces on.read).whole);
-          })
-          stop
+          stops_world w serves.well on.read t.done last l l2 a c consumed bounded first stop
           (subst (λ (ps : List Piece). StoppedPieces stop w ps last a c) (append-nil t.done)
           (stopped_behind stop w t.done [] last from mid a b c ran (fails.stopped (after_pieces steps w t.done) ran.serves))));
     }
@@ -262,7 +295,12 @@ ends_long from mid to l l1 l2 a b c n chunk part rest fresh on few ate small par
     let bytes : script_of l read ≡ (on.read ++ part) ++ (rest ++ script.0) = script.1 ∙ ap (λ (r : List ℕ). r ++ script.0) all ∙ append_assoc (on.read ++ part) rest script.0 in
     let cut = ap all_pieces bytes ∙ all_behind _ t.feeds.done (resume to.splitter (rest ++ script.0)) (pieces_on from to (on.read ++ part) fresh t.feeds (rest ++ script.0)) in
     record {
-      bytes = record { read = read; shown = t.grows.0; consumed = consumed; emitted = t.grows.1; at_end = tt; by_status = long; bounded = bounded };
+      anywhere = λ s of.
+          let ran = t.anywhere s of in
+          record {
+            bytes = record { read = read; shown = ran.shown; consumed = consumed; emitted = ran.emitted; at_end = tt; by_status = long; bounded = bounded };
+            shows = subst (λ (ps : List Piece). AreRepliesButRows grammar_parser s ps ran.shown) (sym whole) ran.replies;
+          };
       from = λ w serves.
           (let ran = t.ran w serves in
           record {
@@ -301,24 +339,26 @@ ends_within stop from mid l l1 l2 a b c n chunk part rest fresh on few ate small
     let script = script_parts l l2 read consumed in
     let onward = resume u.stops.stand (u.stops.rest ++ (rest ++ script.0)) in
     let ended = resume u.stops.stand (u.stops.rest ++ (rest ++ [])) in
+    let first : IsFirstPart (script_of l read) read (t.done ++ u.stops.done) u.stops.next = record {
+      rest = onward.whole ++ onward.last;
+      parts = ap all_pieces script.1 ∙ behind_twice (pieces (read ++ script.0)) t.done u.stops.done u.stops.next onward (cut script.0);
+      left_over = ended.whole ++ ended.last;
+      of_read = ap all_pieces (sym (append-nil read)) ∙ behind_twice (pieces (read ++ [])) t.done u.stops.done u.stops.next ended (cut []);
+      before = on.read;
+      last = chunk;
+      reads = refl;
+      short = small;
+      more = u.stops.done;
+      has = ap (λ (ps : List Piece). ps ++ u.stops.done) (sym (whole_now from mid on.read fresh t));
+    } in
     record {
-      bytes = stop_bytes stop read l l2 a c consumed bounded (grows_both a b c on.feeds.grows u.grows);
+      anywhere = λ s of.
+          let ran = on.feeds.anywhere s of in
+          stop_runs stop s read l l2 a c (t.done ++ u.stops.done) u.stops.next consumed bounded first
+          (stopped_behind_but stop s t.done u.stops.done u.stops.next from mid a b c ran (u.anywhere (state_after s t.done) ran.state));
       from = λ w serves.
           (let ran = on.feeds.ran w serves in
-          stops_world w serves.well read (t.done ++ u.stops.done) u.stops.next l l2 a c consumed bounded
-          (record {
-            rest = onward.whole ++ onward.last;
-            parts = ap all_pieces script.1 ∙ behind_twice (pieces (read ++ script.0)) t.done u.stops.done u.stops.next onward (cut script.0);
-            left_over = ended.whole ++ ended.last;
-            of_read = ap all_pieces (sym (append-nil read)) ∙ behind_twice (pieces (read ++ [])) t.done u.stops.done u.stops.next ended (cut []);
-            before = on.read;
-            last = chunk;
-            reads = refl;
-            short = small;
-            more = u.stops.done;
-            has = ap (λ (ps : List Piece). ps ++ u.stops.done) (sym (whole_now from mid on.read fresh t));
-          })
-          stop
+          stops_world w serves.well read (t.done ++ u.stops.done) u.stops.next l l2 a c consumed bounded first stop
           (stopped_behind stop w t.done u.stops.done u.stops.next from mid a b c ran (u.stopped (after_pieces steps w t.done) ran.serves)));
     }
   where

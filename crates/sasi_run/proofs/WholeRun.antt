@@ -3,6 +3,7 @@ use Rattle.std.proofs.Common.{◌≡◌, ◌⊎◌, ℕ, List, [], ◌++◌, Opt
 use Rattle.std.proofs.lemmas.List.{append-nil}
 use Rattle.std.specs.Io.KnownBytes.{Appends}
 use Rattle.sasi_types.specs.declared.partitioner.Partitioner.{Partitioner}
+use Rattle.sasi_types.specs.declared.partitioner.Partitioner.TheVariants.{Lead8}
 use Rattle.sasi_host.specs.Names.{Folder}
 use Rattle.sasi_host.specs.View.{IsSound, IsTold, LeavesNow, SourceView, View}
 use Rattle.sasi_host.specs.Disk.{Changes, FromImage, Same}
@@ -23,8 +24,8 @@ use Rattle.sasi_cql.proofs.Parsing.{is_parser}
 use Rattle.sasi_recover.specs.declared.fault.OpenFault.{OpenFault}
 use Rattle.sasi_recover.specs.declared.fault.OpenFault.TheVariants as open_fault
 use Rattle.sasi_store.specs.StoreView.{StoreView}
-use Rattle.sasi_run.specs.Crashing.{CrashLeavesPieces, RunsCrashSafe, RunsWorld}
-use Rattle.sasi_run.specs.Headline.{EmitsFirstReplies, Headline, RanToEnd, ReadsBytes, Runs, RunsFrom, StandsForEnd, StartsFrom, script_of, status_of_fault}
+use Rattle.sasi_run.specs.Crashing.{CrashLeavesPieces, IsOfState, RunsCrashSafe, RunsWorld}
+use Rattle.sasi_run.specs.Headline.{EmitsFirstReplies, Headline, RanToEnd, ReadsBytes, Runs, RunsButRows, RunsFrom, StandsForEnd, StartsFrom, script_of, status_of_fault}
 use Rattle.sasi_run.specs.Recovering.{HasShapeOfImage, LeavesShape, Recovers}
 use Rattle.sasi_run.specs.declared.status.Status.{Status}
 use Rattle.sasi_run.specs.declared.status.Status.TheVariants.{Usage}
@@ -215,12 +216,28 @@ first_runs (open_fault.PartitionerDiffers asked kept) s l o o2 silent = record {
   bounded = omega arith;
 }
 
-pub first_bytes : (fault : OpenFault) (l o o2 : Option (List ℕ)) → Appends o o2 [] → ReadsBytes (status_of_fault fault) l l o o2
+abbrev pub first_bytes : (fault : OpenFault) (l o o2 : Option (List ℕ)) → Appends o o2 [] → ReadsBytes (status_of_fault fault) l l o o2
 first_bytes open_fault.Failed l o o2 silent = record { read = []; shown = []; consumed = consumes_nothing l; emitted = silent; at_end = tt; by_status = tt; bounded = omega arith }
 first_bytes open_fault.OutOfMemory l o o2 silent = record { read = []; shown = []; consumed = consumes_nothing l; emitted = silent; at_end = tt; by_status = tt; bounded = omega arith }
 first_bytes (open_fault.Damaged damage) l o o2 silent = record { read = []; shown = []; consumed = consumes_nothing l; emitted = silent; at_end = tt; by_status = tt; bounded = omega arith }
 first_bytes (open_fault.PartitionerDiffers asked kept) l o o2 silent =
     record { read = []; shown = []; consumed = consumes_nothing l; emitted = silent; at_end = tt; by_status = (refl, refl); bounded = omega arith }
+
+-- from any state
+first_but_rows : (fault : OpenFault) (s : State) (l o o2 : Option (List ℕ)) → Appends o o2 [] → RunsButRows grammar_parser (status_of_fault fault) s l l o o2
+first_but_rows open_fault.Failed s l o o2 silent = record {
+  bytes = first_bytes open_fault.Failed l o o2 silent;
+  shows = record { done = []; first = (nothing_read s (script_of l [])).first; replied = refl };
+}
+first_but_rows open_fault.OutOfMemory s l o o2 silent = record {
+  bytes = first_bytes open_fault.OutOfMemory l o o2 silent;
+  shows = record { done = []; first = (nothing_read s (script_of l [])).first; replied = refl };
+}
+first_but_rows (open_fault.Damaged damage) s l o o2 silent = record {
+  bytes = first_bytes (open_fault.Damaged damage) l o o2 silent;
+  shows = record { done = []; first = (nothing_read s (script_of l [])).first; replied = refl };
+}
+first_but_rows (open_fault.PartitionerDiffers asked kept) s l o o2 silent = record { bytes = first_bytes (open_fault.PartitionerDiffers asked kept) l o o2 silent; shows = tt }
 
 not_ended : (fault : OpenFault) → RanToEnd (status_of_fault fault) → ⊥
 not_ended open_fault.Failed is = is
@@ -265,12 +282,22 @@ runs_opened asked status a b c m store l l2 sound starts change serves sound_c o
 
 -- ---- the headline
 
+-- a state without tables
+abbrev no_tables : State
+no_tables = record { partitioner = Lead8; tables = [] }
+
 -- the words name no script
 pub headline_unused : (asked : Option Partitioner) (script : SourceView) (a : View) → IsSound a → Headline asked Usage script script a a
 headline_unused asked script a sound = record {
   parser = grammar_parser;
   parses = is_parser;
-  on_every_host = record { read = []; shown = []; consumed = consumes_nothing script.left; emitted = appends_none a.emitted; at_end = tt; by_status = (refl, refl); bounded = omega arith };
+  on_every_host = (
+    no_tables,
+    record {
+      bytes = record { read = []; shown = []; consumed = consumes_nothing script.left; emitted = appends_none a.emitted; at_end = tt; by_status = (refl, refl); bounded = omega arith };
+      shows = tt;
+    },
+  );
   as_it_reads = λ folder l files shape. nothing_runs (state_of l) script.left a.emitted;
   shows = λ l starts. runs_nothing asked a l script.left sound starts;
 }
@@ -282,29 +309,37 @@ pub headline_unopened : (asked : Option Partitioner) (fault : OpenFault) (script
 headline_unopened asked fault script a b sound silent change = record {
   parser = grammar_parser;
   parses = is_parser;
-  on_every_host = first_bytes fault script.left a.emitted b.emitted silent;
+  on_every_host = (no_tables, first_but_rows fault no_tables script.left a.emitted b.emitted silent);
   as_it_reads = λ folder l files shape. first_runs fault (state_of l) script.left a.emitted b.emitted silent;
   shows = λ l starts. runs_unopened asked fault a b l script.left sound starts silent (change starts.folder l starts.reads starts.shape);
 }
 
 -- the script was run
-pub headline_opened : (asked : Option Partitioner) (status : Status) (script later : SourceView) (a b c : View) (store : StoreView) → IsSound a → IsSound c
+pub headline_opened : (asked : Option Partitioner) (status : Status) (script later : SourceView) (a b c : View) (store : StoreView) (s : State) → IsOfState store s → IsSound a → IsSound c
     → b.emitted ≡ a.emitted
     → ((folder : Folder) (l : Layout) → a.files ≡ Some folder → ShapeOf asked folder l → Changes (UnchangedOrShaped asked l) a b)
     → ((folder : Folder) (l : Layout) → a.files ≡ Some folder → ShapeOf asked folder l → ServesWorld b store.hand (new_world l))
     → RunsCrashSafe status store script.left later.left b c → Headline asked status script later a c
-headline_opened asked status script later a b c store sound sound_c silent change opened on = record {
+headline_opened asked status script later a b c store s of sound sound_c silent change opened on = record {
   parser = grammar_parser;
   parses = is_parser;
-  on_every_host = record {
-    read = on.bytes.read;
-    shown = on.bytes.shown;
-    consumed = on.bytes.consumed;
-    emitted = subst (λ (x : Option (List ℕ)). Appends x c.emitted on.bytes.shown) silent on.bytes.emitted;
-    at_end = on.bytes.at_end;
-    by_status = on.bytes.by_status;
-    bounded = on.bytes.bounded;
-  };
+  on_every_host =
+      let runs = on.anywhere s of in
+      (
+        s,
+        record {
+          bytes = record {
+            read = runs.bytes.read;
+            shown = runs.bytes.shown;
+            consumed = runs.bytes.consumed;
+            emitted = subst (λ (x : Option (List ℕ)). Appends x c.emitted runs.bytes.shown) silent runs.bytes.emitted;
+            at_end = runs.bytes.at_end;
+            by_status = runs.bytes.by_status;
+            bounded = runs.bytes.bounded;
+          };
+          shows = runs.shows;
+        },
+      );
   as_it_reads = λ folder l files shape.
       moved status (state_of l) script.left later.left b.emitted a.emitted c.emitted silent (on.from (new_world l) (opened folder l files shape)).runs;
   shows = λ l starts.

@@ -3,6 +3,9 @@ use Rattle.std.specs.Prelude.{◌≡◌, ◌≢◌, ◌⊎◌, ◌≤◌, ℕ, �
 use Rattle.std.specs.Io.KnownBytes.{Appends, Consumes, IsAtEnd, Keeps}
 use Rattle.sasi_model.specs.Pieces.{Piece, all_pieces}
 use Rattle.sasi_model.specs.Parsers.{grammar_parser}
+use Rattle.sasi_model.specs.State.{State}
+use Rattle.sasi_model.specs.Step.{refusals, state_after}
+use Rattle.sasi_machine.specs.Prepares.{IsStateOf}
 use Rattle.sasi_host.specs.declared.damage.Damage.{Damage}
 use Rattle.sasi_host.specs.View.{CrashLeaves, IsTold, View, counted_by}
 use Rattle.sasi_cql.specs.SplitterState.{resume}
@@ -13,11 +16,12 @@ use Rattle.sasi_layout.specs.Worlds.{ServesWorld, World, steps}
 use Rattle.sasi_store.specs.StoreView.{IsReady, StoreView}
 use Rattle.sasi_run.specs.declared.session.Session.{Session}
 use Rattle.sasi_run.specs.declared.session.Stop.{Stop}
+use Rattle.sasi_run.specs.declared.session.Stop.TheVariants.{Output, Spent}
 use Rattle.sasi_run.specs.declared.status.Status.{Status}
 use Rattle.sasi_run.specs.declared.status.Status.TheVariants.{Damaged, ScriptFault}
 use Rattle.sasi_run.specs.EmitCounts.{EmitsCounted, MakesEmits, emits_failed, emits_in}
-use Rattle.sasi_run.specs.Headline.{RanToEnd, READ_MOST, SCRIPT_MOST, ReadsBytes, Runs, script_of, status_of_stop}
-use Rattle.sasi_run.specs.Session.{EmittedAtStop, Feeds, Grows, Stops, refusals_of}
+use Rattle.sasi_run.specs.Headline.{AreRepliesButRows, IsReplyButRows, RanToEnd, READ_MOST, SCRIPT_MOST, Runs, RunsButRows, script_of, status_of_stop}
+use Rattle.sasi_run.specs.Session.{EmittedAtStop, Feeds, Stops, refusals_of}
 use Rattle.sasi_run.specs.Spending.{SpendsByStatus, SpendsNone}
 
 -- ---- moments
@@ -25,6 +29,33 @@ use Rattle.sasi_run.specs.Spending.{SpendsByStatus, SpendsNone}
 -- a crash meanwhile leaves no more than these pieces do, run from a world
 abbrev pub CrashLeavesPieces : View → View → World → List Piece → Type 0
 CrashLeavesPieces a b w pieces = (out : List ℕ) → a.emitted ≡ Some out → CrashLeaves a b (Crashed steps w out pieces)
+
+-- ---- parts of a run, on every host
+
+-- the store has the definitions and the largest timestamp of the state
+abbrev pub IsOfState : StoreView → State → Type 0
+IsOfState store s = IsStateOf store.hand.definitions store.hand.max_timestamp s
+
+-- From a state that the store was of these pieces were run: their replies were emitted, but for the rows, and the store is of the state after them.
+pub record RanButRows (s : State) (pieces : List Piece) (old new : Session) (a b : View) : Type 0 where
+  pub state : IsOfState new.store (state_after s pieces)
+  pub shown : List ℕ
+  pub emitted : Appends a.emitted b.emitted shown
+  pub replies : AreRepliesButRows grammar_parser s pieces shown
+  pub count : new.refused ≡ counted_by old.refused (refusals s pieces)
+
+-- what was emitted where a run stopped behind some pieces
+abbrev pub EmittedButRows : Stop → State → List Piece → List Piece → List ℕ → Type 0
+EmittedButRows Output s done next shown = (piece : Piece) × (whole front back : List ℕ) × (next ≡ piece ∷ []) × AreRepliesButRows grammar_parser s done whole
+    × IsReplyButRows grammar_parser (state_after s done) piece (front ++ back) × (shown ≡ whole ++ front)
+EmittedButRows (Spent kind) s done next shown = (piece : Piece) × (next ≡ piece ∷ []) × AreRepliesButRows grammar_parser s done shown
+EmittedButRows stop s done next shown = AreRepliesButRows grammar_parser s done shown
+
+-- From a state that the store was of the run stopped behind `done`, in `next`.
+pub record StoppedButRows (stop : Stop) (s : State) (done next : List Piece) (a b : View) : Type 0 where
+  pub shown : List ℕ
+  pub emitted : Appends a.emitted b.emitted shown
+  pub replies : EmittedButRows stop s done next shown
 
 -- ---- parts of a run, with what a crash leaves meanwhile, and how many emits they made
 
@@ -47,31 +78,31 @@ pub record StoppedPieces (stop : Stop) (w : World) (done next : List Piece) (a b
 -- the session has run this piece
 pub record AnswersCrashSafe (old new : Session) (a b : View) (piece : Piece) : Type 0 where
   pub reading : new.splitter ≡ old.splitter
-  pub grows : Grows a.emitted b.emitted
+  pub anywhere : (s : State) → IsOfState old.store s → RanButRows s (piece ∷ []) old new a b
   pub ready : IsReady b new.store
   pub ran : (w : World) → ServesWorld a old.store.hand w → RanPieces w (piece ∷ []) old new a b
 
 -- it stopped in these pieces
 pub record FailsCrashSafe (stop : Stop) (old : Session) (a b : View) (next : List Piece) : Type 0 where
-  pub grows : Grows a.emitted b.emitted
+  pub anywhere : (s : State) → IsOfState old.store s → StoppedButRows stop s [] next a b
   pub stopped : (w : World) → ServesWorld a old.store.hand w → StoppedPieces stop w [] next a b
 
 -- it was fed these bytes
 pub record FeedsCrashSafe (old new : Session) (a b : View) (bytes : List ℕ) : Type 0 where
   pub feeds : Feeds old new bytes
-  pub grows : Grows a.emitted b.emitted
+  pub anywhere : (s : State) → IsOfState old.store s → RanButRows s feeds.done old new a b
   pub ready : IsReady b new.store
   pub ran : (w : World) → ServesWorld a old.store.hand w → RanPieces w feeds.done old new a b
 
 -- it stopped within them
 pub record StopsCrashSafe (stop : Stop) (old : Session) (a b : View) (bytes : List ℕ) : Type 0 where
   pub stops : Stops old bytes
-  pub grows : Grows a.emitted b.emitted
+  pub anywhere : (s : State) → IsOfState old.store s → StoppedButRows stop s stops.done stops.next a b
   pub stopped : (w : World) → ServesWorld a old.store.hand w → StoppedPieces stop w stops.done stops.next a b
 
 -- it has run the last piece, if anything was left of one
 pub record FinishesCrashSafe (old new : Session) (a b : View) : Type 0 where
-  pub grows : Grows a.emitted b.emitted
+  pub anywhere : (s : State) → IsOfState old.store s → RanButRows s (resume old.splitter []).last old new a b
   pub ready : IsReady b new.store
   pub ran : (w : World) → ServesWorld a old.store.hand w → RanPieces w (resume old.splitter []).last old new a b
 
@@ -118,7 +149,7 @@ pub record RanScript (from to : Session) (left_old left_new : Option (List ℕ))
   pub consumed : Consumes left_old left_new read
   pub short : length read ≤ SCRIPT_MOST
   pub at_end : IsAtEnd left_new
-  pub grows : Grows a.emitted b.emitted
+  pub anywhere : (s : State) → IsOfState from.store s → RanButRows s (all_pieces read) from to a b
   pub ready : IsReady b to.store
   pub ran : (w : World) → ServesWorld a from.store.hand w → RanPieces w (all_pieces read) from to a b
 
@@ -132,7 +163,7 @@ pub record RunsWorld (status : Status) (w : World) (left_old left_new : Option (
   pub spends : SpendsByStatus status w (script_of left_old runs.read) runs.read runs.shown
   pub undamaged : (damage : Damage) → status ≢ Damaged damage
 
--- the run read these bytes on every host, and so from each world that the store served
+-- the run of a store from each state that it was of, and from each world that it served
 pub record RunsCrashSafe (status : Status) (store : StoreView) (left_old left_new : Option (List ℕ)) (a b : View) : Type 0 where
-  pub bytes : ReadsBytes status left_old left_new a.emitted b.emitted
+  pub anywhere : (s : State) → IsOfState store s → RunsButRows grammar_parser status s left_old left_new a.emitted b.emitted
   pub from : (w : World) → ServesWorld a store.hand w → RunsWorld status w left_old left_new a b

@@ -18,6 +18,7 @@ use Rattle.sasi_layout.specs.Shape.{IsOfShape, ShapeOf}
 use Rattle.sasi_layout.specs.Worlds.{new_world, steps_by}
 use Rattle.sasi_recover.specs.declared.fault.OpenFault.{OpenFault}
 use Rattle.sasi_recover.specs.declared.fault.OpenFault.TheVariants as open_fault
+use Rattle.sasi_store.specs.Answers.{PrintsRows}
 use Rattle.sasi_run.specs.Recovering.{LeavesShape, Recovers}
 use Rattle.sasi_run.specs.declared.session.Stop.{Stop}
 use Rattle.sasi_run.specs.declared.session.Stop.TheVariants.{Disk, Output, Memory, Corrupt, Spent}
@@ -146,6 +147,62 @@ pub record ReadsBytes (status : Status) (left_old left_new out_old out_new : Opt
   pub by_status : ReadsByStatus status read shown
   pub bounded : length read ≤ SCRIPT_MOST + READ_MOST
 
+-- the reply of a piece is that of the model, but where it has rows
+abbrev pub IsReplyButRows : Parser → State → Piece → List ℕ → Type 0
+IsReplyButRows parser s piece reply = ¬ (PrintsRows parser s piece) → reply ≡ (step_by parser s piece).reply
+
+-- and so is each of the replies of pieces, in their order
+abbrev pub AreRepliesButRows : Parser → State → List Piece → List ℕ → Type 0
+AreRepliesButRows parser s [] shown = shown ≡ []
+AreRepliesButRows parser s (p ∷ ps) shown = (reply others : List ℕ) × (shown ≡ reply ++ others) × IsReplyButRows parser s p reply × AreRepliesButRows parser (step_by parser s p).state ps others
+
+-- replies to all pieces of the script were emitted, and so many pieces are refused
+pub record EmitsAllButRows (parser : Parser) (s : State) (read shown : List ℕ) (refused : ℕ) : Type 0 where
+  pub all : AreRepliesButRows parser s (all_pieces read) shown
+  pub count : refused ≡ min (refusals_by parser s (all_pieces read)) (2 ^ 64 - 1)
+
+-- whole replies to a first part of the pieces were emitted
+pub record EmitsFirstButRows (parser : Parser) (s : State) (script read shown : List ℕ) : Type 0 where
+  pub done : List Piece
+  pub first : IsFirstPart script read done []
+  pub replied : AreRepliesButRows parser s done shown
+
+-- to all before the one that wasn't run
+pub record EmitsBeforeButRows (parser : Parser) (s : State) (script read shown : List ℕ) : Type 0 where
+  pub done : List Piece
+  pub piece : Piece
+  pub first : IsFirstPart script read done (piece ∷ [])
+  pub replied : AreRepliesButRows parser s done shown
+
+-- and a first part of the next reply behind them
+pub record EmitsCutButRows (parser : Parser) (s : State) (script read shown : List ℕ) : Type 0 where
+  pub done : List Piece
+  pub piece : Piece
+  pub first : IsFirstPart script read done (piece ∷ [])
+  pub whole : List ℕ
+  pub front : List ℕ
+  pub back : List ℕ
+  pub replied : AreRepliesButRows parser s done whole
+  pub reply : IsReplyButRows parser (state_by parser s done) piece (front ++ back)
+  pub parts : shown ≡ whole ++ front
+
+-- what was emitted, by the status
+abbrev pub EmitsButRows : Parser → Status → State → List ℕ → List ℕ → List ℕ → Type 0
+EmitsButRows parser Done s script read shown = EmitsAllButRows parser s read shown 0
+EmitsButRows parser (Refused n) s script read shown = EmitsAllButRows parser s read shown n
+EmitsButRows parser ScriptFault s script read shown = AreRepliesButRows parser s (pieces read).whole shown
+EmitsButRows parser ScriptTooLong s script read shown = AreRepliesButRows parser s (pieces (take SCRIPT_MOST read)).whole shown
+EmitsButRows parser Usage s script read shown = Unit {0}
+EmitsButRows parser (PartitionerDiffers asked kept) s script read shown = Unit {0}
+EmitsButRows parser (NumbersSpent kind) s script read shown = EmitsBeforeButRows parser s script read shown
+EmitsButRows parser OutputFault s script read shown = EmitsCutButRows parser s script read shown
+EmitsButRows parser status s script read shown = EmitsFirstButRows parser s script read shown
+
+-- **On every host.** The run read these bytes, and emitted what they show from this state, whatever the rows are that the SELECTs print.
+pub record RunsButRows (parser : Parser) (status : Status) (s : State) (left_old left_new out_old out_new : Option (List ℕ)) : Type 0 where
+  pub bytes : ReadsBytes status left_old left_new out_old out_new
+  pub shows : EmitsButRows parser status s (script_of left_old bytes.read) bytes.read bytes.shown
+
 -- ---- from a layout
 
 -- A run on this host begins with this layout: its folder, as it reads, has that shape, and each image of it has some shape.
@@ -179,8 +236,8 @@ pub record Headline (asked : Option Partitioner) (status : Status) (script_old s
   -- the parser of the grammar, by which each piece is read
   pub parser : Parser
   pub parses : IsParser parser
-  -- what was read, on every host: also where its files aren't told, or have no shape
-  pub on_every_host : ReadsBytes status script_old.left script_new.left host_old.emitted host_new.emitted
+  -- on every host, also where its files aren't told or have no shape: from some state all but the rows
+  pub on_every_host : (s : State) × RunsButRows parser status s script_old.left script_new.left host_old.emitted host_new.emitted
   -- the replies, from the layout whose shape the folder as it reads has, whatever its images have
   pub as_it_reads : (folder : Folder) (l : Layout) → host_old.files ≡ Some folder → ShapeOf asked folder l
       → Runs parser status (state_of l) script_old.left script_new.left host_old.emitted host_new.emitted

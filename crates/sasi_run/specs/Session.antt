@@ -52,10 +52,6 @@ abbrev pub EmitAppends : {T E : Type 0} → Option (List ℕ) → Option (List �
 EmitAppends old new (Ok _) bytes = Appends old new bytes
 EmitAppends old new (Err _) bytes = (front back : List ℕ) × (bytes ≡ front ++ back) × Appends old new front
 
--- known bytes grow
-abbrev pub Grows : Option (List ℕ) → Option (List ℕ) → Type 0
-Grows old new = (shown : List ℕ) × Appends old new shown
-
 -- the session was fed these bytes: these pieces ended in them, and it goes on behind them
 pub record Feeds (old new : Session) (bytes : List ℕ) : Type 0 where
   pub done : List Piece

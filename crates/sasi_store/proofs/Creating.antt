@@ -73,7 +73,7 @@ one_listing x y e = cc
 next_same : (former : Listing) (es : List Edit) (x y : Listing) → IsNext former es x → IsNext former es y → x ≡ y
 next_same former es x y first second = one_listing x y (first ∙ sym second)
 
-new_timestamp : (s : State) (d : Definition) → max_timestamp (with_new_table s d) ≡ max_timestamp s
+pub new_timestamp : (s : State) (d : Definition) → max_timestamp (with_new_table s d) ≡ max_timestamp s
 unfolding max_timestamp
 new_timestamp s d = greatest_push s.tables (empty_table d) nothing_held
 

@@ -28,3 +28,4 @@ pub mod FloorLaws
 pub mod FlushingParts
 pub mod Selecting
 pub mod Prepared
+pub mod Known

@@ -129,12 +129,12 @@ blank_times (d ∷ ds) = omega (arith, no_time d, blank_times ds)
 abbrev deletion : ℕ → Mutation
 deletion time = record { table = suc zero; key = []; change = record { deleted = time; cells = map_.empty } }
 
-blank_time : (q : Partitioner) (ds : List Definition) → max_timestamp (record { partitioner = q; tables = map empty_table ds }) ≡ 0
+pub blank_time : (q : Partitioner) (ds : List Definition) → max_timestamp (record { partitioner = q; tables = map empty_table ds }) ≡ 0
 unfolding max_timestamp
 blank_time q ds = blank_times ds
 
 -- where there is a table, there is a state with this largest timestamp
-timed : (q : Partitioner) (d : Definition) (ds : List Definition) (time : ℕ) → IsStateOf (d ∷ ds) time (state_with_mutation (record { partitioner = q; tables = map empty_table (d ∷ ds) }) (deletion time))
+pub timed : (q : Partitioner) (d : Definition) (ds : List Definition) (time : ℕ) → IsStateOf (d ∷ ds) time (state_with_mutation (record { partitioner = q; tables = map empty_table (d ∷ ds) }) (deletion time))
 timed q d ds time =
     let s : State = record { partitioner = q; tables = map empty_table (d ∷ ds) } in
     let here : slice_get s.tables (suc zero - 1) ≡ Some (empty_table d) = refl in

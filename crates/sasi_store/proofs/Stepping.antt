@@ -1,6 +1,7 @@
 -- What the parts of a step make of its promises.
-use Rattle.std.proofs.Common.{◌≡◌, ◌⊎◌, ◌++◌, ◌∷◌, ℕ, List, [], Option, None, Some, IsSome, Result, Ok, Err, refl, sym, ap, subst, ◌∙◌, inl, inr, append_assoc}
+use Rattle.std.proofs.Common.{◌≡◌, ◌⊎◌, ◌+◌, ◌≤◌, ◌++◌, ◌∷◌, ℕ, List, [], Option, None, Some, IsSome, Result, Ok, Err, refl, sym, ap, subst, ◌∙◌, inl, inr, append_assoc, arith}
 use Rattle.std.specs.Prelude.{IfErr, OnOk, IfOk}
+use Rattle.std.specs.Option.{option_map_or}
 use Rattle.sasi_folder.specs.Damages.{FolderShows}
 use Rattle.sasi_host.specs.ChangeLaws.{at_each_moment, stays}
 use Rattle.sasi_host.specs.Contents.{contents_same, reaches_where, told_after, told_before}
@@ -22,21 +23,28 @@ use Rattle.sasi_layout.specs.Statements.{definitions_of, moves_asked}
 use Rattle.sasi_layout.specs.Worlds.{ServesWorld, World, steps}
 use Rattle.sasi_layout.specs.declared.number_kind.NumberKind.{NumberKind}
 use Rattle.sasi_machine.specs.Outcome.{outcome_of}
-use Rattle.sasi_machine.specs.Prepares.{IsQuery, IsStateOf, SaysOne, StepsTo}
+use Rattle.sasi_machine.specs.Prepares.{IsQuery, IsStateOf, SaysOne, SelectsRows, StepsTo}
+use Rattle.sasi_machine.specs.declared.prepared.Selection.{Selection}
 use Rattle.sasi_machine.specs.declared.outcome.Outcome.{Outcome}
 use Rattle.sasi_machine.specs.declared.outcome.Outcome.TheVariants.{Done, Refused}
 use Rattle.sasi_types.specs.declared.statement.Statement.{Statement}
+use Rattle.sasi_types.specs.declared.statement.Statement.TheVariants.{Query}
+use Rattle.sasi_manifest.specs.Edits.{files_of}
 use Rattle.sasi_manifest.specs.declared.listing.Listing.{Listing}
 use Rattle.sasi_manifest.specs.OpenManifest.{ManifestStands}
+use Rattle.sasi_model.specs.Abbreviations.{definitions}
 use Rattle.sasi_model.specs.Asked as ask
 use Rattle.sasi_model.specs.Asked.{Asked, asks}
 use Rattle.sasi_model.specs.Pieces.{Piece}
 use Rattle.sasi_model.specs.Refusals.{Nothing, ParsedPiece, Refusal, Says, read}
 use Rattle.sasi_model.specs.State.{Definition, State, max_timestamp}
 use Rattle.sasi_model.specs.Step.{step}
-use Rattle.sasi_store.specs.Answers.{Answered, NeedsNoFile}
+use Rattle.sasi_store.specs.Answers.{Answered, AnsweredButRows, NeedsNoFile}
 use Rattle.sasi_store.specs.Faults.{OnSpent, OnStepDamage, StepCauses}
+use Rattle.sasi_schema.specs.Numbers.{number_of_table}
 use Rattle.sasi_store.specs.MakesMoves.{MakesMoves}
+use Rattle.sasi_store.specs.Paging.{table_reads}
+use Rattle.sasi_store.specs.Selects.{select_reads}
 use Rattle.sasi_store.specs.Steps.{Steps}
 use Rattle.sasi_store.specs.declared.fault.StepFault.{StepFault}
 use Rattle.sasi_store.specs.declared.fault.StepFault.TheVariants as fault
@@ -68,18 +76,30 @@ by_damage P Q f fault.OutOfMemory is = tt
 by_damage P Q f (fault.Damaged damage) is = f damage is
 by_damage P Q f (fault.NumbersSpent kind) is = tt
 
+-- the whole reply was known from the state
+answered_as : (store : StoreInHand) (s after : State) (piece : Piece) (reply : List ℕ) (outcome : Outcome) → StepsTo s piece after reply outcome → IsStateOf store.definitions store.max_timestamp after → AnsweredButRows store s piece reply outcome
+answered_as store s after piece reply outcome to of = record {
+  state_is = subst (IsStateOf store.definitions store.max_timestamp) (sym to.state_is) of;
+  outcome_is = to.outcome_is;
+  reply_is = λ _. sym to.reply_is;
+}
+
 module _ {T : Type 0} (a b : View) (old new : StoreInHand) (piece : Piece) (reply : List ℕ) (asked : Asked) (is : asks old.definitions old.max_timestamp piece ≡ asked) (changing : asked ≡ ask.NoChange → ⊥) where
-  -- its moves were made
-  pub step_made : (x : T) → MakesMoves {T = T} (λ l. moves_asked l asked) a b old new (Ok x)
-      → ((s : State) → IsStateOf old.definitions old.max_timestamp s → (step s piece).reply ≡ reply) → ((s : State) → IsStateOf old.definitions old.max_timestamp s → Done ≡ outcome_of (step s piece).refused)
+  -- its moves were made; `after` is the state after the piece
+  pub step_made : (x : T) (after : State → State) → MakesMoves {T = T} (λ l. moves_asked l asked) a b old new (Ok x)
+      → ((s : State) → IsStateOf old.definitions old.max_timestamp s → StepsTo s piece (after s) reply Done)
+      → ((s : State) → IsStateOf old.definitions old.max_timestamp s → IsStateOf new.definitions new.max_timestamp (after s))
       → Steps piece a b old new reply (Ok Done)
-  step_made x makes replied outcome = record {
-    answers = λ w serves. record {
-      serves = subst (λ (ms : List Move). Serves b new (after_moves ms w.layout)) (sym (moves_are a old piece asked is w serves)) (makes.serves w.layout serves);
-      reply_is = sym (replied (state_of w.layout) (state_is a old w.layout serves));
-      outcome_is = outcome (state_of w.layout) (state_is a old w.layout serves);
-      unspent = ap (spent w.layout) (moves_are a old piece asked is w serves) ∙ makes.unspent w.layout serves;
-    };
+  step_made x after makes steps_to known = record {
+    answers = λ w serves.
+        let to = steps_to (state_of w.layout) (state_is a old w.layout serves) in
+        record {
+          serves = subst (λ (ms : List Move). Serves b new (after_moves ms w.layout)) (sym (moves_are a old piece asked is w serves)) (makes.serves w.layout serves);
+          reply_is = sym to.reply_is;
+          outcome_is = to.outcome_is;
+          unspent = ap (spent w.layout) (moves_are a old piece asked is w serves) ∙ makes.unspent w.layout serves;
+        };
+    everywhere = λ s of. answered_as new s (after s) piece reply Done (steps_to s of) (known s of);
     ready = makes.ready;
     any_moment = λ w serves. subst (λ (ms : List Move). Changes (λ x y. Between w.layout ms y) a b) (sym (moves_are a old piece asked is w serves)) (makes.any_moment w.layout serves);
     spent_is = tt;
@@ -87,6 +107,7 @@ module _ {T : Type 0} (a b : View) (old new : StoreInHand) (piece : Piece) (repl
     undamaged = λ w serves. tt;
     reads_only = λ none. absurd (changing (sym is ∙ none));
     unread = λ other. makes.reads;
+    reads = λ w serves. omega (arith, makes.reads);
     changes = makes.changes;
     causes = record { disk = makes.causes.disk; out = makes.causes.out; ok = makes.causes.ok; failed = tt; others = tt };
   }
@@ -95,6 +116,7 @@ module _ {T : Type 0} (a b : View) (old new : StoreInHand) (piece : Piece) (repl
   pub step_failed : (e : StepFault) → MakesMoves {T = T} (λ l. moves_asked l asked) a b old new (Err e) → Steps piece a b old new reply (Err e)
   step_failed e makes = record {
     answers = tt;
+    everywhere = tt;
     ready = tt;
     any_moment = λ w serves. subst (λ (ms : List Move). Changes (λ x y. Between w.layout ms y) a b) (sym (moves_are a old piece asked is w serves)) (makes.any_moment w.layout serves);
     spent_is = by_spent _ _ (λ kind on w serves. ap (spent w.layout) (moves_are a old piece asked is w serves) ∙ on w.layout serves) e makes.spent_is;
@@ -102,6 +124,7 @@ module _ {T : Type 0} (a b : View) (old new : StoreInHand) (piece : Piece) (repl
     undamaged = λ w serves. makes.undamaged;
     reads_only = λ none. absurd (changing (sym is ∙ none));
     unread = λ other. makes.reads;
+    reads = tt;
     changes = makes.changes;
     causes = record { disk = makes.causes.disk; out = makes.causes.out; ok = tt; failed = makes.causes.failed; others = makes.causes.others };
   }
@@ -118,6 +141,7 @@ none_left = Err fault.OutOfMemory
 pub step_full : (v : View) (sound : IsSound v) (old : StoreInHand) (piece : Piece) (reply : List ℕ) → Steps piece v v old old reply (Err fault.OutOfMemory)
 step_full v sound old piece reply = record {
   answers = tt;
+  everywhere = tt;
   ready = tt;
   any_moment = λ w serves. moves_none w.layout v (steps.moves w piece) sound (λ x now. (_, serves.shape x now));
   spent_is = tt;
@@ -125,6 +149,7 @@ step_full v sound old piece reply = record {
   undamaged = λ w serves. tt;
   reads_only = λ none. stays v;
   unread = λ other. refl;
+  reads = tt;
   changes = any_change Same v v (stays v);
   causes = none_made v (Err fault.OutOfMemory) (λ e is same. memory_only e is same);
 }
@@ -147,6 +172,7 @@ step_answered v sound old piece reply outcome ready is steps_to = record {
         outcome_is = to.outcome_is;
         unspent = ap (spent w.layout) (moves_are v old piece ask.NoChange is w serves);
       };
+  everywhere = λ s of. answered_as old s s piece reply outcome (steps_to s of) of;
   ready = ready;
   any_moment = λ w serves. moves_none w.layout v (steps.moves w piece) sound (λ x now. (_, serves.shape x now));
   spent_is = tt;
@@ -154,11 +180,27 @@ step_answered v sound old piece reply outcome ready is steps_to = record {
   undamaged = λ w serves. tt;
   reads_only = λ none. stays v;
   unread = λ other. refl;
+  reads = λ w serves. omega arith;
   changes = any_change Same v v (stays v);
   causes = none_made v (Ok outcome) (λ e same. cc);
 }
 
 -- ---- a SELECT
+
+-- what it may read, by the number of the table that it names
+pub select_costs : (seen : Option Folder) (store : StoreInHand) (s : State) (piece : Piece) (rows : Selection) → definitions s.tables ≡ store.definitions → SaysOne piece (λ statement. SelectsRows s statement rows)
+    → select_reads seen store (read piece) ≡ table_reads seen (files_of store.manifest.listing.tables rows.table)
+select_costs seen store s piece rows are (statement, says, well, selects) = ap (select_reads seen store) says ∙ by statement selects
+  where
+    by : (statement : Statement) → SelectsRows s statement rows → select_reads seen store (Says statement) ≡ table_reads seen (files_of store.manifest.listing.tables rows.table)
+    by (Query select) selects =
+        ap (λ (o : Option ℕ). option_map_or (λ number. table_reads seen (files_of store.manifest.listing.tables number)) o 0)
+        (ap (number_of_table select.table) (sym are) ∙ selects.3)
+    by statement selects = absurd selects
+
+none_refused : (o : Option Refusal) → Done ≡ outcome_of o → o ≡ None
+none_refused None done = refl
+none_refused (Some r) done = cc
 
 module _ (a b : View) (change : Changes Same a b) where
   -- each image was one before
@@ -223,15 +265,25 @@ module _ (a b : View) (sound : IsSound a) (old : StoreInHand) (piece : Piece) (c
   moments w serves = at_each_moment a b Same (λ x. HasShape x (bare w.layout) (serves.older ++ serves.current ∷ [])) (λ y. Between w.layout (steps.moves w piece) y) sound change serves.shape
       (λ x y has same. none_done w.layout (steps.moves w piece) y (_, subst (λ (z : Folder). HasShape z (bare w.layout) (serves.older ++ serves.current ∷ [])) (sym same) has))
 
-  pub select_answered : {T : Type 0} (x : T) (reply : List ℕ) → IsReady a old → ((w : World) → ServesWorld a old w → (step (state_of w.layout) piece).reply ≡ reply) → ((w : World) → ServesWorld a old w → Done ≡ outcome_of (step (state_of w.layout) piece).refused)
+  pub select_answered : {T : Type 0} (x : T) (reply : List ℕ) → IsReady a old → ((w : World) → ServesWorld a old w → (step (state_of w.layout) piece).reply ≡ reply)
+      → ((s : State) → IsStateOf old.definitions old.max_timestamp s → ((step s piece).state ≡ s) × (Done ≡ outcome_of (step s piece).refused))
+      → (number : ℕ) → select_reads a.files old (read piece) ≡ table_reads a.files (files_of old.manifest.listing.tables number)
+      → ((l : Layout) → Serves a old l → b.reads ≤ a.reads + table_reads a.files (files_of old.manifest.listing.tables number))
       → StepCauses {T = T} a b (Ok x) → Steps piece a b old old reply (Ok Done)
-  select_answered x reply ready replied outcome causes = record {
+  select_answered x reply ready replied steps_to number cost costs causes = record {
     answers = λ w serves. record {
       serves = subst (λ (ms : List Move). Serves b old (after_moves ms w.layout)) (sym (moves_are a old piece ask.NoChange is w serves)) (serves_same a b change old w.layout serves);
       reply_is = sym (replied w serves);
-      outcome_is = outcome w serves;
+      outcome_is = (steps_to (state_of w.layout) (state_is a old w.layout serves)).1;
       unspent = ap (spent w.layout) (moves_are a old piece ask.NoChange is w serves);
     };
+    everywhere = λ s of.
+        let to = steps_to s of in
+        record {
+          state_is = subst (IsStateOf old.definitions old.max_timestamp) (sym to.0) of;
+          outcome_is = to.1;
+          reply_is = λ other. absurd (other (query, none_refused (step s piece).refused to.1));
+        };
     ready = ready_same a b change old ready;
     any_moment = moments;
     spent_is = tt;
@@ -239,6 +291,7 @@ module _ (a b : View) (sound : IsSound a) (old : StoreInHand) (piece : Piece) (c
     undamaged = λ w serves. tt;
     reads_only = λ none. change;
     unread = λ other. absurd (other query);
+    reads = λ w serves. subst (λ (n : ℕ). b.reads ≤ a.reads + n) (sym cost) (costs w.layout serves);
     changes = any_change Same a b change;
     causes = record { disk = causes.disk; out = causes.out; ok = causes.ok; failed = tt; others = tt };
   }
@@ -247,6 +300,7 @@ module _ (a b : View) (sound : IsSound a) (old : StoreInHand) (piece : Piece) (c
       → StepCauses {T = T} a b (Err e) → Steps piece a b old old reply (Err e)
   select_failed e reply damaged undamaged unspent causes = record {
     answers = tt;
+    everywhere = tt;
     ready = tt;
     any_moment = moments;
     spent_is = by_spent (λ _. ⊥) _ (λ kind none. absurd none) e unspent;
@@ -254,6 +308,7 @@ module _ (a b : View) (sound : IsSound a) (old : StoreInHand) (piece : Piece) (c
     undamaged = λ w serves. undamaged w.layout serves;
     reads_only = λ none. change;
     unread = λ other. absurd (other query);
+    reads = tt;
     changes = any_change Same a b change;
     causes = record { disk = causes.disk; out = causes.out; ok = tt; failed = causes.failed; others = causes.others };
   }

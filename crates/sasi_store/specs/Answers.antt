@@ -7,11 +7,13 @@ use Rattle.sasi_layout.specs.Serving.{StoreInHand}
 use Rattle.sasi_layout.specs.Spent.{spent}
 use Rattle.sasi_layout.specs.Worlds.{ServesWorld, World, steps}
 use Rattle.sasi_machine.specs.Outcome.{outcome_of}
+use Rattle.sasi_machine.specs.Prepares.{IsQuery, IsStateOf}
 use Rattle.sasi_machine.specs.declared.outcome.Outcome.{Outcome}
+use Rattle.sasi_model.specs.Parsers.{Parser, grammar_parser}
 use Rattle.sasi_model.specs.Pieces.{Piece}
-use Rattle.sasi_model.specs.Refusals.{Nothing, read}
+use Rattle.sasi_model.specs.Refusals.{Nothing, read, read_by}
 use Rattle.sasi_model.specs.State.{State}
-use Rattle.sasi_model.specs.Step.{step}
+use Rattle.sasi_model.specs.Step.{step, step_by}
 
 -- any change of the folder
 abbrev pub AnyFolderChange : Folder → Folder → Type 0
@@ -23,6 +25,16 @@ pub record Answered (v : View) (store : StoreInHand) (w : World) (piece : Piece)
   pub reply_is : reply ≡ steps.reply w piece
   pub outcome_is : outcome ≡ outcome_of (step (state_of w.layout) piece).refused
   pub unspent : spent w.layout (steps.moves w piece) ≡ None
+
+-- a SELECT that isn't refused: its reply has rows, which may come from files
+abbrev pub PrintsRows : Parser → State → Piece → Type 0
+PrintsRows parser s piece = IsQuery (read_by parser piece) × ((step_by parser s piece).refused ≡ None)
+
+-- Whatever the files are: the outcome is that of the model's step, and so is the reply, but where it has rows. The store has the definitions and the largest timestamp of the state after the piece.
+pub record AnsweredButRows (store : StoreInHand) (s : State) (piece : Piece) (reply : List ℕ) (outcome : Outcome) : Type 0 where
+  pub state_is : IsStateOf store.definitions store.max_timestamp (step s piece).state
+  pub outcome_is : outcome ≡ outcome_of (step s piece).refused
+  pub reply_is : ¬ (PrintsRows grammar_parser s piece) → reply ≡ (step s piece).reply
 
 -- the piece is refused, or has no reply
 abbrev pub NeedsNoFile : State → Piece → Type 0

@@ -7,9 +7,15 @@ use Rattle.sasi_layout.specs.Layout.{Layout}
 use Rattle.sasi_layout.specs.Moves.{Move, after_moves}
 use Rattle.sasi_layout.specs.Serving.{IsReady, Serves, StoreInHand}
 use Rattle.sasi_layout.specs.Spent.{spent}
+use Rattle.sasi_model.specs.State.{Definition}
 use Rattle.sasi_store.specs.Answers.{AnyFolderChange}
 use Rattle.sasi_store.specs.Faults.{OnSpent, OnStepDamage, StepCauses}
 use Rattle.sasi_store.specs.declared.fault.StepFault.{StepFault}
+
+-- what the store knows of its state without its files
+pub record Knows (store : StoreInHand) (definitions : List Definition) (max_timestamp : ℕ) : Type 0 where
+  pub definitions_are : store.definitions ≡ definitions
+  pub timestamp_is : store.max_timestamp ≡ max_timestamp
 
 -- the moves of each layout
 abbrev pub MovesOf : Type 0

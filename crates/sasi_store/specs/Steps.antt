@@ -1,5 +1,5 @@
 -- What a step promises.
-use Rattle.std.specs.Prelude.{◌≡◌, ℕ, List, IfErr, IfOk, OnOk, Some, Result}
+use Rattle.std.specs.Prelude.{◌≡◌, ◌+◌, ◌≤◌, ℕ, List, IfErr, IfOk, OnOk, Some, Result}
 use Rattle.sasi_folder.specs.Damages.{FolderShows}
 use Rattle.sasi_host.specs.Disk.{Changes, Same}
 use Rattle.sasi_host.specs.Names.{Folder}
@@ -8,17 +8,20 @@ use Rattle.sasi_layout.specs.Between.{Between}
 use Rattle.sasi_layout.specs.Serving.{IsReady, StoreInHand}
 use Rattle.sasi_layout.specs.Spent.{spent}
 use Rattle.sasi_layout.specs.Worlds.{ServesWorld, World, steps}
-use Rattle.sasi_machine.specs.Prepares.{IsQuery}
+use Rattle.sasi_machine.specs.Prepares.{IsQuery, IsStateOf}
 use Rattle.sasi_machine.specs.declared.outcome.Outcome.{Outcome}
 use Rattle.sasi_model.specs.Asked.{NoChange, asks}
 use Rattle.sasi_model.specs.Pieces.{Piece}
 use Rattle.sasi_model.specs.Refusals.{read}
-use Rattle.sasi_store.specs.Answers.{Answered, AnyFolderChange}
+use Rattle.sasi_model.specs.State.{State}
+use Rattle.sasi_store.specs.Answers.{Answered, AnsweredButRows, AnyFolderChange}
 use Rattle.sasi_store.specs.Faults.{OnSpent, OnStepDamage, StepCauses}
+use Rattle.sasi_store.specs.Selects.{select_reads}
 use Rattle.sasi_store.specs.declared.fault.StepFault.{StepFault}
 
 pub record Steps (piece : Piece) (a b : View) (old new : StoreInHand) (reply : List ℕ) (result : Result Outcome StepFault) : Type 0 where
   pub answers : IfOk result (λ outcome. (w : World) → ServesWorld a old w → Answered b new w piece reply outcome)
+  pub everywhere : IfOk result (λ outcome. (s : State) → IsStateOf old.definitions old.max_timestamp s → AnsweredButRows new s piece reply outcome)
   pub ready : OnOk result (IsReady b new)
   pub any_moment : (w : World) → ServesWorld a old w → Changes (λ x y. Between w.layout (steps.moves w piece) y) a b
   pub spent_is : IfErr result (OnSpent (λ kind. (w : World) → ServesWorld a old w → spent w.layout (steps.moves w piece) ≡ Some kind))
@@ -26,5 +29,6 @@ pub record Steps (piece : Piece) (a b : View) (old new : StoreInHand) (reply : L
   pub undamaged : (w : World) → ServesWorld a old w → IfErr result (OnStepDamage (λ _. ⊥))
   pub reads_only : asks old.definitions old.max_timestamp piece ≡ NoChange → Changes Same a b
   pub unread : (IsQuery (read piece) → ⊥) → b.reads ≡ a.reads
+  pub reads : OnOk result ((w : World) → ServesWorld a old w → b.reads ≤ a.reads + select_reads a.files old (read piece))
   pub changes : Changes AnyFolderChange a b
   pub causes : StepCauses a b result

@@ -4,7 +4,7 @@ ghost use Rattle.sasi_layout.specs.Serving.{IsReady};
 ghost use Rattle.sasi_layout.specs.Statements.{moves_asked};
 ghost use Rattle.sasi_model.specs.Asked.{Creates};
 ghost use Rattle.sasi_schema.specs.Defined.{definition};
-ghost use Rattle.sasi_store.specs.MakesMoves.{MakesMoves};
+ghost use Rattle.sasi_store.specs.MakesMoves.{Knows, MakesMoves};
 ghost use Rattle.sasi_store.specs.StoreView.{IsOfParts, hand_of};
 ghost use Rattle.sasi_store.specs.Writable.{IsCreatable};
 
@@ -23,6 +23,7 @@ pub fn create<H: Host>(parts: &mut Parts, host: &mut H, table: Table) -> Result<
     requires parts { IsOfParts parts.old }
     requires creatable { IsCreatable (hand_of parts.old) table }
     ensures makes { MakesMoves (λ l. moves_asked l (Creates (definition table))) (H.view host.old) (H.view host.new) (hand_of parts.old) (hand_of parts.new) result }
+    ensures knows { OnOk result (Knows (hand_of parts.new) (parts.old.schema ++ definition table ∷ []) parts.old.max_timestamp) }
     ensures parts { OnOk result (IsOfParts parts.new) }
 {
     let edits = edits_of(parts.alloc, &table, parts.manifest.listing().last)?;

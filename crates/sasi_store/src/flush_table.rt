@@ -7,7 +7,7 @@ ghost use Rattle.sasi_recover.specs.OpenedFolder.{table_in_hand};
 ghost use Rattle.sasi_recover.specs.declared.opened.TableMap.{TableMap as ATableMap};
 ghost use Rattle.sasi_schema.specs.Numbers.{RisesFrom};
 ghost use Rattle.sasi_store.specs.Floors.{HoldsAny, floor_in_hand, lowered};
-ghost use Rattle.sasi_store.specs.MakesMoves.{MakesMoves};
+ghost use Rattle.sasi_store.specs.MakesMoves.{Knows, MakesMoves};
 ghost use Rattle.sasi_store.specs.Numbers.{AreNext, AreSpent};
 ghost use Rattle.sasi_store.specs.Puts.{HasTableFor};
 ghost use Rattle.sasi_store.specs.StoreView.{IsOfParts, hand_of};
@@ -31,6 +31,7 @@ pub fn flush_held<H: Host>(
     requires parts { IsOfParts parts.old }
     requires there { HasTableFor table parts.old.tables.items }
     ensures makes { MakesMoves (flush_where hold_any table) (H.view host.old) (H.view host.new) (hand_of parts.old) (hand_of parts.new) result }
+    ensures knows { OnOk result (Knows (hand_of parts.new) parts.old.schema parts.old.max_timestamp) }
     ensures parts { OnOk result (IsOfParts parts.new) }
 {
     if parts.tables[table as usize - 1].memtable.is_empty() {
@@ -49,6 +50,7 @@ pub fn flush_table<H: Host>(
     requires parts { IsOfParts parts.old }
     requires held { HoldsAny table (hand_of parts.old) }
     ensures makes { MakesMoves (λ l. Flush table ∷ []) (H.view host.old) (H.view host.new) (hand_of parts.old) (hand_of parts.new) result }
+    ensures knows { OnOk result (Knows (hand_of parts.new) parts.old.schema parts.old.max_timestamp) }
     ensures parts { OnOk result (IsOfParts parts.new) }
 {
     let next = next_numbers(parts.numbers)?;

@@ -1,12 +1,14 @@
 // SELECTs.
-ghost use Rattle.std.specs.Prelude.{◌≡◌, ◌++◌, IfErr, OnOk, Some};
+ghost use Rattle.std.specs.Prelude.{◌≡◌, ◌+◌, ◌++◌, ◌≤◌, IfErr, OnOk, Some};
 ghost use Rattle.sasi_folder.specs.Damages.{FolderShows};
 ghost use Rattle.sasi_host.specs.Disk.{Changes, Same};
 ghost use Rattle.sasi_host.specs.Names.{Folder};
 ghost use Rattle.sasi_layout.specs.Layout.{Layout, state_of};
 ghost use Rattle.sasi_layout.specs.Serving.{IsReady, Serves};
 ghost use Rattle.sasi_machine.specs.Prepares.{answer_rows};
+ghost use Rattle.sasi_manifest.specs.Edits.{files_of};
 ghost use Rattle.sasi_store.specs.Faults.{OnSpent, OnStepDamage, StepCauses};
+ghost use Rattle.sasi_store.specs.Paging.{table_reads};
 ghost use Rattle.sasi_store.specs.Selects.{IsSelectable};
 ghost use Rattle.sasi_store.specs.StoreView.{IsOfParts, hand_of};
 
@@ -29,6 +31,7 @@ pub fn select<H: Host>(
     requires parts { IsOfParts parts.now }
     requires there { IsSelectable (hand_of parts.now) rows.now }
     ensures ok { OnOk result ((l : Layout) → Serves (H.view host.old) (hand_of parts.now) l → reply.new ≡ reply.old ++ answer_rows (state_of l) rows.now) }
+    ensures reads { OnOk result ((l : Layout) → Serves (H.view host.old) (hand_of parts.now) l → (H.view host.new).reads ≤ (H.view host.old).reads + table_reads (H.view host.old).files (files_of parts.now.manifest.listing.tables rows.now.table)) }
     ensures damaged { (folder : Folder) → (H.view host.new).files ≡ Some folder → IfErr result (OnStepDamage (FolderShows folder)) }
     ensures undamaged { (l : Layout) → Serves (H.view host.old) (hand_of parts.now) l → IfErr result (OnStepDamage (λ _. ⊥)) }
     ensures unspent { IfErr result (OnSpent (λ _. ⊥)) }

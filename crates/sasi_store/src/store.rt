@@ -1,5 +1,5 @@
 // Stores.
-ghost use Rattle.std.specs.Prelude.{◌≡◌, ◌≢◌, ◌⊎◌, [], IfErr, IfOk, OnOk, Some, is_ok};
+ghost use Rattle.std.specs.Prelude.{◌≡◌, ◌≢◌, ◌⊎◌, ◌+◌, ◌≤◌, [], IfErr, IfOk, OnOk, Some, is_ok};
 ghost use Rattle.sasi_types.specs.declared.partitioner.Partitioner.{Partitioner as APartitioner};
 ghost use Rattle.sasi_host.specs.Disk.{Changes, Same};
 ghost use Rattle.sasi_host.specs.Names.{Folder};
@@ -19,8 +19,9 @@ ghost use Rattle.sasi_layout.specs.Worlds.{ServesWorld, World, new_world, steps}
 ghost use Rattle.sasi_machine.specs.Prepares.{IsQuery, IsStateOf};
 ghost use Rattle.sasi_recover.specs.Faults.{OnDiffers, OnOpenDamage, OpenCauses, TellsDifference};
 ghost use Rattle.sasi_recover.specs.OpeningReads.{OpensReadingOnce};
-ghost use Rattle.sasi_store.specs.Answers.{Answered, AnyFolderChange, NeedsNoFile};
+ghost use Rattle.sasi_store.specs.Answers.{Answered, AnsweredButRows, AnyFolderChange, NeedsNoFile};
 ghost use Rattle.sasi_store.specs.Faults.{OnSpent, OnStepDamage, StepCauses};
+ghost use Rattle.sasi_store.specs.Selects.{select_reads};
 ghost use Rattle.sasi_store.specs.StoreView.{IsReady};
 
 use crate::StepFault;
@@ -63,6 +64,7 @@ impl Store {
         asked: Option<Partitioner>,
     ) -> Result<Store, OpenFault>
         ensures ready { IfOk result (λ store. IsReady (H.view host.new) store) }
+        ensures state { IfOk result (λ store. (s : State) × IsStateOf store.hand.definitions store.hand.max_timestamp s) }
         ensures serves { (folder : Folder) (l : Layout) → (H.view host.old).files ≡ Some folder → ShapeOf asked folder l → IfOk result (λ store. ServesWorld (H.view host.new) store.hand (new_world l)) }
         ensures opens { (folder : Folder) → (H.view host.old).files ≡ Some folder → OnOk result (CanOpen folder) }
         ensures any_moment { (folder : Folder) (l : Layout) → (H.view host.old).files ≡ Some folder → ShapeOf asked folder l → Changes (λ x y. (y ≡ x) ⊎ ShapeOf asked y l) (H.view host.old) (H.view host.new) }
@@ -97,6 +99,7 @@ impl Store {
     ) -> Result<Outcome, StepFault>
         requires { IsReady (H.view host.old) self.old }
         ensures answers { IfOk result (λ outcome. (w : World) → ServesWorld (H.view host.old) self.old.hand w → Answered (H.view host.new) self.new.hand w (piece_of end piece.now) reply.new outcome) }
+        ensures everywhere { IfOk result (λ outcome. (s : State) → IsStateOf self.old.hand.definitions self.old.hand.max_timestamp s → AnsweredButRows self.new.hand s (piece_of end piece.now) reply.new outcome) }
         ensures ready { OnOk result (IsReady (H.view host.new) self.new) }
         ensures any_moment { (w : World) → ServesWorld (H.view host.old) self.old.hand w → Changes (λ x y. Between w.layout (steps.moves w (piece_of end piece.now)) y) (H.view host.old) (H.view host.new) }
         ensures spent { IfErr result (OnSpent (λ kind. (w : World) → ServesWorld (H.view host.old) self.old.hand w → spent w.layout (steps.moves w (piece_of end piece.now)) ≡ Some kind)) }
@@ -105,6 +108,7 @@ impl Store {
         ensures spared { (s : State) → IsStateOf self.old.hand.definitions self.old.hand.max_timestamp s → NeedsNoFile s (piece_of end piece.now) → host.new ≡ host.old }
         ensures reads_only { asks self.old.hand.definitions self.old.hand.max_timestamp (piece_of end piece.now) ≡ NoChange → Changes Same (H.view host.old) (H.view host.new) }
         ensures unread { (IsQuery (read (piece_of end piece.now)) → ⊥) → (H.view host.new).reads ≡ (H.view host.old).reads }
+        ensures reads { OnOk result ((w : World) → ServesWorld (H.view host.old) self.old.hand w → (H.view host.new).reads ≤ (H.view host.old).reads + select_reads (H.view host.old).files self.old.hand (read (piece_of end piece.now))) }
         ensures changes { Changes AnyFolderChange (H.view host.old) (H.view host.new) }
         ensures usable { self.new.usable ≡ is_ok result }
         ensures steps { self.new.steps ≡ counted self.old.steps }

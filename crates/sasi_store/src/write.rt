@@ -1,12 +1,12 @@
 // Writes: a mutation is logged, and then merged into its memtable.
-ghost use Rattle.std.specs.Prelude.{◌≡◌, ◌∷◌, [], IfOk, OnErr, OnOk};
+ghost use Rattle.std.specs.Prelude.{◌≡◌, ◌∷◌, [], IfOk, OnErr, OnOk, max};
 ghost use Rattle.sasi_layout.specs.Moves.{Put};
 ghost use Rattle.sasi_layout.specs.Serving.{IsReady};
 ghost use Rattle.sasi_layout.specs.Statements.{are_full, flush_where, moves_asked};
 ghost use Rattle.sasi_model.specs.Asked.{Writes};
 ghost use Rattle.sasi_model.specs.Cells.{max_timestamp_of};
 ghost use Rattle.sasi_types.specs.Token.{AreBytes};
-ghost use Rattle.sasi_store.specs.MakesMoves.{MakesMoves};
+ghost use Rattle.sasi_store.specs.MakesMoves.{Knows, MakesMoves};
 ghost use Rattle.sasi_store.specs.Puts.{HasTableFor, IsPutAt, put_map};
 ghost use Rattle.sasi_store.specs.StoreView.{IsOfParts, hand_of};
 ghost use Rattle.sasi_store.specs.Writable.{IsWritable};
@@ -32,6 +32,7 @@ pub fn write<H: Host>(parts: &mut Parts, host: &mut H, mutation: Mutation) -> Re
     requires parts { IsOfParts parts.old }
     requires writable { IsWritable (hand_of parts.old) mutation }
     ensures makes { MakesMoves (λ l. moves_asked l (Writes mutation.table mutation.key mutation.change)) (H.view host.old) (H.view host.new) (hand_of parts.old) (hand_of parts.new) result }
+    ensures knows { OnOk result (Knows (hand_of parts.new) parts.old.schema (max parts.old.max_timestamp (max_timestamp_of mutation.change))) }
     ensures parts { OnOk result (IsOfParts parts.new) }
 {
     let table = mutation.table;
@@ -45,6 +46,7 @@ fn flush_full<H: Host>(parts: &mut Parts, host: &mut H, table: TableNumber) -> R
     requires parts { IsOfParts parts.old }
     requires there { HasTableFor table parts.old.tables.items }
     ensures makes { MakesMoves (flush_where are_full table) (H.view host.old) (H.view host.new) (hand_of parts.old) (hand_of parts.new) result }
+    ensures knows { OnOk result (Knows (hand_of parts.new) parts.old.schema parts.old.max_timestamp) }
     ensures parts { OnOk result (IsOfParts parts.new) }
 {
     if is_full(&parts.tables[table as usize - 1].memtable) {
@@ -66,6 +68,7 @@ fn put<H: Host>(parts: &mut Parts, host: &mut H, mutation: Mutation) -> Result<(
     requires parts { IsOfParts parts.old }
     requires writable { IsWritable (hand_of parts.old) mutation }
     ensures makes { MakesMoves (λ l. Put mutation ∷ []) (H.view host.old) (H.view host.new) (hand_of parts.old) (hand_of parts.new) result }
+    ensures knows { OnOk result (Knows (hand_of parts.new) parts.old.schema (max parts.old.max_timestamp (max_timestamp_of mutation.change))) }
     ensures parts { OnOk result (IsOfParts parts.new) }
     ensures there { OnOk result (HasTableFor mutation.table parts.new.tables.items) }
 {

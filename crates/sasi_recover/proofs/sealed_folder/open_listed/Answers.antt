@@ -13,6 +13,7 @@ use Rattle.sasi_recover.proofs.Damaged.{segment_shown}
 use Rattle.sasi_recover.proofs.FolderOpening.{any_then_same, listed_files, opened_opens, opened_ready, opened_serves, replay_undamaged}
 use Rattle.sasi_recover.proofs.ReadsOfOpening.{listing_read}
 use Rattle.sasi_recover.proofs.Settling.{moments_then_same, same_any, same_moments}
+use Rattle.sasi_recover.proofs.Untimed.{opened_timed}
 use Rattle.sasi_recover.proofs.sealed_folder.open_listed.Goals as goal
 
 pub returns-in_err-files-clause-any_moment : goal.returns-in_err-files-clause-any_moment
@@ -99,6 +100,14 @@ pub returns-clause-tables : goal.returns-clause-tables
 returns-clause-tables g c =
     let is_replay = subst (λ (l : Listing). IsReplayOf l (seen c.in_ok-replayed.replayed.replay)) c.listing-2.ensures.listing c.in_ok-replayed.ensures.tables in
     is_replay.maps
+
+pub returns-clause-timed : goal.returns-clause-timed
+returns-clause-timed g c =
+    let r = c.in_ok-replayed.replayed in
+    let listed = listed_files c.args.manifest c.listing.result.now c.in_ok-files.files.items c.deref.result.now c.listing.ensures.listing c.deref.ensures.value c.in_ok-files.ensures.sorted c.in_ok-files.ensures.listed in
+    let opened : Opened = record { numbers = c.numbers_in-numbers.result; greatest = c.max.result; tables = r.replay.tables; log = r.log; manifest = c.args.manifest } in
+    let is_replay = subst (λ (l : Listing). IsReplayOf l (seen r.replay)) c.listing-2.ensures.listing c.in_ok-replayed.ensures.tables in
+    opened_timed (g.H.Host.view c.args.host.now) c.args.manifest.listing c.deref.result.now c.in_ok-greatest.greatest (seen r.replay) listed c.in_ok-greatest.ensures.settled.tells is_replay opened refl c.max.ensures
 
 pub returns-clause-serves : goal.returns-clause-serves
 returns-clause-serves g c folder l logs files number has =

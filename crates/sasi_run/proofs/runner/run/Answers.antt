@@ -38,7 +38,7 @@ returns-in-Err-clause-causes g c =
 pub returns-in-Ok-clause-headline : goal.returns-in-Ok-clause-headline
 returns-in-Ok-clause-headline g c =
     headline_opened _ c.run_store.result (g.S.Source.view c.args.script.now) (g.S.Source.view c.run_store.new.script) (g.H.Host.view c.args.host.now)
-    (g.H.Host.view c.open.new.host) (g.H.Host.view c.run_store.new.host) c.in-Ok.store (g.met.H.Host.sound c.args.host.now)
+    (g.H.Host.view c.open.new.host) (g.H.Host.view c.run_store.new.host) c.in-Ok.store c.in-Ok.ensures.state.0 c.in-Ok.ensures.state.1 (g.met.H.Host.sound c.args.host.now)
     (g.met.H.Host.sound c.run_store.new.host) c.open.ensures.changes.emitted (rw c.in-Some.ensures.asked at c.open.ensures.any_moment)
     (rw c.in-Some.ensures.asked at c.in-Ok.ensures.serves) c.run_store.ensures.runs
 
@@ -49,6 +49,7 @@ returns-in-Ok-clause-causes g c =
     causes_opened _ c.run_store.result script (g.S.Source.view c.run_store.new.script) start (g.H.Host.view c.open.new.host)
     (g.H.Host.view c.run_store.new.host) c.in-Ok.store (c.in-Some.command, c.in-Some.ensures.some)
     (record {
+      state = c.in-Ok.ensures.state;
       silent = c.open.ensures.changes.emitted;
       none_out = c.open.ensures.changes.emits;
       opens = c.in-Ok.ensures.opens;

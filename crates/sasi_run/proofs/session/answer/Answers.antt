@@ -29,6 +29,7 @@ returns-in_err-emit_reply-clause-err g c =
       change = c.step.ensures.changes;
       moments = rw c.piece.ensures at c.step.ensures.any_moment;
       answers = rw c.piece.ensures at c.in_ok-outcome.ensures.answers;
+      anywhere = rw c.piece.ensures at c.in_ok-outcome.ensures.everywhere;
     })
     c.bytes.ensures c.emit_reply.ensures.emits c.in_err-emit_reply.ensures.failed_call)
 
@@ -40,6 +41,7 @@ returns-clause-ok g c =
       change = c.step.ensures.changes;
       moments = rw c.piece.ensures at c.step.ensures.any_moment;
       answers = rw c.piece.ensures at c.in_ok-outcome.ensures.answers;
+      anywhere = rw c.piece.ensures at c.in_ok-outcome.ensures.everywhere;
     })
     c.bytes.ensures c.emit_reply.ensures.emits _ refl (omega arith) c.count_refused-session.ensures refl c.in_ok-outcome.ensures.ready
     c.in_ok-emit_reply.ensures.all c.emit_reply.ensures.call

@@ -106,3 +106,6 @@ returns-clause-parts g c =
           (all_push (λ (t : TableMap). t.memtable.partitioner ≡ c.append.new.self.listing.partitioner) old row
           (subst (λ (p : Partitioner). AllByRecursion (λ (t : TableMap). t.memtable.partitioner ≡ p) old) (sym same) c.requires.parts.under) under);
     }
+
+pub returns-clause-knows : goal.returns-clause-knows
+returns-clause-knows g c = record { definitions_are = c.in_ok-restore_table.ensures.ok; timestamp_is = refl }

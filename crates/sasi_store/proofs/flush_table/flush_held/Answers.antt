@@ -32,3 +32,9 @@ returns-clause-makes g c =
     let got = index_got c.args.parts.now.tables.items (c.args.table - 1) t inside c.index.ensures in
     passes hold_any c.args.table (g.H.Host.view c.args.host.now) (hand_of c.args.parts.now) (table_in_hand t) there.some (hand_at c.args.parts.now c.args.table t got) refl
     (g.H.Host.view c.flush_table.new.host) (hand_of c.flush_table.new.parts) c.flush_table.result (held_passes t.memtable.partitions (sym c.is_empty.ensures ∙ c.if-is_empty.false)) c.flush_table.ensures.makes
+
+pub returns-then-is_empty-clause-knows : goal.returns-then-is_empty-clause-knows
+returns-then-is_empty-clause-knows g c = record { definitions_are = refl; timestamp_is = refl }
+
+pub returns-clause-knows : goal.returns-clause-knows
+returns-clause-knows g c = c.flush_table.ensures.knows

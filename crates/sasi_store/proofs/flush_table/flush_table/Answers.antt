@@ -1,4 +1,4 @@
-use Rattle.std.proofs.Common.{◌≡◌, ◌-◌, ◌^◌, ◌<◌, ◌∷◌, [], List, Ok, ap, arith, length, map, slice_get, Some, subst, sym, ◌∙◌, ℕ}
+use Rattle.std.proofs.Common.{◌≡◌, ◌-◌, ◌^◌, ◌<◌, ◌∷◌, [], List, Ok, ap, arith, length, map, refl, slice_get, Some, subst, sym, ◌∙◌, ℕ}
 use Rattle.std.proofs.lemmas.Result.{err_from_is_err_and}
 use Rattle.sasi_layout.specs.Moves.{Flush}
 use Rattle.sasi_layout.specs.Serving.{StoreInHand}
@@ -79,3 +79,6 @@ returns-clause-parts g c =
     flushed_parts c.args.parts.now c.requires.parts c.args.table there.some c.index.result.now got c.new.result c.clear.new.tables.items (c.clear.ensures c.index.result.now got) c.flush.new.manifest.listing.partitioner
     (partitioner_after a (g.met.H.Host.sound c.args.host.now) c.args.parts.now c.requires.parts c.requires.ready c.args.table small c.requires.held c.in_ok-next.next c.in_ok-next.ensures.next c.floor_without.result floor_is c.index.result.now got c.flush.new.manifest c.in_ok-parts.ensures.listing)
     (ap (λ (m : MemtableView). m.partitioner) c.new.ensures ∙ ap (λ (k : Listing). k.partitioner) c.listing.ensures.listing)
+
+pub returns-clause-knows : goal.returns-clause-knows
+returns-clause-knows g c = record { definitions_are = refl; timestamp_is = refl }

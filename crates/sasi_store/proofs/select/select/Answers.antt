@@ -1,16 +1,18 @@
-use Rattle.std.proofs.Common.{◌≡◌, ◌-◌, ◌++◌, ◌∷◌, [], List, ℕ, ap, map, refl, sym, subst, ◌∙◌, arith}
+use Rattle.std.proofs.Common.{◌≡◌, ◌≤◌, ◌+◌, ◌-◌, ◌++◌, ◌∷◌, [], List, ℕ, ap, map, refl, sym, subst, ◌∙◌, arith}
 use Rattle.std.proofs.lemmas.Result.{err_from_is_err_and}
 use Rattle.std.specs.List.{AllByRecursion}
 use Rattle.sasi_folder.specs.Damages.{FolderShows}
 use Rattle.sasi_host.specs.ChangeLaws.{stays}
 use Rattle.sasi_host.specs.Contents.{told_files}
 use Rattle.sasi_machine.specs.TableRows.{KeysStored}
+use Rattle.sasi_manifest.specs.declared.files.ListedFile.{ListedFile}
 use Rattle.sasi_manifest.specs.declared.listed.ListedTable.{ListedTable}
 use Rattle.sasi_manifest.specs.declared.listing.Listing.{Listing}
 use Rattle.sasi_model.specs.Abbreviations.{types_of}
 use Rattle.sasi_manifest.specs.Edits.{files_of}
 use Rattle.sasi_memtable.specs.MemtableView.{MemtableView}
 use Rattle.sasi_schema.specs.Defined.{definition}
+use Rattle.sasi_store.specs.Paging.{table_reads}
 use Rattle.sasi_store.specs.Sources.{ShowsListed}
 use Rattle.sasi_store.proofs.Selecting.{files_there, inside_listed, inside_memory, is_table, key_first, keys_stored, on_damage, parts, row_defined, rows_are, shows_folder}
 use Rattle.sasi_store.proofs.Stepping.{files_before}
@@ -99,3 +101,20 @@ returns-clause-ok g c l serves =
     let maps_is = subst (λ (ms : List MemtableView). IsTableOf told.0 l.partitioner c.in_ok-types.types c.files_of-files.result.now (map (λ (m : MemtableView). m.partitions) ms) parts_are.0) (sym c.from_ref-maps.ensures.value) is in
     c.in_ok-print_table.ensures.ok told.0 l.partitioner parts_are.0 told.1 maps_is
     ∙ ap (λ (text : List ℕ). c.args.reply.now ++ text) (sym (rows_are v sound c.args.parts.now c.requires.ready c.args.rows.now c.requires.there l serves c.index.result.now got_map))
+
+pub returns-clause-reads : goal.returns-clause-reads
+returns-clause-reads g c l serves =
+    let v = g.H.Host.view c.args.host.now in
+    let sound = g.met.H.Host.sound c.args.host.now in
+    let seen = c.as_slice.ensures.tables ∙ ap (λ (l : Listing). l.tables) c.listing.ensures.listing in
+    let inside = inside_listed v sound c.args.parts.now c.requires.ready c.args.rows.now c.requires.there c.as_slice.result.now seen in
+    let got = index_got c.as_slice.result.now (c.args.rows.now.table - 1) c.index-as_slice-index.result inside c.index-as_slice-index.is in
+    let same = row_defined v sound c.args.parts.now c.requires.ready c.args.rows.now c.requires.there c.as_slice.result.now seen c.index-as_slice-index.result got in
+    let files = c.files_of-files.ensures ∙ ap (λ (l : Listing). files_of l.tables c.args.rows.now.table) c.listing.ensures.listing in
+    let in_memory = inside_memory v sound c.args.parts.now c.requires.ready c.args.rows.now c.requires.there in
+    let got_map = index_got c.args.parts.now.tables.items (c.args.rows.now.table - 1) c.index.result.now in_memory c.index.ensures in
+    let told = told_files v serves.told in
+    let parts_are = parts v sound c.args.parts.now c.requires.ready c.args.rows.now c.requires.there l serves c.index.result.now got_map in
+    let is = is_table v sound c.args.parts.now c.requires.ready c.args.rows.now c.requires.there l serves c.index.result.now got_map told.0 told.1 c.in_ok-types.types (definition c.index-as_slice-index.result.table) (c.in_ok-types.ensures ∙ ap (λ (t : ListedTable). types_of (definition t.table)) (sym c.index-as_slice-index.is)) same c.files_of-files.result.now files in
+    let maps_is = subst (λ (ms : List MemtableView). IsTableOf told.0 l.partitioner c.in_ok-types.types c.files_of-files.result.now (map (λ (m : MemtableView). m.partitions) ms) parts_are.0) (sym c.from_ref-maps.ensures.value) is in
+    subst (λ (fs : List ListedFile). (g.H.Host.view c.print_table.new.host).reads ≤ v.reads + table_reads v.files fs) files (c.in_ok-print_table.ensures.reads told.0 l.partitioner parts_are.0 told.1 maps_is)

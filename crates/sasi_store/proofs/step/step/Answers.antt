@@ -1,13 +1,16 @@
 use Rattle.std.proofs.Common.{◌++◌, List, ℕ, ap, refl, subst, sym, ◌∙◌}
 use Rattle.std.proofs.lemmas.Result.{err_from_is_err_and}
+use Rattle.sasi_cells.specs.Mutations.{state_with_mutation}
 use Rattle.sasi_layout.specs.Layout.{state_of}
 use Rattle.sasi_machine.specs.Prepares.{answer_rows}
 use Rattle.sasi_model.specs.Asked as ask
+use Rattle.sasi_model.specs.Changes.{with_new_table}
 use Rattle.sasi_model.specs.Pieces.{piece_of}
 use Rattle.sasi_schema.specs.Defined.{definition}
 use Rattle.sasi_store.specs.StoreView.{hand_of}
+use Rattle.sasi_store.proofs.Known.{created_state, known_as, written_state}
 use Rattle.sasi_store.proofs.Prepared.{HasPrepared, blank, blank_definitions, creatable, has_table_for, selectable, writable}
-use Rattle.sasi_store.proofs.Stepping.{select_answered, select_failed, state_is, step_answered, step_failed, step_full, step_made}
+use Rattle.sasi_store.proofs.Stepping.{select_answered, select_costs, select_failed, state_is, step_answered, step_failed, step_full, step_made}
 use Rattle.sasi_store.proofs.step.step.Goals as goal
 
 pub returns-in_err-outcome-clause-steps : goal.returns-in_err-outcome-clause-steps
@@ -84,8 +87,9 @@ returns-in_ok-create-in-Create-clause-steps g c =
     let e = c.in_ok-outcome.ensures in
     let all : HasPrepared parts piece c.prepare.new.reply c.in_ok-outcome.field-0 = record { asked = e.asked; prepares = e.prepares; timeless = e.timeless; selects = e.selects } in
     let has = subst (HasPrepared parts piece c.prepare.new.reply) c.in-Create.is all in
-    step_made v (g.H.Host.view c.create.new.host) (hand_of parts) (hand_of c.create.new.parts) piece c.prepare.new.reply (ask.Creates (definition c.in-Create.table)) has.asked (λ none. cc) _ c.in_ok-create-in-Create.ensures.makes
-    (λ s of. (has.prepares s of).0.reply_is) (λ s of. (has.prepares s of).0.outcome_is)
+    step_made v (g.H.Host.view c.create.new.host) (hand_of parts) (hand_of c.create.new.parts) piece c.prepare.new.reply (ask.Creates (definition c.in-Create.table)) has.asked (λ none. cc) _
+    (λ s. with_new_table s (definition c.in-Create.table)) c.in_ok-create-in-Create.ensures.makes (λ s of. (has.prepares s of).0)
+    (λ s of. known_as (hand_of c.create.new.parts) _ _ _ c.in_ok-create-in-Create.ensures.knows (created_state parts.schema parts.max_timestamp s (definition c.in-Create.table) of))
 
 pub returns-in_err-write-in-Write-clause-steps : goal.returns-in_err-write-in-Write-clause-steps
 returns-in_err-write-in-Write-clause-steps g c =
@@ -106,8 +110,9 @@ returns-in_ok-write-in-Write-clause-steps g c =
     let e = c.in_ok-outcome.ensures in
     let all : HasPrepared parts piece c.prepare.new.reply c.in_ok-outcome.field-0 = record { asked = e.asked; prepares = e.prepares; timeless = e.timeless; selects = e.selects } in
     let has = subst (HasPrepared parts piece c.prepare.new.reply) c.in-Write.is all in
-    step_made v (g.H.Host.view c.write.new.host) (hand_of parts) (hand_of c.write.new.parts) piece c.prepare.new.reply (ask.Writes c.in-Write.mutation.table c.in-Write.mutation.key c.in-Write.mutation.change) has.asked (λ none. cc) _ c.in_ok-write-in-Write.ensures.makes
-    (λ s of. (has.prepares s of).0.reply_is) (λ s of. (has.prepares s of).0.outcome_is)
+    step_made v (g.H.Host.view c.write.new.host) (hand_of parts) (hand_of c.write.new.parts) piece c.prepare.new.reply (ask.Writes c.in-Write.mutation.table c.in-Write.mutation.key c.in-Write.mutation.change) has.asked (λ none. cc) _
+    (λ s. state_with_mutation s c.in-Write.mutation) c.in_ok-write-in-Write.ensures.makes (λ s of. (has.prepares s of).0)
+    (λ s of. known_as (hand_of c.write.new.parts) _ _ _ c.in_ok-write-in-Write.ensures.knows (written_state parts.schema parts.max_timestamp s c.in-Write.mutation (has.prepares s of).2 of))
 
 pub returns-in_err-flush_held-in-Flush-clause-steps : goal.returns-in_err-flush_held-in-Flush-clause-steps
 returns-in_err-flush_held-in-Flush-clause-steps g c =
@@ -128,8 +133,9 @@ returns-in_ok-flush_held-in-Flush-clause-steps g c =
     let e = c.in_ok-outcome.ensures in
     let all : HasPrepared parts piece c.prepare.new.reply c.in_ok-outcome.field-0 = record { asked = e.asked; prepares = e.prepares; timeless = e.timeless; selects = e.selects } in
     let has = subst (HasPrepared parts piece c.prepare.new.reply) c.in-Flush.is all in
-    step_made v (g.H.Host.view c.flush_held.new.host) (hand_of parts) (hand_of c.flush_held.new.parts) piece c.prepare.new.reply (ask.Flushes c.in-Flush.table) has.asked (λ none. cc) _ c.in_ok-flush_held-in-Flush.ensures.makes
-    (λ s of. (has.prepares s of).0.reply_is) (λ s of. (has.prepares s of).0.outcome_is)
+    step_made v (g.H.Host.view c.flush_held.new.host) (hand_of parts) (hand_of c.flush_held.new.parts) piece c.prepare.new.reply (ask.Flushes c.in-Flush.table) has.asked (λ none. cc) _
+    (λ s. s) c.in_ok-flush_held-in-Flush.ensures.makes (λ s of. (has.prepares s of).0)
+    (λ s of. known_as (hand_of c.flush_held.new.parts) _ _ _ c.in_ok-flush_held-in-Flush.ensures.knows of)
 
 pub returns-in_err-select-in-Select-clause-steps : goal.returns-in_err-select-in-Select-clause-steps
 returns-in_err-select-in-Select-clause-steps g c =
@@ -152,7 +158,8 @@ returns-in_ok-select-in-Select-clause-steps g c =
     let all : HasPrepared parts piece c.prepare.new.reply c.in_ok-outcome.field-0 = record { asked = e.asked; prepares = e.prepares; timeless = e.timeless; selects = e.selects } in
     let has = subst (HasPrepared parts piece c.prepare.new.reply) c.in-Select.is all in
     let i = c.in_ok-select-in-Select.ensures in
-    let empty = (has.timeless tt (blank v parts c.requires.ready) (blank_definitions v parts c.requires.ready)).1 in
+    let prepared = has.timeless tt (blank v parts c.requires.ready) (blank_definitions v parts c.requires.ready) in
     select_answered v (g.H.Host.view c.select.new.host) (g.met.H.Host.sound c.args.host.now) (hand_of parts) piece c.select.ensures.changes has.asked (has.selects tt) _ c.select.new.reply c.requires.ready
-    (λ w serves. (has.prepares (state_of w.layout) (state_is v (hand_of parts) w.layout serves)).0.reply_is ∙ sym (i.ok w.layout serves ∙ ap (λ (front : List ℕ). front ++ answer_rows (state_of w.layout) c.in-Select.rows) empty))
-    (λ w serves. (has.prepares (state_of w.layout) (state_is v (hand_of parts) w.layout serves)).0.outcome_is) i.causes
+    (λ w serves. (has.prepares (state_of w.layout) (state_is v (hand_of parts) w.layout serves)).0.reply_is ∙ sym (i.ok w.layout serves ∙ ap (λ (front : List ℕ). front ++ answer_rows (state_of w.layout) c.in-Select.rows) prepared.1))
+    (λ s of. let to = (has.prepares s of).0 in (to.state_is, to.outcome_is)) c.in-Select.rows.table
+    (select_costs v.files (hand_of parts) (blank v parts c.requires.ready) piece c.in-Select.rows (blank_definitions v parts c.requires.ready) prepared.3) i.reads i.causes

@@ -32,3 +32,9 @@ returns-clause-makes g c =
     let got = index_got c.args.parts.now.tables.items (c.args.table - 1) t inside c.index.ensures in
     passes_not are_full c.args.table (g.H.Host.view c.args.host.now) (hand_of c.args.parts.now) (table_in_hand t) there.some (hand_at c.args.parts.now c.args.table t got) refl
     (g.met.H.Host.sound c.args.host.now) c.requires.ready (sym c.is_full.ensures ∙ c.if-is_full.false)
+
+pub returns-then-is_full-clause-knows : goal.returns-then-is_full-clause-knows
+returns-then-is_full-clause-knows g c = c.flush_table.ensures.knows
+
+pub returns-clause-knows : goal.returns-clause-knows
+returns-clause-knows g c = record { definitions_are = refl; timestamp_is = refl }

@@ -56,3 +56,9 @@ returns-clause-there g c =
     let a = g.H.Host.view c.args.host.now in
     let there = has_table a c.args.parts.now c.args.mutation.table c.requires.writable.definition c.requires.ready c.requires.writable.some c.requires.writable.there in
     put_there c.args.parts.now c.args.mutation c.requires.parts there c.merge.new.tables.items c.in_ok-time.ensures.ok
+
+pub returns-clause-knows : goal.returns-clause-knows
+returns-clause-knows g c = record {
+  definitions_are = refl;
+  timestamp_is = c.max-parts.ensures ∙ ap (λ (n : ℕ). max c.args.parts.now.max_timestamp n) c.in_ok-time.ensures.time;
+}

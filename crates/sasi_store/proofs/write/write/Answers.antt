@@ -2,6 +2,7 @@ use Rattle.std.proofs.lemmas.Result.{err_from_is_err_and}
 use Rattle.sasi_layout.specs.Statements.{are_full, flush_where}
 use Rattle.sasi_store.specs.StoreView.{hand_of}
 use Rattle.sasi_store.proofs.Composition.{put_alone, put_then}
+use Rattle.sasi_store.proofs.Known.{knows_then}
 use Rattle.sasi_store.proofs.write.write.Goals as goal
 
 pub returns-in_err-put-clause-makes : goal.returns-in_err-put-clause-makes
@@ -13,3 +14,8 @@ pub returns-clause-makes : goal.returns-clause-makes
 returns-clause-makes g c =
     put_then c.args.mutation (flush_where are_full c.args.mutation.table) _ (g.H.Host.view c.args.host.now) (g.H.Host.view c.put.new.host) (g.H.Host.view c.flush_full.new.host) (hand_of c.args.parts.now) (hand_of c.put.new.parts) (hand_of c.flush_full.new.parts) c.flush_full.result
     c.in_ok-put.ensures.makes c.flush_full.ensures.makes
+
+pub returns-clause-knows : goal.returns-clause-knows
+returns-clause-knows g c =
+    let put = c.in_ok-put.ensures.knows in
+    knows_then (hand_of c.flush_full.new.parts) _ _ _ _ c.flush_full.result put.definitions_are put.timestamp_is c.flush_full.ensures.knows

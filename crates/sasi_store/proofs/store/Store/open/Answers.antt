@@ -2,8 +2,12 @@ use Rattle.std.proofs.Common.{List, subst, sym}
 use Rattle.std.proofs.lemmas.Result.{err_from_is_err_and}
 use Rattle.sasi_layout.specs.Serving.{Serves, StoreInHand}
 use Rattle.sasi_manifest.specs.OpenManifest.{ManifestState}
+use Rattle.sasi_machine.specs.Prepares.{IsStateOf}
+use Rattle.sasi_model.specs.State.{State}
+use Rattle.sasi_recover.specs.OpenedFolder.{in_hand}
 use Rattle.sasi_recover.specs.declared.opened.TableMap.{TableMap}
 use Rattle.sasi_store.specs.StoreView.{AreTables, hand_of}
+use Rattle.sasi_store.proofs.Known.{opened_state}
 use Rattle.sasi_store.proofs.TablesInHand.{opened_tables}
 use Rattle.sasi_store.proofs.store.Store.open.Goals as goal
 
@@ -25,3 +29,7 @@ invariant_of-result g c usable =
 pub returns-clause-serves : goal.returns-clause-serves
 returns-clause-serves g c folder l files shape =
     subst (λ (s : StoreInHand). Serves (g.H.Host.view c.open.new.host) s l) (sym c.in-Ok.ensures.hand) (c.in_ok-opened.ensures.serves folder l files shape)
+
+pub returns-clause-state : goal.returns-clause-state
+returns-clause-state g c =
+    subst (λ (h : StoreInHand). (s : State) × IsStateOf h.definitions h.max_timestamp s) (sym c.in-Ok.ensures.hand) (opened_state (in_hand c.in_ok-opened.opened) c.in_ok-opened.ensures.timed)

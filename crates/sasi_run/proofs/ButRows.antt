@@ -1,0 +1,145 @@
+-- Pieces run on every host, one after another: their replies but the rows, from a state that the store is of.
+use Rattle.std.proofs.Common.{◌≡◌, ℕ, ◌+◌, ◌≤◌, ◌<◌, ◌^◌, List, [], ◌∷◌, ◌++◌, length, Option, refl, sym, ap, ◌∙◌, subst, arith, append_assoc}
+use Rattle.std.proofs.lemmas.List.{append-nil}
+use Rattle.std.specs.Io.KnownBytes.{Appends, Consumes}
+use Rattle.sasi_host.specs.View.{View, counted_by}
+use Rattle.sasi_model.specs.Parsers.{grammar_parser}
+use Rattle.sasi_model.specs.Pieces.{Piece}
+use Rattle.sasi_model.specs.State.{State}
+use Rattle.sasi_model.specs.Step.{refusals, state_after, step}
+use Rattle.sasi_store.specs.StoreView.{StoreView}
+use Rattle.sasi_run.specs.Crashing.{EmittedButRows, IsOfState, RanButRows, StoppedButRows}
+use Rattle.sasi_run.specs.Headline.{AreRepliesButRows, EmitsButRows, IsFirstPart, IsReplyButRows, READ_MOST, ReadsByStatus, ReadsToEnd, RunsButRows, SCRIPT_MOST, script_of, status_of_stop}
+use Rattle.sasi_run.specs.declared.session.Session.{Session}
+use Rattle.sasi_run.specs.declared.session.Stop.{Stop}
+use Rattle.sasi_run.specs.declared.session.Stop.TheVariants.{Disk, Output, Memory, Corrupt, Spent}
+use Rattle.sasi_run.proofs.RepliesAtEnd.{without_next}
+use Rattle.sasi_run.proofs.RunParts.{appends_both, appends_none, counted_twice}
+
+-- ---- one after another
+
+state_both : (xs ys : List Piece) (s : State) → state_after s (xs ++ ys) ≡ state_after (state_after s xs) ys
+state_both [] ys s = refl
+state_both (x ∷ xs) ys s = state_both xs ys (step s x).state
+
+refused_both : (xs ys : List Piece) (s : State) → refusals s (xs ++ ys) ≡ refusals s xs + refusals (state_after s xs) ys
+refused_both [] ys s = omega arith
+refused_both (x ∷ xs) ys s = let e = refused_both xs ys (step s x).state in omega (arith, e)
+
+replied_both : (xs ys : List Piece) (s : State) (a b : List ℕ) → AreRepliesButRows grammar_parser s xs a → AreRepliesButRows grammar_parser (state_after s xs) ys b
+    → AreRepliesButRows grammar_parser s (xs ++ ys) (a ++ b)
+replied_both [] ys s a b first second = subst (AreRepliesButRows grammar_parser s ys) (ap (λ (l : List ℕ). l ++ b) (sym first)) second
+replied_both (x ∷ xs) ys s a b (reply, others, parts, is, rest) second =
+    (reply, others ++ b, ap (λ (l : List ℕ). l ++ b) parts ∙ append_assoc reply others b, is, replied_both xs ys (step s x).state others b rest second)
+
+-- nothing was run
+pub ran_nothing_but : (s : State) (old new : Session) (a : View) → old.refused < 2 ^ 64 → new.store ≡ old.store → new.refused ≡ old.refused
+    → IsOfState old.store s → RanButRows s [] old new a a
+ran_nothing_but s old new a small store count of = record {
+  state = subst (λ (k : StoreView). IsOfState k s) (sym store) of;
+  shown = [];
+  emitted = appends_none a.emitted;
+  replies = refl;
+  count = omega (arith, count, small);
+}
+
+-- some pieces, and then others
+pub ran_both_but : (s : State) (xs ys : List Piece) (old mid new : Session) (a b c : View) → RanButRows s xs old mid a b
+    → RanButRows (state_after s xs) ys mid new b c → RanButRows s (xs ++ ys) old new a c
+ran_both_but s xs ys old mid new a b c t u =
+    let later : State = state_after s xs in
+    record {
+      state = subst (IsOfState new.store) (sym (state_both xs ys s)) u.state;
+      shown = t.shown ++ u.shown;
+      emitted = appends_both a.emitted b.emitted c.emitted t.shown u.shown t.emitted u.emitted;
+      replies = replied_both xs ys s t.shown u.shown t.replies u.replies;
+      count = u.count ∙ ap (λ n. counted_by n (refusals later ys)) t.count ∙ counted_twice old.refused (refusals s xs) (refusals later ys)
+          ∙ ap (counted_by old.refused) (sym (refused_both xs ys s));
+    }
+
+replied_later : (stop : Stop) (s : State) (xs done next : List Piece) (first shown : List ℕ) → AreRepliesButRows grammar_parser s xs first
+    → EmittedButRows stop (state_after s xs) done next shown → EmittedButRows stop s (xs ++ done) next (first ++ shown)
+replied_later Memory s xs done next first shown before at = replied_both xs done s first shown before at
+replied_later Disk s xs done next first shown before at = replied_both xs done s first shown before at
+replied_later (Corrupt damage) s xs done next first shown before at = replied_both xs done s first shown before at
+replied_later (Spent kind) s xs done next first shown before (piece, one, at) = (piece, one, replied_both xs done s first shown before at)
+replied_later Output s xs done next first shown before (piece, whole, front, back, one, at, reply, parts) = (
+  piece,
+  first ++ whole,
+  front,
+  back,
+  one,
+  replied_both xs done s first whole before at,
+  subst (λ (t : State). IsReplyButRows grammar_parser t piece (front ++ back)) (sym (state_both xs done s)) reply,
+  ap (λ (l : List ℕ). first ++ l) parts ∙ sym (append_assoc first whole front),
+)
+
+-- some pieces, and then a stop
+pub stopped_behind_but : (stop : Stop) (s : State) (xs done next : List Piece) (old mid : Session) (a b c : View) → RanButRows s xs old mid a b
+    → StoppedButRows stop (state_after s xs) done next b c → StoppedButRows stop s (xs ++ done) next a c
+stopped_behind_but stop s xs done next old mid a b c t u = record {
+  shown = t.shown ++ u.shown;
+  emitted = appends_both a.emitted b.emitted c.emitted t.shown u.shown t.emitted u.emitted;
+  replies = replied_later stop s xs done next t.shown u.shown t.replies u.replies;
+}
+
+-- `stand` is the session with what the splitter has read since
+pub ran_from_but : (s : State) (pieces : List Piece) (old stand new : Session) (a b : View) → stand.refused ≡ old.refused → RanButRows s pieces stand new a b
+    → RanButRows s pieces old new a b
+ran_from_but s pieces old stand new a b count ran = record {
+  state = ran.state;
+  shown = ran.shown;
+  emitted = ran.emitted;
+  replies = ran.replies;
+  count = ran.count ∙ ap (λ n. counted_by n (refusals s pieces)) count;
+}
+
+-- ---- a run that stopped
+
+stop_unsaid : (stop : Stop) (read shown : List ℕ) → ReadsByStatus (status_of_stop stop) read shown
+stop_unsaid Memory read shown = tt
+stop_unsaid Disk read shown = tt
+stop_unsaid Output read shown = tt
+stop_unsaid (Corrupt damage) read shown = tt
+stop_unsaid (Spent kind) read shown = tt
+
+stop_anywhere : (stop : Stop) (left : Option (List ℕ)) → ReadsToEnd (status_of_stop stop) left
+stop_anywhere Memory left = tt
+stop_anywhere Disk left = tt
+stop_anywhere Output left = tt
+stop_anywhere (Corrupt damage) left = tt
+stop_anywhere (Spent kind) left = tt
+
+stop_shows : (stop : Stop) (s : State) (script read : List ℕ) (done next : List Piece) (shown : List ℕ) → IsFirstPart script read done next → EmittedButRows stop s done next shown
+    → EmitsButRows grammar_parser (status_of_stop stop) s script read shown
+stop_shows Memory s script read done next shown first at = record { done = done; first = without_next script read done next first; replied = at }
+stop_shows Disk s script read done next shown first at = record { done = done; first = without_next script read done next first; replied = at }
+stop_shows (Corrupt damage) s script read done next shown first at = record { done = done; first = without_next script read done next first; replied = at }
+stop_shows (Spent kind) s script read done next shown first (piece, one, at) =
+    record { done = done; piece = piece; first = subst (λ (ps : List Piece). IsFirstPart script read done ps) one first; replied = at }
+stop_shows Output s script read done next shown first (piece, whole, front, back, one, at, reply, parts) = record {
+  done = done;
+  piece = piece;
+  first = subst (λ (ps : List Piece). IsFirstPart script read done ps) one first;
+  whole = whole;
+  front = front;
+  back = back;
+  replied = at;
+  reply = reply;
+  parts = parts;
+}
+
+pub stop_runs : (stop : Stop) (s : State) (read : List ℕ) (l l2 : Option (List ℕ)) (a c : View) (done next : List Piece) → Consumes l l2 read → length read ≤ SCRIPT_MOST + READ_MOST
+    → IsFirstPart (script_of l read) read done next → StoppedButRows stop s done next a c → RunsButRows grammar_parser (status_of_stop stop) s l l2 a.emitted c.emitted
+stop_runs stop s read l l2 a c done next consumed bounded first stopped = record {
+  bytes = record {
+    read = read;
+    shown = stopped.shown;
+    consumed = consumed;
+    emitted = stopped.emitted;
+    at_end = stop_anywhere stop l2;
+    by_status = stop_unsaid stop read stopped.shown;
+    bounded = bounded;
+  };
+  shows = stop_shows stop s (script_of l read) read done next stopped.shown first stopped.replies;
+}
