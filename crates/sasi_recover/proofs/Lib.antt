@@ -10,6 +10,7 @@ pub mod Foreign
 pub mod HighestSeal
 pub mod KeptFiles
 pub mod KeptShapes
+pub mod ListedFiles
 pub mod ListedNumbers
 pub mod OpenedState
 pub mod OpenedStore

@@ -1,6 +1,7 @@
 pub mod DataFiles
 pub mod Deletion
 pub mod Faults
+pub mod KeptListed
 pub mod NewFolder
 pub mod OpenedFolder
 pub mod Opening

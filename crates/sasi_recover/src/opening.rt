@@ -1,5 +1,5 @@
 // Opens a folder.
-ghost use Rattle.std.specs.Prelude.{◌≡◌, ◌≢◌, ◌⊎◌, All, IfErr, IfOk, List, OnOk, Some, true, unwrap_or};
+ghost use Rattle.std.specs.Prelude.{◌≡◌, ◌≢◌, ◌⊎◌, ℕ, All, IfErr, IfOk, List, OnOk, Some, true, unwrap_or};
 ghost use Rattle.std.specs.List.Sorted.{IsStrictlySortedBy};
 ghost use Rattle.sasi_types.specs.declared.partitioner.Partitioner.{Partitioner as APartitioner};
 ghost use Rattle.sasi_types.specs.declared.partitioner.Partitioner.TheVariants as partitioner;
@@ -15,6 +15,7 @@ ghost use Rattle.sasi_layout.specs.Layout.{Layout};
 ghost use Rattle.sasi_layout.specs.Serving.{IsReady, Serves};
 ghost use Rattle.sasi_layout.specs.Shape.{HasShape, ShapeOf, new_layout};
 ghost use Rattle.sasi_recover.specs.Faults.{IsDifference, OnDiffers, OnOpenDamage, OpenCauses, TellsDifference};
+ghost use Rattle.sasi_recover.specs.KeptListed.{KeepsListed};
 ghost use Rattle.sasi_recover.specs.NewFolder.{IsFreshOrNew, NoFalseFreshDamage, ReportsForeign, is_initial};
 ghost use Rattle.sasi_recover.specs.OpenedFolder.{AnyFolderChange, IsTimed, in_hand};
 ghost use Rattle.sasi_recover.specs.Opening.{IsFolderDurable};
@@ -46,6 +47,8 @@ pub fn open<H: Host>(
     ensures undamaged { (folder : Folder) (l : Layout) → (H.view host.old).files ≡ Some folder → ShapeOf asked folder l → IfErr result (OnOpenDamage (λ _. ⊥)) }
     ensures differs { (folder : Folder) (wanted kept : APartitioner) → (H.view host.old).files ≡ Some folder → asked ≡ Some wanted → KeepsPartitioner folder kept → wanted ≢ kept → TellsDifference wanted kept result }
     ensures differs_only { (folder : Folder) → (H.view host.old).files ≡ Some folder → IfErr result (OnDiffers (λ wanted kept. (asked ≡ Some wanted) × KeepsPartitioner folder kept × (wanted ≢ kept))) }
+    // Whatever is damaged, the files that the manifest of the highest seal lists stay, and all files where it can't be read.
+    ensures kept { (folder : Folder) (number : ℕ) → (H.view host.old).files ≡ Some folder → IsSealed folder number → Changes (KeepsListed folder number) (H.view host.old) (H.view host.new) }
     ensures changes { Changes AnyFolderChange (H.view host.old) (H.view host.new) }
     ensures once { (folder : Folder) → (H.view host.old).files ≡ Some folder → OpensReadingOnce folder (H.view host.old) (H.view host.new) }
     ensures causes { OpenCauses (H.view host.old) (H.view host.new) result }
@@ -105,6 +108,7 @@ fn open_sealed<H: Host>(
     ensures undamaged { (folder : Folder) (l : Layout) (logs : List (List Mutation)) → (H.view host.old).files ≡ Some folder → l.used.manifest ≡ number → HasShape folder l logs → IfErr result (OnOpenDamage (λ _. ⊥)) }
     ensures differs { (folder : Folder) (wanted kept : APartitioner) → (H.view host.old).files ≡ Some folder → asked ≡ Some wanted → KeepsUnder folder number kept → wanted ≢ kept → TellsDifference wanted kept result }
     ensures differs_only { (folder : Folder) → (H.view host.old).files ≡ Some folder → IfErr result (OnDiffers (λ wanted kept. (asked ≡ Some wanted) × KeepsUnder folder number kept × (wanted ≢ kept))) }
+    ensures kept { (folder : Folder) → (H.view host.old).files ≡ Some folder → Changes (KeepsListed folder number) (H.view host.old) (H.view host.new) }
     ensures changes { Changes AnyFolderChange (H.view host.old) (H.view host.new) }
     ensures once { (folder : Folder) → (H.view host.old).files ≡ Some folder → ReadsStoreOnce folder number (H.view host.old) (H.view host.new) }
     ensures causes { OpenCauses (H.view host.old) (H.view host.new) result }

@@ -16,6 +16,7 @@ ghost use Rattle.sasi_folder.specs.Stands.{IsSealed};
 ghost use Rattle.sasi_layout.specs.Layout.{Layout, used_in};
 ghost use Rattle.sasi_layout.specs.Serving.{IsReady, Serves};
 ghost use Rattle.sasi_layout.specs.Shape.{HasShape};
+ghost use Rattle.sasi_recover.specs.KeptListed.{KeepsAll, kept_under};
 ghost use Rattle.sasi_recover.specs.OpenedFolder.{AnyFolderChange, IsTimed, in_hand, used_numbers};
 ghost use Rattle.sasi_recover.specs.Opening.{IsFolderDurable};
 ghost use Rattle.sasi_recover.specs.OpeningReads.{ReadsFileOnce, ReadsListingOnce};
@@ -77,6 +78,7 @@ pub fn open_listed<H: Host>(
     ensures any_moment { (folder : Folder) (l : Layout) (logs : List (List Mutation)) → (H.view host.old).files ≡ Some folder → l.used.manifest ≡ manifest.number → HasShape folder l logs → Changes (λ x y. (y ≡ x) ⊎ HasShape y l logs) (H.view host.old) (H.view host.new) }
     ensures damaged { (folder : Folder) → (H.view host.old).files ≡ Some folder → IfErr result (OnDamage (ShowsListed folder manifest.number)) }
     ensures undamaged { (folder : Folder) (l : Layout) (logs : List (List Mutation)) → (H.view host.old).files ≡ Some folder → l.used.manifest ≡ manifest.number → HasShape folder l logs → IfErr result (OnDamage (λ _. ⊥)) }
+    ensures kept { Changes (KeepsAll (kept_under manifest)) (H.view host.old) (H.view host.new) }
     ensures changes { Changes AnyFolderChange (H.view host.old) (H.view host.new) }
     ensures once { (folder : Folder) → (H.view host.old).files ≡ Some folder → ReadsListingOnce folder manifest.listing (H.view host.old) (H.view host.new) }
     ensures causes { ReadingCauses (H.view host.old) (H.view host.new) result }
@@ -110,6 +112,7 @@ fn settle<H: Host>(
     ensures any_moment { (folder : Folder) (l : Layout) (logs : List (List Mutation)) → (H.view host.old).files ≡ Some folder → l.used.manifest ≡ manifest.now.number → HasShape folder l logs → Changes (λ x y. (y ≡ x) ⊎ HasShape y l logs) (H.view host.old) (H.view host.new) }
     ensures damaged { (folder : Folder) → (H.view host.old).files ≡ Some folder → IfErr result (OnDamage (ShowsListed folder manifest.now.number)) }
     ensures undamaged { (folder : Folder) (l : Layout) (logs : List (List Mutation)) → (H.view host.old).files ≡ Some folder → l.used.manifest ≡ manifest.now.number → HasShape folder l logs → IfErr result (OnDamage (λ _. ⊥)) }
+    ensures kept { Changes (KeepsAll (kept_under manifest.now)) (H.view host.old) (H.view host.new) }
     ensures changes { Changes AnyFolderChange (H.view host.old) (H.view host.new) }
     ensures reads { (H.view host.new).reads ≤ (H.view host.old).reads + 2 * length files.now }
     ensures causes { ReadingCauses (H.view host.old) (H.view host.new) result }

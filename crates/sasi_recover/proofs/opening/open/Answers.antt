@@ -13,6 +13,7 @@ use Rattle.sasi_recover.proofs.ReadsOfOpening.{store_behind}
 use Rattle.sasi_recover.proofs.SealedStore.{listed_is_there}
 use Rattle.sasi_recover.proofs.Settling.{same_any}
 use Rattle.sasi_recover.proofs.SyncedFolder.{settled_fresh}
+use Rattle.sasi_recover.proofs.ListedFiles.{listed_same, listed_sealed, unsealed}
 use Rattle.sasi_recover.proofs.opening.open.Goals as goal
 
 pub returns-in_err-names-clause-any_moment : goal.returns-in_err-names-clause-any_moment
@@ -190,3 +191,21 @@ returns-clause-once g c folder files =
 
 pub returns-clause-causes : goal.returns-clause-causes
 returns-clause-causes g c = causes_behind (g.H.Host.view c.args.host.now) (g.H.Host.view c.sync_all.new.host) (g.H.Host.view c.open_sealed.new.host) c.open_sealed.result c.in_ok-names.ensures.causes.ok c.sync_all.ensures.causes.out c.open_sealed.ensures.causes
+
+pub returns-in_err-names-clause-kept : goal.returns-in_err-names-clause-kept
+returns-in_err-names-clause-kept g c folder number files sealed = listed_same (g.H.Host.view c.args.host.now) (g.H.Host.view c.sync_all.new.host) folder number c.sync_all.ensures.changes
+
+pub returns-in-None-clause-kept : goal.returns-in-None-clause-kept
+returns-in-None-clause-kept g c folder number files sealed =
+    let b = g.H.Host.view c.sync_all.new.host in
+    let files_b = files_same (g.H.Host.view c.args.host.now) b folder c.sync_all.ensures.changes files in
+    let none = subst (λ (l : List FileName). IsHighestSeal l None) c.deref.ensures.value c.in-None.ensures in
+    absurd (unsealed b c.in_ok-names.names.items folder number c.in_ok-names.ensures.names files_b none sealed)
+
+pub returns-clause-kept : goal.returns-clause-kept
+returns-clause-kept g c folder number files sealed =
+    let b = g.H.Host.view c.sync_all.new.host in
+    let files_b = files_same (g.H.Host.view c.args.host.now) b folder c.sync_all.ensures.changes files in
+    let highest = subst (λ (l : List FileName). IsHighestSeal l (Some c.in-Some.number)) c.deref.ensures.value c.in-Some.ensures in
+    let other = sealed_highest b folder files_b c.in_ok-names.names.items c.in_ok-names.ensures.names c.in-Some.number highest in
+    listed_sealed (g.H.Host.view c.args.host.now) b (g.H.Host.view c.open_sealed.new.host) folder number c.in-Some.number sealed other c.sync_all.ensures.changes (c.open_sealed.ensures.kept folder files_b)

@@ -10,6 +10,7 @@ use Rattle.sasi_recover.proofs.FolderOpening.{files_same, manifest_is_read, mome
 use Rattle.sasi_recover.proofs.ReadsOfOpening.{manifest_read, store_read}
 use Rattle.sasi_recover.proofs.Settling.{same_any, same_moments}
 use Rattle.sasi_recover.proofs.SyncedFolder.{lists_same, settled_same}
+use Rattle.sasi_recover.proofs.ListedFiles.{listed_read, listed_same}
 use Rattle.sasi_recover.proofs.opening.open_sealed.Goals as goal
 
 pub returns-in_err-manifest-clause-any_moment : goal.returns-in_err-manifest-clause-any_moment
@@ -168,3 +169,19 @@ returns-clause-once g c folder files =
 pub returns-clause-causes : goal.returns-clause-causes
 returns-clause-causes g c =
     causes_behind (g.H.Host.view c.args.host.now) (g.H.Host.view c.read_manifest.new.host) (g.H.Host.view c.open_listed.new.host) _ c.in_ok-manifest.ensures.causes.ok c.read_manifest.ensures.causes.out (ok_causes (g.H.Host.view c.read_manifest.new.host) (g.H.Host.view c.open_listed.new.host) c.in_ok-opened.ensures.causes)
+
+pub returns-in_err-manifest-clause-kept : goal.returns-in_err-manifest-clause-kept
+returns-in_err-manifest-clause-kept g c folder files = listed_same (g.H.Host.view c.args.host.now) (g.H.Host.view c.read_manifest.new.host) folder c.args.number c.read_manifest.ensures.changes
+
+pub returns-in_err-check_partitioner-clause-kept : goal.returns-in_err-check_partitioner-clause-kept
+returns-in_err-check_partitioner-clause-kept g c folder files = listed_same (g.H.Host.view c.args.host.now) (g.H.Host.view c.read_manifest.new.host) folder c.args.number c.read_manifest.ensures.changes
+
+pub returns-in_err-opened-clause-kept : goal.returns-in_err-opened-clause-kept
+returns-in_err-opened-clause-kept g c folder files =
+    listed_read (g.H.Host.view c.args.host.now) (g.H.Host.view c.read_manifest.new.host) (g.H.Host.view c.open_listed.new.host) folder c.args.number c.in_ok-manifest.manifest files
+    c.in_ok-manifest.ensures.number c.in_ok-manifest.ensures.there c.in_ok-manifest.ensures.reads c.read_manifest.ensures.changes c.open_listed.ensures.kept
+
+pub returns-clause-kept : goal.returns-clause-kept
+returns-clause-kept g c folder files =
+    listed_read (g.H.Host.view c.args.host.now) (g.H.Host.view c.read_manifest.new.host) (g.H.Host.view c.open_listed.new.host) folder c.args.number c.in_ok-manifest.manifest files
+    c.in_ok-manifest.ensures.number c.in_ok-manifest.ensures.there c.in_ok-manifest.ensures.reads c.read_manifest.ensures.changes c.open_listed.ensures.kept

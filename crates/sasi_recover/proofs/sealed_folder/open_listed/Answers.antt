@@ -1,6 +1,6 @@
 use Rattle.std.proofs.Common.{◌∙◌, ◌+◌, ap, length, List, ℕ, refl, subst, sym, arith}
 use Rattle.std.proofs.lemmas.Result.{err_from_is_err_and}
-use Rattle.sasi_host.specs.ChangeLaws.{stays}
+use Rattle.sasi_host.specs.ChangeLaws.{stays, then_same}
 use Rattle.sasi_host.specs.Names.{log_name}
 use Rattle.sasi_host.specs.View.{Reaches}
 use Rattle.sasi_manifest.specs.declared.listing.Listing.{Listing}
@@ -14,6 +14,8 @@ use Rattle.sasi_recover.proofs.FolderOpening.{any_then_same, listed_files, opene
 use Rattle.sasi_recover.proofs.ReadsOfOpening.{listing_read}
 use Rattle.sasi_recover.proofs.Settling.{moments_then_same, same_any, same_moments}
 use Rattle.sasi_recover.proofs.Untimed.{opened_timed}
+use Rattle.sasi_recover.specs.KeptListed.{KeepsAll, kept_under}
+use Rattle.sasi_recover.proofs.ListedFiles.{all_same}
 use Rattle.sasi_recover.proofs.sealed_folder.open_listed.Goals as goal
 
 pub returns-in_err-files-clause-any_moment : goal.returns-in_err-files-clause-any_moment
@@ -135,3 +137,14 @@ returns-clause-opens g c folder files sealed =
     let all = subst (λ (l : Listing). ReadsAll b l (seen r.replay)) listing_is c.in_ok-replayed.ensures.reads in
     opened_opens a b c.args.manifest c.deref.result.now c.in_ok-greatest.greatest c.args.names.now c.requires.lists (g.met.H.Host.sound c.args.host.now) c.requires.folder_durable c.requires.read listed c.in_ok-greatest.ensures.settled
     e (seen r.replay) folder files sealed all
+
+pub returns-in_err-files-clause-kept : goal.returns-in_err-files-clause-kept
+returns-in_err-files-clause-kept g c = all_same (g.H.Host.view c.args.host.now) (g.H.Host.view c.args.host.now) (kept_under c.args.manifest) (stays (g.H.Host.view c.args.host.now))
+
+pub returns-in_err-replayed-clause-kept : goal.returns-in_err-replayed-clause-kept
+returns-in_err-replayed-clause-kept g c =
+    then_same (g.H.Host.view c.args.host.now) (g.H.Host.view c.settle.new.host) (g.H.Host.view c.replay.new.host) (KeepsAll (kept_under c.args.manifest)) c.settle.ensures.kept c.replay.ensures.changes
+
+pub returns-clause-kept : goal.returns-clause-kept
+returns-clause-kept g c =
+    then_same (g.H.Host.view c.args.host.now) (g.H.Host.view c.settle.new.host) (g.H.Host.view c.replay.new.host) (KeepsAll (kept_under c.args.manifest)) c.settle.ensures.kept c.replay.ensures.changes

@@ -5,6 +5,8 @@ use Rattle.sasi_manifest.specs.declared.listing.Listing.{Listing}
 use Rattle.sasi_recover.specs.SealedFolder.{AreNamed, ReportsMissingListed}
 use Rattle.sasi_recover.proofs.Settling.{all_there, data_there, deletes_as, ends_shown, ends_undamaged, gone_as, missing_shown, nothing_missing, same_any, same_moments, same_then_any, settled, shapes_kept}
 use Rattle.sasi_recover.proofs.SyncedFolder.{lists_same}
+use Rattle.sasi_recover.specs.KeptListed.{kept_under}
+use Rattle.sasi_recover.proofs.ListedFiles.{all_deleting, all_same}
 use Rattle.sasi_recover.proofs.sealed_folder.settle.Goals as goal
 
 pub returns-in_err-check_names-clause-any_moment : goal.returns-in_err-check_names-clause-any_moment
@@ -76,3 +78,19 @@ returns-clause-settled g c =
     (g.H.Host.view c.read_ends.new.host) (g.H.Host.view c.delete_unlisted.new.host) c.in_ok-time.time (g.met.H.Host.sound c.read_ends.new.host) c.requires.folder_durable c.read_ends.ensures.changes c.in_ok-time.ensures.ends c.in_ok-time.ensures.synced c.in_ok-time.ensures.time
     (deletes_as (g.H.Host.view c.read_ends.new.host) (g.H.Host.view c.delete_unlisted.new.host) c.args.manifest.now c.args.files.now c.number-number.result c.listing-listing.result.now c.number-number.ensures c.listing-listing.ensures.listing c.delete_unlisted.ensures.changes)
     (gone_as (g.H.Host.view c.delete_unlisted.new.host) c.args.manifest.now c.args.files.now c.number-number.result c.listing-listing.result.now c.number-number.ensures c.listing-listing.ensures.listing c.in_ok-delete_unlisted.ensures.gone)
+
+pub returns-in_err-check_names-clause-kept : goal.returns-in_err-check_names-clause-kept
+returns-in_err-check_names-clause-kept g c = all_same (g.H.Host.view c.args.host.now) (g.H.Host.view c.args.host.now) (kept_under c.args.manifest.now) (stays (g.H.Host.view c.args.host.now))
+
+pub returns-in_err-time-clause-kept : goal.returns-in_err-time-clause-kept
+returns-in_err-time-clause-kept g c = all_same (g.H.Host.view c.args.host.now) (g.H.Host.view c.read_ends.new.host) (kept_under c.args.manifest.now) c.read_ends.ensures.changes
+
+pub returns-in_err-delete_unlisted-clause-kept : goal.returns-in_err-delete_unlisted-clause-kept
+returns-in_err-delete_unlisted-clause-kept g c =
+    all_deleting (g.H.Host.view c.args.host.now) (g.H.Host.view c.read_ends.new.host) (g.H.Host.view c.delete_unlisted.new.host) c.args.manifest.now c.args.files.now c.requires.files c.read_ends.ensures.changes
+    (deletes_as (g.H.Host.view c.read_ends.new.host) (g.H.Host.view c.delete_unlisted.new.host) c.args.manifest.now c.args.files.now c.number-number.result c.listing-listing.result.now c.number-number.ensures c.listing-listing.ensures.listing c.delete_unlisted.ensures.changes)
+
+pub returns-clause-kept : goal.returns-clause-kept
+returns-clause-kept g c =
+    all_deleting (g.H.Host.view c.args.host.now) (g.H.Host.view c.read_ends.new.host) (g.H.Host.view c.delete_unlisted.new.host) c.args.manifest.now c.args.files.now c.requires.files c.read_ends.ensures.changes
+    (deletes_as (g.H.Host.view c.read_ends.new.host) (g.H.Host.view c.delete_unlisted.new.host) c.args.manifest.now c.args.files.now c.number-number.result c.listing-listing.result.now c.number-number.ensures c.listing-listing.ensures.listing c.delete_unlisted.ensures.changes)
