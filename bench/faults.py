@@ -22,6 +22,7 @@ import tempfile
 
 FIRST = """CREATE TABLE t (k text PRIMARY KEY, a text);
 INSERT INTO t (k, a) VALUES ('k1', 'x');
+FLUSH t;
 INSERT INTO t (k, a) VALUES ('k2', 'y');
 DELETE FROM t WHERE k = 'k1';
 SELECT * FROM t;
@@ -29,6 +30,7 @@ SELECT * FROM t;
 LATER = """INSERT INTO t (k, a) VALUES ('k3', 'z');
 CREATE TABLE u (k int PRIMARY KEY, a int);
 UPDATE t SET a = 'w' WHERE k = 'k2';
+FLUSH t;
 SELECT * FROM t;
 """.splitlines(True)
 

@@ -3,19 +3,19 @@
 
 A row may take three times its bytes and 200 more. Its bytes are those of its key and of its cells with their times, as
 they stand in a log: 20 for the row with a key of eight bytes besides, and 13 for each cell besides its value, the marker
-of the row among them. What a row takes is the growth of the peak memory from a number of rows to twice as many.
+of the row among them. What a row takes is the growth of the peak memory from a number of rows to twice as many, which one memtable
+holds: it is flushed at 65,536 cells, so these are 60,000.
 """
 import os
 import subprocess
 import sys
 import tempfile
-import time
 
-ROWS = 20000
+from processes import MEMORY, measured
+
+CELLS = 30000
 TIMES, MORE = 3, 200
 BESIDES_ROW, BESIDES_CELL = 20, 13
-# The folders stand in memory, where a sync costs nothing.
-MEMORY = '/dev/shm' if os.path.isdir('/dev/shm') else None
 
 # The columns of each shape, by the length of a text, or None for an int.
 SHAPES = {
@@ -45,29 +45,16 @@ def script(columns, rows):
         yield "INSERT INTO t (k, %s) VALUES ('%s', %s);\n" % (', '.join(names), key(n), values)
 
 
-def peak(pid):
-    """The peak memory of a process so far in bytes, or 0 where it has ended."""
-    try:
-        with open('/proc/%d/status' % pid) as status:
-            return max(int(line.split()[1]) * 1024 for line in status if line.startswith('VmHWM'))
-    except (OSError, ValueError):
-        return 0
-
-
 def memory(program, columns, rows):
     """The peak memory of a run in bytes."""
-    with tempfile.TemporaryDirectory(dir=MEMORY) as folder, open(os.devnull, 'wb') as nothing:
+    with tempfile.TemporaryDirectory(dir=MEMORY) as folder:
         path = os.path.join(folder, 'script')
         with open(path, 'w') as out:
             out.writelines(script(columns, rows))
-        process = subprocess.Popen([program, os.path.join(folder, 'data'), path], stdout=nothing)
-        most = 0
-        while process.poll() is None:
-            most = max(most, peak(process.pid))
-            time.sleep(0.0005)
-        if process.returncode:
+        _, most, status = measured([program, os.path.join(folder, 'data'), path])
+        if status:
             sys.exit('the program failed')
-        return most
+        return most * 1024
 
 
 def main():
@@ -81,7 +68,8 @@ def main():
     for name, columns in SHAPES.items():
         size = BESIDES_ROW + BESIDES_CELL + sum(BESIDES_CELL + (column or 4) for column in columns)
         limit = TIMES * size + MORE
-        row = (memory(program, columns, 2 * ROWS) - memory(program, columns, ROWS)) / ROWS
+        rows = CELLS // (1 + len(columns))
+        row = (memory(program, columns, 2 * rows) - memory(program, columns, rows)) / rows
         print('%-24s %10.0f %10d' % (name, row, limit))
         if row > limit:
             above.append(name)

@@ -1,21 +1,19 @@
 #!/usr/bin/env python3
-"""Runs the built program on scripts of writes and one SELECT, and prints time and peak memory.
+"""Runs the built program on scripts of writes and one SELECT, and prints the processor's time and peak memory.
 
 A script INSERTs distinct keys, or does so once and then UPDATEs or DELETEs them over and over. Doubling the statements may
 multiply the time by 2.4: a step that is linear in the rows held, the bytes seen or the statements run would multiply it
 by 4.
 """
 import os
-import subprocess
 import sys
 import tempfile
-import time
+
+from processes import MEMORY, measured
 
 COUNTS = [5000, 10000, 20000, 40000]
 MOST_GROWTH = 2.4
 TRIES = 5
-# The folders stand in memory, where a sync costs nothing; durable.py measures a disk.
-MEMORY = '/dev/shm' if os.path.isdir('/dev/shm') else None
 
 
 def key(n):
@@ -44,25 +42,10 @@ def script(count, write):
     yield 'SELECT * FROM t;\n'
 
 
-def peak(pid):
-    """The peak memory of a process so far in KiB, or 0 where it has ended."""
-    try:
-        with open('/proc/%d/status' % pid) as status:
-            return max(int(line.split()[1]) for line in status if line.startswith('VmHWM'))
-    except (OSError, ValueError):
-        return 0
-
-
 def run(program, path):
-    """The seconds, the peak memory in KiB and the status of one run."""
-    with tempfile.TemporaryDirectory(dir=MEMORY) as folder, open(os.devnull, 'wb') as nothing:
-        began = time.perf_counter()
-        process = subprocess.Popen([program, folder, path], stdout=nothing)
-        memory = 0
-        while process.poll() is None:
-            memory = max(memory, peak(process.pid))
-            time.sleep(0.0005)
-        return time.perf_counter() - began, memory, process.returncode
+    """The processor's seconds, the peak memory in KiB and the status of one run."""
+    with tempfile.TemporaryDirectory(dir=MEMORY) as folder:
+        return measured([program, folder, path])
 
 
 def measure(program, write):

@@ -1,0 +1,229 @@
+#!/usr/bin/env python3
+"""Runs the built program on scripts with FLUSH and on a folder of data files, and prints the processor's time and peak memory.
+
+- 100,000 INSERTs with a FLUSH each 10,000, whose peak memory may be that of one memtable of them and 8 MiB more.
+- A SELECT over 1,000,000 rows in ten data files, whose peak memory may be its reply and 8 MiB more.
+- An opening of their folder, with its reads as strace counts them.
+
+A memtable is flushed by itself at 65,536 cells, so no script makes files of 100,000 rows: this one writes them, as docs/FORMATS.md
+says. It looks first that it writes the file that a FLUSH of some rows does.
+
+Beside them the same rows go into sqlite3, where it is installed: WAL, synchronous=FULL, one transaction a row and a checkpoint
+for each FLUSH, and rows in the order of their keys. All folders stand in memory, where a sync costs nothing.
+"""
+import os
+import shutil
+import subprocess
+import sys
+import tempfile
+
+from processes import MEMORY, measured
+
+COUNT, EACH = 100000, 10000
+ROWS, FILES = 1000000, 10
+BESIDES = 8192
+TRIES = 3
+
+
+def key(n):
+    """Keys in no order, all distinct."""
+    return '%08x' % ((n * 2654435761) % (1 << 32))
+
+
+def insert(n):
+    return "INSERT INTO t (k, a, b) VALUES ('%s', 'value %d', %d);\n" % (key(n), n, n)
+
+
+def inserts(count, flush='FLUSH t;\n'):
+    """So many rows, with a FLUSH behind each 10,000."""
+    for n in range(count):
+        yield insert(n)
+        if (n + 1) % EACH == 0:
+            yield flush
+
+
+CREATE = 'CREATE TABLE t (k text PRIMARY KEY, a text, b int);\n'
+SQLITE = 'PRAGMA journal_mode=WAL;\nPRAGMA synchronous=FULL;\nCREATE TABLE t (k TEXT PRIMARY KEY, a TEXT, b INT) WITHOUT ROWID;\n'
+
+
+# ---- the bytes of files
+
+def number(size, value):
+    return value.to_bytes(size, 'big')
+
+
+def cell(column, time, value):
+    return number(2, column) + number(8, time) + b'\1' + number(2, len(value)) + value
+
+
+def partition(n):
+    """What the INSERT of a row merges: the marker, a text and an int."""
+    time = n + 1
+    cells = cell(0, time, b'') + cell(1, time, b'value %d' % n) + cell(2, time, number(4, n))
+    body = number(2, 8) + key(n).encode() + number(8, 0) + number(2, 3) + cells
+    return number(4, len(body)) + body
+
+
+def tree(at, pairs):
+    """The bytes of a token tree that stands at an offset, and the offset of its root."""
+    out, level, entries = bytearray(), 0, pairs
+    while True:
+        above = []
+        for first in range(0, len(entries), 255):
+            node = entries[first:first + 255]
+            above.append((node[0][0], at + len(out)))
+            out += number(2, level << 8) + number(2, len(node)) + number(4, 0)
+            out += b''.join(number(8, token) + number(8, offset) for token, offset in node)
+        if len(above) == 1:
+            return out, above[0][1]
+        level, entries = level + 1, above
+
+
+def data_file(rows):
+    """A data file of these rows. The token of a key of eight bytes is the key."""
+    out, pairs = bytearray(b'SASIDAT1' + number(4, 1) + number(4, 0)), []
+    for n in sorted(rows, key=key):
+        pairs.append((int.from_bytes(key(n).encode(), 'big'), len(out)))
+        out += partition(n)
+    end = len(out)
+    nodes, root = tree(end, pairs)
+    footer = number(8, root) + number(8, len(pairs)) + number(8, max(rows) + 1) + number(8, end) + b'SASIDEND'
+    return out + nodes + footer
+
+
+def gated(magic, records):
+    payloads = b''.join(b'\1' + number(4, len(record)) + record for record in records)
+    return magic + number(4, 1) + number(4, 1) + payloads + b'\0'
+
+
+def manifest(files):
+    """It lists the table, and data files of these numbers."""
+    start = b'\1\0' + number(4, 1) + number(4, 1)
+    columns = b''.join(b'\1' + name + number(1, kind) for name, kind in ((b'k', 0), (b'a', 0), (b'b', 1)))
+    table = b'\2' + number(4, 1) + b'\1t' + number(2, 3) + columns + number(2, 0) + number(4, 1)
+    added = b''.join(number(4, file) + number(2, 0) for file in files)
+    replace = b'\5' + number(4, 1) + number(4, 0) + number(4, len(files)) + added + number(4, 1) * 3
+    return gated(b'SASIMAN1', [number(4, 1) + edit for edit in (start, table, replace)])
+
+
+def write(path, content):
+    with open(path, 'wb') as out:
+        out.write(content)
+    return path
+
+
+def write_script(path, lines):
+    return write(path, ''.join(lines).encode())
+
+
+def write_folder(folder):
+    """A folder of 1,000,000 rows in ten data files, whose keys lie between one another."""
+    os.mkdir(folder)
+    for file in range(1, FILES + 1):
+        write(os.path.join(folder, 'data-%d' % file), data_file(range(file - 1, ROWS, FILES)))
+    write(os.path.join(folder, 'manifest-1'), manifest(range(1, FILES + 1)))
+    write(os.path.join(folder, 'log-1'), gated(b'SASILOG1', []))
+    write(os.path.join(folder, 'seal-1'), b'')
+    return folder
+
+
+# ---- runs
+
+def run(words, read=os.devnull, written=os.devnull):
+    """The processor's seconds and the peak memory in KiB of a run that has to succeed."""
+    seconds, memory, status = measured(words, read, written)
+    if status:
+        sys.exit('failed: %s' % ' '.join(words))
+    return seconds, memory
+
+
+def print_run(name, seconds, memory, limit=None):
+    print('%-46s %8.3f %9.1f %9s' % (name, seconds, memory / 1024, '%.1f' % (limit / 1024) if limit else ''))
+    return limit is not None and memory > limit
+
+
+def print_opening(name, words):
+    """The time alone: such a run ends before its memory is seen."""
+    print('%-46s %8.3f' % (name, min(run(words)[0] for _ in range(TRIES))))
+
+
+def reads_of(words):
+    """How many reads at an offset a run makes, where strace is installed."""
+    if not shutil.which('strace'):
+        return 0
+    with tempfile.NamedTemporaryFile('r') as log:
+        run(['strace', '-f', '-e', 'trace=pread64', '-o', log.name] + words)
+        return sum('pread64' in line for line in log)
+
+
+def check_data_file(program, top):
+    """Exits where it writes another file than a FLUSH of the same rows."""
+    folder = os.path.join(top, 'checked')
+    run([program, folder, write_script(os.path.join(top, 'script'), [CREATE] + list(inserts(EACH)))])
+    with open(os.path.join(folder, 'data-1'), 'rb') as found:
+        if found.read() != data_file(range(EACH)):
+            sys.exit('a FLUSH writes another file')
+
+
+def measure_flushes(program, top):
+    """Whether INSERTs and FLUSHes took more memory than they may."""
+    # It holds no row, and goes on long enough to be measured.
+    none = write_script(os.path.join(top, 'none'), [CREATE] + ['SELECT * FROM t;\n'] * EACH)
+    one = write_script(os.path.join(top, 'one'), [CREATE] + [insert(n) for n in range(EACH)])
+    script = write_script(os.path.join(top, 'script'), [CREATE] + list(inserts(COUNT)))
+    _, bare = run([program, os.path.join(top, 'kept-none'), none])
+    _, held = run([program, os.path.join(top, 'kept-one'), one])
+    runs = [run([program, os.path.join(top, 'kept-%d' % at), script]) for at in range(TRIES)]
+    print('one memtable of %d rows takes %.1f MiB' % (EACH, (held - bare) / 1024))
+    limit = held - bare + BESIDES
+    above = print_run('%d INSERTs, a FLUSH each %d' % (COUNT, EACH), min(r[0] for r in runs), max(r[1] for r in runs), limit)
+    if shutil.which('sqlite3'):
+        lines = [SQLITE] + list(inserts(COUNT, 'PRAGMA wal_checkpoint(TRUNCATE);\n'))
+        path = write_script(os.path.join(top, 'sqlite'), lines)
+        print_run('sqlite3', *run(['sqlite3', os.path.join(top, 'db')], path))
+    return above
+
+
+def measure_select(program, top):
+    """Whether the SELECT took more memory than it may."""
+    folder = write_folder(os.path.join(top, 'rows'))
+    script = write_script(os.path.join(top, 'select'), ['SELECT * FROM t;\n'])
+    replies = os.path.join(top, 'replies')
+    seconds, memory = min(run([program, folder, script], written=replies) for _ in range(TRIES))
+    size = os.path.getsize(replies)
+    with open(replies, 'rb') as lines:
+        if lines.read().count(b'\n') != ROWS + 1:
+            sys.exit('the SELECT gives other rows')
+    os.remove(replies)
+    above = print_run('a SELECT of %d rows in %d files' % (ROWS, FILES), seconds, memory, size // 1024 + BESIDES)
+    pages = sum(-(-os.path.getsize(os.path.join(folder, 'data-%d' % file)) // 4096) for file in range(1, FILES + 1))
+    print('its reply has %.1f MiB, the files have %d pages, and it makes %d reads' % (size / (1 << 20), pages, reads_of([program, folder, script])))
+    if shutil.which('sqlite3'):
+        path = write_script(os.path.join(top, 'sqlite'), [SQLITE, 'BEGIN;\n'] + [insert(n) for n in range(ROWS)] + ['COMMIT;\n'])
+        run(['sqlite3', os.path.join(top, 'rows.db')], path)
+        words = ['sqlite3', os.path.join(top, 'rows.db'), 'SELECT * FROM t ORDER BY k']
+        print_run('sqlite3', *min(run(words, written=replies) for _ in range(TRIES)))
+    words = [program, folder, write_script(os.path.join(top, 'nothing'), [])]
+    print_opening('opening that folder', words)
+    print('it makes %d reads' % reads_of(words))
+    if shutil.which('sqlite3'):
+        print_opening('sqlite3, of one row', ['sqlite3', os.path.join(top, 'rows.db'), 'SELECT * FROM t LIMIT 1'])
+    return above
+
+
+def main():
+    top = os.path.dirname(os.path.dirname(os.path.abspath(__file__)))
+    program = sys.argv[1] if len(sys.argv) > 1 else os.path.join(top, 'sasi')
+    # It is built before the first run is measured.
+    subprocess.run([program], stderr=subprocess.DEVNULL)
+    program = os.path.join(top, 'crates/sasi_tool/out/sasi_tool') if len(sys.argv) < 2 else program
+    print('%-46s %8s %9s %9s' % ('', 'seconds', 'peak MiB', 'limit'))
+    above = False
+    for measure in (check_data_file, measure_flushes, measure_select):
+        with tempfile.TemporaryDirectory(dir=MEMORY) as folder:
+            above = measure(program, folder) or above
+    if above:
+        sys.exit('a run took more memory than its limit')
+
+
+main()
