@@ -1,7 +1,6 @@
 -- Pieces run on every host, one after another: their replies but the rows, from a state that the store is of.
 use Rattle.std.proofs.Common.{◌≡◌, ℕ, ◌+◌, ◌≤◌, ◌<◌, ◌^◌, List, [], ◌∷◌, ◌++◌, length, Option, refl, sym, ap, ◌∙◌, subst, arith, append_assoc}
-use Rattle.std.proofs.lemmas.List.{append-nil}
-use Rattle.std.specs.Io.KnownBytes.{Appends, Consumes}
+use Rattle.std.specs.Io.KnownBytes.{Consumes}
 use Rattle.sasi_host.specs.View.{View, counted_by}
 use Rattle.sasi_model.specs.Parsers.{grammar_parser}
 use Rattle.sasi_model.specs.Pieces.{Piece}

@@ -324,8 +324,7 @@ headline_opened asked status script later a b c store s of sound sound_c silent 
   parser = grammar_parser;
   parses = is_parser;
   on_every_host =
-      let runs = on.anywhere s of in
-      (
+      let runs = on.anywhere s of in (
         s,
         record {
           bytes = record {

@@ -1,11 +1,11 @@
 -- Moves after moves, and moves that are made where a table's maps pass a test.
-use Rattle.std.proofs.Common.{◌≡◌, ◌≢◌, ◌≤◌, ◌<◌, ◌-◌, ◌+◌, ◌^◌, ℕ, zero, suc, Bool, true, false, cond, nat_eq, nat_le, List, [], ◌∷◌, ◌++◌, length, map, slice_get, Option, None, Some, Result, Ok, Err, refl, sym, ap, subst, ◌∙◌, arith}
-use Rattle.std.specs.Prelude.{IfErr, OnOk, ◌==◌, ◌||◌, not}
+use Rattle.std.proofs.Common.{◌≡◌, ◌≤◌, ◌<◌, ◌-◌, ◌+◌, ◌^◌, ℕ, zero, suc, Bool, true, false, cond, nat_eq, nat_le, List, [], ◌∷◌, ◌++◌, length, slice_get, Option, None, Some, Result, Ok, Err, refl, sym, ap, subst, ◌∙◌, arith}
+use Rattle.std.specs.Prelude.{IfErr, OnOk, ◌||◌}
 use Rattle.std.proofs.lemmas.Bool.Decides.{nat_tests}
 use Rattle.std.specs.FinMap as map_
 use Rattle.std.specs.List.{sum_by}
 use Rattle.std.specs.Option.{option_map_or}
-use Rattle.sasi_host.specs.ChangeLaws.{changes_as, changes_on, stays}
+use Rattle.sasi_host.specs.ChangeLaws.{changes_on, stays}
 use Rattle.sasi_host.specs.Disk.{Changes, Same}
 use Rattle.sasi_host.specs.View.{FailedAtLast, IsSound, View}
 use Rattle.sasi_cells.specs.declared.mutation.Mutation.{Mutation}
@@ -15,12 +15,12 @@ use Rattle.sasi_layout.specs.Layout.{Layout, TableParts, unflushed}
 use Rattle.sasi_layout.specs.Moves.{Flush, Move, Put, after_moves, after_put}
 use Rattle.sasi_layout.specs.Serving.{IsReady, Serves, StoreInHand, TableInHand, table_in_hand}
 use Rattle.sasi_layout.specs.Spent.{spent}
-use Rattle.sasi_layout.specs.Statements.{are_full, flush_where, hold_any, numbered, tests_unflushed}
+use Rattle.sasi_layout.specs.Statements.{are_full, flush_where, numbered, tests_unflushed}
 use Rattle.sasi_layout.specs.declared.number_kind.NumberKind.{NumberKind}
-use Rattle.sasi_memtable.specs.Sizes.{byte_count, bytes_in, cell_count, cells_in}
+use Rattle.sasi_memtable.specs.Sizes.{bytes_in, cells_in}
 use Rattle.sasi_model.specs.Abbreviations.{Partitions}
 use Rattle.sasi_store.specs.Answers.{AnyFolderChange}
-use Rattle.sasi_store.specs.Faults.{OnSpent, OnStepDamage, StepCauses}
+use Rattle.sasi_store.specs.Faults.{OnSpent, StepCauses}
 use Rattle.sasi_store.specs.MakesMoves.{MakesMoves, MovesOf}
 use Rattle.sasi_store.specs.declared.fault.StepFault.{StepFault}
 use Rattle.sasi_store.specs.declared.fault.StepFault.TheVariants as fault

@@ -1,5 +1,5 @@
 -- A table that a store lists and creates.
-use Rattle.std.proofs.Common.{◌≡◌, ◌≢◌, ◌||◌, ◌&&◌, Bool, false, ℕ, zero, suc, ◌+◌, ◌-◌, ◌^◌, ◌<◌, ◌≤◌, true, List, [], ◌∷◌, ◌++◌, length, map, slice_get, Option, None, Some, refl, sym, ap, subst, ◌∙◌, arith}
+use Rattle.std.proofs.Common.{◌≡◌, ◌≢◌, ◌||◌, ◌&&◌, Bool, false, ℕ, suc, ◌+◌, List, [], ◌∷◌, ◌++◌, length, None, Some, refl, sym, ap, subst, ◌∙◌, arith}
 use Rattle.std.specs.Prelude.{IsTrue, Ok, Err}
 use Rattle.std.specs.FinMap as map_
 use Rattle.std.specs.List.{list_any}
@@ -9,7 +9,6 @@ use Rattle.sasi_host.specs.Disk.{AnyChange, Changes, FileChange, LeftWith}
 use Rattle.sasi_host.specs.declared.name.FileName.{FileName}
 use Rattle.sasi_host.specs.Names.{Folder, data_name, log_name, manifest_name, name_eq, seal_name}
 use Rattle.sasi_host.specs.View.{IsSound, Reaches, View}
-use Rattle.sasi_commitlog.specs.LogPosition.{IsAtLogEnd}
 use Rattle.sasi_folder.proofs.FolderLaws.{kinds_apart}
 use Rattle.sasi_layout.proofs.LayoutLaws.{create_state}
 use Rattle.sasi_layout.proofs.ListingLaws.{create_is_next}
@@ -21,16 +20,14 @@ use Rattle.sasi_layout.specs.Kept.{HasKept, has_data, has_segment, is_kept}
 use Rattle.sasi_layout.specs.Layout.{Layout, TableParts, listing_of, state_of}
 use Rattle.sasi_layout.specs.Moves.{Create, after_create, create_edits, new_parts}
 use Rattle.sasi_layout.specs.Serving.{IsReady, IsTyped, Serves, StoreInHand, TableInHand, kept_by, table_in_hand}
-use Rattle.sasi_layout.specs.Statements.{definitions_of}
 use Rattle.sasi_layout.specs.Wells.{IsWellTable}
 use Rattle.sasi_machine.proofs.TableColumns.{small}
 use Rattle.sasi_machine.proofs.MaxTimestamps.{greatest_push, nothing_held}
 use Rattle.sasi_manifest.proofs.Consistency.{record_consistent}
-use Rattle.sasi_manifest.specs.Consistent.{IsConsistent}
 use Rattle.sasi_manifest.specs.declared.edit.Edit.{Edit}
 use Rattle.sasi_manifest.specs.declared.edit.Edit.TheVariants.{CreateTable}
 use Rattle.sasi_manifest.specs.declared.listing.Listing.{Listing}
-use Rattle.sasi_manifest.specs.Edits.{Applies, encoded}
+use Rattle.sasi_manifest.specs.Edits.{encoded}
 use Rattle.sasi_manifest.specs.Format.{IsNext}
 use Rattle.sasi_manifest.specs.ListedDefinition.{ListedDefinition}
 use Rattle.sasi_manifest.specs.ListedFiles.{has_file}
@@ -39,7 +36,6 @@ use Rattle.sasi_manifest.specs.OpenManifest.{IsEither, ManifestState, ManifestSt
 use Rattle.sasi_model.specs.Abbreviations.{types_of}
 use Rattle.sasi_model.specs.Changes.{empty_table, with_new_table}
 use Rattle.sasi_model.specs.State.{Definition, State, max_timestamp}
-use Rattle.sasi_model.specs.State as model
 use Rattle.sasi_schema.proofs.Keys.{column_types_are}
 use Rattle.sasi_schema.specs.Defined.{definition}
 use Rattle.sasi_schema.specs.declared.table.Table.{Table}

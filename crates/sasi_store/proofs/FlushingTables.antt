@@ -1,5 +1,5 @@
 -- The flush of a table of a store: what it needs, and what the store is afterwards.
-use Rattle.std.proofs.Common.{◌≡◌, ◌≢◌, ◌⊎◌, ◌||◌, ◌&&◌, not, inl, inr, drop, Bool, true, false, cond, nat_eq, nat_le, is_some, ℕ, zero, suc, ◌+◌, ◌-◌, ◌^◌, ◌<◌, ◌≤◌, List, [], ◌∷◌, ◌++◌, length, map, slice_get, Option, None, Some, Result, Ok, Err, refl, sym, ap, subst, ◌∙◌, arith}
+use Rattle.std.proofs.Common.{◌≡◌, ◌≢◌, ◌||◌, ◌&&◌, not, inr, drop, Bool, true, false, cond, nat_eq, nat_le, is_some, ℕ, suc, ◌+◌, ◌-◌, ◌^◌, ◌<◌, ◌≤◌, List, [], ◌∷◌, ◌++◌, length, map, slice_get, Option, None, Some, refl, sym, ap, subst, ◌∙◌, arith}
 use Rattle.std.specs.Prelude.{IsTrue}
 use Rattle.std.proofs.lemmas.Bool.Decides.{nat_tests}
 use Rattle.std.proofs.lemmas.List.{length-map}
@@ -9,11 +9,10 @@ use Rattle.std.specs.List.{AllByRecursion}
 use Rattle.std.specs.Ordering.{eq_by_cmp}
 use Rattle.sasi_host.specs.declared.name.FileName.{FileName}
 use Rattle.sasi_host.specs.Contents.{told_after, told_before, told_files}
-use Rattle.sasi_host.specs.ChangeLaws.{Each}
 use Rattle.sasi_host.specs.Disk.{Changes, Relation}
 use Rattle.sasi_host.specs.NameLaws.{same_name, test_here}
 use Rattle.sasi_host.specs.Names.{Bytes, Folder, data_name, log_name, manifest_name, name_cmp}
-use Rattle.sasi_host.specs.View.{IsSound, IsTold, ListCauses, Reaches, View, contents_in}
+use Rattle.sasi_host.specs.View.{IsTold, Reaches, View, contents_in}
 use Rattle.sasi_body.specs.Body.{HasBody}
 use Rattle.sasi_cells.specs.Maps.{merged}
 use Rattle.sasi_cells.specs.declared.mutation.Mutation.{Mutation}
@@ -26,18 +25,13 @@ use Rattle.sasi_layout.proofs.NewFiles.{ready_flush}
 use Rattle.sasi_layout.proofs.Numbered.{all_changed, seen_at, unseen_at}
 use Rattle.sasi_layout.proofs.Storable.{entries_storable, none_storable}
 use Rattle.sasi_layout.proofs.WellMoves.{moved_well}
-use Rattle.sasi_layout.specs.Between.{Between}
-use Rattle.sasi_layout.specs.Flushed.{logs_after}
 use Rattle.sasi_layout.specs.Kept.{HasKept, Kept, is_listed}
-use Rattle.sasi_layout.specs.Layout.{Layout, TableParts, Used, bare, listing_of, state_of, unflushed}
+use Rattle.sasi_layout.specs.Layout.{Layout, TableParts, Used, listing_of, unflushed}
 use Rattle.sasi_layout.specs.Moves.{Flush, after_flush, flush_table, floor_without, lesser, new_file, next_floor}
 use Rattle.sasi_layout.specs.Serving.{AreTablesReady, IsLive, IsReady, IsStorable, IsTableReady, Serves, StoreInHand, TableInHand, kept_by, table_in_hand}
-use Rattle.sasi_layout.specs.Statements.{definitions_of}
 use Rattle.sasi_layout.specs.Wells.{IsWellTable, Rising}
 use Rattle.sasi_manifest.proofs.Applying.{replace_applies}
 use Rattle.sasi_manifest.proofs.Consistency.{record_consistent}
-use Rattle.sasi_manifest.specs.declared.edit.Edit.{Edit}
-use Rattle.sasi_manifest.specs.declared.edit.Edit.TheVariants.{Replace}
 use Rattle.sasi_manifest.specs.declared.listing.Listing.{Listing}
 use Rattle.sasi_manifest.proofs.Replacing.{At}
 use Rattle.sasi_manifest.specs.Consistent.{IsConsistent}

@@ -1,9 +1,9 @@
 -- The causes of faults of a step, and steps that make no move.
-use Rattle.std.proofs.Common.{◌≡◌, ◌≢◌, ◌≤◌, Some, Result, Ok, Err, refl, sym, arith}
+use Rattle.std.proofs.Common.{◌≡◌, ◌≢◌, Some, Result, Ok, Err, refl, arith}
 use Rattle.sasi_host.specs.declared.fault.HostFault.{HostFault}
 use Rattle.sasi_host.specs.declared.fault.HostFault.TheVariants as host
 use Rattle.sasi_host.specs.ChangeLaws.{changes_as, stays}
-use Rattle.sasi_host.specs.Disk.{AnyChange, Changes, FileChange, Relation, Same}
+use Rattle.sasi_host.specs.Disk.{Changes, Relation, Same}
 use Rattle.sasi_host.specs.View.{IsSound, ListCauses, View}
 use Rattle.sasi_layout.proofs.Trails.{moves_none}
 use Rattle.sasi_layout.specs.Layout.{Layout}

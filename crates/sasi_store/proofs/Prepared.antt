@@ -1,5 +1,5 @@
 -- What a prepared piece may be made of, whatever state the store has.
-use Rattle.std.proofs.Common.{◌≡◌, ◌+◌, ◌-◌, ◌^◌, ◌<◌, ◌≤◌, ℕ, zero, suc, List, [], ◌∷◌, length, map, slice_get, Option, None, Some, refl, sym, ap, subst, ◌∙◌, arith}
+use Rattle.std.proofs.Common.{◌≡◌, ◌-◌, ◌^◌, ◌<◌, ℕ, zero, suc, List, [], ◌∷◌, length, map, slice_get, Option, None, Some, refl, sym, ap, subst, ◌∙◌, arith}
 use Rattle.std.specs.Prelude.{max}
 use Rattle.std.proofs.Common.{nat_cmp}
 use Rattle.sasi_types.specs.DecoratedKey.{decorated_cmp}
@@ -15,7 +15,7 @@ use Rattle.sasi_cells.specs.declared.mutation.Mutation.{Mutation}
 use Rattle.sasi_folder.proofs.Creating.{can_create}
 use Rattle.sasi_host.specs.View.{View}
 use Rattle.sasi_layout.specs.Serving.{IsReady}
-use Rattle.sasi_machine.specs.Prepares.{CreatesTable, HasRows, HasTable, IsApplicable, IsNewTable, IsQuery, IsSelect, IsStateOf, IsTimeless, Prepares, asked_by}
+use Rattle.sasi_machine.specs.Prepares.{CreatesTable, HasRows, HasTable, IsApplicable, IsQuery, IsSelect, IsStateOf, IsTimeless, Prepares, asked_by}
 use Rattle.sasi_machine.specs.declared.prepared.Prepared.{Prepared}
 use Rattle.sasi_machine.specs.declared.prepared.Prepared.TheVariants.{Create, Write as Writes}
 use Rattle.sasi_machine.specs.declared.prepared.Selection.{Selection}
@@ -37,7 +37,6 @@ use Rattle.sasi_model.specs.Stored.{IsBodyOf}
 use Rattle.sasi_model.specs.WellFormed.{IsWellFormed}
 use Rattle.sasi_recover.specs.OpenedFolder.{table_in_hand}
 use Rattle.sasi_schema.proofs.Keys.{types_are}
-use Rattle.sasi_schema.specs.Defined.{definition}
 use Rattle.sasi_schema.specs.declared.table.Table.{Table}
 use Rattle.sasi_types.specs.declared.column.ColumnType.{ColumnType}
 use Rattle.sasi_types.specs.declared.partitioner.Partitioner.{Partitioner}

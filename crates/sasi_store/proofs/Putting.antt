@@ -1,5 +1,5 @@
 -- A mutation that a store logs and merges into its memtable.
-use Rattle.std.proofs.Common.{◌≡◌, ◌≢◌, ℕ, zero, suc, ◌+◌, ◌-◌, ◌^◌, ◌<◌, ◌≤◌, List, [], ◌∷◌, ◌++◌, length, map, set, slice_get, Option, None, Some, refl, sym, ap, subst, ◌∙◌, true, arith}
+use Rattle.std.proofs.Common.{◌≡◌, ◌≢◌, ℕ, zero, suc, ◌+◌, ◌-◌, ◌<◌, List, [], ◌∷◌, ◌++◌, length, map, set, slice_get, Option, None, Some, refl, sym, ap, subst, ◌∙◌, true, arith}
 use Rattle.std.specs.Prelude.{IsTrue, max, Ok, Err}
 use Rattle.std.proofs.lemmas.List.{length-map}
 use Rattle.sasi_types.specs.Token.{AreBytes}
@@ -26,12 +26,11 @@ use Rattle.sasi_layout.specs.Layout.{Layout, TableParts, listing_of, state_of, t
 use Rattle.sasi_layout.specs.Moves.{Put, after_put, or_else, put_table}
 use Rattle.sasi_layout.specs.Kept.{is_kept}
 use Rattle.sasi_layout.specs.Serving.{AreTablesReady, IsLive, IsReady, IsTableReady, Serves, StoreInHand, TableInHand, kept_by, table_in_hand}
-use Rattle.sasi_layout.specs.Statements.{definitions_of}
 use Rattle.sasi_manifest.specs.declared.listing.Listing.{Listing}
 use Rattle.sasi_manifest.specs.Listings.{at_number}
 use Rattle.sasi_manifest.specs.OpenManifest.{ManifestStands}
 use Rattle.sasi_manifest.specs.Types.{numbered_types}
-use Rattle.sasi_model.specs.Abbreviations.{TIME_LIMIT, definitions, types_of}
+use Rattle.sasi_model.specs.Abbreviations.{definitions, types_of}
 use Rattle.sasi_model.specs.Cells.{max_timestamp_of}
 use Rattle.sasi_model.specs.Changes.{empty_table}
 use Rattle.sasi_model.specs.State.{Definition, State, Table, max_timestamp}

@@ -1,5 +1,5 @@
 -- A SELECT over the table of a store.
-use Rattle.std.proofs.Common.{◌≡◌, ◌≢◌, ◌<◌, ◌-◌, ◌||◌, Bool, true, false, nat_eq, is_some, ℕ, zero, suc, List, [], ◌∷◌, ◌++◌, length, map, slice_get, slice_index_or, Option, None, Some, inr, refl, sym, ap, subst, ◌∙◌, arith}
+use Rattle.std.proofs.Common.{◌≡◌, ◌<◌, ◌-◌, ◌||◌, Bool, true, false, nat_eq, is_some, ℕ, zero, suc, List, [], ◌∷◌, ◌++◌, length, map, slice_get, slice_index_or, Option, None, Some, inr, refl, sym, ap, subst, ◌∙◌, arith}
 use Rattle.std.specs.Prelude.{Contains}
 use Rattle.std.proofs.lemmas.Bool.Decides.{nat_tests}
 use Rattle.std.proofs.lemmas.List.{length-map}
@@ -35,7 +35,7 @@ use Rattle.sasi_manifest.specs.Edits.{files_of}
 use Rattle.sasi_manifest.specs.ListedDefinition.{ListedDefinition}
 use Rattle.sasi_manifest.specs.ListedFiles.{has_file}
 use Rattle.sasi_manifest.specs.ListedTables.{listed}
-use Rattle.sasi_model.specs.Abbreviations.{Partitions, key_type, types_of}
+use Rattle.sasi_model.specs.Abbreviations.{key_type, types_of}
 use Rattle.sasi_model.specs.Cells.{Partition}
 use Rattle.sasi_model.specs.State.{Definition, Table}
 use Rattle.sasi_model.specs.Stored.{IsBodyOf, IsValueOf}

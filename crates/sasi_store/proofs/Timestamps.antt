@@ -1,5 +1,5 @@
 -- The largest timestamp of a state after a change.
-use Rattle.std.proofs.Common.{◌≡◌, ℕ, zero, suc, ◌-◌, ◌<◌, List, [], ◌∷◌, map, slice_get, Option, None, Some, refl, sym, ap, ◌∙◌, arith}
+use Rattle.std.proofs.Common.{◌≡◌, ℕ, zero, suc, ◌-◌, ◌<◌, List, [], ◌∷◌, slice_get, Some, sym, ap, ◌∙◌, arith}
 use Rattle.std.specs.Prelude.{max}
 use Rattle.sasi_types.specs.declared.decorated_key.DecoratedKey.{DecoratedKey}
 use Rattle.sasi_cells.specs.Mutations.{state_with_mutation}

@@ -2,7 +2,6 @@
 use Rattle.std.specs.Prelude.{◌≡◌, ◌-◌, ◌<◌, ◌≤◌, ℕ, suc, nat_eq, if◌then◌else◌, List, [], ◌∷◌, length, slice_get, Option, None, Some}
 use Rattle.std.specs.FinMap as map_
 use Rattle.sasi_gated.specs.Handles.{Handle}
-use Rattle.sasi_layout.specs.Layout.{Used}
 use Rattle.sasi_layout.specs.Moves.{lesser}
 use Rattle.sasi_layout.specs.Serving.{StoreInHand, TableInHand}
 use Rattle.sasi_manifest.specs.Listings.{at_number}

@@ -1,5 +1,5 @@
 -- What a mutation changes of a store in memory.
-use Rattle.std.specs.Prelude.{◌≡◌, ◌+◌, ◌-◌, ◌<◌, ◌≤◌, ℕ, max, List, length, Some, slice_get, slice_set}
+use Rattle.std.specs.Prelude.{◌≡◌, ◌-◌, ◌<◌, ◌≤◌, ℕ, max, List, length, Some, slice_get, slice_set}
 use Rattle.sasi_cells.specs.Maps.{put}
 use Rattle.sasi_cells.specs.declared.mutation.Mutation.{Mutation}
 use Rattle.sasi_layout.specs.Moves.{or_else}

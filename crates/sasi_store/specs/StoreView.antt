@@ -1,5 +1,5 @@
 -- What contracts see of a store.
-use Rattle.std.specs.Prelude.{◌≡◌, ℕ, Bool, IsTrue, List, [], map}
+use Rattle.std.specs.Prelude.{◌≡◌, ℕ, Bool, IsTrue, List, map}
 use Rattle.std.specs.List.{AllByRecursion}
 use Rattle.sasi_types.specs.declared.partitioner.Partitioner.{Partitioner}
 use Rattle.sasi_host.specs.View.{View}

@@ -1,5 +1,5 @@
 -- What can be written to a store, and created in it.
-use Rattle.std.specs.Prelude.{◌≡◌, ◌+◌, ◌-◌, ◌<◌, ◌^◌, ℕ, length, slice_get, None, Some}
+use Rattle.std.specs.Prelude.{◌≡◌, ◌+◌, ◌-◌, ◌<◌, ◌^◌, length, slice_get, None, Some}
 use Rattle.sasi_cells.specs.declared.mutation.Mutation.{Mutation}
 use Rattle.sasi_layout.specs.Serving.{StoreInHand}
 use Rattle.sasi_manifest.specs.Edits.{Applies}
@@ -7,7 +7,6 @@ use Rattle.sasi_manifest.specs.declared.edit.Edit.TheVariants.{CreateTable}
 use Rattle.sasi_model.specs.Abbreviations.{types_of}
 use Rattle.sasi_model.specs.State.{Definition, definition_of}
 use Rattle.sasi_model.specs.Stored.{IsBodyOf}
-use Rattle.sasi_schema.specs.Defined.{definition}
 use Rattle.sasi_schema.specs.declared.table.Table.{Table}
 
 -- the table of the mutation is there, and its key and change can be stored in it

@@ -1,6 +1,6 @@
 use Rattle.std.specs.Prelude.{◌++◌, ◌∷◌, [], refl, ◌≡◌, ◌≤◌, ◌^◌, length, List, None, map, ◌+◌}
 use Rattle.std.specs.List.{AllByRecursion}
-use Rattle.std.proofs.Common.{Ok, ap, sym, subst, ◌∙◌, ℕ, arith, IsTrue}
+use Rattle.std.proofs.Common.{Ok, ap, sym, subst, ◌∙◌, arith}
 use Rattle.std.proofs.lemmas.List.{length-map, map-append}
 use Rattle.std.proofs.lemmas.Result.{err_from_is_err_and}
 use Rattle.sasi_layout.specs.Moves.{Create}

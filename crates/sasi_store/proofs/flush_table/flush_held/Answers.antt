@@ -1,4 +1,4 @@
-use Rattle.std.proofs.Common.{◌≡◌, ◌-◌, ◌<◌, arith, length, refl, sym, ◌∙◌}
+use Rattle.std.proofs.Common.{◌-◌, ◌<◌, arith, length, refl, sym, ◌∙◌}
 use Rattle.sasi_layout.specs.Statements.{hold_any}
 use Rattle.sasi_recover.specs.OpenedFolder.{table_in_hand}
 use Rattle.sasi_store.specs.StoreView.{hand_of}

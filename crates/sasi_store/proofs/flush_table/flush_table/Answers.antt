@@ -1,4 +1,4 @@
-use Rattle.std.proofs.Common.{◌≡◌, ◌-◌, ◌^◌, ◌<◌, ◌∷◌, [], List, Ok, ap, arith, length, map, refl, slice_get, Some, subst, sym, ◌∙◌, ℕ}
+use Rattle.std.proofs.Common.{◌-◌, ◌^◌, ◌<◌, ◌∷◌, [], List, Ok, ap, arith, length, map, refl, subst, sym, ◌∙◌}
 use Rattle.std.proofs.lemmas.Result.{err_from_is_err_and}
 use Rattle.sasi_layout.specs.Moves.{Flush}
 use Rattle.sasi_layout.specs.Serving.{StoreInHand}

@@ -1,5 +1,5 @@
 use Rattle.std.specs.Prelude.{max, ◌∷◌, []}
-use Rattle.std.proofs.Common.{◌≡◌, Ok, List, ap, refl, sym, subst, ◌∙◌, ℕ}
+use Rattle.std.proofs.Common.{Ok, ap, refl, sym, subst, ◌∙◌, ℕ}
 use Rattle.std.proofs.lemmas.Result.{err_from_is_err_and}
 use Rattle.sasi_types.specs.Token.{AreBytes}
 use Rattle.sasi_layout.specs.Moves.{Put}

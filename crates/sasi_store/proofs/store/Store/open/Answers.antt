@@ -6,7 +6,7 @@ use Rattle.sasi_machine.specs.Prepares.{IsStateOf}
 use Rattle.sasi_model.specs.State.{State}
 use Rattle.sasi_recover.specs.OpenedFolder.{in_hand}
 use Rattle.sasi_recover.specs.declared.opened.TableMap.{TableMap}
-use Rattle.sasi_store.specs.StoreView.{AreTables, hand_of}
+use Rattle.sasi_store.specs.StoreView.{AreTables}
 use Rattle.sasi_store.proofs.Known.{opened_state}
 use Rattle.sasi_store.proofs.TablesInHand.{opened_tables}
 use Rattle.sasi_store.proofs.store.Store.open.Goals as goal
