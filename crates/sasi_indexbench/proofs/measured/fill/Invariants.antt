@@ -1,0 +1,5 @@
+use Rattle.sasi_indexbench.specs.Filling.{AreUpTo}
+use Rattle.sasi_indexbench.proofs.measured.fill.Given as goal
+
+abbrev pub invariant-loop-number : goal.invariant-loop-number
+invariant-loop-number l = AreUpTo l.gather.postings l.last
