@@ -3,3 +3,4 @@ mod MergedSorted
 mod Merges
 mod Positions
 mod Partitions
+pub mod Keys

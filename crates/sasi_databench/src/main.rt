@@ -4,17 +4,14 @@
 #![tactic(auto)]
 
 mod content;
-mod counting_reader;
 mod measured;
 
-use counting_reader::CountingReader;
 use measured::{NUMBER, find_all, scan_all, write_all};
+use sasi_bench::{Arguments, CountingReader};
 use sasi_dataread::DataFile;
 use sasi_datawrite::PairFault;
 use sasi_filehost::FileHost;
 use sasi_host::FileName;
-use std::env;
-use std::env::Env;
 use std::process::ExitCode;
 
 fn run(rt: HostRuntime, folder: &str, count: u64, what: &str) -> Result<(u64, u64), PairFault> {
@@ -37,23 +34,11 @@ fn run(rt: HostRuntime, folder: &str, count: u64, what: &str) -> Result<(u64, u6
     Ok((given, pages.pages))
 }
 
-// The arguments behind the program's own name.
-fn words<R: Env + AllocGlobal>(rt: &R) -> Option<Vec<String>> {
-    let args = env::args(rt).ok()?;
-    args.skip(1).collect(rt.alloc()).ok()
-}
-
 fn main(rt: HostRuntime) -> ExitCode {
-    let Some(words) = words(&rt) else {
+    let Some(asked) = Arguments::read(&rt) else {
         return ExitCode::from(2);
     };
-    let [folder, count, what] = words.as_slice() else {
-        return ExitCode::from(2);
-    };
-    let Ok(count) = count.parse::<u64>() else {
-        return ExitCode::from(2);
-    };
-    match run(rt, folder, count, what) {
+    match run(rt, &asked.folder, asked.count, &asked.what) {
         Ok((given, pages)) => {
             let _ = println!(rt; "{given} partitions, {pages} pages");
             ExitCode::from(0)

@@ -4,7 +4,7 @@ ghost use Rattle.sasi_types.specs.declared.partitioner.Partitioner.TheVariants.{
 ghost use Rattle.sasi_datawrite.specs.Writing.{last_pair};
 
 use crate::content::{body, types};
-use crate::counting_reader::CountingReader;
+use sasi_bench::CountingReader;
 use sasi_body::read_body;
 use sasi_dataread::DataFile;
 use sasi_datawrite::{DataRef, DataWriter, NoWatch, PairFault};

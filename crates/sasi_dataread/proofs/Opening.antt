@@ -1,5 +1,5 @@
--- A data file that was opened: what its footer and its partitions say of its content.
-use Rattle.std.proofs.Common.{◌≡◌, ◌⊎◌, ℕ, ◌+◌, ◌-◌, ◌^◌, ◌<◌, ◌≤◌, List, ◌++◌, [], length, length-append, sym, ◌∙◌, ap, subst, arith, ⊎_elim, Option, Some, IfOk, IfErr}
+-- A data file that was opened: what its partitions say of its content.
+use Rattle.std.proofs.Common.{◌≡◌, ◌⊎◌, ℕ, ◌+◌, ◌^◌, ◌<◌, ◌≤◌, List, ◌++◌, [], length, length-append, ◌∙◌, ap, subst, arith, ⊎_elim, Option, Some, IfOk, IfErr}
 use Rattle.std.specs.Int.{to_be_bytes, w64}
 use Rattle.std.specs.declared.result.Result.{Result}
 use Rattle.std.specs.declared.result.Result.TheVariants.{Ok, Err}
@@ -21,34 +21,13 @@ use Rattle.sasi_host.proofs.DamageLaws.{shown_as}
 use Rattle.sasi_tokentree.specs.Damages.{pair_place}
 use Rattle.sasi_dataread.specs.Damages.{ShowsPair, ShowsPartition}
 use Rattle.sasi_dataread.specs.Damages.ShowsPair.{leads_nowhere, in_partition}
-use Rattle.sasi_host.proofs.Offsets.{same_at}
-use Rattle.sasi_formats.specs.Formats.{encoded}
-use Rattle.sasi_formats.proofs.Agreement.{same_front}
-use Rattle.sasi_formats.proofs.Encoding.{encodes}
-use Rattle.sasi_datawrite.specs.declared.footer.Footer.{Footer}
-use Rattle.sasi_datawrite.specs.Format.{Content, header, partitions, footer, end_mark, footer_bytes}
-use Rattle.sasi_datawrite.specs.Files.{IsDataFile}
+use Rattle.sasi_datawrite.specs.Format.{Content, header, partitions}
 use Rattle.sasi_datawrite.proofs.Laws.{header_length}
-use Rattle.sasi_datawrite.proofs.Footers.{footer_is}
 use Rattle.sasi_dataread.specs.Opened.{Opened, StandsAt}
 use Rattle.sasi_dataread.specs.Reads.{ReadsPartition, IsOpenOn, NoFalsePartitionDamage}
 use Rattle.sasi_dataread.specs.Bodies.{length_prefixed, partition_reads, IsPartitionPlace, NoFalseBodyDamage}
-use Rattle.sasi_dataread.specs.Laws.{in_range, footer_of, footer_length, footer_stands, partition_stands, partition_typed, partition_within}
-use Rattle.sasi_dataread.specs.HeaderAndFooter.{HasHeaderAndFooter}
+use Rattle.sasi_dataread.specs.Laws.{partition_stands, partition_typed, partition_within}
 use Rattle.sasi_dataread.proofs.Bodies.{sized_same}
-
--- ---- the footer
-
--- what the footer of a data file tells
-pub footer_tells : (partitioner : Partitioner) (types : List ColumnType) (bytes : Bytes) (content : Content) (numbers : Footer) → IsDataFile partitioner types bytes content → HasHeaderAndFooter bytes numbers → length bytes ≤ 2 ^ 62
-    → numbers ≡ footer_of partitioner content
-footer_tells partitioner types bytes content numbers of has short =
-    let at = length bytes - 40 in
-    let own = footer_of partitioner content in
-    let mark = encoded end_mark tt in
-    let same : footer_bytes numbers ≡ footer_bytes own = same_at bytes at (footer_bytes numbers) (footer_bytes own) has.ends (footer_stands partitioner types bytes content of) (footer_length numbers ∙ sym (footer_length own)) in
-    (same_front (footer at) numbers own (encoded (footer at) numbers) (encoded (footer at) own) mark mark (encodes (footer at) numbers has.fit)
-    (encodes (footer at) own (in_range partitioner types bytes content of short)) (sym (footer_is at numbers) ∙ same ∙ footer_is at own)).0
 
 -- ---- a partition
 

@@ -10,25 +10,21 @@ use Rattle.sasi_host.specs.Names.{Bytes}
 use Rattle.sasi_host.specs.Damages.{HasAt, ShowsEnd, seen_bytes}
 use Rattle.sasi_body.specs.Body.{body_of}
 use Rattle.sasi_formats.specs.Failures.{HasOtherLength}
-use Rattle.sasi_formats.specs.Headers.{file_header}
 use Rattle.sasi_formats.specs.Parts.{ShowsBrokenPart}
+use Rattle.sasi_framing.specs.Damages.{ShowsFraming}
 use Rattle.sasi_tokentree.specs.Damages.{ShowsTree, pair_place}
 use Rattle.sasi_tokentree.specs.Scans.{HasEntry}
 use Rattle.sasi_datawrite.specs.declared.footer.Footer.{Footer}
-use Rattle.sasi_datawrite.specs.Format.{magic, footer, end_mark}
 use Rattle.sasi_dataread.specs.Opened.{Opened}
 use Rattle.sasi_dataread.specs.Bodies.{length_prefixed, IsLength, IsPartitionPlace}
-use Rattle.sasi_dataread.specs.HeaderAndFooter.{HasHeaderAndFooter}
+use Rattle.sasi_dataread.specs.HeaderAndFooter.{HasHeaderAndFooter, data_framing}
 
 -- ---- the header and the footer
 
 -- the damage is that of this file: it is too short for a data file, or the mark at its end, its header or the numbers of its
 -- footer break their format
-pub data ShowsHeaderOrFooter (file : FileName) (bytes : Bytes) (damage : Damage) : Type 0 where
-  too_short : ShowsEnd 97 file bytes damage → ShowsHeaderOrFooter file bytes damage
-  in_mark : (at : ℕ) → at + 8 ≡ length bytes → ShowsBrokenPart end_mark at 8 file bytes damage → ShowsHeaderOrFooter file bytes damage
-  in_header : ShowsBrokenPart (file_header magic 0) 0 16 file bytes damage → ShowsHeaderOrFooter file bytes damage
-  in_footer : (at : ℕ) → at + 40 ≡ length bytes → ShowsBrokenPart (footer at) at 32 file bytes damage → ShowsHeaderOrFooter file bytes damage
+abbrev pub ShowsHeaderOrFooter : FileName → Bytes → Damage → Type 0
+ShowsHeaderOrFooter file = ShowsFraming data_framing file
 
 -- ---- a partition at an offset, which has to end before the end
 

@@ -1,20 +1,20 @@
 // Reads the header and the footer of a data file.
-ghost use Rattle.std.specs.Prelude.{◌≡◌, ◌+◌, ◌-◌, ◌^◌, ◌<◌, ◌≤◌, length, drop, IfErr, IfOk, OnOk, Some};
+ghost use Rattle.std.specs.Prelude.{◌≡◌, ◌≤◌, length, IfErr, IfOk, Some};
 ghost use Rattle.sasi_host.specs.declared.name.FileName.{FileName};
 ghost use Rattle.sasi_host.specs.Names.{Bytes};
 ghost use Rattle.sasi_host.specs.View.{ReadsAtMost, contents};
-ghost use Rattle.sasi_host.specs.Damages.{HasAt, DamageShown};
-ghost use Rattle.sasi_host.specs.PageReading.{CanRead, HasRead, CanReadOn, HasReadOn};
-ghost use Rattle.sasi_formats.specs.Formats.{Encodes};
-ghost use Rattle.sasi_datawrite.specs.Format.{header, end_mark};
+ghost use Rattle.sasi_host.specs.Damages.{DamageShown};
+ghost use Rattle.sasi_host.specs.PageReading.{CanRead, HasRead};
+ghost use Rattle.sasi_framing.specs.Framing.{BeginsAndEndsWith};
 ghost use Rattle.sasi_dataread.specs.Reads.{NoFalseDataDamage};
 ghost use Rattle.sasi_dataread.specs.Damages.{ShowsHeaderOrFooter};
 ghost use Rattle.sasi_dataread.specs.HeaderAndFooter.{HasHeaderAndFooter};
 
-use crate::parts::{check_mark, numbers_in};
+use crate::parts::numbers_in;
 use sasi_datawrite::{Footer, magic};
 use sasi_formats::check_header;
-use sasi_host::{BufferedFile, FileName, FormatRule, Host, PageReader, ReadFault, found};
+use sasi_framing::{check_mark, read_header_and_footer};
+use sasi_host::{Damage, FileName, Host, PageReader, ReadFault};
 
 // The bytes of a header.
 const HEADER: usize = 16;
@@ -22,50 +22,26 @@ const HEADER: usize = 16;
 // The bytes of a footer.
 pub const FOOTER: usize = 40;
 
+// The bytes of the numbers in a footer.
+pub const NUMBERS: usize = 32;
+
 // No data file is shorter.
 pub const MIN_FILE_SIZE: u64 = 97;
 
-// Reads the header, and checks it.
-fn read_header<H: Host, P: PageReader>(
-    host: &mut H,
-    pages: &mut P,
-    buffered: &mut BufferedFile,
-) -> Result<(), ReadFault>
-    requires read { CanReadOn (P.agrees pages.old) (H.view host.old) buffered.old }
-    ensures ok { OnOk result ((bytes : Bytes) → contents (H.view host.old) buffered.old.file ≡ Some bytes → HasAt bytes 0 header) }
-    ensures damaged { IfErr result (DamageShown (H.view host.old) buffered.old.file (ShowsHeaderOrFooter buffered.old.file)) }
-    ensures read { HasReadOn (P.agrees pages.new) (P.covers pages.old) (P.covers pages.new) (H.view host.old) (H.view host.new) buffered.old buffered.new }
-    ensures causes { ReadsAtMost 1 (H.view host.old) (H.view host.new) result }
-{
-    let file = buffered.file();
-    let mut bytes = [0; HEADER];
-    buffered.read_into(host, pages, 0, &mut bytes)?;
-    check_header(file, magic(), 0, &bytes)?;
-    Ok(())
-}
-
-// Reads the last bytes of a file of this size, and checks that they end with the mark of a footer.
-pub fn read_footer_bytes<H: Host, P: PageReader>(
-    host: &mut H,
-    pages: &mut P,
-    buffered: &mut BufferedFile,
-    size: u64,
-) -> Result<[u8; FOOTER], ReadFault>
-    requires read { CanReadOn (P.agrees pages.old) (H.view host.old) buffered.old }
+// Decodes the header and the footer of a file of this size.
+fn decode(file: FileName, size: u64, header: &[u8], footer: &[u8]) -> Result<Footer, Damage>
+    requires header { length header.now ≡ 16 }
+    requires footer { length footer.now ≡ 40 }
     requires size { 40 ≤ size }
-    ensures ok { IfOk result (λ read. (bytes : Bytes) → contents (H.view host.old) buffered.old.file ≡ Some bytes → HasAt bytes (size - 40) read) }
-    ensures length { IfOk result (λ read. length read ≡ 40) }
-    ensures mark { IfOk result (λ read. Encodes end_mark tt (drop 32 read)) }
-    ensures damaged { IfErr result (DamageShown (H.view host.old) buffered.old.file (λ bytes damage. size ≡ length bytes → ShowsHeaderOrFooter buffered.old.file bytes damage)) }
-    ensures read { HasReadOn (P.agrees pages.new) (P.covers pages.old) (P.covers pages.new) (H.view host.old) (H.view host.new) buffered.old buffered.new }
-    ensures causes { ReadsAtMost 2 (H.view host.old) (H.view host.new) result }
+    ensures ok { IfOk result (λ numbers. (bytes : Bytes) → BeginsAndEndsWith size header.now footer.now bytes → HasHeaderAndFooter bytes numbers) }
+    ensures damaged { IfErr result (λ damage. (bytes : Bytes) → BeginsAndEndsWith size header.now footer.now bytes → ShowsHeaderOrFooter file bytes damage) }
 {
-    let file = buffered.file();
     let at = size - FOOTER as u64;
-    let mut bytes = [0; FOOTER];
-    buffered.read_into(host, pages, at, &mut bytes)?;
-    check_mark(file, at, &bytes)?;
-    Ok(bytes)
+    let (numbers, mark) = footer.split_at(NUMBERS);
+    check_mark(file, at + NUMBERS as u64, b"SASIDEND", mark)?;
+    check_header(file, magic(), 0, header)?;
+    let numbers = numbers_in(file, at, numbers)?;
+    Ok(numbers)
 }
 
 // Reads the header and the footer of a file, and gives the footer.
@@ -81,14 +57,9 @@ pub fn read_footer<H: Host, P: PageReader>(
     ensures read { HasRead (P.agrees pages.new) (P.covers pages.old) (P.covers pages.new) (H.view host.old) (H.view host.new) file }
     ensures causes { ReadsAtMost 3 (H.view host.old) (H.view host.new) result }
 {
-    let size = host.size(file)?;
-    if size < MIN_FILE_SIZE {
-        let damage = found(file, size, FormatRule::Short, &size.to_be_bytes());
-        return Err(ReadFault::Damaged(damage));
-    }
-    let mut buffered = BufferedFile::new(file);
-    let bytes = read_footer_bytes(host, pages, &mut buffered, size)?;
-    read_header(host, pages, &mut buffered)?;
-    let numbers = numbers_in(file, size - FOOTER as u64, &bytes)?;
+    let mut header = [0; HEADER];
+    let mut footer = [0; FOOTER];
+    let size = read_header_and_footer(host, pages, file, MIN_FILE_SIZE, &mut header, &mut footer)?;
+    let numbers = decode(file, size, &header, &footer)?;
     Ok(numbers)
 }

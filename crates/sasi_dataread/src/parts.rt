@@ -1,45 +1,27 @@
-// Decodes the parts of a footer.
-ghost use Rattle.std.specs.Prelude.{◌≡◌, ◌+◌, ◌^◌, ◌<◌, length, take, drop};
+// Decodes the numbers of a footer.
+ghost use Rattle.std.specs.Prelude.{◌≡◌, ◌+◌, ◌^◌, ◌<◌, length};
 ghost use Rattle.sasi_formats.specs.Reader.{read};
 ghost use Rattle.sasi_formats.specs.Gives.{Gives, TakesNoMemory};
 ghost use Rattle.sasi_formats.specs.Parts.{ReadsPart};
-ghost use Rattle.sasi_datawrite.specs.Format.{end_before, end_mark, footer};
+ghost use Rattle.sasi_datawrite.specs.Format.{end_before, footer};
 
 use sasi_datawrite::Footer;
 use sasi_fields::FieldReader;
-use sasi_formats::{FieldStart, FormatFault, damage_in, expect, read_u64, read_u64_in_range};
+use sasi_formats::{FieldStart, FormatFault, damage_in, read_u64, read_u64_in_range};
 use sasi_host::{Damage, FileName, FormatRule};
 use sasi_tokentree::is_node_place;
 use sasi_types::TreeRef;
 
-// The bytes of the numbers in a footer.
-const NUMBERS: usize = 32;
-
 // The least offset where partitions can end.
 const MIN_PARTITIONS_END: u64 = 33;
 
-// Checks the mark in a footer at this offset of a file.
-pub fn check_mark(file: FileName, at: u64, bytes: &[u8]) -> Result<(), Damage>
-    requires size { length bytes.now ≡ 40 }
-    requires offset { at + 40 < 2 ^ 64 }
-    ensures { ReadsPart end_mark (at + 32) file (drop 32 bytes.now) result }
-{
-    let (_, mark) = bytes.split_at(NUMBERS);
-    let mut reader = FieldReader::new(mark);
-    match expect(&mut reader, FormatRule::Magic, b"SASIDEND") {
-        Ok(()) => Ok(()),
-        Err(fault) => Err(damage_in(file, at + NUMBERS as u64, fault)),
-    }
-}
-
-// Decodes the numbers in a footer at this offset of a file.
+// Decodes the numbers of a footer at this offset of a file.
 pub fn numbers_in(file: FileName, at: u64, bytes: &[u8]) -> Result<Footer, Damage>
-    requires size { length bytes.now ≡ 40 }
-    requires offset { at + 40 < 2 ^ 64 }
-    ensures { ReadsPart (footer at) at file (take 32 bytes.now) result }
+    requires size { length bytes.now ≡ 32 }
+    requires offset { at + 32 < 2 ^ 64 }
+    ensures { ReadsPart (footer at) at file bytes.now result }
 {
-    let (numbers, _) = bytes.split_at(NUMBERS);
-    let mut reader = FieldReader::new(numbers);
+    let mut reader = FieldReader::new(bytes);
     match read_numbers(&mut reader, at) {
         Ok(numbers) => Ok(numbers),
         Err(fault) => Err(damage_in(file, at, fault)),

@@ -1,5 +1,5 @@
 // The bytes of index files.
-ghost use Rattle.sasi_index_tests.specs.Filling.{AreUpTo};
+ghost use Rattle.sasi_indexwrite.specs.Gathered.{AreUpTo};
 
 use crate::fixture::{FILE, add, lowest, write};
 use sasi_host::MemHost;

@@ -5,8 +5,7 @@ ghost use Rattle.sasi_types.specs.declared.column.ColumnType.TheVariants.{Uuid};
 ghost use Rattle.sasi_types.specs.declared.mode.Mode.TheVariants.{Prefix};
 ghost use Rattle.sasi_segments.specs.Postings.{posting_cmp};
 ghost use Rattle.sasi_segments.specs.Sorting.{inserted};
-ghost use Rattle.sasi_indexwrite.specs.Gathered.{AreGathered, IsPosting};
-ghost use Rattle.sasi_index_tests.specs.Filling.{AreUpTo};
+ghost use Rattle.sasi_indexwrite.specs.Gathered.{AreGathered, AreUpTo, IsPosting};
 
 use sasi_host::{FileName, Kind, MemHost};
 use sasi_indexwrite::write_index;

@@ -1,6 +1,6 @@
 // Searches of written files.
 ghost use Rattle.sasi_host.specs.Memory.{host_view, seen};
-ghost use Rattle.sasi_index_tests.specs.Filling.{AreUpTo};
+ghost use Rattle.sasi_indexwrite.specs.Gathered.{AreUpTo};
 ghost use Rattle.sasi_index_tests.specs.Searching.{IsSearchOf};
 
 use crate::fixture::{FILE, add, lowest, write};

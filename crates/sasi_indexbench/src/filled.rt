@@ -3,8 +3,7 @@ ghost use Rattle.std.specs.Prelude.{◌≡◌, OnOk, []};
 ghost use Rattle.std.specs.declared.cmp.Ordering.TheVariants.{Less};
 ghost use Rattle.sasi_segments.specs.Postings.{posting_cmp};
 ghost use Rattle.sasi_segments.specs.Sorting.{inserted};
-ghost use Rattle.sasi_indexwrite.specs.Gathered.{IsPosting};
-ghost use Rattle.sasi_indexbench.specs.Filling.{AreUpTo};
+ghost use Rattle.sasi_indexwrite.specs.Gathered.{AreUpTo, IsPosting};
 
 use sasi_host::ReadFault;
 use sasi_segments::{Gather, Posting};

@@ -1,10 +1,9 @@
 // Writes an index file, looks up each of its terms, and searches all of them.
 ghost use Rattle.std.specs.Prelude.{OnOk};
-ghost use Rattle.sasi_indexwrite.specs.Gathered.{AreGathered};
-ghost use Rattle.sasi_indexbench.specs.Filling.{AreUpTo};
+ghost use Rattle.sasi_indexwrite.specs.Gathered.{AreGathered, AreUpTo};
 
-use crate::counting_reader::CountingReader;
 use crate::filled::{add, lowest};
+use sasi_bench::CountingReader;
 use sasi_filehost::FileHost;
 use sasi_host::{FileName, Kind, ReadFault};
 use sasi_indexread::IndexFile;

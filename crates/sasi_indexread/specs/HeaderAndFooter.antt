@@ -1,21 +1,24 @@
 -- The header and the footer of an index file.
-use Rattle.std.specs.Prelude.{ℕ, ◌-◌, length}
 use Rattle.sasi_types.specs.declared.column.ColumnType.{ColumnType}
 use Rattle.sasi_types.specs.declared.mode.Mode.{Mode}
+use Rattle.sasi_host.specs.declared.damage.Damage.{Damage}
+use Rattle.sasi_host.specs.declared.name.FileName.{FileName}
 use Rattle.sasi_host.specs.Names.{Bytes}
-use Rattle.sasi_host.specs.Damages.{HasAt}
-use Rattle.sasi_formats.specs.Formats.{Fits}
+use Rattle.sasi_framing.specs.Damages.{ShowsFraming}
+use Rattle.sasi_framing.specs.Framing.{Framing, HasFraming}
 use Rattle.sasi_indexwrite.specs.declared.footer.Footer.{Footer}
-use Rattle.sasi_indexwrite.specs.Format.{header, header_bytes, footer, footer_bytes}
+use Rattle.sasi_indexwrite.specs.Format.{end_mark, footer, header}
 
--- the file begins with a header of this type
-pub record HasHeader (bytes : Bytes) (kind : ColumnType) : Type 0 where
-  pub mode : Mode
-  pub begins : HasAt bytes 0 (header_bytes mode kind)
-  pub fit : Fits header (mode, kind)
+-- an index file has 4,168 bytes at least, a header with its mode and the type of the column, and a footer with 64 bytes of numbers
+abbrev pub index_framing : Framing (Mode × ColumnType) Footer
+index_framing = record { least = 4168; header = header; numbers = footer; size = 64; mark = end_mark }
 
--- and ends with a footer of these numbers, which fit their format
+-- the file begins with a header of this type, and ends with a footer of these numbers, which fit their format
 pub record HasHeaderAndFooter (bytes : Bytes) (kind : ColumnType) (numbers : Footer) : Type 0 where
-  pub first : HasHeader bytes kind
-  pub ends : HasAt bytes (length bytes - 72) (footer_bytes numbers)
-  pub fit : Fits (footer (length bytes - 72)) numbers
+  pub mode : Mode
+  pub framing : HasFraming index_framing bytes (mode, kind) numbers
+
+-- the damage is that of this file: it is too short for an index file, or the mark at its end, its header or the numbers of its
+-- footer break their format
+abbrev pub ShowsHeaderOrFooter : FileName → Bytes → Damage → Type 0
+ShowsHeaderOrFooter file = ShowsFraming index_framing file

@@ -64,11 +64,11 @@ fn add_terms<H: Host, P: PageReader>(
     body: &[u8],
     merge: &mut Merge,
 ) -> Result<(), ReadFault>
+    requires some { asks_none index.now.kind op.now ≡ false }
     requires read { CanRead (P.agrees pages.old) (H.view host.old) index.now.file }
     requires named { merge.old.file ≡ index.now.file }
     requires merge { CanMerge (H.view host.old) merge.old }
     requires listed { AreListed (H.view host.old) index.now (sources_of merge.old) }
-    requires some { asks_none index.now.kind op.now ≡ false }
     requires spill { (content : IndexContent) (on : IsOpenOn (H.view host.old) index.now content) → Gives on.bytes (content.spill ∷ []) merge.old.last merge.old.floor (sources_of merge.old) }
     ensures ok { OnOk result ((content : IndexContent) (on : IsOpenOn (H.view host.old) index.now content) → Gives on.bytes (asked_lists content op.now body.now) merge.new.last merge.new.floor (sources_of merge.new)) }
     ensures merge { OnOk result (CanMerge (H.view host.new) merge.new) }

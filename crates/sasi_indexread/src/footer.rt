@@ -1,18 +1,17 @@
 // Reads the header and the footer of an index file.
-ghost use Rattle.std.specs.Prelude.{◌≡◌, ◌+◌, ◌-◌, ◌^◌, ◌<◌, ◌≤◌, length, drop, IfErr, IfOk, OnOk, Some};
+ghost use Rattle.std.specs.Prelude.{◌≡◌, ◌≤◌, length, IfErr, IfOk, Some};
 ghost use Rattle.sasi_host.specs.declared.name.FileName.{FileName};
 ghost use Rattle.sasi_host.specs.Names.{Bytes};
 ghost use Rattle.sasi_host.specs.View.{ReadsAtMost, contents};
-ghost use Rattle.sasi_host.specs.Damages.{HasAt, DamageShown};
-ghost use Rattle.sasi_host.specs.PageReading.{CanRead, HasRead, CanReadOn, HasReadOn};
-ghost use Rattle.sasi_formats.specs.Formats.{Encodes};
-ghost use Rattle.sasi_indexwrite.specs.Format.{end_mark};
-ghost use Rattle.sasi_indexwrite.specs.Damages.{ShowsHeaderOrFooter};
+ghost use Rattle.sasi_host.specs.Damages.{DamageShown};
+ghost use Rattle.sasi_host.specs.PageReading.{CanRead, HasRead};
+ghost use Rattle.sasi_framing.specs.Framing.{BeginsAndEndsWith};
 ghost use Rattle.sasi_indexread.specs.Opened.{NoFalseIndexDamage};
-ghost use Rattle.sasi_indexread.specs.HeaderAndFooter.{HasHeader, HasHeaderAndFooter};
+ghost use Rattle.sasi_indexread.specs.HeaderAndFooter.{HasHeaderAndFooter, ShowsHeaderOrFooter};
 
-use crate::parts::{check_mark, header_in, numbers_in};
-use sasi_host::{BufferedFile, FileName, FormatRule, Host, PageReader, ReadFault, found};
+use crate::parts::{header_in, numbers_in};
+use sasi_framing::{check_mark, read_header_and_footer};
+use sasi_host::{Damage, FileName, Host, PageReader, ReadFault};
 use sasi_indexwrite::Footer;
 use sasi_types::ColumnType;
 
@@ -22,50 +21,31 @@ const HEADER: usize = 16;
 // The bytes of a footer.
 const FOOTER: usize = 72;
 
+// The bytes of the numbers in a footer.
+const NUMBERS: usize = 64;
+
 // No index file is shorter.
 const MIN_FILE_SIZE: u64 = 4168;
 
-// Reads the header, and gives the type of the column.
-fn read_header<H: Host, P: PageReader>(
-    host: &mut H,
-    pages: &mut P,
-    buffered: &mut BufferedFile,
-) -> Result<ColumnType, ReadFault>
-    requires read { CanReadOn (P.agrees pages.old) (H.view host.old) buffered.old }
-    ensures ok { IfOk result (λ kind. (bytes : Bytes) → contents (H.view host.old) buffered.old.file ≡ Some bytes → HasHeader bytes kind) }
-    ensures damaged { IfErr result (DamageShown (H.view host.old) buffered.old.file (ShowsHeaderOrFooter buffered.old.file)) }
-    ensures read { HasReadOn (P.agrees pages.new) (P.covers pages.old) (P.covers pages.new) (H.view host.old) (H.view host.new) buffered.old buffered.new }
-    ensures causes { ReadsAtMost 1 (H.view host.old) (H.view host.new) result }
-{
-    let file = buffered.file();
-    let mut bytes = [0; HEADER];
-    buffered.read_into(host, pages, 0, &mut bytes)?;
-    let fields = header_in(file, &bytes)?;
-    Ok(fields.1)
-}
-
-// Reads the last bytes of a file of this size, and checks that they end with the mark of a footer.
-fn read_footer_bytes<H: Host, P: PageReader>(
-    host: &mut H,
-    pages: &mut P,
-    buffered: &mut BufferedFile,
+// Decodes the header and the footer of a file of this size.
+fn decode(
+    file: FileName,
     size: u64,
-) -> Result<[u8; FOOTER], ReadFault>
-    requires read { CanReadOn (P.agrees pages.old) (H.view host.old) buffered.old }
+    header: &[u8],
+    footer: &[u8],
+) -> Result<(ColumnType, Footer), Damage>
+    requires header { length header.now ≡ 16 }
+    requires footer { length footer.now ≡ 72 }
     requires size { 72 ≤ size }
-    ensures ok { IfOk result (λ read. (bytes : Bytes) → contents (H.view host.old) buffered.old.file ≡ Some bytes → HasAt bytes (size - 72) read) }
-    ensures length { IfOk result (λ read. length read ≡ 72) }
-    ensures mark { IfOk result (λ read. Encodes end_mark tt (drop 64 read)) }
-    ensures damaged { IfErr result (DamageShown (H.view host.old) buffered.old.file (λ bytes damage. size ≡ length bytes → ShowsHeaderOrFooter buffered.old.file bytes damage)) }
-    ensures read { HasReadOn (P.agrees pages.new) (P.covers pages.old) (P.covers pages.new) (H.view host.old) (H.view host.new) buffered.old buffered.new }
-    ensures causes { ReadsAtMost 2 (H.view host.old) (H.view host.new) result }
+    ensures ok { IfOk result (λ read. (bytes : Bytes) → BeginsAndEndsWith size header.now footer.now bytes → HasHeaderAndFooter bytes read.0 read.1) }
+    ensures damaged { IfErr result (λ damage. (bytes : Bytes) → BeginsAndEndsWith size header.now footer.now bytes → ShowsHeaderOrFooter file bytes damage) }
 {
-    let file = buffered.file();
     let at = size - FOOTER as u64;
-    let mut bytes = [0; FOOTER];
-    buffered.read_into(host, pages, at, &mut bytes)?;
-    check_mark(file, at, &bytes)?;
-    Ok(bytes)
+    let (numbers, mark) = footer.split_at(NUMBERS);
+    check_mark(file, at + NUMBERS as u64, b"SASIIEND", mark)?;
+    let fields = header_in(file, header)?;
+    let numbers = numbers_in(file, at, numbers)?;
+    Ok((fields.1, numbers))
 }
 
 /// Reads the header and the footer of a file, and gives the type of the column and the footer.
@@ -81,14 +61,9 @@ pub fn read_footer<H: Host, P: PageReader>(
     ensures read { HasRead (P.agrees pages.new) (P.covers pages.old) (P.covers pages.new) (H.view host.old) (H.view host.new) file }
     ensures causes { ReadsAtMost 3 (H.view host.old) (H.view host.new) result }
 {
-    let size = host.size(file)?;
-    if size < MIN_FILE_SIZE {
-        let damage = found(file, size, FormatRule::Short, &size.to_be_bytes());
-        return Err(ReadFault::Damaged(damage));
-    }
-    let mut buffered = BufferedFile::new(file);
-    let bytes = read_footer_bytes(host, pages, &mut buffered, size)?;
-    let kind = read_header(host, pages, &mut buffered)?;
-    let numbers = numbers_in(file, size - FOOTER as u64, &bytes)?;
-    Ok((kind, numbers))
+    let mut header = [0; HEADER];
+    let mut footer = [0; FOOTER];
+    let size = read_header_and_footer(host, pages, file, MIN_FILE_SIZE, &mut header, &mut footer)?;
+    let read = decode(file, size, &header, &footer)?;
+    Ok(read)
 }

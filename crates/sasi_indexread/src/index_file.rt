@@ -6,10 +6,9 @@ ghost use Rattle.sasi_host.specs.View.{ReadsAtMost, contents};
 ghost use Rattle.sasi_host.specs.Damages.{DamageShown};
 ghost use Rattle.sasi_host.specs.PageReading.{CanRead, HasRead};
 ghost use Rattle.sasi_indexwrite.specs.Content.{IndexContent};
-ghost use Rattle.sasi_indexwrite.specs.Damages.{ShowsHeaderOrFooter};
 ghost use Rattle.sasi_indexwrite.specs.Files.{IsIndexFile};
 ghost use Rattle.sasi_indexread.specs.Opened.{IsOpenOn, NoFalseIndexDamage};
-ghost use Rattle.sasi_indexread.specs.HeaderAndFooter.{HasHeaderAndFooter};
+ghost use Rattle.sasi_indexread.specs.HeaderAndFooter.{HasHeaderAndFooter, ShowsHeaderOrFooter};
 ghost use Rattle.sasi_indexread.specs.Searches.{IsFresh};
 
 use crate::Search;

@@ -1,12 +1,12 @@
-// Decodes the header of an index file, and the parts of its footer.
-ghost use Rattle.std.specs.Prelude.{◌≡◌, ◌+◌, ◌-◌, ◌^◌, ◌<◌, ◌≤◌, length, take, drop};
+// Decodes the header of an index file, and the numbers of its footer.
+ghost use Rattle.std.specs.Prelude.{◌≡◌, ◌+◌, ◌-◌, ◌^◌, ◌<◌, ◌≤◌, length};
 ghost use Rattle.std.specs.Int.{w8};
 ghost use Rattle.sasi_formats.specs.Reader.{read};
 ghost use Rattle.sasi_formats.specs.Fields.{number};
 ghost use Rattle.sasi_formats.specs.Gives.{Gives, TakesNoMemory};
 ghost use Rattle.sasi_formats.specs.Parts.{ReadsPart};
 ghost use Rattle.sasi_termblocks.specs.Entries.{tree};
-ghost use Rattle.sasi_indexwrite.specs.Format.{blocks_field, end_mark, first_field, footer, has_levels, has_room, header, header_fields, is_first, is_spill, is_top, levels_field, mode_field, spill_field, top_field, type_field};
+ghost use Rattle.sasi_indexwrite.specs.Format.{blocks_field, first_field, footer, has_levels, has_room, header, header_fields, is_first, is_spill, is_top, levels_field, mode_field, spill_field, top_field, type_field};
 
 use sasi_fields::FieldReader;
 use sasi_formats::{FieldStart, FormatFault, damage_in, expect, read_front, read_u64};
@@ -15,9 +15,6 @@ use sasi_indexwrite::{Footer, magic};
 use sasi_termblocks::BlockRef;
 use sasi_tokentree::is_node_place;
 use sasi_types::{ColumnType, Mode, TreeRef};
-
-// The bytes of the numbers in a footer.
-const NUMBERS: usize = 64;
 
 // The bytes of a block.
 const BLOCK: u64 = 4096;
@@ -96,28 +93,13 @@ fn read_kind(reader: &mut FieldReader) -> Result<ColumnType, FormatFault>
 
 // ---- the footer
 
-/// Checks the mark in a footer at this offset of a file.
-pub fn check_mark(file: FileName, at: u64, bytes: &[u8]) -> Result<(), Damage>
-    requires size { length bytes.now ≡ 72 }
-    requires offset { at + 72 < 2 ^ 64 }
-    ensures { ReadsPart end_mark (at + 64) file (drop 64 bytes.now) result }
-{
-    let (_, mark) = bytes.split_at(NUMBERS);
-    let mut reader = FieldReader::new(mark);
-    match expect(&mut reader, FormatRule::Magic, b"SASIIEND") {
-        Ok(()) => Ok(()),
-        Err(fault) => Err(damage_in(file, at + NUMBERS as u64, fault)),
-    }
-}
-
-/// Decodes the numbers in a footer at this offset of a file.
+/// Decodes the numbers of a footer at this offset of a file.
 pub fn numbers_in(file: FileName, at: u64, bytes: &[u8]) -> Result<Footer, Damage>
-    requires size { length bytes.now ≡ 72 }
-    requires offset { at + 72 < 2 ^ 64 }
-    ensures { ReadsPart (footer at) at file (take 64 bytes.now) result }
+    requires size { length bytes.now ≡ 64 }
+    requires offset { at + 64 < 2 ^ 64 }
+    ensures { ReadsPart (footer at) at file bytes.now result }
 {
-    let (numbers, _) = bytes.split_at(NUMBERS);
-    let mut reader = FieldReader::new(numbers);
+    let mut reader = FieldReader::new(bytes);
     match read_numbers(&mut reader, at) {
         Ok(numbers) => Ok(numbers),
         Err(fault) => Err(damage_in(file, at, fault)),

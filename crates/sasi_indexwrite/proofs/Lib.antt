@@ -6,5 +6,6 @@ pub mod Endings
 pub mod Fields
 pub mod Taking
 pub mod Callers
+pub mod Fillings
 pub mod Making
 pub mod Unique

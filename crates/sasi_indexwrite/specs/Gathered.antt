@@ -1,7 +1,8 @@
 -- The content of an index file as its postings come in, one after another.
-use Rattle.std.specs.Prelude.{◌≡◌, ◌≤◌, if◌then◌else◌, List, [], ◌∷◌, ◌++◌, length}
+use Rattle.std.specs.Prelude.{◌≡◌, ◌≤◌, false, if◌then◌else◌, List, [], ◌∷◌, ◌++◌, length}
 use Rattle.std.specs.List.{fold, AllByRecursion}
 use Rattle.std.specs.List.Sorted.{IsStrictlySortedBy}
+use Rattle.std.specs.Ordering.{is_gt}
 use Rattle.sasi_types.specs.Term.{term_eq}
 use Rattle.sasi_types.specs.declared.list_kind.ListKind.{ListKind}
 use Rattle.sasi_types.specs.declared.list_kind.ListKind.TheVariants.{Stored, Spill}
@@ -23,6 +24,11 @@ pub record IsPosting (posting : Posting) : Type 0 where
 pub record AreGathered (postings : List Posting) : Type 0 where
   pub rising : IsStrictlySortedBy posting_cmp postings
   pub each : AllByRecursion IsPosting postings
+
+-- and none is above this last one
+pub record AreUpTo (postings : List Posting) (last : Posting) : Type 0 where
+  pub valid : AreGathered postings
+  pub up_to : AllByRecursion (λ q. is_gt (posting_cmp q last) ≡ false) postings
 
 -- ---- what was made of the first of them
 

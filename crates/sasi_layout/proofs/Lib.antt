@@ -22,4 +22,5 @@ pub mod StatementLaws
 pub mod KeptLaws
 pub mod TimeLaws
 pub mod ReadyLaws
+pub mod Fewer
 pub mod Orders

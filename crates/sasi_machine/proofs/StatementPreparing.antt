@@ -14,6 +14,8 @@ use Rattle.sasi_cells.specs.declared.picked.PickedColumn.{PickedColumn}
 use Rattle.sasi_model.specs.Asked as ask
 use Rattle.sasi_model.specs.Asked.{Asked, asks, parsed_asks}
 use Rattle.sasi_model.specs.Cells.{Partition, max_timestamp_of}
+use Rattle.sasi_cells.proofs.Keys.{body_stored}
+use Rattle.sasi_model.proofs.Limits.{body_limit, empty_definitions}
 use Rattle.sasi_model.specs.Abbreviations.{key_position, max_timestamp_in, max_timestamp_of_tables, definitions, ok_line, selected_lines, TIME_LIMIT, NoTable, TableExists, first_of, new_definition, key_type, types_of}
 use Rattle.sasi_model.specs.Stored.{Entry, IsBodyOf, IsCell, IsValueOf, cells_of, column_types}
 use Rattle.sasi_model.specs.WellFormed.{IsWellFormed}
@@ -196,27 +198,6 @@ for_any ds g statement reply_old reply_new (Err e) of = tt
 
 -- ---- what is done
 
--- the key of a body is one of the table's
-body_stored : (d : Definition) (key : List ℕ) (change : Partition) → IsBodyOf (types_of d) key change → IsStored (key_type d) key
-body_stored d key change body =
-    let typed = body.key_typed in
-    let same_type : key_type d ≡ typed.type = (let e : Some (key_type d) ≡ Some typed.type = typed.listed in cc) in
-    by (key_type d) (subst (λ type. IsValueOf type key) (sym same_type) typed.value)
-  where
-    by : (type : ColumnType) → IsValueOf type key → IsStored type key
-    by types.Text value = tt
-    by types.Int value = value
-    by types.BigInt value = value
-    by types.Uuid value = value
-
--- and its times are those of writes
-cells_limit : (deleted : ℕ) (es : List Entry) → AllByRecursion (IsCell deleted) es → max_timestamp_in (map (λ (e : Entry). e.1) es) ≤ TIME_LIMIT
-cells_limit deleted [] all = omega arith
-cells_limit deleted (e ∷ es) all = omega (arith, all.0.time, cells_limit deleted es all.1)
-
-pub body_limit : (types : List ColumnType) (key : List ℕ) (change : Partition) → IsBodyOf types key change → max_timestamp_of change ≤ TIME_LIMIT
-body_limit types key change body = omega (arith, body.has.deleted, cells_limit change.deleted (cells_of change) body.has.cells)
-
 -- a mutation that was prepared can be applied
 writes_fit : (s : State) (statement : Statement) (w : Mutation) → IsWellFormed statement → WritesTo s statement w → IsApplicable s w
 writes_fit s statement w well writes =
@@ -354,11 +335,6 @@ pub piece_timeless : {E : Type 0} (ds : List Definition) (g : ℕ) (piece : Piec
 piece_timeless ds g piece statement reply_old reply (Ok prepared) says well empty asks =
     λ timeless s are. prepares s piece statement reply_old reply prepared says well empty ((asks.timeless timeless (max_timestamp s)).of_state s (record { definitions_are = are; newest_is = refl }))
 piece_timeless ds g piece statement reply_old reply (Err e) says well empty asks = tt
-
--- definitions, as empty tables
-empty_definitions : (ds : List Definition) → definitions (map empty_table ds) ≡ ds
-empty_definitions [] = refl
-empty_definitions (d ∷ ds) = ap (λ (l : List Definition). d ∷ l) (empty_definitions ds)
 
 rows_query : (s : State) (statement : Statement) (rows : Selection) → SelectsRows s statement rows → IsQuery (Says statement)
 rows_query s (Query select) rows selects = tt

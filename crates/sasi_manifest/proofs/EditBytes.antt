@@ -4,6 +4,7 @@ use Rattle.std.proofs.lemmas.List.{drop_all, drop_more}
 use Rattle.std.specs.List.{AllByRecursion, flat_map, sum_by}
 use Rattle.std.proofs.lemmas.List.Sums.{sum_by-cons}
 use Rattle.std.specs.Int.{to_be_bytes, w8, w16, w32}
+use Rattle.sasi_types.specs.Codes.{type_code}
 use Rattle.sasi_types.specs.declared.partitioner.Partitioner.{Partitioner}
 use Rattle.sasi_host.specs.Names.{Bytes}
 use Rattle.sasi_model.specs.State.{Column}
@@ -15,7 +16,7 @@ use Rattle.sasi_manifest.specs.declared.edit.Edit.TheVariants.{Start, CreateTabl
 use Rattle.sasi_manifest.specs.declared.files.ListedFile.{ListedFile}
 use Rattle.sasi_manifest.specs.declared.files.PartNumber.{PartNumber}
 use Rattle.sasi_manifest.specs.declared.listing.Listing.{Listing}
-use Rattle.sasi_manifest.specs.Edits.{columns, type_code, edit, edits, encoded, Applies, new_file, new_files, parts, replace, files_of, part, removed_number, removed_numbers}
+use Rattle.sasi_manifest.specs.Edits.{columns, edit, edits, encoded, Applies, new_file, new_files, parts, replace, files_of, part, removed_number, removed_numbers}
 use Rattle.sasi_manifest.specs.ListedDefinition.{ListedDefinition}
 use Rattle.sasi_manifest.specs.ListedFiles.{file_length}
 use Rattle.sasi_manifest.specs.Abbreviations.{column}

@@ -3,6 +3,7 @@ use Rattle.std.specs.Prelude.{ℕ, suc, ◌+◌, ◌-◌, ◌^◌, ◌==◌, Boo
 use Rattle.std.specs.Int.{w8, w16, w32}
 use Rattle.std.specs.List.{list_any, list_all}
 use Rattle.std.specs.Option.{option_map_or}
+use Rattle.sasi_types.specs.Codes.{type_code}
 use Rattle.sasi_types.specs.declared.column.ColumnType.{ColumnType}
 use Rattle.sasi_types.specs.declared.column.ColumnType.TheVariants as types
 use Rattle.sasi_types.specs.declared.partitioner.Partitioner.{Partitioner}
@@ -33,12 +34,6 @@ abbrev pub name : List Bytes → Format Bytes
 name taken = Sized (in_range w8 1 48) rule.Text (passing (λ name. list_all is_word_byte name && not (list_any (same name) taken)))
 
 -- the byte that names a type
-abbrev pub type_code : ColumnType → ℕ
-type_code types.Text = 0
-type_code types.Int = 1
-type_code types.BigInt = 2
-type_code types.Uuid = 3
-
 abbrev pub type : Format ColumnType
 type = Decoded rule.Number 1 (one_of type_code (types.Text ∷ types.Int ∷ types.BigInt ∷ types.Uuid ∷ [])) (number w8)
 

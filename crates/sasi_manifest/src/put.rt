@@ -4,7 +4,7 @@ ghost use Rattle.std.specs.Int.{to_be_bytes, w32};
 ghost use Rattle.std.specs.List.{AllByRecursion};
 ghost use Rattle.sasi_model.specs.Refusals.{names_in};
 ghost use Rattle.sasi_formats.specs.Formats.{encoded};
-ghost use Rattle.sasi_manifest.specs.Edits.{edit as edit_format, columns as columns_format, name as name_format, new_file, new_files, partitioner_code, parts as parts_format, removed_numbers, type_code};
+ghost use Rattle.sasi_manifest.specs.Edits.{edit as edit_format, columns as columns_format, name as name_format, new_file, new_files, partitioner_code, parts as parts_format, removed_numbers};
 ghost use Rattle.sasi_manifest.specs.Abbreviations.{column as column_format};
 ghost use Rattle.sasi_manifest.specs.Naming.{AreNames};
 ghost use Rattle.sasi_manifest.specs.Listings.{IsWritable};
@@ -160,17 +160,5 @@ fn put_column(out: &mut Vec<u8>, column: &(Name, ColumnType)) -> Result<(), Allo
     ensures { OnOk result (out.new.items ≡ out.old.items ++ encoded (column_format []) column.now) }
 {
     put_name(out, &column.0)?;
-    put_u8(out, type_code_of(column.1))
-}
-
-// The byte that names a type.
-fn type_code_of(kind: ColumnType) -> u8
-    ensures { result ≡ type_code kind }
-{
-    match kind {
-        ColumnType::Text => 0,
-        ColumnType::Int => 1,
-        ColumnType::BigInt => 2,
-        ColumnType::Uuid => 3,
-    }
+    put_u8(out, column.1.code())
 }

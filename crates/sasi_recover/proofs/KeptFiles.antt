@@ -9,7 +9,7 @@ use Rattle.sasi_manifest.specs.ListedFiles.{is_among}
 use Rattle.sasi_layout.specs.Kept.{HasKept, Kept, has_data, has_segment, is_kept, is_listed}
 use Rattle.sasi_recover.specs.declared.unlisted_files.Keep.TheVariants.{Store}
 use Rattle.sasi_recover.specs.Deletion.{is_data_file, keeps}
-use Rattle.sasi_recover.proofs.OpenedState.{name_same}
+use Rattle.sasi_layout.proofs.KeptLaws.{name_same}
 
 brackets : (a b c d : Bool) → (a || b || c || d) ≡ (a || (b || (c || d)))
 brackets true b c d = refl

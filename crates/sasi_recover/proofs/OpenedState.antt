@@ -9,18 +9,9 @@ use Rattle.sasi_host.specs.NameLaws.{named, named_back, name_numbers}
 use Rattle.sasi_host.specs.View.{View}
 use Rattle.sasi_host.specs.Disk.{Lists}
 use Rattle.sasi_folder.specs.Stands.{IsFresh}
+use Rattle.sasi_layout.proofs.KeptLaws.{name_same}
 use Rattle.sasi_recover.specs.NewFolder.{is_initial}
 use Rattle.sasi_recover.proofs.SealedStore.{held_is_listed, none_where}
-
--- the test of names tells equal ones
-pub name_same : (name other : FileName) → name_eq name other ≡ true → name ≡ other
-name_same name other is =
-    let kind : rank name.kind ≡ rank other.kind = grind (arith, nat_tests, is) in
-    let number : name.number ≡ other.number = grind (arith, nat_tests, is) in
-    let index : name.index ≡ other.index = grind (arith, nat_tests, is) in
-    let part : name.part ≡ other.part = grind (arith, nat_tests, is) in
-    let same : name_numbers name ≡ name_numbers other = cc in
-    sym (named_back name) ∙ ap named same ∙ named_back other
 
 either_of : (x y : Bool) → (x || y) ≡ true → (x ≡ true) ⊎ (y ≡ true)
 either_of true y is = inl refl

@@ -7,15 +7,14 @@ use Rattle.sasi_host.specs.View.{CrashLeaves, Emits, PartlyOut, View}
 use Rattle.sasi_host.specs.Disk.{Changes, FromImage}
 use Rattle.sasi_host.specs.ChangeLaws.{Each, crash_leaves_on}
 use Rattle.sasi_model.specs.Pieces.{Piece}
+use Rattle.sasi_layout.proofs.Fewer.{manifest_fewer, serves_fewer}
 use Rattle.sasi_layout.specs.Between.{Between}
-use Rattle.sasi_layout.specs.Layout.{Layout, bare, listing_of}
+use Rattle.sasi_layout.specs.Layout.{Layout, bare}
 use Rattle.sasi_layout.specs.Moves.{Move, after_moves}
 use Rattle.sasi_layout.specs.Running.{Crashed, IsBusy, IsQuiet, after_pieces, replies_of}
 use Rattle.sasi_layout.specs.Serving.{Serves, StoreInHand}
 use Rattle.sasi_layout.specs.Shape.{IsOfShape}
 use Rattle.sasi_layout.specs.Worlds.{World, steps}
-use Rattle.sasi_manifest.specs.declared.listing.Listing.{Listing}
-use Rattle.sasi_manifest.specs.OpenManifest.{ManifestStands}
 use Rattle.sasi_store.specs.StoreView.{IsReady, StoreView}
 use Rattle.sasi_run.specs.Crashing.{CrashLeavesPieces}
 use Rattle.sasi_run.proofs.Worlds.{after_both, replies_both}
@@ -32,45 +31,9 @@ grown (Some o) (Some n) before more is appends =
 
 -- ---- the store
 
--- where no image is new the manifest ends where it did
-manifest_still : (a b : View) (number at : ℕ) (listing : Listing) → ((x : Folder) → b.image x → a.image x) → ManifestStands a number at listing
-    → ManifestStands b number at listing
-manifest_still a b number at listing fewer end = record {
-  records = end.records;
-  at_end = record {
-    bytes = end.at_end.bytes;
-    rest = end.at_end.rest;
-    kept = λ x now. end.at_end.kept x (fewer x now);
-    at_gate = end.at_end.at_gate;
-    closed = end.at_end.closed;
-  };
-  builds = end.builds;
-}
-
 -- after an emit a store serves the same layout
 pub serves_still : (a b : View) (store : StoreInHand) (l : Layout) → b.files ≡ a.files → ((x : Folder) → b.image x → a.image x) → Serves a store l → Serves b store l
-serves_still a b store l same fewer serves = record {
-  told = subst (λ (f : Option Folder). IsSome f) (sym same) serves.told;
-  well = serves.well;
-  definitions = serves.definitions;
-  tables = serves.tables;
-  used = serves.used;
-  timestamp = serves.timestamp;
-  listing = serves.listing;
-  manifest = serves.manifest;
-  log = serves.log;
-  older = serves.older;
-  current = serves.current;
-  log_end = record {
-    bytes = serves.log_end.bytes;
-    rest = serves.log_end.rest;
-    kept = λ x now. serves.log_end.kept x (fewer x now);
-    at_gate = serves.log_end.at_gate;
-    closed = serves.log_end.closed;
-  };
-  manifest_end = manifest_still a b l.used.manifest store.manifest.at (listing_of l) fewer serves.manifest_end;
-  shape = λ x now. serves.shape x (fewer x now);
-}
+serves_still a b store l same fewer serves = serves_fewer a b fewer store l (subst (λ (f : Option Folder). IsSome f) (sym same) serves.told) serves
 
 -- and can make a change as before
 pub ready_still : (a b : View) (store : StoreView) → b.files ≡ a.files → ((x : Folder) → b.image x → a.image x) → IsReady a store → IsReady b store
@@ -85,7 +48,7 @@ ready_still a b store same fewer ready = record {
     manifest_room = rw same ready.hand.manifest_room;
     log_room = rw same ready.hand.log_room;
     manifest_usable = ready.hand.manifest_usable;
-    stands = λ told. manifest_still a b store.hand.manifest.number store.hand.manifest.at store.hand.manifest.listing fewer
+    stands = λ told. manifest_fewer a b fewer store.hand.manifest.number store.hand.manifest.at store.hand.manifest.listing
         (ready.hand.stands (subst (λ (f : Option Folder). IsSome f) same told));
     log_usable = ready.hand.log_usable;
     kept = rw same ready.hand.kept;

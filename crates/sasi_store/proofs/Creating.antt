@@ -44,7 +44,8 @@ use Rattle.sasi_store.specs.MakesMoves.{MakesMoves}
 use Rattle.sasi_store.specs.declared.fault.StepFault.{StepFault}
 use Rattle.sasi_store.specs.Writable.{IsCreatable}
 use Rattle.sasi_store.proofs.MoveCauses.{IsPlain, any_change, plain_undamaged, plain_unspent}
-use Rattle.sasi_store.proofs.Frames.{changed_kept, end_other, keeps_manifest, reached_there}
+use Rattle.sasi_layout.proofs.KeptLaws.{keeps_manifest}
+use Rattle.sasi_store.proofs.Frames.{changed_kept, end_other, reached_there}
 use Rattle.sasi_store.proofs.TablesInHand.{all_push, ready_push}
 
 -- the edit that lists the table

@@ -36,12 +36,6 @@ manifest_other a b file number at listing apart change stands = record {
 
 -- ---- which files are there
 
-pub keeps_manifest : (k : Kept) → is_kept k (manifest_name k.manifest) ≡ true
-keeps_manifest k = grind (arith, nat_tests)
-
-pub keeps_segment : (k : Kept) (segment : ℕ) → k.listing.floor ≤ segment → segment ≤ k.listing.last → is_kept k (log_name segment) ≡ true
-keeps_segment k segment above below = grind (arith, nat_tests)
-
 there_some : (o : Option Bytes) (bytes : Bytes) → o ≡ Some bytes → is_some o ≡ true
 there_some None bytes is = cc
 there_some (Some b) bytes is = refl

@@ -15,7 +15,6 @@ pub mod FlushedNames
 pub mod Frames
 pub mod TablesInHand
 pub mod Timestamps
-pub mod BodyTimes
 pub mod OneMap
 pub mod MoveCauses
 pub mod Putting

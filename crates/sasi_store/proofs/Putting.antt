@@ -30,6 +30,7 @@ use Rattle.sasi_manifest.specs.declared.listing.Listing.{Listing}
 use Rattle.sasi_manifest.specs.Listings.{at_number}
 use Rattle.sasi_manifest.specs.OpenManifest.{ManifestStands}
 use Rattle.sasi_manifest.specs.Types.{numbered_types}
+use Rattle.sasi_model.proofs.Limits.{body_limit, empty_definitions}
 use Rattle.sasi_model.specs.Abbreviations.{definitions, types_of}
 use Rattle.sasi_model.specs.Cells.{max_timestamp_of}
 use Rattle.sasi_model.specs.Changes.{empty_table}
@@ -49,17 +50,12 @@ use Rattle.sasi_store.specs.declared.parts.Parts.{Parts}
 use Rattle.sasi_store.specs.Puts.{HasTableFor, IsPutAt, hand_after_put, put_in_hand, put_map}
 use Rattle.sasi_store.proofs.MoveCauses.{IsPlain, any_change, plain_undamaged, plain_unspent}
 use Rattle.sasi_store.specs.Writable.{IsWritable}
-use Rattle.sasi_store.proofs.Frames.{changed_kept, keeps_segment, manifest_other, reached_there}
+use Rattle.sasi_layout.proofs.KeptLaws.{keeps_segment}
+use Rattle.sasi_store.proofs.Frames.{changed_kept, manifest_other, reached_there}
 use Rattle.sasi_store.proofs.TablesInHand.{all_at, all_set, as_many, at_numbered, inside_there, length_set, map_there, ready_changed, ready_there, seen_there, set_numbered, there_inside, unseen_set}
 use Rattle.sasi_store.proofs.Timestamps.{put_timestamp}
-use Rattle.sasi_store.proofs.BodyTimes.{body_limit}
 
 -- ---- the mutation
-
--- definitions, as empty tables
-pub empty_definitions : (ds : List Definition) → definitions (map empty_table ds) ≡ ds
-empty_definitions [] = refl
-empty_definitions (d ∷ ds) = ap (λ (l : List Definition). d ∷ l) (empty_definitions ds)
 
 empty_at : (ds : List Definition) (at : ℕ) (d : Definition) → slice_get ds at ≡ Some d → slice_get (map empty_table ds) at ≡ Some (empty_table d)
 empty_at [] at d there = cc

@@ -7,6 +7,7 @@ use Rattle.std.specs.FinMap.{get}
 use Rattle.std.specs.List.{AllByRecursion}
 use Rattle.std.specs.Option.{option_map_or}
 use Rattle.sasi_cells.specs.Rows.{IsStored}
+use Rattle.sasi_cells.proofs.Keys.{body_stored}
 use Rattle.sasi_cells.specs.declared.mutation.Mutation.{Mutation}
 use Rattle.sasi_dataread.specs.Damages.{ShowsDataFile, inside, opened_by, outside}
 use Rattle.sasi_folder.specs.Damages as folders
@@ -117,19 +118,6 @@ shaped_at folder p floor n logs (x ∷ ts) (suc at) t are there = shaped_at fold
 -- no seal with a higher number is kept
 unkept_seal : (k : Kept) (other : ℕ) → k.manifest < other → is_kept k (seal_name other) ≡ false
 unkept_seal k other above = grind (arith, nat_tests, above)
-
--- the key of a body is one of the table's
-body_stored : (d : Definition) (key : List ℕ) (part : Partition) → IsBodyOf (types_of d) key part → IsStored (key_type d) key
-body_stored d key part body =
-    let typed = body.key_typed in
-    let same_type : key_type d ≡ typed.type = (let e : Some (key_type d) ≡ Some typed.type = typed.listed in cc) in
-    by (key_type d) (subst (λ type. IsValueOf type key) (sym same_type) typed.value)
-  where
-    by : (type : ColumnType) → IsValueOf type key → IsStored type key
-    by types.Text value = tt
-    by types.Int value = value
-    by types.BigInt value = value
-    by types.Uuid value = value
 
 -- ---- faults
 

@@ -6,10 +6,9 @@ use Rattle.sasi_host.specs.ChangeLaws.{at_each_moment, stays}
 use Rattle.sasi_host.specs.Contents.{contents_same, reaches_where, told_after, told_before}
 use Rattle.sasi_host.specs.declared.damage.Damage.{Damage}
 use Rattle.sasi_host.specs.Disk.{Changes, Same}
-use Rattle.sasi_host.specs.declared.name.FileName.{FileName}
-use Rattle.sasi_host.specs.Names.{Bytes, Folder, log_name, manifest_name}
+use Rattle.sasi_host.specs.Names.{Folder, manifest_name}
 use Rattle.sasi_host.specs.View.{IsSound, View}
-use Rattle.sasi_gated.specs.Handles.{IsAtEnd}
+use Rattle.sasi_layout.proofs.Fewer.{manifest_fewer, serves_fewer}
 use Rattle.sasi_layout.proofs.StatementLaws.{definitions_are}
 use Rattle.sasi_layout.proofs.Trails.{moves_none, none_done}
 use Rattle.sasi_layout.specs.Between.{Between}
@@ -206,29 +205,8 @@ module _ (a b : View) (change : Changes Same a b) where
   image_before : (y : Folder) → b.image y → a.image y
   image_before y now = let from = change.image y now in subst a.image (sym from.2) from.1
 
-  end_same : (file : FileName) (at : ℕ) (records : List Bytes) → IsAtEnd a file at records → IsAtEnd b file at records
-  end_same file at records end = record { bytes = end.bytes; rest = end.rest; kept = λ y now. end.kept y (image_before y now); at_gate = end.at_gate; closed = end.closed }
-
-  manifest_same : (number at : ℕ) (listing : Listing) → ManifestStands a number at listing → ManifestStands b number at listing
-  manifest_same number at listing stands = record { records = stands.records; at_end = end_same (manifest_name number) at stands.records stands.at_end; builds = stands.builds }
-
   pub serves_same : (store : StoreInHand) (l : Layout) → Serves a store l → Serves b store l
-  serves_same store l serves = record {
-    told = told_after Same a b change serves.told;
-    well = serves.well;
-    definitions = serves.definitions;
-    tables = serves.tables;
-    used = serves.used;
-    timestamp = serves.timestamp;
-    listing = serves.listing;
-    manifest = serves.manifest;
-    log = serves.log;
-    older = serves.older;
-    current = serves.current;
-    log_end = end_same (log_name l.last) store.log.at _ serves.log_end;
-    manifest_end = manifest_same l.used.manifest store.manifest.at _ serves.manifest_end;
-    shape = λ y now. serves.shape y (image_before y now);
-  }
+  serves_same store l serves = serves_fewer a b image_before store l (told_after Same a b change serves.told) serves
 
   pub files_before : (folder : Folder) → b.files ≡ Some folder → a.files ≡ Some folder
   files_before folder files = by a.files refl
@@ -255,7 +233,7 @@ module _ (a b : View) (change : Changes Same a b) where
     log_room = reaches_where a b Same store.log.file _ change (contents_same a b store.log.file change) ready.log_room;
     manifest_usable = ready.manifest_usable;
     log_usable = ready.log_usable;
-    stands = λ told. manifest_same store.manifest.number store.manifest.at _ (ready.stands (told_before Same a b change told));
+    stands = λ told. manifest_fewer a b image_before store.manifest.number store.manifest.at _ (ready.stands (told_before Same a b change told));
     kept = λ folder files. ready.kept folder (files_before folder files);
   }
 

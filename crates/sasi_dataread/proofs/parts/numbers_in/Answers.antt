@@ -1,7 +1,4 @@
-use Rattle.std.proofs.Common.{take, ◌∙◌, ap, arith}
-use Rattle.sasi_host.specs.Names.{Bytes}
-use Rattle.sasi_formats.specs.Reader.{start}
-use Rattle.std.proofs.lemmas.List.{length-take-le}
+use Rattle.std.proofs.Common.{arith}
 use Rattle.sasi_formats.proofs.PartLaws.{part_got, part_rule, part_failed}
 use Rattle.sasi_datawrite.specs.Format.{footer}
 use Rattle.sasi_datawrite.proofs.Footers.{footer_of_size}
@@ -9,15 +6,15 @@ use Rattle.sasi_dataread.proofs.parts.numbers_in.Goals as goal
 
 pub damage_in-requires : goal.damage_in-requires
 damage_in-requires c =
-    part_rule (footer c.args.at) 32 (footer_of_size c.args.at) c.args.at c.args.file (take 32 c.args.bytes.now) c.new-reader.result (c.new-reader.ensures ∙ ap (λ (l : Bytes). start l) c.split_at.ensures.front) (length-take-le 32 c.args.bytes.now (omega (arith, c.requires.size)))
+    part_rule (footer c.args.at) 32 (footer_of_size c.args.at) c.args.at c.args.file c.args.bytes.now c.new-reader.result c.new-reader.ensures c.requires.size
     c.in-Err.fault (omega (arith, c.requires.offset)) c.in-Err.ensures.numbers c.in-Err.ensures.memory
 
 pub returns-in-Ok : goal.returns-in-Ok
 returns-in-Ok c =
-    part_got (footer c.args.at) 32 (footer_of_size c.args.at) c.args.at c.args.file (take 32 c.args.bytes.now) c.new-reader.result (c.new-reader.ensures ∙ ap (λ (l : Bytes). start l) c.split_at.ensures.front) (length-take-le 32 c.args.bytes.now (omega (arith, c.requires.size)))
+    part_got (footer c.args.at) 32 (footer_of_size c.args.at) c.args.at c.args.file c.args.bytes.now c.new-reader.result c.new-reader.ensures c.requires.size
     c.in-Ok.numbers c.read_numbers.new.reader c.in-Ok.ensures.numbers
 
 pub returns-in-Err : goal.returns-in-Err
 returns-in-Err c =
-    part_failed (footer c.args.at) 32 (footer_of_size c.args.at) c.args.at c.args.file (take 32 c.args.bytes.now) c.new-reader.result (c.new-reader.ensures ∙ ap (λ (l : Bytes). start l) c.split_at.ensures.front) (length-take-le 32 c.args.bytes.now (omega (arith, c.requires.size)))
+    part_failed (footer c.args.at) 32 (footer_of_size c.args.at) c.args.at c.args.file c.args.bytes.now c.new-reader.result c.new-reader.ensures c.requires.size
     c.in-Err.fault c.damage_in.result c.in-Err.ensures.numbers c.damage_in.ensures

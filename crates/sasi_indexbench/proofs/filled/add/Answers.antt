@@ -1,8 +1,8 @@
 use Rattle.std.proofs.Common.{List, sym, subst}
 use Rattle.sasi_segments.specs.declared.posting.Posting.{Posting}
 use Rattle.sasi_types.specs.declared.list_kind.ListKind.TheVariants.{Stored}
-use Rattle.sasi_indexbench.specs.Filling.{AreUpTo}
-use Rattle.sasi_indexbench.proofs.Fillings.{added_up_to}
+use Rattle.sasi_indexwrite.specs.Gathered.{AreUpTo}
+use Rattle.sasi_indexwrite.proofs.Fillings.{added_up_to}
 use Rattle.sasi_indexbench.proofs.filled.add.Goals as goal
 
 pub returns : goal.returns

@@ -1,4 +1,4 @@
-use Rattle.sasi_indexbench.proofs.Fillings.{none_up_to}
+use Rattle.sasi_indexwrite.proofs.Fillings.{none_up_to}
 use Rattle.sasi_indexbench.proofs.filled.lowest.Goals as goal
 
 pub returns : goal.returns

@@ -13,7 +13,7 @@ returns-clause-ok g c bytes content is of =
       bytes = bytes;
       reads = contents_same _ _ c.args.file c.read_footer.ensures.read.changes ∙ is;
       index_file = of;
-      kind = kind_told bytes content of short c.in_ok-kind.kind has.first;
+      kind = kind_told bytes content of short c.in_ok-kind.kind c.in_ok-kind.footer has;
       blocks = ap (λ (f : Footer). f.blocks) told;
       spill = ap (λ (f : Footer). f.spill) told;
     }

@@ -1,4 +1,4 @@
--- One more posting of a gathering that is filled in its order.
+-- For callers: one more posting of a gathering that is filled in its order.
 use Rattle.std.proofs.Common.{◌≡◌, ◌≢◌, true, false, List, [], ◌∷◌, refl, sym, ◌∙◌, ap}
 use Rattle.std.specs.List.{AllByRecursion}
 use Rattle.std.specs.Ordering.{is_gt, is_lt, ordering_reverse}
@@ -9,9 +9,8 @@ use Rattle.sasi_segments.specs.declared.posting.Posting.{Posting}
 use Rattle.sasi_segments.specs.Postings.{posting_cmp}
 use Rattle.sasi_segments.specs.Sorting.{inserted}
 use Rattle.sasi_segments.proofs.Order.{posting_total}
-use Rattle.sasi_indexwrite.specs.Gathered.{IsPosting}
+use Rattle.sasi_indexwrite.specs.Gathered.{AreUpTo, IsPosting}
 use Rattle.sasi_indexwrite.proofs.Callers.{all_inserted, none_gathered, still_gathered}
-use Rattle.sasi_indexbench.specs.Filling.{AreUpTo}
 
 pub none_up_to : (last : Posting) → AreUpTo [] last
 none_up_to last = record { valid = none_gathered; up_to = tt }
@@ -47,3 +46,6 @@ module _ (last next : Posting) (below : posting_cmp last next ≡ Less) where
     valid = still_gathered next postings so_far.valid one (apart postings so_far.up_to);
     up_to = all_inserted posting_cmp (λ q. is_gt (posting_cmp q next) ≡ false) next postings (ap is_gt (tied_itself posting_total next)) (up_to_next postings so_far.up_to);
   }
+
+pub filled : (last next : Posting) → is_lt (posting_cmp last next) ≡ true → (postings : List Posting) → AreUpTo postings last → IsPosting next → AreUpTo (inserted posting_cmp next postings) next
+filled last next below postings so_far one = added_up_to last next (less_of (posting_cmp last next) below) postings so_far one

@@ -1,0 +1,8 @@
+//! What the programs that measure files share: their arguments, and a reader that counts the pages that it reads.
+#![tactic(auto)]
+
+mod arguments;
+mod counting_reader;
+
+pub use arguments::Arguments;
+pub use counting_reader::CountingReader;

@@ -1,0 +1,36 @@
+-- The framing of a file: a header at its start, and a footer at its end.
+use Rattle.std.specs.Prelude.{◌≡◌, ℕ, ◌+◌, ◌-◌, ◌++◌, length}
+use Rattle.sasi_host.specs.Names.{Bytes}
+use Rattle.sasi_host.specs.Damages.{HasAt}
+use Rattle.sasi_formats.specs.Formats.{Format, Fits, encoded}
+
+-- The framing of a kind of file: a header of 16 bytes, and a footer, which is numbers and then a mark of 8 bytes.
+pub record Framing (A B : Type 0) : Type 1 where
+  -- no file of that kind is shorter
+  pub least : ℕ
+  pub header : Format A
+  -- the format of the numbers at an offset, and how many bytes they have
+  pub numbers : ℕ → Format B
+  pub size : ℕ
+  pub mark : Format (Unit {0})
+
+-- the file begins with a header and ends with a footer of these values
+pub record HasFraming {A B : Type 0} (framing : Framing A B) (bytes : Bytes) (head : A) (values : B) : Type 0 where
+  pub begins : HasAt bytes 0 (encoded framing.header head)
+  pub header_fits : Fits framing.header head
+  pub at : ℕ
+  pub at_end : at + (framing.size + 8) ≡ length bytes
+  pub ends : HasAt bytes at (encoded (framing.numbers at) values ++ encoded framing.mark tt)
+  pub numbers_fit : Fits (framing.numbers at) values
+
+-- ---- bytes that were read
+
+-- the file has this size, and these bytes are its last
+pub record EndsWith (size : ℕ) (footer bytes : Bytes) : Type 0 where
+  pub size_is : size ≡ length bytes
+  pub ends : HasAt bytes (size - length footer) footer
+
+-- and those are its first
+pub record BeginsAndEndsWith (size : ℕ) (header footer bytes : Bytes) : Type 0 where
+  pub begins : HasAt bytes 0 header
+  pub end : EndsWith size footer bytes
