@@ -4,5 +4,5 @@
 mod arguments;
 mod counting_reader;
 
-pub use arguments::Arguments;
+pub use arguments::words;
 pub use counting_reader::CountingReader;

@@ -7,7 +7,7 @@ mod content;
 mod measured;
 
 use measured::{NUMBER, find_all, scan_all, write_all};
-use sasi_bench::{Arguments, CountingReader};
+use sasi_bench::{CountingReader, words};
 use sasi_dataread::DataFile;
 use sasi_datawrite::PairFault;
 use sasi_filehost::FileHost;
@@ -35,10 +35,16 @@ fn run(rt: HostRuntime, folder: &str, count: u64, what: &str) -> Result<(u64, u6
 }
 
 fn main(rt: HostRuntime) -> ExitCode {
-    let Some(asked) = Arguments::read(&rt) else {
+    let Some(words) = words(&rt) else {
         return ExitCode::from(2);
     };
-    match run(rt, &asked.folder, asked.count, &asked.what) {
+    let [folder, count, what] = words.as_slice() else {
+        return ExitCode::from(2);
+    };
+    let Ok(count) = count.parse::<u64>() else {
+        return ExitCode::from(2);
+    };
+    match run(rt, folder, count, what) {
         Ok((given, pages)) => {
             let _ = println!(rt; "{given} partitions, {pages} pages");
             ExitCode::from(0)

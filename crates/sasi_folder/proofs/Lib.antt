@@ -1,7 +1,5 @@
 pub mod Reached
-pub mod ReplayLaws
 pub mod FolderLaws
 pub mod FolderChanges
 pub mod Recording
 pub mod Creating
-pub mod AtomicWrites

@@ -2,4 +2,3 @@ pub mod Replay
 pub mod Stands
 pub mod Damages
 pub mod Opens
-pub mod DurableStore

@@ -1,17 +1,14 @@
--- What a folder stands for. A seal tells that the manifest of its number is whole, and the manifest of the highest seal
--- counts. It lists the tables and the live segments of the log, which have the mutations. No other file matters.
-use Rattle.std.specs.Prelude.{◌≡◌, ◌≢◌, ◌⊎◌, ℕ, suc, ◌+◌, ◌<◌, List, [], ◌∷◌, length, Some, None, IsSome, ⊤}
+-- What a folder holds. A seal tells that the manifest of its number is whole, and the manifest of the highest seal counts. It lists
+-- the tables, their data files and the live segments of the log.
+use Rattle.std.specs.Prelude.{◌≡◌, ◌≢◌, ℕ, suc, ◌+◌, ◌<◌, List, [], ◌∷◌, length, Some, None, IsSome, ⊤}
 use Rattle.std.specs.FinMap.{get}
-use Rattle.sasi_types.specs.declared.partitioner.Partitioner.{Partitioner}
 use Rattle.sasi_host.specs.declared.name.FileName.{FileName}
 use Rattle.sasi_host.specs.Names.{Bytes, Folder, log_name, manifest_name, seal_name}
-use Rattle.sasi_model.specs.State.{State}
 use Rattle.sasi_cells.specs.declared.mutation.Mutation.{Mutation}
 use Rattle.sasi_commitlog.specs.Format.{IsLog, Tables}
 use Rattle.sasi_manifest.specs.declared.listing.Listing.{Listing}
 use Rattle.sasi_manifest.specs.Format.{IsManifest}
 use Rattle.sasi_manifest.specs.Types.{numbered_types}
-use Rattle.sasi_folder.specs.Replay.{replayed_state}
 
 -- ---- a new folder
 
@@ -41,20 +38,6 @@ pub record Holds (folder : Folder) (number : ℕ) (listing : Listing) (logs : Li
   pub manifest : (bytes : Bytes) × (get folder (manifest_name number) ≡ Some bytes) × IsManifest number bytes listing
   pub live : listing.floor + length logs ≡ suc listing.last
   pub segments : HasSegments folder (numbered_types 1 listing.tables) listing.floor logs
-
--- ---- both
-
--- the folder stands for what its manifest and its segments make
-pub record StandsSealed (folder : Folder) (s : State) : Type 0 where
-  pub number : ℕ
-  pub listing : Listing
-  pub logs : List (List Mutation)
-  pub holds : Holds folder number listing logs
-  pub makes : s ≡ replayed_state listing logs
-
--- The folder stands for the state. A new one stands for the state without tables, under the partitioner that it will have.
-abbrev pub Stands : Partitioner → Folder → State → Type 0
-Stands partitioner folder s = (IsFresh folder × (s ≡ record { partitioner = partitioner; tables = [] })) ⊎ StandsSealed folder s
 
 -- ---- short names, which contracts and proofs cite
 

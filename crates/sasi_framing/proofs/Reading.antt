@@ -9,7 +9,7 @@ use Rattle.sasi_host.proofs.Offsets.{first_at, second_at}
 use Rattle.sasi_formats.specs.Formats.{Encodes, encoded}
 use Rattle.sasi_formats.specs.Parts.{ShowsBrokenPart}
 use Rattle.sasi_formats.proofs.Encoding.{encoded_only, fits}
-use Rattle.sasi_framing.specs.Framing.{Framing, HasFraming, EndsWith, BeginsAndEndsWith}
+use Rattle.sasi_framing.specs.Framing.{Framing, HasFraming, EndsWith}
 use Rattle.sasi_framing.specs.Damages.{ShowsFraming}
 use Rattle.sasi_framing.specs.Damages.ShowsFraming.{in_mark, in_header, in_footer}
 

@@ -7,7 +7,7 @@ mod filled;
 mod measured;
 
 use measured::{FILE, find_all, scan_all, write_all};
-use sasi_bench::{Arguments, CountingReader};
+use sasi_bench::{CountingReader, words};
 use sasi_filehost::FileHost;
 use sasi_host::ReadFault;
 use sasi_indexread::IndexFile;
@@ -28,10 +28,16 @@ fn run(rt: HostRuntime, folder: &str, count: u64, what: &str) -> Result<(u64, u6
 }
 
 fn main(rt: HostRuntime) -> ExitCode {
-    let Some(asked) = Arguments::read(&rt) else {
+    let Some(words) = words(&rt) else {
         return ExitCode::from(2);
     };
-    match run(rt, &asked.folder, asked.count, &asked.what) {
+    let [folder, count, what] = words.as_slice() else {
+        return ExitCode::from(2);
+    };
+    let Ok(count) = count.parse::<u64>() else {
+        return ExitCode::from(2);
+    };
+    match run(rt, folder, count, what) {
         Ok((given, pages)) => {
             let _ = println!(rt; "{given} pairs, {pages} pages");
             ExitCode::from(0)

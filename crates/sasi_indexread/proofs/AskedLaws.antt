@@ -1,6 +1,6 @@
 -- Where the terms that are asked for begin and end, in the order of terms.
-use Rattle.std.specs.Prelude.{◌≡◌, ℕ, zero, suc, ◌<◌, Bool, true, false, ◌&&◌, nat_eq, ◌⊎◌, List, [], ◌∷◌, length, take, refl}
-use Rattle.std.proofs.Common.{◌∙◌, sym, ap, subst, arith, rules, inl, inr, ⊎_elim}
+use Rattle.std.specs.Prelude.{◌≡◌, ℕ, ◌<◌, Bool, true, false, ◌&&◌, nat_eq, [], ◌∷◌, refl}
+use Rattle.std.proofs.Common.{◌∙◌, sym, ap, arith, rules}
 use Rattle.std.specs.List.{starts_with}
 use Rattle.std.specs.Ordering.{MatchOrdering, is_lt, nat_cmp, ordering_then}
 use Rattle.std.specs.declared.cmp.Ordering.{Ordering}

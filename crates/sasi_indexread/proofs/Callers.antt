@@ -1,9 +1,9 @@
 -- For callers: a new search can go on, and searches the file that was opened; and so where the folder stays.
-use Rattle.std.specs.Prelude.{◌≡◌, ℕ, ◌≤◌, nat_le, ◌&&◌, Bool, true, false, List, [], All, Option, None, Some, refl}
+use Rattle.std.specs.Prelude.{◌≡◌, ℕ, ◌≤◌, nat_le, ◌&&◌, Bool, true, false, List, All, Option, refl}
 use Rattle.std.proofs.Common.{◌∙◌, sym, ap, subst, arith, rules}
-use Rattle.std.proofs.lemmas.List.Elements.{All-nil, All-weaker}
+use Rattle.std.proofs.lemmas.List.Elements.{All-nil}
 use Rattle.sasi_host.specs.Names.{Bytes}
-use Rattle.sasi_host.specs.View.{View, contents}
+use Rattle.sasi_host.specs.View.{View}
 use Rattle.sasi_host.specs.Disk.{Changes, Same}
 use Rattle.sasi_host.specs.Contents.{contents_same}
 use Rattle.sasi_indexwrite.specs.Content.{IndexContent}
@@ -12,7 +12,7 @@ use Rattle.sasi_indexread.specs.Damages.{IsListed}
 use Rattle.sasi_types.specs.declared.tree.Pair.{Pair}
 use Rattle.sasi_terms.specs.declared.op.Op.{Op}
 use Rattle.sasi_treemerge.specs.declared.merge.Merge.{Merge}
-use Rattle.sasi_treemerge.specs.Merges.{CanMerge, Gives, IsReadable, is_behind, is_left, sources_of}
+use Rattle.sasi_treemerge.specs.Merges.{Gives, IsReadable, is_behind, is_left, sources_of}
 use Rattle.sasi_indexread.specs.Asked.{asked_lists}
 use Rattle.sasi_indexread.specs.Opened.{IsOpenOn, Opened}
 use Rattle.sasi_indexread.specs.Searches.{AreListed, CanSearch, IsFresh, IsSearching, Searching, searching}

@@ -1,7 +1,7 @@
 -- The offsets of the parts of an index file.
-use Rattle.std.specs.Prelude.{◌≡◌, ℕ, zero, suc, ◌+◌, ◌-◌, ◌*◌, ◌/◌, ◌%◌, ◌^◌, ◌<◌, ◌≤◌, nat_le, nat_lt, ◌==◌, ◌&&◌, Bool, true, false, if◌then◌else◌, List, [], ◌∷◌, ◌++◌, length, get_or, replicate, Some, None, refl}
-use Rattle.std.proofs.Common.{sym, ◌∙◌, ap, subst, arith, rules, append_assoc, length-append, ⊎_elim}
-use Rattle.std.proofs.lemmas.List.{append-nil, length-map, length-replicate}
+use Rattle.std.specs.Prelude.{◌≡◌, ℕ, zero, suc, ◌+◌, ◌-◌, ◌*◌, ◌/◌, ◌^◌, ◌<◌, ◌≤◌, true, List, [], ◌∷◌, ◌++◌, length, get_or, replicate, Some, None, refl}
+use Rattle.std.proofs.Common.{sym, ◌∙◌, ap, subst, arith, append_assoc, length-append, ⊎_elim}
+use Rattle.std.proofs.lemmas.List.{append-nil, length-replicate}
 use Rattle.std.proofs.lemmas.Bool.Decides.{leb_tells}
 use Rattle.std.specs.List.{AllByRecursion}
 use Rattle.sasi_types.specs.declared.mode.Mode.{Mode}
@@ -14,21 +14,19 @@ use Rattle.sasi_host.proofs.Offsets.{first_at, second_at}
 use Rattle.sasi_formats.specs.Formats.{Fits}
 use Rattle.sasi_tokentree.specs.Format.{HasTree, above, level_bytes, levels, size, top, tree_bytes, tree_ref}
 use Rattle.sasi_tokentree.specs.Sizes.{level_length, more_levels, one_level}
-use Rattle.sasi_tokentree.proofs.Laws.{RootStands, root_place, is_root_place}
-use Rattle.sasi_termblocks.specs.declared.block_ref.BlockRef.{BlockRef}
+use Rattle.sasi_tokentree.proofs.Laws.{root_place}
 use Rattle.sasi_termblocks.specs.declared.term_entry.TermEntry.{TermEntry}
-use Rattle.sasi_termblocks.specs.Blocks.{Item, IsRefOf, blocks, items_of, levels_bytes, top_of, top_pointer, EndsAfter}
-use Rattle.sasi_termblocks.specs.Entries.{term_entry}
+use Rattle.sasi_termblocks.specs.Blocks.{IsRefOf, blocks, items_of, levels_bytes}
 use Rattle.sasi_termblocks.specs.Scans.{HasBlocks, HaveBytes, terms_of, IsRising as AreRisingTerms}
 use Rattle.sasi_termblocks.proofs.EntryLaws.{entry_fits}
 use Rattle.sasi_termblocks.proofs.Groups.{AreItems, items_are}
 use Rattle.sasi_indexwrite.specs.declared.footer.Footer.{Footer}
-use Rattle.sasi_indexwrite.specs.Content.{ArePairs, IndexContent, IsContent, IsTerm, TermPairs, terms_in}
+use Rattle.sasi_indexwrite.specs.Content.{ArePairs, IndexContent, IsTerm, TermPairs, terms_in}
 use Rattle.sasi_indexwrite.specs.Files.{IsIndexFile}
 use Rattle.sasi_indexwrite.specs.Format.{header_bytes, footer, footer_bytes, trees_bytes, entries_from, trees, entries, spill_at, spill_ref, front, next_page, padding, blocks_at, index_bytes, is_first, has_room, has_levels, is_top, is_spill}
-use Rattle.sasi_indexread.proofs.LevelSizes.{AreLevels, levels_are}
+use Rattle.sasi_indexread.proofs.LevelSizes.{levels_are}
 use Rattle.sasi_indexread.proofs.Ranges.{first_passes, levels_pass, room_passes, spill_passes, top_passes, top_small}
-use Rattle.sasi_indexread.proofs.Fields.{AreInRange, footer_fits}
+use Rattle.sasi_indexread.proofs.Fields.{footer_fits}
 
 pub footer_length : (numbers : Footer) → length (footer_bytes numbers) ≡ 72
 unfolding footer_bytes

@@ -1,5 +1,5 @@
 -- How many bytes the levels of blocks take, and where the top block stands.
-use Rattle.std.proofs.Common.{◌≡◌, ℕ, zero, suc, ◌+◌, ◌*◌, ◌<◌, ◌≤◌, List, length, length-append, refl, arith}
+use Rattle.std.proofs.Common.{◌≡◌, ℕ, zero, suc, ◌+◌, ◌*◌, ◌<◌, ◌≤◌, List, length, length-append, arith}
 use Rattle.std.proofs.lemmas.List.{length-map}
 use Rattle.sasi_termblocks.specs.Blocks.{Item, EndsAfter, above, blocks, least, leasts, level_bytes, levels_bytes, next_at, top_of}
 use Rattle.sasi_termblocks.proofs.CutLaws.{all_blocks}

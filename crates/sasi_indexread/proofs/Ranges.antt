@@ -1,14 +1,13 @@
 -- The tests of a footer's numbers, for those of an index file.
 use Rattle.std.specs.Prelude.{◌≡◌, ℕ, zero, suc, ◌+◌, ◌-◌, ◌*◌, ◌/◌, ◌%◌, ◌<◌, ◌≤◌, nat_le, nat_lt, ◌==◌, ◌&&◌, Bool, true, false, if◌then◌else◌, List, [], ◌∷◌, length, refl}
-use Rattle.std.proofs.Common.{sym, ◌∙◌, ap, subst, arith, rules, ⊎_elim}
+use Rattle.std.proofs.Common.{◌∙◌, ap, arith, rules, ⊎_elim}
 use Rattle.std.proofs.lemmas.Bool.{le-leb, lt-leb}
 use Rattle.std.proofs.lemmas.Bool.Decides.{leb_tells}
 use Rattle.sasi_types.specs.declared.tree.Pair.{Pair}
-use Rattle.sasi_types.specs.declared.tree.TreeRef.{TreeRef}
 use Rattle.sasi_tokentree.specs.Format.{top, tree_bytes, tree_ref}
 use Rattle.sasi_tokentree.specs.Damages.{is_node_place}
 use Rattle.sasi_tokentree.proofs.Laws.{root_place}
-use Rattle.sasi_termblocks.specs.Blocks.{Item, EndsAfter, blocks, top_of, top_pointer}
+use Rattle.sasi_termblocks.specs.Blocks.{Item, EndsAfter, blocks, top_pointer}
 use Rattle.sasi_indexwrite.specs.Format.{is_first, has_room, has_levels, is_top, is_spill}
 use Rattle.sasi_indexread.proofs.LevelSizes.{AreLevels}
 

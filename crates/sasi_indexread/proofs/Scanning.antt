@@ -1,23 +1,21 @@
 -- The scan of the terms of a file that was opened.
-use Rattle.std.specs.Prelude.{◌≡◌, ℕ, ◌+◌, ◌^◌, ◌≤◌, Bool, true, false, not, List, [], ◌∷◌, ◌++◌, length, drop, All, Option, None, Some, refl}
+use Rattle.std.specs.Prelude.{◌≡◌, ℕ, ◌+◌, ◌^◌, ◌≤◌, Bool, true, false, List, [], ◌∷◌, ◌++◌, length, All, Option, None, Some, refl}
 use Rattle.std.proofs.Common.{◌∙◌, sym, ap, subst, arith}
 use Rattle.std.specs.List.Sorted.{IsPermutation}
 use Rattle.std.specs.Option.{option_to_list}
 use Rattle.std.proofs.lemmas.List.{drop_all}
-use Rattle.std.proofs.lemmas.List.Elements.{All-cons, All-nil, All-weaker}
+use Rattle.std.proofs.lemmas.List.Elements.{All-cons}
 use Rattle.std.proofs.lemmas.List.Sorted.{All-permutation}
 use Rattle.sasi_types.specs.declared.column.ColumnType.{ColumnType}
 use Rattle.sasi_types.specs.declared.tree.Pair.{Pair}
 use Rattle.sasi_types.specs.declared.tree.TreeRef.{TreeRef}
 use Rattle.sasi_host.specs.declared.name.FileName.{FileName}
-use Rattle.sasi_host.specs.declared.damage.Damage.{Damage}
 use Rattle.sasi_host.specs.declared.fault.ReadFault.{ReadFault}
 use Rattle.sasi_host.specs.declared.fault.ReadFault.TheVariants as fault
 use Rattle.sasi_host.specs.Names.{Bytes}
 use Rattle.sasi_host.specs.Damages.{DamageShown}
 use Rattle.sasi_host.specs.View.{View, contents}
 use Rattle.sasi_host.specs.Disk.{Changes, Same}
-use Rattle.sasi_host.specs.Contents.{contents_same}
 use Rattle.sasi_host.proofs.DamageLaws.{shown_as, shown_before}
 use Rattle.sasi_terms.specs.declared.op.Op.{Op}
 use Rattle.sasi_terms.specs.Holds.{holds}
@@ -27,14 +25,13 @@ use Rattle.sasi_tokentree.specs.Reads.{NoFalseTreeDamage}
 use Rattle.sasi_tokentree.proofs.AfterRead.{reads_still}
 use Rattle.sasi_treemerge.specs.declared.source.Source.{Source}
 use Rattle.sasi_treemerge.specs.Merges.{Adds, Gives, GoesOn}
-use Rattle.sasi_treemerge.proofs.Merging.{adds_list}
 use Rattle.sasi_termblocks.specs.declared.block_ref.BlockRef.{BlockRef}
 use Rattle.sasi_termblocks.specs.declared.term_entry.TermEntry.{TermEntry}
 use Rattle.sasi_termblocks.specs.Damages.{ShowsBlocks}
-use Rattle.sasi_termblocks.specs.Scans.{CountsBelow, HasBlocks, HasPassed, NoFalseDamage, ReadsFirst, ReadsHere, ReadsNext, ReadsSome, StepsTo, terms_of}
+use Rattle.sasi_termblocks.specs.Scans.{CountsBelow, HasBlocks, HasPassed, NoFalseDamage, ReadsFirst, ReadsNext, ReadsSome, StepsTo, terms_of}
 use Rattle.sasi_indexwrite.specs.Content.{IndexContent}
-use Rattle.sasi_indexwrite.specs.Format.{entries, spill_ref}
-use Rattle.sasi_indexread.specs.Asked.{asked_lists, asks_none, is_run, lower}
+use Rattle.sasi_indexwrite.specs.Format.{entries}
+use Rattle.sasi_indexread.specs.Asked.{asked_lists, asks_none, lower}
 use Rattle.sasi_indexread.specs.Collects.{AddsEntry, AddsIf, AddsList, NoFalseListDamage, ShowsList}
 use Rattle.sasi_indexread.specs.Damages.{IsListed, ShowsIndex}
 use Rattle.sasi_indexread.specs.Damages.IsListed.{of_spill, of_term}

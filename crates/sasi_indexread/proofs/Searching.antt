@@ -1,14 +1,13 @@
 -- A search, step by step.
-use Rattle.std.specs.Prelude.{◌≡◌, ℕ, ◌+◌, ◌-◌, ◌≤◌, Bool, true, false, not, ◌&&◌, map, List, [], ◌∷◌, All, Contains, Option, None, Some, Ok, Err, refl}
+use Rattle.std.specs.Prelude.{◌≡◌, ℕ, ◌+◌, ◌-◌, Bool, true, false, not, ◌&&◌, map, List, [], ◌∷◌, All, Contains, Option, Some, Ok, Err, refl}
 use Rattle.std.proofs.Common.{◌∙◌, sym, ap, subst, arith, cond}
 use Rattle.std.specs.List.{filter}
 use Rattle.sasi_types.specs.declared.column.ColumnType.{ColumnType}
 use Rattle.sasi_terms.specs.Holds.{holds}
-use Rattle.std.proofs.lemmas.List.Elements.{All-contains, All-contains_itself, All-nil, All-weaker}
+use Rattle.std.proofs.lemmas.List.Elements.{All-contains, All-nil, All-weaker}
 use Rattle.sasi_types.specs.declared.tree.Pair.{Pair}
 use Rattle.sasi_types.specs.declared.tree.TreeRef.{TreeRef}
 use Rattle.sasi_host.specs.declared.name.FileName.{FileName}
-use Rattle.sasi_host.specs.declared.damage.Damage.{Damage}
 use Rattle.sasi_host.specs.declared.fault.ReadFault.{ReadFault}
 use Rattle.sasi_host.specs.declared.fault.ReadFault.TheVariants as fault
 use Rattle.sasi_host.specs.Names.{Bytes}
@@ -16,15 +15,14 @@ use Rattle.sasi_host.specs.Damages.{DamageShown}
 use Rattle.sasi_host.specs.View.{View, ReadsAtMost, contents}
 use Rattle.sasi_host.specs.Disk.{Changes, Same}
 use Rattle.sasi_host.specs.Contents.{contents_same}
-use Rattle.sasi_host.specs.CauseLaws.{fault_reads, ok_reads, reads_behind}
+use Rattle.sasi_host.specs.CauseLaws.{fault_reads, reads_behind}
 use Rattle.sasi_host.proofs.DamageLaws.{shown_as, shown_before}
 use Rattle.sasi_terms.specs.declared.op.Op.{Op}
-use Rattle.sasi_tokentree.specs.Damages.{ShowsTree}
 use Rattle.sasi_tokentree.specs.Format.{HasTree}
 use Rattle.sasi_treemerge.specs.declared.merge.Merge.{Merge}
 use Rattle.sasi_treemerge.specs.declared.source.Source.{Source}
 use Rattle.sasi_treemerge.specs.MergeDamages.{NoFalseDamageOf, ShowsSources}
-use Rattle.sasi_treemerge.specs.Merges.{Adds, CanMerge, Gives, IsLeast, IsSourceIn, IsStillGiven, TreesStay, is_left, sources_of}
+use Rattle.sasi_treemerge.specs.Merges.{Adds, CanMerge, Gives, IsLeast, IsSourceIn, TreesStay, sources_of}
 use Rattle.sasi_treemerge.proofs.Merging.{adds_list}
 use Rattle.sasi_indexwrite.specs.Content.{IndexContent, TermPairs}
 use Rattle.sasi_indexread.specs.Asked.{asked_lists, asks_none, is_asked_term}

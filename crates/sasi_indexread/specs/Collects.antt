@@ -1,5 +1,5 @@
 -- One entry more in the scan of the terms.
-use Rattle.std.specs.Prelude.{◌≡◌, Bool, true, false, not, List, Option, None, Some, if◌then◌else◌}
+use Rattle.std.specs.Prelude.{◌≡◌, Bool, true, false, not, List, Option, None, Some}
 use Rattle.sasi_types.specs.declared.tree.Pair.{Pair}
 use Rattle.sasi_types.specs.declared.tree.TreeRef.{TreeRef}
 use Rattle.sasi_host.specs.declared.name.FileName.{FileName}

@@ -8,7 +8,7 @@ use Rattle.sasi_tokentree.specs.Damages.{ShowsTree}
 use Rattle.sasi_termblocks.specs.declared.term_entry.TermEntry.{TermEntry}
 use Rattle.sasi_termblocks.specs.Damages.{ShowsBlocks}
 use Rattle.sasi_termblocks.specs.Entries.{term_entry}
-use Rattle.sasi_termblocks.specs.Windows.{HasEntry, count_in}
+use Rattle.sasi_termblocks.specs.Windows.{HasEntry}
 use Rattle.sasi_indexread.specs.Opened.{Opened}
 
 -- an entry of a block leads to the tree with this reference

@@ -1,5 +1,5 @@
 -- Searches of an index file.
-use Rattle.std.specs.Prelude.{◌≡◌, ℕ, ◌-◌, Result, Bool, true, false, List, [], All, None, Some}
+use Rattle.std.specs.Prelude.{◌≡◌, ◌-◌, Result, Bool, true, false, List, [], All, None, Some}
 use Rattle.sasi_host.specs.declared.fault.ReadFault.{ReadFault}
 use Rattle.sasi_host.specs.Names.{Bytes}
 use Rattle.sasi_host.specs.Damages.{OnDamage}

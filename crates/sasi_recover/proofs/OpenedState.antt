@@ -1,11 +1,9 @@
 -- What was opened of a folder.
-use Rattle.std.proofs.Common.{◌≡◌, ◌⊎◌, Bool, true, false, ◌||◌, List, All, Some, refl, sym, ◌∙◌, ap, inl, inr, ⊎_elim, arith}
-use Rattle.std.proofs.lemmas.Bool.Decides.{nat_tests}
+use Rattle.std.proofs.Common.{◌≡◌, ◌⊎◌, Bool, true, false, ◌||◌, List, All, Some, refl, inl, inr, ⊎_elim}
 use Rattle.std.proofs.lemmas.List.Elements.{All-contains}
 use Rattle.std.specs.FinMap.{get}
 use Rattle.sasi_host.specs.declared.name.FileName.{FileName}
-use Rattle.sasi_host.specs.Names.{Folder, name_eq, rank, log_name, manifest_name}
-use Rattle.sasi_host.specs.NameLaws.{named, named_back, name_numbers}
+use Rattle.sasi_host.specs.Names.{Folder, log_name, manifest_name}
 use Rattle.sasi_host.specs.View.{View}
 use Rattle.sasi_host.specs.Disk.{Lists}
 use Rattle.sasi_folder.specs.Stands.{IsFresh}

@@ -1,5 +1,5 @@
 -- The largest timestamps of data files, and of what can be stored.
-use Rattle.std.proofs.Common.{◌≡◌, ℕ, ◌≤◌, List, [], ◌∷◌, map, refl, ap, subst, ◌∙◌, arith}
+use Rattle.std.proofs.Common.{◌≡◌, ◌≤◌, List, [], ◌∷◌, map, refl, ap, subst, ◌∙◌, arith}
 use Rattle.std.specs.Prelude.{max}
 use Rattle.std.specs.List.{AllByRecursion}
 use Rattle.std.specs.List.Sorted.{IsStrictlySortedBy}
@@ -8,12 +8,11 @@ use Rattle.sasi_types.specs.declared.decorated_key.DecoratedKey.{DecoratedKey}
 use Rattle.sasi_types.specs.declared.partitioner.Partitioner.{Partitioner}
 use Rattle.sasi_types.specs.DecoratedKey.{decorated_cmp}
 use Rattle.sasi_host.specs.Names.{Bytes}
-use Rattle.sasi_cells.specs.Entries.{Entry}
 use Rattle.sasi_model.specs.Cells.{Partition, max_timestamp_of}
 use Rattle.sasi_model.specs.State.{decorated}
 use Rattle.sasi_model.proofs.Limits.{body_limit}
 use Rattle.sasi_model.specs.Stored.{IsBodyOf}
-use Rattle.sasi_model.specs.Abbreviations.{TIME_LIMIT, max_timestamp_in, max_timestamp_of_partitions}
+use Rattle.sasi_model.specs.Abbreviations.{TIME_LIMIT, max_timestamp_of_partitions}
 use Rattle.sasi_memtable.proofs.Ordered.{entries-from_ordered}
 use Rattle.sasi_datawrite.specs.Files.{IsDataFile}
 use Rattle.sasi_datawrite.specs.Format.{Content, content_max_timestamp, decorated_key}

@@ -1,13 +1,12 @@
 -- What stays while a store changes one of its files.
-use Rattle.std.proofs.Common.{◌≡◌, ◌≢◌, ℕ, ◌≤◌, Bool, true, false, is_some, List, Option, Some, None, refl, sym, ap, subst, ◌∙◌, arith}
-use Rattle.std.proofs.lemmas.Bool.Decides.{nat_tests}
+use Rattle.std.proofs.Common.{◌≡◌, ◌≢◌, ℕ, Bool, true, false, is_some, List, Option, Some, None, refl, sym, ap, subst, ◌∙◌}
 use Rattle.std.specs.FinMap.{get}
 use Rattle.std.specs.Ordering.{eq_by_cmp}
 use Rattle.sasi_host.specs.declared.name.FileName.{FileName}
 use Rattle.sasi_host.specs.Contents.{told_before, told_files}
 use Rattle.sasi_host.specs.Disk.{AnyChange, Changes, FileChange}
 use Rattle.sasi_host.specs.NameLaws.{same_name, test_here}
-use Rattle.sasi_host.specs.Names.{Bytes, Folder, log_name, manifest_name, name_cmp}
+use Rattle.sasi_host.specs.Names.{Bytes, Folder, manifest_name, name_cmp}
 use Rattle.sasi_host.specs.View.{Reaches, View, contents_in}
 use Rattle.sasi_host.proofs.Durability.{file_durable_other}
 use Rattle.sasi_gated.specs.Handles.{IsAtEnd}

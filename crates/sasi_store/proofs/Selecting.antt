@@ -37,9 +37,7 @@ use Rattle.sasi_manifest.specs.ListedDefinition.{ListedDefinition}
 use Rattle.sasi_manifest.specs.ListedFiles.{has_file}
 use Rattle.sasi_manifest.specs.ListedTables.{listed}
 use Rattle.sasi_model.specs.Abbreviations.{key_type, types_of}
-use Rattle.sasi_model.specs.Cells.{Partition}
 use Rattle.sasi_model.specs.State.{Definition, Table}
-use Rattle.sasi_model.specs.Stored.{IsBodyOf, IsValueOf}
 use Rattle.sasi_recover.specs.OpenedFolder.{table_in_hand}
 use Rattle.sasi_recover.specs.declared.opened.TableMap.{TableMap}
 use Rattle.sasi_schema.specs.Defined.{definition}
