@@ -3,7 +3,7 @@ use Rattle.std.specs.Prelude.{ℕ, suc, List, map, ◌≡◌, ◌≢◌, ◌<◌
 use Rattle.std.proofs.Common.{ap, arith}
 use Rattle.std.specs.FinMap.{get}
 use Rattle.std.specs.List.{AllByRecursion}
-use Rattle.sasi_host.specs.Disk.{AnyChange, FileChange, Same}
+use Rattle.sasi_host.specs.Disk.{Same}
 use Rattle.sasi_host.specs.Names.{Folder, log_name, manifest_name, seal_name, data_name}
 use Rattle.sasi_host.specs.declared.name.FileName.{FileName}
 use Rattle.sasi_folder.proofs.FolderLaws.{kinds_apart, numbers_apart}
@@ -11,7 +11,7 @@ use Rattle.sasi_layout.proofs.ListingLaws.{rising_bound}
 use Rattle.sasi_layout.proofs.ShapeLaws.{tables_agree}
 use Rattle.sasi_layout.specs.Frames.{AgreeOn, DeletesOld}
 use Rattle.sasi_layout.specs.Layout.{File, Layout, TableParts, bare, bare_table, listed_of}
-use Rattle.sasi_layout.specs.Wells.{IsWell, IsWellTable, Rising}
+use Rattle.sasi_layout.specs.Wells.{IsWellTable, Rising}
 
 -- the files of the tables have lower numbers
 abbrev pub AreBelow : ℕ → List TableParts → Type 0
@@ -25,9 +25,6 @@ all_below : (high last : ℕ) (ts : List TableParts) → AllByRecursion (IsWellT
 all_below high last [] well = tt
 all_below high last (t ∷ ts) well = (rising_below 0 high t.files well.0.rise, all_below high last ts well.1)
 
-pub well_below : (l : Layout) → IsWell l → AreBelow (suc l.used.file) l.tables
-well_below l well = all_below l.used.file l.last l.tables well
-
 files_alike : (x y : Folder) (number : ℕ) → ((name : FileName) → name ≢ data_name number → get y name ≡ get x name) → (fs : List File) → AllByRecursion (λ (f : File). f.listed.number < number) fs → AllByRecursion (λ (f : File). get y (data_name f.listed.number) ≡ get x (data_name f.listed.number)) fs
 files_alike x y number others [] below = tt
 files_alike x y number others (f ∷ fs) below = (others (data_name f.listed.number) (numbers_apart _ _ (omega (arith, below.0))), files_alike x y number others fs below.1)
@@ -35,24 +32,6 @@ files_alike x y number others (f ∷ fs) below = (others (data_name f.listed.num
 tables_alike : (x y : Folder) (number : ℕ) → ((name : FileName) → name ≢ data_name number → get y name ≡ get x name) → (ts : List TableParts) → AreBelow number ts → AllByRecursion (λ (t : TableParts). AllByRecursion (λ (f : File). get y (data_name f.listed.number) ≡ get x (data_name f.listed.number)) t.files) (map bare_table ts)
 tables_alike x y number others [] below = tt
 tables_alike x y number others (t ∷ ts) below = (files_alike x y number others t.files below.0, tables_alike x y number others ts below.1)
-
--- the next data file
-pub agree_data : (l : Layout) (x y : Folder) → IsWell l → FileChange (data_name (suc l.used.file)) AnyChange x y → AgreeOn (bare l) x y
-agree_data l x y well step = record {
-  seals = λ n. step.others (seal_name n) (kinds_apart _ _ (omega arith));
-  manifest = step.others (manifest_name l.used.manifest) (kinds_apart _ _ (omega arith));
-  logs = λ segment above under. step.others (log_name segment) (kinds_apart _ _ (omega arith));
-  files = tables_alike x y (suc l.used.file) step.others l.tables (well_below l well);
-}
-
--- the next segment
-pub agree_log : (l : Layout) (x y : Folder) → FileChange (log_name (suc l.last)) AnyChange x y → AgreeOn (bare l) x y
-agree_log l x y step = record {
-  seals = λ n. step.others (seal_name n) (kinds_apart _ _ (omega arith));
-  manifest = step.others (manifest_name l.used.manifest) (kinds_apart _ _ (omega arith));
-  logs = λ segment above under. step.others (log_name segment) (numbers_apart _ _ (omega (arith, under)));
-  files = tables_agree x y (λ n. step.others (data_name n) (kinds_apart _ _ (omega arith))) (map bare_table l.tables);
-}
 
 -- segments below the floor
 pub agree_deleted : (l : Layout) (x y : Folder) → DeletesOld l.floor x y → AgreeOn (bare l) x y

@@ -21,6 +21,5 @@ pub mod OneShape
 pub mod StatementLaws
 pub mod KeptLaws
 pub mod TimeLaws
-pub mod ReadyLaws
 pub mod Fewer
 pub mod Orders

@@ -21,7 +21,7 @@ use Rattle.sasi_folder.proofs.FolderLaws.{sealed_not_fresh, highest_same, segmen
 use Rattle.sasi_folder.specs.Stands.{HasSegments}
 use Rattle.sasi_layout.proofs.OneContent.{one_content}
 use Rattle.sasi_layout.specs.Layout.{File, Layout, TableParts, listed_of, listing_of, state_of, used_in}
-use Rattle.sasi_layout.specs.Shape.{HasFile, map_of, replay, first_in, IsShaped, AreShaped, HasShape, ShapeOf, StandsSealed, Stands}
+use Rattle.sasi_layout.specs.Shape.{HasFile, map_of, replay, first_in, IsShaped, AreShaped, HasShape, ShapeOf, Stands}
 
 -- ---- of its tables
 
@@ -92,9 +92,6 @@ shape_same x l k a b first second =
     let tables : l.tables ≡ k.tables = tables_same x l.partitioner l.floor 1 a l.tables k.tables (ap (λ (e : Listing). e.tables) listing) first.tables shaped in
     let used : l.used ≡ k.used = first.used ∙ ap (λ n. used_in n (listing_of l)) number ∙ ap (used_in k.used.manifest) listing ∙ sym second.used in
     (λ i. record { partitioner = partitioner i; floor = floor i; last = last i; records = records i; length = size i; tables = tables i; used = used i }, logs)
-
-pub sealed_same : (x : Folder) (s t : State) → StandsSealed x s → StandsSealed x t → s ≡ t
-sealed_same x s t first second = first.state_is ∙ ap state_of (shape_same x first.shape second.shape first.has.0 second.has.0 first.has.1 second.has.1).0 ∙ sym second.state_is
 
 -- under what is asked, a folder has at most one shape
 pub one_shape : (asked : Option Partitioner) (x : Folder) (l k : Layout) → ShapeOf asked x l → ShapeOf asked x k → l ≡ k

@@ -1,6 +1,6 @@
 -- The largest timestamp of a layout's state is that of its parts.
 use Rattle.std.specs.Prelude.{◌≡◌, ◌≤◌, ℕ, max, Bool, true, false, cond, List, [], ◌∷◌, map, Option, None, Some, unwrap_or, refl}
-use Rattle.std.proofs.Common.{sym, ap, subst, ◌∙◌, arith}
+use Rattle.std.proofs.Common.{sym, ap, ◌∙◌, arith}
 use Rattle.std.proofs.lemmas.Cmp.{tied_itself}
 use Rattle.std.specs.Ordering.{eq_by_cmp, is_eq, nat_cmp}
 use Rattle.std.specs.FinMap as map_
@@ -18,8 +18,7 @@ use Rattle.sasi_cells.specs.Maps.{joined, merge_maps, merged, merged_onto, put}
 use Rattle.sasi_cells.proofs.Laws.Decorated.{entries_have, equal_keys}
 use Rattle.sasi_cells.proofs.Laws.Maps.{get_merge_maps}
 use Rattle.sasi_cells.proofs.Laws.Times.{max_timestamp_merge, values_below}
-use Rattle.sasi_datawrite.specs.Format.{Content, IsContent, content_max_timestamp, decorated_key}
-use Rattle.sasi_layout.specs.Shape.{map_of}
+use Rattle.sasi_datawrite.specs.Format.{Content, content_max_timestamp, decorated_key}
 use Rattle.sasi_layout.specs.Layout.{Layout, TableParts, parts, state_of, table_of}
 
 -- ---- a map
@@ -175,16 +174,6 @@ module _ (p : Partitioner) where
   keys_are : (content : Content) → map (λ (e : DecoratedKey × Partition). e.0) (entries_of content) ≡ map (decorated_key p) content
   keys_are [] = refl
   keys_are (one ∷ others) = ap (λ (l : List DecoratedKey). decorated p one.0 ∷ l) (keys_are others)
-
-  -- The largest timestamp of a data file is that of its map.
-  pub content_timestamp : (content : Content) → IsContent p content → map_timestamp (map_of p content) ≡ content_max_timestamp content
-  content_timestamp content is =
-      let m = map_of p content in
-      let es = entries_of content in
-      let within : map_timestamp m ≤ times es = map_below (times es) m (λ key part found. found_time key es part (sym (map_.get-from_entries decorated_total es key) ∙ found)) in
-      let sorted = subst (IsStrictlySortedBy decorated_cmp) (sym (keys_are content)) is.rising in
-      let least : times es ≤ map_timestamp m = times_sorted (map_timestamp m) es sorted (λ key part found. get_timestamp m key part (map_.get-from_entries decorated_total es key ∙ found)) in
-      omega (arith, within, least, times_are content)
 
 -- ---- a layout
 

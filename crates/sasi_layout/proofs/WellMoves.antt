@@ -14,9 +14,6 @@ use Rattle.sasi_layout.proofs.Numbered.{all_changed, unseen_at}
 
 -- ---- by the tables' parts
 
-AreWell : ℕ → ℕ → List TableParts → Type 0
-AreWell high last ts = AllByRecursion (λ t. IsWellTable high last (listed_of t)) ts
-
 to_parts : (high last : ℕ) (ts : List TableParts) → AllByRecursion (IsWellTable high last) (map listed_of ts) → AllByRecursion (λ t. IsWellTable high last (listed_of t)) ts
 to_parts high last [] all = tt
 to_parts high last (t ∷ ts) all = (all.0, to_parts high last ts all.1)
