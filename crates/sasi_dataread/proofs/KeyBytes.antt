@@ -1,5 +1,5 @@
 -- The keys of a data file are bytes, where all that the file has are.
-use Rattle.std.proofs.Common.{zero, suc, List, [], ◌∷◌, ◌++◌, length, ◌∙◌, subst}
+use Rattle.std.proofs.Common.{zero, suc, List, [], ◌∷◌, ◌++◌, length, ◌∙◌, subst, lit<}
 use Rattle.std.specs.Int.{to_be_bytes, w16, w32, w64}
 use Rattle.sasi_host.specs.Names.{Bytes}
 use Rattle.sasi_types.specs.declared.column.ColumnType.{ColumnType}

@@ -1,5 +1,5 @@
 -- What reading on costs, with a page in hand.
-use Rattle.std.proofs.Common.{◌≡◌, ◌≢◌, ◌⊎◌, ℕ, zero, suc, add-one, [], ◌∷◌, ◌++◌, length, take, drop, sym, ◌∙◌, subst, length-append, ◌+◌, ◌-◌, ◌/◌, ◌^◌, ◌<◌, ◌≤◌, Bool, Option, None, Some, inl, inr, ap, arith, ⊎_elim}
+use Rattle.std.proofs.Common.{◌≡◌, ◌≢◌, ◌⊎◌, ℕ, zero, suc, add-one, [], ◌∷◌, ◌++◌, length, take, drop, sym, ◌∙◌, subst, lit<, length-append, ◌+◌, ◌-◌, ◌/◌, ◌^◌, ◌<◌, ◌≤◌, Bool, Option, None, Some, inl, inr, ap, arith, ⊎_elim}
 use Rattle.std.specs.Prelude.{if◌then◌else◌}
 use Rattle.std.proofs.lemmas.Bool.Decides.{eqb_tells}
 use Rattle.sasi_host.specs.Buffered.{Buffered, buffered_at, reached, unbuffered_pages}

@@ -47,4 +47,4 @@ returns-clause-time g c bytes partitioner types content is of =
     let named = ap (λ (h : Buffered). contents (g.H.Host.view c.args.host.now) h.file) c.new-buffered.ensures in
     let read = c.in_ok-size.ensures.ok bytes (named ∙ is) in
     c.in_ok-time.ensures.time (footer_of partitioner content)
-    (numbers_encoded partitioner types bytes c.read_footer.new.footer content c.in_ok-size.size of ((g.met.H.Host.sound c.args.host.now).fits c.args.file bytes is) read c.before.branch-time.type_inv.bytes)
+    (numbers_encoded partitioner types bytes c.read_footer.new.footer content c.in_ok-size.size of ((g.met.H.Host.sound c.args.host.now).fits c.args.file bytes is) read c.read_footer.auto.footer)
