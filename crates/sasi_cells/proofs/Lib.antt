@@ -3,4 +3,3 @@ mod MergedSorted
 mod Merges
 mod Positions
 mod Partitions
-pub mod Keys

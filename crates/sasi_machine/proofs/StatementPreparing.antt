@@ -1,5 +1,5 @@
 -- What statements prepare.
-use Rattle.std.proofs.Common.{◌≡◌, drop, is_some, ℕ, zero, suc, ◌+◌, ◌-◌, ◌<◌, List, [], ◌∷◌, ◌++◌, length, map, set, slice_get, Option, Some, None, Result, Ok, Err, IfOk, refl, sym, ap, subst, ◌∙◌, arith}
+use Rattle.std.proofs.Common.{◌≡◌, drop, is_some, ℕ, zero, suc, ◌+◌, ◌-◌, ◌<◌, ◌≤◌, List, [], ◌∷◌, ◌++◌, length, map, set, slice_get, Option, Some, None, Result, Ok, Err, IfOk, refl, sym, ap, subst, ◌∙◌, arith}
 use Rattle.std.specs.Prelude.{max}
 use Rattle.std.specs.FinMap as fin
 use Rattle.std.specs.Option.{option_map, option_map_or}
@@ -12,15 +12,14 @@ use Rattle.sasi_types.specs.declared.statement.Statement.TheVariants.{CreateTabl
 use Rattle.sasi_cells.specs.Rows.{IsStored}
 use Rattle.sasi_cells.specs.declared.picked.PickedColumn.{PickedColumn}
 use Rattle.sasi_model.specs.Asked as ask
-use Rattle.sasi_model.specs.Asked.{asks, parsed_asks}
-use Rattle.sasi_model.specs.Cells.{max_timestamp_of}
-use Rattle.sasi_cells.proofs.Keys.{body_stored}
-use Rattle.sasi_model.proofs.Limits.{body_limit, empty_definitions}
-use Rattle.sasi_model.specs.Abbreviations.{key_position, max_timestamp_of_tables, definitions, ok_line, selected_lines, NoTable, TableExists, first_of, new_definition, key_type, types_of}
-use Rattle.sasi_model.specs.Stored.{IsBodyOf, column_types}
+use Rattle.sasi_model.specs.Asked.{Asked, asks, parsed_asks}
+use Rattle.sasi_model.specs.Cells.{Partition, max_timestamp_of}
+use Rattle.sasi_model.specs.Abbreviations.{key_position, max_timestamp_in, max_timestamp_of_tables, definitions, ok_line, selected_lines, TIME_LIMIT, NoTable, TableExists, first_of, new_definition, key_type, types_of}
+use Rattle.sasi_model.specs.Stored.{Entry, IsBodyOf, IsCell, IsValueOf, cells_of, column_types}
 use Rattle.sasi_model.specs.WellFormed.{IsWellFormed}
 use Rattle.sasi_types.specs.declared.column.ColumnType.{ColumnType}
 use Rattle.sasi_types.specs.declared.column.ColumnType.TheVariants as types
+use Rattle.std.specs.List.{AllByRecursion}
 use Rattle.sasi_machine.proofs.StatementBodies.{change_fits}
 use Rattle.sasi_model.specs.Changes.{changed_tables, empty_table, with_new_table}
 use Rattle.sasi_model.specs.Lines.{rows_lines}
@@ -28,7 +27,7 @@ use Rattle.sasi_model.specs.Pieces.{Piece}
 use Rattle.sasi_model.specs.Refusals.{Refusal, Rule, Says, create_rules, flush_rules, read, refusal, rules, select_rules}
 use Rattle.sasi_model.specs.State as model
 use Rattle.sasi_model.specs.State.{Column, Definition, State, definition_of, max_timestamp, decorated}
-use Rattle.sasi_model.specs.Step.{StepResult, answer_of, live_rows, primary_key, selected_columns, step, step_as, step_by}
+use Rattle.sasi_model.specs.Step.{StepResult, answer_of, live_rows, primary_key, selected_columns, step, step_as, step_by, tables_after}
 use Rattle.sasi_schema.specs.Answers.{IsFirstRefusal}
 use Rattle.sasi_schema.specs.Defined.{definition}
 use Rattle.sasi_schema.specs.Numbers.{number_of_table}
@@ -45,7 +44,7 @@ use Rattle.sasi_cells.specs.Mutations.{state_with_mutation}
 use Rattle.sasi_machine.specs.Prepares.{CreatesTable, FlushesTable, HasRows, HasTable, IsApplicable, IsNewTable, IsPrepared, IsPreparedFor, IsQuery, IsSelect, IsStateOf, IsTimeless, Prepares, StatementPrepares, SelectsRows, StepsTo, WritesTo, answer_rows, asked_by, lines_of}
 use Rattle.sasi_machine.specs.Selections.{IsSelection, PreparesRows}
 use Rattle.sasi_machine.specs.TableRows.{KeysStored, rows_picked}
-use Rattle.sasi_machine.specs.Tables.{AreMemtables, IsMachineState, HasMemtableFor, IsWrittenAt, state_of, tables_of, written}
+use Rattle.sasi_machine.specs.Tables.{AreMemtables, IsMachineState, HasMemtableFor, IsWrittenAt, state_of, table_with, tables_of, written}
 use Rattle.sasi_machine.specs.StatementSteps.{IsRefused, StatementStepsTo}
 use Rattle.sasi_machine.specs.Writes.{IsWrite, IsWriting, table_named}
 use Rattle.sasi_machine.proofs.MaxTimestamps.{greatest_put, greatest_set}
@@ -197,6 +196,27 @@ for_any ds g statement reply_old reply_new (Err e) of = tt
 
 -- ---- what is done
 
+-- the key of a body is one of the table's
+pub body_stored : (d : Definition) (key : List ℕ) (change : Partition) → IsBodyOf (types_of d) key change → IsStored (key_type d) key
+body_stored d key change body =
+    let typed = body.key_typed in
+    let same_type : key_type d ≡ typed.type = (let e : Some (key_type d) ≡ Some typed.type = typed.listed in cc) in
+    by (key_type d) (subst (λ type. IsValueOf type key) (sym same_type) typed.value)
+  where
+    by : (type : ColumnType) → IsValueOf type key → IsStored type key
+    by types.Text value = tt
+    by types.Int value = value
+    by types.BigInt value = value
+    by types.Uuid value = value
+
+-- and its times are those of writes
+cells_limit : (deleted : ℕ) (es : List Entry) → AllByRecursion (IsCell deleted) es → max_timestamp_in (map (λ (e : Entry). e.1) es) ≤ TIME_LIMIT
+cells_limit deleted [] all = omega arith
+cells_limit deleted (e ∷ es) all = omega (arith, all.0.time, cells_limit deleted es all.1)
+
+pub body_limit : (types : List ColumnType) (key : List ℕ) (change : Partition) → IsBodyOf types key change → max_timestamp_of change ≤ TIME_LIMIT
+body_limit types key change body = omega (arith, body.has.deleted, cells_limit change.deleted (cells_of change) body.has.cells)
+
 -- a mutation that was prepared can be applied
 writes_fit : (s : State) (statement : Statement) (w : Mutation) → IsWellFormed statement → WritesTo s statement w → IsApplicable s w
 writes_fit s statement w well writes =
@@ -334,6 +354,11 @@ pub piece_timeless : {E : Type 0} (ds : List Definition) (g : ℕ) (piece : Piec
 piece_timeless ds g piece statement reply_old reply (Ok prepared) says well empty asks =
     λ timeless s are. prepares s piece statement reply_old reply prepared says well empty ((asks.timeless timeless (max_timestamp s)).of_state s (record { definitions_are = are; newest_is = refl }))
 piece_timeless ds g piece statement reply_old reply (Err e) says well empty asks = tt
+
+-- definitions, as empty tables
+pub empty_definitions : (ds : List Definition) → definitions (map empty_table ds) ≡ ds
+empty_definitions [] = refl
+empty_definitions (d ∷ ds) = ap (λ (l : List Definition). d ∷ l) (empty_definitions ds)
 
 rows_query : (s : State) (statement : Statement) (rows : Selection) → SelectsRows s statement rows → IsQuery (Says statement)
 rows_query s (Query select) rows selects = tt

@@ -47,7 +47,7 @@ use Rattle.sasi_store.specs.Selects.{IsSelectable}
 use Rattle.sasi_store.specs.StoreView.{hand_of}
 use Rattle.sasi_store.specs.Writable.{IsCreatable, IsWritable}
 use Rattle.sasi_store.specs.declared.parts.Parts.{Parts}
-use Rattle.sasi_model.proofs.Limits.{empty_definitions}
+use Rattle.sasi_machine.proofs.StatementPreparing.{empty_definitions}
 use Rattle.sasi_store.proofs.TablesInHand.{as_many, map_there}
 use Rattle.sasi_store.proofs.Timestamps.{put_timestamp}
 

@@ -7,7 +7,7 @@ use Rattle.std.specs.FinMap.{get}
 use Rattle.std.specs.List.{AllByRecursion}
 use Rattle.std.specs.Option.{option_map_or}
 use Rattle.sasi_cells.specs.Rows.{IsStored}
-use Rattle.sasi_cells.proofs.Keys.{body_stored}
+use Rattle.sasi_machine.proofs.StatementPreparing.{body_stored}
 use Rattle.sasi_cells.specs.declared.mutation.Mutation.{Mutation}
 use Rattle.sasi_dataread.specs.Damages.{ShowsDataFile, inside, opened_by, outside}
 use Rattle.sasi_folder.specs.Damages as folders
