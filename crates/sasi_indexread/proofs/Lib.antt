@@ -7,6 +7,7 @@ pub mod AskedLaws
 pub mod Collecting
 pub mod Callers
 pub mod CostLaws
+pub mod LevelCounts
 pub mod ReadChains
 pub mod Scanning
 pub mod Counting
