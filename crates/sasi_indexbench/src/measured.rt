@@ -1,4 +1,4 @@
-// Writes an index file, looks up each of its terms, and searches all of them.
+// Writes an index file, and searches it for terms, prefixes and infixes.
 ghost use Rattle.std.specs.Prelude.{OnOk};
 ghost use Rattle.sasi_indexwrite.specs.Gathered.{AreGathered, AreUpTo};
 
@@ -21,17 +21,51 @@ pub const FILE: FileName = FileName {
     part: 1,
 };
 
-// The term with this number has one pair.
-fn fill(alloc: Global, gather: &mut Gather, last: &mut Posting, count: u64) -> Result<(), ReadFault>
+// The term with this number: its eight decimal digits.
+fn term_of(number: u64) -> [u8; 8] {
+    let mut term = [b'0'; 8];
+    let mut left = number;
+    for at in 1..=8 {
+        term[8 - at] = b'0' + (left % 10) as u8;
+        left /= 10;
+    }
+    term
+}
+
+// Adds so many pairs of the term with this number. Their tokens rise, and are those of no other term.
+fn fill_term(
+    alloc: Global,
+    gather: &mut Gather,
+    last: &mut Posting,
+    number: u64,
+    pairs: u64,
+) -> Result<(), ReadFault>
     requires { AreUpTo gather.old.postings last.old }
     ensures { OnOk result (AreUpTo gather.new.postings last.new) }
 {
-    for number in 0..count {
-        let pair = Pair {
-            token: number.wrapping_mul(0x9e37_79b9_7f4a_7c15),
-            place: number.wrapping_add(16),
-        };
-        add(alloc, gather, last, &number.to_be_bytes(), pair)?;
+    let term = term_of(number);
+    let spread = number.wrapping_mul(0x9e37_79b9_7f4a_7c15) >> 20;
+    for turn in 0..pairs {
+        let token = turn.wrapping_mul(1 << 44).wrapping_add(spread);
+        let place = number.wrapping_add(16);
+        add(alloc, gather, last, &term, Pair { token, place })?;
+    }
+    Ok(())
+}
+
+// Adds so many terms, each with so many pairs.
+fn fill(
+    alloc: Global,
+    gather: &mut Gather,
+    last: &mut Posting,
+    terms: u64,
+    pairs: u64,
+) -> Result<(), ReadFault>
+    requires { AreUpTo gather.old.postings last.old }
+    ensures { OnOk result (AreUpTo gather.new.postings last.new) }
+{
+    for number in 0..terms {
+        fill_term(alloc, gather, last, number, pairs)?;
     }
     Ok(())
 }
@@ -52,11 +86,16 @@ fn write(alloc: Global, host: &mut FileHost, gather: Gather) -> Result<(), ReadF
     write_index(alloc, host, FILE, &def, gather)
 }
 
-/// Writes a file of so many terms, each of one pair.
-pub fn write_all(alloc: Global, host: &mut FileHost, count: u64) -> Result<(), ReadFault> {
+/// Writes a file of so many terms, each with so many pairs.
+pub fn write_all(
+    alloc: Global,
+    host: &mut FileHost,
+    terms: u64,
+    pairs: u64,
+) -> Result<(), ReadFault> {
     let mut last = lowest(alloc);
     let mut gather = Gather::new(alloc, 1, 1);
-    fill(alloc, &mut gather, &mut last, count)?;
+    fill(alloc, &mut gather, &mut last, terms, pairs)?;
     write(alloc, host, gather)
 }
 
@@ -80,27 +119,58 @@ fn search(
     Ok(count)
 }
 
-/// How many pairs a search of all terms gives.
-pub fn scan_all(
-    alloc: Global,
-    host: &mut FileHost,
-    pages: &mut CountingReader,
-    opened: &IndexFile,
-) -> Result<u64, ReadFault> {
-    search(alloc, host, pages, opened, Op::Prefix, b"")
+/// What a round of searches asks for.
+#[derive(Clone, Copy)]
+pub enum Round {
+    /// So many terms, spread over all.
+    Terms { asked: u64 },
+    /// So many prefixes of seven digits, which ten terms have.
+    Prefixes { asked: u64 },
+    /// So many infixes of four digits.
+    Infixes { asked: u64 },
 }
 
-/// How many pairs the look-ups of the terms give.
-pub fn find_all(
+impl Round {
+    fn asked(self) -> u64 {
+        match self {
+            Round::Terms { asked } => asked,
+            Round::Prefixes { asked } => asked,
+            Round::Infixes { asked } => asked,
+        }
+    }
+
+    fn op(self) -> Op {
+        match self {
+            Round::Terms { .. } => Op::Eq,
+            Round::Prefixes { .. } => Op::Prefix,
+            Round::Infixes { .. } => Op::Contains,
+        }
+    }
+}
+
+// The part of a term that the search with this number looks for.
+fn part(round: Round, term: &[u8; 8]) -> &[u8] {
+    match round {
+        Round::Terms { .. } => term,
+        Round::Prefixes { .. } => &term[..7],
+        Round::Infixes { .. } => &term[4..],
+    }
+}
+
+/// How many pairs the searches of a round give, in a file of so many terms.
+pub fn search_all(
     alloc: Global,
     host: &mut FileHost,
     pages: &mut CountingReader,
     opened: &IndexFile,
-    count: u64,
+    terms: u64,
+    round: Round,
 ) -> Result<u64, ReadFault> {
     let mut given = 0u64;
-    for number in 0..count {
-        let found = search(alloc, host, pages, opened, Op::Eq, &number.to_be_bytes())?;
+    for turn in 0..round.asked() {
+        let number = turn.wrapping_mul(7919).checked_rem(terms).unwrap_or(0);
+        let term = term_of(number);
+        let found = search(alloc, host, pages, opened, round.op(), part(round, &term))?;
         given = given.saturating_add(found);
     }
     Ok(given)
