@@ -3,7 +3,10 @@
 
 The lines are statements (INSERTs of prose, and statements of all forms), texts to cut into words, and pieces of one length, 8 MiB
 in all. A byte of the longest pieces may take twice the time of one of the shortest, which are 32 times shorter: a step that is
-linear in the bytes seen would multiply it by 32. A piece of one-digit literals takes the most memory for its length.
+linear in the bytes seen would multiply it by 32.
+
+Then it parses a piece of 2^20 bytes for each list of the grammar, with the shortest items that it can have, and prints how many
+times its bytes the piece takes in memory beyond a text of the same length that fails at its first byte. It may take ten times.
 """
 import os
 import subprocess
@@ -12,6 +15,7 @@ import tempfile
 import time
 
 MOST_GROWTH = 2.0
+MOST_MEMORY = 10.0
 TOTAL = 1 << 23
 TRIES = 5
 WORDS = 'the quick brown fox jumps over a lazy dog and runs back home where it sleeps until the sun comes up again'.split()
@@ -30,6 +34,24 @@ FORMS = [
     "BEGIN COMPACT t;",
     "STEP COMPACT t {0};",
     "TRACE ON;",
+]
+
+
+# The lists of statements: what stands in front, a short item, what stands between two, and what stands behind.
+LISTS = [
+    ('names', 'SELECT ', 'a', ',', ' FROM t;'),
+    ('names and numbers', 'INSERT INTO t(%s)VALUES(', '1', ',', ');'),
+    ('numbers', 'INSERT INTO t(a)VALUES(', '1', ',', ');'),
+    ('empty texts', 'INSERT INTO t(a)VALUES(', "''", ',', ');'),
+    ('texts of a byte', 'INSERT INTO t(a)VALUES(', "'a'", ',', ');'),
+    ('texts of 15 bytes', 'INSERT INTO t(a)VALUES(', "'abcdefghijklmno'", ',', ');'),
+    ('numbers of 13 digits', 'INSERT INTO t(a)VALUES(', '1099511627776', ',', ');'),
+    ('nulls', 'INSERT INTO t(a)VALUES(', 'null', ',', ');'),
+    ('equations', 'UPDATE t SET ', 'a=1', ',', ' WHERE k=1;'),
+    ('relations', 'SELECT*FROM t WHERE ', "a='x'", 'AND ', ';'),
+    ('options', "CREATE CUSTOM INDEX ON t(a)USING''WITH OPTIONS={", "'a':'b'", ',', '};'),
+    ('columns', 'CREATE TABLE t(k int PRIMARY KEY,', 'a int', ',', ');'),
+    ('one text', "INSERT INTO t(a)VALUES('", 'x', '', "');"),
 ]
 
 
@@ -73,7 +95,34 @@ def measure(program, lines):
     with tempfile.NamedTemporaryFile('w', suffix='.txt') as file:
         file.write(''.join(line + '\n' for line in lines))
         file.flush()
-        return min(run(program, file.name) for _ in range(TRIES))
+        runs = [run(program, file.name) for _ in range(TRIES)]
+        return min(seconds for seconds, _ in runs), max(memory for _, memory in runs)
+
+
+def piece_of(front, item, between, back, size):
+    """A piece of at most this size. `%s` in front stands for as many names as there are items."""
+    each = len(item) + len(between)
+    if '%s' in front:
+        count = (size - len(front) - len(back)) // (each + 2)
+        front = front % ','.join(['a'] * count)
+    else:
+        count = (size - len(front) - len(back) + len(between)) // each
+    return front + between.join([item] * count) + back
+
+
+def print_memory(program):
+    """Prints what a piece of each list takes. Returns how many take too much."""
+    size = 1 << 20
+    _, least = measure(program, ['?' * size])
+    print('%-21s %5s' % ('lists of', 'times'))
+    over = 0
+    for name, front, item, between, back in LISTS:
+        piece = piece_of(front, item, between, back, size)
+        _, memory = measure(program, [piece])
+        times = (memory - least) * 1024 / len(piece)
+        print('%-21s %5.1f' % (name, times))
+        over += times > MOST_MEMORY
+    return over
 
 
 def main():
@@ -100,6 +149,9 @@ def main():
         first = first or cost
         if cost > MOST_GROWTH * first:
             sys.exit('a byte of a longer piece took %.1f times the time' % (cost / first))
+    over = print_memory(program)
+    if over:
+        sys.exit('%d lists take more than %.0f times their bytes' % (over, MOST_MEMORY))
 
 
 if __name__ == '__main__':
