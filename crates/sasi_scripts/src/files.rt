@@ -31,6 +31,18 @@ pub fn print_files(rt: &impl Print, alloc: Global, host: &mut MemHost) -> io::Re
     Ok(())
 }
 
+/// Prints the name and the length of each file.
+pub fn print_lengths(rt: &impl Print, alloc: Global, host: &mut MemHost) -> io::Result<()> {
+    let Ok(names) = host.list(alloc) else {
+        return println!(rt; "no list");
+    };
+    for file in &names {
+        let length = host.bytes(*file).unwrap_or(&[]).len();
+        println!(rt; "{} {length}", NameText(*file))?;
+    }
+    Ok(())
+}
+
 // A file, two numbers, and a script.
 fn file_and_numbers(line: &str) -> Option<(FileName, u64, u64, &str)> {
     let (name, rest) = line.split_once(' ')?;

@@ -15,8 +15,10 @@
 //! - `outside PIECE READ EMIT SCRIPT` runs a script over a new folder: a read gives at most so many bytes, and the read and the
 //!   emit of these numbers fail.
 //! - `fill COUNT BYTE SCRIPT` runs a script over a new folder, with so many bytes of this value in place of each `~`.
+//! - `many FROM TO SCRIPT` runs one script over the folder that has this one for each of these numbers, in place of each `#`. It
+//!   prints how many lines the replies have.
 //! - `words`, with `|` before each word, runs a command line of these words over a new folder.
-//! - `files` prints the name and the bytes of each file.
+//! - `files` prints the name and the bytes of each file, and `lengths` the name and the length.
 #![tactic(auto)]
 
 mod crashes;
@@ -24,8 +26,8 @@ mod files;
 mod runs;
 
 use crate::crashes::{Shown, run_crashes};
-use crate::files::{print_files, put_file, run_changed, run_cuts};
-use crate::runs::{run_asking, run_filled, run_outside, run_script, run_words};
+use crate::files::{print_files, print_lengths, put_file, run_changed, run_cuts};
+use crate::runs::{run_asking, run_filled, run_many, run_outside, run_script, run_words};
 use sasi_host::MemHost;
 use std::alloc::Global;
 use std::io::{self, BufRead, BufReader};
@@ -41,7 +43,9 @@ fn take_line(rt: &impl Print, alloc: Global, host: &mut MemHost, line: &str) -> 
         "change" => run_changed(rt, alloc, rest, host),
         "crash" => run_crashes(rt, alloc, rest, host, Shown::Files),
         "recover" => run_crashes(rt, alloc, rest, host, Shown::Replies),
+        "many" => run_many(rt, alloc, rest, host),
         "files" => print_files(rt, alloc, host),
+        "lengths" => print_lengths(rt, alloc, host),
         "#" => println!(rt; "{line}"),
         _ => take_new(rt, alloc, host, line),
     }

@@ -34,6 +34,12 @@ fn source_of(
     Ok(MemSource::new(bytes, piece.max(1), failing))
 }
 
+// The replies behind the first so many bytes.
+fn replies_behind(host: &MemHost, before: usize) -> &str {
+    let replies = host.emitted().get(before..).unwrap_or(&[]);
+    str::from_utf8(replies).unwrap_or("replies that are not UTF-8\n")
+}
+
 // Runs a command line, and prints the replies and the status.
 fn run_from(
     rt: &impl Print,
@@ -44,9 +50,7 @@ fn run_from(
 ) -> io::Result<()> {
     let before = host.emitted().len();
     let status = run(alloc, words, source, host, Vec::new(alloc));
-    let replies = host.emitted().get(before..).unwrap_or(&[]);
-    let replies = str::from_utf8(replies).unwrap_or("replies that are not UTF-8\n");
-    print!(rt; "{replies}{status:?}\n")
+    print!(rt; "{}{status:?}\n", replies_behind(host, before))
 }
 
 /// Runs a script.
@@ -140,6 +144,35 @@ pub fn run_filled(
     };
     let script = script.replace(alloc, "~", &repeated(alloc, count, byte)?)?;
     run_script(rt, alloc, &script, host)
+}
+
+// The script for each of these numbers, which stands in place of each `#`, one after another.
+fn copies(alloc: Global, script: &str, from: u64, to: u64) -> Result<String, AllocError> {
+    let mut all = String::new(alloc);
+    for number in from..=to {
+        let digits = format!(in alloc; "{number}")?;
+        all.push_str(&script.replace(alloc, "#", &digits)?)?;
+    }
+    Ok(all)
+}
+
+/// Runs one script that has this one for each of these numbers, in place of each `#`, and prints how many lines the replies
+/// have, and the status: `FROM TO SCRIPT`.
+pub fn run_many(rt: &impl Print, alloc: Global, line: &str, host: &mut MemHost) -> io::Result<()> {
+    let Some((from, to, script)) = two_numbers(line) else {
+        return println!(rt; "numbers are missing");
+    };
+    let before = host.emitted().len();
+    let mut source = source_of(alloc, &copies(alloc, script, from, to)?, 4096, 0)?;
+    let status = run(
+        alloc,
+        &two_words(alloc)?,
+        &mut source,
+        host,
+        Vec::new(alloc),
+    );
+    let lines = replies_behind(host, before).lines().count();
+    print!(rt; "{lines} lines\n{status:?}\n")
 }
 
 // The words behind each `|`.
