@@ -2,11 +2,12 @@
 use Rattle.std.proofs.Common.{◌≡◌, ℕ, List, ◌+◌, ◌++◌, length, take, Some, sym, ◌∙◌, ap, subst, arith, append_assoc}
 use Rattle.std.proofs.lemmas.List.{append-nil, drop_all, take_all}
 use Rattle.std.specs.FinMap.{get}
+use Rattle.std.specs.Prelude.{Option, is_some}
 use Rattle.sasi_host.specs.declared.name.FileName.{FileName}
 use Rattle.sasi_host.specs.Names.{Bytes}
-use Rattle.sasi_host.specs.View.{View, Holds}
-use Rattle.sasi_host.specs.Disk.{Relation, Same, Changes, FileChange, InPlace, AnyChange, Becomes, overlay}
-use Rattle.sasi_host.specs.Contents.{told_before}
+use Rattle.sasi_host.specs.View.{IsThere, Reaches, View, Holds}
+use Rattle.sasi_host.specs.Disk.{Relation, Same, Changes, FileChange, InPlace, AnyChange, Becomes, Torn, overlay}
+use Rattle.sasi_host.specs.Contents.{reaches_on, told_before}
 use Rattle.sasi_host.specs.ChangeLaws.{changes_as}
 use Rattle.sasi_types.specs.declared.tree.Pair.{Pair}
 use Rattle.sasi_types.specs.declared.tree.TreeRef.{TreeRef}
@@ -26,6 +27,13 @@ pub holds_behind : (a b : View) (S : Relation) (file : FileName) (at : ℕ) (byt
     (λ old. overlay old at more) a b → length bytes ≡ at → Holds a file bytes → Holds b file (bytes ++ more)
 holds_behind a b S file at bytes more change becomes is holds told =
     becomes bytes (holds (told_before S a b change told)) ∙ ap (λ (l : Bytes). Some l) (ap (λ (n : ℕ). overlay bytes n more) (sym is) ∙ overlay_behind bytes more)
+
+-- a file that reaches to an offset is there, and so is one that was written, also in part
+pub there_reached : (v : View) (file : FileName) (at : ℕ) → Reaches v file at → IsThere v file
+there_reached v file at reaches told = ap (λ (o : Option Bytes). is_some o) (reaches told).1
+
+pub there_written : (a b : View) (file : FileName) (at n : ℕ) → Changes (FileChange file (InPlace (Torn at n))) a b → Reaches a file at → IsThere b file
+there_written a b file at n change reaches = there_reached b file at (reaches_on a b file (Torn at n) at change (λ x y torn. torn.no_shorter) reaches)
 
 -- a call that leaves the folder as it is
 pub touches_same : (a b : View) (file : FileName) → Changes Same a b → Changes (FileChange file AnyChange) a b

@@ -2,7 +2,7 @@
 ghost use Rattle.std.specs.Prelude.{◌≡◌, ◌+◌, ◌-◌, ◌^◌, ◌<◌, ◌≤◌, ◌++◌, length, drop, IfOk, OnOk};
 ghost use Rattle.std.specs.Int.{to_be_bytes, w32};
 ghost use Rattle.sasi_host.specs.Names.{Bytes};
-ghost use Rattle.sasi_host.specs.View.{Holds, ListCauses, Reaches};
+ghost use Rattle.sasi_host.specs.View.{Holds, IsThere, ListCauses, MakesCalls, Reaches};
 ghost use Rattle.sasi_host.specs.Disk.{AnyChange, Changes, FileChange};
 ghost use Rattle.sasi_body.specs.Body.{HasBody};
 ghost use Rattle.sasi_datawrite.specs.Format.{partition_bytes};
@@ -29,7 +29,9 @@ pub fn write_partition<H: Host>(
     ensures next { IfOk result (λ next. next ≡ at + length (partition_bytes key.now part.now)) }
     ensures fits { IfOk result (λ next. next ≤ 2 ^ 62) }
     ensures room { IfOk result (λ next. Reaches (H.view host.new) file next) }
+    ensures there { IsThere (H.view host.new) file }
     ensures changes { Changes (FileChange file AnyChange) (H.view host.old) (H.view host.new) }
+    ensures calls { MakesCalls 1 (H.view host.old) (H.view host.new) result }
     ensures causes { ListCauses (H.view host.old) (H.view host.new) result }
 {
     put_partition(buffer, key, part)?;

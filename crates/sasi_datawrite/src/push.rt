@@ -2,7 +2,7 @@
 ghost use Rattle.std.specs.Prelude.{◌≡◌, ◌+◌, ◌^◌, ◌≤◌, ◌++◌, List, length, IfOk, OnOk};
 ghost use Rattle.sasi_types.specs.declared.class.Class.{Class};
 ghost use Rattle.sasi_host.specs.Names.{Bytes};
-ghost use Rattle.sasi_host.specs.View.{Holds, Reaches};
+ghost use Rattle.sasi_host.specs.View.{Holds, IsThere, MakesCalls, Reaches};
 ghost use Rattle.sasi_host.specs.Disk.{AnyChange, Changes, FileChange};
 ghost use Rattle.sasi_body.specs.Body.{HasBody};
 ghost use Rattle.sasi_datawrite.specs.Format.{partition_bytes};
@@ -33,7 +33,9 @@ pub fn push_partition<H: Host, O: FlushObserver>(
     ensures next { IfOk result (λ next. next ≡ pair.place + length (partition_bytes key.now part.now)) }
     ensures fits { IfOk result (λ next. next ≤ 2 ^ 62) }
     ensures room { IfOk result (λ next. Reaches (H.view host.new) file next) }
+    ensures there { IsThere (H.view host.new) file }
     ensures changes { Changes (FileChange file AnyChange) (H.view host.old) (H.view host.new) }
+    ensures calls { MakesCalls 1 (H.view host.old) (H.view host.new) result }
     ensures causes { PushCauses (O.lacks watch.old) (H.view host.old) (H.view host.new) result }
     ensures lacks { (class : Class) → O.lacks watch.new class → O.lacks watch.old class }
 {

@@ -2,7 +2,7 @@
 ghost use Rattle.std.specs.Prelude.{◌≡◌, ◌≤◌, ◌∷◌, ◌++◌, [], List, length, IfOk, OnOk, IsTrue, is_ok};
 ghost use Rattle.sasi_types.specs.declared.class.Class.{Class};
 ghost use Rattle.sasi_types.specs.Token.{token_of};
-ghost use Rattle.sasi_host.specs.View.{DiskCauses, Holds, IsAbsent, ListCauses, Reaches};
+ghost use Rattle.sasi_host.specs.View.{DiskCauses, Holds, IsAbsent, IsThere, ListCauses, MakesCalls, Reaches};
 ghost use Rattle.sasi_host.specs.Disk.{AnyChange, Changes, IsSynced, FileChange};
 ghost use Rattle.sasi_host.specs.Names.{data_name};
 ghost use Rattle.sasi_body.specs.Body.{HasBody};
@@ -59,6 +59,7 @@ impl DataWriter {
         ensures room { IfOk result (λ writer. Reaches (H.view host.new) writer.file writer.offset) }
         ensures usable { IfOk result (λ writer. IsTrue writer.usable) }
         ensures changes { Changes (FileChange (data_name number) AnyChange) (H.view host.old) (H.view host.new) }
+        ensures calls { MakesCalls 2 (H.view host.old) (H.view host.new) result }
         ensures causes { ListCauses (H.view host.old) (H.view host.new) result }
     {
         let file = FileName::data(number);
@@ -77,6 +78,7 @@ impl DataWriter {
     }
 
     /// Writes the next partition, by one call of the host, and passes it to the observer. Its token isn't below the last one.
+    /// After a fault the file is still there, with any bytes, and the writer isn't usable.
     pub fn push<H: Host, O: FlushObserver>(
         &mut self,
         host: &mut H,
@@ -96,7 +98,9 @@ impl DataWriter {
         ensures usable { self.new.usable ≡ is_ok result }
         ensures file { self.new.file ≡ self.old.file }
         ensures partitioner { self.new.partitioner ≡ self.old.partitioner }
+        ensures there { IsThere (H.view host.new) self.new.file }
         ensures changes { Changes (FileChange self.old.file AnyChange) (H.view host.old) (H.view host.new) }
+        ensures calls { MakesCalls 1 (H.view host.old) (H.view host.new) result }
         ensures causes { PushCauses (O.lacks watch.old) (H.view host.old) (H.view host.new) result }
         ensures lacks { (class : Class) → O.lacks watch.new class → O.lacks watch.old class }
     {
@@ -148,6 +152,7 @@ fn create_with<H: Host>(host: &mut H, file: FileName, bytes: &[u8]) -> Result<()
     requires { IsAbsent (H.view host.old) file }
     ensures ok { OnOk result (Holds (H.view host.new) file bytes.now) }
     ensures changes { Changes (FileChange file AnyChange) (H.view host.old) (H.view host.new) }
+    ensures calls { MakesCalls 2 (H.view host.old) (H.view host.new) result }
     ensures causes { DiskCauses (H.view host.old) (H.view host.new) result }
 {
     host.create(file)?;
