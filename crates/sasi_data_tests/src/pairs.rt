@@ -1,12 +1,12 @@
 // Data files that are durable before a manifest lists them, or given up.
 ghost use Rattle.std.specs.Prelude.{◌≤◌, length, IsTrue};
 ghost use Rattle.sasi_host.specs.Memory.{host_view, seen};
-ghost use Rattle.sasi_host.specs.View.{Reaches};
+ghost use Rattle.sasi_host.specs.View.{IsThere, Reaches};
 
 use crate::fixture::{DATA, INSERTED, ONE, partition_of};
 use sasi_host::{BytePick, MemHost, NamePick, Pick};
 use sasi_manifest::PartNumbers;
-use sasi_pairs::PairWriter;
+use sasi_pairs::{PairFault, PairWriter};
 use sasi_types::Partitioner;
 use std::alloc::Global;
 use std::process::Abort;
@@ -48,6 +48,28 @@ fn crash_leaves_a_sealed_file(rt: HostRuntime) {
 fn file_that_is_given_up_is_gone(rt: HostRuntime) {
     let mut host = MemHost::new(rt.alloc());
     let writer = pushed(&rt, rt.alloc(), &mut host);
+    writer.give_up(&mut host).expect(&rt, "deleted");
+    assert!(rt; host.bytes(DATA).is_none());
+}
+
+// A writer whose first partition can't be written, and the fault.
+fn failed(rt: &impl Abort, alloc: Global, host: &mut MemHost) -> PairWriter
+    ensures { IsThere (host_view (seen host.new)) result.file }
+{
+    host.fail_disk(vec![in alloc; 3].expect(rt, "memory for a call"));
+    assert!(rt; host.bytes(DATA).is_none());
+    let (key, part) = partition_of(rt, alloc, &INSERTED);
+    let mut writer = PairWriter::begin(alloc, host, 7, Partitioner::Lead8).expect(rt, "begun");
+    let result = writer.push(host, &key, &part);
+    assert!(rt; result == Err(PairFault::Failed));
+    writer
+}
+
+#[test]
+fn file_of_a_failed_push_is_given_up(rt: HostRuntime) {
+    let mut host = MemHost::new(rt.alloc());
+    let writer = failed(&rt, rt.alloc(), &mut host);
+    assert!(rt; host.bytes(DATA).is_some());
     writer.give_up(&mut host).expect(&rt, "deleted");
     assert!(rt; host.bytes(DATA).is_none());
 }

@@ -52,6 +52,7 @@ impl PairWriter {
         ensures room { IfOk result (λ writer. Reaches (H.view host.new) writer.file writer.offset) }
         ensures usable { IfOk result (λ writer. IsTrue writer.usable) }
         ensures changes { Changes (FileChange (data_name number) AnyChange) (H.view host.old) (H.view host.new) }
+        ensures calls { MakesCalls 2 (H.view host.old) (H.view host.new) result }
         ensures causes { ListCauses (H.view host.old) (H.view host.new) result }
     {
         let writer = DataWriter::begin(alloc, host, number, partitioner)?;
@@ -61,7 +62,8 @@ impl PairWriter {
         })
     }
 
-    /// Writes the next partition, by one call of the host. Its token isn't below the last one.
+    /// Writes the next partition, by one call of the host. Its token isn't below the last one. After a fault the file is still
+    /// there, with any bytes: the writer isn't usable, and can be given up.
     pub fn push<H: Host>(
         &mut self,
         host: &mut H,
@@ -79,7 +81,9 @@ impl PairWriter {
         ensures usable { self.new.usable ≡ is_ok result }
         ensures file { self.new.file ≡ self.old.file }
         ensures partitioner { self.new.partitioner ≡ self.old.partitioner }
+        ensures there { IsThere (H.view host.new) self.new.file }
         ensures changes { Changes (FileChange self.old.file AnyChange) (H.view host.old) (H.view host.new) }
+        ensures calls { MakesCalls 1 (H.view host.old) (H.view host.new) result }
         ensures causes { PushCauses (λ _. ⊥) (H.view host.old) (H.view host.new) result }
     {
         self.writer.push(host, &mut NoWatch, key, part)
