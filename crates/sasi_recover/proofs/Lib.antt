@@ -7,6 +7,7 @@ pub mod FirstFiles
 pub mod FirstStore
 pub mod FolderOpening
 pub mod Foreign
+pub mod FoundNames
 pub mod HighestSeal
 pub mod KeptFiles
 pub mod KeptShapes

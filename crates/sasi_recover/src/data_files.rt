@@ -1,8 +1,9 @@
 // Checks the listed data files.
 ghost use Rattle.std.specs.Prelude.{◌≡◌, ◌+◌, ◌*◌, ◌≤◌, All, Contains, IfErr, IfOk, OnOk, Some, length};
+ghost use Rattle.std.specs.List.Sorted.{IsStrictlySortedBy};
 ghost use Rattle.sasi_host.specs.Damages.{DamageShown, OnDamage};
 ghost use Rattle.sasi_host.specs.Disk.{Changes, IsSynced, Lists, Same};
-ghost use Rattle.sasi_host.specs.Names.{data_name};
+ghost use Rattle.sasi_host.specs.Names.{data_name, name_cmp};
 ghost use Rattle.sasi_host.specs.View.{IsThere};
 ghost use Rattle.sasi_gated.specs.Causes.{ReadingCauses};
 ghost use Rattle.sasi_dataread.specs.Damages.{ShowsHeaderOrFooter};
@@ -19,6 +20,7 @@ const TIME_LIMIT: u64 = 1 << 62;
 
 /// Passes where each data file exists, and else reports the first missing one.
 pub fn check_data_files(names: &[FileName], files: &[DataNumber]) -> Result<(), Damage>
+    requires { IsStrictlySortedBy name_cmp names.now }
     ensures there { OnOk result (All (λ n. Contains names.now (data_name n)) files.now) }
     ensures missing { IfErr result (ReportsMissingData names.now files.now) }
 {

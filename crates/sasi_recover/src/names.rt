@@ -1,6 +1,7 @@
 // The names of the files of a folder.
-ghost use Rattle.std.specs.Prelude.{◌≡◌, ◌≢◌, ◌≤◌, Contains, IfErr, OnOk, false, true, ℕ};
-ghost use Rattle.sasi_host.specs.Names.{log_name};
+ghost use Rattle.std.specs.Prelude.{◌≡◌, ◌≤◌, Contains, IfErr, OnOk, false, true, ℕ};
+ghost use Rattle.std.specs.List.Sorted.{IsStrictlySortedBy};
+ghost use Rattle.sasi_host.specs.Names.{log_name, name_cmp};
 ghost use Rattle.sasi_recover.specs.SealedFolder.{ReportsMissing, ReportsMissingSegment};
 
 use sasi_host::{Damage, FileName, FormatRule, SegmentNumber, found};
@@ -11,7 +12,8 @@ pub fn check_segments(
     floor: SegmentNumber,
     last: SegmentNumber,
 ) -> Result<(), Damage>
-    requires { floor ≤ last }
+    requires sorted { IsStrictlySortedBy name_cmp names.now }
+    requires ordered { floor ≤ last }
     ensures there { OnOk result ((segment : ℕ) → floor ≤ segment → segment ≤ last → Contains names.now (log_name segment)) }
     ensures missing { IfErr result (ReportsMissingSegment names.now floor last) }
 {
@@ -24,6 +26,7 @@ pub fn check_segments(
 
 /// Passes where the file is among the names, and else reports it as missing.
 pub fn check_there(names: &[FileName], file: FileName) -> Result<(), Damage>
+    requires { IsStrictlySortedBy name_cmp names.now }
     ensures there { OnOk result (Contains names.now file) }
     ensures missing { IfErr result (ReportsMissing names.now file) }
 {
@@ -35,21 +38,9 @@ pub fn check_there(names: &[FileName], file: FileName) -> Result<(), Damage>
 }
 
 fn is_listed(names: &[FileName], file: FileName) -> bool
+    requires { IsStrictlySortedBy name_cmp names.now }
     ensures yes { result ≡ true → Contains names.now file }
     ensures no { result ≡ false → ¬ Contains names.now file }
 {
-    for name in names {
-        if is_same(*name, file) {
-            return true;
-        }
-    }
-    false
-}
-
-// Whether the two names are one.
-fn is_same(name: FileName, other: FileName) -> bool
-    ensures yes { result ≡ true → name ≡ other }
-    ensures no { result ≡ false → name ≢ other }
-{
-    name == other
+    names.binary_search(&file).is_ok()
 }

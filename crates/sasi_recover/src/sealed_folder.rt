@@ -40,7 +40,8 @@ pub fn read_manifest<H: Host>(
     names: &[FileName],
     number: ManifestNumber,
 ) -> Result<Manifest, ReadFault>
-    requires { Lists (H.view host.old) names.now }
+    requires lists { Lists (H.view host.old) names.now }
+    requires sorted { IsStrictlySortedBy name_cmp names.now }
     ensures there { OnOk result (IsThere (H.view host.old) (manifest_name number)) }
     ensures reads { IfOk result (λ m. ReadsListing (H.view host.old) number m.listing) }
     ensures stands { IfOk result (λ m. StandsWhereKept (H.view host.old) (H.view host.new) number m.at m.listing) }
@@ -132,7 +133,8 @@ fn settle<H: Host>(
 
 // Passes where the live segments and the data files are among the names, and else reports the first that is missing.
 fn check_names(names: &[FileName], listing: &Listing, files: &[DataNumber]) -> Result<(), Damage>
-    requires { listing.now.floor ≤ listing.now.last }
+    requires sorted { IsStrictlySortedBy name_cmp names.now }
+    requires ordered { listing.now.floor ≤ listing.now.last }
     ensures there { OnOk result (AreNamed names.now listing.now.floor listing.now.last files.now) }
     ensures missing { IfErr result (ReportsMissingListed names.now listing.now.floor listing.now.last files.now) }
 {
