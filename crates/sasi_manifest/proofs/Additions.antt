@@ -11,9 +11,10 @@ use Rattle.sasi_manifest.specs.declared.listed.ListedTable.{ListedTable}
 use Rattle.sasi_manifest.specs.Naming.{IsFree, AreApart}
 use Rattle.sasi_manifest.specs.Abbreviations.{listed_names}
 use Rattle.sasi_manifest.specs.ListedDefinition.{ListedDefinition}
-use Rattle.sasi_manifest.specs.ListedFiles.{with_files, without}
+use Rattle.sasi_manifest.specs.ListedFiles.{AreInOrder, with_files, without}
 use Rattle.sasi_manifest.specs.ListedTables.{IsInOrder, IsReplacedAt, listed}
 use Rattle.sasi_manifest.specs.Listings.{at_number, replaced}
+use Rattle.sasi_manifest.proofs.FileOrder.{AllInOrder, files_replaced, order_got, order_listed, order_push, order_set}
 use Rattle.sasi_manifest.proofs.Replacing.{unchanged}
 
 apart_push : (taken names : List Bytes) (name : Bytes) → AreApart taken names → IsFree (taken ++ names) name → AreApart taken (names ++ name ∷ [])
@@ -29,14 +30,15 @@ names_of [] = refl
 names_of (x ∷ xs) = ap (λ (l : List Bytes). x.table.name ∷ l) (names_of xs)
 
 pub in_order_push : (tables more : List ListedTable) (t : ListedTable) → IsInOrder tables → t.table.number ≡ length (map listed tables) + 1
-    → length (map listed tables) < 256 → IsFree (listed_names (map listed tables)) t.table.name → more ≡ tables ++ t ∷ [] → IsInOrder more
-in_order_push tables more t order numbered few free is = record {
+    → length (map listed tables) < 256 → IsFree (listed_names (map listed tables)) t.table.name → t.files ≡ [] → more ≡ tables ++ t ∷ [] → IsInOrder more
+in_order_push tables more t order numbered few free none is = record {
   numbers = subst (λ (l : List ℕ). RisesFrom 1 l) (sym (ap (map (λ (x : ListedTable). x.table.number)) is ∙ map-append (λ (x : ListedTable). x.table.number) tables (t ∷ [])))
       (rises_push 1 (map (λ (x : ListedTable). x.table.number) tables) t.table.number order.numbers
       (omega (arith, numbered, length-map tables listed, length-map tables (λ (x : ListedTable). x.table.number))));
   few = omega (arith, few, length-map tables listed, ap length is, length-append tables (t ∷ []));
   apart = subst (λ (l : List Bytes). AreApart [] l) (sym (ap (map (λ (x : ListedTable). x.table.name)) is ∙ map-append (λ (x : ListedTable). x.table.name) tables (t ∷ [])))
       (apart_push [] (map (λ (x : ListedTable). x.table.name) tables) t.table.name order.apart (subst (λ (l : List Bytes). IsFree l t.table.name) (names_of tables) free));
+  files = subst AllInOrder (sym is) (order_push tables t order.files (subst (λ (l : List ListedFile). AreInOrder 0 l) (sym none) tt));
 }
 
 -- the same tables once more
@@ -46,6 +48,7 @@ in_order_same tables copies order same numbers = record {
   numbers = subst (λ (l : List ℕ). RisesFrom 1 l) (sym numbers) order.numbers;
   few = omega (arith, order.few, length-map tables listed, length-map copies listed, ap length same);
   apart = subst (λ (l : List Bytes). AreApart [] l) (sym (sym (names_of copies) ∙ ap listed_names same ∙ names_of tables)) order.apart;
+  files = order_listed tables copies same order.files;
 }
 
 -- ---- files of a table in the place of others
@@ -85,19 +88,21 @@ kept : {B : Type 0} (g : ListedTable → B) (tables : List ListedTable) (i : ℕ
 kept g tables i t new is same = map_set g tables i new ∙ ap (set (map g tables) i) same ∙ set_same (map g tables) i (g t) (get_map g tables i t is)
 
 -- a list with one table changed, but for its number and its name
-pub in_order_set : (tables : List ListedTable) (i : ℕ) (t new : ListedTable) → IsInOrder tables → slice_get tables i ≡ Some t → new.table ≡ t.table → IsInOrder (set tables i new)
-in_order_set tables i t new order is same =
+pub in_order_set : (tables : List ListedTable) (i : ℕ) (t new : ListedTable) → IsInOrder tables → slice_get tables i ≡ Some t → new.table ≡ t.table → AreInOrder 0 new.files → IsInOrder (set tables i new)
+in_order_set tables i t new order is same files =
     record {
       numbers = subst (λ (l : List ℕ). RisesFrom 1 l) (sym (kept (λ (x : ListedTable). x.table.number) tables i t new is (ap (λ (x : Table). x.number) same))) order.numbers;
       few = omega (arith, order.few, length-set tables i new);
       apart = subst (λ (l : List Bytes). AreApart [] l) (sym (kept (λ (x : ListedTable). x.table.name) tables i t new is (ap (λ (x : Table). x.name) same))) order.apart;
+      files = order_set tables i new order.files files;
     }
 
 pub in_order_replaced : {A E : Type 0} (table : ℕ) (removed : List ℕ) (added : List ListedFile) (since : ℕ) (old new : List ListedTable) (result : Result A E) → IsInOrder old → 0 < table → table ≤ length (map listed old)
     → OnOk result (IsReplacedAt table removed added since old new) → OnErr result (new ≡ old) → IsInOrder new
 in_order_replaced table removed added since old new (Ok a) order some within ok err =
     let found = there old (table - 1) (omega (arith, some, within, length-map old listed)) in
-    subst IsInOrder (sym (ok found.0 found.1)) (in_order_set old (table - 1) found.0 (record found.0 { since = since; files = with_files added (without removed found.0.files) }) order found.1 refl)
+    subst IsInOrder (sym (ok found.0 found.1)) (in_order_set old (table - 1) found.0 (record found.0 { since = since; files = with_files added (without removed found.0.files) }) order found.1 refl
+    (files_replaced removed added found.0.files (order_got old (table - 1) found.0 order.files found.1)))
 in_order_replaced table removed added since old new (Err e) order some within ok err = subst IsInOrder (sym err) order
 
 pub listed_replaced : {A E : Type 0} (table : ℕ) (removed : List ℕ) (added : List ListedFile) (since : ℕ) (old new : List ListedTable) (seen : List ListedDefinition) (result : Result A E) → map listed old ≡ seen → 0 < table → table ≤ length seen

@@ -2,6 +2,7 @@ pub mod Applying
 pub mod Replacing
 pub mod Places
 pub mod EditBytes
+pub mod FileOrder
 pub mod Sizes
 pub mod Consistency
 pub mod Laws
@@ -12,4 +13,5 @@ pub mod Tagged
 pub mod CrashMoments
 pub mod Opening
 pub mod KeyWithin
+pub mod NumberTrees
 pub mod NumberedTypes

@@ -1,4 +1,5 @@
 pub mod Naming
+pub mod NumberSets
 pub mod ListedFiles
 pub mod ListedDefinition
 pub mod ListedTables

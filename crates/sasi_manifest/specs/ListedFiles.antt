@@ -1,5 +1,5 @@
 -- The data files that a manifest lists.
-use Rattle.std.specs.Prelude.{ℕ, ◌+◌, ◌*◌, length, not, nat_eq, nat_le, Bool, List, [], ◌∷◌, if◌then◌else◌, refl}
+use Rattle.std.specs.Prelude.{ℕ, ◌+◌, ◌*◌, ◌≤◌, length, not, nat_eq, nat_le, Bool, List, [], ◌∷◌, if◌then◌else◌, refl}
 use Rattle.std.specs.List.{filter, list_any}
 use Rattle.std.specs.Coded.{Coded, code_by, coded×, coded_ℕ, coded_list}
 use Rattle.sasi_manifest.specs.declared.files.ListedFile.{ListedFile}
@@ -26,6 +26,11 @@ with_file f (g ∷ gs) = if nat_le f.number g.number then f ∷ g ∷ gs else g 
 abbrev pub with_files : List ListedFile → List ListedFile → List ListedFile
 with_files [] files = files
 with_files (f ∷ added) files = with_files added (with_file f files)
+
+-- the numbers don't fall, and the first isn't below this one
+abbrev pub AreInOrder : ℕ → List ListedFile → Type 0
+AreInOrder least [] = Unit {0}
+AreInOrder least (f ∷ fs) = (least ≤ f.number) × AreInOrder f.number fs
 
 -- how many bytes a file takes in a record
 abbrev pub file_length : ListedFile → ℕ

@@ -1,22 +1,24 @@
 -- The list of tables in memory.
 use Rattle.std.specs.Prelude.{◌≡◌, ℕ, ◌-◌, ◌≤◌, List, [], length, map, slice_get, slice_set, Some}
+use Rattle.std.specs.List.{AllByRecursion}
 use Rattle.sasi_schema.specs.Defined.{definition}
 use Rattle.sasi_schema.specs.Numbers.{RisesFrom}
 use Rattle.sasi_manifest.specs.declared.files.ListedFile.{ListedFile}
 use Rattle.sasi_manifest.specs.declared.listed.ListedTable.{ListedTable}
 use Rattle.sasi_manifest.specs.ListedDefinition.{ListedDefinition}
-use Rattle.sasi_manifest.specs.ListedFiles.{with_files, without}
+use Rattle.sasi_manifest.specs.ListedFiles.{AreInOrder, with_files, without}
 use Rattle.sasi_manifest.specs.Naming.{AreApart}
 
 -- the model of a listed table
 abbrev pub listed : ListedTable → ListedDefinition
 listed t = record { definition = definition t.table; since = t.since; files = t.files }
 
--- numbered from 1, at most 256, and each of a name of its own
+-- numbered from 1, at most 256, each of a name of its own, and with files in the order of their numbers
 pub record IsInOrder (tables : List ListedTable) : Type 0 where
   pub numbers : RisesFrom 1 (map (λ t. t.table.number) tables)
   pub few : length tables ≤ 256
   pub apart : AreApart [] (map (λ t. t.table.name) tables)
+  pub files : AllByRecursion (λ t. AreInOrder 0 t.files) tables
 
 -- the table of this number has files in the place of others, and another first segment
 abbrev pub IsReplacedAt : ℕ → List ℕ → List ListedFile → ℕ → List ListedTable → List ListedTable → Type 0

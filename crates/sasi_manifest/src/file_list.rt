@@ -1,24 +1,31 @@
 // Lists of data files: which numbers they have, copies, and files in the place of others.
-ghost use Rattle.std.specs.Prelude.{◌≡◌, ◌≤◌, length, nat_le, IfOk, OnOk};
+ghost use Rattle.std.specs.Prelude.{◌≡◌, ◌+◌, ◌<◌, ◌≤◌, length, vec_len, vec_capacity, nat_eq, nat_le, slice_get, false, IfOk, OnOk, OnErr};
 ghost use Rattle.std.specs.List.{position_or_len};
-ghost use Rattle.sasi_manifest.specs.ListedFiles.{has_file, is_among, with_file, with_files, without};
+ghost use Rattle.std.specs.Option.{option_map_or};
+ghost use Rattle.sasi_manifest.specs.ListedFiles.{AreInOrder, has_file, with_file, with_files, without};
 
 use crate::files::{ListedFile, PartNumber, PartNumbers};
+use crate::number_set::NumberSet;
 use sasi_host::DataNumber;
 use std::alloc::{AllocError, Global};
+use std::collections::VecDeque;
 
-// Whether the number is one of these.
-pub fn is_among(numbers: &[DataNumber], number: DataNumber) -> bool
-    ensures { result ≡ is_among numbers.now number }
-{
-    numbers.iter().any(|other| number == *other)
-}
-
-// Whether one of the files has the number.
+// Whether one of the files, which are in the order of their numbers, has the number.
 pub fn has_file(files: &[ListedFile], number: DataNumber) -> bool
+    requires { AreInOrder 0 files.now }
     ensures { result ≡ has_file files.now number }
 {
-    files.iter().any(|file| number == file.number)
+    is_at(files, place_of(files, number), number)
+}
+
+// Whether the file at this position has the number.
+fn is_at(files: &[ListedFile], at: usize, number: DataNumber) -> bool
+    ensures { result ≡ option_map_or (λ f. nat_eq f.number number) (slice_get files.now at) false }
+{
+    match files.get(at) {
+        Some(file) => file.number == number,
+        None => false,
+    }
 }
 
 // A copy of parts.
@@ -54,59 +61,64 @@ pub fn copy_files(alloc: Global, files: &[ListedFile]) -> Result<Vec<ListedFile>
     Ok(copy)
 }
 
-// A copy of the files but for those of these numbers.
-fn copy_others(
-    alloc: Global,
-    files: &[ListedFile],
-    removed: &[DataNumber],
-) -> Result<Vec<ListedFile>, AllocError>
-    ensures { IfOk result (λ others. others.items ≡ without removed.now files.now) }
-{
-    let mut others = Vec::new(alloc);
-    for file in files {
-        if !is_among(removed, file.number) {
-            others.push(copy_file(alloc, file)?)?;
-        }
-    }
-    Ok(others)
-}
-
-// Puts a file at its place by its number.
-fn put_file(files: &mut Vec<ListedFile>, file: ListedFile) -> Result<(), AllocError>
-    ensures { OnOk result (files.new.items ≡ with_file file files.old.items) }
-{
-    let at = place_of(files, file.number);
-    files.insert(at, file)?;
-    Ok(())
-}
-
 // The first position of a file whose number isn't lower, or else the end.
 fn place_of(files: &[ListedFile], number: DataNumber) -> usize
+    requires { AreInOrder 0 files.now }
     ensures place { result ≡ position_or_len (λ f. nat_le number f.number) files.now }
     ensures within { result ≤ length files.now }
 {
-    let mut at = 0;
-    for file in files {
-        if number <= file.number {
-            return at;
-        }
-        at += 1;
-    }
-    at
+    files.partition_point(|file| file.number < number)
 }
 
-// The files with some in the place of others.
-pub fn replaced_files(
-    alloc: Global,
-    files: &[ListedFile],
-    removed: &[DataNumber],
-    added: &[ListedFile],
-) -> Result<Vec<ListedFile>, AllocError>
-    ensures { IfOk result (λ made. made.items ≡ with_files added.now (without removed.now files.now)) }
+// Puts files in the place of those of these numbers.
+pub fn replace_files(
+    files: &mut Vec<ListedFile>,
+    removed: &NumberSet,
+    added: Vec<ListedFile>,
+) -> Result<(), AllocError>
+    requires { AreInOrder 0 files.old.items }
+    ensures ok { OnOk result (files.new.items ≡ with_files added.items (without removed.now files.old.items)) }
+    ensures err { OnErr result (files.new.items ≡ files.old.items) }
 {
-    let mut made = copy_others(alloc, files, removed)?;
-    for file in added {
-        put_file(&mut made, copy_file(alloc, file)?)?;
+    files.reserve(added.len())?;
+    remove_files(files, removed);
+    put_files(files, added);
+    Ok(())
+}
+
+// Removes the files of these numbers.
+fn remove_files(files: &mut Vec<ListedFile>, removed: &NumberSet)
+    ensures items { files.new.items ≡ without removed.now files.old.items }
+    ensures length { vec_len files.new ≤ vec_len files.old }
+    ensures room { vec_capacity files.new ≡ vec_capacity files.old }
+{
+    if removed.is_empty() {
+        return;
     }
-    Ok(made)
+    files.retain(|file| !removed.has(file.number));
+}
+
+// Puts files at their places, for which there is room.
+fn put_files(files: &mut Vec<ListedFile>, added: Vec<ListedFile>)
+    requires order { AreInOrder 0 files.old.items }
+    requires room { vec_len files.old + vec_len added ≤ vec_capacity files.old }
+    ensures { files.new.items ≡ with_files added.items files.old.items }
+{
+    let mut added = VecDeque::from_vec(added);
+    'files: while let Some(file) = added.pop_front() {
+        put_file(files, file);
+    }
+}
+
+// Puts a file at its place by its number, for which there is room.
+fn put_file(files: &mut Vec<ListedFile>, file: ListedFile)
+    requires order { AreInOrder 0 files.old.items }
+    requires room { vec_len files.old < vec_capacity files.old }
+    ensures items { files.new.items ≡ with_file file files.old.items }
+    ensures order { AreInOrder 0 files.new.items }
+    ensures length { vec_len files.new ≡ vec_len files.old + 1 }
+    ensures room { vec_capacity files.old ≤ vec_capacity files.new }
+{
+    let at = place_of(files, file.number);
+    let _ = files.insert(at, file);
 }

@@ -1,6 +1,8 @@
 // The data files that a manifest lists.
 ghost use Rattle.std.specs.Prelude.{◌≡◌, ◌++◌, ◌∷◌, [], OnOk, OnErr};
 
+use crate::file_list::replace_files;
+use crate::number_set::NumberSet;
 use sasi_formats::Items;
 use sasi_host::DataNumber;
 use std::alloc::{AllocError, Global};
@@ -46,6 +48,8 @@ impl Model for ListedFiles {
 }
 
 impl ListedFiles {
+    ghost use Rattle.sasi_manifest.specs.ListedFiles.{AreInOrder, with_files, without};
+
     /// No files.
     pub fn new(alloc: Global) -> ListedFiles
         ensures { result ≡ [] }
@@ -76,5 +80,18 @@ impl ListedFiles {
     {
         self.items.push(file)?;
         Ok(())
+    }
+
+    // Puts files in the place of those of these numbers.
+    pub(crate) fn replace(
+        &mut self,
+        removed: &NumberSet,
+        added: Vec<ListedFile>,
+    ) -> Result<(), AllocError>
+        requires { AreInOrder 0 self.old }
+        ensures ok { OnOk result (self.new ≡ with_files added.items (without removed.now self.old)) }
+        ensures err { OnErr result (self.new ≡ self.old) }
+    {
+        replace_files(&mut self.items, removed, added)
     }
 }

@@ -15,6 +15,8 @@ mod files;
 mod listed;
 mod listing;
 mod manifest;
+mod new_files;
+mod number_set;
 mod open;
 mod put;
 mod read_edit;

@@ -5,7 +5,9 @@ ghost use Rattle.sasi_schema.specs.Numbers.{RisesFrom};
 ghost use Rattle.sasi_manifest.specs.Naming.{AreApart, IsFree};
 
 use crate::files::{ListedFile, ListedFiles};
-use crate::table_list::{are_within, copies, files_at, is_file_listed, is_listed, replace_at};
+use crate::table_list::{
+    are_within, copies, files_at, is_file_listed, is_file_of, is_listed, replace_at,
+};
 use sasi_host::{DataNumber, SegmentNumber};
 use sasi_schema::Table;
 use sasi_types::TableNumber;
@@ -81,6 +83,13 @@ impl ListedTables {
         ensures { result ≡ list_any (λ t. has_file t.files number) self.now }
     {
         is_file_listed(number, &self.items)
+    }
+
+    /// Whether a file of the table with this number has the number.
+    pub fn has_file_of(&self, table: TableNumber, number: DataNumber) -> bool
+        ensures { result ≡ has_file (files_of self.now table) number }
+    {
+        is_file_of(&self.items, table, number)
     }
 
     /// The files of the table with this number; none where there is no such table.

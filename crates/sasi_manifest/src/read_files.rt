@@ -1,12 +1,13 @@
 // The files of a replacement in a record.
-ghost use Rattle.std.specs.Prelude.{◌≡◌};
-ghost use Rattle.sasi_formats.specs.Reader.{read};
+ghost use Rattle.std.specs.Prelude.{◌≡◌, []};
+ghost use Rattle.sasi_formats.specs.Reader.{read, read_items as items_of};
 ghost use Rattle.sasi_formats.specs.Gives.{Gives};
 ghost use Rattle.sasi_manifest.specs.Edits.{files, files_of, is_current, is_new, is_taken, new_file, new_files, new_number, part, parts, removed_number, removed_numbers};
 
-use crate::file_list::{has_file, is_among};
 use crate::files::{ListedFile, ListedFiles, NumberList, PartNumber, PartNumbers};
 use crate::listed::ListedTables;
+use crate::new_files::NewFiles;
+use crate::number_set::NumberSet;
 use sasi_fields::FieldReader;
 use sasi_formats::{
     FieldStart, FormatFault, ReadItem, read_items, read_u16, read_u32, read_u32_in_range,
@@ -26,7 +27,7 @@ pub fn read_files(
 {
     let removed = read_removed(alloc, reader, tables, table)?;
     let added = read_added(alloc, reader, tables, &removed)?;
-    Ok((removed, added))
+    Ok((removed.into_list(), added.into_files()))
 }
 
 // Reads numbers of files of a table.
@@ -35,16 +36,58 @@ fn read_removed(
     reader: &mut FieldReader,
     tables: &ListedTables,
     table: TableNumber,
-) -> Result<NumberList, FormatFault>
+) -> Result<NumberSet, FormatFault>
     ensures { Gives (read (removed_numbers (files_of tables.now table)) reader.old) result reader.new }
 {
     let count = read_u32(reader)?;
-    read_items(
-        alloc,
-        reader,
-        count as usize,
-        &ReadRemoved { tables, table },
-    )
+    read_each_removed(alloc, reader, tables, table, count)
+}
+
+// Reads so many numbers of files of a table.
+fn read_each_removed(
+    alloc: Global,
+    reader: &mut FieldReader,
+    tables: &ListedTables,
+    table: TableNumber,
+    count: u32,
+) -> Result<NumberSet, FormatFault>
+    ensures { Gives (items_of (λ before. read (removed_number (files_of tables.now table) before)) count [] reader.old) result reader.new }
+{
+    let mut removed = NumberSet::new(alloc);
+    for _turn in 0..count {
+        let next = read_removed_number(reader, tables, table, &removed)?;
+        removed = removed.with(next)?;
+    }
+    Ok(removed)
+}
+
+// Reads the number of a file of a table that isn't among those before.
+fn read_removed_number(
+    reader: &mut FieldReader,
+    tables: &ListedTables,
+    table: TableNumber,
+    before: &NumberSet,
+) -> Result<DataNumber, FormatFault>
+    ensures { Gives (read (removed_number (files_of tables.now table) before.now) reader.old) result reader.new }
+{
+    let start = FieldStart::of(reader);
+    let number = read_u32(reader)?;
+    if !is_current(tables, table, before, number) {
+        return Err(start.broken(FormatRule::Number, 4));
+    }
+    Ok(number)
+}
+
+// Whether a file of the table has the number, and it isn't removed.
+fn is_current(
+    tables: &ListedTables,
+    table: TableNumber,
+    removed: &NumberSet,
+    number: DataNumber,
+) -> bool
+    ensures { result ≡ is_current (files_of tables.now table) removed.now number }
+{
+    tables.has_file_of(table, number) && !removed.has(number)
 }
 
 // Reads files whose numbers are new once others are removed.
@@ -52,85 +95,53 @@ fn read_added(
     alloc: Global,
     reader: &mut FieldReader,
     tables: &ListedTables,
-    removed: &NumberList,
-) -> Result<ListedFiles, FormatFault>
+    removed: &NumberSet,
+) -> Result<NewFiles, FormatFault>
     ensures { Gives (read (new_files tables.now removed.now) reader.old) result reader.new }
 {
     let count = read_u32(reader)?;
-    let files = read_items(
-        alloc,
-        reader,
-        count as usize,
-        &ReadAdded { tables, removed },
-    )?;
-    Ok(ListedFiles::from_vec(files.into_vec()))
+    read_each_added(alloc, reader, tables, removed, count)
 }
 
-// Reads the number of a file of a table that wasn't read before.
-#[derive(Drop)]
-struct ReadRemoved<'a> {
-    tables: &'a ListedTables,
-    table: TableNumber,
-}
-
-impl<'a> ReadItem<DataNumber> for ReadRemoved<'a> {
-    ghost format = { λ r before. removed_number (files_of r.tables.now r.table) before };
-
-    fn read(
-        &self,
-        _alloc: Global,
-        before: &[DataNumber],
-        reader: &mut FieldReader,
-    ) -> Result<DataNumber, FormatFault> {
-        let start = FieldStart::of(reader);
-        let number = read_u32(reader)?;
-        if !is_current(self.tables, self.table, before, number) {
-            return Err(start.broken(FormatRule::Number, 4));
-        }
-        Ok(number)
-    }
-}
-
-// Whether a file of the table has the number, and it isn't removed.
-fn is_current(
+// Reads so many files whose numbers are new.
+fn read_each_added(
+    alloc: Global,
+    reader: &mut FieldReader,
     tables: &ListedTables,
-    table: TableNumber,
-    removed: &[DataNumber],
-    number: DataNumber,
-) -> bool
-    ensures { result ≡ is_current (files_of tables.now table) removed.now number }
+    removed: &NumberSet,
+    count: u32,
+) -> Result<NewFiles, FormatFault>
+    ensures { Gives (items_of (λ before. read (new_file tables.now removed.now before)) count [] reader.old) result reader.new }
 {
-    has_file(tables.files_of(table), number) && !is_among(removed, number)
+    let mut added = NewFiles::new(alloc);
+    for _turn in 0..count {
+        let next = read_file(alloc, reader, tables, removed, &added)?;
+        added = added.with(next)?;
+    }
+    Ok(added)
 }
 
 // Reads a file whose number is new once others are removed.
-#[derive(Drop)]
-struct ReadAdded<'a> {
-    tables: &'a ListedTables,
-    removed: &'a NumberList,
-}
-
-impl<'a> ReadItem<ListedFile> for ReadAdded<'a> {
-    ghost format = { λ r before. new_file r.tables.now r.removed.now before };
-
-    fn read(
-        &self,
-        alloc: Global,
-        before: &[ListedFile],
-        reader: &mut FieldReader,
-    ) -> Result<ListedFile, FormatFault> {
-        let number = read_number(reader, self.tables, self.removed, before)?;
-        let parts = read_parts(alloc, reader)?;
-        Ok(ListedFile { number, parts })
-    }
+fn read_file(
+    alloc: Global,
+    reader: &mut FieldReader,
+    tables: &ListedTables,
+    removed: &NumberSet,
+    before: &NewFiles,
+) -> Result<ListedFile, FormatFault>
+    ensures { Gives (read (new_file tables.now removed.now before.now) reader.old) result reader.new }
+{
+    let number = read_number(reader, tables, removed, before)?;
+    let parts = read_parts(alloc, reader)?;
+    Ok(ListedFile { number, parts })
 }
 
 // Reads a number that is new.
 fn read_number(
     reader: &mut FieldReader,
     tables: &ListedTables,
-    removed: &NumberList,
-    before: &[ListedFile],
+    removed: &NumberSet,
+    before: &NewFiles,
 ) -> Result<DataNumber, FormatFault>
     ensures { Gives (read (new_number tables.now removed.now before.now) reader.old) result reader.new }
 {
@@ -143,22 +154,17 @@ fn read_number(
 }
 
 // Whether no file that stays has the number, and none that was added before.
-fn is_new(
-    tables: &ListedTables,
-    removed: &NumberList,
-    before: &[ListedFile],
-    number: DataNumber,
-) -> bool
+fn is_new(tables: &ListedTables, removed: &NumberSet, before: &NewFiles, number: DataNumber) -> bool
     ensures { result ≡ is_new tables.now removed.now before.now number }
 {
-    !is_taken(tables, removed, number) && !has_file(before, number)
+    !is_taken(tables, removed, number) && !before.has(number)
 }
 
 // Whether a file that stays has the number.
-fn is_taken(tables: &ListedTables, removed: &NumberList, number: DataNumber) -> bool
+fn is_taken(tables: &ListedTables, removed: &NumberSet, number: DataNumber) -> bool
     ensures { result ≡ is_taken tables.now removed.now number }
 {
-    tables.has_file(number) && !is_among(removed.as_slice(), number)
+    tables.has_file(number) && !removed.has(number)
 }
 
 // Reads the number of parts, and each of them.

@@ -1,15 +1,16 @@
 // Lists of listed tables: names, files and copies.
 ghost use Rattle.std.specs.Prelude.{◌≡◌, ◌-◌, ◌<◌, ◌≤◌, length, map, slice_get, slice_set, Some, IfOk, OnOk, OnErr};
-ghost use Rattle.std.specs.List.{list_any};
+ghost use Rattle.std.specs.List.{AllByRecursion, list_any};
 ghost use Rattle.sasi_model.specs.Statements.{same};
 ghost use Rattle.sasi_manifest.specs.Edits.{are_within, files_of};
-ghost use Rattle.sasi_manifest.specs.ListedFiles.{has_file};
+ghost use Rattle.sasi_manifest.specs.ListedFiles.{AreInOrder, has_file};
 ghost use Rattle.sasi_manifest.specs.ListedTables.{IsReplacedAt, listed};
 ghost use Rattle.sasi_manifest.specs.Abbreviations.{listed_names};
 
 use crate::ListedTable;
-use crate::file_list::{copy_files, has_file, replaced_files};
+use crate::file_list::{copy_files, has_file};
 use crate::files::{ListedFile, ListedFiles};
+use crate::number_set::NumberSet;
 use sasi_host::{DataNumber, SegmentNumber};
 use sasi_types::TableNumber;
 use std::alloc::{AllocError, Global};
@@ -28,6 +29,7 @@ pub fn is_listed(name: &[u8], tables: &[ListedTable]) -> bool
 
 // Whether one of the tables has a file of this number.
 pub fn is_file_listed(number: DataNumber, tables: &[ListedTable]) -> bool
+    requires { AllByRecursion (λ t. AreInOrder 0 t.files) tables.now }
     ensures { result ≡ list_any (λ t. has_file t.files number) (map listed tables.now) }
 {
     for table in tables {
@@ -46,6 +48,14 @@ pub fn files_at(tables: &[ListedTable], table: TableNumber) -> &[ListedFile]
         Some(found) => found.files.as_slice(),
         None => &[],
     }
+}
+
+// Whether a file of the table with this number has the number.
+pub fn is_file_of(tables: &[ListedTable], table: TableNumber, number: DataNumber) -> bool
+    requires { AllByRecursion (λ t. AreInOrder 0 t.files) tables.now }
+    ensures { result ≡ has_file (files_of (map listed tables.now) table) number }
+{
+    has_file(files_at(tables, table), number)
 }
 
 // Whether no table but this one begins after the segment.
@@ -74,12 +84,14 @@ pub fn replace_at(
 ) -> Result<(), AllocError>
     requires some { 0 < table }
     requires within { table ≤ length tables.old.items }
+    requires order { AllByRecursion (λ t. AreInOrder 0 t.files) tables.old.items }
     ensures ok { OnOk result (IsReplacedAt table removed.now added.now since tables.old.items tables.new.items) }
     ensures err { OnErr result (tables.new.items ≡ tables.old.items) }
 {
+    let removed = NumberSet::of(alloc, removed)?;
+    let added = copy_files(alloc, added)?;
     let changed = &mut tables[table as usize - 1];
-    let files = replaced_files(alloc, changed.files.as_slice(), removed, added)?;
-    changed.files = ListedFiles::from_vec(files);
+    changed.files.replace(&removed, added)?;
     changed.since = since;
     Ok(())
 }
