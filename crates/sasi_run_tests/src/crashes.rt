@@ -1,179 +1,272 @@
 // What a run finds after a crash or a fault at any call of an earlier one.
-use crate::runs::{SCRIPT, SELECT, crashed, picks, run_script};
+use crate::cases::{Answer, Case, flush, flushes_of_two_tables, insert};
+use crate::runs::{crashed, picks, run_script};
 use sasi_host::{MemHost, Pick};
 use sasi_run::{Status, starts_again};
 use std::alloc::Global;
 use std::process::Abort;
 
-/// The replies that a run of the script emits, if it gets so far.
-const REPLIES: [&str; 3] = ["", "ok\n", "ok\nok\n"];
+/// The replies of a script of nine statements.
+const REPLIES: &str = "ok\nok\nok\nok\nok\nok\nok\nok\nok\n";
 
-/// What the selection answers after so many statements of the script.
-const ANSWERS: [(Status, &str); 3] = [
-    (Status::Refused(1), "error 4 NoTable t\n"),
-    (Status::Done, "(0 rows)\n"),
-    (Status::Done, "'k1' | 'x'\n(1 rows)\n"),
-];
-
-/// How many replies of the script were emitted: all of them whole.
+/// How many replies were emitted: all of them whole.
 fn replies_in(rt: &impl Abort, emitted: &[u8]) -> usize {
-    REPLIES
-        .iter()
-        .position(|replies| replies.as_bytes() == emitted)
-        .expect(rt, "whole replies")
+    assert!(rt;
+        REPLIES.as_bytes().starts_with(emitted) && emitted.len() % 3 == 0,
+        "whole replies"
+    );
+    emitted.len() / 3
 }
 
-/// After how many statements of the script the folder's state comes, by what a run answers on it.
-fn statements_in(rt: &impl Abort, alloc: Global, host: &mut MemHost) -> usize {
-    let (status, emitted) = run_script(rt, alloc, SELECT, host);
-    ANSWERS
+// Whether a run answered so.
+fn is_answer(answer: &Answer<'_>, status: Status, emitted: &[u8]) -> bool {
+    answer.status == status
+        && emitted.starts_with(answer.first.as_bytes())
+        && emitted.get(answer.first.len()..) == Some(answer.second.as_bytes())
+}
+
+/// The folder's state, by what a run answers on it.
+fn state_in(rt: &impl Abort, alloc: Global, case: &Case<'_>, host: &mut MemHost) -> usize {
+    let (status, emitted) = run_script(rt, alloc, case.question, host);
+    case.answers
         .iter()
-        .position(|(ended, answer)| *ended == status && answer.as_bytes() == emitted.as_slice())
+        .position(|answer| is_answer(answer, status, &emitted))
         .expect(rt, "an answer")
 }
 
-/// The state is that after the statements whose replies were emitted, or after one more. Gives how many.
-fn check_state(rt: &impl Abort, alloc: Global, host: &mut MemHost, replies: usize) -> usize {
-    let statements = statements_in(rt, alloc, host);
+/// The state is that after the statements whose replies were emitted, or after one more. Gives it.
+fn check_state(
+    rt: &impl Abort,
+    alloc: Global,
+    case: &Case<'_>,
+    host: &mut MemHost,
+    replies: usize,
+) -> usize {
+    let found = state_in(rt, alloc, case, host);
+    let mut states = case.states.iter().skip(replies).take(2);
     assert!(rt;
-        statements >= replies && statements - replies <= 1,
-        "{statements} statements after {replies} replies"
+        states.any(|state| *state == found),
+        "state {found} after {replies} replies"
     );
-    statements
+    found
 }
 
 /// A crash by this pick of a stopped host leaves the state, from which a run starts again.
-fn check_left(rt: &impl Abort, alloc: Global, stopped: &MemHost, pick: Pick, statements: usize) {
+fn check_left(
+    rt: &impl Abort,
+    alloc: Global,
+    case: &Case<'_>,
+    stopped: &MemHost,
+    pick: Pick,
+    state: usize,
+) {
     let mut left = crashed(rt, stopped, pick);
     starts_again(stopped, &left);
-    assert!(rt; statements_in(rt, alloc, &mut left) == statements);
+    assert!(rt; state_in(rt, alloc, case, &mut left) == state);
 }
 
 /// Each crash of a stopped host leaves the state.
-fn check_each_left(rt: &impl Abort, alloc: Global, stopped: &MemHost, statements: usize) {
+fn check_each_left(
+    rt: &impl Abort,
+    alloc: Global,
+    case: &Case<'_>,
+    stopped: &MemHost,
+    state: usize,
+) {
     for pick in picks() {
-        check_left(rt, alloc, stopped, pick, statements);
+        check_left(rt, alloc, case, stopped, pick, state);
     }
 }
 
-/// Whether an opening of this host, which is stopped, goes through. One that doesn't emits nothing.
-fn is_opened(rt: &impl Abort, alloc: Global, host: &mut MemHost) -> bool {
-    let (status, emitted) = run_script(rt, alloc, SELECT, host);
-    let is_opened = !matches!(status, Status::FolderFault | Status::OutputFault);
-    assert!(rt; is_opened || emitted.is_empty());
-    is_opened
+// Whether what a run emitted that was stopped is nothing, or the first of two replies.
+fn is_first_part(answer: &Answer<'_>, emitted: &[u8]) -> bool {
+    emitted.is_empty() || (!answer.second.is_empty() && answer.first.as_bytes() == emitted)
 }
 
-/// Each crash in an opening that is stopped after so many calls leaves the state. Tells whether the run went through.
+/// Whether a run over this host, which is stopped, goes through. One that doesn't emits a first part of the state's answer.
+fn goes_through(
+    rt: &impl Abort,
+    alloc: Global,
+    case: &Case<'_>,
+    host: &mut MemHost,
+    state: usize,
+) -> bool {
+    let (status, emitted) = run_script(rt, alloc, case.question, host);
+    if !matches!(status, Status::FolderFault | Status::OutputFault) {
+        return true;
+    }
+    let answer = case.answers.get(state).expect(rt, "an answer");
+    assert!(rt; is_first_part(answer, &emitted));
+    false
+}
+
+/// Each crash in a run that is stopped after so many calls leaves the state. Tells whether the run went through.
 fn check_stopped_opening(
     rt: &impl Abort,
     alloc: Global,
+    case: &Case<'_>,
     host: &MemHost,
-    pick: Pick,
     stop: u64,
-    statements: usize,
+    state: usize,
 ) -> bool {
-    let mut stopped = crashed(rt, host, pick);
+    let mut stopped = crashed(rt, host, picks()[0]);
     stopped.stop_after(stop);
-    let is_opened = is_opened(rt, alloc, &mut stopped);
-    check_each_left(rt, alloc, &stopped, statements);
-    is_opened
+    let went_through = goes_through(rt, alloc, case, &mut stopped, state);
+    check_each_left(rt, alloc, case, &stopped, state);
+    went_through
 }
 
-/// Crashes at each call of the opening leave the state, by every pick. Nothing is pending on the host.
-fn check_opening(rt: &impl Abort, alloc: Global, host: &MemHost, pick: Pick, statements: usize) {
-    for stop in 0..40 {
-        if check_stopped_opening(rt, alloc, host, pick, stop, statements) {
+/// Crashes at each call of an opening, and of the answers behind it, leave the state. Nothing is pending on the host.
+fn check_opening(rt: &impl Abort, alloc: Global, case: &Case<'_>, host: &MemHost, state: usize) {
+    for stop in 0..80 {
+        if check_stopped_opening(rt, alloc, case, host, stop, state) {
             return;
         }
     }
     panic!(rt; "the opening doesn't end");
 }
 
-/// A crash by this pick leaves the state after these replies or one statement more. Gives how many.
+/// A crash by this pick leaves the state after these replies or one statement more. Gives it.
 fn check_picked(
     rt: &impl Abort,
     alloc: Global,
+    case: &Case<'_>,
     host: &MemHost,
     pick: Pick,
     replies: usize,
 ) -> usize {
-    check_state(rt, alloc, &mut crashed(rt, host, pick), replies)
+    check_state(rt, alloc, case, &mut crashed(rt, host, pick), replies)
 }
 
 /// So it does where its recovery is cut off by any crash, and a run follows.
-fn check_crash(rt: &impl Abort, alloc: Global, host: &MemHost, pick: Pick, replies: usize) {
-    let statements = check_picked(rt, alloc, host, pick, replies);
-    check_opening(rt, alloc, &crashed(rt, host, pick), pick, statements);
+fn check_crash(
+    rt: &impl Abort,
+    alloc: Global,
+    case: &Case<'_>,
+    host: &MemHost,
+    pick: Pick,
+    replies: usize,
+) {
+    let state = check_picked(rt, alloc, case, host, pick, replies);
+    check_opening(rt, alloc, case, &crashed(rt, host, pick), state);
 }
 
-/// The status of a run that is stopped after so many calls. Thirteen calls make the folder, four record a statement, and one
-/// emits its reply.
-fn status_after(stop: u64) -> Status {
-    match stop {
-        17 | 22 => Status::OutputFault,
-        23 => Status::Done,
-        _ => Status::FolderFault,
+/// The status of a run that is stopped after so many calls.
+fn status_after(case: &Case<'_>, stop: u64) -> Status {
+    if case.emits.contains(&stop) {
+        return Status::OutputFault;
     }
+    if case.emits.iter().all(|emit| *emit < stop) {
+        return Status::Done;
+    }
+    Status::FolderFault
+}
+
+/// How many replies such a run emits.
+fn replies_after(case: &Case<'_>, stop: u64) -> usize {
+    case.emits.iter().filter(|emit| **emit < stop).count()
 }
 
 /// The host of such a run, and how many replies were emitted.
-fn stopped_run(rt: &impl Abort, alloc: Global, stop: u64) -> (MemHost, usize) {
+fn stopped_run(rt: &impl Abort, alloc: Global, case: &Case<'_>, stop: u64) -> (MemHost, usize) {
     let mut host = MemHost::new(alloc);
     host.stop_after(stop);
-    let (status, emitted) = run_script(rt, alloc, SCRIPT, &mut host);
+    let (status, emitted) = run_script(rt, alloc, case.script, &mut host);
     assert!(rt;
-        status == status_after(stop),
+        status == status_after(case, stop),
         "the status after {stop} calls"
     );
     (host, replies_in(rt, &emitted))
 }
 
 /// Crashes of a run that is stopped after so many calls.
-fn check_stopped(rt: &impl Abort, alloc: Global, stop: u64) {
-    let (host, replies) = stopped_run(rt, alloc, stop);
-    assert!(rt; replies == usize::from(stop >= 18) + usize::from(stop >= 23));
+fn check_stopped(rt: &impl Abort, alloc: Global, case: &Case<'_>, stop: u64) {
+    let (host, replies) = stopped_run(rt, alloc, case, stop);
+    assert!(rt; replies == replies_after(case, stop));
     for pick in picks() {
-        check_crash(rt, alloc, &host, pick, replies);
+        check_crash(rt, alloc, case, &host, pick, replies);
+    }
+}
+
+// How many calls a run of the script makes.
+fn calls_of(case: &Case<'_>) -> u64 {
+    case.emits.last().map_or(0, |emit| emit.saturating_add(1))
+}
+
+/// Crashes of runs that are stopped after each number of calls.
+fn check_each_stopped(rt: &impl Abort, alloc: Global, case: &Case<'_>) {
+    for stop in 0..=calls_of(case) {
+        check_stopped(rt, alloc, case, stop);
     }
 }
 
 #[test]
 fn crash_leaves_what_was_answered_or_one_more(rt: HostRuntime) {
-    for stop in 0..24 {
-        check_stopped(&rt, rt.alloc(), stop);
-    }
+    check_each_stopped(&rt, rt.alloc(), &insert());
+}
+
+#[test]
+fn crash_in_a_flush_leaves_the_state(rt: HostRuntime) {
+    check_each_stopped(&rt, rt.alloc(), &flush());
+}
+
+#[test]
+fn crash_in_flushes_of_two_tables_leaves_what_was_answered_or_one_more(rt: HostRuntime) {
+    check_each_stopped(&rt, rt.alloc(), &flushes_of_two_tables());
 }
 
 /// Each crash leaves the state after these replies or one statement more.
-fn check_crashes(rt: &impl Abort, alloc: Global, host: &MemHost, replies: usize) {
+fn check_crashes(rt: &impl Abort, alloc: Global, case: &Case<'_>, host: &MemHost, replies: usize) {
     for pick in picks() {
-        check_picked(rt, alloc, host, pick, replies);
+        check_picked(rt, alloc, case, host, pick, replies);
     }
 }
 
 /// A run whose call of this number on the disk fails. Gives the host, and how many replies were emitted.
-fn failed_run(rt: &impl Abort, alloc: Global, failing: u64) -> (MemHost, usize) {
+fn failed_run(rt: &impl Abort, alloc: Global, case: &Case<'_>, failing: u64) -> (MemHost, usize) {
     let mut host = MemHost::new(alloc);
     host.fail_disk(vec![in alloc; failing].expect(rt, "memory"));
-    let (status, emitted) = run_script(rt, alloc, SCRIPT, &mut host);
+    let (status, emitted) = run_script(rt, alloc, case.script, &mut host);
     assert!(rt; status == Status::FolderFault);
     (host, replies_in(rt, &emitted))
 }
 
-fn check_failing(rt: &impl Abort, alloc: Global, failing: u64) {
-    let (mut host, replies) = failed_run(rt, alloc, failing);
-    assert!(rt; replies == usize::from(failing > 17));
-    check_crashes(rt, alloc, &host, replies);
+// How many replies are emitted before the call of this number on the disk.
+fn replies_before(case: &Case<'_>, call: u64) -> usize {
+    let mut replies = 0;
+    for emit in case.emits {
+        // The emits themselves are no calls on the disk.
+        if *emit < call.saturating_add(replies) {
+            replies = replies.saturating_add(1);
+        }
+    }
+    replies as usize
+}
+
+fn check_failing(rt: &impl Abort, alloc: Global, case: &Case<'_>, failing: u64) {
+    let (mut host, replies) = failed_run(rt, alloc, case, failing);
+    assert!(rt; replies == replies_before(case, failing));
+    check_crashes(rt, alloc, case, &host, replies);
     // What a later run on this host finds, a crash then leaves.
     host.fail_disk(Vec::new(alloc));
-    let statements = check_state(rt, alloc, &mut host, replies);
-    check_each_left(rt, alloc, &host, statements);
+    let state = check_state(rt, alloc, case, &mut host, replies);
+    check_each_left(rt, alloc, case, &host, state);
+}
+
+/// Each call on the disk fails once, and ends the run.
+fn check_each_failing(rt: &impl Abort, alloc: Global, case: &Case<'_>) {
+    let calls = calls_of(case).saturating_sub(case.emits.len() as u64);
+    for failing in 1..=calls {
+        check_failing(rt, alloc, case, failing);
+    }
 }
 
 #[test]
 fn failed_call_ends_the_run(rt: HostRuntime) {
-    for failing in 1..22 {
-        check_failing(&rt, rt.alloc(), failing);
-    }
+    check_each_failing(&rt, rt.alloc(), &insert());
+}
+
+#[test]
+fn failed_call_of_a_flush_ends_the_run(rt: HostRuntime) {
+    check_each_failing(&rt, rt.alloc(), &flushes_of_two_tables());
 }

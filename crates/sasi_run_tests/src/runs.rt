@@ -42,11 +42,6 @@ pub fn run_script(
     (status, emitted.to_vec(alloc).expect(rt, "memory"))
 }
 
-pub const SCRIPT: &str =
-    "CREATE TABLE t (k text PRIMARY KEY, a text); INSERT INTO t (k, a) VALUES ('k1', 'x') USING TIMESTAMP 5;";
-
-pub const SELECT: &str = "SELECT * FROM t;";
-
 fn pick(names: NamePick, bytes: BytePick) -> Pick {
     Pick { names, bytes }
 }

@@ -1,0 +1,122 @@
+// Scripts of which every crash is tried, and what a folder is asked then.
+use sasi_run::Status;
+
+/// What a state answers: the status of a run, and its replies, of which the second may be empty.
+#[derive(Clone, Copy)]
+pub struct Answer<'a> {
+    pub status: Status,
+    pub first: &'a str,
+    pub second: &'a str,
+}
+
+/// A script of which each statement answers `ok`.
+#[derive(Clone, Copy)]
+pub struct Case<'a> {
+    pub script: &'a str,
+    /// How many calls a run makes before it emits each reply. Thirteen make the folder, and a statement that isn't a flush is
+    /// recorded by four.
+    pub emits: &'a [u64],
+    /// What a folder is asked.
+    pub question: &'a str,
+    pub answers: &'a [Answer<'a>],
+    /// The state after so many statements: the position of its answer.
+    pub states: &'a [usize],
+}
+
+static INSERT_EMITS: [u64; 2] = [17, 22];
+
+static INSERT_STATES: [usize; 3] = [0, 1, 2];
+
+static ONE_TABLE: [Answer<'static>; 3] = [
+    Answer {
+        status: Status::Refused(1),
+        first: "error 4 NoTable t\n",
+        second: "",
+    },
+    Answer {
+        status: Status::Done,
+        first: "(0 rows)\n",
+        second: "",
+    },
+    Answer {
+        status: Status::Done,
+        first: "'k1' | 'x'\n(1 rows)\n",
+        second: "",
+    },
+];
+
+/// A table, and a row.
+pub fn insert() -> Case<'static> {
+    Case {
+        script: "CREATE TABLE t (k text PRIMARY KEY, a text); INSERT INTO t (k, a) VALUES ('k1', 'x') USING TIMESTAMP 5;",
+        emits: &INSERT_EMITS,
+        question: "SELECT * FROM t;",
+        answers: &ONE_TABLE,
+        states: &INSERT_STATES,
+    }
+}
+
+static FLUSH_EMITS: [u64; 3] = [17, 22, 41];
+
+static FLUSH_STATES: [usize; 4] = [0, 1, 2, 2];
+
+/// A table, a row, and a flush: a flush leaves the state as it is.
+pub fn flush() -> Case<'static> {
+    Case {
+        script: "CREATE TABLE t (k text PRIMARY KEY, a text); INSERT INTO t (k, a) VALUES ('k1', 'x'); FLUSH t;",
+        emits: &FLUSH_EMITS,
+        question: "SELECT * FROM t;",
+        answers: &ONE_TABLE,
+        states: &FLUSH_STATES,
+    }
+}
+
+static FLUSHES_EMITS: [u64; 7] = [17, 22, 27, 32, 50, 55, 74];
+
+static FLUSHES_STATES: [usize; 8] = [0, 1, 2, 3, 4, 4, 5, 5];
+
+static TWO_TABLES: [Answer<'static>; 6] = [
+    Answer {
+        status: Status::Refused(2),
+        first: "error 4 NoTable t\n",
+        second: "error 4 NoTable u\n",
+    },
+    Answer {
+        status: Status::Refused(1),
+        first: "(0 rows)\n",
+        second: "error 4 NoTable u\n",
+    },
+    Answer {
+        status: Status::Done,
+        first: "(0 rows)\n",
+        second: "(0 rows)\n",
+    },
+    Answer {
+        status: Status::Done,
+        first: "(0 rows)\n",
+        second: "1\n(1 rows)\n",
+    },
+    Answer {
+        status: Status::Done,
+        first: "'k1' | 'x'\n(1 rows)\n",
+        second: "1\n(1 rows)\n",
+    },
+    Answer {
+        status: Status::Done,
+        first: "'k1' | 'y'\n(1 rows)\n",
+        second: "1\n(1 rows)\n",
+    },
+];
+
+/// Two tables, each flushed once. The first flush leaves the first segment, which the second table needs, and the second flush
+/// deletes it and leaves the second segment, in which the first table has a newer write.
+pub fn flushes_of_two_tables() -> Case<'static> {
+    Case {
+        script: "CREATE TABLE t (k text PRIMARY KEY, a text); CREATE TABLE u (k int PRIMARY KEY); INSERT INTO u (k) VALUES (1); \
+            INSERT INTO t (k, a) VALUES ('k1', 'x'); FLUSH t; UPDATE t SET a = 'y' WHERE k = 'k1'; FLUSH u;",
+        emits: &FLUSHES_EMITS,
+        question: "SELECT * FROM t; SELECT * FROM u;",
+        answers: &TWO_TABLES,
+        states: &FLUSHES_STATES,
+    }
+}
