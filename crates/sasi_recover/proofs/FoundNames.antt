@@ -5,7 +5,7 @@ use Rattle.std.specs.declared.cmp.Ordering.{Ordering}
 use Rattle.std.specs.declared.cmp.Ordering.TheVariants.{Less, Equal, Greater}
 use Rattle.std.specs.declared.result.Result.{Result}
 use Rattle.std.specs.List.{AllByRecursion}
-use Rattle.std.specs.List.Sorted.{IsBinarySearchResult, IsNonDecreasingBy, IsSearchInRange, IsStrictlySortedBy}
+use Rattle.std.specs.List.Sorted.{IsBinarySearchResult, IsNonDecreasingBy, IsPartitionPoint, IsSearchInRange, IsStrictlySortedBy}
 use Rattle.std.specs.Ordering.{ordering_index}
 use Rattle.std.proofs.lemmas.Cmp.{tied_itself}
 use Rattle.sasi_host.specs.declared.name.FileName.{FileName}
@@ -48,10 +48,8 @@ found_there names file (Err i) within is found = cc
 
 -- and what isn't found isn't there
 pub found_nowhere : (names : List FileName) (file : FileName) (r : Result ℕ ℕ) → IsStrictlySortedBy name_cmp names → IsBinarySearchResult (λ y. name_cmp y file) names r → is_ok r ≡ false → ¬ Contains names file
-found_nowhere names file (Err i) sorted is none there = by (either there.0 i)
+found_nowhere names file (Err i) sorted is none there = by (is (rises file names sorted)) (either there.0 i)
   where
-    ends = is (rises file names sorted)
-
     same : name_cmp (get_or names there.0 file) file ≡ Equal
     same = ap (λ (n : FileName). name_cmp n file) there.2 ∙ tied_itself names_total file
 
@@ -60,7 +58,7 @@ found_nowhere names file (Err i) sorted is none there = by (either there.0 i)
     either zero (suc i) = inl (omega arith)
     either (suc k) (suc i) = ⊎_elim (λ l. inl (omega (arith, l))) (λ l. inr (omega (arith, l))) (either k i)
 
-    by : (there.0 < i) ⊎ (i ≤ there.0) → ⊥
-    by (inl low) = (let two : Less ≡ Equal = sym (ends.0 there.0 file (omega arith) low) ∙ same in cc)
-    by (inr high) = (let two : Greater ≡ Equal = sym (ends.1 there.0 file high there.1) ∙ same in cc)
+    by : IsPartitionPoint (λ y. name_cmp y file ≡ Less) (λ y. name_cmp y file ≡ Greater) names i → (there.0 < i) ⊎ (i ≤ there.0) → ⊥
+    by ends (inl low) = (let two : Less ≡ Equal = sym (ends.0 there.0 file (omega arith) low) ∙ same in cc)
+    by ends (inr high) = (let two : Greater ≡ Equal = sym (ends.1 there.0 file high there.1) ∙ same in cc)
 found_nowhere names file (Ok i) sorted is none there = cc
