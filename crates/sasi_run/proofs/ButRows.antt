@@ -8,7 +8,7 @@ use Rattle.sasi_model.specs.State.{State}
 use Rattle.sasi_model.specs.Step.{refusals, state_after, step}
 use Rattle.sasi_store.specs.StoreView.{StoreView}
 use Rattle.sasi_run.specs.Crashing.{EmittedButRows, IsOfState, RanButRows, StoppedButRows}
-use Rattle.sasi_run.specs.Headline.{AreRepliesButRows, EmitsButRows, IsFirstPart, IsReplyButRows, READ_MOST, ReadsByStatus, ReadsToEnd, RunsButRows, SCRIPT_MOST, script_of, status_of_stop}
+use Rattle.sasi_run.specs.Headline.{AreRepliesButRows, EmitsByStatus, IsFirstPart, IsReplyButRows, READ_MOST, ReadsToEnd, Runs, SCRIPT_MOST, but_rows, script_of, status_of_stop}
 use Rattle.sasi_run.specs.declared.session.Session.{Session}
 use Rattle.sasi_run.specs.declared.session.Stop.{Stop}
 use Rattle.sasi_run.specs.declared.session.Stop.TheVariants.{Disk, Output, Memory, Corrupt, Spent}
@@ -95,13 +95,6 @@ ran_from_but s pieces old stand new a b count ran = record {
 
 -- ---- a run that stopped
 
-stop_unsaid : (stop : Stop) (read shown : List ℕ) → ReadsByStatus (status_of_stop stop) read shown
-stop_unsaid Memory read shown = tt
-stop_unsaid Disk read shown = tt
-stop_unsaid Output read shown = tt
-stop_unsaid (Corrupt damage) read shown = tt
-stop_unsaid (Spent kind) read shown = tt
-
 stop_anywhere : (stop : Stop) (left : Option (List ℕ)) → ReadsToEnd (status_of_stop stop) left
 stop_anywhere Memory left = tt
 stop_anywhere Disk left = tt
@@ -110,7 +103,7 @@ stop_anywhere (Corrupt damage) left = tt
 stop_anywhere (Spent kind) left = tt
 
 stop_shows : (stop : Stop) (s : State) (script read : List ℕ) (done next : List Piece) (shown : List ℕ) → IsFirstPart script read done next → EmittedButRows stop s done next shown
-    → EmitsButRows grammar_parser (status_of_stop stop) s script read shown
+    → EmitsByStatus grammar_parser (but_rows grammar_parser) (status_of_stop stop) s script read shown
 stop_shows Memory s script read done next shown first at = record { done = done; first = without_next script read done next first; replied = at }
 stop_shows Disk s script read done next shown first at = record { done = done; first = without_next script read done next first; replied = at }
 stop_shows (Corrupt damage) s script read done next shown first at = record { done = done; first = without_next script read done next first; replied = at }
@@ -129,16 +122,13 @@ stop_shows Output s script read done next shown first (piece, whole, front, back
 }
 
 pub stop_runs : (stop : Stop) (s : State) (read : List ℕ) (l l2 : Option (List ℕ)) (a c : View) (done next : List Piece) → Consumes l l2 read → length read ≤ SCRIPT_MOST + READ_MOST
-    → IsFirstPart (script_of l read) read done next → StoppedButRows stop s done next a c → RunsButRows grammar_parser (status_of_stop stop) s l l2 a.emitted c.emitted
+    → IsFirstPart (script_of l read) read done next → StoppedButRows stop s done next a c → Runs grammar_parser (but_rows grammar_parser) (status_of_stop stop) s l l2 a.emitted c.emitted
 stop_runs stop s read l l2 a c done next consumed bounded first stopped = record {
-  bytes = record {
-    read = read;
-    shown = stopped.shown;
-    consumed = consumed;
-    emitted = stopped.emitted;
-    at_end = stop_anywhere stop l2;
-    by_status = stop_unsaid stop read stopped.shown;
-    bounded = bounded;
-  };
+  read = read;
+  shown = stopped.shown;
+  consumed = consumed;
+  emitted = stopped.emitted;
+  at_end = stop_anywhere stop l2;
   shows = stop_shows stop s (script_of l read) read done next stopped.shown first stopped.replies;
+  bounded = bounded;
 }

@@ -9,6 +9,7 @@ use Rattle.sasi_folder.specs.Opens.{CanOpen, KeepsPartitioner}
 use Rattle.sasi_layout.specs.Layout.{Layout}
 use Rattle.sasi_layout.specs.Shape.{ShapeOf}
 use Rattle.sasi_layout.specs.Worlds.{ServesWorld, new_world}
+use Rattle.sasi_model.specs.Parsers.{grammar_parser}
 use Rattle.sasi_model.specs.State.{State}
 use Rattle.sasi_recover.specs.Faults.{OnDiffers, OnOpenDamage, TellsDifference}
 use Rattle.sasi_recover.specs.declared.fault.OpenFault.{OpenFault}
@@ -17,14 +18,14 @@ use Rattle.sasi_store.specs.StoreView.{StoreView}
 use Rattle.sasi_run.specs.Causes.{ComparesPartitioners, FailedCalls, IsOfStore, IsRefusal, ReportsAtStart, ReportsDifference, ReportsNow, RunCauses}
 use Rattle.sasi_run.specs.CommandLine.{IsCommandLine, asked_by}
 use Rattle.sasi_run.specs.Crashing.{IsOfState, RunsCrashSafe}
-use Rattle.sasi_run.specs.Headline.{status_of_fault}
+use Rattle.sasi_run.specs.Headline.{but_rows, status_of_fault}
 use Rattle.sasi_run.specs.declared.status.Status.{Status}
 use Rattle.sasi_run.specs.declared.status.Status.TheVariants.{Usage, Damaged, PartitionerDiffers}
 use Rattle.sasi_run.proofs.Complete.{through}
 use Rattle.sasi_run.proofs.CountedEmits.{counts_opened, counts_unopened, counts_unused}
 use Rattle.sasi_run.proofs.FailedCalls.{damage_same, nothing_failed, rose, unfailed_calls}
 use Rattle.sasi_run.proofs.RunParts.{unmoved}
-use Rattle.sasi_run.proofs.WholeRun.{first_bytes}
+use Rattle.sasi_run.proofs.WholeRun.{first_runs, no_tables}
 
 -- ---- the words name no script
 
@@ -118,8 +119,8 @@ module _ (T : Type 0) (words : List (List ℕ)) (script : SourceView) (a b : Vie
     refused = λ folder files no. record { refusal = is_refusal fault; unread = refl; silent = failed.silent };
     differs = λ asked kept is. differs fault failed asked kept is;
     compares = λ folder asked kept files asks keeps other. compares fault failed folder asked kept files asks keeps other;
-    complete = λ words x y z. through (status_of_fault fault) script.left script.left a.emitted b.emitted
-        (first_bytes fault script.left a.emitted b.emitted (unmoved a b failed.silent)) (not_usage fault)
+    complete = λ words x y z. through grammar_parser (but_rows grammar_parser) (status_of_fault fault) no_tables script.left script.left a.emitted b.emitted
+        (first_runs (but_rows grammar_parser) fault no_tables script.left a.emitted b.emitted refl (unmoved a b failed.silent)) (not_usage fault)
         (λ is. x (rose script.faults script.faults script.failed_last (failed.calls.script_fault is)))
         (λ is. y (rose a.out_faults b.out_faults b.failed_last (failed.calls.output_fault is)))
         (λ is. z (rose a.disk_faults b.disk_faults b.failed_last (failed.calls.folder_fault is)));
@@ -154,7 +155,7 @@ causes_opened words status script later a b c store are opened on calls reports 
   refused = λ folder files no. absurd (no (opened.opens folder files));
   differs = λ asked kept is. absurd (of_store_differs status asked kept of is);
   compares = λ folder asked kept files asks keeps other. absurd (opened.agrees folder asked kept files asks keeps other);
-  complete = λ words x y z. through status script.left later.left b.emitted c.emitted (on.anywhere opened.state.0 opened.state.1).bytes (of_store_used status of)
+  complete = λ words x y z. through grammar_parser (but_rows grammar_parser) status opened.state.0 script.left later.left b.emitted c.emitted (on.anywhere opened.state.0 opened.state.1) (of_store_used status of)
       (λ is. x (rose script.faults later.faults later.failed_last (calls.script_fault is)))
       (λ is. y (rose a.out_faults c.out_faults c.failed_last (calls.output_fault is)))
       (λ is. z (rose a.disk_faults c.disk_faults c.failed_last (calls.folder_fault is)));

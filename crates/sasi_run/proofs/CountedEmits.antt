@@ -12,11 +12,11 @@ use Rattle.sasi_recover.specs.declared.fault.OpenFault.TheVariants as open_fault
 use Rattle.sasi_run.specs.Causes.{CountsFrom}
 use Rattle.sasi_run.specs.Crashing.{RunsWorld}
 use Rattle.sasi_run.specs.EmitCounts.{EmitsCounted}
-use Rattle.sasi_run.specs.Headline.{script_of, status_of_fault}
+use Rattle.sasi_run.specs.Headline.{exact, script_of, status_of_fault}
 use Rattle.sasi_run.specs.declared.status.Status.{Status}
 use Rattle.sasi_run.specs.declared.status.Status.TheVariants.{Usage}
 use Rattle.sasi_run.proofs.EmitLaws.{makes_none}
-use Rattle.sasi_run.proofs.WholeRun.{first_runs, moved, nothing_runs}
+use Rattle.sasi_run.proofs.WholeRun.{first_runs, moved, nothing_read, nothing_runs}
 
 -- the words name no script
 pub counts_unused : (l : Layout) (script : SourceView) (a : View) → CountsFrom Usage l script script a a
@@ -24,7 +24,7 @@ counts_unused l script a = record {
   emits = record {
     parser = grammar_parser;
     parses = is_parser;
-    runs = nothing_runs (state_of l) script.left a.emitted;
+    runs = nothing_runs (exact grammar_parser) (state_of l) script.left a.emitted;
     counted = record { answered = []; by_status = refl; emits = makes_none a.emits a.emits refl };
   };
   numbers = tt;
@@ -32,13 +32,13 @@ counts_unused l script a = record {
 
 module _ (s : State) (l o o2 : Option (List ℕ)) (silent : Appends o o2 []) (n m : ℕ) (none : m ≡ n) where
   none_counted : (fault : OpenFault)
-      → EmitsCounted grammar_parser (status_of_fault fault) s (script_of l (first_runs fault s l o o2 silent).read) (first_runs fault s l o o2 silent).read
-      (first_runs fault s l o o2 silent).shown n m
+      → EmitsCounted grammar_parser (status_of_fault fault) s (script_of l (first_runs (exact grammar_parser) fault s l o o2 refl silent).read) (first_runs (exact grammar_parser) fault s l o o2 refl silent).read
+      (first_runs (exact grammar_parser) fault s l o o2 refl silent).shown n m
   unfolding first_runs
   none_counted open_fault.Failed =
-      record { answered = []; by_status = ((first_runs open_fault.Failed s l o o2 silent).shows, refl); emits = makes_none n m none }
+      record { answered = []; by_status = (nothing_read (exact grammar_parser) s (script_of l []) refl, refl); emits = makes_none n m none }
   none_counted open_fault.OutOfMemory =
-      record { answered = []; by_status = ((first_runs open_fault.OutOfMemory s l o o2 silent).shows, refl); emits = makes_none n m none }
+      record { answered = []; by_status = (nothing_read (exact grammar_parser) s (script_of l []) refl, refl); emits = makes_none n m none }
   none_counted (open_fault.Damaged damage) = record { answered = []; by_status = refl; emits = makes_none n m none }
   none_counted (open_fault.PartitionerDiffers asked kept) = record { answered = []; by_status = refl; emits = makes_none n m none }
 
@@ -49,7 +49,7 @@ counts_unopened open_fault.Failed l script a b silent none = record {
   emits = record {
     parser = grammar_parser;
     parses = is_parser;
-    runs = first_runs open_fault.Failed (state_of l) script.left a.emitted b.emitted silent;
+    runs = first_runs (exact grammar_parser) open_fault.Failed (state_of l) script.left a.emitted b.emitted refl silent;
     counted = none_counted (state_of l) script.left a.emitted b.emitted silent a.emits b.emits none open_fault.Failed;
   };
   numbers = tt;
@@ -58,7 +58,7 @@ counts_unopened open_fault.OutOfMemory l script a b silent none = record {
   emits = record {
     parser = grammar_parser;
     parses = is_parser;
-    runs = first_runs open_fault.OutOfMemory (state_of l) script.left a.emitted b.emitted silent;
+    runs = first_runs (exact grammar_parser) open_fault.OutOfMemory (state_of l) script.left a.emitted b.emitted refl silent;
     counted = none_counted (state_of l) script.left a.emitted b.emitted silent a.emits b.emits none open_fault.OutOfMemory;
   };
   numbers = tt;
@@ -67,7 +67,7 @@ counts_unopened (open_fault.Damaged damage) l script a b silent none = record {
   emits = record {
     parser = grammar_parser;
     parses = is_parser;
-    runs = first_runs (open_fault.Damaged damage) (state_of l) script.left a.emitted b.emitted silent;
+    runs = first_runs (exact grammar_parser) (open_fault.Damaged damage) (state_of l) script.left a.emitted b.emitted refl silent;
     counted = none_counted (state_of l) script.left a.emitted b.emitted silent a.emits b.emits none (open_fault.Damaged damage);
   };
   numbers = tt;
@@ -76,7 +76,7 @@ counts_unopened (open_fault.PartitionerDiffers asked kept) l script a b silent n
   emits = record {
     parser = grammar_parser;
     parses = is_parser;
-    runs = first_runs (open_fault.PartitionerDiffers asked kept) (state_of l) script.left a.emitted b.emitted silent;
+    runs = first_runs (exact grammar_parser) (open_fault.PartitionerDiffers asked kept) (state_of l) script.left a.emitted b.emitted refl silent;
     counted = none_counted (state_of l) script.left a.emitted b.emitted silent a.emits b.emits none (open_fault.PartitionerDiffers asked kept);
   };
   numbers = tt;
@@ -90,7 +90,7 @@ counts_opened status l script later a b c silent none on = record {
   emits = record {
     parser = grammar_parser;
     parses = is_parser;
-    runs = moved status (state_of l) script.left later.left b.emitted a.emitted c.emitted silent on.runs;
+    runs = moved (exact grammar_parser) status (state_of l) script.left later.left b.emitted a.emitted c.emitted silent on.runs;
     counted = subst (λ (n : ℕ). EmitsCounted grammar_parser status (state_of l) (script_of script.left on.runs.read) on.runs.read on.runs.shown n c.emits) none on.emits;
   };
   numbers = on.spends;

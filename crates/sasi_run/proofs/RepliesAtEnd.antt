@@ -16,7 +16,7 @@ use Rattle.sasi_cql.specs.SplitterState.{resume, behind}
 use Rattle.sasi_cql.proofs.Resumed.{resume_nothing}
 use Rattle.sasi_run.specs.Crashing.{CrashLeavesPieces, RunsWorld, StoppedPieces}
 use Rattle.sasi_run.specs.EmitCounts.{MakesEmits, emits_for, emits_in}
-use Rattle.sasi_run.specs.Headline.{EmitsFirstReplies, IsFirstPart, SCRIPT_MOST, READ_MOST, script_of, status_of_stop}
+use Rattle.sasi_run.specs.Headline.{EmitsFirstReplies, IsFirstPart, SCRIPT_MOST, READ_MOST, exact, script_of, status_of_stop}
 use Rattle.sasi_run.specs.Session.{Feeds, IsAtScriptStart}
 use Rattle.sasi_run.specs.declared.session.Session.{Session}
 use Rattle.sasi_run.specs.declared.session.Stop.{Stop}
@@ -92,7 +92,7 @@ without_next script read done next first = record {
 
 module _ (w : World) (well : IsWell w.layout) (read : List ℕ) (done next : List Piece) (l l2 : Option (List ℕ)) (a c : View) (consumed : Consumes l l2 read)
     (bounded : length read ≤ SCRIPT_MOST + READ_MOST) (first : IsFirstPart (script_of l read) read done next) where
-  abbrev first_replies : EmitsFirstReplies grammar_parser (state_of w.layout) (script_of l read) read (replies_of steps w done)
+  abbrev first_replies : EmitsFirstReplies (exact grammar_parser) (state_of w.layout) (script_of l read) read (replies_of steps w done)
   first_replies = record { done = done; first = without_next (script_of l read) read done next first; replied = replies_are done w well }
 
   crashes : CrashLeavesPieces a c w (done ++ next) → CrashLeavesPieces a c w (all_pieces (script_of l read))
@@ -161,10 +161,12 @@ module _ (w : World) (well : IsWell w.layout) (read : List ℕ) (done next : Lis
             done = done;
             piece = at.0;
             first = here;
+            whole = replies_of steps w done;
             front = at.1;
             back = at.2;
-            reply = reply;
-            replied = ap (λ (r : List ℕ). r ++ at.1) (replies_are done w well);
+            replied = replies_are done w well;
+            reply = sym reply;
+            parts = refl;
           };
           bounded = bounded;
         };
@@ -178,10 +180,12 @@ module _ (w : World) (well : IsWell w.layout) (read : List ℕ) (done next : Lis
               done = done;
               piece = at.0;
               first = here;
+              whole = replies_of steps w done;
               front = at.1;
               back = at.2;
-              reply = reply;
-              replied = ap (λ (r : List ℕ). r ++ at.1) (replies_are done w well);
+              replied = replies_are done w well;
+              reply = sym reply;
+              parts = refl;
             },
             refl,
           );

@@ -21,7 +21,7 @@ use Rattle.sasi_store.specs.StoreView.{IsReady}
 use Rattle.sasi_run.specs.Causes.{IsOfStore}
 use Rattle.sasi_run.specs.Crashing.{CrashLeavesPieces, EndsAtRead, FailsCrashSafe, FeedsCrashSafe, FeedsRead, FinishesCrashSafe, IsOfState, RanButRows, RanPieces, RanScript, ReadsCrashSafe, RunsCrashSafe, StoppedButRows, StoppedPieces, StopsCrashSafe, StopsWith}
 use Rattle.sasi_run.specs.EmitCounts.{MakesEmits, emits_for, emits_in}
-use Rattle.sasi_run.specs.Headline.{AreRepliesButRows, EmitsAllButRows, EmitsAllReplies, IsFirstPart, READ_MOST, ReadsBytes, ReadsByStatus, ReadsToEnd, SCRIPT_MOST, script_of, status_of_count, status_of_stop}
+use Rattle.sasi_run.specs.Headline.{AreRepliesButRows, EmitsAllReplies, EmitsByStatus, IsFirstPart, READ_MOST, ReadsToEnd, Runs, SCRIPT_MOST, but_rows, exact, script_of, status_of_count, status_of_stop}
 use Rattle.sasi_run.specs.Session.{IsAtScriptStart, refusals_of}
 use Rattle.sasi_run.specs.Spending.{SpendsNone}
 use Rattle.sasi_run.specs.declared.session.Session.{Session}
@@ -51,8 +51,13 @@ ends_fault from mid l l1 l2 a b n fresh on few kept =
       anywhere = λ s of.
           let ran = on.feeds.anywhere s of in
           record {
-            bytes = record { read = on.read; shown = ran.shown; consumed = consumed; emitted = ran.emitted; at_end = tt; by_status = size; bounded = omega (arith, size) };
-            shows = subst (λ (ps : List Piece). AreRepliesButRows grammar_parser s ps ran.shown) (sym (whole_now from mid on.read fresh t)) ran.replies;
+            read = on.read;
+            shown = ran.shown;
+            consumed = consumed;
+            emitted = ran.emitted;
+            at_end = tt;
+            shows = record { whole = subst (λ (ps : List Piece). AreRepliesButRows grammar_parser s ps ran.shown) (sym (whole_now from mid on.read fresh t)) ran.replies; short = size };
+            bounded = omega (arith, size);
           };
       from = λ w serves.
           (let ran = on.feeds.ran w serves in
@@ -123,7 +128,7 @@ module _ (from to : Session) (l l2 : Option (List ℕ)) (a b c : View) (fresh : 
     emits_all : MakesEmits (emits_for (state_of w.layout) (all_pieces on.read) + 0) a.emits c.emits
     emits_all = makes_alone _ a.emits c.emits (subst (λ (k : ℕ). MakesEmits k a.emits c.emits) (emits_are (all_pieces on.read) w serves.well) emits_in_all)
 
-    all_shown : (n : ℕ) → to.refused ≡ n → EmitsAllReplies grammar_parser (state_of w.layout) on.read (replies_of steps w (all_pieces on.read)) n
+    all_shown : (n : ℕ) → to.refused ≡ n → EmitsAllReplies grammar_parser (exact grammar_parser) (state_of w.layout) on.read (replies_of steps w (all_pieces on.read)) n
     all_shown n is =
         let count : to.refused ≡ counted_by from.refused (refusals_of w (all_pieces on.read)) = (on.ran w serves).count in
         let by_model : refusals_of w (all_pieces on.read) ≡ refusals (state_of w.layout) (all_pieces on.read) = refusals_are (all_pieces on.read) w serves.well in
@@ -134,21 +139,22 @@ module _ (from to : Session) (l l2 : Option (List ℕ)) (a b c : View) (fresh : 
         }
 
   module _ (s : State) (of : IsOfState from.store s) where
-    abbrev bytes_all : (status : Status) → ReadsToEnd status l2 → ReadsByStatus status on.read (on.anywhere s of).shown → ReadsBytes status l l2 a.emitted c.emitted
-    bytes_all status end by_status = record {
+    abbrev all_read : (status : Status) → ReadsToEnd status l2 → EmitsByStatus grammar_parser (but_rows grammar_parser) status s (script_of l on.read) on.read (on.anywhere s of).shown
+        → Runs grammar_parser (but_rows grammar_parser) status s l l2 a.emitted c.emitted
+    all_read status end shows = record {
       read = on.read;
       shown = (on.anywhere s of).shown;
       consumed = on.consumed;
       emitted = appends_on (on.anywhere s of).shown (on.anywhere s of).emitted;
       at_end = end;
-      by_status = by_status;
+      shows = shows;
       bounded = omega (arith, on.short);
     }
 
-    all_but_rows : (n : ℕ) → to.refused ≡ n → EmitsAllButRows grammar_parser s on.read (on.anywhere s of).shown n
+    all_but_rows : (n : ℕ) → to.refused ≡ n → EmitsAllReplies grammar_parser (but_rows grammar_parser) s on.read (on.anywhere s of).shown n
     all_but_rows n is =
         let count : to.refused ≡ counted_by from.refused (refusals s (all_pieces on.read)) = (on.anywhere s of).count in
-        record { all = (on.anywhere s of).replies; count = omega (arith, is, count, fresh.count) }
+        record { all = (on.anywhere s of).replies; count = omega (arith, is, count, fresh.count); short = on.short }
 
   -- ---- the use of the store was ended
 
@@ -157,7 +163,7 @@ module _ (from to : Session) (l l2 : Option (List ℕ)) (a b c : View) (fresh : 
     ended_by true is =
         let zero_is : to.refused ≡ 0 = grind arith in
         record {
-          anywhere = λ s of. record { bytes = bytes_all s of Done on.at_end on.short; shows = all_but_rows s of 0 zero_is };
+          anywhere = λ s of. all_read s of Done on.at_end (all_but_rows s of 0 zero_is);
           from = λ w serves.
               (let ran = on.ran w serves in
               record {
@@ -181,7 +187,7 @@ module _ (from to : Session) (l l2 : Option (List ℕ)) (a b c : View) (fresh : 
     ended_by false is =
         let some : 0 < to.refused = grind arith in
         record {
-          anywhere = λ s of. record { bytes = bytes_all s of (Refused to.refused) on.at_end (some, on.short); shows = all_but_rows s of to.refused refl };
+          anywhere = λ s of. all_read s of (Refused to.refused) on.at_end (some, all_but_rows s of to.refused refl);
           from = λ w serves.
               (let ran = on.ran w serves in
               record {
@@ -298,8 +304,13 @@ ends_long from mid to l l1 l2 a b c n chunk part rest fresh on few ate small par
       anywhere = λ s of.
           let ran = t.anywhere s of in
           record {
-            bytes = record { read = read; shown = ran.shown; consumed = consumed; emitted = ran.emitted; at_end = tt; by_status = long; bounded = bounded };
-            shows = subst (λ (ps : List Piece). AreRepliesButRows grammar_parser s ps ran.shown) (sym whole) ran.replies;
+            read = read;
+            shown = ran.shown;
+            consumed = consumed;
+            emitted = ran.emitted;
+            at_end = tt;
+            shows = record { whole = subst (λ (ps : List Piece). AreRepliesButRows grammar_parser s ps ran.shown) (sym whole) ran.replies; long = long };
+            bounded = bounded;
           };
       from = λ w serves.
           (let ran = t.ran w serves in

@@ -25,7 +25,7 @@ use Rattle.sasi_recover.specs.declared.fault.OpenFault.{OpenFault}
 use Rattle.sasi_recover.specs.declared.fault.OpenFault.TheVariants as open_fault
 use Rattle.sasi_store.specs.StoreView.{StoreView}
 use Rattle.sasi_run.specs.Crashing.{CrashLeavesPieces, IsOfState, RunsCrashSafe, RunsWorld}
-use Rattle.sasi_run.specs.Headline.{EmitsFirstReplies, Headline, RanToEnd, ReadsBytes, Runs, RunsButRows, RunsFrom, StandsForEnd, StartsFrom, script_of, status_of_fault}
+use Rattle.sasi_run.specs.Headline.{EmitsByStatus, EmitsFirstReplies, Headline, RanToEnd, ReadsToEnd, Replies, Runs, RunsFrom, StandsForEnd, StartsFrom, but_rows, exact, script_of, status_of_fault}
 use Rattle.sasi_run.specs.Recovering.{HasShapeOfImage, LeavesShape, Recovers}
 use Rattle.sasi_run.specs.declared.status.Status.{Status}
 use Rattle.sasi_run.specs.declared.status.Status.TheVariants.{Usage}
@@ -137,8 +137,8 @@ stands_for_end v l s sound told ended is =
 -- ---- what a run does
 
 -- the words named no script
-pub nothing_runs : (s : State) (l o : Option (List ℕ)) → Runs grammar_parser Usage s l l o o
-nothing_runs s l o = record {
+pub nothing_runs : (r : Replies) (s : State) (l o : Option (List ℕ)) → Runs grammar_parser r Usage s l l o o
+nothing_runs r s l o = record {
   read = [];
   shown = [];
   consumed = consumes_nothing l;
@@ -153,14 +153,14 @@ runs_nothing : (asked : Option Partitioner) (a : View) (m : Layout) (l : Option 
 runs_nothing asked a m l sound starts =
     let same : Changes (UnchangedOrShaped asked m) a a = changes_as a a Same (UnchangedOrShaped asked m) (stays a) (λ x y is. inl is) in
     record {
-      runs = nothing_runs (state_of m) l a.emitted;
+      runs = nothing_runs (exact grammar_parser) (state_of m) l a.emitted;
       crash = λ before emitted folder out left. recovers_image asked a m starts before emitted _ folder out (leaves_opening asked a m starts before emitted a sound same folder out left);
       shapes = λ before emitted folder out left. inl (leaves_opening asked a m starts before emitted a sound same folder out left);
       ends = λ is. absurd is;
     }
 
-abbrev nothing_read : (s : State) (script : List ℕ) → EmitsFirstReplies grammar_parser s script [] []
-nothing_read s script = record {
+abbrev pub nothing_read : (r : Replies) (s : State) (script : List ℕ) → r.all s [] [] → EmitsFirstReplies r s script [] []
+nothing_read r s script none = record {
   done = [];
   first = record {
     rest = all_pieces script;
@@ -174,70 +174,32 @@ nothing_read s script = record {
     more = [];
     has = refl;
   };
-  replied = refl;
+  replied = none;
 }
+
+pub first_shows : (r : Replies) (fault : OpenFault) (s : State) (script : List ℕ) → r.all s [] [] → EmitsByStatus grammar_parser r (status_of_fault fault) s script [] []
+first_shows r open_fault.Failed s script none = nothing_read r s script none
+first_shows r open_fault.OutOfMemory s script none = nothing_read r s script none
+first_shows r (open_fault.Damaged damage) s script none = nothing_read r s script none
+first_shows r (open_fault.PartitionerDiffers asked kept) s script none = (refl, refl)
+
+pub first_anywhere : (fault : OpenFault) (left : Option (List ℕ)) → ReadsToEnd (status_of_fault fault) left
+first_anywhere open_fault.Failed left = tt
+first_anywhere open_fault.OutOfMemory left = tt
+first_anywhere (open_fault.Damaged damage) left = tt
+first_anywhere (open_fault.PartitionerDiffers asked kept) left = tt
 
 -- the folder wasn't opened
-unfoldable pub first_runs : (fault : OpenFault) (s : State) (l o o2 : Option (List ℕ)) → Appends o o2 [] → Runs grammar_parser (status_of_fault fault) s l l o o2
-first_runs open_fault.Failed s l o o2 silent = record {
+unfoldable pub first_runs : (r : Replies) (fault : OpenFault) (s : State) (l o o2 : Option (List ℕ)) → r.all s [] [] → Appends o o2 [] → Runs grammar_parser r (status_of_fault fault) s l l o o2
+first_runs r fault s l o o2 none silent = record {
   read = [];
   shown = [];
   consumed = consumes_nothing l;
   emitted = silent;
-  at_end = tt;
-  shows = nothing_read s (script_of l []);
+  at_end = first_anywhere fault l;
+  shows = first_shows r fault s (script_of l []) none;
   bounded = omega arith;
 }
-first_runs open_fault.OutOfMemory s l o o2 silent = record {
-  read = [];
-  shown = [];
-  consumed = consumes_nothing l;
-  emitted = silent;
-  at_end = tt;
-  shows = nothing_read s (script_of l []);
-  bounded = omega arith;
-}
-first_runs (open_fault.Damaged damage) s l o o2 silent = record {
-  read = [];
-  shown = [];
-  consumed = consumes_nothing l;
-  emitted = silent;
-  at_end = tt;
-  shows = (refl, refl);
-  bounded = omega arith;
-}
-first_runs (open_fault.PartitionerDiffers asked kept) s l o o2 silent = record {
-  read = [];
-  shown = [];
-  consumed = consumes_nothing l;
-  emitted = silent;
-  at_end = tt;
-  shows = (refl, refl);
-  bounded = omega arith;
-}
-
-abbrev pub first_bytes : (fault : OpenFault) (l o o2 : Option (List ℕ)) → Appends o o2 [] → ReadsBytes (status_of_fault fault) l l o o2
-first_bytes open_fault.Failed l o o2 silent = record { read = []; shown = []; consumed = consumes_nothing l; emitted = silent; at_end = tt; by_status = tt; bounded = omega arith }
-first_bytes open_fault.OutOfMemory l o o2 silent = record { read = []; shown = []; consumed = consumes_nothing l; emitted = silent; at_end = tt; by_status = tt; bounded = omega arith }
-first_bytes (open_fault.Damaged damage) l o o2 silent = record { read = []; shown = []; consumed = consumes_nothing l; emitted = silent; at_end = tt; by_status = tt; bounded = omega arith }
-first_bytes (open_fault.PartitionerDiffers asked kept) l o o2 silent =
-    record { read = []; shown = []; consumed = consumes_nothing l; emitted = silent; at_end = tt; by_status = (refl, refl); bounded = omega arith }
-
--- from any state
-first_but_rows : (fault : OpenFault) (s : State) (l o o2 : Option (List ℕ)) → Appends o o2 [] → RunsButRows grammar_parser (status_of_fault fault) s l l o o2
-first_but_rows open_fault.Failed s l o o2 silent = record {
-  bytes = first_bytes open_fault.Failed l o o2 silent;
-  shows = record { done = []; first = (nothing_read s (script_of l [])).first; replied = refl };
-}
-first_but_rows open_fault.OutOfMemory s l o o2 silent = record {
-  bytes = first_bytes open_fault.OutOfMemory l o o2 silent;
-  shows = record { done = []; first = (nothing_read s (script_of l [])).first; replied = refl };
-}
-first_but_rows (open_fault.Damaged damage) s l o o2 silent = record {
-  bytes = first_bytes (open_fault.Damaged damage) l o o2 silent;
-  shows = record { done = []; first = (nothing_read s (script_of l [])).first; replied = refl };
-}
-first_but_rows (open_fault.PartitionerDiffers asked kept) s l o o2 silent = record { bytes = first_bytes (open_fault.PartitionerDiffers asked kept) l o o2 silent; shows = tt }
 
 not_ended : (fault : OpenFault) → RanToEnd (status_of_fault fault) → ⊥
 not_ended open_fault.Failed is = is
@@ -248,15 +210,15 @@ not_ended (open_fault.PartitionerDiffers asked kept) is = is
 runs_unopened : (asked : Option Partitioner) (fault : OpenFault) (a b : View) (m : Layout) (l : Option (List ℕ)) → IsSound a → StartsFrom asked a m
     → Appends a.emitted b.emitted [] → Changes (UnchangedOrShaped asked m) a b → RunsFrom grammar_parser asked (status_of_fault fault) m l l a b
 runs_unopened asked fault a b m l sound starts silent change = record {
-  runs = first_runs fault (state_of m) l a.emitted b.emitted silent;
+  runs = first_runs (exact grammar_parser) fault (state_of m) l a.emitted b.emitted refl silent;
   crash = λ before emitted folder out left. recovers_image asked a m starts before emitted _ folder out (leaves_opening asked a m starts before emitted b sound change folder out left);
   shapes = λ before emitted folder out left. inl (leaves_opening asked a m starts before emitted b sound change folder out left);
   ends = λ is. absurd (not_ended fault is);
 }
 
 -- the opening emits nothing
-unfoldable pub moved : (status : Status) (s : State) (l l2 o p q : Option (List ℕ)) → o ≡ p → Runs grammar_parser status s l l2 o q → Runs grammar_parser status s l l2 p q
-moved status s l l2 o p q same runs = record {
+unfoldable pub moved : (r : Replies) (status : Status) (s : State) (l l2 o p q : Option (List ℕ)) → o ≡ p → Runs grammar_parser r status s l l2 o q → Runs grammar_parser r status s l l2 p q
+moved r status s l l2 o p q same runs = record {
   read = runs.read;
   shown = runs.shown;
   consumed = runs.consumed;
@@ -272,7 +234,7 @@ runs_opened : (asked : Option Partitioner) (status : Status) (a b c : View) (m :
     → RunsWorld status (new_world m) l l2 b c → RunsFrom grammar_parser asked status m l l2 a c
 unfolding moved
 runs_opened asked status a b c m store l l2 sound starts change serves sound_c on = record {
-  runs = moved status (state_of m) l l2 b.emitted a.emitted c.emitted change.emitted on.runs;
+  runs = moved (exact grammar_parser) status (state_of m) l l2 b.emitted a.emitted c.emitted change.emitted on.runs;
   crash = λ before emitted folder out left. recovers asked a m starts before emitted (all_pieces (script_of l on.runs.read)) serves.well folder out
       (leaves_run asked a m starts before emitted (all_pieces (script_of l on.runs.read)) b c sound change on.crashes folder out left);
   shapes = λ before emitted folder out left. leaves_run asked a m starts before emitted (all_pieces (script_of l on.runs.read)) b c sound change on.crashes folder out left;
@@ -283,7 +245,7 @@ runs_opened asked status a b c m store l l2 sound starts change serves sound_c o
 -- ---- the headline
 
 -- a state without tables
-abbrev no_tables : State
+abbrev pub no_tables : State
 no_tables = record { partitioner = Lead8; tables = [] }
 
 -- the words name no script
@@ -291,14 +253,8 @@ pub headline_unused : (asked : Option Partitioner) (script : SourceView) (a : Vi
 headline_unused asked script a sound = record {
   parser = grammar_parser;
   parses = is_parser;
-  on_every_host = (
-    no_tables,
-    record {
-      bytes = record { read = []; shown = []; consumed = consumes_nothing script.left; emitted = appends_none a.emitted; at_end = tt; by_status = (refl, refl); bounded = omega arith };
-      shows = tt;
-    },
-  );
-  as_it_reads = λ folder l files shape. nothing_runs (state_of l) script.left a.emitted;
+  on_every_host = (no_tables, nothing_runs (but_rows grammar_parser) no_tables script.left a.emitted);
+  as_it_reads = λ folder l files shape. nothing_runs (exact grammar_parser) (state_of l) script.left a.emitted;
   shows = λ l starts. runs_nothing asked a l script.left sound starts;
 }
 
@@ -309,8 +265,8 @@ pub headline_unopened : (asked : Option Partitioner) (fault : OpenFault) (script
 headline_unopened asked fault script a b sound silent change = record {
   parser = grammar_parser;
   parses = is_parser;
-  on_every_host = (no_tables, first_but_rows fault no_tables script.left a.emitted b.emitted silent);
-  as_it_reads = λ folder l files shape. first_runs fault (state_of l) script.left a.emitted b.emitted silent;
+  on_every_host = (no_tables, first_runs (but_rows grammar_parser) fault no_tables script.left a.emitted b.emitted refl silent);
+  as_it_reads = λ folder l files shape. first_runs (exact grammar_parser) fault (state_of l) script.left a.emitted b.emitted refl silent;
   shows = λ l starts. runs_unopened asked fault a b l script.left sound starts silent (change starts.folder l starts.reads starts.shape);
 }
 
@@ -323,24 +279,9 @@ pub headline_opened : (asked : Option Partitioner) (status : Status) (script lat
 headline_opened asked status script later a b c store s of sound sound_c silent change opened on = record {
   parser = grammar_parser;
   parses = is_parser;
-  on_every_host =
-      let runs = on.anywhere s of in (
-        s,
-        record {
-          bytes = record {
-            read = runs.bytes.read;
-            shown = runs.bytes.shown;
-            consumed = runs.bytes.consumed;
-            emitted = subst (λ (x : Option (List ℕ)). Appends x c.emitted runs.bytes.shown) silent runs.bytes.emitted;
-            at_end = runs.bytes.at_end;
-            by_status = runs.bytes.by_status;
-            bounded = runs.bytes.bounded;
-          };
-          shows = runs.shows;
-        },
-      );
+  on_every_host = (s, moved (but_rows grammar_parser) status s script.left later.left b.emitted a.emitted c.emitted silent (on.anywhere s of));
   as_it_reads = λ folder l files shape.
-      moved status (state_of l) script.left later.left b.emitted a.emitted c.emitted silent (on.from (new_world l) (opened folder l files shape)).runs;
+      moved (exact grammar_parser) status (state_of l) script.left later.left b.emitted a.emitted c.emitted silent (on.from (new_world l) (opened folder l files shape)).runs;
   shows = λ l starts.
       (let serves = opened starts.folder l starts.reads starts.shape in
       runs_opened asked status a b c l store script.left later.left sound starts (change starts.folder l starts.reads starts.shape) serves sound_c

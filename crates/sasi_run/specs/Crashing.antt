@@ -20,7 +20,7 @@ use Rattle.sasi_run.specs.declared.session.Stop.TheVariants.{Output, Spent}
 use Rattle.sasi_run.specs.declared.status.Status.{Status}
 use Rattle.sasi_run.specs.declared.status.Status.TheVariants.{Damaged, ScriptFault}
 use Rattle.sasi_run.specs.EmitCounts.{EmitsCounted, MakesEmits, emits_failed, emits_in}
-use Rattle.sasi_run.specs.Headline.{AreRepliesButRows, IsReplyButRows, RanToEnd, READ_MOST, SCRIPT_MOST, Runs, RunsButRows, script_of, status_of_stop}
+use Rattle.sasi_run.specs.Headline.{AreRepliesButRows, IsReplyButRows, RanToEnd, READ_MOST, SCRIPT_MOST, Runs, but_rows, exact, script_of, status_of_stop}
 use Rattle.sasi_run.specs.Session.{EmittedAtStop, Feeds, Stops, refusals_of}
 use Rattle.sasi_run.specs.Spending.{SpendsByStatus, SpendsNone}
 
@@ -155,7 +155,7 @@ pub record RanScript (from to : Session) (left_old left_new : Option (List ℕ))
 
 -- From a world that the store served the run showed what its status says, by so many emits, and a crash meanwhile leaves no more than the pieces of the script do.
 pub record RunsWorld (status : Status) (w : World) (left_old left_new : Option (List ℕ)) (a b : View) : Type 0 where
-  pub runs : Runs grammar_parser status (state_of w.layout) left_old left_new a.emitted b.emitted
+  pub runs : Runs grammar_parser (exact grammar_parser) status (state_of w.layout) left_old left_new a.emitted b.emitted
   pub crashes : CrashLeavesPieces a b w (all_pieces (script_of left_old runs.read))
   pub told : RanToEnd status → IsTold b
   pub ends : RanToEnd status → Ended b (closed (after_pieces steps w (all_pieces (script_of left_old runs.read))).layout)
@@ -165,5 +165,5 @@ pub record RunsWorld (status : Status) (w : World) (left_old left_new : Option (
 
 -- the run of a store from each state that it was of, and from each world that it served
 pub record RunsCrashSafe (status : Status) (store : StoreView) (left_old left_new : Option (List ℕ)) (a b : View) : Type 0 where
-  pub anywhere : (s : State) → IsOfState store s → RunsButRows grammar_parser status s left_old left_new a.emitted b.emitted
+  pub anywhere : (s : State) → IsOfState store s → Runs grammar_parser (but_rows grammar_parser) status s left_old left_new a.emitted b.emitted
   pub from : (w : World) → ServesWorld a store.hand w → RunsWorld status w left_old left_new a b

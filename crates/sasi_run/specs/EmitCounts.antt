@@ -6,7 +6,7 @@ use Rattle.sasi_model.specs.State.{State}
 use Rattle.sasi_model.specs.Parsers.{Parser, IsParser, grammar_parser}
 use Rattle.sasi_model.specs.Step.{step_by}
 use Rattle.sasi_layout.specs.Worlds.{World, steps}
-use Rattle.sasi_run.specs.Headline.{EmitsBeforePiece, EmitsCutReply, EmitsFirstReplies, Runs, SCRIPT_MOST, script_of}
+use Rattle.sasi_run.specs.Headline.{EmitsBeforePiece, EmitsCutReply, EmitsFirstReplies, Runs, SCRIPT_MOST, exact, script_of}
 use Rattle.sasi_run.specs.declared.status.Status.{Status}
 use Rattle.sasi_run.specs.declared.status.Status.TheVariants.{Done, Refused, Usage, ScriptFault, FolderFault, OutputFault, OutOfMemory, Damaged, PartitionerDiffers, NumbersSpent, ScriptTooLong}
 
@@ -45,12 +45,12 @@ AnsweredByStatus parser (Refused n) s script read shown answered = answered ≡ 
 AnsweredByStatus parser Usage s script read shown answered = answered ≡ []
 AnsweredByStatus parser ScriptFault s script read shown answered = answered ≡ (pieces read).whole
 AnsweredByStatus parser ScriptTooLong s script read shown answered = answered ≡ (pieces (take SCRIPT_MOST read)).whole
-AnsweredByStatus parser OutOfMemory s script read shown answered = (emits : EmitsFirstReplies parser s script read shown) × (answered ≡ emits.done)
-AnsweredByStatus parser FolderFault s script read shown answered = (emits : EmitsFirstReplies parser s script read shown) × (answered ≡ emits.done)
+AnsweredByStatus parser OutOfMemory s script read shown answered = (emits : EmitsFirstReplies (exact parser) s script read shown) × (answered ≡ emits.done)
+AnsweredByStatus parser FolderFault s script read shown answered = (emits : EmitsFirstReplies (exact parser) s script read shown) × (answered ≡ emits.done)
 AnsweredByStatus parser (Damaged damage) s script read shown answered = answered ≡ []
 AnsweredByStatus parser (PartitionerDiffers asked kept) s script read shown answered = answered ≡ []
-AnsweredByStatus parser (NumbersSpent kind) s script read shown answered = (emits : EmitsBeforePiece parser s script read shown) × (answered ≡ emits.done)
-AnsweredByStatus parser OutputFault s script read shown answered = (emits : EmitsCutReply parser s script read shown) × (answered ≡ emits.done)
+AnsweredByStatus parser (NumbersSpent kind) s script read shown answered = (emits : EmitsBeforePiece (exact parser) s script read shown) × (answered ≡ emits.done)
+AnsweredByStatus parser OutputFault s script read shown answered = (emits : EmitsCutReply parser (exact parser) s script read shown) × (answered ≡ emits.done)
 
 -- one emit for each reply with a byte to the pieces that were answered, and the one that failed
 pub record EmitsCounted (parser : Parser) (status : Status) (s : State) (script read shown : List ℕ) (old new : ℕ) : Type 0 where
@@ -62,5 +62,5 @@ pub record EmitsCounted (parser : Parser) (status : Status) (s : State) (script 
 pub record CountsEmits (status : Status) (s : State) (left_old left_new : Option (List ℕ)) (host_old host_new : View) : Type 0 where
   pub parser : Parser
   pub parses : IsParser parser
-  pub runs : Runs parser status s left_old left_new host_old.emitted host_new.emitted
+  pub runs : Runs parser (exact parser) status s left_old left_new host_old.emitted host_new.emitted
   pub counted : EmitsCounted parser status s (script_of left_old runs.read) runs.read runs.shown host_old.emits host_new.emits

@@ -33,20 +33,46 @@ SCRIPT_MOST = 2 ^ 40
 abbrev pub READ_MOST : ℕ
 READ_MOST = 4096
 
--- the replies of all pieces of the script were emitted, and so many pieces are refused
-pub record EmitsAllReplies (parser : Parser) (s : State) (read shown : List ℕ) (refused : ℕ) : Type 0 where
-  pub all : shown ≡ replies_by parser s (all_pieces read)
+-- ---- replies
+
+-- what is said of replies: of those to pieces from a state, joined, and of the one to a piece
+pub record Replies : Type 1 where
+  pub all : State → List Piece → List ℕ → Type 0
+  pub one : State → Piece → List ℕ → Type 0
+
+-- they are those of the model
+abbrev pub exact : Parser → Replies
+exact parser = record { all = λ s pieces shown. shown ≡ replies_by parser s pieces; one = λ s piece reply. reply ≡ (step_by parser s piece).reply }
+
+-- the reply of a piece is that of the model, but where it has rows
+abbrev pub IsReplyButRows : Parser → State → Piece → List ℕ → Type 0
+IsReplyButRows parser s piece reply = ¬ (PrintsRows parser s piece) → reply ≡ (step_by parser s piece).reply
+
+-- and so is each of the replies of pieces, in their order
+abbrev pub AreRepliesButRows : Parser → State → List Piece → List ℕ → Type 0
+AreRepliesButRows parser s [] shown = shown ≡ []
+AreRepliesButRows parser s (p ∷ ps) shown = (reply others : List ℕ) × (shown ≡ reply ++ others) × IsReplyButRows parser s p reply × AreRepliesButRows parser (step_by parser s p).state ps others
+
+-- they are those of the model, whatever the rows are that the SELECTs print
+abbrev pub but_rows : Parser → Replies
+but_rows parser = record { all = AreRepliesButRows parser; one = IsReplyButRows parser }
+
+-- ---- what was emitted
+
+-- the replies of all pieces of the script, of which so many are refused
+pub record EmitsAllReplies (parser : Parser) (r : Replies) (s : State) (read shown : List ℕ) (refused : ℕ) : Type 0 where
+  pub all : r.all s (all_pieces read) shown
   pub count : refused ≡ min (refusals_by parser s (all_pieces read)) (2 ^ 64 - 1)
   pub short : length read ≤ SCRIPT_MOST
 
--- the replies of exactly the whole pieces within the bytes read were emitted
-pub record EmitsWholePieces (parser : Parser) (s : State) (read shown : List ℕ) : Type 0 where
-  pub whole : shown ≡ replies_by parser s (pieces read).whole
+-- the replies of exactly the whole pieces within the bytes read
+pub record EmitsWholePieces (r : Replies) (s : State) (read shown : List ℕ) : Type 0 where
+  pub whole : r.all s (pieces read).whole shown
   pub short : length read ≤ SCRIPT_MOST
 
 -- the same within the first 2^40 bytes, and the source gave more
-pub record EmitsUpToLimit (parser : Parser) (s : State) (read shown : List ℕ) : Type 0 where
-  pub whole : shown ≡ replies_by parser s (pieces (take SCRIPT_MOST read)).whole
+pub record EmitsUpToLimit (r : Replies) (s : State) (read shown : List ℕ) : Type 0 where
+  pub whole : r.all s (pieces (take SCRIPT_MOST read)).whole shown
   pub long : SCRIPT_MOST < length read
 
 -- the script that a source tells, or else what was read of it
@@ -67,41 +93,41 @@ pub record IsFirstPart (script read : List ℕ) (done next : List Piece) : Type 
   pub has : done ≡ (pieces before).whole ++ more
 
 -- whole replies of a first part of the pieces were emitted, and nothing behind them
-pub record EmitsFirstReplies (parser : Parser) (s : State) (script read shown : List ℕ) : Type 0 where
+pub record EmitsFirstReplies (r : Replies) (s : State) (script read shown : List ℕ) : Type 0 where
   pub done : List Piece
   pub first : IsFirstPart script read done []
-  pub replied : shown ≡ replies_by parser s done
+  pub replied : r.all s done shown
 
 -- whole replies of a first part of the pieces were emitted, of all before the one that wasn't run
-pub record EmitsBeforePiece (parser : Parser) (s : State) (script read shown : List ℕ) : Type 0 where
+pub record EmitsBeforePiece (r : Replies) (s : State) (script read shown : List ℕ) : Type 0 where
   pub done : List Piece
   pub piece : Piece
   pub first : IsFirstPart script read done (piece ∷ [])
-  pub replied : shown ≡ replies_by parser s done
+  pub replied : r.all s done shown
 
 -- and a first part of the next reply behind them
-pub record EmitsCutReply (parser : Parser) (s : State) (script read shown : List ℕ) : Type 0 where
+pub record EmitsCutReply (parser : Parser) (r : Replies) (s : State) (script read shown : List ℕ) : Type 0 where
   pub done : List Piece
   pub piece : Piece
   pub first : IsFirstPart script read done (piece ∷ [])
+  pub whole : List ℕ
   pub front : List ℕ
   pub back : List ℕ
-  pub reply : (step_by parser (state_by parser s done) piece).reply ≡ front ++ back
-  pub replied : shown ≡ replies_by parser s done ++ front
+  pub replied : r.all s done whole
+  pub reply : r.one (state_by parser s done) piece (front ++ back)
+  pub parts : shown ≡ whole ++ front
 
 -- what was emitted, by the status, of this script of which so much was read
-abbrev pub EmitsByStatus : Parser → Status → State → List ℕ → List ℕ → List ℕ → Type 0
-EmitsByStatus parser Done s script read shown = EmitsAllReplies parser s read shown 0
-EmitsByStatus parser (Refused n) s script read shown = (0 < n) × EmitsAllReplies parser s read shown n
-EmitsByStatus parser Usage s script read shown = (read ≡ []) × (shown ≡ [])
-EmitsByStatus parser ScriptFault s script read shown = EmitsWholePieces parser s read shown
-EmitsByStatus parser ScriptTooLong s script read shown = EmitsUpToLimit parser s read shown
-EmitsByStatus parser OutOfMemory s script read shown = EmitsFirstReplies parser s script read shown
-EmitsByStatus parser FolderFault s script read shown = EmitsFirstReplies parser s script read shown
-EmitsByStatus parser (Damaged damage) s script read shown = (read ≡ []) × (shown ≡ [])
-EmitsByStatus parser (PartitionerDiffers asked kept) s script read shown = (read ≡ []) × (shown ≡ [])
-EmitsByStatus parser (NumbersSpent kind) s script read shown = EmitsBeforePiece parser s script read shown
-EmitsByStatus parser OutputFault s script read shown = EmitsCutReply parser s script read shown
+abbrev pub EmitsByStatus : Parser → Replies → Status → State → List ℕ → List ℕ → List ℕ → Type 0
+EmitsByStatus parser r Done s script read shown = EmitsAllReplies parser r s read shown 0
+EmitsByStatus parser r (Refused n) s script read shown = (0 < n) × EmitsAllReplies parser r s read shown n
+EmitsByStatus parser r Usage s script read shown = (read ≡ []) × (shown ≡ [])
+EmitsByStatus parser r ScriptFault s script read shown = EmitsWholePieces r s read shown
+EmitsByStatus parser r ScriptTooLong s script read shown = EmitsUpToLimit r s read shown
+EmitsByStatus parser r (PartitionerDiffers asked kept) s script read shown = (read ≡ []) × (shown ≡ [])
+EmitsByStatus parser r (NumbersSpent kind) s script read shown = EmitsBeforePiece r s script read shown
+EmitsByStatus parser r OutputFault s script read shown = EmitsCutReply parser r s script read shown
+EmitsByStatus parser r status s script read shown = EmitsFirstReplies r s script read shown
 
 -- the script was read to its end
 abbrev pub ReadsToEnd : Status → Option (List ℕ) → Type 0
@@ -115,93 +141,15 @@ RanToEnd Done = Unit {0}
 RanToEnd (Refused n) = Unit {0}
 RanToEnd _ = ⊥
 
--- the run read these bytes, and emitted what they show
-pub record Runs (parser : Parser) (status : Status) (s : State) (left_old left_new out_old out_new : Option (List ℕ)) : Type 0 where
+-- the run read these bytes, and emitted what they show from this state
+pub record Runs (parser : Parser) (r : Replies) (status : Status) (s : State) (left_old left_new out_old out_new : Option (List ℕ)) : Type 0 where
   pub read : List ℕ
   pub shown : List ℕ
   pub consumed : Consumes left_old left_new read
   pub emitted : Appends out_old out_new shown
   pub at_end : ReadsToEnd status left_new
-  pub shows : EmitsByStatus parser status s (script_of left_old read) read shown
+  pub shows : EmitsByStatus parser r status s (script_of left_old read) read shown
   pub bounded : length read ≤ SCRIPT_MOST + READ_MOST
-
--- ---- on every host
-
--- how much was read, by the status, and where nothing was read that nothing was emitted
-abbrev pub ReadsByStatus : Status → List ℕ → List ℕ → Type 0
-ReadsByStatus Done read shown = length read ≤ SCRIPT_MOST
-ReadsByStatus (Refused n) read shown = (0 < n) × (length read ≤ SCRIPT_MOST)
-ReadsByStatus Usage read shown = (read ≡ []) × (shown ≡ [])
-ReadsByStatus ScriptFault read shown = length read ≤ SCRIPT_MOST
-ReadsByStatus ScriptTooLong read shown = SCRIPT_MOST < length read
-ReadsByStatus (PartitionerDiffers asked kept) read shown = (read ≡ []) × (shown ≡ [])
-ReadsByStatus _ read shown = Unit {0}
-
--- the run read these bytes, and the known output grew
-pub record ReadsBytes (status : Status) (left_old left_new out_old out_new : Option (List ℕ)) : Type 0 where
-  pub read : List ℕ
-  pub shown : List ℕ
-  pub consumed : Consumes left_old left_new read
-  pub emitted : Appends out_old out_new shown
-  pub at_end : ReadsToEnd status left_new
-  pub by_status : ReadsByStatus status read shown
-  pub bounded : length read ≤ SCRIPT_MOST + READ_MOST
-
--- the reply of a piece is that of the model, but where it has rows
-abbrev pub IsReplyButRows : Parser → State → Piece → List ℕ → Type 0
-IsReplyButRows parser s piece reply = ¬ (PrintsRows parser s piece) → reply ≡ (step_by parser s piece).reply
-
--- and so is each of the replies of pieces, in their order
-abbrev pub AreRepliesButRows : Parser → State → List Piece → List ℕ → Type 0
-AreRepliesButRows parser s [] shown = shown ≡ []
-AreRepliesButRows parser s (p ∷ ps) shown = (reply others : List ℕ) × (shown ≡ reply ++ others) × IsReplyButRows parser s p reply × AreRepliesButRows parser (step_by parser s p).state ps others
-
--- replies to all pieces of the script were emitted, and so many pieces are refused
-pub record EmitsAllButRows (parser : Parser) (s : State) (read shown : List ℕ) (refused : ℕ) : Type 0 where
-  pub all : AreRepliesButRows parser s (all_pieces read) shown
-  pub count : refused ≡ min (refusals_by parser s (all_pieces read)) (2 ^ 64 - 1)
-
--- whole replies to a first part of the pieces were emitted
-pub record EmitsFirstButRows (parser : Parser) (s : State) (script read shown : List ℕ) : Type 0 where
-  pub done : List Piece
-  pub first : IsFirstPart script read done []
-  pub replied : AreRepliesButRows parser s done shown
-
--- to all before the one that wasn't run
-pub record EmitsBeforeButRows (parser : Parser) (s : State) (script read shown : List ℕ) : Type 0 where
-  pub done : List Piece
-  pub piece : Piece
-  pub first : IsFirstPart script read done (piece ∷ [])
-  pub replied : AreRepliesButRows parser s done shown
-
--- and a first part of the next reply behind them
-pub record EmitsCutButRows (parser : Parser) (s : State) (script read shown : List ℕ) : Type 0 where
-  pub done : List Piece
-  pub piece : Piece
-  pub first : IsFirstPart script read done (piece ∷ [])
-  pub whole : List ℕ
-  pub front : List ℕ
-  pub back : List ℕ
-  pub replied : AreRepliesButRows parser s done whole
-  pub reply : IsReplyButRows parser (state_by parser s done) piece (front ++ back)
-  pub parts : shown ≡ whole ++ front
-
--- what was emitted, by the status
-abbrev pub EmitsButRows : Parser → Status → State → List ℕ → List ℕ → List ℕ → Type 0
-EmitsButRows parser Done s script read shown = EmitsAllButRows parser s read shown 0
-EmitsButRows parser (Refused n) s script read shown = EmitsAllButRows parser s read shown n
-EmitsButRows parser ScriptFault s script read shown = AreRepliesButRows parser s (pieces read).whole shown
-EmitsButRows parser ScriptTooLong s script read shown = AreRepliesButRows parser s (pieces (take SCRIPT_MOST read)).whole shown
-EmitsButRows parser Usage s script read shown = Unit {0}
-EmitsButRows parser (PartitionerDiffers asked kept) s script read shown = Unit {0}
-EmitsButRows parser (NumbersSpent kind) s script read shown = EmitsBeforeButRows parser s script read shown
-EmitsButRows parser OutputFault s script read shown = EmitsCutButRows parser s script read shown
-EmitsButRows parser status s script read shown = EmitsFirstButRows parser s script read shown
-
--- **On every host.** The run read these bytes, and emitted what they show from this state, whatever the rows are that the SELECTs print.
-pub record RunsButRows (parser : Parser) (status : Status) (s : State) (left_old left_new out_old out_new : Option (List ℕ)) : Type 0 where
-  pub bytes : ReadsBytes status left_old left_new out_old out_new
-  pub shows : EmitsButRows parser status s (script_of left_old bytes.read) bytes.read bytes.shown
 
 -- ---- from a layout
 
@@ -223,7 +171,7 @@ pub record StandsForEnd (v : View) (l : Layout) (s : State) : Type 0 where
 
 -- **The replies, and what a crash leaves.** What was emitted are replies as the status says, and at each moment since the start a crash leaves the state after the pieces whose replies were emitted, or after one more: the folder has the shape of the layout after these pieces and a first part of the moves of the next one. A run to the script's end leaves the layout after all of them, and no other file.
 pub record RunsFrom (parser : Parser) (asked : Option Partitioner) (status : Status) (l : Layout) (left_old left_new : Option (List ℕ)) (host_old host_new : View) : Type 0 where
-  pub runs : Runs parser status (state_of l) left_old left_new host_old.emitted host_new.emitted
+  pub runs : Runs parser (exact parser) status (state_of l) left_old left_new host_old.emitted host_new.emitted
   pub crash : (before : List ℕ) → host_old.emitted ≡ Some before → (folder : Folder) (out : List ℕ) → host_new.left host_old.moment folder out
       → Recovers parser asked host_old (state_of l) (all_pieces (script_of left_old runs.read)) before folder out
   pub shapes : (before : List ℕ) → host_old.emitted ≡ Some before → (folder : Folder) (out : List ℕ) → host_new.left host_old.moment folder out
@@ -237,10 +185,10 @@ pub record Headline (asked : Option Partitioner) (status : Status) (script_old s
   pub parser : Parser
   pub parses : IsParser parser
   -- on every host, also where its files aren't told or have no shape: from some state all but the rows
-  pub on_every_host : (s : State) × RunsButRows parser status s script_old.left script_new.left host_old.emitted host_new.emitted
+  pub on_every_host : (s : State) × Runs parser (but_rows parser) status s script_old.left script_new.left host_old.emitted host_new.emitted
   -- the replies, from the layout whose shape the folder as it reads has, whatever its images have
   pub as_it_reads : (folder : Folder) (l : Layout) → host_old.files ≡ Some folder → ShapeOf asked folder l
-      → Runs parser status (state_of l) script_old.left script_new.left host_old.emitted host_new.emitted
+      → Runs parser (exact parser) status (state_of l) script_old.left script_new.left host_old.emitted host_new.emitted
   -- the replies, and the crash
   pub shows : (l : Layout) → StartsFrom asked host_old l → RunsFrom parser asked status l script_old.left script_new.left host_old host_new
 
