@@ -18,7 +18,9 @@ pub struct Whole {
 
 impl Whole {
     /// An analyzer without a text.
-    pub fn new() -> Whole {
+    pub fn new() -> Whole
+        ensures { ⟦<Whole as Analyzer>⟧.left result ≡ [] }
+    {
         Whole { term: None }
     }
 }

@@ -1,5 +1,5 @@
 // The analyzer that takes the words of a text.
-ghost use Rattle.std.specs.Prelude.{◌≡◌, ◌+◌, map, drop, IfOk};
+ghost use Rattle.std.specs.Prelude.{◌≡◌, ◌+◌, [], map, drop, IfOk};
 ghost use Rattle.unicode_segmentation.specs.Word.{words};
 ghost use Rattle.sasi_types.specs.declared.class.Class.TheVariants.{Standard};
 ghost use Rattle.sasi_terms.specs.Terms.{folded};
@@ -32,7 +32,9 @@ fn words_of(alloc: Global, fold: bool, text: &str) -> Result<TermList, AllocErro
 
 impl Words {
     /// An analyzer without a text.
-    pub fn new(alloc: Global) -> Words {
+    pub fn new(alloc: Global) -> Words
+        ensures { ⟦<Words as Analyzer>⟧.left result ≡ [] }
+    {
         Words {
             terms: TermList::new(alloc),
             position: 0,

@@ -11,6 +11,8 @@ use Rattle.sasi_host.specs.declared.fault.HostFault.{HostFault}
 use Rattle.sasi_host.specs.declared.fault.HostFault.TheVariants as host_fault
 use Rattle.sasi_host.specs.Faults.{read_fault_of}
 use Rattle.sasi_host.specs.View.{FailedAtLast, IsThere, ListCauses, View}
+use Rattle.sasi_host.specs.ChangeLaws.{then_same}
+use Rattle.sasi_host.specs.Disk.{Changes, Same}
 use Rattle.sasi_gated.specs.Causes.{ReadingCauses}
 use Rattle.sasi_manifest.specs.Damages.{NoFalseManifestDamage}
 use Rattle.sasi_manifest.specs.declared.listing.Listing.{Listing}
@@ -111,6 +113,13 @@ host_causes a b host_fault.Failed causes = record { disk = causes.disk; out = ca
 host_causes a b host_fault.OutOfMemory causes = record { disk = causes.disk; out = causes.out; ok = tt; failed = λ is. (let never : fault.OutOfMemory ≡ fault.Failed = is in cc); others = λ other. causes.memory refl }
 
 -- ---- behind calls that failed nothing
+
+-- a difference behind a call that leaves the folder as it is
+pub untouched_behind : (a b c : View) (f : OpenFault) → Changes Same a b → OnDiffers (λ wanted kept. Changes Same b c) f → OnDiffers (λ wanted kept. Changes Same a c) f
+untouched_behind a b c fault.Failed same told = tt
+untouched_behind a b c fault.OutOfMemory same told = tt
+untouched_behind a b c (fault.Damaged damage) same told = tt
+untouched_behind a b c (fault.PartitionerDiffers asked kept) same told = then_same a b c Same same told
 
 pub causes_behind : {T : Type 0} (a b c : View) (result : Result T OpenFault) → b.disk_faults ≡ a.disk_faults → b.out_faults ≡ a.out_faults → OpenCauses b c result → OpenCauses a c result
 causes_behind a b c (Ok value) disk out causes = record { disk = omega (arith, disk, causes.disk); out = causes.out ∙ out; ok = causes.ok ∙ disk; failed = tt; others = tt }

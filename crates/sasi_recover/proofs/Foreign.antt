@@ -1,7 +1,7 @@
 -- The first name that isn't one of those that the making of a store begins with.
 use Rattle.std.proofs.Common.{◌≡◌, ◌≢◌, ℕ, ◌+◌, ◌<◌, ◌≤◌, true, false, List, [], ◌∷◌, ◌++◌, length, take, drop, get_or, All, Contains, Option, None, IsSome, is_some, refl, sym, ◌∙◌, ap, append_assoc, subst, arith}
 use Rattle.std.proofs.lemmas.List.{take_all, take_more, take-append-drop}
-use Rattle.std.proofs.lemmas.List.Elements.{All-more, All-same, Contains-append_right, recursion_from_All}
+use Rattle.std.proofs.lemmas.List.Elements.{All-contains, All-more, All-same, Contains-append_right, recursion_from_All}
 use Rattle.std.specs.FinMap.{get}
 use Rattle.sasi_host.specs.declared.damage.Damage.{Damage}
 use Rattle.sasi_host.specs.declared.damage.FormatRule.TheVariants.{NoSeal}
@@ -48,6 +48,10 @@ apart name first is other same = both_ways (sym is ∙ ap is_initial (sym same) 
 pub foreign_listed : (names : List FileName) (damage : Damage) → ReportsForeign names damage → Contains names damage.file
 foreign_listed names damage foreign = subst (λ (l : List FileName). Contains l damage.file) (sym foreign.is)
     (Contains-append_right foreign.before (damage.file ∷ foreign.behind) damage.file (0, omega arith, refl))
+
+-- none of the names is such a one, where all are those that the making of a store begins with
+pub not_foreign : (names : List FileName) (name : FileName) → All (λ name. is_initial name ≡ true) names → Contains names name → is_initial name ≡ false → ⊥
+not_foreign names name firsts has other = both_ways (sym (All-contains (λ n. is_initial n ≡ true) names name firsts has) ∙ other)
 
 -- **A folder in which such a name is there isn't new.**
 pub foreign_no_false_damage : (v : View) (names : List FileName) (damage : Damage) → Lists v names → ReportsForeign names damage → NoFalseFreshDamage v

@@ -1,9 +1,9 @@
 -- An opening leaves the files that the manifest lists as they are.
-use Rattle.std.proofs.Common.{◌≡◌, ℕ, true, List, None, Some, sym, ◌∙◌, ap, subst}
+use Rattle.std.proofs.Common.{◌≡◌, ℕ, true, List, Option, None, Some, IsSome, is_some, sym, ◌∙◌, ap, subst}
 use Rattle.std.specs.FinMap.{get}
 use Rattle.sasi_host.specs.declared.name.FileName.{FileName}
 use Rattle.sasi_host.specs.Names.{Bytes, Folder, manifest_name, seal_name}
-use Rattle.sasi_host.specs.View.{View, IsThere}
+use Rattle.sasi_host.specs.View.{View, IsThere, contents_in}
 use Rattle.sasi_host.specs.Disk.{Changes, Lists, Same}
 use Rattle.sasi_host.specs.ChangeLaws.{changes_as, changes_on}
 use Rattle.sasi_manifest.specs.OpenManifest.{ManifestState}
@@ -13,11 +13,12 @@ use Rattle.sasi_folder.proofs.FolderLaws.{highest_same}
 use Rattle.sasi_layout.specs.Kept.{Kept, is_kept}
 use Rattle.sasi_recover.specs.Deletion.{Deletes}
 use Rattle.sasi_recover.specs.KeptListed.{KeepsAll, KeepsListed, kept_under}
+use Rattle.sasi_recover.specs.NewFolder.{IsForeign}
 use Rattle.sasi_recover.specs.Opening.{IsHighestSeal}
 use Rattle.sasi_recover.specs.SealedFolder.{AreListedFiles, kept_with}
 use Rattle.sasi_recover.proofs.DeletedFiles.{unless_kept}
 use Rattle.sasi_recover.proofs.KeptFiles.{keeps_is}
-use Rattle.sasi_recover.proofs.SealedStore.{bytes_there, held_is_listed, reads_of}
+use Rattle.sasi_recover.proofs.SealedStore.{bytes_there, held_is_listed, listed_is_there, reads_of}
 
 of_same : (x y : Folder) (name : FileName) → Same x y → get y name ≡ get x name
 of_same x y name same = ap (λ (f : Folder). get f name) same
@@ -57,3 +58,15 @@ listed_sealed a b c folder number other sealed highest same listed =
 -- a folder without a seal has no such number
 pub unsealed : (v : View) (names : List FileName) (folder : Folder) (number : ℕ) → Lists v names → v.files ≡ Some folder → IsHighestSeal names None → IsSealed folder number → ⊥
 unsealed v names folder number lists files none sealed = none number (held_is_listed v names folder (seal_name number) lists files sealed.there)
+
+-- ---- a folder of something else
+
+none_there : {A : Type 0} (o : Option A) → o ≡ None → IsSome o → ⊥
+none_there None is some = cc
+none_there (Some x) is some = cc
+
+-- it has no highest seal
+pub foreign_unsealed : (v : View) (names : List FileName) (folder : Folder) (number : ℕ) → Lists v names → v.files ≡ Some folder → IsForeign folder → IsHighestSeal names (Some number) → ⊥
+foreign_unsealed v names folder number lists files foreign highest =
+    none_there (get folder (seal_name number)) (foreign.unsealed number)
+    (subst (λ (o : Option Folder). IsSome (contents_in o (seal_name number))) files (listed_is_there v names (seal_name number) lists highest.0 (ap (λ (o : Option Folder). is_some o) files)))

@@ -1,5 +1,5 @@
 // Creates the store of a new folder.
-ghost use Rattle.std.specs.Prelude.{◌≡◌, [], All, IfErr, IfOk, OnOk, true};
+ghost use Rattle.std.specs.Prelude.{◌≡◌, [], All, Contains, IfErr, IfOk, OnOk, false, true};
 ghost use Rattle.std.specs.List.Sorted.{IsStrictlySortedBy};
 ghost use Rattle.sasi_host.specs.declared.name.FileName.{FileName as AName};
 ghost use Rattle.sasi_host.specs.Damages.{OnDamage};
@@ -42,6 +42,7 @@ pub fn create_store<H: Host>(
     ensures damaged { IfErr result (OnDamage (ReportsForeign names.now)) }
     ensures undamaged { IfErr result (OnDamage (λ damage. NoFalseFreshDamage (H.view host.old))) }
     ensures untouched { IfErr result (OnDamage (λ damage. Changes Same (H.view host.old) (H.view host.new))) }
+    ensures foreign { (name : AName) → Contains names.now name → is_initial name ≡ false → Changes Same (H.view host.old) (H.view host.new) }
     ensures changes { Changes AnyFolderChange (H.view host.old) (H.view host.new) }
     ensures reads { (H.view host.new).reads ≡ (H.view host.old).reads }
     ensures causes { ReadingCauses (H.view host.old) (H.view host.new) result }

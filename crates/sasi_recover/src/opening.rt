@@ -1,9 +1,10 @@
 // Opens a folder.
-ghost use Rattle.std.specs.Prelude.{◌≡◌, ◌≢◌, ◌⊎◌, ℕ, All, IfErr, IfOk, List, OnOk, Some, true, unwrap_or};
+ghost use Rattle.std.specs.Prelude.{◌≡◌, ◌≢◌, ◌⊎◌, ℕ, All, Contains, IfErr, IfOk, List, OnOk, Some, false, true, unwrap_or};
 ghost use Rattle.std.specs.List.Sorted.{IsStrictlySortedBy};
 ghost use Rattle.sasi_types.specs.declared.partitioner.Partitioner.{Partitioner as APartitioner};
 ghost use Rattle.sasi_types.specs.declared.partitioner.Partitioner.TheVariants as partitioner;
-ghost use Rattle.sasi_host.specs.Disk.{Changes, Lists};
+ghost use Rattle.sasi_host.specs.declared.name.FileName.{FileName as AName};
+ghost use Rattle.sasi_host.specs.Disk.{Changes, Lists, Same};
 ghost use Rattle.sasi_host.specs.ChangeLaws.{Each};
 ghost use Rattle.sasi_host.specs.View.{IsThere, IsTold};
 ghost use Rattle.sasi_host.specs.Names.{Folder, name_cmp, seal_name};
@@ -16,7 +17,7 @@ ghost use Rattle.sasi_layout.specs.Serving.{IsReady, Serves};
 ghost use Rattle.sasi_layout.specs.Shape.{HasShape, ShapeOf, new_layout};
 ghost use Rattle.sasi_recover.specs.Faults.{IsDifference, OnDiffers, OnOpenDamage, OpenCauses, TellsDifference};
 ghost use Rattle.sasi_recover.specs.KeptListed.{KeepsListed};
-ghost use Rattle.sasi_recover.specs.NewFolder.{IsFreshOrNew, NoFalseFreshDamage, ReportsForeign, is_initial};
+ghost use Rattle.sasi_recover.specs.NewFolder.{IsForeign, IsFreshOrNew, NoFalseFreshDamage, ReportsForeign, is_initial};
 ghost use Rattle.sasi_recover.specs.OpenedFolder.{AnyFolderChange, IsTimed, in_hand};
 ghost use Rattle.sasi_recover.specs.Opening.{IsFolderDurable};
 ghost use Rattle.sasi_recover.specs.OpeningReads.{OpensReadingOnce, ReadsStoreOnce};
@@ -47,8 +48,11 @@ pub fn open<H: Host>(
     ensures undamaged { (folder : Folder) (l : Layout) → (H.view host.old).files ≡ Some folder → ShapeOf asked folder l → IfErr result (OnOpenDamage (λ _. ⊥)) }
     ensures differs { (folder : Folder) (wanted kept : APartitioner) → (H.view host.old).files ≡ Some folder → asked ≡ Some wanted → KeepsPartitioner folder kept → wanted ≢ kept → TellsDifference wanted kept result }
     ensures differs_only { (folder : Folder) → (H.view host.old).files ≡ Some folder → IfErr result (OnDiffers (λ wanted kept. (asked ≡ Some wanted) × KeepsPartitioner folder kept × (wanted ≢ kept))) }
+    ensures untouched { IfErr result (OnDiffers (λ wanted kept. Changes Same (H.view host.old) (H.view host.new))) }
     // Whatever is damaged, the files that the manifest of the highest seal lists stay, and all files where it can't be read.
     ensures kept { (folder : Folder) (number : ℕ) → (H.view host.old).files ≡ Some folder → IsSealed folder number → Changes (KeepsListed folder number) (H.view host.old) (H.view host.new) }
+    // A folder of something else stays as it is.
+    ensures foreign { (folder : Folder) → (H.view host.old).files ≡ Some folder → IsForeign folder → Changes Same (H.view host.old) (H.view host.new) }
     ensures changes { Changes AnyFolderChange (H.view host.old) (H.view host.new) }
     ensures once { (folder : Folder) → (H.view host.old).files ≡ Some folder → OpensReadingOnce folder (H.view host.old) (H.view host.new) }
     ensures causes { OpenCauses (H.view host.old) (H.view host.new) result }
@@ -78,6 +82,7 @@ fn open_new<H: Host>(
     ensures damaged { IfErr result (OnOpenDamage (ReportsForeign names.now)) }
     ensures undamaged { IfErr result (OnOpenDamage (λ damage. NoFalseFreshDamage (H.view host.old))) }
     ensures same { IfErr result (OnDiffers (λ wanted kept. ⊥)) }
+    ensures foreign { (name : AName) → Contains names.now name → is_initial name ≡ false → Changes Same (H.view host.old) (H.view host.new) }
     ensures changes { Changes AnyFolderChange (H.view host.old) (H.view host.new) }
     ensures reads { (H.view host.new).reads ≡ (H.view host.old).reads }
     ensures causes { OpenCauses (H.view host.old) (H.view host.new) result }
@@ -108,6 +113,7 @@ fn open_sealed<H: Host>(
     ensures undamaged { (folder : Folder) (l : Layout) (logs : List (List Mutation)) → (H.view host.old).files ≡ Some folder → l.used.manifest ≡ number → HasShape folder l logs → IfErr result (OnOpenDamage (λ _. ⊥)) }
     ensures differs { (folder : Folder) (wanted kept : APartitioner) → (H.view host.old).files ≡ Some folder → asked ≡ Some wanted → KeepsUnder folder number kept → wanted ≢ kept → TellsDifference wanted kept result }
     ensures differs_only { (folder : Folder) → (H.view host.old).files ≡ Some folder → IfErr result (OnDiffers (λ wanted kept. (asked ≡ Some wanted) × KeepsUnder folder number kept × (wanted ≢ kept))) }
+    ensures untouched { IfErr result (OnDiffers (λ wanted kept. Changes Same (H.view host.old) (H.view host.new))) }
     ensures kept { (folder : Folder) → (H.view host.old).files ≡ Some folder → Changes (KeepsListed folder number) (H.view host.old) (H.view host.new) }
     ensures changes { Changes AnyFolderChange (H.view host.old) (H.view host.new) }
     ensures once { (folder : Folder) → (H.view host.old).files ≡ Some folder → ReadsStoreOnce folder number (H.view host.old) (H.view host.new) }

@@ -1,17 +1,23 @@
 -- The causes of a run's status.
-use Rattle.std.proofs.Common.{◌≡◌, ◌≢◌, List, ℕ, Some, refl, subst, inl, inr, Err}
+use Rattle.std.proofs.Common.{◌≡◌, ◌≢◌, List, ℕ, Some, refl, ap, subst, inl, inr, Err}
+use Rattle.std.specs.FinMap.{get}
 use Rattle.sasi_types.specs.declared.partitioner.Partitioner.{Partitioner}
 use Rattle.sasi_host.specs.Names.{Folder}
 use Rattle.sasi_host.specs.View.{SourceView, View}
+use Rattle.sasi_host.specs.ChangeLaws.{changes_as, stays}
+use Rattle.sasi_host.specs.Disk.{Changes, Same}
 use Rattle.sasi_host.specs.declared.damage.Damage.{Damage}
 use Rattle.sasi_folder.specs.Damages.{FolderShows}
 use Rattle.sasi_folder.specs.Opens.{CanOpen, KeepsPartitioner}
+use Rattle.sasi_folder.specs.Stands.{IsSealed}
 use Rattle.sasi_layout.specs.Layout.{Layout}
 use Rattle.sasi_layout.specs.Shape.{ShapeOf}
 use Rattle.sasi_layout.specs.Worlds.{ServesWorld, new_world}
 use Rattle.sasi_model.specs.Parsers.{grammar_parser}
 use Rattle.sasi_model.specs.State.{State}
 use Rattle.sasi_recover.specs.Faults.{OnDiffers, OnOpenDamage, TellsDifference}
+use Rattle.sasi_recover.specs.KeptListed.{KeepsListed}
+use Rattle.sasi_recover.specs.NewFolder.{IsForeign}
 use Rattle.sasi_recover.specs.declared.fault.OpenFault.{OpenFault}
 use Rattle.sasi_recover.specs.declared.fault.OpenFault.TheVariants as open_fault
 use Rattle.sasi_store.specs.StoreView.{StoreView}
@@ -29,6 +35,9 @@ use Rattle.sasi_run.proofs.WholeRun.{first_runs, no_tables}
 
 -- ---- the words name no script
 
+keeps_all : (v : View) (folder : Folder) (number : ℕ) → Changes (KeepsListed folder number) v v
+keeps_all v folder number = changes_as v v Same (KeepsListed folder number) (stays v) (λ x y same name listed. ap (λ (f : Folder). get f name) same)
+
 pub causes_unused : (words : List (List ℕ)) (script : SourceView) (a : View) → (IsCommandLine words → ⊥) → RunCauses words Usage script script a a
 causes_unused words script a none = record {
   usage = (λ is. none, λ no. refl);
@@ -36,7 +45,7 @@ causes_unused words script a none = record {
   counts = λ folder l files shape. counts_unused l script a;
   damaged = λ damage is. cc;
   undamaged = λ folder l damage files shape is. cc;
-  refused = λ folder files no. record { refusal = tt; unread = refl; silent = refl };
+  refused = λ folder files no. record { refusal = tt; unread = refl; silent = refl; kept = λ number sealed. keeps_all a folder number; foreign = λ foreign. stays a };
   differs = λ asked kept is. cc;
   compares = λ folder asked kept files asks keeps other. tt;
   complete = λ are x y z. absurd (none are);
@@ -53,6 +62,9 @@ pub record OpenFailed (T : Type 0) (words : List (List ℕ)) (fault : OpenFault)
   pub undamaged : (folder : Folder) (l : Layout) → a.files ≡ Some folder → ShapeOf (asked_by words) folder l → OnOpenDamage (λ _. ⊥) fault
   pub tells : (folder : Folder) (wanted kept : Partitioner) → a.files ≡ Some folder → asked_by words ≡ Some wanted → KeepsPartitioner folder kept → wanted ≢ kept
       → TellsDifference {T = T} wanted kept (Err fault)
+  pub kept : (folder : Folder) (number : ℕ) → a.files ≡ Some folder → IsSealed folder number → Changes (KeepsListed folder number) a b
+  pub foreign : (folder : Folder) → a.files ≡ Some folder → IsForeign folder → Changes Same a b
+  pub untouched : OnDiffers (λ wanted kept. Changes Same a b) fault
   pub differs : (folder : Folder) → a.files ≡ Some folder
       → OnDiffers (λ wanted kept. (asked_by words ≡ Some wanted) × KeepsPartitioner folder kept × (wanted ≢ kept)) fault
 
@@ -100,6 +112,7 @@ module _ (T : Type 0) (words : List (List ℕ)) (script : SourceView) (a b : Vie
         shows = λ folder files. (let is = failed.differs folder files in record { asks = is.0; keeps = is.1; other = is.2 });
         unread = refl;
         silent = failed.silent;
+        untouched = failed.untouched;
       }))
 
   compares : (fault : OpenFault) → OpenFailed T words fault script a b → (folder : Folder) (asked kept : Partitioner) → a.files ≡ Some folder
@@ -116,7 +129,13 @@ module _ (T : Type 0) (words : List (List ℕ)) (script : SourceView) (a b : Vie
     counts = λ folder l files shape. counts_unopened fault l script a b (unmoved a b failed.silent) failed.none_out;
     damaged = λ damage is. inl (damaged fault failed damage is);
     undamaged = λ folder l damage files shape. undamaged fault failed folder l damage files shape;
-    refused = λ folder files no. record { refusal = is_refusal fault; unread = refl; silent = failed.silent };
+    refused = λ folder files no. record {
+      refusal = is_refusal fault;
+      unread = refl;
+      silent = failed.silent;
+      kept = λ number sealed. failed.kept folder number files sealed;
+      foreign = λ foreign. failed.foreign folder files foreign;
+    };
     differs = λ asked kept is. differs fault failed asked kept is;
     compares = λ folder asked kept files asks keeps other. compares fault failed folder asked kept files asks keeps other;
     complete = λ words x y z. through grammar_parser (but_rows grammar_parser) (status_of_fault fault) no_tables script.left script.left a.emitted b.emitted

@@ -3,12 +3,16 @@ use Rattle.std.specs.Prelude.{◌≡◌, ◌≢◌, ◌⊎◌, ◌≤◌, ℕ, L
 use Rattle.sasi_types.specs.declared.partitioner.Partitioner.{Partitioner}
 use Rattle.sasi_host.specs.View.{FailedAtLast, FailsOnlyAsTold, ReadsOnlyFailAsTold, Rose, SourceView, View}
 use Rattle.sasi_host.specs.declared.damage.Damage.{Damage}
+use Rattle.sasi_host.specs.Disk.{Changes, Same}
 use Rattle.sasi_host.specs.Names.{Folder}
 use Rattle.sasi_folder.specs.Damages.{FolderShows}
 use Rattle.sasi_folder.specs.Opens.{CanOpen, KeepsPartitioner}
+use Rattle.sasi_folder.specs.Stands.{IsSealed}
 use Rattle.sasi_layout.specs.Layout.{Layout, state_of}
 use Rattle.sasi_layout.specs.Shape.{ShapeOf}
 use Rattle.sasi_layout.specs.Worlds.{new_world}
+use Rattle.sasi_recover.specs.KeptListed.{KeepsListed}
+use Rattle.sasi_recover.specs.NewFolder.{IsForeign}
 use Rattle.sasi_run.specs.CommandLine.{IsCommandLine, asked_by}
 use Rattle.sasi_run.specs.EmitCounts.{CountsEmits}
 use Rattle.sasi_run.specs.Headline.{SCRIPT_MOST, script_of}
@@ -54,11 +58,13 @@ IsRefusal (Damaged damage) = Unit {0}
 IsRefusal (PartitionerDiffers asked kept) = Unit {0}
 IsRefusal _ = ⊥
 
--- **A folder that can't be opened** isn't run on.
-pub record RefusesFolder (status : Status) (script_old script_new : SourceView) (host_old host_new : View) : Type 0 where
+-- **A folder that can't be opened** isn't run on. The files that the manifest of its highest seal lists stay, and all files where it can't be read. A folder of something else stays as it is.
+pub record RefusesFolder (folder : Folder) (status : Status) (script_old script_new : SourceView) (host_old host_new : View) : Type 0 where
   pub refusal : IsRefusal status
   pub unread : script_new ≡ script_old
   pub silent : host_new.emitted ≡ host_old.emitted
+  pub kept : (number : ℕ) → IsSealed folder number → Changes (KeepsListed folder number) host_old host_new
+  pub foreign : IsForeign folder → Changes Same host_old host_new
 
 -- a run that began, over an open store
 abbrev pub IsOfStore : Status → Type 0
@@ -80,11 +86,12 @@ pub record ShowsDifference (words : List (List ℕ)) (asked kept : Partitioner) 
   pub keeps : KeepsPartitioner folder kept
   pub other : asked ≢ kept
 
--- **Another partitioner** is kept than is asked, and the run took nothing of the script and emitted nothing.
+-- **Another partitioner** is kept than is asked, and the run took nothing of the script, emitted nothing and left the folder as it is.
 pub record ReportsDifference (words : List (List ℕ)) (asked kept : Partitioner) (script_old script_new : SourceView) (host_old host_new : View) : Type 0 where
   pub shows : (folder : Folder) → host_old.files ≡ Some folder → ShowsDifference words asked kept folder
   pub unread : script_new ≡ script_old
   pub silent : host_new.emitted ≡ host_old.emitted
+  pub untouched : Changes Same host_old host_new
 
 -- ---- calls
 
@@ -117,7 +124,7 @@ pub record RunCauses (words : List (List ℕ)) (status : Status) (script_old scr
       → CountsFrom status l script_old script_new host_old host_new
   pub damaged : (damage : Damage) → status ≡ Damaged damage → ReportsDamage damage script_old script_new host_old host_new
   pub undamaged : (folder : Folder) (l : Layout) (damage : Damage) → host_old.files ≡ Some folder → ShapeOf (asked_by words) folder l → status ≢ Damaged damage
-  pub refused : (folder : Folder) → host_old.files ≡ Some folder → ¬ CanOpen folder → RefusesFolder status script_old script_new host_old host_new
+  pub refused : (folder : Folder) → host_old.files ≡ Some folder → ¬ CanOpen folder → RefusesFolder folder status script_old script_new host_old host_new
   pub differs : (asked kept : Partitioner) → status ≡ PartitionerDiffers asked kept → ReportsDifference words asked kept script_old script_new host_old host_new
   pub compares : (folder : Folder) (asked kept : Partitioner) → host_old.files ≡ Some folder → asked_by words ≡ Some asked → KeepsPartitioner folder kept → asked ≢ kept
       → ComparesPartitioners status asked kept

@@ -1,10 +1,10 @@
 // A run over memory.
 ghost use Rattle.std.specs.Prelude.{◌≤◌, length, map, string_bytes};
-ghost use Rattle.sasi_host.specs.Memory.{seen};
+ghost use Rattle.sasi_host.specs.Memory.{host_view, seen, source_view};
 ghost use Rattle.sasi_host.specs.View.{Rose};
-ghost use Rattle.sasi_run.specs.CommandLine.{IsCommandLine};
-ghost use Rattle.sasi_run.specs.Causes.{RanThrough};
-ghost use Rattle.sasi_run.specs.Headline.{SCRIPT_MOST};
+ghost use Rattle.sasi_run.specs.CommandLine.{IsCommandLine, asked_by};
+ghost use Rattle.sasi_run.specs.Causes.{RanThrough, RunCauses};
+ghost use Rattle.sasi_run.specs.Headline.{Headline, SCRIPT_MOST};
 ghost use Rattle.sasi_run.specs.InMemory.{FailsNowhere};
 
 use crate::Status;
@@ -13,8 +13,8 @@ use sasi_analyzers::Analyzer;
 use sasi_host::{MemHost, MemSource};
 use std::alloc::Global;
 
-/// Runs a script in memory over a folder in memory. Where no call is to fail and the host's memory can grow, the run goes
-/// through.
+/// Runs a script in memory over a folder in memory, as `run` does. Where no call is to fail and the host's memory can grow, the
+/// run goes through.
 pub fn run_in_memory(
     alloc: Global,
     words: &[String],
@@ -22,6 +22,8 @@ pub fn run_in_memory(
     host: &mut MemHost,
     analyzers: Vec<Box<dyn Analyzer>>,
 ) -> Status
+    ensures headline { Headline (asked_by (map (λ w. string_bytes w) words.now)) result (source_view script.old) (source_view script.new) (host_view (seen host.old)) (host_view (seen host.new)) }
+    ensures causes { RunCauses (map (λ w. string_bytes w) words.now) result (source_view script.old) (source_view script.new) (host_view (seen host.old)) (host_view (seen host.new)) }
     ensures through { IsCommandLine (map (λ w. string_bytes w) words.now) → FailsNowhere script.old (seen host.old) → ¬ (Rose (seen host.old).refused (seen host.new).refused) → length script.old.left ≤ SCRIPT_MOST → RanThrough result }
 {
     run(alloc, words, script, host, analyzers)

@@ -20,6 +20,7 @@ ghost use Rattle.sasi_layout.specs.Worlds.{ServesWorld, World, new_world, steps}
 ghost use Rattle.sasi_machine.specs.Prepares.{IsQuery, IsStateOf};
 ghost use Rattle.sasi_recover.specs.Faults.{OnDiffers, OnOpenDamage, OpenCauses, TellsDifference};
 ghost use Rattle.sasi_recover.specs.KeptListed.{KeepsListed};
+ghost use Rattle.sasi_recover.specs.NewFolder.{IsForeign};
 ghost use Rattle.sasi_recover.specs.OpeningReads.{OpensReadingOnce};
 ghost use Rattle.sasi_store.specs.Answers.{Answered, AnsweredButRows, AnyFolderChange, NeedsNoFile};
 ghost use Rattle.sasi_store.specs.Faults.{OnSpent, OnStepDamage, StepCauses};
@@ -74,8 +75,11 @@ impl Store {
         ensures undamaged { (folder : Folder) (l : Layout) → (H.view host.old).files ≡ Some folder → ShapeOf asked folder l → IfErr result (OnOpenDamage (λ _. ⊥)) }
         ensures differs { (folder : Folder) (wanted kept : APartitioner) → (H.view host.old).files ≡ Some folder → asked ≡ Some wanted → KeepsPartitioner folder kept → wanted ≢ kept → TellsDifference wanted kept result }
         ensures differs_only { (folder : Folder) → (H.view host.old).files ≡ Some folder → IfErr result (OnDiffers (λ wanted kept. (asked ≡ Some wanted) × KeepsPartitioner folder kept × (wanted ≢ kept))) }
+        ensures untouched { IfErr result (OnDiffers (λ wanted kept. Changes Same (H.view host.old) (H.view host.new))) }
         // Whatever is damaged, the files that the manifest of the highest seal lists stay, and all files where it can't be read.
         ensures kept { (folder : Folder) (number : ℕ) → (H.view host.old).files ≡ Some folder → IsSealed folder number → Changes (KeepsListed folder number) (H.view host.old) (H.view host.new) }
+        // A folder of something else stays as it is.
+        ensures foreign { (folder : Folder) → (H.view host.old).files ≡ Some folder → IsForeign folder → Changes Same (H.view host.old) (H.view host.new) }
         ensures changes { Changes AnyFolderChange (H.view host.old) (H.view host.new) }
         ensures once { (folder : Folder) → (H.view host.old).files ≡ Some folder → OpensReadingOnce folder (H.view host.old) (H.view host.new) }
         ensures causes { OpenCauses (H.view host.old) (H.view host.new) result }

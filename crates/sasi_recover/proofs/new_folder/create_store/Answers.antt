@@ -1,6 +1,6 @@
 use Rattle.std.proofs.lemmas.Result.{err_from_is_err_and}
 use Rattle.sasi_host.specs.ChangeLaws.{stays}
-use Rattle.sasi_recover.proofs.Foreign.{foreign_no_false_damage}
+use Rattle.sasi_recover.proofs.Foreign.{foreign_no_false_damage, not_foreign}
 use Rattle.sasi_recover.proofs.FirstStore.{no_moments, stays_any_change}
 use Rattle.sasi_recover.proofs.new_folder.create_store.Goals as goal
 
@@ -22,3 +22,12 @@ pub returns-in_err-check_new-clause-untouched : goal.returns-in_err-check_new-cl
 returns-in_err-check_new-clause-untouched g c =
     let p = err_from_is_err_and c.from_residual.result c.from_residual.ensures.1 in
     rw (p.1, p.2) (stays (g.H.Host.view c.args.host.now))
+
+pub returns-in_err-check_new-clause-foreign : goal.returns-in_err-check_new-clause-foreign
+returns-in_err-check_new-clause-foreign g c name has other = stays (g.H.Host.view c.args.host.now)
+
+pub returns-in_err-opened-clause-foreign : goal.returns-in_err-opened-clause-foreign
+returns-in_err-opened-clause-foreign g c name has other = absurd (not_foreign c.args.names.now name c.in_ok-check_new.ensures.firsts has other)
+
+pub returns-clause-foreign : goal.returns-clause-foreign
+returns-clause-foreign g c name has other = absurd (not_foreign c.args.names.now name c.in_ok-check_new.ensures.firsts has other)

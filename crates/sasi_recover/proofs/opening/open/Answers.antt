@@ -1,19 +1,21 @@
-use Rattle.std.proofs.Common.{◌≡◌, ◌∙◌, All, IfErr, List, None, OnOk, Option, Some, ap, inl, inr, is_some, subst, true}
+use Rattle.std.proofs.Common.{◌≡◌, ◌∙◌, All, Contains, IfErr, List, None, OnOk, Option, Some, ap, inl, inr, is_some, subst, sym, true}
 use Rattle.std.proofs.lemmas.Result.{IfErr-weaker, err_from_is_err_and}
 use Rattle.sasi_host.specs.declared.name.FileName.{FileName}
+use Rattle.sasi_host.specs.ChangeLaws.{then_same}
+use Rattle.sasi_host.specs.Disk.{Same}
 use Rattle.sasi_host.specs.Names.{Folder, seal_name}
 use Rattle.sasi_recover.specs.Faults.{OnOpenDamage}
 use Rattle.sasi_recover.specs.NewFolder.{ReportsForeign, is_initial}
 use Rattle.sasi_recover.specs.declared.opened.Opened.{Opened}
 use Rattle.sasi_recover.specs.Opening.{IsHighestSeal}
 use Rattle.sasi_recover.proofs.Damaged.{sealed_highest}
-use Rattle.sasi_recover.proofs.Differences.{causes_behind, host_causes, host_damage, host_differs, host_differs_only}
+use Rattle.sasi_recover.proofs.Differences.{causes_behind, host_causes, host_damage, host_differs, host_differs_only, untouched_behind}
 use Rattle.sasi_recover.proofs.FolderOpening.{files_same, never_differs, new_damage, new_moments, new_opens, new_serves, new_undamaged, same_moments_of, same_then_any, sealed_damage, sealed_differs, sealed_keeps, sealed_moments, sealed_opens, sealed_shape, unsealed_fresh, unsealed_keeps}
 use Rattle.sasi_recover.proofs.ReadsOfOpening.{store_behind}
-use Rattle.sasi_recover.proofs.SealedStore.{listed_is_there}
+use Rattle.sasi_recover.proofs.SealedStore.{held_is_listed, listed_is_there}
 use Rattle.sasi_recover.proofs.Settling.{same_any}
 use Rattle.sasi_recover.proofs.SyncedFolder.{settled_fresh}
-use Rattle.sasi_recover.proofs.ListedFiles.{listed_same, listed_sealed, unsealed}
+use Rattle.sasi_recover.proofs.ListedFiles.{foreign_unsealed, listed_same, listed_sealed, unsealed}
 use Rattle.sasi_recover.proofs.opening.open.Goals as goal
 
 pub returns-in_err-names-clause-any_moment : goal.returns-in_err-names-clause-any_moment
@@ -209,3 +211,34 @@ returns-clause-kept g c folder number files sealed =
     let highest = subst (λ (l : List FileName). IsHighestSeal l (Some c.in-Some.number)) c.deref.ensures.value c.in-Some.ensures in
     let other = sealed_highest b folder files_b c.in_ok-names.names.items c.in_ok-names.ensures.names c.in-Some.number highest in
     listed_sealed (g.H.Host.view c.args.host.now) b (g.H.Host.view c.open_sealed.new.host) folder number c.in-Some.number sealed other c.sync_all.ensures.changes (c.open_sealed.ensures.kept folder files_b)
+
+pub returns-in_err-names-clause-foreign : goal.returns-in_err-names-clause-foreign
+returns-in_err-names-clause-foreign g c folder files foreign = c.sync_all.ensures.changes
+
+pub returns-in-None-clause-foreign : goal.returns-in-None-clause-foreign
+returns-in-None-clause-foreign g c folder files foreign =
+    let b = g.H.Host.view c.sync_all.new.host in
+    let files_b = files_same (g.H.Host.view c.args.host.now) b folder c.sync_all.ensures.changes files in
+    let has = held_is_listed b c.in_ok-names.names.items folder foreign.file c.in_ok-names.ensures.names files_b foreign.there in
+    then_same (g.H.Host.view c.args.host.now) b (g.H.Host.view c.open_new.new.host) Same c.sync_all.ensures.changes
+    (c.open_new.ensures.foreign foreign.file (subst (λ (l : List FileName). Contains l foreign.file) (sym c.deref-in-None.ensures.value) has) foreign.other)
+
+pub returns-clause-foreign : goal.returns-clause-foreign
+returns-clause-foreign g c folder files foreign =
+    let b = g.H.Host.view c.sync_all.new.host in
+    let files_b = files_same (g.H.Host.view c.args.host.now) b folder c.sync_all.ensures.changes files in
+    let highest = subst (λ (l : List FileName). IsHighestSeal l (Some c.in-Some.number)) c.deref.ensures.value c.in-Some.ensures in
+    absurd (foreign_unsealed b c.in_ok-names.names.items folder c.in-Some.number c.in_ok-names.ensures.names files_b foreign highest)
+
+pub returns-in_err-names-clause-untouched : goal.returns-in_err-names-clause-untouched
+returns-in_err-names-clause-untouched g c =
+    let p = err_from_is_err_and c.from_residual.result c.from_residual.ensures.1 in
+    rw (p.1, p.2) (host_differs_only _ c.in_err-names.field-0.0)
+
+pub returns-in-None-clause-untouched : goal.returns-in-None-clause-untouched
+returns-in-None-clause-untouched g c = IfErr-weaker c.open_new.result _ _ (λ fault never. never_differs _ fault never) c.open_new.ensures.same
+
+pub returns-clause-untouched : goal.returns-clause-untouched
+returns-clause-untouched g c =
+    IfErr-weaker c.open_sealed.result _ _
+    (λ fault. untouched_behind (g.H.Host.view c.args.host.now) (g.H.Host.view c.sync_all.new.host) (g.H.Host.view c.open_sealed.new.host) fault c.sync_all.ensures.changes) c.open_sealed.ensures.untouched

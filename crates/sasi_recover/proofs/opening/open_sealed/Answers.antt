@@ -1,6 +1,7 @@
 use Rattle.std.proofs.Common.{◌∙◌, ap, subst, sym}
 use Rattle.std.proofs.lemmas.Result.{err_from_is_err_and}
 use Rattle.sasi_host.specs.Damages.{OnDamage}
+use Rattle.sasi_host.specs.Disk.{Changes, Same}
 use Rattle.sasi_folder.specs.Damages.{ShowsListed}
 use Rattle.sasi_folder.specs.Stands.{IsSealed}
 use Rattle.sasi_manifest.specs.declared.listing.Listing.{Listing}
@@ -185,3 +186,18 @@ pub returns-clause-kept : goal.returns-clause-kept
 returns-clause-kept g c folder files =
     listed_read (g.H.Host.view c.args.host.now) (g.H.Host.view c.read_manifest.new.host) (g.H.Host.view c.open_listed.new.host) folder c.args.number c.in_ok-manifest.manifest files
     c.in_ok-manifest.ensures.number c.in_ok-manifest.ensures.there c.in_ok-manifest.ensures.reads c.read_manifest.ensures.changes c.open_listed.ensures.kept
+
+pub returns-in_err-manifest-clause-untouched : goal.returns-in_err-manifest-clause-untouched
+returns-in_err-manifest-clause-untouched g c =
+    let p = err_from_is_err_and c.from_residual.result c.from_residual.ensures.1 in
+    rw (p.1, p.2) (read_differs _ c.in_err-manifest.field-0.0)
+
+pub returns-in_err-check_partitioner-clause-untouched : goal.returns-in_err-check_partitioner-clause-untouched
+returns-in_err-check_partitioner-clause-untouched g c =
+    let p = err_from_is_err_and c.from_residual-in_err-check_partitioner.result c.from_residual-in_err-check_partitioner.ensures.1 in
+    rw (p.1, p.2) (difference_only c.args.asked c.listing.result.now.partitioner (λ wanted kept. Changes Same (g.H.Host.view c.args.host.now) (g.H.Host.view c.read_manifest.new.host)) c.in_err-check_partitioner.field-0.0 (λ wanted asks apart. c.read_manifest.ensures.changes) c.in_err-check_partitioner.ensures.other)
+
+pub returns-in_err-opened-clause-untouched : goal.returns-in_err-opened-clause-untouched
+returns-in_err-opened-clause-untouched g c =
+    let p = err_from_is_err_and c.from_residual-in_err-opened.result c.from_residual-in_err-opened.ensures.1 in
+    rw (p.1, p.2) (read_differs _ c.in_err-opened.field-0.0)

@@ -4,6 +4,8 @@ use Rattle.sasi_run.proofs.in_memory.run_in_memory.Goals as goal
 
 pub returns : goal.returns
 returns g c = record {
+  headline = c.run.ensures.headline;
+  causes = c.run.ensures.causes;
   through = λ words nowhere grew short.
       (let causes = c.run.ensures.causes in
       let script = c.args.script.now in

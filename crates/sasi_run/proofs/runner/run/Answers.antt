@@ -32,6 +32,9 @@ returns-in-Err-clause-causes g c =
       shows = c.in-Err.ensures.damaged;
       undamaged = rw c.in-Some.ensures.asked at c.in-Err.ensures.undamaged;
       tells = rw c.in-Some.ensures.asked at c.in-Err.ensures.differs;
+      kept = c.open.ensures.kept;
+      foreign = c.open.ensures.foreign;
+      untouched = c.in-Err.ensures.untouched;
       differs = rw c.in-Some.ensures.asked at c.in-Err.ensures.differs_only;
     }))
 

@@ -33,3 +33,8 @@ returns-clause-serves g c folder l files shape =
 pub returns-clause-state : goal.returns-clause-state
 returns-clause-state g c =
     subst (λ (h : StoreInHand). (s : State) × IsStateOf h.definitions h.max_timestamp s) (sym c.in-Ok.ensures.hand) (opened_state (in_hand c.in_ok-opened.opened) c.in_ok-opened.ensures.timed)
+
+pub returns-in_err-opened-clause-untouched : goal.returns-in_err-opened-clause-untouched
+returns-in_err-opened-clause-untouched g c =
+    let p = err_from_is_err_and c.from_residual.result c.from_residual.ensures.1 in
+    rw (p.1, p.2) c.in_err-opened.ensures.untouched
