@@ -22,6 +22,7 @@ use Rattle.sasi_folder.specs.Opens.{KeepsUnder}
 use Rattle.sasi_recover.specs.declared.fault.OpenFault.{OpenFault}
 use Rattle.sasi_recover.specs.declared.fault.OpenFault.TheVariants as fault
 use Rattle.sasi_recover.specs.Faults.{IsDifference, OnDiffers, OnOpenDamage, OpenCauses, TellsDifference, open_fault_of}
+use Rattle.sasi_recover.specs.Promises.{ReportsTruly}
 use Rattle.sasi_recover.proofs.SealedStore.{bytes_there, reads_of}
 
 -- damage of a read is that of the opening
@@ -107,6 +108,15 @@ host_differs T wanted kept host_fault.OutOfMemory = tt
 pub host_differs_only : (P : Partitioner → Partitioner → Type 0) (f : HostFault) → OnDiffers P (open_fault_of (read_fault_of f))
 host_differs_only P host_fault.Failed = tt
 host_differs_only P host_fault.OutOfMemory = tt
+
+-- so what it reports is true
+pub host_reports : (T : Type 0) (asked : Option Partitioner) (a : View) (f : HostFault) → ReportsTruly {T = T} asked a (Err (open_fault_of (read_fault_of f)))
+host_reports T asked a f = record {
+  damaged = λ folder files. host_damage _ f;
+  undamaged = λ folder l files shape. host_damage _ f;
+  differs = λ folder wanted kept files asks keeps apart. host_differs T wanted kept f;
+  differs_only = λ folder files. host_differs_only _ f;
+}
 
 pub host_causes : {T U : Type 0} (a b : View) (f : HostFault) → ListCauses {T = T} a b (Err f) → OpenCauses {T = U} a b (Err (open_fault_of (read_fault_of f)))
 host_causes a b host_fault.Failed causes = record { disk = causes.disk; out = causes.out; ok = tt; failed = λ is. causes.failed refl; others = λ other. absurd (other refl) }

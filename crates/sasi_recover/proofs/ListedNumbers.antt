@@ -13,13 +13,10 @@ use Rattle.sasi_manifest.specs.declared.files.ListedFile.{ListedFile}
 use Rattle.sasi_manifest.specs.declared.listed.ListedTable.{ListedTable}
 use Rattle.sasi_manifest.specs.ListedFiles.{has_file, is_among}
 use Rattle.sasi_manifest.specs.ListedTables.{listed}
+use Rattle.sasi_manifest.proofs.NumberTrees.{has_numbers}
 use Rattle.sasi_layout.specs.Kept.{is_listed}
 use Rattle.sasi_recover.specs.OpeningReads.{data_count}
 use Rattle.sasi_recover.proofs.Settling.{among_of, of_among}
-
-has_map : (n : ℕ) (fs : List ListedFile) → is_among (map (λ f. f.number) fs) n ≡ has_file fs n
-has_map n [] = refl
-has_map n (f ∷ fs) = ap (λ b. nat_eq n f.number || b) (has_map n fs)
 
 join : (a b c : Bool) → (a || (b || c)) ≡ ((a || b) || c)
 join true b c = refl
@@ -27,7 +24,7 @@ join false b c = refl
 
 -- with the files of one table more
 pub files_more : (n : ℕ) (xs : List ℕ) (fs : List ListedFile) → is_among (xs ++ map (λ f. f.number) fs) n ≡ (is_among xs n || has_file fs n)
-files_more n xs fs = list_any-append (nat_eq n) xs (map (λ f. f.number) fs) ∙ ap (λ b. is_among xs n || b) (has_map n fs)
+files_more n xs fs = list_any-append (nat_eq n) xs (map (λ f. f.number) fs) ∙ ap (λ b. is_among xs n || b) (has_numbers n fs)
 
 pub tables_more : (n : ℕ) (xs later : List ℕ) (tables : List ListedTable) (i : ℕ) (t : ListedTable) (fs : List ListedFile) → i < length tables → t ≡ get_or tables i t → fs ≡ t.files → later ≡ xs ++ map (λ f. f.number) fs
     → (is_among later n || is_listed (map listed (drop (i + 1) tables)) n) ≡ (is_among xs n || is_listed (map listed (drop i tables)) n)

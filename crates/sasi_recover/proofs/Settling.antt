@@ -176,9 +176,6 @@ moments_then_same a b c l logs first second = changes_on a b c (λ x y. (y ≡ x
 pub same_any : (a b : View) → Changes Same a b → Changes AnyFolderChange a b
 same_any a b same = changes_as a b Same AnyFolderChange same (λ x y is. tt)
 
-pub deletes_any_change : (a b : View) (kept : FileName → Bool) → Changes (Deletes kept) a b → Changes AnyFolderChange a b
-deletes_any_change a b kept change = changes_as a b (Deletes kept) AnyFolderChange change (λ x y d. tt)
-
 pub same_then_any : (a b c : View) (kept : FileName → Bool) → Changes Same a b → Changes (Deletes kept) b c → Changes AnyFolderChange a c
 same_then_any a b c kept first second = changes_on a b c Same (Deletes kept) AnyFolderChange first second (λ x y is. tt) (λ x y z is d. tt)
 

@@ -6,6 +6,7 @@ pub mod NewFolder
 pub mod OpenedFolder
 pub mod Opening
 pub mod OpeningReads
+pub mod Promises
 pub mod ReplayState
 pub mod Replaying
 pub mod SealedFolder

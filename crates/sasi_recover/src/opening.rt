@@ -9,8 +9,8 @@ ghost use Rattle.sasi_host.specs.ChangeLaws.{Each};
 ghost use Rattle.sasi_host.specs.View.{IsThere, IsTold};
 ghost use Rattle.sasi_host.specs.Names.{Folder, name_cmp, seal_name};
 ghost use Rattle.sasi_cells.specs.declared.mutation.Mutation.{Mutation};
-ghost use Rattle.sasi_folder.specs.Damages.{FolderShows, ShowsListed};
-ghost use Rattle.sasi_folder.specs.Opens.{CanOpen, KeepsPartitioner, KeepsUnder, Opens};
+ghost use Rattle.sasi_folder.specs.Damages.{ShowsListed};
+ghost use Rattle.sasi_folder.specs.Opens.{CanOpen, KeepsUnder, Opens};
 ghost use Rattle.sasi_folder.specs.Stands.{IsFresh, IsSealed};
 ghost use Rattle.sasi_layout.specs.Layout.{Layout};
 ghost use Rattle.sasi_layout.specs.Serving.{IsReady, Serves};
@@ -20,7 +20,8 @@ ghost use Rattle.sasi_recover.specs.KeptListed.{KeepsListed};
 ghost use Rattle.sasi_recover.specs.NewFolder.{IsForeign, IsFreshOrNew, NoFalseFreshDamage, ReportsForeign, is_initial};
 ghost use Rattle.sasi_recover.specs.OpenedFolder.{AnyFolderChange, IsTimed, in_hand};
 ghost use Rattle.sasi_recover.specs.Opening.{IsFolderDurable};
-ghost use Rattle.sasi_recover.specs.OpeningReads.{OpensReadingOnce, ReadsStoreOnce};
+ghost use Rattle.sasi_recover.specs.OpeningReads.{ReadsStoreOnce};
+ghost use Rattle.sasi_recover.specs.Promises.{OpensSafely, ReportsTruly};
 ghost use Rattle.sasi_recover.specs.ReplayState.{AreMaps};
 
 use crate::folder_sync::sync_all;
@@ -43,18 +44,10 @@ pub fn open<H: Host>(
     ensures timed { IfOk result (λ opened. IsTimed (in_hand opened)) }
     ensures serves { (folder : Folder) (l : Layout) → (H.view host.old).files ≡ Some folder → ShapeOf asked folder l → IfOk result (λ opened. Serves (H.view host.new) (in_hand opened) l) }
     ensures opens { (folder : Folder) → (H.view host.old).files ≡ Some folder → OnOk result (CanOpen folder) }
-    ensures any_moment { (folder : Folder) (l : Layout) → (H.view host.old).files ≡ Some folder → ShapeOf asked folder l → Changes (λ x y. (y ≡ x) ⊎ ShapeOf asked y l) (H.view host.old) (H.view host.new) }
-    ensures damaged { (folder : Folder) → (H.view host.old).files ≡ Some folder → IfErr result (OnOpenDamage (FolderShows folder)) }
-    ensures undamaged { (folder : Folder) (l : Layout) → (H.view host.old).files ≡ Some folder → ShapeOf asked folder l → IfErr result (OnOpenDamage (λ _. ⊥)) }
-    ensures differs { (folder : Folder) (wanted kept : APartitioner) → (H.view host.old).files ≡ Some folder → asked ≡ Some wanted → KeepsPartitioner folder kept → wanted ≢ kept → TellsDifference wanted kept result }
-    ensures differs_only { (folder : Folder) → (H.view host.old).files ≡ Some folder → IfErr result (OnDiffers (λ wanted kept. (asked ≡ Some wanted) × KeepsPartitioner folder kept × (wanted ≢ kept))) }
+    ensures safe { OpensSafely asked (H.view host.old) (H.view host.new) }
+    ensures reports { ReportsTruly asked (H.view host.old) result }
+    // A folder that keeps another partitioner stays as it is.
     ensures untouched { IfErr result (OnDiffers (λ wanted kept. Changes Same (H.view host.old) (H.view host.new))) }
-    // Whatever is damaged, the files that the manifest of the highest seal lists stay, and all files where it can't be read.
-    ensures kept { (folder : Folder) (number : ℕ) → (H.view host.old).files ≡ Some folder → IsSealed folder number → Changes (KeepsListed folder number) (H.view host.old) (H.view host.new) }
-    // A folder of something else stays as it is.
-    ensures foreign { (folder : Folder) → (H.view host.old).files ≡ Some folder → IsForeign folder → Changes Same (H.view host.old) (H.view host.new) }
-    ensures changes { Changes AnyFolderChange (H.view host.old) (H.view host.new) }
-    ensures once { (folder : Folder) → (H.view host.old).files ≡ Some folder → OpensReadingOnce folder (H.view host.old) (H.view host.new) }
     ensures causes { OpenCauses (H.view host.old) (H.view host.new) result }
 {
     let names = sync_all(alloc, host)?;

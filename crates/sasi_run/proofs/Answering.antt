@@ -19,7 +19,8 @@ use Rattle.sasi_cql.specs.SplitterState.{resume, behind}
 use Rattle.sasi_machine.specs.declared.outcome.Outcome.{Outcome}
 use Rattle.sasi_machine.specs.Outcome.{outcome_of}
 use Rattle.sasi_machine.specs.Prepares.{IsStateOf}
-use Rattle.sasi_store.specs.Answers.{Answered, AnsweredButRows, AnyFolderChange}
+use Rattle.sasi_recover.specs.OpenedFolder.{AnyFolderChange}
+use Rattle.sasi_store.specs.Answers.{Answered, AnsweredButRows}
 use Rattle.sasi_store.specs.Faults.{OnSpent, OnStepDamage}
 use Rattle.sasi_store.specs.StoreView.{IsReady, StoreView}
 use Rattle.sasi_store.specs.declared.fault.StepFault.{StepFault}

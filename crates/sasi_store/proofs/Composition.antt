@@ -19,7 +19,7 @@ use Rattle.sasi_layout.specs.Statements.{are_full, flush_where, numbered, tests_
 use Rattle.sasi_layout.specs.declared.number_kind.NumberKind.{NumberKind}
 use Rattle.sasi_memtable.specs.Sizes.{bytes_in, cells_in}
 use Rattle.sasi_model.specs.Abbreviations.{Partitions}
-use Rattle.sasi_store.specs.Answers.{AnyFolderChange}
+use Rattle.sasi_recover.specs.OpenedFolder.{AnyFolderChange}
 use Rattle.sasi_store.specs.Faults.{OnSpent, StepCauses}
 use Rattle.sasi_store.specs.MakesMoves.{MakesMoves, MovesOf}
 use Rattle.sasi_store.specs.declared.fault.StepFault.{StepFault}

@@ -1,5 +1,5 @@
 -- What a store knows of its state without its files, at its opening and after a change.
-use Rattle.std.proofs.Common.{◌≡◌, ℕ, zero, suc, List, [], ◌∷◌, ◌++◌, Result, refl, sym, ap, subst, ◌∙◌}
+use Rattle.std.proofs.Common.{◌≡◌, ℕ, zero, suc, List, [], ◌∷◌, ◌++◌, Option, Result, Err, refl, sym, ap, subst, ◌∙◌}
 use Rattle.std.specs.Prelude.{OnOk, max}
 use Rattle.std.proofs.lemmas.List.{map-append}
 use Rattle.sasi_cells.specs.Mutations.{state_with_mutation}
@@ -10,8 +10,12 @@ use Rattle.sasi_model.specs.Abbreviations.{definitions}
 use Rattle.sasi_model.specs.Cells.{Partition, max_timestamp_of}
 use Rattle.sasi_model.specs.Changes.{changed_behind, changed_tables, empty_table, with_new_table}
 use Rattle.sasi_model.specs.State.{Definition, State, Table, decorated}
+use Rattle.sasi_host.specs.View.{View}
 use Rattle.sasi_recover.specs.OpenedFolder.{IsTimed}
+use Rattle.sasi_recover.specs.Promises.{ReportsTruly}
+use Rattle.sasi_recover.specs.declared.fault.OpenFault.{OpenFault}
 use Rattle.sasi_types.specs.declared.decorated_key.DecoratedKey.{DecoratedKey}
+use Rattle.sasi_types.specs.declared.partitioner.Partitioner.{Partitioner}
 use Rattle.sasi_store.specs.MakesMoves.{Knows}
 use Rattle.sasi_store.specs.declared.fault.StepFault.{StepFault}
 use Rattle.sasi_store.proofs.Creating.{new_timestamp}
@@ -30,6 +34,10 @@ opened_state store timely = by store.definitions store.max_timestamp timely
       record { definitions_are = refl; newest_is = blank_time store.manifest.listing.partitioner [] ∙ sym (none refl) },
     )
     by (d ∷ ds) time none = (_, timed store.manifest.listing.partitioner d ds time)
+
+-- what an opening reports, handed on
+pub reports_on : {T U : Type 0} (asked : Option Partitioner) (a : View) (f : OpenFault) → ReportsTruly {T = T} asked a (Err f) → ReportsTruly {T = U} asked a (Err f)
+reports_on asked a f reports = record { damaged = reports.damaged; undamaged = reports.undamaged; differs = reports.differs; differs_only = reports.differs_only }
 
 -- ---- a change
 

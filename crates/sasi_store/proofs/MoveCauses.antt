@@ -10,7 +10,7 @@ use Rattle.sasi_layout.specs.Layout.{Layout}
 use Rattle.sasi_layout.specs.Serving.{Serves, StoreInHand}
 use Rattle.sasi_layout.specs.Spent.{spent}
 use Rattle.sasi_layout.specs.declared.number_kind.NumberKind.{NumberKind}
-use Rattle.sasi_store.specs.Answers.{AnyFolderChange}
+use Rattle.sasi_recover.specs.OpenedFolder.{AnyFolderChange}
 use Rattle.sasi_store.specs.Faults.{OnSpent, OnStepDamage, StepCauses, fault_of_call}
 use Rattle.sasi_store.specs.MakesMoves.{MakesMoves, MovesOf}
 use Rattle.sasi_store.specs.declared.fault.StepFault.{StepFault}

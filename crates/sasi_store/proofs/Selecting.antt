@@ -1,5 +1,5 @@
 -- A SELECT over the table of a store.
-use Rattle.std.proofs.Common.{◌≡◌, ◌<◌, ◌-◌, ◌||◌, Bool, true, false, nat_eq, is_some, ℕ, zero, suc, List, [], ◌∷◌, ◌++◌, length, map, slice_get, slice_index_or, Option, None, Some, inr, refl, sym, ap, subst, ◌∙◌, arith}
+use Rattle.std.proofs.Common.{◌≡◌, ◌<◌, ◌-◌, ◌||◌, Bool, true, false, nat_eq, is_some, ℕ, zero, suc, List, [], ◌∷◌, ◌++◌, length, map, get_or, slice_get, slice_index_or, Option, None, Some, inr, refl, sym, ap, subst, ◌∙◌, arith}
 use Rattle.std.specs.Prelude.{Contains}
 use Rattle.std.proofs.lemmas.Bool.Decides.{nat_tests}
 use Rattle.std.proofs.lemmas.List.{length-map}
@@ -17,6 +17,7 @@ use Rattle.sasi_host.specs.Damages.{OnDamage}
 use Rattle.sasi_host.specs.declared.damage.Damage.{Damage}
 use Rattle.sasi_host.specs.declared.fault.ReadFault.{ReadFault}
 use Rattle.sasi_host.specs.declared.fault.ReadFault.TheVariants as read
+use Rattle.sasi_host.specs.Contents.{told_files}
 use Rattle.sasi_host.specs.Names.{Bytes, Folder, data_name, seal_name}
 use Rattle.sasi_host.specs.View.{IsSound, IsThere, View, contents_in}
 use Rattle.sasi_layout.proofs.KeptLaws.{keeps_data, keeps_seal, kept_there}
@@ -36,7 +37,8 @@ use Rattle.sasi_manifest.specs.Edits.{files_of}
 use Rattle.sasi_manifest.specs.ListedDefinition.{ListedDefinition}
 use Rattle.sasi_manifest.specs.ListedFiles.{has_file}
 use Rattle.sasi_manifest.specs.ListedTables.{listed}
-use Rattle.sasi_model.specs.Abbreviations.{key_type, types_of}
+use Rattle.sasi_memtable.specs.MemtableView.{MemtableView}
+use Rattle.sasi_model.specs.Abbreviations.{types_of}
 use Rattle.sasi_model.specs.State.{Definition, Table}
 use Rattle.sasi_recover.specs.OpenedFolder.{table_in_hand}
 use Rattle.sasi_recover.specs.declared.opened.TableMap.{TableMap}
@@ -52,7 +54,7 @@ use Rattle.sasi_store.specs.StoreView.{hand_of}
 use Rattle.sasi_store.specs.declared.parts.Parts.{Parts}
 use Rattle.sasi_store.proofs.FlushingParts.{hand_at, table_at}
 use Rattle.sasi_store.proofs.Putting.{has_table}
-use Rattle.sasi_store.proofs.TablesInHand.{map_there, ready_at, seen_as, there_inside}
+use Rattle.sasi_store.proofs.TablesInHand.{index_got, map_there, ready_at, seen_as, there_inside}
 
 -- ---- lists
 
@@ -126,6 +128,14 @@ on_damage P Q f (read.Damaged damage) is = f damage is
 
 -- ---- the table of a SELECT
 
+-- what is looked up of a table with this definition: the types of its columns, its data files and its memtable
+pub record HasTable (p : Parts) (rows : Selection) (definition : Definition) (types : List ColumnType) (files : List ListedFile) (maps : List MemtableView) : Type 0 where
+  pub types_are : types ≡ types_of definition
+  pub files_are : files ≡ files_of p.manifest.listing.tables rows.table
+  pub held : TableMap
+  pub held_there : slice_get p.tables.items (rows.table - 1) ≡ Some held
+  pub maps_are : maps ≡ held.memtable ∷ []
+
 module _ (v : View) (sound : IsSound v) (p : Parts) (ready : IsReady v (hand_of p)) (rows : Selection) (can : IsSelectable (hand_of p) rows) where
   abbrev listing : Listing
   listing = p.manifest.listing
@@ -136,73 +146,91 @@ module _ (v : View) (sound : IsSound v) (p : Parts) (ready : IsReady v (hand_of 
   defined : (t : ListedDefinition) × (slice_get listing.tables at ≡ Some t) × (t.definition ≡ can.definition)
   defined = seen_as (λ (t : ListedDefinition). t.definition) listing.tables at can.definition (ap (λ (ds : List Definition). slice_get ds at) (sym ready.definitions) ∙ can.there)
 
-  files_are : files_of listing.tables rows.table ≡ defined.0.files
-  files_are = ap (λ (o : Option ListedDefinition). option_map_or (λ (t : ListedDefinition). t.files) o []) defined.1
+  listed_files : files_of listing.tables rows.table ≡ defined.0.files
+  listed_files = ap (λ (o : Option ListedDefinition). option_map_or (λ (t : ListedDefinition). t.files) o []) defined.1
 
-  -- its place among the listed tables, and among the memtables
-  pub inside_listed : (tables : List ListedTable) → map listed tables ≡ listing.tables → at < length tables
+  -- its index among the listed tables, and among the memtables
+  inside_listed : (tables : List ListedTable) → map listed tables ≡ listing.tables → at < length tables
   inside_listed tables seen =
       let size : length (map listed tables) ≡ length tables = length-map tables listed in
       omega (arith, there_inside listing.tables at defined.0 defined.1, size, ap length seen)
 
-  pub row_in_memory : (t : TableMap) × (slice_get p.tables.items at ≡ Some t)
+  row_in_memory : (t : TableMap) × (slice_get p.tables.items at ≡ Some t)
   row_in_memory = table_at p rows.table (has_table v p rows.table can.definition ready can.some can.there)
 
   pub inside_memory : at < length p.tables.items
   inside_memory = there_inside p.tables.items at row_in_memory.0 row_in_memory.1
 
-  pub row_defined : (tables : List ListedTable) → map listed tables ≡ listing.tables → (row : ListedTable) → slice_get tables at ≡ Some row → definition row.table ≡ can.definition
+  row_defined : (tables : List ListedTable) → map listed tables ≡ listing.tables → (row : ListedTable) → slice_get tables at ≡ Some row → definition row.table ≡ can.definition
   row_defined tables seen row there =
       let is : slice_get listing.tables at ≡ Some (listed row) = ap (λ (l : List ListedDefinition). slice_get l at) (sym seen) ∙ map_there listed tables at row there in
       ap (λ (d : ListedDefinition). d.definition) (there_one (listed row) defined.0 (sym is ∙ defined.1)) ∙ defined.2
 
-  -- ---- what the SELECT needs
+  -- what stands at its index is looked up
+  pub looked_up : (tables : List ListedTable) → map listed tables ≡ listing.tables → (row : ListedTable) → row ≡ get_or tables at row
+      → (types : List ColumnType) → types ≡ types_of (definition row.table) → (files : List ListedFile) → files ≡ files_of listing.tables rows.table
+      → (held : TableMap) → held ≡ get_or p.tables.items at held → (maps : List MemtableView) → maps ≡ held.memtable ∷ [] → HasTable p rows can.definition types files maps
+  looked_up tables seen row is_row types types_are files files_are held is_held maps maps_are = record {
+    types_are = types_are ∙ ap types_of (row_defined tables seen row (index_got tables at row (inside_listed tables seen) is_row));
+    files_are = files_are;
+    held = held;
+    held_there = index_got p.tables.items at held inside_memory is_held;
+    maps_are = maps_are;
+  }
 
-  pub files_there : (files : List ListedFile) → files ≡ files_of listing.tables rows.table → AllByRecursion (λ (f : ListedFile). IsThere v (data_name f.number)) files
-  files_there files is =
-      subst (AllByRecursion (λ (f : ListedFile). IsThere v (data_name f.number))) (sym (is ∙ files_are))
-      (all_then (λ (f : ListedFile). has_file defined.0.files f.number ≡ true) (λ (f : ListedFile). IsThere v (data_name f.number))
-      (λ f has. kept_there v (kept_by (hand_of p)) (data_name f.number) ready.kept (keeps_data (kept_by (hand_of p)) f.number ∙ listed_any listing.tables at defined.0 defined.1 f.number has))
-      defined.0.files (has_each defined.0.files))
+  -- ---- what it needs, and what it prints
 
-  pub key_first : (types : List ColumnType) (d : Definition) → types ≡ types_of d → d ≡ can.definition → slice_get types 0 ≡ Some rows.picked.key
-  key_first types d is same = ap (λ (ts : List ColumnType). slice_get ts 0) is ∙ ap (λ (d : Definition). Some (key_type d)) same ∙ ap Some (sym can.key)
+  module _ (types : List ColumnType) (files : List ListedFile) (maps : List MemtableView) (has : HasTable p rows can.definition types files maps) where
+    pub files_there : AllByRecursion (λ (f : ListedFile). IsThere v (data_name f.number)) files
+    files_there =
+        subst (AllByRecursion (λ (f : ListedFile). IsThere v (data_name f.number))) (sym (has.files_are ∙ listed_files))
+        (all_then (λ (f : ListedFile). has_file defined.0.files f.number ≡ true) (λ (f : ListedFile). IsThere v (data_name f.number))
+        (λ f is_in. kept_there v (kept_by (hand_of p)) (data_name f.number) ready.kept (keeps_data (kept_by (hand_of p)) f.number ∙ listed_any listing.tables at defined.0 defined.1 f.number is_in))
+        defined.0.files (has_each defined.0.files))
 
-  pub keys_stored : (t : TableMap) → slice_get p.tables.items at ≡ Some t → KeysStored rows.picked.key t.memtable.partitions
-  keys_stored t there key some =
-      let part = some_in (get t.memtable.partitions key) some in
-      let is = ready_at listing.partitioner listing.floor listing.last at (hand_of p).definitions (hand_of p).tables can.definition (table_in_hand t) ready.tables can.there (hand_at p rows.table t there) in
-      subst (λ (k : ColumnType). IsStored k key.key) (sym can.key) (body_stored can.definition key.key part.0 (is.memtable key part.0 part.1).body)
+    pub key_first : slice_get types 0 ≡ Some rows.picked.key
+    key_first = ap (λ (ts : List ColumnType). slice_get ts 0) has.types_are ∙ ap Some (sym can.key)
 
-  -- ---- what it prints
+    pub keys_stored : AllByRecursion (λ (m : MemtableView). KeysStored rows.picked.key m.partitions) maps
+    keys_stored = subst (AllByRecursion (λ (m : MemtableView). KeysStored rows.picked.key m.partitions)) (sym has.maps_are) (stored, tt)
+      where
+        stored : KeysStored rows.picked.key has.held.memtable.partitions
+        stored key some =
+            let part = some_in (get has.held.memtable.partitions key) some in
+            let is = ready_at listing.partitioner listing.floor listing.last at (hand_of p).definitions (hand_of p).tables can.definition (table_in_hand has.held) ready.tables can.there (hand_at p rows.table has.held has.held_there) in
+            subst (λ (k : ColumnType). IsStored k key.key) (sym can.key) (body_stored can.definition key.key part.0 (is.memtable key part.0 part.1).body)
 
-  module _ (l : Layout) (serves : Serves v (hand_of p) l) (t : TableMap) (there : slice_get p.tables.items at ≡ Some t) where
-    pub parts : (x : TableParts) × (slice_get l.tables at ≡ Some x) × (layout.table_in_hand x ≡ table_in_hand t)
-    parts = seen_as layout.table_in_hand l.tables at (table_in_hand t) (ap (λ (ts : List TableInHand). slice_get ts at) (sym serves.tables) ∙ hand_at p rows.table t there)
+    module _ (l : Layout) (serves : Serves v (hand_of p) l) where
+      parts : (x : TableParts) × (slice_get l.tables at ≡ Some x) × (layout.table_in_hand x ≡ table_in_hand has.held)
+      parts = seen_as layout.table_in_hand l.tables at (table_in_hand has.held) (ap (λ (ts : List TableInHand). slice_get ts at) (sym serves.tables) ∙ hand_at p rows.table has.held has.held_there)
 
-    parts_defined : parts.0.definition ≡ can.definition
-    parts_defined = there_one parts.0.definition can.definition
-        (sym (map_there (λ (x : TableParts). x.definition) l.tables at parts.0 parts.1) ∙ ap (λ (ds : List Definition). slice_get ds at) (sym serves.definitions) ∙ can.there)
+      parts_defined : parts.0.definition ≡ can.definition
+      parts_defined = there_one parts.0.definition can.definition
+          (sym (map_there (λ (x : TableParts). x.definition) l.tables at parts.0 parts.1) ∙ ap (λ (ds : List Definition). slice_get ds at) (sym serves.definitions) ∙ can.there)
 
-    parts_files : defined.0.files ≡ map (λ (f : File). f.listed) parts.0.files
-    parts_files =
-        let is : slice_get listing.tables at ≡ Some (listed_of parts.0) = ap (λ (k : Listing). slice_get k.tables at) serves.listing ∙ map_there listed_of l.tables at parts.0 parts.1 in
-        ap (λ (d : ListedDefinition). d.files) (there_one defined.0 (listed_of parts.0) (sym defined.1 ∙ is))
+      parts_files : defined.0.files ≡ map (λ (f : File). f.listed) parts.0.files
+      parts_files =
+          let is : slice_get listing.tables at ≡ Some (listed_of parts.0) = ap (λ (k : Listing). slice_get k.tables at) serves.listing ∙ map_there listed_of l.tables at parts.0 parts.1 in
+          ap (λ (d : ListedDefinition). d.files) (there_one defined.0 (listed_of parts.0) (sym defined.1 ∙ is))
 
-    parts_maps : t.memtable.partitions ∷ [] ≡ unflushed parts.0
-    parts_maps = ap (λ (h : TableInHand). h.frozen ++ h.memtable ∷ []) (sym parts.2)
+      parts_maps : map (λ (m : MemtableView). m.partitions) maps ≡ unflushed parts.0
+      parts_maps = ap (λ (ms : List MemtableView). map (λ (m : MemtableView). m.partitions) ms) has.maps_are ∙ ap (λ (h : TableInHand). h.frozen ++ h.memtable ∷ []) (sym parts.2)
 
-    pub is_table : (folder : Folder) → v.files ≡ Some folder → (types : List ColumnType) (d : Definition) → types ≡ types_of d → d ≡ can.definition → (files : List ListedFile) → files ≡ files_of listing.tables rows.table
-        → IsTableOf folder l.partitioner types files (t.memtable.partitions ∷ []) parts.0
-    is_table folder files_now types d is same files files_of_table = record {
-      types_are = is ∙ ap types_of (same ∙ sym parts_defined);
-      files_are = files_of_table ∙ files_are ∙ parts_files;
-      maps_are = parts_maps;
-      have = shaped_at folder l.partitioner l.floor 1 (serves.older ++ serves.current ∷ []) l.tables at parts.0 (serves.shape folder (sound.reads folder files_now)).tables parts.1;
-    }
-
-    pub rows_are : answer_rows (state_of l) rows ≡ lines_of rows (table_of parts.0).partitions
-    rows_are = ap (λ (o : Option Table). option_map_or (λ (t : Table). lines_of rows t.partitions) o []) (map_there table_of l.tables at parts.0 parts.1)
+      -- **The table that is printed is that of the layout.**
+      pub is_printed : (folder : Folder) × (v.files ≡ Some folder) × (x : TableParts) × IsTableOf folder l.partitioner types files (map (λ (m : MemtableView). m.partitions) maps) x × (answer_rows (state_of l) rows ≡ lines_of rows (table_of x).partitions)
+      is_printed =
+          let told = told_files v serves.told in (
+            told.0,
+            told.1,
+            parts.0,
+            record {
+              types_are = has.types_are ∙ ap types_of (sym parts_defined);
+              files_are = has.files_are ∙ listed_files ∙ parts_files;
+              maps_are = parts_maps;
+              have = shaped_at told.0 l.partitioner l.floor 1 (serves.older ++ serves.current ∷ []) l.tables at parts.0 (serves.shape told.0 (sound.reads told.0 told.1)).tables parts.1;
+            },
+            ap (λ (o : Option Table). option_map_or (λ (t : Table). lines_of rows t.partitions) o []) (map_there table_of l.tables at parts.0 parts.1),
+          )
 
   -- ---- damage
 
@@ -213,30 +241,30 @@ module _ (v : View) (sound : IsSound v) (p : Parts) (ready : IsReady v (hand_of 
   }
 
   -- **Damage of one of its data files is damage of the folder.**
-  pub shows_folder : (folder : Folder) → v.files ≡ Some folder → (types : List ColumnType) (d : Definition) → types ≡ types_of d → d ≡ can.definition → (files : List ListedFile) → files ≡ files_of listing.tables rows.table
+  pub shows_folder : (types : List ColumnType) (files : List ListedFile) (maps : List MemtableView) → HasTable p rows can.definition types files maps → (folder : Folder) → v.files ≡ Some folder
       → (damage : Damage) → ShowsListed v.files files types damage → FolderShows folder damage
-  shows_folder folder now types d is same files files_of_table damage shows =
+  shows_folder types files maps has folder now damage shows =
       let stands = ready.stands (ap (λ (o : Option Folder). is_some o) now) in
       let manifest = manifest_each v p.manifest.number p.manifest.at listing stands in
       let n = shows.file.number in
-      let contained : Contains defined.0.files shows.file = subst (λ (fs : List ListedFile). Contains fs shows.file) (files_of_table ∙ files_are) shows.listed in
-      let has : has_file defined.0.files n ≡ true = all_within (λ (f : ListedFile). has_file defined.0.files f.number ≡ true) defined.0.files shows.file contained.0 contained.1 contained.2 (has_each defined.0.files) in
-      let is_in : is_listed listing.tables n ≡ true = listed_any listing.tables at defined.0 defined.1 n has in
+      let contained : Contains defined.0.files shows.file = subst (λ (fs : List ListedFile). Contains fs shows.file) (has.files_are ∙ listed_files) shows.listed in
+      let holds : has_file defined.0.files n ≡ true = all_within (λ (f : ListedFile). has_file defined.0.files f.number ≡ true) defined.0.files shows.file contained.0 contained.1 contained.2 (has_each defined.0.files) in
+      let is_in : is_listed listing.tables n ≡ true = listed_any listing.tables at defined.0 defined.1 n holds in
       let bytes = some_in (get folder (data_name n)) (ready.kept folder now (data_name n) ∙ keeps_data (kept_by (hand_of p)) n ∙ is_in) in
       inr (record {
         number = p.manifest.number;
         sealed = sealed folder now;
         shows = broken_data stands.at_end.bytes listing (manifest.0 folder (sound.reads folder now)) manifest.1
-            (by n bytes.0 is_in bytes.1 has (shows.shown bytes.0 (ap (λ (o : Option Folder). contents_in o (data_name n)) now ∙ bytes.1)));
+            (by n bytes.0 is_in bytes.1 holds (shows.shown bytes.0 (ap (λ (o : Option Folder). contents_in o (data_name n)) now ∙ bytes.1)));
       })
     where
       by : (n : ℕ) (bytes : Bytes) → is_listed listing.tables n ≡ true → get folder (data_name n) ≡ Some bytes → has_file defined.0.files n ≡ true → ShowsDataFile types (data_name n) bytes damage → folders.ShowsDataFile folder listing.tables damage
-      by n bytes is_in there has (outside shown) = broken_ends n bytes is_in there shown
-      by n bytes is_in there has (inside numbers parts shown) = broken_content n bytes (opened_by (data_name n) types numbers) there (record {
+      by n bytes is_in there holds (outside shown) = broken_ends n bytes is_in there shown
+      by n bytes is_in there holds (inside numbers parts shown) = broken_content n bytes (opened_by (data_name n) types numbers) there (record {
         table = defined.0;
         listed = (at, there_inside listing.tables at defined.0 defined.1, index_there listing.tables at defined.0 defined.1);
-        has = has;
+        has = holds;
         named = refl;
-        types = is ∙ ap types_of (same ∙ sym defined.2);
+        types = has.types_are ∙ ap types_of (sym defined.2);
         parts = parts;
       }) shown

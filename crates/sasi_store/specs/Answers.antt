@@ -1,6 +1,5 @@
 -- What a step answers, for each world that the store serves.
 use Rattle.std.specs.Prelude.{◌≡◌, ◌⊎◌, ℕ, List, IsSome, None}
-use Rattle.sasi_host.specs.Names.{Folder}
 use Rattle.sasi_host.specs.View.{View}
 use Rattle.sasi_layout.specs.Layout.{state_of}
 use Rattle.sasi_layout.specs.Serving.{StoreInHand}
@@ -14,10 +13,6 @@ use Rattle.sasi_model.specs.Pieces.{Piece}
 use Rattle.sasi_model.specs.Refusals.{Nothing, read, read_by}
 use Rattle.sasi_model.specs.State.{State}
 use Rattle.sasi_model.specs.Step.{step, step_by}
-
--- any change of the folder
-abbrev pub AnyFolderChange : Folder → Folder → Type 0
-AnyFolderChange old new = Unit {0}
 
 -- The store serves the world after the piece, the reply and the outcome are those of the model's step, and no number that the piece needs is spent.
 pub record Answered (v : View) (store : StoreInHand) (w : World) (piece : Piece) (reply : List ℕ) (outcome : Outcome) : Type 0 where

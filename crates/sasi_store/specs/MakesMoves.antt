@@ -8,7 +8,7 @@ use Rattle.sasi_layout.specs.Moves.{Move, after_moves}
 use Rattle.sasi_layout.specs.Serving.{IsReady, Serves, StoreInHand}
 use Rattle.sasi_layout.specs.Spent.{spent}
 use Rattle.sasi_model.specs.State.{Definition}
-use Rattle.sasi_store.specs.Answers.{AnyFolderChange}
+use Rattle.sasi_recover.specs.OpenedFolder.{AnyFolderChange}
 use Rattle.sasi_store.specs.Faults.{OnSpent, OnStepDamage, StepCauses}
 use Rattle.sasi_store.specs.declared.fault.StepFault.{StepFault}
 

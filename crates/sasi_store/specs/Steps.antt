@@ -14,7 +14,8 @@ use Rattle.sasi_model.specs.Asked.{NoChange, asks}
 use Rattle.sasi_model.specs.Pieces.{Piece}
 use Rattle.sasi_model.specs.Refusals.{read}
 use Rattle.sasi_model.specs.State.{State}
-use Rattle.sasi_store.specs.Answers.{Answered, AnsweredButRows, AnyFolderChange}
+use Rattle.sasi_recover.specs.OpenedFolder.{AnyFolderChange}
+use Rattle.sasi_store.specs.Answers.{Answered, AnsweredButRows}
 use Rattle.sasi_store.specs.Faults.{OnSpent, OnStepDamage, StepCauses}
 use Rattle.sasi_store.specs.Selects.{select_reads}
 use Rattle.sasi_store.specs.declared.fault.StepFault.{StepFault}

@@ -3,7 +3,7 @@ ghost use Rattle.std.specs.Prelude.{◌≡◌, ◌+◌, ◌≤◌, ◌∷◌, []
 ghost use Rattle.std.specs.FinMap as map;
 ghost use Rattle.sasi_host.specs.Names.{data_name, log_name, manifest_name};
 ghost use Rattle.sasi_host.specs.View.{IsAbsent, ListCauses, Reaches};
-ghost use Rattle.sasi_host.specs.Disk.{Changes, IsFileDurable};
+ghost use Rattle.sasi_host.specs.Disk.{Changes, IsFileDurable, IsFolderSynced};
 ghost use Rattle.sasi_cells.specs.declared.mutation.Mutation.{Mutation};
 ghost use Rattle.sasi_commitlog.specs.LogPosition.{IsAtLogEnd};
 ghost use Rattle.sasi_datawrite.specs.Format.{data_bytes};
@@ -56,6 +56,8 @@ pub fn flush<H: Host>(
     ensures log_file { IfOk result (λ log. log.file ≡ log_name numbers.last) }
     ensures log_room { IfOk result (λ log. Reaches (H.view host.new) log.file (log.at + 1)) }
     ensures log_usable { IfOk result (λ log. IsTrue log.usable) }
+    // A crash leaves none of the deleted segments then.
+    ensures synced { OnOk result (IsFolderSynced (H.view host.new)) }
     ensures files { OnOk result (HasFlushedFiles (H.view host.new) manifest.old.listing.floor numbers) }
     ensures changes { Changes (ChangesInFlush manifest.old.number manifest.old.listing.floor numbers) (H.view host.old) (H.view host.new) }
     ensures causes { ListCauses (H.view host.old) (H.view host.new) result }

@@ -1,7 +1,7 @@
 // Deletes segments of the commit log that no table needs any more.
 ghost use Rattle.std.specs.Prelude.{OnOk};
 ghost use Rattle.sasi_host.specs.View.{DiskCauses};
-ghost use Rattle.sasi_host.specs.Disk.{Changes};
+ghost use Rattle.sasi_host.specs.Disk.{Changes, IsFolderSynced};
 ghost use Rattle.sasi_store.specs.Flushing.{AreAbsent, AreThere, DeletesSegments};
 
 use sasi_host::{Failed, FileName, Host, SegmentNumber};
@@ -14,6 +14,7 @@ pub fn delete_segments<H: Host>(
 ) -> Result<(), Failed>
     requires { AreThere (H.view host.old) first floor }
     ensures gone { OnOk result (AreAbsent (H.view host.new) first floor) }
+    ensures synced { OnOk result (IsFolderSynced (H.view host.new)) }
     ensures changes { Changes (DeletesSegments first floor) (H.view host.old) (H.view host.new) }
     ensures causes { DiskCauses (H.view host.old) (H.view host.new) result }
 {

@@ -1,6 +1,5 @@
 // Stores.
-ghost use Rattle.std.specs.Prelude.{◌≡◌, ◌≢◌, ◌⊎◌, ◌+◌, ◌≤◌, ℕ, [], IfErr, IfOk, OnOk, Some, is_ok};
-ghost use Rattle.sasi_types.specs.declared.partitioner.Partitioner.{Partitioner as APartitioner};
+ghost use Rattle.std.specs.Prelude.{◌≡◌, ◌+◌, ◌≤◌, [], IfErr, IfOk, OnOk, Some, is_ok};
 ghost use Rattle.sasi_host.specs.Disk.{Changes, Same};
 ghost use Rattle.sasi_host.specs.Names.{Folder};
 ghost use Rattle.sasi_host.specs.View.{DiskCauses, counted};
@@ -9,8 +8,7 @@ ghost use Rattle.sasi_model.specs.Pieces.{piece_of};
 ghost use Rattle.sasi_model.specs.Refusals.{read};
 ghost use Rattle.sasi_model.specs.State.{State};
 ghost use Rattle.sasi_folder.specs.Damages.{FolderShows};
-ghost use Rattle.sasi_folder.specs.Opens.{CanOpen, KeepsPartitioner};
-ghost use Rattle.sasi_folder.specs.Stands.{IsSealed};
+ghost use Rattle.sasi_folder.specs.Opens.{CanOpen};
 ghost use Rattle.sasi_layout.specs.Between.{Between};
 ghost use Rattle.sasi_layout.specs.Layout.{Layout};
 ghost use Rattle.sasi_layout.specs.Serving.{Ended, closed};
@@ -18,11 +16,10 @@ ghost use Rattle.sasi_layout.specs.Shape.{ShapeOf};
 ghost use Rattle.sasi_layout.specs.Spent.{spent};
 ghost use Rattle.sasi_layout.specs.Worlds.{ServesWorld, World, new_world, steps};
 ghost use Rattle.sasi_machine.specs.Prepares.{IsQuery, IsStateOf};
-ghost use Rattle.sasi_recover.specs.Faults.{OnDiffers, OnOpenDamage, OpenCauses, TellsDifference};
-ghost use Rattle.sasi_recover.specs.KeptListed.{KeepsListed};
-ghost use Rattle.sasi_recover.specs.NewFolder.{IsForeign};
-ghost use Rattle.sasi_recover.specs.OpeningReads.{OpensReadingOnce};
-ghost use Rattle.sasi_store.specs.Answers.{Answered, AnsweredButRows, AnyFolderChange, NeedsNoFile};
+ghost use Rattle.sasi_recover.specs.Faults.{OnDiffers, OpenCauses};
+ghost use Rattle.sasi_recover.specs.OpenedFolder.{AnyFolderChange};
+ghost use Rattle.sasi_recover.specs.Promises.{OpensSafely, ReportsTruly};
+ghost use Rattle.sasi_store.specs.Answers.{Answered, AnsweredButRows, NeedsNoFile};
 ghost use Rattle.sasi_store.specs.Faults.{OnSpent, OnStepDamage, StepCauses};
 ghost use Rattle.sasi_store.specs.Selects.{select_reads};
 ghost use Rattle.sasi_store.specs.StoreView.{IsReady};
@@ -70,18 +67,10 @@ impl Store {
         ensures state { IfOk result (λ store. (s : State) × IsStateOf store.hand.definitions store.hand.max_timestamp s) }
         ensures serves { (folder : Folder) (l : Layout) → (H.view host.old).files ≡ Some folder → ShapeOf asked folder l → IfOk result (λ store. ServesWorld (H.view host.new) store.hand (new_world l)) }
         ensures opens { (folder : Folder) → (H.view host.old).files ≡ Some folder → OnOk result (CanOpen folder) }
-        ensures any_moment { (folder : Folder) (l : Layout) → (H.view host.old).files ≡ Some folder → ShapeOf asked folder l → Changes (λ x y. (y ≡ x) ⊎ ShapeOf asked y l) (H.view host.old) (H.view host.new) }
-        ensures damaged { (folder : Folder) → (H.view host.old).files ≡ Some folder → IfErr result (OnOpenDamage (FolderShows folder)) }
-        ensures undamaged { (folder : Folder) (l : Layout) → (H.view host.old).files ≡ Some folder → ShapeOf asked folder l → IfErr result (OnOpenDamage (λ _. ⊥)) }
-        ensures differs { (folder : Folder) (wanted kept : APartitioner) → (H.view host.old).files ≡ Some folder → asked ≡ Some wanted → KeepsPartitioner folder kept → wanted ≢ kept → TellsDifference wanted kept result }
-        ensures differs_only { (folder : Folder) → (H.view host.old).files ≡ Some folder → IfErr result (OnDiffers (λ wanted kept. (asked ≡ Some wanted) × KeepsPartitioner folder kept × (wanted ≢ kept))) }
+        ensures safe { OpensSafely asked (H.view host.old) (H.view host.new) }
+        ensures reports { ReportsTruly asked (H.view host.old) result }
+        // A folder that keeps another partitioner stays as it is.
         ensures untouched { IfErr result (OnDiffers (λ wanted kept. Changes Same (H.view host.old) (H.view host.new))) }
-        // Whatever is damaged, the files that the manifest of the highest seal lists stay, and all files where it can't be read.
-        ensures kept { (folder : Folder) (number : ℕ) → (H.view host.old).files ≡ Some folder → IsSealed folder number → Changes (KeepsListed folder number) (H.view host.old) (H.view host.new) }
-        // A folder of something else stays as it is.
-        ensures foreign { (folder : Folder) → (H.view host.old).files ≡ Some folder → IsForeign folder → Changes Same (H.view host.old) (H.view host.new) }
-        ensures changes { Changes AnyFolderChange (H.view host.old) (H.view host.new) }
-        ensures once { (folder : Folder) → (H.view host.old).files ≡ Some folder → OpensReadingOnce folder (H.view host.old) (H.view host.new) }
         ensures causes { OpenCauses (H.view host.old) (H.view host.new) result }
         ensures steps { IfOk result (λ store. store.steps ≡ 0) }
     {

@@ -9,7 +9,7 @@ use Rattle.sasi_recover.specs.NewFolder.{ReportsForeign, is_initial}
 use Rattle.sasi_recover.specs.declared.opened.Opened.{Opened}
 use Rattle.sasi_recover.specs.Opening.{IsHighestSeal}
 use Rattle.sasi_recover.proofs.Damaged.{sealed_highest}
-use Rattle.sasi_recover.proofs.Differences.{causes_behind, host_causes, host_damage, host_differs, host_differs_only, untouched_behind}
+use Rattle.sasi_recover.proofs.Differences.{causes_behind, host_causes, host_differs_only, host_reports, untouched_behind}
 use Rattle.sasi_recover.proofs.FolderOpening.{files_same, never_differs, new_damage, new_moments, new_opens, new_serves, new_undamaged, same_moments_of, same_then_any, sealed_damage, sealed_differs, sealed_keeps, sealed_moments, sealed_opens, sealed_shape, unsealed_fresh, unsealed_keeps}
 use Rattle.sasi_recover.proofs.ReadsOfOpening.{store_behind}
 use Rattle.sasi_recover.proofs.SealedStore.{held_is_listed, listed_is_there}
@@ -18,34 +18,22 @@ use Rattle.sasi_recover.proofs.SyncedFolder.{settled_fresh}
 use Rattle.sasi_recover.proofs.ListedFiles.{foreign_unsealed, listed_same, listed_sealed, unsealed}
 use Rattle.sasi_recover.proofs.opening.open.Goals as goal
 
-pub returns-in_err-names-clause-any_moment : goal.returns-in_err-names-clause-any_moment
-returns-in_err-names-clause-any_moment g c folder l files shape = same_moments_of (g.H.Host.view c.args.host.now) (g.H.Host.view c.sync_all.new.host) c.args.asked l c.sync_all.ensures.changes
+pub returns-in_err-names-clause-safe : goal.returns-in_err-names-clause-safe
+returns-in_err-names-clause-safe g c =
+    let a = g.H.Host.view c.args.host.now in
+    let b = g.H.Host.view c.sync_all.new.host in
+    record {
+      any_moment = λ folder l files shape. same_moments_of a b c.args.asked l c.sync_all.ensures.changes;
+      kept = λ folder number files sealed. listed_same a b folder number c.sync_all.ensures.changes;
+      foreign = λ folder files foreign. c.sync_all.ensures.changes;
+      once = λ folder files. inl c.sync_all.ensures.causes.reads;
+      changes = same_any a b c.sync_all.ensures.changes;
+    }
 
-pub returns-in_err-names-clause-damaged : goal.returns-in_err-names-clause-damaged
-returns-in_err-names-clause-damaged g c folder files =
+pub returns-in_err-names-clause-reports : goal.returns-in_err-names-clause-reports
+returns-in_err-names-clause-reports g c =
     let p = err_from_is_err_and c.from_residual.result c.from_residual.ensures.1 in
-    rw (p.1, p.2) (host_damage _ c.in_err-names.field-0.0)
-
-pub returns-in_err-names-clause-undamaged : goal.returns-in_err-names-clause-undamaged
-returns-in_err-names-clause-undamaged g c folder l files shape =
-    let p = err_from_is_err_and c.from_residual.result c.from_residual.ensures.1 in
-    rw (p.1, p.2) (host_damage _ c.in_err-names.field-0.0)
-
-pub returns-in_err-names-clause-differs : goal.returns-in_err-names-clause-differs
-returns-in_err-names-clause-differs g c folder wanted kept files asks keeps apart =
-    let p = err_from_is_err_and c.from_residual.result c.from_residual.ensures.1 in
-    rw (p.1, p.2) (host_differs Opened wanted kept c.in_err-names.field-0.0)
-
-pub returns-in_err-names-clause-differs_only : goal.returns-in_err-names-clause-differs_only
-returns-in_err-names-clause-differs_only g c folder files =
-    let p = err_from_is_err_and c.from_residual.result c.from_residual.ensures.1 in
-    rw (p.1, p.2) (host_differs_only _ c.in_err-names.field-0.0)
-
-pub returns-in_err-names-clause-changes : goal.returns-in_err-names-clause-changes
-returns-in_err-names-clause-changes g c = same_any (g.H.Host.view c.args.host.now) (g.H.Host.view c.sync_all.new.host) c.sync_all.ensures.changes
-
-pub returns-in_err-names-clause-once : goal.returns-in_err-names-clause-once
-returns-in_err-names-clause-once g c folder files = inl c.sync_all.ensures.causes.reads
+    rw (p.1, p.2) (host_reports Opened c.args.asked (g.H.Host.view c.args.host.now) c.in_err-names.field-0.0)
 
 pub returns-in_err-names-clause-causes : goal.returns-in_err-names-clause-causes
 returns-in_err-names-clause-causes g c =
@@ -68,47 +56,42 @@ returns-in-None-clause-opens g c folder files =
     let firsts = subst (λ (l : List FileName). OnOk c.open_new.result (All (λ name. is_initial name ≡ true) l)) c.deref-in-None.ensures.value c.open_new.ensures.firsts in
     new_opens b c.in_ok-names.names.items folder c.open_new.result c.in_ok-names.ensures.names files_b firsts
 
-pub returns-in-None-clause-any_moment : goal.returns-in-None-clause-any_moment
-returns-in-None-clause-any_moment g c folder l files shape =
+pub returns-in-None-clause-safe : goal.returns-in-None-clause-safe
+returns-in-None-clause-safe g c =
     let a = g.H.Host.view c.args.host.now in
     let b = g.H.Host.view c.sync_all.new.host in
-    let files_b = files_same a b folder c.sync_all.ensures.changes files in
     let none = subst (λ (l : List FileName). IsHighestSeal l None) c.deref.ensures.value c.in-None.ensures in
-    let new = unsealed_fresh b c.in_ok-names.names.items c.args.asked folder l c.in_ok-names.ensures.names files_b none shape in
-    let fresh = settled_fresh b folder (g.met.H.Host.sound c.sync_all.new.host) c.in_ok-names.ensures.folder_durable files_b new.0 in
-    new_moments a b (g.H.Host.view c.open_new.new.host) c.args.asked l new.1 c.sync_all.ensures.changes (c.open_new.ensures.any_moment fresh)
+    record {
+      any_moment = λ folder l files shape. (
+          let files_b = files_same a b folder c.sync_all.ensures.changes files in
+          let new = unsealed_fresh b c.in_ok-names.names.items c.args.asked folder l c.in_ok-names.ensures.names files_b none shape in
+          let fresh = settled_fresh b folder (g.met.H.Host.sound c.sync_all.new.host) c.in_ok-names.ensures.folder_durable files_b new.0 in
+          new_moments a b (g.H.Host.view c.open_new.new.host) c.args.asked l new.1 c.sync_all.ensures.changes (c.open_new.ensures.any_moment fresh));
+      kept = λ folder number files sealed. absurd (unsealed b c.in_ok-names.names.items folder number c.in_ok-names.ensures.names (files_same a b folder c.sync_all.ensures.changes files) none sealed);
+      foreign = λ folder files foreign. (
+          let files_b = files_same a b folder c.sync_all.ensures.changes files in
+          let has = held_is_listed b c.in_ok-names.names.items folder foreign.file c.in_ok-names.ensures.names files_b foreign.there in
+          then_same a b (g.H.Host.view c.open_new.new.host) Same c.sync_all.ensures.changes
+          (c.open_new.ensures.foreign foreign.file (subst (λ (l : List FileName). Contains l foreign.file) (sym c.deref-in-None.ensures.value) has) foreign.other));
+      once = λ folder files. inl (c.open_new.ensures.reads ∙ c.sync_all.ensures.causes.reads);
+      changes = same_then_any a b (g.H.Host.view c.open_new.new.host) c.sync_all.ensures.changes c.open_new.ensures.changes;
+    }
 
-pub returns-in-None-clause-damaged : goal.returns-in-None-clause-damaged
-returns-in-None-clause-damaged g c folder files =
+pub returns-in-None-clause-reports : goal.returns-in-None-clause-reports
+returns-in-None-clause-reports g c =
+    let a = g.H.Host.view c.args.host.now in
     let b = g.H.Host.view c.sync_all.new.host in
-    let files_b = files_same (g.H.Host.view c.args.host.now) b folder c.sync_all.ensures.changes files in
     let none = subst (λ (l : List FileName). IsHighestSeal l None) c.deref.ensures.value c.in-None.ensures in
     let foreign = subst (λ (l : List FileName). IfErr c.open_new.result (OnOpenDamage (ReportsForeign l))) c.deref-in-None.ensures.value c.open_new.ensures.damaged in
-    IfErr-weaker c.open_new.result _ _ (λ fault. new_damage b folder c.in_ok-names.names.items files_b c.in_ok-names.ensures.names fault none) foreign
-
-pub returns-in-None-clause-undamaged : goal.returns-in-None-clause-undamaged
-returns-in-None-clause-undamaged g c folder l files shape =
-    let b = g.H.Host.view c.sync_all.new.host in
-    let files_b = files_same (g.H.Host.view c.args.host.now) b folder c.sync_all.ensures.changes files in
-    let none = subst (λ (l : List FileName). IsHighestSeal l None) c.deref.ensures.value c.in-None.ensures in
-    let new = unsealed_fresh b c.in_ok-names.names.items c.args.asked folder l c.in_ok-names.ensures.names files_b none shape in
-    IfErr-weaker c.open_new.result _ _ (λ fault spares. new_undamaged b folder fault spares files_b new.0) c.open_new.ensures.undamaged
-
-pub returns-in-None-clause-differs : goal.returns-in-None-clause-differs
-returns-in-None-clause-differs g c folder wanted kept files asks keeps apart =
-    let b = g.H.Host.view c.sync_all.new.host in
-    let files_b = files_same (g.H.Host.view c.args.host.now) b folder c.sync_all.ensures.changes files in
-    let none = subst (λ (l : List FileName). IsHighestSeal l None) c.deref.ensures.value c.in-None.ensures in
-    absurd (unsealed_keeps b c.in_ok-names.names.items folder kept c.in_ok-names.ensures.names files_b none keeps)
-
-pub returns-in-None-clause-differs_only : goal.returns-in-None-clause-differs_only
-returns-in-None-clause-differs_only g c folder files = IfErr-weaker c.open_new.result _ _ (λ fault never. never_differs _ fault never) c.open_new.ensures.same
-
-pub returns-in-None-clause-changes : goal.returns-in-None-clause-changes
-returns-in-None-clause-changes g c = same_then_any (g.H.Host.view c.args.host.now) (g.H.Host.view c.sync_all.new.host) (g.H.Host.view c.open_new.new.host) c.sync_all.ensures.changes c.open_new.ensures.changes
-
-pub returns-in-None-clause-once : goal.returns-in-None-clause-once
-returns-in-None-clause-once g c folder files = inl (c.open_new.ensures.reads ∙ c.sync_all.ensures.causes.reads)
+    record {
+      damaged = λ folder files. IfErr-weaker c.open_new.result _ _ (λ fault. new_damage b folder c.in_ok-names.names.items (files_same a b folder c.sync_all.ensures.changes files) c.in_ok-names.ensures.names fault none) foreign;
+      undamaged = λ folder l files shape. (
+          let files_b = files_same a b folder c.sync_all.ensures.changes files in
+          let new = unsealed_fresh b c.in_ok-names.names.items c.args.asked folder l c.in_ok-names.ensures.names files_b none shape in
+          IfErr-weaker c.open_new.result _ _ (λ fault spares. new_undamaged b folder fault spares files_b new.0) c.open_new.ensures.undamaged);
+      differs = λ folder wanted kept files asks keeps apart. absurd (unsealed_keeps b c.in_ok-names.names.items folder kept c.in_ok-names.ensures.names (files_same a b folder c.sync_all.ensures.changes files) none keeps);
+      differs_only = λ folder files. IfErr-weaker c.open_new.result _ _ (λ fault never. never_differs _ fault never) c.open_new.ensures.same;
+    }
 
 pub returns-in-None-clause-causes : goal.returns-in-None-clause-causes
 returns-in-None-clause-causes g c = causes_behind (g.H.Host.view c.args.host.now) (g.H.Host.view c.sync_all.new.host) (g.H.Host.view c.open_new.new.host) c.open_new.result c.in_ok-names.ensures.causes.ok c.sync_all.ensures.causes.out c.open_new.ensures.causes
@@ -134,101 +117,54 @@ returns-clause-opens g c folder files =
     let sealed = sealed_highest b folder files_b c.in_ok-names.names.items c.in_ok-names.ensures.names c.in-Some.number highest in
     sealed_opens folder c.open_sealed.result (c.open_sealed.ensures.opens folder files_b sealed)
 
-pub returns-clause-any_moment : goal.returns-clause-any_moment
-returns-clause-any_moment g c folder l files shape =
+pub returns-clause-safe : goal.returns-clause-safe
+returns-clause-safe g c =
     let a = g.H.Host.view c.args.host.now in
     let b = g.H.Host.view c.sync_all.new.host in
-    let files_b = files_same a b folder c.sync_all.ensures.changes files in
+    let last = g.H.Host.view c.open_sealed.new.host in
+    let number = c.in-Some.number in
     let highest = subst (λ (l : List FileName). IsHighestSeal l (Some c.in-Some.number)) c.deref.ensures.value c.in-Some.ensures in
-    let has = sealed_shape b c.in_ok-names.names.items c.args.asked folder l c.in_ok-names.ensures.names files_b c.in-Some.number highest shape in
-    sealed_moments a b (g.H.Host.view c.open_sealed.new.host) c.args.asked l has.1.0 c.sync_all.ensures.changes (c.open_sealed.ensures.any_moment folder l has.1.0 files_b has.0 has.1.1)
+    record {
+      any_moment = λ folder l files shape. (
+          let files_b = files_same a b folder c.sync_all.ensures.changes files in
+          let has = sealed_shape b c.in_ok-names.names.items c.args.asked folder l c.in_ok-names.ensures.names files_b number highest shape in
+          sealed_moments a b last c.args.asked l has.1.0 c.sync_all.ensures.changes (c.open_sealed.ensures.any_moment folder l has.1.0 files_b has.0 has.1.1));
+      kept = λ folder other files sealed. (
+          let files_b = files_same a b folder c.sync_all.ensures.changes files in
+          let same = sealed_highest b folder files_b c.in_ok-names.names.items c.in_ok-names.ensures.names number highest in
+          listed_sealed a b last folder other number sealed same c.sync_all.ensures.changes (c.open_sealed.ensures.kept folder files_b));
+      foreign = λ folder files foreign. absurd (foreign_unsealed b c.in_ok-names.names.items folder number c.in_ok-names.ensures.names (files_same a b folder c.sync_all.ensures.changes files) foreign highest);
+      once = λ folder files. (
+          let files_b = files_same a b folder c.sync_all.ensures.changes files in
+          let sealed = sealed_highest b folder files_b c.in_ok-names.names.items c.in_ok-names.ensures.names number highest in
+          inr (number, sealed, store_behind a b last folder number c.sync_all.ensures.causes.reads (c.open_sealed.ensures.once folder files_b)));
+      changes = same_then_any a b last c.sync_all.ensures.changes c.open_sealed.ensures.changes;
+    }
 
-pub returns-clause-damaged : goal.returns-clause-damaged
-returns-clause-damaged g c folder files =
+pub returns-clause-reports : goal.returns-clause-reports
+returns-clause-reports g c =
+    let a = g.H.Host.view c.args.host.now in
     let b = g.H.Host.view c.sync_all.new.host in
-    let files_b = files_same (g.H.Host.view c.args.host.now) b folder c.sync_all.ensures.changes files in
+    let number = c.in-Some.number in
     let highest = subst (λ (l : List FileName). IsHighestSeal l (Some c.in-Some.number)) c.deref.ensures.value c.in-Some.ensures in
-    let sealed = sealed_highest b folder files_b c.in_ok-names.names.items c.in_ok-names.ensures.names c.in-Some.number highest in
-    IfErr-weaker c.open_sealed.result _ _ (λ fault. sealed_damage folder c.in-Some.number fault sealed) (c.open_sealed.ensures.damaged folder files_b)
-
-pub returns-clause-undamaged : goal.returns-clause-undamaged
-returns-clause-undamaged g c folder l files shape =
-    let b = g.H.Host.view c.sync_all.new.host in
-    let files_b = files_same (g.H.Host.view c.args.host.now) b folder c.sync_all.ensures.changes files in
-    let highest = subst (λ (l : List FileName). IsHighestSeal l (Some c.in-Some.number)) c.deref.ensures.value c.in-Some.ensures in
-    let has = sealed_shape b c.in_ok-names.names.items c.args.asked folder l c.in_ok-names.ensures.names files_b c.in-Some.number highest shape in
-    c.open_sealed.ensures.undamaged folder l has.1.0 files_b has.0 has.1.1
-
-pub returns-clause-differs : goal.returns-clause-differs
-returns-clause-differs g c folder wanted kept files asks keeps apart =
-    let b = g.H.Host.view c.sync_all.new.host in
-    let files_b = files_same (g.H.Host.view c.args.host.now) b folder c.sync_all.ensures.changes files in
-    let highest = subst (λ (l : List FileName). IsHighestSeal l (Some c.in-Some.number)) c.deref.ensures.value c.in-Some.ensures in
-    let sealed = sealed_highest b folder files_b c.in_ok-names.names.items c.in_ok-names.ensures.names c.in-Some.number highest in
-    c.open_sealed.ensures.differs folder wanted kept files_b asks (sealed_keeps b c.in_ok-names.names.items folder c.in-Some.number kept sealed keeps) apart
-
-pub returns-clause-differs_only : goal.returns-clause-differs_only
-returns-clause-differs_only g c folder files =
-    let b = g.H.Host.view c.sync_all.new.host in
-    let files_b = files_same (g.H.Host.view c.args.host.now) b folder c.sync_all.ensures.changes files in
-    let highest = subst (λ (l : List FileName). IsHighestSeal l (Some c.in-Some.number)) c.deref.ensures.value c.in-Some.ensures in
-    let sealed = sealed_highest b folder files_b c.in_ok-names.names.items c.in_ok-names.ensures.names c.in-Some.number highest in
-    IfErr-weaker c.open_sealed.result _ _ (λ fault. sealed_differs folder c.in-Some.number c.args.asked fault sealed) (c.open_sealed.ensures.differs_only folder files_b)
-
-pub returns-clause-changes : goal.returns-clause-changes
-returns-clause-changes g c = same_then_any (g.H.Host.view c.args.host.now) (g.H.Host.view c.sync_all.new.host) (g.H.Host.view c.open_sealed.new.host) c.sync_all.ensures.changes c.open_sealed.ensures.changes
-
-pub returns-clause-once : goal.returns-clause-once
-returns-clause-once g c folder files =
-    let b = g.H.Host.view c.sync_all.new.host in
-    let files_b = files_same (g.H.Host.view c.args.host.now) b folder c.sync_all.ensures.changes files in
-    let highest = subst (λ (l : List FileName). IsHighestSeal l (Some c.in-Some.number)) c.deref.ensures.value c.in-Some.ensures in
-    let sealed = sealed_highest b folder files_b c.in_ok-names.names.items c.in_ok-names.ensures.names c.in-Some.number highest in
-    inr (
-      c.in-Some.number,
-      sealed,
-      store_behind (g.H.Host.view c.args.host.now) b (g.H.Host.view c.open_sealed.new.host) folder c.in-Some.number
-          c.sync_all.ensures.causes.reads (c.open_sealed.ensures.once folder files_b),
-    )
+    record {
+      damaged = λ folder files. (
+          let files_b = files_same a b folder c.sync_all.ensures.changes files in
+          IfErr-weaker c.open_sealed.result _ _ (λ fault. sealed_damage folder number fault (sealed_highest b folder files_b c.in_ok-names.names.items c.in_ok-names.ensures.names number highest)) (c.open_sealed.ensures.damaged folder files_b));
+      undamaged = λ folder l files shape. (
+          let files_b = files_same a b folder c.sync_all.ensures.changes files in
+          let has = sealed_shape b c.in_ok-names.names.items c.args.asked folder l c.in_ok-names.ensures.names files_b number highest shape in
+          c.open_sealed.ensures.undamaged folder l has.1.0 files_b has.0 has.1.1);
+      differs = λ folder wanted kept files asks keeps apart. (
+          let files_b = files_same a b folder c.sync_all.ensures.changes files in
+          c.open_sealed.ensures.differs folder wanted kept files_b asks (sealed_keeps b c.in_ok-names.names.items folder number kept (sealed_highest b folder files_b c.in_ok-names.names.items c.in_ok-names.ensures.names number highest) keeps) apart);
+      differs_only = λ folder files. (
+          let files_b = files_same a b folder c.sync_all.ensures.changes files in
+          IfErr-weaker c.open_sealed.result _ _ (λ fault. sealed_differs folder number c.args.asked fault (sealed_highest b folder files_b c.in_ok-names.names.items c.in_ok-names.ensures.names number highest)) (c.open_sealed.ensures.differs_only folder files_b));
+    }
 
 pub returns-clause-causes : goal.returns-clause-causes
 returns-clause-causes g c = causes_behind (g.H.Host.view c.args.host.now) (g.H.Host.view c.sync_all.new.host) (g.H.Host.view c.open_sealed.new.host) c.open_sealed.result c.in_ok-names.ensures.causes.ok c.sync_all.ensures.causes.out c.open_sealed.ensures.causes
-
-pub returns-in_err-names-clause-kept : goal.returns-in_err-names-clause-kept
-returns-in_err-names-clause-kept g c folder number files sealed = listed_same (g.H.Host.view c.args.host.now) (g.H.Host.view c.sync_all.new.host) folder number c.sync_all.ensures.changes
-
-pub returns-in-None-clause-kept : goal.returns-in-None-clause-kept
-returns-in-None-clause-kept g c folder number files sealed =
-    let b = g.H.Host.view c.sync_all.new.host in
-    let files_b = files_same (g.H.Host.view c.args.host.now) b folder c.sync_all.ensures.changes files in
-    let none = subst (λ (l : List FileName). IsHighestSeal l None) c.deref.ensures.value c.in-None.ensures in
-    absurd (unsealed b c.in_ok-names.names.items folder number c.in_ok-names.ensures.names files_b none sealed)
-
-pub returns-clause-kept : goal.returns-clause-kept
-returns-clause-kept g c folder number files sealed =
-    let b = g.H.Host.view c.sync_all.new.host in
-    let files_b = files_same (g.H.Host.view c.args.host.now) b folder c.sync_all.ensures.changes files in
-    let highest = subst (λ (l : List FileName). IsHighestSeal l (Some c.in-Some.number)) c.deref.ensures.value c.in-Some.ensures in
-    let other = sealed_highest b folder files_b c.in_ok-names.names.items c.in_ok-names.ensures.names c.in-Some.number highest in
-    listed_sealed (g.H.Host.view c.args.host.now) b (g.H.Host.view c.open_sealed.new.host) folder number c.in-Some.number sealed other c.sync_all.ensures.changes (c.open_sealed.ensures.kept folder files_b)
-
-pub returns-in_err-names-clause-foreign : goal.returns-in_err-names-clause-foreign
-returns-in_err-names-clause-foreign g c folder files foreign = c.sync_all.ensures.changes
-
-pub returns-in-None-clause-foreign : goal.returns-in-None-clause-foreign
-returns-in-None-clause-foreign g c folder files foreign =
-    let b = g.H.Host.view c.sync_all.new.host in
-    let files_b = files_same (g.H.Host.view c.args.host.now) b folder c.sync_all.ensures.changes files in
-    let has = held_is_listed b c.in_ok-names.names.items folder foreign.file c.in_ok-names.ensures.names files_b foreign.there in
-    then_same (g.H.Host.view c.args.host.now) b (g.H.Host.view c.open_new.new.host) Same c.sync_all.ensures.changes
-    (c.open_new.ensures.foreign foreign.file (subst (λ (l : List FileName). Contains l foreign.file) (sym c.deref-in-None.ensures.value) has) foreign.other)
-
-pub returns-clause-foreign : goal.returns-clause-foreign
-returns-clause-foreign g c folder files foreign =
-    let b = g.H.Host.view c.sync_all.new.host in
-    let files_b = files_same (g.H.Host.view c.args.host.now) b folder c.sync_all.ensures.changes files in
-    let highest = subst (λ (l : List FileName). IsHighestSeal l (Some c.in-Some.number)) c.deref.ensures.value c.in-Some.ensures in
-    absurd (foreign_unsealed b c.in_ok-names.names.items folder c.in-Some.number c.in_ok-names.ensures.names files_b foreign highest)
 
 pub returns-in_err-names-clause-untouched : goal.returns-in_err-names-clause-untouched
 returns-in_err-names-clause-untouched g c =

@@ -17,7 +17,7 @@ returns-in-Err-clause-headline g c =
     let later = g.H.Host.view c.open.new.host in
     rw c.fault_status.ensures
     (headline_unopened _ c.in-Err.fault (g.S.Source.view c.args.script.now) start later (g.met.H.Host.sound c.args.host.now)
-    (unmoved start later c.open.ensures.changes.emitted) (rw c.in-Some.ensures.asked at c.open.ensures.any_moment))
+    (unmoved start later c.open.ensures.safe.changes.emitted) (rw c.in-Some.ensures.asked at c.open.ensures.safe.any_moment))
 
 pub returns-in-Err-clause-causes : goal.returns-in-Err-clause-causes
 returns-in-Err-clause-causes g c =
@@ -26,23 +26,23 @@ returns-in-Err-clause-causes g c =
     rw c.fault_status.ensures
     (causes_unopened StoreView _ (g.S.Source.view c.args.script.now) start later (c.in-Some.command, c.in-Some.ensures.some) c.in-Err.fault
     (record {
-      silent = c.open.ensures.changes.emitted;
-      none_out = c.open.ensures.changes.emits;
-      calls = unopened_calls c.in-Err.fault (g.S.Source.view c.args.script.now) _ _ c.in-Err.ensures.causes c.open.ensures.changes.told;
-      shows = c.in-Err.ensures.damaged;
-      undamaged = rw c.in-Some.ensures.asked at c.in-Err.ensures.undamaged;
-      tells = rw c.in-Some.ensures.asked at c.in-Err.ensures.differs;
-      kept = c.open.ensures.kept;
-      foreign = c.open.ensures.foreign;
+      silent = c.open.ensures.safe.changes.emitted;
+      none_out = c.open.ensures.safe.changes.emits;
+      calls = unopened_calls c.in-Err.fault (g.S.Source.view c.args.script.now) _ _ c.in-Err.ensures.causes c.open.ensures.safe.changes.told;
+      shows = c.in-Err.ensures.reports.damaged;
+      undamaged = rw c.in-Some.ensures.asked at c.in-Err.ensures.reports.undamaged;
+      tells = rw c.in-Some.ensures.asked at c.in-Err.ensures.reports.differs;
+      kept = c.open.ensures.safe.kept;
+      foreign = c.open.ensures.safe.foreign;
       untouched = c.in-Err.ensures.untouched;
-      differs = rw c.in-Some.ensures.asked at c.in-Err.ensures.differs_only;
+      differs = rw c.in-Some.ensures.asked at c.in-Err.ensures.reports.differs_only;
     }))
 
 pub returns-in-Ok-clause-headline : goal.returns-in-Ok-clause-headline
 returns-in-Ok-clause-headline g c =
     headline_opened _ c.run_store.result (g.S.Source.view c.args.script.now) (g.S.Source.view c.run_store.new.script) (g.H.Host.view c.args.host.now)
     (g.H.Host.view c.open.new.host) (g.H.Host.view c.run_store.new.host) c.in-Ok.store c.in-Ok.ensures.state.0 c.in-Ok.ensures.state.1 (g.met.H.Host.sound c.args.host.now)
-    (g.met.H.Host.sound c.run_store.new.host) c.open.ensures.changes.emitted (rw c.in-Some.ensures.asked at c.open.ensures.any_moment)
+    (g.met.H.Host.sound c.run_store.new.host) c.open.ensures.safe.changes.emitted (rw c.in-Some.ensures.asked at c.open.ensures.safe.any_moment)
     (rw c.in-Some.ensures.asked at c.in-Ok.ensures.serves) c.run_store.ensures.runs
 
 pub returns-in-Ok-clause-causes : goal.returns-in-Ok-clause-causes
@@ -53,13 +53,13 @@ returns-in-Ok-clause-causes g c =
     (g.H.Host.view c.run_store.new.host) c.in-Ok.store (c.in-Some.command, c.in-Some.ensures.some)
     (record {
       state = c.in-Ok.ensures.state;
-      silent = c.open.ensures.changes.emitted;
-      none_out = c.open.ensures.changes.emits;
+      silent = c.open.ensures.safe.changes.emitted;
+      none_out = c.open.ensures.safe.changes.emits;
       opens = c.in-Ok.ensures.opens;
       serves = rw c.in-Some.ensures.asked at c.in-Ok.ensures.serves;
-      agrees = rw c.in-Some.ensures.asked at c.in-Ok.ensures.differs;
+      agrees = rw c.in-Some.ensures.asked at c.in-Ok.ensures.reports.differs;
     })
     c.run_store.ensures.runs
     (calls_behind c.run_store.result script script _ _ (g.H.Host.view c.open.new.host) _
-    (opened_calls c.in-Ok.store script _ _ c.in-Ok.ensures.causes c.open.ensures.changes.told) c.run_store.ensures.calls)
+    (opened_calls c.in-Ok.store script _ _ c.in-Ok.ensures.causes c.open.ensures.safe.changes.told) c.run_store.ensures.calls)
     c.run_store.ensures.damage c.run_store.ensures.of_store

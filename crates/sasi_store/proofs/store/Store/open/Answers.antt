@@ -7,19 +7,14 @@ use Rattle.sasi_model.specs.State.{State}
 use Rattle.sasi_recover.specs.OpenedFolder.{in_hand}
 use Rattle.sasi_recover.specs.declared.opened.TableMap.{TableMap}
 use Rattle.sasi_store.specs.StoreView.{AreTables}
-use Rattle.sasi_store.proofs.Known.{opened_state}
+use Rattle.sasi_store.proofs.Known.{opened_state, reports_on}
 use Rattle.sasi_store.proofs.TablesInHand.{opened_tables}
 use Rattle.sasi_store.proofs.store.Store.open.Goals as goal
 
-pub returns-in_err-opened-clause-undamaged : goal.returns-in_err-opened-clause-undamaged
-returns-in_err-opened-clause-undamaged g c folder l files shape =
+pub returns-in_err-opened-clause-reports : goal.returns-in_err-opened-clause-reports
+returns-in_err-opened-clause-reports g c =
     let p = err_from_is_err_and c.from_residual.result c.from_residual.ensures.1 in
-    rw (p.1, p.2) (c.in_err-opened.ensures.undamaged folder l files shape)
-
-pub returns-in_err-opened-clause-differs : goal.returns-in_err-opened-clause-differs
-returns-in_err-opened-clause-differs g c folder wanted kept files asked keeps apart =
-    let p = err_from_is_err_and c.from_residual.result c.from_residual.ensures.1 in
-    rw (p.1, p.2) (c.in_err-opened.ensures.differs folder wanted kept files asked keeps apart)
+    rw (p.1, p.2) (reports_on c.args.asked (g.H.Host.view c.args.host.now) c.in_err-opened.field-0.0 c.in_err-opened.ensures.reports)
 
 pub invariant_of-result : goal.invariant_of-result
 invariant_of-result g c usable =
