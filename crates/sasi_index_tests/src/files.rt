@@ -2,8 +2,10 @@
 ghost use Rattle.sasi_indexwrite.specs.Gathered.{AreUpTo};
 
 use crate::fixture::{FILE, add, lowest, write};
+use crate::searches::{add_bigints, add_long_terms, add_numbers, check_all, edges};
 use sasi_host::MemHost;
 use sasi_segments::{Gather, Posting};
+use sasi_terms::Op;
 use sasi_types::{ColumnType, ListKind, Pair};
 use std::alloc::Global;
 use std::process::Abort;
@@ -169,4 +171,77 @@ fn many_postings(rt: HostRuntime) {
     );
     let host = write(&rt, alloc, ColumnType::Text, gather);
     assert!(rt; summary(&rt, &host) == (41032, 11704208124933860585));
+}
+
+// A file of one term with so many pairs, or of none.
+fn one_term(rt: &impl Abort, alloc: Global, count: u64) -> MemHost {
+    let mut last = lowest(alloc);
+    let mut gather = Gather::new(alloc, 1, 1);
+    add_pairs(
+        rt,
+        alloc,
+        &mut gather,
+        &mut last,
+        ListKind::Stored,
+        b"\xff",
+        5,
+        0,
+        count,
+    );
+    write(rt, alloc, ColumnType::Text, gather)
+}
+
+// The file of one term with so many pairs has this size and this checksum, and each operator finds them all.
+fn check_list(rt: &impl Abort, alloc: Global, count: u64, size: usize, sum: u64) {
+    let mut host = one_term(rt, alloc, count);
+    assert!(rt; summary(rt, &host) == (size, sum));
+    for op in [Op::Eq, Op::Prefix, Op::Suffix, Op::Contains] {
+        check_all(rt, alloc, &mut host, op, b"\xff", count);
+    }
+}
+
+#[test]
+fn lists_of_many_sizes(rt: HostRuntime) {
+    let alloc = rt.alloc();
+    check_list(&rt, alloc, 0, 4168, 11729583986541651391);
+    check_list(&rt, alloc, 1, 8264, 10737365363398691920);
+    check_list(&rt, alloc, 255, 12360, 2066075831248035684);
+    check_list(&rt, alloc, 256, 12360, 7532978365727171371);
+    check_list(&rt, alloc, 65026, 1052744, 10618873693505411372);
+}
+
+#[test]
+fn four_levels_of_pointers(rt: HostRuntime) {
+    let alloc = rt.alloc();
+    let mut last = lowest(alloc);
+    let mut gather = Gather::new(alloc, 1, 1);
+    add_long_terms(&rt, alloc, &mut gather, &mut last);
+    let host = write(&rt, alloc, ColumnType::Text, gather);
+    assert!(rt; summary(&rt, &host) == (221256, 6676431636921583305));
+}
+
+#[test]
+fn numbers_on_both_sides_of_zero(rt: HostRuntime) {
+    let alloc = rt.alloc();
+    let mut last = lowest(alloc);
+    let mut gather = Gather::new(alloc, 1, 1);
+    add_numbers(&rt, alloc, &mut gather, &mut last);
+    let host = write(&rt, alloc, ColumnType::Int, gather);
+    assert!(rt; summary(&rt, &host) == (8264, 15654618548924623919));
+}
+
+#[test]
+fn large_numbers_on_both_sides_of_zero(rt: HostRuntime) {
+    let alloc = rt.alloc();
+    let mut last = lowest(alloc);
+    let mut gather = Gather::new(alloc, 1, 1);
+    add_bigints(&rt, alloc, &mut gather, &mut last);
+    let host = write(&rt, alloc, ColumnType::BigInt, gather);
+    assert!(rt; summary(&rt, &host) == (8264, 405403911846547172));
+}
+
+#[test]
+fn shortest_and_longest_terms(rt: HostRuntime) {
+    let host = edges(&rt, rt.alloc());
+    assert!(rt; summary(&rt, &host) == (8264, 17448122307951287475));
 }

@@ -21,13 +21,21 @@ fn search(rt: &impl Abort, alloc: Global, host: &mut MemHost, op: Op, body: &[u8
     index.search(alloc, &op, body).expect(rt, "memory")
 }
 
+/// The next pair of a search.
+fn next_pair(rt: &impl Abort, host: &mut MemHost, found: &mut Search) -> Option<Pair>
+    requires { IsSearchOf FILE (host_view (seen host.old)) found.old }
+    ensures { IsSearchOf FILE (host_view (seen host.new)) found.new }
+{
+    assert!(rt; host.bytes(FILE).is_some());
+    found.next(host, &mut Direct).expect(rt, "read")
+}
+
 /// The token of the next pair of a search.
 fn next(rt: &impl Abort, host: &mut MemHost, found: &mut Search) -> Option<Token>
     requires { IsSearchOf FILE (host_view (seen host.old)) found.old }
     ensures { IsSearchOf FILE (host_view (seen host.new)) found.new }
 {
-    assert!(rt; host.bytes(FILE).is_some());
-    let pair = found.next(host, &mut Direct).expect(rt, "read")?;
+    let pair = next_pair(rt, host, found)?;
     assert!(rt; pair.place == pair.token.wrapping_add(16));
     Some(pair.token)
 }
@@ -56,6 +64,23 @@ fn check(
         assert!(rt; next(rt, host, &mut found) == Some(*token));
     }
     assert!(rt; next(rt, host, &mut found).is_none());
+}
+
+/// A search gives so many pairs of the token 5, from the place 16 on, and then none.
+pub fn check_all(
+    rt: &impl Abort,
+    alloc: Global,
+    host: &mut MemHost,
+    op: Op,
+    body: &[u8],
+    count: u64,
+) {
+    let mut found = search(rt, alloc, host, op, body);
+    for k in 0..count {
+        let place = k.wrapping_add(16);
+        assert!(rt; next_pair(rt, host, &mut found) == Some(Pair { token: 5, place }));
+    }
+    assert!(rt; next_pair(rt, host, &mut found).is_none());
 }
 
 /// Adds a pair with this token.
@@ -195,8 +220,13 @@ fn skips_drop_the_pairs_below(rt: HostRuntime) {
     assert!(rt; next(&rt, &mut host, &mut found).is_none());
 }
 
+/// The tokens of the numbers from -10 to 9.
+const TOKENS: [Token; 20] = [
+    0, 1, 2, 3, 4, 5, 6, 7, 8, 9, 10, 11, 12, 13, 14, 15, 16, 17, 18, 19,
+];
+
 /// Adds the numbers from -10 to 9, with the tokens from 0 on.
-fn add_numbers(rt: &impl Abort, alloc: Global, gather: &mut Gather, last: &mut Posting)
+pub fn add_numbers(rt: &impl Abort, alloc: Global, gather: &mut Gather, last: &mut Posting)
     requires { AreUpTo gather.old.postings last.old }
     ensures { AreUpTo gather.new.postings last.new }
 {
@@ -231,10 +261,63 @@ fn ranges_find_their_numbers(rt: HostRuntime) {
         greatest: 1,
     };
     check(&rt, alloc, &mut host, none, b"", &[]);
+    check(&rt, alloc, &mut host, Op::Eq, b"\x7f\xff\xff\xff", &[9]);
+    check(&rt, alloc, &mut host, Op::Prefix, b"\x80", &TOKENS[10..]);
+    check(&rt, alloc, &mut host, Op::Suffix, b"\xff\xfe", &[8]);
+    check(
+        &rt,
+        alloc,
+        &mut host,
+        Op::Contains,
+        b"\xff\xff",
+        &TOKENS[..10],
+    );
+}
+
+/// Adds the numbers from -10 to 9 as terms of eight bytes, with the tokens from 0 on.
+pub fn add_bigints(rt: &impl Abort, alloc: Global, gather: &mut Gather, last: &mut Posting)
+    requires { AreUpTo gather.old.postings last.old }
+    ensures { AreUpTo gather.new.postings last.new }
+{
+    for k in 0..20_u64 {
+        let term = (k.wrapping_sub(10) ^ (1 << 63)).to_be_bytes();
+        put(rt, alloc, gather, last, ListKind::Stored, &term, k);
+    }
+}
+
+#[test]
+fn ranges_find_their_large_numbers(rt: HostRuntime) {
+    let alloc = rt.alloc();
+    let mut last = lowest(alloc);
+    let mut gather = Gather::new(alloc, 1, 1);
+    add_bigints(&rt, alloc, &mut gather, &mut last);
+    let mut host = write(&rt, alloc, ColumnType::BigInt, gather);
+    let some = Op::Range {
+        least: -3,
+        greatest: 1,
+    };
+    check(&rt, alloc, &mut host, some, b"", &[7, 8, 9, 10, 11]);
+    let high = Op::Range {
+        least: 8,
+        greatest: i64::MAX,
+    };
+    check(&rt, alloc, &mut host, high, b"", &[18, 19]);
+    let one = b"\x7f\xff\xff\xff\xff\xff\xff\xff";
+    check(&rt, alloc, &mut host, Op::Eq, one, &[9]);
+    check(&rt, alloc, &mut host, Op::Prefix, b"\x80", &TOKENS[10..]);
+    check(&rt, alloc, &mut host, Op::Suffix, b"\xff\xfe", &[8]);
+    check(
+        &rt,
+        alloc,
+        &mut host,
+        Op::Contains,
+        b"\xff\xff",
+        &TOKENS[..10],
+    );
 }
 
 /// The shortest and the longest terms, and pairs of two lists that alternate.
-fn edges(rt: &impl Abort, alloc: Global) -> MemHost {
+pub fn edges(rt: &impl Abort, alloc: Global) -> MemHost {
     let mut last = lowest(alloc);
     let mut gather = Gather::new(alloc, 1, 1);
     put(rt, alloc, &mut gather, &mut last, ListKind::Stored, b"", 5);
@@ -325,4 +408,38 @@ fn each_of_many_terms_is_found(rt: HostRuntime) {
     check(&rt, alloc, &mut host, Op::Eq, &nth_term(2000), &[]);
     let prefix = [0, 0, 0, 0, 0, 0, 0, 9];
     check(&rt, alloc, &mut host, Op::Prefix, &prefix, &[63]);
+}
+
+/// The longest term with this number.
+fn long_term(k: u64) -> [u8; 1024] {
+    let mut term = [97; 1024];
+    term[..8].copy_from_slice(&k.to_be_bytes());
+    term
+}
+
+/// Adds 100 terms of 1,024 bytes: three or four to a block, so there are four levels of pointers above them.
+pub fn add_long_terms(rt: &impl Abort, alloc: Global, gather: &mut Gather, last: &mut Posting)
+    requires { AreUpTo gather.old.postings last.old }
+    ensures { AreUpTo gather.new.postings last.new }
+{
+    for k in 0..100 {
+        put(rt, alloc, gather, last, ListKind::Stored, &long_term(k), k);
+    }
+}
+
+#[test]
+fn terms_below_many_levels_are_found(rt: HostRuntime) {
+    let alloc = rt.alloc();
+    let mut last = lowest(alloc);
+    let mut gather = Gather::new(alloc, 1, 1);
+    add_long_terms(&rt, alloc, &mut gather, &mut last);
+    let mut host = write(&rt, alloc, ColumnType::Text, gather);
+    for k in 0..100 {
+        check(&rt, alloc, &mut host, Op::Eq, &long_term(k), &[k]);
+    }
+    check(&rt, alloc, &mut host, Op::Eq, &long_term(100), &[]);
+    let part = [0, 0, 0, 0, 0, 0, 0, 99];
+    check(&rt, alloc, &mut host, Op::Prefix, &part, &[99]);
+    check(&rt, alloc, &mut host, Op::Contains, &part, &[99]);
+    check(&rt, alloc, &mut host, Op::Suffix, b"b", &[]);
 }

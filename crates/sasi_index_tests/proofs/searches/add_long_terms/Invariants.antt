@@ -1,0 +1,5 @@
+use Rattle.sasi_indexwrite.specs.Gathered.{AreUpTo}
+use Rattle.sasi_index_tests.proofs.searches.add_long_terms.Given as goal
+
+abbrev pub invariant-loop-k : goal.invariant-loop-k
+invariant-loop-k g l = AreUpTo l.gather.postings l.last
