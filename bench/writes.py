@@ -1,9 +1,9 @@
 #!/usr/bin/env python3
 """Runs the built program on scripts of writes and one SELECT, and prints the processor's time and peak memory.
 
-A script INSERTs distinct keys, or does so once and then UPDATEs or DELETEs them over and over. Doubling the statements may
-multiply the time by 2.4: a step that is linear in the rows held, the bytes seen or the statements run would multiply it
-by 4.
+A script INSERTs distinct keys, or does so once and then UPDATEs or DELETEs them over and over, or it has a FLUSH behind each
+INSERT, and then no SELECT. Doubling the statements may multiply the time by 2.4: a step that is linear in the rows held, the
+bytes seen, the files listed or the statements run would multiply it by 4.
 """
 import os
 import sys
@@ -12,6 +12,7 @@ import tempfile
 from processes import MEMORY, measured
 
 COUNTS = [5000, 10000, 20000, 40000]
+FLUSHES = [2500, 5000, 10000, 20000]
 MOST_GROWTH = 2.4
 TRIES = 5
 
@@ -33,13 +34,18 @@ def delete(n):
     return "DELETE FROM t WHERE k = '%s';\n" % key(n)
 
 
+def flush(n):
+    return insert(n) + 'FLUSH t;\n'
+
+
 def script(count, write):
     yield 'CREATE TABLE t (k text PRIMARY KEY, a text, b int);\n'
-    if write is not insert:
+    if write in (update, delete):
         yield from map(insert, range(count // 4))
     for n in range(count):
-        yield write(n if write is insert else n % (count // 4))
-    yield 'SELECT * FROM t;\n'
+        yield write(n % (count // 4) if write in (update, delete) else n)
+    if write is not flush:
+        yield 'SELECT * FROM t;\n'
 
 
 def run(program, path):
@@ -54,7 +60,7 @@ def measure(program, write):
     print('  count   seconds  growth  peak MiB')
     before, slow = None, False
     with tempfile.TemporaryDirectory() as folder:
-        for count in COUNTS:
+        for count in FLUSHES if write is flush else COUNTS:
             path = os.path.join(folder, 'script')
             with open(path, 'w') as out:
                 out.writelines(script(count, write))
@@ -72,7 +78,7 @@ def measure(program, write):
 def main():
     top = os.path.dirname(os.path.dirname(os.path.abspath(__file__)))
     program = sys.argv[1] if len(sys.argv) > 1 else os.path.join(top, 'sasi')
-    slow = [write.__name__ for write in (insert, update, delete) if measure(program, write)]
+    slow = [write.__name__ for write in (insert, update, delete, flush) if measure(program, write)]
     if slow:
         sys.exit('a doubling took more than %.1f times the time: %s' % (MOST_GROWTH, ', '.join(slow)))
 

@@ -119,6 +119,12 @@ pub no_replace : (table : ℕ) (removed : List ℕ) (added : List ListedFile) (s
 unfolding edit
 no_replace table removed added since floor last h = let range = fits_range w8 1 1 5 h.0.0 in omega (arith, range.below)
 
+-- the first edit of a manifest is a start
+pub first_is_start : (e : Edit) → Applies None e → ((p : Partitioner) (floor last : ℕ) → e ≡ Start p floor last → ⊥) → ⊥
+first_is_start (Start p floor last) h not = not p floor last refl
+first_is_start (CreateTable number title columns position since) h not = no_create number title columns position since h
+first_is_start (Replace table removed added since floor last) h not = no_replace table removed added since floor last h
+
 -- ---- a new table
 
 -- what a new table needs

@@ -217,8 +217,8 @@ parts_put ps at old new end put = all_put part_bytes ps at (to_be_bytes w16 (len
 pub files_put : (fs : List ListedFile) (at : ℕ) (old new : Bytes) → length fs ≤ at → new ++ flat_map file_bytes (drop at fs) ≡ old ++ (to_be_bytes w32 (length fs) ++ flat_map file_bytes fs) → new ≡ old ++ formats.encoded (new_files [] []) fs
 files_put fs at old new end put = all_put file_bytes fs at (to_be_bytes w32 (length fs)) old new end put ∙ ap (λ (l : Bytes). old ++ l) (sym (files_bytes [] [] fs))
 
--- the parts of the files that are left
-pub parts_at : (fs : List ListedFile) (i : ℕ) (f : ListedFile) → i < length fs → f ≡ get_or fs i f → AllByRecursion (λ f. length f.parts < 2 ^ 16) (drop i fs) → (length f.parts < 2 ^ 16) × AllByRecursion (λ f. length f.parts < 2 ^ 16) (drop (i + 1) fs)
-parts_at fs i f within is all =
-    let split : drop i fs ≡ f ∷ drop (i + 1) fs = drop_more fs i f within ∙ ap (λ (g : ListedFile). g ∷ drop (i + 1) fs) (sym is) in
-    subst (λ (l : List ListedFile). AllByRecursion (λ f. length f.parts < 2 ^ 16) l) split all
+-- what holds of each item that is left
+pub each_at : {A : Type 0} (P : A → Type 0) (xs : List A) (i : ℕ) (x : A) → i < length xs → x ≡ get_or xs i x → AllByRecursion P (drop i xs) → P x × AllByRecursion P (drop (i + 1) xs)
+each_at {A = A} P xs i x within is all =
+    let split : drop i xs ≡ x ∷ drop (i + 1) xs = drop_more xs i x within ∙ ap (λ (y : A). y ∷ drop (i + 1) xs) (sym is) in
+    subst (AllByRecursion P) split all

@@ -2,6 +2,7 @@
 use Rattle.std.proofs.lemmas.Bool.Decides.{nat_tests}
 use Rattle.std.specs.Int.{w32}
 use Rattle.std.proofs.lemmas.List.{drop_more}
+use Rattle.std.specs.List.{AllByRecursion}
 use Rattle.std.proofs.Common.{Bool, true, false, ◌==◌, ◌≡◌, ◌≢◌, ◌<◌, ◌≤◌, ◌-◌, ◌+◌, ◌^◌, ℕ, suc, List, [], ◌∷◌, ◌++◌, length, drop, get_or, Option, Some, None, Err, refl, sym, ◌∙◌, ap, subst, arith}
 use Rattle.sasi_host.specs.Names.{Bytes}
 use Rattle.sasi_fields.specs.Reading.{Reading}
@@ -23,8 +24,8 @@ use Rattle.sasi_manifest.specs.declared.listing.Listing.{Listing}
 use Rattle.sasi_manifest.specs.Edits.{edit, edits, encoded, Applies, AllApply}
 use Rattle.sasi_manifest.specs.ReadEdits.{read_edits}
 use Rattle.sasi_manifest.specs.Abbreviations.{created_table, started, with_listed_table}
-use Rattle.sasi_manifest.specs.Listings.{after, after_all, at_number, replaced, with_record_counted, records_of, length_of}
-use Rattle.sasi_manifest.proofs.Applying.{no_start, no_create, no_replace}
+use Rattle.sasi_manifest.specs.Listings.{IsWritable, after, after_all, at_number, replaced, with_record_counted, records_of, length_of}
+use Rattle.sasi_manifest.proofs.Applying.{no_start, no_create, no_replace, writable}
 use Rattle.sasi_manifest.proofs.EditBytes.{edits_few, same_record}
 
 -- ---- edits that apply one after another
@@ -41,6 +42,14 @@ after_push from (x ∷ es) e = after_push (after from x) es e
 pub in_turn : (from : Option Listing) (before es : List Edit) → fit_items (λ before. Applies (after_all from before)) before es → ApplyInTurn (after_all from before) es
 in_turn from before [] h = tt
 in_turn from before (e ∷ es) h = (h.0, subst (λ (l : Option Listing). ApplyInTurn l es) (after_push from before e) (in_turn from (before ++ e ∷ []) es h.1))
+
+writable_in_turn : (from : Option Listing) (es : List Edit) → ApplyInTurn from es → AllByRecursion IsWritable es
+writable_in_turn from [] all = tt
+writable_in_turn from (e ∷ es) all = (writable from e all.0, writable_in_turn (after from e) es all.1)
+
+-- they can be written
+pub all_writable : (from : Option Listing) (es : List Edit) → AllApply from es → AllByRecursion IsWritable es
+all_writable from es all = writable_in_turn from es (in_turn from [] es all)
 
 -- the turn of a loop
 pub record StepsTo (listed : Option Listing) (es : List Edit) (i : ℕ) (e : Edit) : Type 0 where

@@ -1,9 +1,9 @@
 // The effect of edits on a listing.
-ghost use Rattle.std.specs.Prelude.{◌≡◌, ◌+◌, ◌<◌, ◌≤◌, ◌++◌, ◌∷◌, [], length, Some, IfOk};
+ghost use Rattle.std.specs.Prelude.{◌≡◌, ◌+◌, ◌<◌, ◌≤◌, ◌++◌, ◌∷◌, [], length, Some, IfOk, OnErr, OnOk};
 ghost use Rattle.sasi_schema.specs.Defined.{definition};
 ghost use Rattle.sasi_manifest.specs.Naming.{IsFree};
-ghost use Rattle.sasi_manifest.specs.Edits.{Applies};
-ghost use Rattle.sasi_manifest.specs.Listings.{after, at_number, replaced};
+ghost use Rattle.sasi_manifest.specs.Edits.{AllApply, Applies};
+ghost use Rattle.sasi_manifest.specs.Listings.{after, after_all, at_number, replaced};
 ghost use Rattle.sasi_manifest.specs.Abbreviations.{listed_names, started, with_listed_table};
 
 use crate::{Edit, ListedFile, ListedTables, Listing};
@@ -12,17 +12,60 @@ use sasi_schema::Table;
 use sasi_types::{Partitioner, TableNumber};
 use std::alloc::{AllocError, Global};
 
-// Applies an edit to a listing; a manifest has none before its first edit.
+// Applies edits one after another; a manifest has no listing before its first edit.
+pub fn apply_all(
+    alloc: Global,
+    from: Option<Listing>,
+    edits: &[Edit],
+) -> Result<Option<Listing>, AllocError>
+    requires { AllApply from edits.now }
+    ensures { IfOk result (λ to. to ≡ after_all from edits.now) }
+{
+    let mut listed = from;
+    for edit in edits {
+        listed = Some(apply(alloc, listed, edit)?);
+    }
+    Ok(listed)
+}
+
+// Applies an edit.
 pub fn apply(alloc: Global, from: Option<Listing>, edit: &Edit) -> Result<Listing, AllocError>
     requires { Applies from edit.now }
     ensures { IfOk result (λ listing. Some listing ≡ after from edit.now) }
 {
+    match from {
+        None => Ok(first(alloc, edit)),
+        Some(mut listing) => {
+            change(alloc, &mut listing, edit)?;
+            Ok(listing)
+        }
+    }
+}
+
+// The listing after the first edit.
+fn first(alloc: Global, edit: &Edit) -> Listing
+    requires { Applies None edit.now }
+    ensures { Some result ≡ after None edit.now }
+{
+    let Edit::Start {
+        partitioner,
+        floor,
+        last,
+    } = edit
+    else {
+        unreachable!();
+    };
+    started(alloc, *partitioner, *floor, *last)
+}
+
+// Changes a listing by an edit that isn't the first.
+pub fn change(alloc: Global, listing: &mut Listing, edit: &Edit) -> Result<(), AllocError>
+    requires { Applies (Some listing.old) edit.now }
+    ensures ok { OnOk result (Some listing.new ≡ after (Some listing.old) edit.now) }
+    ensures err { OnErr result (listing.new ≡ listing.old) }
+{
     match edit {
-        Edit::Start {
-            partitioner,
-            floor,
-            last,
-        } => Ok(started(alloc, *partitioner, *floor, *last)),
+        Edit::Start { .. } => unreachable!(),
         Edit::CreateTable {
             number,
             name,
@@ -30,11 +73,8 @@ pub fn apply(alloc: Global, from: Option<Listing>, edit: &Edit) -> Result<Listin
             key,
             since,
         } => {
-            let Some(listing) = from else {
-                unreachable!();
-            };
             let (name, columns) = (name.copy(alloc)?, columns.copy(alloc)?);
-            with_listed_table(listing, Table::new(*number, name, columns, *key), *since)
+            add_table(listing, Table::new(*number, name, columns, *key), *since)
         }
         Edit::Replace {
             table,
@@ -44,10 +84,7 @@ pub fn apply(alloc: Global, from: Option<Listing>, edit: &Edit) -> Result<Listin
             floor,
             last,
         } => {
-            let Some(listing) = from else {
-                unreachable!();
-            };
-            let mut listing = with_replaced(
+            replace_files(
                 alloc,
                 listing,
                 *table,
@@ -57,26 +94,26 @@ pub fn apply(alloc: Global, from: Option<Listing>, edit: &Edit) -> Result<Listin
             )?;
             listing.floor = *floor;
             listing.last = *last;
-            Ok(listing)
+            Ok(())
         }
     }
 }
 
-// The listing with files of a table in the place of others.
-fn with_replaced(
+// Puts files of a table in the place of others.
+fn replace_files(
     alloc: Global,
-    mut listing: Listing,
+    listing: &mut Listing,
     table: TableNumber,
     removed: &[DataNumber],
     added: &[ListedFile],
     since: SegmentNumber,
-) -> Result<Listing, AllocError>
+) -> Result<(), AllocError>
     requires some { 0 < table }
-    requires within { table ≤ length listing.tables }
-    ensures { IfOk result (λ made. made ≡ record listing { tables = at_number 1 table (replaced removed.now added.now since) listing.tables }) }
+    requires within { table ≤ length listing.old.tables }
+    ensures ok { OnOk result (listing.new ≡ record listing.old { tables = at_number 1 table (replaced removed.now added.now since) listing.old.tables }) }
+    ensures err { OnErr result (listing.new ≡ listing.old) }
 {
-    listing.tables.replace(alloc, table, removed, added, since)?;
-    Ok(listing)
+    listing.tables.replace(alloc, table, removed, added, since)
 }
 
 // The listing of a start: no tables, and no record yet.
@@ -98,16 +135,12 @@ fn started(
     }
 }
 
-fn with_listed_table(
-    mut listing: Listing,
-    table: Table,
-    since: SegmentNumber,
-) -> Result<Listing, AllocError>
-    requires number { table.number ≡ length listing.tables + 1 }
-    requires few { length listing.tables < 256 }
-    requires free { IsFree (listed_names listing.tables) table.name }
-    ensures { IfOk result (λ made. made ≡ with_listed_table (record { definition = definition table; since = since; files = [] }) listing) }
+fn add_table(listing: &mut Listing, table: Table, since: SegmentNumber) -> Result<(), AllocError>
+    requires number { table.number ≡ length listing.old.tables + 1 }
+    requires few { length listing.old.tables < 256 }
+    requires free { IsFree (listed_names listing.old.tables) table.name }
+    ensures ok { OnOk result (listing.new ≡ with_listed_table (record { definition = definition table; since = since; files = [] }) listing.old) }
+    ensures err { OnErr result (listing.new ≡ listing.old) }
 {
-    listing.tables.push(table, since)?;
-    Ok(listing)
+    listing.tables.push(table, since)
 }

@@ -1,21 +1,24 @@
 // A new manifest and its seal.
-ghost use Rattle.std.specs.Prelude.{◌≡◌, ◌+◌, ◌≤◌, ◌^◌, [], length, None, true, IfOk, OnOk};
+ghost use Rattle.std.specs.Prelude.{◌≡◌, ◌+◌, ◌≤◌, ◌^◌, [], length, None, Some, true, IfOk, OnOk};
 ghost use Rattle.sasi_host.specs.View.{MakesCalls, Holds, IsAbsent, ListCauses, Reaches};
 ghost use Rattle.sasi_host.specs.Disk.{Changes, IsFileDurable};
 ghost use Rattle.sasi_host.specs.Names.{manifest_name, seal_name};
 ghost use Rattle.sasi_manifest.specs.declared.listing.Listing.{Listing as AListing};
 ghost use Rattle.sasi_manifest.specs.Edits.{AllApply, encoded};
 ghost use Rattle.sasi_manifest.specs.Format.{IsRewritten};
-ghost use Rattle.sasi_manifest.specs.Listings.{edits_of};
+ghost use Rattle.sasi_manifest.specs.Listings.{after_all, edits_of, with_record_counted};
 ghost use Rattle.sasi_manifest.specs.OpenManifest.{Creates, IsOpenManifest, IsUnsealed, ManifestStands, ChangesOnlyManifest};
 
-use crate::Listing;
+use crate::apply::apply_all;
 use crate::encode::encode;
+use crate::read_record::count_record;
 use crate::rewrite::edits_of;
 use crate::seal::make_seal;
+use crate::size::edits_size;
+use crate::{Edit, Listing};
 use sasi_gated::Gated;
 use sasi_host::{FileName, Host, HostFault, ManifestNumber};
-use std::alloc::Global;
+use std::alloc::{AllocError, Global};
 
 // The open file of a manifest, and its listing.
 #[derive(Drop)]
@@ -45,11 +48,23 @@ pub fn create_sealed<H: Host>(
     ensures causes { ListCauses (H.view host.old) (H.view host.new) result }
 {
     let edits = edits_of(alloc, listing)?;
-    let first = encode(alloc, None, &edits)?;
-    let gated = Gated::create(alloc, host, FileName::manifest(number), Some(&first.record))?;
+    let record = encode(alloc, &edits)?;
+    let listing = listing_of(alloc, &edits)?;
+    let gated = Gated::create(alloc, host, FileName::manifest(number), Some(&record))?;
     make_seal(host, number)?;
-    Ok(Opened {
-        gated,
-        listing: first.listing,
-    })
+    Ok(Opened { gated, listing })
+}
+
+// The listing that one record of these edits builds up.
+fn listing_of(alloc: Global, edits: &[Edit]) -> Result<Listing, AllocError>
+    requires apply { AllApply None edits.now }
+    requires some { 1 ≤ length edits.now }
+    requires short { length (encoded edits.now) ≤ 2 ^ 30 }
+    ensures { IfOk result (λ listing. Some listing ≡ with_record_counted (encoded edits.now) (after_all None edits.now)) }
+{
+    let Some(mut listing) = apply_all(alloc, None, edits)? else {
+        unreachable!();
+    };
+    count_record(&mut listing, edits_size(edits));
+    Ok(listing)
 }

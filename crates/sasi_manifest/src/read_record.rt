@@ -28,10 +28,11 @@ pub fn read_record(
     ensures ok { IfOk result (λ listing. (es : List AnEdit) × Encodes (edits listed) es payload.now × (Some listing ≡ with_record_counted payload.now (after_all listed es))) }
     ensures shown { IfErr result (IsShownBy (edits listed) payload.now) }
 {
-    let Some(listing) = read_all(alloc, payload, listed)? else {
+    let Some(mut listing) = read_all(alloc, payload, listed)? else {
         unreachable!();
     };
-    Ok(with_record(listing, payload.len() as u64))
+    count_record(&mut listing, payload.len() as u64);
+    Ok(listing)
 }
 
 // Reads the edits, which are all the bytes, and applies them one after another.
@@ -71,13 +72,12 @@ fn read_edits(
 }
 
 // Counts one record more, whose payload has this size.
-pub fn with_record(mut listing: Listing, size: u64) -> Listing
-    requires records { listing.records ≤ 2 ^ 62 }
-    requires length { listing.length ≤ 2 ^ 62 + 1 }
+pub fn count_record(listing: &mut Listing, size: u64)
+    requires records { listing.old.records ≤ 2 ^ 62 }
+    requires length { listing.old.length ≤ 2 ^ 62 + 1 }
     requires short { size ≤ 2 ^ 62 }
-    ensures { result ≡ record listing { records = listing.records + 1; length = listing.length + (5 + size) } }
+    ensures { listing.new ≡ record listing.old { records = listing.old.records + 1; length = listing.old.length + (5 + size) } }
 {
     listing.records += 1;
     listing.length += 5 + size;
-    listing
 }

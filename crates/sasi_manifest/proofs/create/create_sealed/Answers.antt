@@ -1,13 +1,19 @@
-use Rattle.std.proofs.Common.{◌≡◌, ◌+◌, ◌∷◌, [], List, Some, None, ap, subst, ◌∙◌}
+use Rattle.std.proofs.Common.{◌≡◌, ◌+◌, ◌∷◌, [], List, Some, None, ap, subst, sym, ◌∙◌}
+use Rattle.std.specs.List.{AllByRecursion}
 use Rattle.sasi_host.specs.declared.name.FileName.{FileName}
 use Rattle.sasi_host.specs.View.{Reaches}
 use Rattle.sasi_host.specs.Disk.{AnyChange, Changes, FileChange}
 use Rattle.sasi_gated.specs.Handles.{IsAtEnd}
 use Rattle.sasi_manifest.specs.declared.edit.Edit.{Edit}
 use Rattle.sasi_manifest.specs.Edits.{encoded}
-use Rattle.sasi_manifest.specs.Listings.{after_all, with_record_counted}
+use Rattle.sasi_manifest.specs.Listings.{IsWritable, after_all, edits_of, with_record_counted}
 use Rattle.sasi_manifest.proofs.CrashMoments.{unmade, unmade_touches, made_file, made_file_touches, made_both, made_both_touches, stands_made, room_made, new_builds, new_is_open}
+use Rattle.sasi_manifest.proofs.Records.{all_writable}
 use Rattle.sasi_manifest.proofs.create.create_sealed.Goals as goal
+
+pub encode-requires-clause-writable : goal.encode-requires-clause-writable
+encode-requires-clause-writable g c =
+    subst (AllByRecursion IsWritable) (sym (c.deref.ensures.value ∙ c.in_ok-edits.ensures)) (all_writable None (edits_of c.args.listing.now) c.requires.apply)
 
 pub returns-in_err-edits-clause-any_moment : goal.returns-in_err-edits-clause-any_moment
 returns-in_err-edits-clause-any_moment g c made is unsealed = unmade (g.H.Host.view c.args.host.now) c.args.number made (g.met.H.Host.sound c.args.host.now) unsealed
@@ -15,11 +21,17 @@ returns-in_err-edits-clause-any_moment g c made is unsealed = unmade (g.H.Host.v
 pub returns-in_err-edits-clause-changes : goal.returns-in_err-edits-clause-changes
 returns-in_err-edits-clause-changes g c = unmade_touches (g.H.Host.view c.args.host.now) c.args.number
 
-pub returns-in_err-first-clause-any_moment : goal.returns-in_err-first-clause-any_moment
-returns-in_err-first-clause-any_moment g c made is unsealed = unmade (g.H.Host.view c.args.host.now) c.args.number made (g.met.H.Host.sound c.args.host.now) unsealed
+pub returns-in_err-record-clause-any_moment : goal.returns-in_err-record-clause-any_moment
+returns-in_err-record-clause-any_moment g c made is unsealed = unmade (g.H.Host.view c.args.host.now) c.args.number made (g.met.H.Host.sound c.args.host.now) unsealed
 
-pub returns-in_err-first-clause-changes : goal.returns-in_err-first-clause-changes
-returns-in_err-first-clause-changes g c = unmade_touches (g.H.Host.view c.args.host.now) c.args.number
+pub returns-in_err-record-clause-changes : goal.returns-in_err-record-clause-changes
+returns-in_err-record-clause-changes g c = unmade_touches (g.H.Host.view c.args.host.now) c.args.number
+
+pub returns-in_err-listing-clause-any_moment : goal.returns-in_err-listing-clause-any_moment
+returns-in_err-listing-clause-any_moment g c made is unsealed = unmade (g.H.Host.view c.args.host.now) c.args.number made (g.met.H.Host.sound c.args.host.now) unsealed
+
+pub returns-in_err-listing-clause-changes : goal.returns-in_err-listing-clause-changes
+returns-in_err-listing-clause-changes g c = unmade_touches (g.H.Host.view c.args.host.now) c.args.number
 
 pub returns-in_err-gated-clause-any_moment : goal.returns-in_err-gated-clause-any_moment
 returns-in_err-gated-clause-any_moment g c made is unsealed =
@@ -34,10 +46,10 @@ returns-in_err-gated-clause-changes g c =
 pub returns-in_err-make_seal-clause-any_moment : goal.returns-in_err-make_seal-clause-any_moment
 returns-in_err-make_seal-clause-any_moment g c made is unsealed =
     let first = subst (λ (f : FileName). Changes (FileChange f AnyChange) (g.H.Host.view c.args.host.now) (g.H.Host.view c.create.new.host)) c.manifest.ensures c.create.ensures.changes in
-    let payload = c.in_ok-first.first.record in
+    let payload = c.in_ok-record.record in
     let end = subst (λ (f : FileName). IsAtEnd (g.H.Host.view c.create.new.host) f c.in_ok-gated.gated.at (payload ∷ [])) c.manifest.ensures c.in_ok-gated.ensures.ok in
     let items = c.deref.ensures.value ∙ c.in_ok-edits.ensures in
-    let is_payload = c.in_ok-first.ensures.record ∙ ap encoded items in
+    let is_payload = c.in_ok-record.ensures ∙ ap encoded items in
     made_both (g.H.Host.view c.args.host.now) (g.H.Host.view c.create.new.host)
     (g.H.Host.view c.make_seal.new.host) c.args.number c.in_ok-gated.gated.at made (payload ∷ []) (g.met.H.Host.sound c.args.host.now)
     (g.met.H.Host.sound c.create.new.host) unsealed first end
@@ -51,10 +63,10 @@ returns-in_err-make_seal-clause-changes g c =
 pub returns-clause-any_moment : goal.returns-clause-any_moment
 returns-clause-any_moment g c made is unsealed =
     let first = subst (λ (f : FileName). Changes (FileChange f AnyChange) (g.H.Host.view c.args.host.now) (g.H.Host.view c.create.new.host)) c.manifest.ensures c.create.ensures.changes in
-    let payload = c.in_ok-first.first.record in
+    let payload = c.in_ok-record.record in
     let end = subst (λ (f : FileName). IsAtEnd (g.H.Host.view c.create.new.host) f c.in_ok-gated.gated.at (payload ∷ [])) c.manifest.ensures c.in_ok-gated.ensures.ok in
     let items = c.deref.ensures.value ∙ c.in_ok-edits.ensures in
-    let is_payload = c.in_ok-first.ensures.record ∙ ap encoded items in
+    let is_payload = c.in_ok-record.ensures ∙ ap encoded items in
     made_both (g.H.Host.view c.args.host.now) (g.H.Host.view c.create.new.host)
     (g.H.Host.view c.make_seal.new.host) c.args.number c.in_ok-gated.gated.at made (payload ∷ []) (g.met.H.Host.sound c.args.host.now)
     (g.met.H.Host.sound c.create.new.host) unsealed first end
@@ -67,14 +79,14 @@ returns-clause-changes g c =
 
 pub returns-clause-ok : goal.returns-clause-ok
 returns-clause-ok g c =
-    let payload = c.in_ok-first.first.record in
+    let payload = c.in_ok-record.record in
     let end = subst (λ (f : FileName). IsAtEnd (g.H.Host.view c.create.new.host) f c.in_ok-gated.gated.at (payload ∷ [])) c.manifest.ensures c.in_ok-gated.ensures.ok in
     let items = c.deref.ensures.value ∙ c.in_ok-edits.ensures in
-    let is_payload = c.in_ok-first.ensures.record ∙ ap encoded items in
-    let rewritten = subst (λ (l : List Edit). Some c.in_ok-first.first.listing ≡ with_record_counted (encoded l) (after_all None l)) items c.in_ok-first.ensures.listing in
+    let is_payload = c.in_ok-record.ensures ∙ ap encoded items in
+    let rewritten = subst (λ (l : List Edit). Some c.in_ok-listing.listing ≡ with_record_counted (encoded l) (after_all None l)) (c.deref-2.ensures.value ∙ c.in_ok-edits.ensures) c.in_ok-listing.ensures in
     stands_made (g.H.Host.view c.create.new.host)
-    (g.H.Host.view c.make_seal.new.host) c.args.number c.in_ok-gated.gated.at c.in_ok-first.first.listing (payload ∷ []) end
-    (new_builds c.args.listing.now c.in_ok-first.first.listing payload c.requires.apply c.requires.short is_payload rewritten)
+    (g.H.Host.view c.make_seal.new.host) c.args.number c.in_ok-gated.gated.at c.in_ok-listing.listing (payload ∷ []) end
+    (new_builds c.args.listing.now c.in_ok-listing.listing payload c.requires.apply c.requires.short is_payload rewritten)
     c.make_seal.ensures.changes
 
 pub returns-clause-room : goal.returns-clause-room
@@ -85,8 +97,8 @@ returns-clause-room g c =
 pub returns-clause-is_open : goal.returns-clause-is_open
 returns-clause-is_open g c =
     let items = c.deref.ensures.value ∙ c.in_ok-edits.ensures in
-    let rewritten = subst (λ (l : List Edit). Some c.in_ok-first.first.listing ≡ with_record_counted (encoded l) (after_all None l)) items c.in_ok-first.ensures.listing in
+    let rewritten = subst (λ (l : List Edit). Some c.in_ok-listing.listing ≡ with_record_counted (encoded l) (after_all None l)) (c.deref-2.ensures.value ∙ c.in_ok-edits.ensures) c.in_ok-listing.ensures in
     let gated = c.in_ok-gated.ensures in
-    new_is_open c.args.number c.in_ok-gated.gated c.args.listing.now c.in_ok-first.first.listing c.manifest.result
-    c.in_ok-first.first.record c.requires.apply (c.in_ok-first.ensures.record ∙ ap encoded items) rewritten c.manifest.ensures gated.file
+    new_is_open c.args.number c.in_ok-gated.gated c.args.listing.now c.in_ok-listing.listing c.manifest.result
+    c.in_ok-record.record c.requires.apply (c.in_ok-record.ensures ∙ ap encoded items) rewritten c.manifest.ensures gated.file
     gated.offset gated.fits gated.usable
