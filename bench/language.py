@@ -3,7 +3,7 @@
 
 The lines are statements (INSERTs of prose, and statements of all forms), texts to cut into words, and pieces of one length, 8 MiB
 in all. A byte of the longest pieces may take twice the time of one of the shortest, which are 32 times shorter: a step that is
-linear in the bytes seen would multiply it by 32.
+linear in the bytes seen would multiply it by 32. What pieces say isn't printed, so they take the parser's time and memory alone.
 
 Then it parses a piece of 2^20 bytes for each list of the grammar, with the shortest items that it can have, and prints how many
 times its bytes the piece takes in memory beyond a text of the same length that fails at its first byte. It may take ten times.
@@ -113,12 +113,12 @@ def piece_of(front, item, between, back, size):
 def print_memory(program):
     """Prints what a piece of each list takes. Returns how many take too much."""
     size = 1 << 20
-    _, least = measure(program, ['?' * size])
+    _, least = measure(program, ['parse ' + '?' * size])
     print('%-21s %5s' % ('lists of', 'times'))
     over = 0
     for name, front, item, between, back in LISTS:
         piece = piece_of(front, item, between, back, size)
-        _, memory = measure(program, [piece])
+        _, memory = measure(program, ['parse ' + piece])
         times = (memory - least) * 1024 / len(piece)
         print('%-21s %5.1f' % (name, times))
         over += times > MOST_MEMORY
@@ -143,7 +143,7 @@ def main():
         size = 1 << power
         piece = 'INSERT INTO t (k, a) VALUES (%s, 1);' % ', '.join(['1'] * ((size - 40) // 3))
         count = TOTAL // size
-        seconds, memory = measure(program, [piece] * count)
+        seconds, memory = measure(program, ['parse ' + piece] * count)
         cost = seconds / (count * len(piece)) * 1e9
         print('%9d  %6d  %9.1f  %8.1f' % (len(piece), count, cost, memory / 1024))
         first = first or cost

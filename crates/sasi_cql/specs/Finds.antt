@@ -18,10 +18,14 @@ abbrev pub Halts : {A : Type 0} → Reading A → Halt → Type 0
 Halts reading (halt.Stuck size) = reading ≡ Stuck size
 Halts reading halt.OutOfMemory = ⊤
 
--- the result is the value that the form's reader gets and the text of the tokens behind it, or where it is stuck
+-- the result shows the value that the form's reader gets, and is the text of the tokens behind it, or where it is stuck
+abbrev pub FindsAs : {L A : Type 0} → (L → A) → Reading A → Result (L × Bor (List ℕ)) Halt → Type 0
+FindsAs shown reading (Ok r) = reading ≡ Got (shown r.0) (tokens r.1.now)
+FindsAs shown reading (Err why) = Halts reading why
+
+-- the result is the value and the text behind it
 abbrev pub Finds : {A : Type 0} → Reading A → Result (A × Bor (List ℕ)) Halt → Type 0
-Finds reading (Ok r) = reading ≡ Got r.0 (tokens r.1.now)
-Finds reading (Err why) = Halts reading why
+Finds reading result = FindsAs (λ value. value) reading result
 
 -- likewise of the text behind words and signs
 abbrev pub FindsBehind : Reading (Unit {0}) → Result (Bor (List ℕ)) Halt → Type 0

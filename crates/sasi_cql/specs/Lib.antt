@@ -1,3 +1,4 @@
 pub mod Finds
 pub mod ModelTokens
 pub mod SplitterState
+pub mod TableItems

@@ -6,7 +6,7 @@ ghost use Rattle.sasi_cql.specs.Finds.{Finds};
 
 use crate::front::{after, expect, read_name, read_string};
 use crate::halt::Halt;
-use crate::list::{Items, read_list};
+use crate::list::read_list;
 use crate::token::Token;
 use sasi_types::{Name, Options, Statement, Text};
 use std::alloc::Global;
@@ -34,9 +34,9 @@ fn read_options<'a>(alloc: Global, text: &'a [u8]) -> Result<(Options, &'a [u8])
         &[Token::Word(b"options"), Token::Equal, Token::OpenBrace],
         behind,
     )?;
-    let (options, behind): (Items<(Text, Text)>, _) = read_list(alloc, &Token::Comma, behind)?;
+    let (options, behind) = read_list::<(Text, Text)>(alloc, &Token::Comma, behind)?;
     let behind = expect(&[Token::CloseBrace], behind)?;
-    Ok((Options::from_vec(options.into_vec()), behind))
+    Ok((options, behind))
 }
 
 /// INDEX [name] ON name ( name ) USING string [WITH OPTIONS = { .. }], after CREATE CUSTOM or BEGIN CREATE CUSTOM

@@ -7,13 +7,17 @@ use crate::halt::Halt;
 use crate::list::Item;
 use crate::part::read_equation;
 use crate::token::Token;
-use sasi_types::{Literal, Name, Relation, Test, Text};
-use std::alloc::Global;
+use sasi_types::{Literal, Literals, Name, Names, Options, Relation, Relations, Sets, Test, Text};
+use std::alloc::{AllocError, Global};
 
 impl Item for Name {
+    type Packed = Names;
+
     ghost form = { λ _. name };
 
     ghost marks = { λ _. false };
+
+    ghost items = { λ list. list };
 
     fn read<'a>(alloc: Global, _marked: bool, text: &'a [u8]) -> Result<(Name, &'a [u8]), Halt> {
         read_name(alloc, text)
@@ -22,12 +26,26 @@ impl Item for Name {
     fn marks(&self) -> bool {
         false
     }
+
+    fn empty(alloc: Global) -> Names {
+        Names::new(alloc)
+    }
+
+    fn add(list: Names, item: Name) -> Result<Names, AllocError> {
+        let mut list = list;
+        list.push(&item)?;
+        Ok(list)
+    }
 }
 
 impl Item for Literal {
+    type Packed = Literals;
+
     ghost form = { λ _. literal };
 
     ghost marks = { λ _. false };
+
+    ghost items = { λ list. list };
 
     fn read<'a>(alloc: Global, _marked: bool, text: &'a [u8]) -> Result<(Literal, &'a [u8]), Halt> {
         read_literal(alloc, text)
@@ -36,12 +54,26 @@ impl Item for Literal {
     fn marks(&self) -> bool {
         false
     }
+
+    fn empty(alloc: Global) -> Literals {
+        Literals::new(alloc)
+    }
+
+    fn add(list: Literals, item: Literal) -> Result<Literals, AllocError> {
+        let mut list = list;
+        list.push(item)?;
+        Ok(list)
+    }
 }
 
 impl Item for (Text, Text) {
+    type Packed = Options;
+
     ghost form = { λ _. option };
 
     ghost marks = { λ _. false };
+
+    ghost items = { λ list. list };
 
     fn read<'a>(
         alloc: Global,
@@ -57,12 +89,24 @@ impl Item for (Text, Text) {
     fn marks(&self) -> bool {
         false
     }
+
+    fn empty(alloc: Global) -> Options {
+        Options::new(alloc)
+    }
+
+    fn add(list: Options, item: (Text, Text)) -> Result<Options, AllocError> {
+        list.with(&item.0, &item.1)
+    }
 }
 
 impl Item for (Name, Literal) {
+    type Packed = Sets;
+
     ghost form = { λ _. equation };
 
     ghost marks = { λ _. false };
+
+    ghost items = { λ list. list };
 
     fn read<'a>(
         alloc: Global,
@@ -75,12 +119,25 @@ impl Item for (Name, Literal) {
     fn marks(&self) -> bool {
         false
     }
+
+    fn empty(alloc: Global) -> Sets {
+        Sets::new(alloc)
+    }
+
+    fn add(list: Sets, item: (Name, Literal)) -> Result<Sets, AllocError> {
+        let (column, value) = item;
+        list.with(&column, value)
+    }
 }
 
 impl Item for Relation {
+    type Packed = Relations;
+
     ghost form = { λ _. relation };
 
     ghost marks = { λ _. false };
+
+    ghost items = { λ list. list };
 
     fn read<'a>(
         alloc: Global,
@@ -109,5 +166,13 @@ impl Item for Relation {
 
     fn marks(&self) -> bool {
         false
+    }
+
+    fn empty(alloc: Global) -> Relations {
+        Relations::new(alloc)
+    }
+
+    fn add(list: Relations, item: Relation) -> Result<Relations, AllocError> {
+        list.with(item)
     }
 }

@@ -3,6 +3,8 @@
 #![tactic(auto)]
 
 mod byte;
+mod declarations;
+mod declared;
 mod fault;
 mod front;
 mod grammar;

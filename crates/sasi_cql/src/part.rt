@@ -6,7 +6,7 @@ ghost use Rattle.sasi_cql.specs.Finds.{Finds};
 
 use crate::front::{after, expect, read_literal, read_name, read_number};
 use crate::halt::Halt;
-use crate::list::{Items, read_list};
+use crate::list::read_list;
 use crate::token::Token;
 use sasi_types::{Literal, Name, Names, Number};
 use std::alloc::Global;
@@ -15,8 +15,7 @@ use std::alloc::Global;
 pub fn read_names<'a>(alloc: Global, text: &'a [u8]) -> Result<(Names, &'a [u8]), Halt>
     ensures { Finds (read names (tokens text.now)) result }
 {
-    let (names, behind): (Items<Name>, _) = read_list(alloc, &Token::Comma, text)?;
-    Ok((Names::from_vec(names.into_vec()), behind))
+    read_list::<Name>(alloc, &Token::Comma, text)
 }
 
 /// [USING TIMESTAMP integer]

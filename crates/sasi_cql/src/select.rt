@@ -6,7 +6,7 @@ ghost use Rattle.sasi_cql.specs.Finds.{Finds};
 
 use crate::front::{after, expect, read_name, read_number};
 use crate::halt::Halt;
-use crate::list::{Items, read_list};
+use crate::list::read_list;
 use crate::part::read_names;
 use crate::token::Token;
 use sasi_types::{Names, Number, Relation, Relations, Select};
@@ -30,8 +30,7 @@ fn read_relations<'a>(alloc: Global, text: &'a [u8]) -> Result<(Relations, &'a [
     let Some(behind) = after(&Token::Word(b"where"), text) else {
         return Ok((Relations::new(alloc), text));
     };
-    let (relations, behind): (Items<Relation>, _) = read_list(alloc, &Token::Word(b"and"), behind)?;
-    Ok((Relations::from_vec(relations.into_vec()), behind))
+    read_list::<Relation>(alloc, &Token::Word(b"and"), behind)
 }
 
 // [LIMIT integer]

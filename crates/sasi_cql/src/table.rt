@@ -1,16 +1,16 @@
 // CREATE TABLE.
-ghost use Rattle.std.specs.Prelude.{◌≡◌, ◌++◌, ◌∷◌, [], false, IfOk, OnOk};
-ghost use Rattle.std.specs.List.{flat_map};
+ghost use Rattle.std.specs.Prelude.{false};
 ghost use Rattle.sasi_model.specs.Tokens.{tokens};
 ghost use Rattle.sasi_model.specs.FormReader.{read};
-ghost use Rattle.sasi_model.specs.Statements.{columns_of, declaration, keys_of, plain_column, says_key, table};
+ghost use Rattle.sasi_model.specs.Statements.{declaration, plain_column, says_key, table};
 ghost use Rattle.sasi_cql.specs.Finds.{Finds};
 
+use crate::declarations::Declarations;
 use crate::front::{after, expect, read_name, read_type};
 use crate::halt::Halt;
-use crate::list::{Item, Items, read_list};
+use crate::list::{Item, read_list};
 use crate::token::Token;
-use sasi_types::{ColumnType, Columns, Declaration, Name, Names, Statement};
+use sasi_types::{Declaration, Statement};
 use std::alloc::{AllocError, Global};
 
 // name type
@@ -42,9 +42,13 @@ fn read_declaration<'a>(alloc: Global, text: &'a [u8]) -> Result<(Declaration, &
 }
 
 impl Item for Declaration {
+    type Packed = Declarations;
+
     ghost form = { declaration };
 
     ghost marks = { says_key };
+
+    ghost items = { λ list. list };
 
     fn read<'a>(
         alloc: Global,
@@ -64,60 +68,14 @@ impl Item for Declaration {
             Declaration::KeyColumn(..) | Declaration::Key(_) => true,
         }
     }
-}
 
-// Adds a column with PRIMARY KEY.
-fn push_key_column(
-    alloc: Global,
-    columns: &mut Columns,
-    keys: &mut Names,
-    column: Name,
-    kind: ColumnType,
-) -> Result<(), AllocError>
-    ensures columns { OnOk result (columns.new ≡ columns.old ++ (column, kind) ∷ []) }
-    ensures keys { OnOk result (keys.new ≡ keys.old ++ column ∷ []) }
-{
-    let key = column.copy(alloc)?;
-    columns.push(column, kind)?;
-    keys.push(key)?;
-    Ok(())
-}
-
-// Adds what is declared.
-fn push_declared(
-    alloc: Global,
-    columns: &mut Columns,
-    keys: &mut Names,
-    declaration: Declaration,
-) -> Result<(), AllocError>
-    ensures columns { OnOk result (columns.new ≡ columns.old ++ columns_of declaration) }
-    ensures keys { OnOk result (keys.new ≡ keys.old ++ keys_of declaration) }
-{
-    match declaration {
-        Declaration::Column(column, kind) => {
-            columns.push(column, kind)?;
-        }
-        Declaration::KeyColumn(column, kind) => {
-            push_key_column(alloc, columns, keys, column, kind)?;
-        }
-        Declaration::Key(key) => {
-            keys.push(key)?;
-        }
+    fn empty(alloc: Global) -> Declarations {
+        Declarations::new(alloc)
     }
-    Ok(())
-}
 
-// The columns that are declared, and the names that PRIMARY KEY is said of.
-fn declared(alloc: Global, declarations: Vec<Declaration>) -> Result<(Columns, Names), AllocError>
-    ensures columns { IfOk result (λ declared. declared.0 ≡ flat_map columns_of declarations.items) }
-    ensures keys { IfOk result (λ declared. declared.1 ≡ flat_map keys_of declarations.items) }
-{
-    let mut columns = Columns::new(alloc);
-    let mut keys = Names::new(alloc);
-    for declaration in declarations {
-        push_declared(alloc, &mut columns, &mut keys, declaration)?;
+    fn add(list: Declarations, item: Declaration) -> Result<Declarations, AllocError> {
+        list.with(item)
     }
-    Ok((columns, keys))
 }
 
 /// name ( item {, item} ), after CREATE TABLE
@@ -126,9 +84,9 @@ pub fn read_table<'a>(alloc: Global, text: &'a [u8]) -> Result<(Statement, &'a [
 {
     let (table, behind) = read_name(alloc, text)?;
     let behind = expect(&[Token::Open], behind)?;
-    let (items, behind): (Items<Declaration>, _) = read_list(alloc, &Token::Comma, behind)?;
+    let (declared, behind) = read_list::<Declaration>(alloc, &Token::Comma, behind)?;
     let behind = expect(&[Token::Close], behind)?;
-    let (columns, keys) = declared(alloc, items.into_vec())?;
+    let (columns, keys) = declared.split(alloc)?;
     let statement = Statement::CreateTable {
         table,
         columns,

@@ -7,7 +7,7 @@ ghost use Rattle.sasi_cql.specs.Finds.{Finds};
 
 use crate::front::{after, expect, read_name, stuck};
 use crate::halt::Halt;
-use crate::list::{Items, read_list};
+use crate::list::read_list;
 use crate::part::{read_key_given, read_names, read_time};
 use crate::token::Token;
 use sasi_types::{Literal, Literals, Name, Names, Sets, Statement};
@@ -17,15 +17,14 @@ use std::alloc::Global;
 fn are_even(columns: &Names, values: &Literals) -> bool
     ensures { result ≡ (length values.now == length columns.now) }
 {
-    values.as_slice().len() == columns.as_slice().len()
+    values.len() == columns.len()
 }
 
 // literal {, literal}
 fn read_literals<'a>(alloc: Global, text: &'a [u8]) -> Result<(Literals, &'a [u8]), Halt>
     ensures { Finds (read literals (tokens text.now)) result }
 {
-    let (values, behind): (Items<Literal>, _) = read_list(alloc, &Token::Comma, text)?;
-    Ok((Literals::from_vec(values.into_vec()), behind))
+    read_list::<Literal>(alloc, &Token::Comma, text)
 }
 
 /// INTO name ( name {, name} ) VALUES ( literal {, literal} ) [USING TIMESTAMP integer], after INSERT
@@ -56,8 +55,7 @@ pub fn read_insert<'a>(alloc: Global, text: &'a [u8]) -> Result<(Statement, &'a 
 fn read_sets<'a>(alloc: Global, text: &'a [u8]) -> Result<(Sets, &'a [u8]), Halt>
     ensures { Finds (read equations (tokens text.now)) result }
 {
-    let (sets, behind): (Items<(Name, Literal)>, _) = read_list(alloc, &Token::Comma, text)?;
-    Ok((Sets::from_vec(sets.into_vec()), behind))
+    read_list::<(Name, Literal)>(alloc, &Token::Comma, text)
 }
 
 /// name [USING TIMESTAMP integer] SET name = literal {, name = literal} WHERE name = literal, after UPDATE

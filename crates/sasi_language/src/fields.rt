@@ -1,7 +1,7 @@
 // The fields of statements, each printed with a space in front of it.
 use sasi_types::{
-    ColumnType, Columns, Literal, Literals, Name, Names, Number, Options, Relation, Sets, Test,
-    Text,
+    ColumnType, DeclaredColumns, Literal, Literals, Name, Names, Number, Options, Relations, Sets,
+    Test, Text,
 };
 use std::alloc::Global;
 use std::{io, str};
@@ -12,8 +12,9 @@ pub fn print_name(rt: &impl Print, name: &Name) -> io::Result<()> {
 }
 
 /// Names after a word.
-pub fn print_names(rt: &impl Print, word: &str, names: &Names) -> io::Result<()> {
+pub fn print_names(rt: &impl Print, alloc: Global, word: &str, names: &Names) -> io::Result<()> {
     print!(rt; " {word}")?;
+    let names = names.unpack(alloc)?;
     for name in names.as_slice() {
         print_name(rt, name)?;
     }
@@ -55,6 +56,7 @@ pub fn print_literal(rt: &impl Print, alloc: Global, literal: &Literal) -> io::R
 /// The values of an INSERT.
 pub fn print_literals(rt: &impl Print, alloc: Global, literals: &Literals) -> io::Result<()> {
     print!(rt; " values")?;
+    let literals = literals.unpack(alloc)?;
     for literal in literals.as_slice() {
         print_literal(rt, alloc, literal)?;
     }
@@ -71,8 +73,9 @@ fn type_name(kind: ColumnType) -> &'static str {
 }
 
 /// The columns of a CREATE TABLE with their types.
-pub fn print_columns(rt: &impl Print, columns: &Columns) -> io::Result<()> {
+pub fn print_columns(rt: &impl Print, alloc: Global, columns: &DeclaredColumns) -> io::Result<()> {
     print!(rt; " columns")?;
+    let columns = columns.unpack(alloc)?;
     for column in columns.as_slice() {
         print_name(rt, &column.0)?;
         print!(rt; " {}", type_name(column.1))?;
@@ -83,6 +86,7 @@ pub fn print_columns(rt: &impl Print, columns: &Columns) -> io::Result<()> {
 /// What an UPDATE sets.
 pub fn print_sets(rt: &impl Print, alloc: Global, sets: &Sets) -> io::Result<()> {
     print!(rt; " set")?;
+    let sets = sets.unpack(alloc)?;
     for set in sets.as_slice() {
         print_name(rt, &set.0)?;
         print_literal(rt, alloc, &set.1)?;
@@ -93,6 +97,7 @@ pub fn print_sets(rt: &impl Print, alloc: Global, sets: &Sets) -> io::Result<()>
 /// The options of an index.
 pub fn print_options(rt: &impl Print, alloc: Global, options: &Options) -> io::Result<()> {
     print!(rt; " options")?;
+    let options = options.unpack(alloc)?;
     for option in options.as_slice() {
         print_text(rt, alloc, &option.0)?;
         print_text(rt, alloc, &option.1)?;
@@ -112,8 +117,9 @@ fn test_name(test: Test) -> &'static str {
 }
 
 /// The relations of a SELECT.
-pub fn print_relations(rt: &impl Print, alloc: Global, relations: &[Relation]) -> io::Result<()> {
-    for relation in relations {
+pub fn print_relations(rt: &impl Print, alloc: Global, relations: &Relations) -> io::Result<()> {
+    let relations = relations.unpack(alloc)?;
+    for relation in relations.as_slice() {
         print!(rt; " where")?;
         print_name(rt, &relation.column)?;
         print!(rt; " {}", test_name(relation.test))?;

@@ -3,6 +3,7 @@
 //!
 //! - `# TITLE` is printed as it is.
 //! - `hex DIGITS` is a piece of these bytes, in hexadecimal.
+//! - `parse TEXT` prints of a piece only whether it has a statement.
 //! - `whole TEXT` and `words TEXT` print the terms of a text, each between `[` and `]`; `fold whole TEXT` and `fold words TEXT`
 //!   print them with A to Z folded.
 //!
@@ -21,12 +22,26 @@ use std::alloc::Global;
 use std::io::{self, BufRead, BufReader};
 use std::str;
 
+fn print_fault(rt: &impl Print, fault: ParseFault) -> io::Result<()> {
+    match fault {
+        ParseFault::Syntax { at } => println!(rt; "syntax at {at}"),
+        ParseFault::OutOfMemory => println!(rt; "out of memory"),
+    }
+}
+
 // Prints what the text is.
 fn print_piece(rt: &impl Print, alloc: Global, text: &str) -> io::Result<()> {
     match parse(alloc, text) {
         Ok(statement) => print_statement(rt, alloc, &statement),
-        Err(ParseFault::Syntax { at }) => println!(rt; "syntax at {at}"),
-        Err(ParseFault::OutOfMemory) => println!(rt; "out of memory"),
+        Err(fault) => print_fault(rt, fault),
+    }
+}
+
+// Prints whether the text has a statement.
+fn print_parsed(rt: &impl Print, alloc: Global, text: &str) -> io::Result<()> {
+    match parse(alloc, text) {
+        Ok(_) => println!(rt; "a statement"),
+        Err(fault) => print_fault(rt, fault),
     }
 }
 
@@ -60,6 +75,7 @@ fn print_line(rt: &impl Print, alloc: Global, line: &str) -> io::Result<()> {
     match word {
         "#" => println!(rt; "{line}"),
         "hex" => print_digits(rt, alloc, rest),
+        "parse" => print_parsed(rt, alloc, rest),
         "whole" => print_terms(rt, alloc, Rule::Whole { fold: false }, rest),
         "words" => print_terms(rt, alloc, Rule::Words { fold: false }, rest),
         "fold" => print_folded(rt, alloc, rest),

@@ -21,12 +21,12 @@ fn print_counted(rt: &impl Print, kind: &str, name: &Name, number: Number) -> io
 
 fn print_select(rt: &impl Print, alloc: Global, select: &Select) -> io::Result<()> {
     match &select.columns {
-        Some(names) => print_names(rt, "columns", names)?,
+        Some(names) => print_names(rt, alloc, "columns", names)?,
         None => print!(rt; " columns *")?,
     }
     print!(rt; " from")?;
     print_name(rt, &select.table)?;
-    print_relations(rt, alloc, select.relations.as_slice())?;
+    print_relations(rt, alloc, &select.relations)?;
     print_given(rt, "limit", select.limit)?;
     print!(rt; " filtering {}", select.filtering)
 }
@@ -80,8 +80,8 @@ fn print_definition(rt: &impl Print, alloc: Global, statement: &Statement) -> io
             keys,
         } => {
             print_named(rt, "create table", table)?;
-            print_columns(rt, columns)?;
-            print_names(rt, "keys", keys)
+            print_columns(rt, alloc, columns)?;
+            print_names(rt, alloc, "keys", keys)
         }
         Statement::CreateIndex {
             name,
@@ -109,7 +109,7 @@ fn print_write(rt: &impl Print, alloc: Global, statement: &Statement) -> io::Res
             time,
         } => {
             print_named(rt, "insert", table)?;
-            print_names(rt, "columns", columns)?;
+            print_names(rt, alloc, "columns", columns)?;
             print_literals(rt, alloc, values)?;
             print_given(rt, "time", *time)
         }
@@ -133,7 +133,7 @@ fn print_write(rt: &impl Print, alloc: Global, statement: &Statement) -> io::Res
             value,
         } => {
             print_named(rt, "delete", table)?;
-            print_names(rt, "columns", columns)?;
+            print_names(rt, alloc, "columns", columns)?;
             print_given(rt, "time", *time)?;
             print_key(rt, alloc, key, value)
         }

@@ -9,7 +9,7 @@ ghost use Rattle.sasi_machine.specs.Assignment.{with_set};
 use crate::literals::{is_null, value_set};
 use sasi_cells::Partition;
 use sasi_schema::Table;
-use sasi_types::{Cell, Literal, Name, Names, Sets};
+use sasi_types::{Cell, ColumnValues, Literal, Name};
 use std::alloc::{AllocError, Global};
 
 /// The literal of the key, and the cells of the regular columns.
@@ -25,7 +25,7 @@ pub fn assign(
     alloc: Global,
     table: &Table,
     time: u64,
-    given: Sets,
+    given: ColumnValues,
 ) -> Result<Assignment, AllocError>
     requires above { 0 < time }
     requires ranges { first_of (each (number_range (definition table.now)) given) ≡ None }
@@ -94,11 +94,11 @@ fn set(
 }
 
 /// Each name with NULL.
-pub fn nulls(alloc: Global, columns: Names) -> Result<Sets, AllocError>
-    ensures { IfOk result (λ sets. sets ≡ map (λ name. (name, Null)) columns) }
+pub fn nulls(alloc: Global, columns: Vec<Name>) -> Result<ColumnValues, AllocError>
+    ensures { IfOk result (λ sets. sets ≡ map (λ name. (name, Null)) columns.items) }
 {
-    let mut sets = Sets::new(alloc);
-    for column in columns.into_vec() {
+    let mut sets = ColumnValues::new(alloc);
+    for column in columns {
         sets.push(column, Literal::Null)?;
     }
     Ok(sets)

@@ -18,7 +18,7 @@ use crate::name_rule::NameRule;
 use crate::relation::KeyRelation;
 use sasi_cells::Mutation;
 use sasi_schema::Table;
-use sasi_types::{Literals, Names, Number, Sets};
+use sasi_types::{ColumnValues, Literal, Name, Number};
 use std::alloc::Global;
 
 /// Makes the mutations of statements.
@@ -34,18 +34,18 @@ impl MutationBuilder {
     pub fn insert(
         &self,
         table: &Table,
-        columns: Names,
-        values: Literals,
+        columns: Vec<Name>,
+        values: Vec<Literal>,
         time: Option<Number>,
     ) -> Result<Mutation, Fault>
         requires { self.now.max_timestamp ≤ time_limit }
-        ensures answers { Answers refusal_of_fault (insert_rules self.now.max_timestamp table.now.name columns (zip columns values) time (Some (definition table.now))) result }
-        ensures write { IfOk result (IsWriteTo self.now.max_timestamp (definition table.now) (Insert table.now.name columns values time)) }
+        ensures answers { Answers refusal_of_fault (insert_rules self.now.max_timestamp table.now.name columns.items (zip columns.items values.items) time (Some (definition table.now))) result }
+        ensures write { IfOk result (IsWriteTo self.now.max_timestamp (definition table.now) (Insert table.now.name columns.items values.items time)) }
         ensures table { IfOk result (λ mutation. mutation.table ≡ table.now.number) }
     {
         NameRule::NoColumn.check_names(self.alloc, table, columns.as_slice())?;
         check_once(self.alloc, columns.as_slice())?;
-        let given = Sets::of(self.alloc, columns, values)?;
+        let given = ColumnValues::of(self.alloc, columns, values)?;
         self.insert_given(table, given, time)
     }
 
@@ -53,7 +53,7 @@ impl MutationBuilder {
     fn insert_given(
         &self,
         table: &Table,
-        given: Sets,
+        given: ColumnValues,
         time: Option<Number>,
     ) -> Result<Mutation, Fault>
         requires { self.now.max_timestamp ≤ time_limit }
@@ -75,7 +75,7 @@ impl MutationBuilder {
     pub fn update(
         &self,
         table: &Table,
-        sets: Sets,
+        sets: ColumnValues,
         relation: KeyRelation,
         time: Option<Number>,
     ) -> Result<Mutation, Fault>
@@ -100,13 +100,13 @@ impl MutationBuilder {
     pub fn delete(
         &self,
         table: &Table,
-        columns: Names,
+        columns: Vec<Name>,
         relation: KeyRelation,
         time: Option<Number>,
     ) -> Result<Mutation, Fault>
         requires { self.now.max_timestamp ≤ time_limit }
-        ensures answers { Answers refusal_of_fault (delete_rules self.now.max_timestamp table.now.name columns relation.column relation.value time (Some (definition table.now))) result }
-        ensures write { IfOk result (IsWriteTo self.now.max_timestamp (definition table.now) (Delete table.now.name columns time relation.column relation.value)) }
+        ensures answers { Answers refusal_of_fault (delete_rules self.now.max_timestamp table.now.name columns.items relation.column relation.value time (Some (definition table.now))) result }
+        ensures write { IfOk result (IsWriteTo self.now.max_timestamp (definition table.now) (Delete table.now.name columns.items time relation.column relation.value)) }
         ensures table { IfOk result (λ mutation. mutation.table ≡ table.now.number) }
     {
         let time = check_delete(

@@ -8,7 +8,7 @@ use sasi_types::{Select, Statement};
 fn is_plain(select: &Select) -> bool
     ensures { result ≡ is_plain select.now }
 {
-    select.relations.as_slice().len() == 0 && select.limit.is_none() && !select.filtering
+    select.relations.len() == 0 && select.limit.is_none() && !select.filtering
 }
 
 /// The statement is built, with all its clauses.

@@ -12,7 +12,7 @@ use crate::assign::{assign, nulls};
 use crate::key::key_given;
 use sasi_cells::{Mutation, Partition};
 use sasi_schema::Table;
-use sasi_types::{Cell, Literal, Names, Sets, Text, Value};
+use sasi_types::{Cell, ColumnValues, Literal, Name, Text, Value};
 use std::alloc::{AllocError, Global};
 
 /// The mutation of a key with this change.
@@ -39,7 +39,7 @@ pub fn mutation_of_insert(
     alloc: Global,
     table: &Table,
     time: u64,
-    given: Sets,
+    given: ColumnValues,
 ) -> Result<Mutation, AllocError>
     requires above { 0 < time }
     requires ranges { first_of (each (number_range (definition table.now)) given) ≡ None }
@@ -68,7 +68,7 @@ pub fn mutation_of_update(
     alloc: Global,
     table: &Table,
     time: u64,
-    sets: Sets,
+    sets: ColumnValues,
     key: Literal,
 ) -> Result<Mutation, AllocError>
     requires above { 0 < time }
@@ -86,12 +86,12 @@ pub fn mutation_of_delete(
     alloc: Global,
     table: &Table,
     time: u64,
-    columns: Names,
+    columns: Vec<Name>,
     key: Literal,
 ) -> Result<Mutation, AllocError>
     requires above { 0 < time }
     requires key { IsKeyLiteral (key_type (definition table.now)) key }
-    ensures change { IfOk result (IsChange (definition table.now) key (delete_change (definition table.now) time columns)) }
+    ensures change { IfOk result (IsChange (definition table.now) key (delete_change (definition table.now) time columns.items)) }
     ensures table { IfOk result (λ mutation. mutation.table ≡ table.now.number) }
 {
     let change = deletion(alloc, table, time, columns)?;
@@ -103,12 +103,12 @@ fn deletion(
     alloc: Global,
     table: &Table,
     time: u64,
-    columns: Names,
+    columns: Vec<Name>,
 ) -> Result<Partition, AllocError>
     requires { 0 < time }
-    ensures { IfOk result (λ change. change ≡ delete_change (definition table.now) time columns) }
+    ensures { IfOk result (λ change. change ≡ delete_change (definition table.now) time columns.items) }
 {
-    if columns.as_slice().is_empty() {
+    if columns.is_empty() {
         return Ok(Partition::deletion(alloc, time));
     }
     let sets = nulls(alloc, columns)?;

@@ -18,7 +18,7 @@ pub fn picked(alloc: Global, table: &Table, columns: &Option<Names>) -> Result<P
 {
     let list = match columns {
         None => all(alloc, table.columns.as_slice().len())?,
-        Some(names) => named_columns(alloc, table, names.as_slice())?,
+        Some(names) => named_columns(alloc, table, &names.unpack(alloc)?)?,
     };
     Ok(Picked {
         key: table.key_type(),

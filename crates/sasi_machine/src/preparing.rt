@@ -19,7 +19,7 @@ use crate::select::prepare_select;
 use crate::statement_mutation::statement_mutation;
 use crate::{Outcome, Refusal, Reply};
 use sasi_schema::Schema;
-use sasi_types::{Columns, Name, Names, PieceEnd, Statement};
+use sasi_types::{Columns, DeclaredColumns, Name, Names, PieceEnd, Statement};
 use std::alloc::{AllocError, Global};
 
 /// Prepares a piece for these tables, where this is the largest timestamp of their state. The reply is replaced; after an
@@ -72,7 +72,7 @@ fn prepare_statement(
             table,
             columns,
             keys,
-        } => prepare_table(schema, &table, &columns, &keys, reply),
+        } => prepare_table(builder.alloc, schema, &table, &columns, &keys, reply),
         Statement::Query { select } => prepare_select(builder.alloc, schema, &select, reply),
         Statement::Flush { table } => prepare_flush(schema, table, reply),
         write => prepare_mutation(builder, schema, write, reply),
@@ -80,10 +80,26 @@ fn prepare_statement(
 }
 
 fn prepare_table(
+    alloc: Global,
+    schema: &Schema,
+    table: &Name,
+    columns: &DeclaredColumns,
+    keys: &Names,
+    reply: &mut Reply,
+) -> Result<Prepared, AllocError>
+    ensures { IfOk result (λ prepared. (newest : ℕ) → IsPrepared schema.now newest (CreateTable table.now columns.now keys.now) reply.old reply.new prepared) }
+{
+    let columns = columns.unpack(alloc)?;
+    let keys = keys.unpack(alloc)?;
+    prepare_definition(schema, table, &columns, keys.as_slice(), reply)
+}
+
+// A table of these columns, with the names that PRIMARY KEY is said of.
+fn prepare_definition(
     schema: &Schema,
     table: &Name,
     columns: &Columns,
-    keys: &Names,
+    keys: &[Name],
     reply: &mut Reply,
 ) -> Result<Prepared, AllocError>
     ensures { IfOk result (λ prepared. (newest : ℕ) → IsPrepared schema.now newest (CreateTable table.now columns.now keys.now) reply.old reply.new prepared) }

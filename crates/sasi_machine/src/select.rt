@@ -68,6 +68,6 @@ fn check(alloc: Global, table: &Table, columns: &Option<Names>) -> Result<(), Fa
 {
     match columns {
         None => Ok(()),
-        Some(names) => NameRule::NoColumn.check_names(alloc, table, names.as_slice()),
+        Some(names) => NameRule::NoColumn.check_names(alloc, table, &names.unpack(alloc)?),
     }
 }

@@ -79,7 +79,11 @@ fn insert(
 {
     match schema.table(&table) {
         None => Err(Fault::Refused(Refusal::NoTable(table))),
-        Some(found) => builder.insert(found, columns, values, time),
+        Some(found) => {
+            let columns = columns.unpack(builder.alloc)?;
+            let values = values.unpack(builder.alloc)?;
+            builder.insert(found, columns, values, time)
+        }
     }
 }
 
@@ -97,7 +101,10 @@ fn update(
 {
     match schema.table(&table) {
         None => Err(Fault::Refused(Refusal::NoTable(table))),
-        Some(found) => builder.update(found, sets, relation, time),
+        Some(found) => {
+            let sets = sets.unpack(builder.alloc)?;
+            builder.update(found, sets, relation, time)
+        }
     }
 }
 
@@ -115,6 +122,9 @@ fn delete(
 {
     match schema.table(&table) {
         None => Err(Fault::Refused(Refusal::NoTable(table))),
-        Some(found) => builder.delete(found, columns, relation, time),
+        Some(found) => {
+            let columns = columns.unpack(builder.alloc)?;
+            builder.delete(found, columns, relation, time)
+        }
     }
 }

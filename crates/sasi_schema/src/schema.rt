@@ -13,7 +13,7 @@ use crate::SchemaFault;
 use crate::check::check;
 use crate::search::{find_table, position_in};
 use crate::table::Table;
-use sasi_types::{ColumnType, Columns, Name, Names, TableNumber};
+use sasi_types::{ColumnType, Columns, Name, TableNumber};
 use std::alloc::{AllocError, Global};
 use std::marker::Model;
 
@@ -65,13 +65,13 @@ impl Schema {
         &self,
         table: &Name,
         columns: &Columns,
-        keys: &Names,
+        keys: &[Name],
     ) -> Result<Table, SchemaFault>
         ensures number { IfOk result (λ t. t.number ≡ length self.now + 1) }
         ensures made { IfOk result (λ t. definition t ≡ new_definition table.now columns.now keys.now) }
         ensures answers { Answers refusal_of_fault (create_rules self.now table.now columns.now keys.now) result }
     {
-        let (columns_in, keys) = (columns.as_slice(), keys.as_slice());
+        let columns_in = columns.as_slice();
         check(self.alloc, &self.tables, table, columns_in, keys)?;
         let key = key_position(columns_in, keys);
         let number = self.tables.len() as u32 + 1;
@@ -88,7 +88,7 @@ impl Schema {
         &mut self,
         table: &Name,
         columns: &Columns,
-        keys: &Names,
+        keys: &[Name],
     ) -> Result<TableNumber, SchemaFault>
         ensures number { IfOk result (λ number. number ≡ length self.old + 1) }
         ensures made { OnOk result (self.new ≡ self.old ++ new_definition table.now columns.now keys.now ∷ []) }

@@ -3,8 +3,12 @@ pub mod Key
 pub mod Murmur
 pub mod DecoratedKey
 pub mod ListKind
+pub mod PackedLiterals
+pub mod Packs
+pub mod Related
 pub mod Rule
 pub mod StoredBytes
+pub mod Strings
 pub mod Term
 pub mod Token
 pub mod Value

@@ -1,22 +1,27 @@
 // The options of an index, as they are written.
-ghost use Rattle.std.specs.Prelude.{◌≡◌, []};
+ghost use Rattle.std.specs.Prelude.{◌≡◌, ◌++◌, ◌∷◌, [], IfOk};
 
 use crate::Text;
-use std::alloc::Global;
+use crate::strings::Strings;
+use std::alloc::{AllocError, Global};
 use std::marker::Model;
 
 /// The options of an index with their values, in the order in which they are written. An option that is given twice is here twice.
 #[derive(Drop)]
 pub struct Options {
-    items: Vec<(Text, Text)>,
+    options: Strings,
+    values: Strings,
 }
 
 impl Model for Options {
-    ghost use Rattle.std.specs.Prelude.{List, ℕ};
+    ghost use Rattle.std.specs.Prelude.{◌≡◌, List, ℕ, length};
+    ghost use Rattle.std.specs.List.{zip};
 
     ghost Value = { List (List ℕ × List ℕ) };
 
-    ghost view = { λ a. a.items.items };
+    ghost view = { λ a. zip a.options a.values };
+
+    ghost invariant = { λ a. length a.options ≡ length a.values };
 }
 
 impl Options {
@@ -25,21 +30,37 @@ impl Options {
         ensures { result ≡ [] }
     {
         Options {
-            items: Vec::new(alloc),
+            options: Strings::new(alloc),
+            values: Strings::new(alloc),
         }
     }
 
-    /// These options, in order.
-    pub fn from_vec(items: Vec<(Text, Text)>) -> Options
-        ensures { result ≡ items.items }
+    /// The options with one more and its value.
+    #[tactic(auto, using(crate::proofs::Zipped::zip_more))]
+    pub fn with(self, option: &Text, value: &Text) -> Result<Options, AllocError>
+        ensures { IfOk result (λ options. options ≡ self ++ (option.now, value.now) ∷ []) }
     {
-        Options { items }
+        let Options { options, values } = self;
+        let (mut options, mut values) = (options, values);
+        options.push(option.bytes())?;
+        values.push(value.bytes())?;
+        Ok(Options { options, values })
     }
 
-    /// The options with their values, in order.
-    pub fn as_slice(&self) -> &[(Text, Text)]
-        ensures { result.now ≡ self.now }
+    /// The options with their values, each by itself.
+    pub fn unpack(&self, alloc: Global) -> Result<Vec<(Text, Text)>, AllocError>
+        ensures { IfOk result (λ options. options.items ≡ self.now) }
     {
-        &self.items
+        let mut all = Vec::new(alloc);
+        let mut options = self.options.read();
+        let mut values = self.values.read();
+        'options: while let Some(option) = options.next() {
+            let Some(value) = values.next() else {
+                unreachable!()
+            };
+            let option = Text::new(option.to_vec(alloc)?);
+            all.push((option, Text::new(value.to_vec(alloc)?)))?;
+        }
+        Ok(all)
     }
 }

@@ -1,5 +1,7 @@
 // Statements, as the parser reads them.
-use crate::{Columns, Literal, Literals, Name, Names, Number, Options, Relations, Sets, Text};
+use crate::{
+    DeclaredColumns, Literal, Literals, Name, Names, Number, Options, Relations, Sets, Text,
+};
 
 /// What a SELECT asks for: rows of a table, and columns of them.
 #[derive(Drop)]
@@ -20,7 +22,7 @@ pub struct Select {
 pub enum Statement {
     CreateTable {
         table: Name,
-        columns: Columns,
+        columns: DeclaredColumns,
         /// The names that PRIMARY KEY is said of.
         keys: Names,
     },

@@ -54,8 +54,9 @@ fn each_form_is_a_statement(rt: HostRuntime) {
 }
 
 // The test of the first relation.
-fn test_of(select: &Select) -> Option<Test> {
-    match select.relations.as_slice() {
+fn test_of(rt: &impl Abort, alloc: Global, select: &Select) -> Option<Test> {
+    let relations = select.relations.unpack(alloc).expect(rt, "memory");
+    match relations.as_slice() {
         [relation, ..] => Some(relation.test),
         [] => None,
     }
@@ -65,7 +66,7 @@ fn test_of(select: &Select) -> Option<Test> {
 fn check_test(rt: &impl Abort, alloc: Global, text: &str, test: Test) {
     let statement = parse(alloc, text).expect(rt, "a statement");
     let found = match &statement {
-        Statement::Query { select } => test_of(select),
+        Statement::Query { select } => test_of(rt, alloc, select),
         _ => None,
     };
     assert!(rt; found == Some(test), "{text}");

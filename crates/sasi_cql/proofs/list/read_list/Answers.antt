@@ -8,12 +8,12 @@ use Rattle.sasi_cql.proofs.list.read_list.Goals as goal
 pub returns-in_err-item : goal.returns-in_err-item
 returns-in_err-item g c =
     let p = err_from_is_err_and c.from_residual.result c.from_residual.ensures.1 in
-    rw (p.1, p.2) (list_halts (model_token c.args.between.now) g.T.Item.marks g.T.Item.form (tokens c.args.text.now) c.items.items c.items.marked (tokens c.items.left.now) c.in_err-item.field-0.0 c.in_err-item.ensures c.items.invariant)
+    rw (p.1, p.2) (list_halts (model_token c.args.between.now) g.T.Item.marks g.T.Item.form (tokens c.args.text.now) (g.T.Item.items c.items.list) c.items.marked (tokens c.items.left.now) c.in_err-item.field-0.0 c.in_err-item.ensures c.items.invariant)
 
 pub returns-in_default : goal.returns-in_default
 returns-in_default g c =
-    list_last (model_token c.args.between.now) g.T.Item.marks g.T.Item.form (tokens c.args.text.now) c.items.items c.push.new.self c.items.marked (tokens c.items.left.now) c.in_ok-item.item (tokens c.in_ok-item.behind.now) c.in_ok-item.ensures
-    c.in_default.ensures c.in_ok-push.ensures c.items.invariant
+    list_last (model_token c.args.between.now) g.T.Item.marks g.T.Item.form (tokens c.args.text.now) (g.T.Item.items c.items.list) (g.T.Item.items c.in_ok-list.list) c.items.marked (tokens c.items.left.now) c.in_ok-item.item (tokens c.in_ok-item.behind.now) c.in_ok-item.ensures
+    c.in_default.ensures c.in_ok-list.ensures c.items.invariant
 
 pub items-smaller : goal.items-smaller
 items-smaller g c =
@@ -21,4 +21,4 @@ items-smaller g c =
 
 pub items-preserved : goal.items-preserved
 items-preserved g c =
-    list_more (model_token c.args.between.now) g.T.Item.marks g.T.Item.form (tokens c.args.text.now) c.items.items c.push.new.self c.items.marked c.either-next.result (tokens c.items.left.now) c.in_ok-item.item (tokens c.in_ok-item.behind.now) (tokens c.in-Some.rest.now) c.in_ok-item.ensures c.in-Some.ensures c.in_ok-push.ensures (c.either-next.ensures ∙ ap (λ b. c.items.marked || b) c.marks.ensures) c.items.invariant
+    list_more (model_token c.args.between.now) g.T.Item.marks g.T.Item.form (tokens c.args.text.now) (g.T.Item.items c.items.list) (g.T.Item.items c.in_ok-list.list) c.items.marked c.either-next.result (tokens c.items.left.now) c.in_ok-item.item (tokens c.in_ok-item.behind.now) (tokens c.in-Some.rest.now) c.in_ok-item.ensures c.in-Some.ensures c.in_ok-list.ensures (c.either-next.ensures ∙ ap (λ b. c.items.marked || b) c.marks.ensures) c.items.invariant

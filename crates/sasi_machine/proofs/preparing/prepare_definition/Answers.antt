@@ -4,7 +4,7 @@ use Rattle.sasi_schema.specs.Faults as schema
 use Rattle.sasi_machine.specs.StatementSteps.{IsRefused}
 use Rattle.sasi_machine.proofs.StatementPreparing.{create_asks}
 use Rattle.sasi_machine.proofs.StatementStepping.{refuses}
-use Rattle.sasi_machine.proofs.preparing.prepare_table.Goals as goal
+use Rattle.sasi_machine.proofs.preparing.prepare_definition.Goals as goal
 
 pub returns-in_ok-ok-in-Ok : goal.returns-in_ok-ok-in-Ok
 returns-in_ok-ok-in-Ok c newest =

@@ -2,7 +2,7 @@ use Rattle.std.proofs.Common.{ap, ◌∙◌}
 use Rattle.std.proofs.lemmas.Iterator.{items_from_collect, YieldsList-from_zip}
 use Rattle.std.proofs.lemmas.Iterator.Adapters.{YieldsList-from_vec}
 use Rattle.std.specs.Vec.Iter.{into_iter_items, into_iter_len}
-use Rattle.sasi_types.proofs.literal.pairs.Goals as goal
+use Rattle.sasi_types.proofs.column_values.pairs.Goals as goal
 
 pub returns : goal.returns
 returns c =
