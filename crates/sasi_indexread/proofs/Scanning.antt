@@ -24,6 +24,7 @@ use Rattle.sasi_tokentree.specs.Format.{HasTree}
 use Rattle.sasi_tokentree.specs.Reads.{NoFalseTreeDamage}
 use Rattle.sasi_tokentree.proofs.AfterRead.{reads_still}
 use Rattle.sasi_treemerge.specs.declared.source.Source.{Source}
+use Rattle.sasi_treemerge.specs.MergeDamages.ShowsPairs.{of_tree}
 use Rattle.sasi_treemerge.specs.Merges.{Adds, Gives, GoesOn}
 use Rattle.sasi_termblocks.specs.declared.block_ref.BlockRef.{BlockRef}
 use Rattle.sasi_termblocks.specs.declared.term_entry.TermEntry.{TermEntry}
@@ -82,13 +83,13 @@ entry_listed v w opened file op body entry more old new adds stands listed = by 
 pub list_shown : (v w : View) (opened : Opened) (file : FileName) (entry : TermEntry) (f : ReadFault) → Changes Same v w → file ≡ opened.file → ReadsSome v opened.file (Some entry) → DamageShown w file (ShowsList file entry) f
     → DamageShown v opened.file (ShowsIndex opened) f
 list_shown v w opened file entry f same named stands shown =
-    shown_as (ShowsList opened.file entry) (ShowsIndex opened) v opened.file f (λ bytes damage is shows. in_tree shows.0 (entry_leads v opened entry shows.0 stands shows.1 bytes is) shows.2)
+    shown_as (ShowsList opened.file entry) (ShowsIndex opened) v opened.file f (λ bytes damage is shows. in_tree shows.0 (entry_leads v opened entry shows.0 stands shows.1 bytes is) (of_tree shows.2))
     (shown_before (ShowsList opened.file entry) v w opened.file f same (subst (λ (n : FileName). DamageShown w n (ShowsList n entry) f) named shown))
 
 -- of the spill tree
 pub spill_shown : (v : View) (opened : Opened) (file : FileName) (list : TreeRef) (f : ReadFault) → file ≡ opened.file → list ≡ opened.spill → DamageShown v file (ShowsTree file list) f → DamageShown v opened.file (ShowsIndex opened) f
 spill_shown v opened file list f named is shown =
-    shown_as (ShowsTree opened.file list) (ShowsIndex opened) v opened.file f (λ bytes damage told shows. in_tree list (of_spill is) shows) (subst (λ (n : FileName). DamageShown v n (ShowsTree n list) f) named shown)
+    shown_as (ShowsTree opened.file list) (ShowsIndex opened) v opened.file f (λ bytes damage told shows. in_tree list (of_spill is) (of_tree shows)) (subst (λ (n : FileName). DamageShown v n (ShowsTree n list) f) named shown)
 
 -- of the blocks
 pub blocks_shown : (v w : View) (opened : Opened) (file : FileName) (ref : BlockRef) (f : ReadFault) → Changes Same v w → file ≡ opened.file → ref ≡ opened.blocks → DamageShown w file (ShowsBlocks file ref) f → DamageShown v opened.file (ShowsIndex opened) f

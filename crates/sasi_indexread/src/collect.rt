@@ -19,7 +19,7 @@ use crate::asked::{asks_none, is_run, lower};
 use sasi_host::{Host, PageReader, ReadFault};
 use sasi_termblocks::{Blocks, TermEntry};
 use sasi_terms::{Op, holds};
-use sasi_treemerge::Merge;
+use sasi_treemerge::TreeMerge;
 use std::alloc::Global;
 
 // Adds the tree of an entry if its term is asked for, and says whether others can be behind it.
@@ -29,7 +29,7 @@ fn add_entry<H: Host, P: PageReader>(
     op: &Op,
     body: &[u8],
     entry: &TermEntry,
-    merge: &mut Merge,
+    merge: &mut TreeMerge,
 ) -> Result<bool, ReadFault>
     requires read { CanRead (P.agrees pages.old) (H.view host.old) merge.old.file }
     requires merge { CanMerge (H.view host.old) merge.old }
@@ -62,7 +62,7 @@ fn add_terms<H: Host, P: PageReader>(
     index: &IndexFile,
     op: &Op,
     body: &[u8],
-    merge: &mut Merge,
+    merge: &mut TreeMerge,
 ) -> Result<(), ReadFault>
     requires some { asks_none index.now.kind op.now ≡ false }
     requires read { CanRead (P.agrees pages.old) (H.view host.old) index.now.file }
@@ -103,7 +103,7 @@ pub fn collect<H: Host, P: PageReader>(
     index: &IndexFile,
     op: &Op,
     body: &[u8],
-    merge: &mut Merge,
+    merge: &mut TreeMerge,
 ) -> Result<(), ReadFault>
     requires read { CanRead (P.agrees pages.old) (H.view host.old) index.now.file }
     requires named { merge.old.file ≡ index.now.file }
