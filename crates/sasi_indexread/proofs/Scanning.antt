@@ -40,7 +40,7 @@ use Rattle.sasi_indexread.specs.Damages.ShowsIndex.{in_blocks, in_tree}
 use Rattle.sasi_indexread.specs.Opened.{IsOpenOn, Opened}
 use Rattle.sasi_indexread.specs.Searches.{AreListed, NoFalseSearchDamage}
 use Rattle.sasi_indexread.proofs.Collecting.{Collects, all_passed, begins, goes_on, in_hand, none_left, some_same, stops}
-use Rattle.sasi_indexread.proofs.Laws.{has_blocks, spill_tree}
+use Rattle.sasi_indexread.proofs.Laws.{few_terms, has_blocks, spill_tree}
 
 -- no file is longer
 abbrev pub IsShort : View → FileName → Type 0
@@ -155,11 +155,11 @@ module _ (v : View) (opened : Opened) (op : Op) (body : Bytes) (short : IsShort 
   stops_here last floor turn page index entry old new added named u same was adds =
       stops u added on.bytes content on.index_file (short on.bytes on.reads) (reads_still v u opened.file added on.bytes same named on.reads) op body some_here opened.blocks last floor turn page index entry old new was adds
 
-  pub passes_all : (last : Option Pair) (floor turn page index : ℕ) (entry : Option TermEntry) (sources : List Source) → opened.blocks.terms ≤ turn → Collects on.bytes content opened.blocks op body last floor turn page index entry sources
+  pub passes_all : (last : Option Pair) (floor turn page index : ℕ) (entry : Option TermEntry) (sources : List Source) → 2 ^ 62 ≤ turn → Collects on.bytes content opened.blocks op body last floor turn page index entry sources
       → Gives on.bytes (asked_lists content op body) last floor sources
   passes_all last floor turn page index entry sources le was =
       all_passed v opened.file on.bytes content on.index_file (short on.bytes on.reads) on.reads op body some_here opened.blocks last floor turn page index entry sources was
-      (drop_all turn (entries content) (omega (arith, le, (blocks_there v opened content on short).referred.terms_are)))
+      (drop_all turn (entries content) (omega (arith, le, few_terms on.bytes content on.index_file (short on.bytes on.reads))))
 
 -- the entry in hand has a tree that is there
 pub record HasList (bytes : Bytes) (entry : TermEntry) : Type 0 where

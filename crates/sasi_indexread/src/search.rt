@@ -1,5 +1,5 @@
 // Searches of an index file.
-ghost use Rattle.std.specs.Prelude.{◌≡◌, ◌+◌, ◌*◌, ◌≤◌, max, [], None, IfErr, IfOk, IsOk, OnOk, true, false};
+ghost use Rattle.std.specs.Prelude.{◌≡◌, ◌+◌, ◌*◌, ◌^◌, ◌≤◌, max, [], None, IfErr, IfOk, IsOk, OnOk, true, false};
 ghost use Rattle.std.specs.BinaryHeap.{IsHeap};
 ghost use Rattle.sasi_host.specs.View.{ReadsAtMost};
 ghost use Rattle.sasi_host.specs.Damages.{DamageShown};
@@ -63,7 +63,7 @@ fn keep_collected<H: Host, P: PageReader>(
     ensures damaged { IfErr result (DamageShown (H.view host.old) index.now.file (ShowsIndex index.now)) }
     ensures undamaged { IfErr result (NoFalseSearchDamage (H.view host.old) index.now) }
     ensures read { HasRead (P.agrees pages.new) (P.covers pages.old) (P.covers pages.new) (H.view host.old) (H.view host.new) index.now.file }
-    ensures causes { ReadsAtMost (index.now.blocks.levels + 4 + 3 * index.now.blocks.terms) (H.view host.old) (H.view host.new) result }
+    ensures causes { ReadsAtMost (index.now.blocks.levels + 4 + 3 * 2 ^ 62) (H.view host.old) (H.view host.new) result }
     ensures same { (merge.new.last ≡ merge.old.last) × (merge.new.floor ≡ merge.old.floor) }
 {
     if *is_collected {
