@@ -11,7 +11,7 @@ use Rattle.sasi_treemerge.specs.declared.source.Source.{Source}
 use Rattle.sasi_indexread.specs.Damages.{IsListed}
 use Rattle.sasi_types.specs.declared.tree.Pair.{Pair}
 use Rattle.sasi_terms.specs.declared.op.Op.{Op}
-use Rattle.sasi_treemerge.specs.declared.merge.Merge.{Merge}
+use Rattle.sasi_treemerge.specs.declared.merge.TreeMerge.{TreeMerge}
 use Rattle.sasi_treemerge.specs.Merges.{Gives, IsReadable, is_behind, is_left, sources_of}
 use Rattle.sasi_indexread.specs.Asked.{asked_lists}
 use Rattle.sasi_indexread.specs.Opened.{IsOpenOn, Opened}
@@ -74,7 +74,7 @@ low_left last low high pair le left = from (is_behind last pair) (nat_le high pa
     from true false one two h = absurd cc
     from false above one two h = absurd cc
 
-pub skip_searches : (v : View) (index : Opened) (op : Op) (body : Bytes) (is_collected : Bool) (old new : Merge) (content : IndexContent) → new.last ≡ old.last → old.floor ≤ new.floor → sources_of new ≡ sources_of old
+pub skip_searches : (v : View) (index : Opened) (op : Op) (body : Bytes) (is_collected : Bool) (old new : TreeMerge) (content : IndexContent) → new.last ≡ old.last → old.floor ≤ new.floor → sources_of new ≡ sources_of old
     → IsSearching v (searching index op body is_collected old) content → IsSearching v (searching index op body is_collected new) content
 skip_searches v index op body is_collected old new content last floor same was = record {
   is_open = was.is_open;

@@ -17,7 +17,7 @@ use Rattle.sasi_termblocks.specs.Scans.{HasBlocks, HasPassed, ReadsFirst, ReadsN
 use Rattle.sasi_indexwrite.specs.Content.{IndexContent, TermPairs}
 use Rattle.sasi_indexwrite.specs.Format.{entries}
 use Rattle.sasi_treemerge.specs.declared.source.Source.{Source}
-use Rattle.sasi_treemerge.specs.declared.merge.Merge.{Merge}
+use Rattle.sasi_treemerge.specs.declared.merge.TreeMerge.{TreeMerge}
 use Rattle.sasi_treemerge.specs.Merges.{sources_of, unread_of}
 use Rattle.sasi_indexread.specs.Asked.{asks_none, is_asked_term, is_run}
 use Rattle.sasi_indexread.specs.Collects.{AddsEntry, AddsIf}
@@ -111,8 +111,8 @@ spill_pairs v opened list short is content on = ap (λ (t : TreeRef). t.pairs) i
 
 -- ---- what is left
 
-pub left_first : (index : Opened) (op : Op) (body : Bytes) (done : Bool) (merge : Merge) (content : IndexContent) → done ≡ false → cost_left (searching index op body done merge) content ≡ whole_cost index.blocks.levels content op body
+pub left_first : (index : Opened) (op : Op) (body : Bytes) (done : Bool) (merge : TreeMerge) (content : IndexContent) → done ≡ false → cost_left (searching index op body done merge) content ≡ whole_cost index.blocks.levels content op body
 left_first index op body done merge content is = ap (λ (d : Bool). cost_left (searching index op body d merge) content) is
 
-pub left_then : (index : Opened) (op : Op) (body : Bytes) (done : Bool) (merge : Merge) (content : IndexContent) → done ≡ true → cost_left (searching index op body done merge) content ≡ 2 * unread_of (sources_of merge)
+pub left_then : (index : Opened) (op : Op) (body : Bytes) (done : Bool) (merge : TreeMerge) (content : IndexContent) → done ≡ true → cost_left (searching index op body done merge) content ≡ 2 * unread_of (sources_of merge)
 left_then index op body done merge content is = ap (λ (d : Bool). cost_left (searching index op body d merge) content) is

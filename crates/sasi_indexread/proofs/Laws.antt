@@ -208,6 +208,10 @@ module _ (bytes : Bytes) (content : IndexContent) (is : IsIndexFile bytes conten
     have_bytes : HaveBytes (entries content)
     have_bytes = entries_fit 16 content.terms is.content_is.each (omega (arith, whole_length, front_long, short, page_up (length (front content))))
 
+    -- it has fewer terms than bytes
+    pub few_terms : length (entries content) ≤ 2 ^ 62
+    few_terms = omega (arith, entries_length 16 content.terms, trees_least 16 content.terms is.content_is.each, whole_length, front_long, short, page_up (length (front content)))
+
     are_items : AreItems (items_of (entries content))
     are_items = items_are (entries content) have_bytes
 

@@ -24,6 +24,7 @@ use Rattle.sasi_tokentree.specs.Format.{HasTree}
 use Rattle.sasi_tokentree.specs.Reads.{NoFalseTreeDamage}
 use Rattle.sasi_tokentree.proofs.AfterRead.{reads_still}
 use Rattle.sasi_treemerge.specs.declared.source.Source.{Source}
+use Rattle.sasi_treemerge.specs.MergeDamages.ShowsPairs.{of_tree}
 use Rattle.sasi_treemerge.specs.Merges.{Adds, Gives, GoesOn}
 use Rattle.sasi_termblocks.specs.declared.block_ref.BlockRef.{BlockRef}
 use Rattle.sasi_termblocks.specs.declared.term_entry.TermEntry.{TermEntry}
@@ -39,7 +40,7 @@ use Rattle.sasi_indexread.specs.Damages.ShowsIndex.{in_blocks, in_tree}
 use Rattle.sasi_indexread.specs.Opened.{IsOpenOn, Opened}
 use Rattle.sasi_indexread.specs.Searches.{AreListed, NoFalseSearchDamage}
 use Rattle.sasi_indexread.proofs.Collecting.{Collects, all_passed, begins, goes_on, in_hand, none_left, some_same, stops}
-use Rattle.sasi_indexread.proofs.Laws.{has_blocks, spill_tree}
+use Rattle.sasi_indexread.proofs.Laws.{few_terms, has_blocks, spill_tree}
 
 -- no file is longer
 abbrev pub IsShort : View → FileName → Type 0
@@ -82,13 +83,13 @@ entry_listed v w opened file op body entry more old new adds stands listed = by 
 pub list_shown : (v w : View) (opened : Opened) (file : FileName) (entry : TermEntry) (f : ReadFault) → Changes Same v w → file ≡ opened.file → ReadsSome v opened.file (Some entry) → DamageShown w file (ShowsList file entry) f
     → DamageShown v opened.file (ShowsIndex opened) f
 list_shown v w opened file entry f same named stands shown =
-    shown_as (ShowsList opened.file entry) (ShowsIndex opened) v opened.file f (λ bytes damage is shows. in_tree shows.0 (entry_leads v opened entry shows.0 stands shows.1 bytes is) shows.2)
+    shown_as (ShowsList opened.file entry) (ShowsIndex opened) v opened.file f (λ bytes damage is shows. in_tree shows.0 (entry_leads v opened entry shows.0 stands shows.1 bytes is) (of_tree shows.2))
     (shown_before (ShowsList opened.file entry) v w opened.file f same (subst (λ (n : FileName). DamageShown w n (ShowsList n entry) f) named shown))
 
 -- of the spill tree
 pub spill_shown : (v : View) (opened : Opened) (file : FileName) (list : TreeRef) (f : ReadFault) → file ≡ opened.file → list ≡ opened.spill → DamageShown v file (ShowsTree file list) f → DamageShown v opened.file (ShowsIndex opened) f
 spill_shown v opened file list f named is shown =
-    shown_as (ShowsTree opened.file list) (ShowsIndex opened) v opened.file f (λ bytes damage told shows. in_tree list (of_spill is) shows) (subst (λ (n : FileName). DamageShown v n (ShowsTree n list) f) named shown)
+    shown_as (ShowsTree opened.file list) (ShowsIndex opened) v opened.file f (λ bytes damage told shows. in_tree list (of_spill is) (of_tree shows)) (subst (λ (n : FileName). DamageShown v n (ShowsTree n list) f) named shown)
 
 -- of the blocks
 pub blocks_shown : (v w : View) (opened : Opened) (file : FileName) (ref : BlockRef) (f : ReadFault) → Changes Same v w → file ≡ opened.file → ref ≡ opened.blocks → DamageShown w file (ShowsBlocks file ref) f → DamageShown v opened.file (ShowsIndex opened) f
@@ -154,11 +155,11 @@ module _ (v : View) (opened : Opened) (op : Op) (body : Bytes) (short : IsShort 
   stops_here last floor turn page index entry old new added named u same was adds =
       stops u added on.bytes content on.index_file (short on.bytes on.reads) (reads_still v u opened.file added on.bytes same named on.reads) op body some_here opened.blocks last floor turn page index entry old new was adds
 
-  pub passes_all : (last : Option Pair) (floor turn page index : ℕ) (entry : Option TermEntry) (sources : List Source) → opened.blocks.terms ≤ turn → Collects on.bytes content opened.blocks op body last floor turn page index entry sources
+  pub passes_all : (last : Option Pair) (floor turn page index : ℕ) (entry : Option TermEntry) (sources : List Source) → 2 ^ 62 ≤ turn → Collects on.bytes content opened.blocks op body last floor turn page index entry sources
       → Gives on.bytes (asked_lists content op body) last floor sources
   passes_all last floor turn page index entry sources le was =
       all_passed v opened.file on.bytes content on.index_file (short on.bytes on.reads) on.reads op body some_here opened.blocks last floor turn page index entry sources was
-      (drop_all turn (entries content) (omega (arith, le, (blocks_there v opened content on short).referred.terms_are)))
+      (drop_all turn (entries content) (omega (arith, le, few_terms on.bytes content on.index_file (short on.bytes on.reads))))
 
 -- the entry in hand has a tree that is there
 pub record HasList (bytes : Bytes) (entry : TermEntry) : Type 0 where

@@ -19,7 +19,7 @@ use Rattle.sasi_host.specs.CauseLaws.{fault_reads, reads_behind}
 use Rattle.sasi_host.proofs.DamageLaws.{shown_as, shown_before}
 use Rattle.sasi_terms.specs.declared.op.Op.{Op}
 use Rattle.sasi_tokentree.specs.Format.{HasTree}
-use Rattle.sasi_treemerge.specs.declared.merge.Merge.{Merge}
+use Rattle.sasi_treemerge.specs.declared.merge.TreeMerge.{TreeMerge}
 use Rattle.sasi_treemerge.specs.declared.source.Source.{Source}
 use Rattle.sasi_treemerge.specs.MergeDamages.{NoFalseDamageOf, ShowsSources}
 use Rattle.sasi_treemerge.specs.Merges.{Adds, CanMerge, Gives, IsLeast, IsSourceIn, TreesStay, sources_of}
@@ -92,13 +92,13 @@ listed_stay v opened old new stay listed = λ bytes is.
     All-weaker (λ (s : Source). (was : Source) × Contains old was × (s.tree.tree ≡ was.tree.tree)) (λ (s : Source). IsListed opened bytes s.tree.tree)
     (λ s was. subst (λ (t : TreeRef). IsListed opened bytes t) (sym was.2) (All-contains (λ (t : Source). IsListed opened bytes t.tree.tree) old was.0 (listed bytes is) was.1)) new stay
 
-pub now_collected : (a b : View) (index : Opened) (op : Op) (body : Bytes) (was : Bool) (old new : Merge) (content : IndexContent) → Changes Same a b
+pub now_collected : (a b : View) (index : Opened) (op : Op) (body : Bytes) (was : Bool) (old new : TreeMerge) (content : IndexContent) → Changes Same a b
     → ((content : IndexContent) (on : IsOpenOn a index content) → Gives on.bytes (asked_lists content op body) new.last new.floor (sources_of new))
     → IsSearching a (searching index op body was old) content → IsSearching b (searching index op body true new) content
 unfolding open_still
 now_collected a b index op body was old new content same collects is = record { is_open = open_still a b index content same is.is_open; gives = λ _. collects content is.is_open }
 
-pub collected_can : (a b : View) (index : Opened) (op : Op) (body : Bytes) (was : Bool) (old new : Merge) → Changes Same a b → CanSearch a (searching index op body was old) → new.file ≡ old.file → CanMerge b new → AreListed a index (sources_of new)
+pub collected_can : (a b : View) (index : Opened) (op : Op) (body : Bytes) (was : Bool) (old new : TreeMerge) → Changes Same a b → CanSearch a (searching index op body was old) → new.file ≡ old.file → CanMerge b new → AreListed a index (sources_of new)
     → CanSearch b (searching index op body true new)
 collected_can a b index op body was old new same can file merge listed = record {
   named = file ∙ can.named;
@@ -107,7 +107,7 @@ collected_can a b index op body was old new same can file merge listed = record 
   fresh = λ no_more. absurd (differ no_more);
 }
 
-pub next_can : (a b : View) (index : Opened) (op : Op) (body : Bytes) (done : Bool) (old new : Merge) → done ≡ true → Changes Same a b → CanSearch a (searching index op body done old) → new.file ≡ old.file → CanMerge b new
+pub next_can : (a b : View) (index : Opened) (op : Op) (body : Bytes) (done : Bool) (old new : TreeMerge) → done ≡ true → Changes Same a b → CanSearch a (searching index op body done old) → new.file ≡ old.file → CanMerge b new
     → TreesStay (sources_of old) (sources_of new) → CanSearch b (searching index op body done new)
 next_can a b index op body done old new is same can file merge stay = record {
   named = file ∙ can.named;
@@ -117,7 +117,7 @@ next_can a b index op body done old new is same can file merge stay = record {
 }
 
 -- the merge's pair is that of the search
-pub next_gives : (a b c : View) (index : Opened) (op : Op) (body : Bytes) (was done : Bool) (first old new : Merge) (found : Option Pair) (content : IndexContent) → done ≡ true → Changes Same b c → old.file ≡ index.file → old.last ≡ first.last → old.floor ≡ first.floor
+pub next_gives : (a b c : View) (index : Opened) (op : Op) (body : Bytes) (was done : Bool) (first old new : TreeMerge) (found : Option Pair) (content : IndexContent) → done ≡ true → Changes Same b c → old.file ≡ index.file → old.last ≡ first.last → old.floor ≡ first.floor
     → (IsSearching a (searching index op body was first) content → IsSearching b (searching index op body done old) content)
     → ((bytes : Bytes) (lists : List (List Pair)) → contents b old.file ≡ Some bytes → Gives bytes lists old.last old.floor (sources_of old) → IsLeast lists old.last old.floor found × Gives bytes lists new.last new.floor (sources_of new))
     → IsSearching a (searching index op body was first) content
@@ -140,7 +140,7 @@ merge_shown a b index file sources f same named listed shown =
     (λ bytes damage is shows. in_tree shows.source.tree.tree (All-contains (λ (s : Source). IsListed index bytes s.tree.tree) sources shows.source (listed bytes is) shows.there) shows.shows)
     (subst (λ (n : FileName). DamageShown b n (ShowsSources sources n) f) named shown))
 
-pub merge_spares : (a b : View) (index : Opened) (op : Op) (body : Bytes) (was done : Bool) (first old : Merge) (f : ReadFault) → done ≡ true → old.file ≡ index.file
+pub merge_spares : (a b : View) (index : Opened) (op : Op) (body : Bytes) (was done : Bool) (first old : TreeMerge) (f : ReadFault) → done ≡ true → old.file ≡ index.file
     → ((content : IndexContent) → IsSearching a (searching index op body was first) content → IsSearching b (searching index op body done old) content) → NoFalseDamageOf b old.file (sources_of old) f
     → NoFalseSearchingDamage a (searching index op body was first) f
 merge_spares a b index op body was done first old fault.Failed is named before right = tt

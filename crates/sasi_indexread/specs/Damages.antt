@@ -4,11 +4,11 @@ use Rattle.sasi_types.specs.declared.tree.TreeRef.{TreeRef}
 use Rattle.sasi_host.specs.declared.damage.Damage.{Damage}
 use Rattle.sasi_host.specs.Names.{Bytes}
 use Rattle.sasi_host.specs.Damages.{HasAt}
-use Rattle.sasi_tokentree.specs.Damages.{ShowsTree}
 use Rattle.sasi_termblocks.specs.declared.term_entry.TermEntry.{TermEntry}
 use Rattle.sasi_termblocks.specs.Damages.{ShowsBlocks}
 use Rattle.sasi_termblocks.specs.Entries.{term_entry}
 use Rattle.sasi_termblocks.specs.Windows.{HasEntry}
+use Rattle.sasi_treemerge.specs.MergeDamages.{ShowsPairs}
 use Rattle.sasi_indexread.specs.Opened.{Opened}
 
 -- an entry of a block leads to the tree with this reference
@@ -29,4 +29,4 @@ pub data IsListed (opened : Opened) (bytes : Bytes) (tree : TreeRef) : Type 0 wh
 -- the damage is that of the blocks, or of a tree to which the file leads
 pub data ShowsIndex (opened : Opened) (bytes : Bytes) (damage : Damage) : Type 0 where
   in_blocks : ShowsBlocks opened.file opened.blocks bytes damage → ShowsIndex opened bytes damage
-  in_tree : (tree : TreeRef) → IsListed opened bytes tree → ShowsTree opened.file tree bytes damage → ShowsIndex opened bytes damage
+  in_tree : (tree : TreeRef) → IsListed opened bytes tree → ShowsPairs opened.file tree bytes damage → ShowsIndex opened bytes damage

@@ -7,7 +7,7 @@ use Rattle.sasi_host.specs.View.{ReadsAtMost, View, contents}
 use Rattle.sasi_terms.specs.declared.op.Op.{Op}
 use Rattle.sasi_indexwrite.specs.Content.{IndexContent}
 use Rattle.std.specs.BinaryHeap.{IsHeap}
-use Rattle.sasi_treemerge.specs.declared.merge.Merge.{Merge}
+use Rattle.sasi_treemerge.specs.declared.merge.TreeMerge.{TreeMerge}
 use Rattle.sasi_treemerge.specs.declared.source.Source.{Source}
 use Rattle.sasi_treemerge.specs.Sources.{source_cmp}
 use Rattle.sasi_indexread.specs.Asked.{asked_lists}
@@ -21,9 +21,9 @@ pub record Searching : Type 0 where
   pub op : Op
   pub body : Bytes
   pub is_collected : Bool
-  pub merge : Merge
+  pub merge : TreeMerge
 
-abbrev pub searching : Opened → Op → Bytes → Bool → Merge → Searching
+abbrev pub searching : Opened → Op → Bytes → Bool → TreeMerge → Searching
 searching index op body is_collected merge = record { index = index; op = op; body = body; is_collected = is_collected; merge = merge }
 
 -- each source's tree is one to which the file leads

@@ -1,5 +1,5 @@
 // Collects the trees of the terms that are asked for.
-ghost use Rattle.std.specs.Prelude.{◌≡◌, ◌+◌, ◌*◌, ◌≤◌, ◌∷◌, [], IfErr, IfOk, OnOk, false};
+ghost use Rattle.std.specs.Prelude.{◌≡◌, ◌+◌, ◌*◌, ◌^◌, ◌≤◌, ◌∷◌, [], IfErr, IfOk, OnOk, false};
 ghost use Rattle.sasi_host.specs.Names.{Bytes};
 ghost use Rattle.sasi_host.specs.View.{ReadsAtMost, contents};
 ghost use Rattle.sasi_host.specs.Damages.{DamageShown};
@@ -19,8 +19,11 @@ use crate::asked::{asks_none, is_run, lower};
 use sasi_host::{Host, PageReader, ReadFault};
 use sasi_termblocks::{Blocks, TermEntry};
 use sasi_terms::{Op, holds};
-use sasi_treemerge::Merge;
+use sasi_treemerge::TreeMerge;
 use std::alloc::Global;
+
+// No file has more terms.
+const MAX_TERMS: u64 = 1 << 62;
 
 // Adds the tree of an entry if its term is asked for, and says whether others can be behind it.
 fn add_entry<H: Host, P: PageReader>(
@@ -29,7 +32,7 @@ fn add_entry<H: Host, P: PageReader>(
     op: &Op,
     body: &[u8],
     entry: &TermEntry,
-    merge: &mut Merge,
+    merge: &mut TreeMerge,
 ) -> Result<bool, ReadFault>
     requires read { CanRead (P.agrees pages.old) (H.view host.old) merge.old.file }
     requires merge { CanMerge (H.view host.old) merge.old }
@@ -62,7 +65,7 @@ fn add_terms<H: Host, P: PageReader>(
     index: &IndexFile,
     op: &Op,
     body: &[u8],
-    merge: &mut Merge,
+    merge: &mut TreeMerge,
 ) -> Result<(), ReadFault>
     requires some { asks_none index.now.kind op.now ≡ false }
     requires read { CanRead (P.agrees pages.old) (H.view host.old) index.now.file }
@@ -76,14 +79,14 @@ fn add_terms<H: Host, P: PageReader>(
     ensures damaged { IfErr result (DamageShown (H.view host.old) index.now.file (ShowsIndex index.now)) }
     ensures undamaged { IfErr result (NoFalseSearchDamage (H.view host.old) index.now) }
     ensures read { HasRead (P.agrees pages.new) (P.covers pages.old) (P.covers pages.new) (H.view host.old) (H.view host.new) index.now.file }
-    ensures causes { ReadsAtMost (index.now.blocks.levels + 2 + 3 * index.now.blocks.terms) (H.view host.old) (H.view host.new) result }
+    ensures causes { ReadsAtMost (index.now.blocks.levels + 2 + 3 * 2 ^ 62) (H.view host.old) (H.view host.new) result }
     ensures reads { OnOk result ((content : IndexContent) → IsOpenOn (H.view host.old) index.now content
         → (H.view host.new).reads + 2 * unread_of (sources_of merge.new) ≤ (H.view host.old).reads + 2 * unread_of (sources_of merge.old) + index.now.blocks.levels + 2 + terms_cost content op.now body.now) }
     ensures same { (merge.new.file ≡ merge.old.file) × (merge.new.last ≡ merge.old.last) × (merge.new.floor ≡ merge.old.floor) }
 {
     let mut blocks = Blocks::new(alloc, index.file(), index.blocks());
     let mut entry = blocks.seek(host, pages, lower(op, body))?;
-    for _turn in 0..index.blocks().terms {
+    for _turn in 0..MAX_TERMS {
         let Some(found) = &entry else {
             return Ok(());
         };
@@ -103,7 +106,7 @@ pub fn collect<H: Host, P: PageReader>(
     index: &IndexFile,
     op: &Op,
     body: &[u8],
-    merge: &mut Merge,
+    merge: &mut TreeMerge,
 ) -> Result<(), ReadFault>
     requires read { CanRead (P.agrees pages.old) (H.view host.old) index.now.file }
     requires named { merge.old.file ≡ index.now.file }
@@ -115,7 +118,7 @@ pub fn collect<H: Host, P: PageReader>(
     ensures damaged { IfErr result (DamageShown (H.view host.old) index.now.file (ShowsIndex index.now)) }
     ensures undamaged { IfErr result (NoFalseSearchDamage (H.view host.old) index.now) }
     ensures read { HasRead (P.agrees pages.new) (P.covers pages.old) (P.covers pages.new) (H.view host.old) (H.view host.new) index.now.file }
-    ensures causes { ReadsAtMost (index.now.blocks.levels + 4 + 3 * index.now.blocks.terms) (H.view host.old) (H.view host.new) result }
+    ensures causes { ReadsAtMost (index.now.blocks.levels + 4 + 3 * 2 ^ 62) (H.view host.old) (H.view host.new) result }
     ensures reads { OnOk result ((content : IndexContent) → IsOpenOn (H.view host.old) index.now content
         → (H.view host.new).reads + 2 * unread_of (sources_of merge.new) ≤ (H.view host.old).reads + whole_cost index.now.blocks.levels content op.now body.now) }
     ensures same { (merge.new.file ≡ merge.old.file) × (merge.new.last ≡ merge.old.last) × (merge.new.floor ≡ merge.old.floor) }

@@ -1,5 +1,5 @@
 // Searches of an index file.
-ghost use Rattle.std.specs.Prelude.{◌≡◌, ◌+◌, ◌*◌, ◌≤◌, max, [], None, IfErr, IfOk, IsOk, OnOk, true, false};
+ghost use Rattle.std.specs.Prelude.{◌≡◌, ◌+◌, ◌*◌, ◌^◌, ◌≤◌, max, [], None, IfErr, IfOk, IsOk, OnOk, true, false};
 ghost use Rattle.std.specs.BinaryHeap.{IsHeap};
 ghost use Rattle.sasi_host.specs.View.{ReadsAtMost};
 ghost use Rattle.sasi_host.specs.Damages.{DamageShown};
@@ -16,7 +16,7 @@ use crate::IndexFile;
 use crate::collect::collect;
 use sasi_host::{Host, PageReader, ReadFault};
 use sasi_terms::Op;
-use sasi_treemerge::Merge;
+use sasi_treemerge::TreeMerge;
 use sasi_types::{Pair, Token};
 use std::alloc::Global;
 use std::marker::Model;
@@ -30,7 +30,7 @@ pub struct Search {
     op: Op,
     body: Vec<u8>,
     is_collected: bool,
-    merge: Merge,
+    merge: TreeMerge,
 }
 
 impl Model for Search {
@@ -50,7 +50,7 @@ fn keep_collected<H: Host, P: PageReader>(
     op: &Op,
     body: &[u8],
     is_collected: &mut bool,
-    merge: &mut Merge,
+    merge: &mut TreeMerge,
 ) -> Result<(), ReadFault>
     requires read { CanRead (P.agrees pages.old) (H.view host.old) index.now.file }
     requires search { CanSearch (H.view host.old) (searching index.now op.now body.now is_collected.old merge.old) }
@@ -63,7 +63,7 @@ fn keep_collected<H: Host, P: PageReader>(
     ensures damaged { IfErr result (DamageShown (H.view host.old) index.now.file (ShowsIndex index.now)) }
     ensures undamaged { IfErr result (NoFalseSearchDamage (H.view host.old) index.now) }
     ensures read { HasRead (P.agrees pages.new) (P.covers pages.old) (P.covers pages.new) (H.view host.old) (H.view host.new) index.now.file }
-    ensures causes { ReadsAtMost (index.now.blocks.levels + 4 + 3 * index.now.blocks.terms) (H.view host.old) (H.view host.new) result }
+    ensures causes { ReadsAtMost (index.now.blocks.levels + 4 + 3 * 2 ^ 62) (H.view host.old) (H.view host.new) result }
     ensures same { (merge.new.last ≡ merge.old.last) × (merge.new.floor ≡ merge.old.floor) }
 {
     if *is_collected {
@@ -83,7 +83,7 @@ fn next_pair<H: Host, P: PageReader>(
     op: &Op,
     body: &[u8],
     is_collected: &mut bool,
-    merge: &mut Merge,
+    merge: &mut TreeMerge,
 ) -> Result<Option<Pair>, ReadFault>
     requires read { CanRead (P.agrees pages.old) (H.view host.old) index.now.file }
     requires search { CanSearch (H.view host.old) (searching index.now op.now body.now is_collected.old merge.old) }
@@ -117,7 +117,7 @@ impl Search {
         ensures last { result.merge.last ≡ None }
         ensures floor { result.merge.floor ≡ 0 }
     {
-        let merge = Merge::new(alloc, index.file());
+        let merge = TreeMerge::new(alloc, index.file());
         Search {
             alloc,
             index,

@@ -1,3 +1,4 @@
 pub mod PairOrder
+pub mod Disorder
 pub mod Merging
 pub mod Stepping

@@ -1,35 +1,33 @@
 -- What a merge gives, step by step.
-use Rattle.std.specs.Prelude.{◌≡◌, ℕ, zero, suc, ◌+◌, ◌-◌, ◌*◌, ◌<◌, ◌≤◌, ◌⊎◌, Bool, true, false, List, [], ◌∷◌, ◌++◌, length, drop, get_or, All, Contains, Option, None, Some, IfSome, IsSome, refl}
+use Rattle.std.specs.Prelude.{◌≡◌, ℕ, zero, suc, ◌+◌, ◌*◌, ◌<◌, ◌≤◌, ◌⊎◌, Bool, true, false, List, [], ◌∷◌, ◌++◌, length, drop, get_or, All, Contains, Option, None, Some, IfSome, IsSome, refl}
 use Rattle.std.proofs.Common.{◌∙◌, sym, ap, subst, arith, inl, inr, ⊎_elim}
-use Rattle.std.specs.List.{AllByRecursion, sum_by}
 use Rattle.std.specs.List.Sorted.{IsPermutation}
 use Rattle.std.specs.Option.{option_to_list}
 use Rattle.std.specs.Ordering.{is_lt}
-use Rattle.std.specs.BinaryHeap.{IsHeap, IsUpperBound, KeepsHeap}
+use Rattle.std.specs.BinaryHeap.{IsHeap, KeepsHeap}
 use Rattle.std.proofs.lemmas.List.Elements.{All-append, All-cons, All-contains, All-contains_itself, All-from_recursion, All-head, All-nil, All-tail, All-weaker, Contains-append_cases, Contains-append_left, Contains-append_right, Contains-push}
-use Rattle.std.proofs.lemmas.List.Sorted.{All-permutation, Contains-permutation, IsPermutation-sym, length_permutation, sum_by-IsPermutation, sum_by_popped, sum_by_pushed}
+use Rattle.std.proofs.lemmas.List.Sorted.{All-permutation, Contains-permutation, IsPermutation-sym, sum_by-IsPermutation, sum_by_popped, sum_by_pushed}
 use Rattle.sasi_types.specs.declared.tree.Pair.{Pair}
 use Rattle.sasi_types.specs.declared.tree.TreeRef.{TreeRef}
 use Rattle.sasi_host.specs.declared.name.FileName.{FileName}
 use Rattle.sasi_host.specs.Names.{Bytes}
 use Rattle.sasi_host.specs.View.{View, contents}
+use Rattle.sasi_host.specs.Contents.{contents_same}
 use Rattle.sasi_host.specs.Disk.{Changes, Same}
-use Rattle.sasi_host.specs.Buffered.{Buffered, IsBuffered, buffered_after}
+use Rattle.sasi_host.specs.Buffered.{IsBuffered, buffered_after}
 use Rattle.sasi_host.specs.declared.fault.ReadFault.{ReadFault}
 use Rattle.sasi_host.specs.declared.fault.ReadFault.TheVariants as fault
 use Rattle.sasi_host.specs.Damages.{DamageShown}
 use Rattle.sasi_host.proofs.DamageLaws.{shown_as, shown_before}
 use Rattle.sasi_tokentree.proofs.AfterRead.{reads_still}
-use Rattle.sasi_tokentree.specs.Damages.{ShowsTree}
-use Rattle.sasi_tokentree.specs.Reads.{NoFalseTreeDamage}
-use Rattle.sasi_treemerge.specs.MergeDamages.{NoFalseDamageOf, ShowsSources}
+use Rattle.sasi_treemerge.specs.MergeDamages.{NoFalseDamageOf, NoFalseSourceDamage, ShowsPairs, ShowsSources}
 use Rattle.std.proofs.lemmas.Bool.Decides.{leb_tells}
 use Rattle.sasi_tokentree.specs.Format.{HasTree}
 use Rattle.sasi_tokentree.specs.Scans.{HasPassed, PairScan, ReadsNextPair, StepsToPair}
-use Rattle.sasi_treemerge.specs.declared.merge.Merge.{Merge}
+use Rattle.sasi_treemerge.specs.declared.merge.TreeMerge.{TreeMerge}
 use Rattle.sasi_treemerge.specs.declared.source.Source.{Source}
-use Rattle.sasi_treemerge.specs.Sources.{is_before, pair_cmp, source_cmp}
-use Rattle.sasi_treemerge.specs.Merges.{Adds, CanMerge, Gives, GoesOn, IsLeast, IsPairOf, IsReadable, IsSourceIn, IsSourceOf, IsStillGiven, Steps, StepsBy, TreesStay, is_left, left_in, left_of, sources_of, unread_in, unread_of}
+use Rattle.sasi_treemerge.specs.Sources.{is_before, source_cmp}
+use Rattle.sasi_treemerge.specs.Merges.{Adds, CanMerge, Gives, GoesOn, IsAtHead, IsLeast, IsPairOf, IsReadable, IsSourceIn, IsSourceOf, IsStillGiven, StepsBy, TreesStay, is_left, left_in, left_of, sources_of, unread_in, unread_of}
 use Rattle.sasi_treemerge.proofs.PairOrder.{first_least, not_before_on}
 
 -- ---- lists
@@ -204,11 +202,17 @@ fewer_left v head old new steps within = from steps.next steps.goes steps.put
 
 -- ---- where the folder stays
 
-pub merge_still : (a b : View) (merge : Merge) → Changes Same a b → CanMerge a merge → CanMerge b merge
+at_head_still : (a b : View) (file : FileName) (source : Source) → Changes Same a b → IsAtHead a file source → IsAtHead b file source
+at_head_still a b file source same is = record {
+  passed = is.passed;
+  stands = (is.stands.0, is.stands.1, λ bytes told. is.stands.2 bytes (sym (contents_same a b file same) ∙ told));
+}
+
+pub merge_still : (a b : View) (merge : TreeMerge) → Changes Same a b → CanMerge a merge → CanMerge b merge
 merge_still a b merge same can = record {
   heap = can.heap;
   each = All-weaker (IsReadable a merge.file) (IsReadable b merge.file)
-      (λ s is. record { named = is.named; buffered = buffered_after s.tree.buffered a b same is.buffered; within = is.within }) (sources_of merge) can.each;
+      (λ s is. record { named = is.named; buffered = buffered_after s.tree.buffered a b same is.buffered; at_head = at_head_still a b merge.file s same is.at_head }) (sources_of merge) can.each;
 }
 
 -- ---- a scan goes on
@@ -225,18 +229,19 @@ goes_some v scan after found head is reads same one passed =
 
 -- ---- one source more or less
 
-goes_readable : (v b : View) (file : FileName) (scan : PairScan) (source : Source) → GoesOn v scan (Some source) → source.tree.buffered.file ≡ file → IsBuffered source.tree.buffered b.files → IsReadable b file source
-goes_readable v b file scan source goes named buffered = record { named = named; buffered = buffered; within = omega (arith, ap (λ (t : TreeRef). t.pairs) goes.0, goes.2) }
-
 -- the source that a scan gives
-pub source_readable : (v b : View) (file : FileName) (scan : PairScan) (found : Option Source) (source : Source) → found ≡ Some source → scan.buffered.file ≡ file → IfSome found (λ (s : Source). s.tree.buffered.file ≡ scan.buffered.file)
-    → IfSome found (λ (s : Source). IsBuffered s.tree.buffered b.files) → GoesOn v scan found → IsReadable b file source
-source_readable v b file scan found source is same named buffered goes =
+pub source_readable : (v b : View) (file : FileName) (scan : PairScan) (found : Option Source) (source : Source) → Changes Same v b → found ≡ Some source → scan.buffered.file ≡ file → IfSome found (λ (s : Source). s.tree.buffered.file ≡ scan.buffered.file)
+    → IfSome found (λ (s : Source). IsBuffered s.tree.buffered b.files) → IfSome found (IsAtHead v scan.buffered.file) → IsReadable b file source
+source_readable v b file scan found source same is scanned named buffered at_head =
     let here : source.tree.buffered.file ≡ scan.buffered.file = subst (λ (o : Option Source). IfSome o (λ (s : Source). s.tree.buffered.file ≡ scan.buffered.file)) is named in
-    let page : IsBuffered source.tree.buffered b.files = subst (λ (o : Option Source). IfSome o (λ (s : Source). IsBuffered s.tree.buffered b.files)) is buffered in
-    goes_readable v b file scan source (subst (λ (o : Option Source). GoesOn v scan o) is goes) (here ∙ same) page
+    let at : IsAtHead v scan.buffered.file source = subst (λ (o : Option Source). IfSome o (IsAtHead v scan.buffered.file)) is at_head in
+    record {
+      named = here ∙ scanned;
+      buffered = subst (λ (o : Option Source). IfSome o (λ (s : Source). IsBuffered s.tree.buffered b.files)) is buffered;
+      at_head = at_head_still v b file source same (subst (λ (n : FileName). IsAtHead v n source) scanned at);
+    }
 
-pub can_add : (a b : View) (merge new : Merge) (source : Source) → CanMerge a merge → Changes Same a b → KeepsHeap source_cmp (sources_of merge) (sources_of new) → IsPermutation (source ∷ sources_of merge) (sources_of new) → new.file ≡ merge.file
+pub can_add : (a b : View) (merge new : TreeMerge) (source : Source) → CanMerge a merge → Changes Same a b → KeepsHeap source_cmp (sources_of merge) (sources_of new) → IsPermutation (source ∷ sources_of merge) (sources_of new) → new.file ≡ merge.file
     → IsReadable b merge.file source → CanMerge b new
 can_add a b merge new source can same keeps put file readable =
     let now = merge_still a b merge same can in
@@ -246,10 +251,10 @@ can_add a b merge new source can same keeps put file readable =
           (All-permutation (IsReadable b merge.file) (source ∷ sources_of merge) (sources_of new) put (All-cons (IsReadable b merge.file) source (sources_of merge) readable now.each));
     }
 
-pub first_readable : (v : View) (merge : Merge) (source : Source) (others : List Source) → CanMerge v merge → IsPermutation (sources_of merge) (source ∷ others) → IsReadable v merge.file source
+pub first_readable : (v : View) (merge : TreeMerge) (source : Source) (others : List Source) → CanMerge v merge → IsPermutation (sources_of merge) (source ∷ others) → IsReadable v merge.file source
 first_readable v merge source others can taken = All-head (IsReadable v merge.file) source others (All-permutation (IsReadable v merge.file) (sources_of merge) (source ∷ others) taken can.each)
 
-pub rest_can : (a b : View) (merge new : Merge) (source : Source) → CanMerge a merge → Changes Same a b → IsPermutation (sources_of merge) (source ∷ sources_of new) → IsHeap source_cmp (sources_of new) → new.file ≡ merge.file → CanMerge b new
+pub rest_can : (a b : View) (merge new : TreeMerge) (source : Source) → CanMerge a merge → Changes Same a b → IsPermutation (sources_of merge) (source ∷ sources_of new) → IsHeap source_cmp (sources_of new) → new.file ≡ merge.file → CanMerge b new
 rest_can a b merge new source can same taken heap file =
     let now = merge_still a b merge same can in
     record {
@@ -284,20 +289,18 @@ step_reads before after v source next old others new taken put goes cost =
 
 -- ---- damage
 
-pub head_shown : (v : View) (file : FileName) (source : Source) (old others : List Source) (f : ReadFault) → IsPermutation old (source ∷ others) → source.tree.buffered.file ≡ file
-    → DamageShown v source.tree.buffered.file (ShowsTree source.tree.buffered.file source.tree.tree) f → DamageShown v file (ShowsSources old file) f
-head_shown v file source old others f taken same shown =
-    shown_as (ShowsTree file source.tree.tree) (ShowsSources old file) v file f
+pub head_shown : (v : View) (file : FileName) (source : Source) (old others : List Source) (f : ReadFault) → IsPermutation old (source ∷ others) → DamageShown v file (ShowsPairs file source.tree.tree) f → DamageShown v file (ShowsSources old file) f
+head_shown v file source old others f taken shown =
+    shown_as (ShowsPairs file source.tree.tree) (ShowsSources old file) v file f
     (λ bytes damage is shows. record { source = source; there = Contains-permutation (source ∷ others) old source (IsPermutation-sym old (source ∷ others) taken) (contains_first source others); shows = shows })
-    (subst (λ (n : FileName). DamageShown v n (ShowsTree n source.tree.tree) f) same shown)
+    shown
 
-pub head_spares : (v : View) (file : FileName) (source : Source) (old others : List Source) (f : ReadFault) → IsPermutation old (source ∷ others) → source.tree.buffered.file ≡ file
-    → NoFalseTreeDamage v source.tree.buffered.file source.tree.tree f → NoFalseDamageOf v file old f
-head_spares v file source old others fault.Failed taken same right = tt
-head_spares v file source old others fault.OutOfMemory taken same right = tt
-head_spares v file source old others (fault.Damaged damage) taken same right = λ bytes lists is each.
+pub head_spares : (v : View) (file : FileName) (source : Source) (old others : List Source) (f : ReadFault) → IsPermutation old (source ∷ others) → NoFalseSourceDamage v file source f → NoFalseDamageOf v file old f
+head_spares v file source old others fault.Failed taken right = tt
+head_spares v file source old others fault.OutOfMemory taken right = tt
+head_spares v file source old others (fault.Damaged damage) taken right = λ bytes lists is each.
     (let own = All-contains (IsSourceIn bytes lists) old source each (Contains-permutation (source ∷ others) old source (IsPermutation-sym old (source ∷ others) taken) (contains_first source others)) in
-    right bytes own.pairs (ap (λ (n : FileName). contents v n) same ∙ is) own.is.tree)
+    right bytes own.pairs is own.is)
 
 -- ---- trees
 
@@ -325,11 +328,11 @@ trees_step v head old new steps = from steps.next steps.goes steps.put
         (All-append P (option_to_list next) steps.others (next_tree v old steps.source next goes (back steps.source (contains_first steps.source steps.others)))
         (All-weaker (Contains steps.others) P (λ s has. (s, back s (contains_later steps.source s steps.others has), refl)) steps.others (All-contains_itself steps.others)))
 
-pub named_all : (v : View) (merge : Merge) → CanMerge v merge → All (λ (s : Source). s.tree.buffered.file ≡ merge.file) (sources_of merge)
+pub named_all : (v : View) (merge : TreeMerge) → CanMerge v merge → All (λ (s : Source). s.tree.buffered.file ≡ merge.file) (sources_of merge)
 named_all v merge can = All-weaker (IsReadable v merge.file) (λ (s : Source). s.tree.buffered.file ≡ merge.file) (λ s is. is.named) (sources_of merge) can.each
 
-pub within_all : (v : View) (merge : Merge) → CanMerge v merge → All (λ (s : Source). s.tree.passed ≤ s.tree.tree.pairs) (sources_of merge)
-within_all v merge can = All-weaker (IsReadable v merge.file) (λ (s : Source). s.tree.passed ≤ s.tree.tree.pairs) (λ s is. is.within) (sources_of merge) can.each
+pub within_all : (v : View) (merge : TreeMerge) → CanMerge v merge → All (λ (s : Source). s.tree.passed ≤ s.tree.tree.pairs) (sources_of merge)
+within_all v merge can = All-weaker (IsReadable v merge.file) (λ (s : Source). s.tree.passed ≤ s.tree.tree.pairs) (λ s is. is.at_head.passed.within) (sources_of merge) can.each
 
 pub left_same : (last now : Option Pair) (floor floor_now : ℕ) (pair : Pair) → now ≡ last → floor_now ≡ floor → is_left now floor_now pair ≡ is_left last floor pair
 left_same last now floor floor_now pair same below = ap (λ (l : Option Pair). is_left l floor_now pair) same ∙ ap (λ (n : ℕ). is_left last n pair) below
@@ -340,7 +343,7 @@ shown_of a b file now old new f stay same named shown =
     shown_before (ShowsSources old file) a b file f same
     (shown_as (ShowsSources new file) (ShowsSources old file) b file f
     (λ bytes damage is shows. (let was = All-contains (λ (s : Source). (t : Source) × Contains old t × (s.tree.tree ≡ t.tree.tree)) new shows.source stay shows.there in
-    record { source = was.0; there = was.1; shows = subst (λ (t : TreeRef). ShowsTree file t bytes damage) was.2 shows.shows }))
+    record { source = was.0; there = was.1; shows = subst (λ (t : TreeRef). ShowsPairs file t bytes damage) was.2 shows.shows }))
     (subst (λ (n : FileName). DamageShown b n (ShowsSources new n) f) named shown))
 
 pub spares_of : (a b : View) (file now : FileName) (old new : List Source) (f : ReadFault) → ((bytes : Bytes) (lists : List (List Pair)) → contents a file ≡ Some bytes → All (IsSourceIn bytes lists) old → All (IsSourceIn bytes lists) new)

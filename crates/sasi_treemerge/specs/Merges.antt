@@ -9,11 +9,11 @@ use Rattle.sasi_types.specs.declared.tree.TreeRef.{TreeRef}
 use Rattle.sasi_host.specs.declared.name.FileName.{FileName}
 use Rattle.sasi_host.specs.Names.{Bytes}
 use Rattle.sasi_host.specs.View.{View, contents}
-use Rattle.sasi_host.specs.Buffered.{Buffered, IsBuffered}
+use Rattle.sasi_host.specs.Buffered.{IsBuffered}
 use Rattle.sasi_tokentree.specs.Format.{HasTree}
-use Rattle.sasi_tokentree.specs.Scans.{PairScan}
+use Rattle.sasi_tokentree.specs.Scans.{HasPassed, PairScan, ReadsEntry}
 use Rattle.sasi_treemerge.specs.declared.source.Source.{Source}
-use Rattle.sasi_treemerge.specs.declared.merge.Merge.{Merge}
+use Rattle.sasi_treemerge.specs.declared.merge.TreeMerge.{TreeMerge}
 use Rattle.sasi_treemerge.specs.Sources.{is_before, source_cmp}
 
 -- ---- what is left
@@ -70,11 +70,16 @@ pub record Gives (bytes : Bytes) (lists : List (List Pair)) (last : Option Pair)
   pub each : All (IsSourceIn bytes lists) sources
   pub all : (pairs : List Pair) (pair : Pair) → Contains lists pairs → Contains pairs pair → is_left last floor pair ≡ true → IsStillGiven bytes pairs sources pair
 
+-- the pair in hand is the last entry that the scan has passed, in any file
+pub record IsAtHead (v : View) (file : FileName) (source : Source) : Type 0 where
+  pub passed : HasPassed source.tree.tree source.tree.passed
+  pub stands : ReadsEntry v file source.tree.tree source.tree.passed (Some source.head)
+
 -- what is known of a source in any file
 pub record IsReadable (v : View) (file : FileName) (source : Source) : Type 0 where
   pub named : source.tree.buffered.file ≡ file
   pub buffered : IsBuffered source.tree.buffered v.files
-  pub within : source.tree.passed ≤ source.tree.tree.pairs
+  pub at_head : IsAtHead v file source
 
 -- how many pairs the sources have, with those in hand
 abbrev pub left_in : Source → ℕ
@@ -96,11 +101,11 @@ TreesStay old new = All (λ source. (was : Source) × Contains old was × (sourc
 
 -- ---- a merge
 
-abbrev pub sources_of : Merge → List Source
+abbrev pub sources_of : TreeMerge → List Source
 sources_of merge = heap_items merge.sources
 
 -- the merge can go on
-pub record CanMerge (v : View) (merge : Merge) : Type 0 where
+pub record CanMerge (v : View) (merge : TreeMerge) : Type 0 where
   pub heap : IsHeap source_cmp (sources_of merge)
   pub each : All (IsReadable v merge.file) (sources_of merge)
 

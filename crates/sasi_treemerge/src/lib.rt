@@ -5,5 +5,5 @@
 mod merge;
 mod source;
 
-pub use merge::Merge;
+pub use merge::TreeMerge;
 pub use source::Source;

@@ -13,7 +13,7 @@ ghost use Rattle.sasi_treemerge.specs.Sources.{source_cmp};
 ghost use Rattle.sasi_treemerge.specs.Merges.{Adds, CanMerge, Gives, IsLeast, Steps, TreesStay, is_left, last_after, sources_of, unread_of};
 ghost use Rattle.sasi_treemerge.specs.MergeDamages.{NoFalseDamageOf, ShowsSources};
 
-use crate::source::{Source, source_of};
+use crate::source::{Source, next_of, source_of};
 use sasi_host::{FileName, Host, PageReader, ReadFault};
 use sasi_tokentree::Tree;
 use sasi_types::{Pair, Token, TreeRef};
@@ -22,7 +22,7 @@ use std::collections::BinaryHeap;
 
 /// A merge of the pairs of trees, in their order and each once. After a fault it isn't used again.
 #[derive(Drop)]
-pub struct Merge {
+pub struct TreeMerge {
     pub file: FileName,
     pub sources: BinaryHeap<Source, Global>,
     // The pair that was given last.
@@ -50,16 +50,16 @@ fn put(sources: &mut BinaryHeap<Source, Global>, source: Source) -> Result<(), A
     Ok(())
 }
 
-impl Merge {
+impl TreeMerge {
     /// A merge of no tree of the file.
-    pub fn new(alloc: Global, file: FileName) -> Merge
+    pub fn new(alloc: Global, file: FileName) -> TreeMerge
         ensures file { result.file ≡ file }
         ensures sources { sources_of result ≡ [] }
         ensures heap { IsHeap source_cmp (sources_of result) }
         ensures last { result.last ≡ None }
         ensures floor { result.floor ≡ 0 }
     {
-        Merge {
+        TreeMerge {
             file,
             sources: BinaryHeap::new(alloc),
             last: None,
@@ -116,7 +116,7 @@ impl Merge {
             return Ok(None);
         };
         let head = source.head;
-        match source_of(host, pages, source.tree)? {
+        match next_of(host, pages, self.file, source)? {
             None => Ok(Some(head)),
             Some(next) => {
                 put(&mut self.sources, next)?;

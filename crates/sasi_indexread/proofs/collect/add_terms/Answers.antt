@@ -194,7 +194,7 @@ returns-clause-ok g c content on =
     let m = c.args.merge.now in
     gives_at on.bytes (asked_lists content c.args.op.now c.args.body.now) m.last c.loop-turn.merge.last m.floor c.loop-turn.merge.floor (sources_of c.loop-turn.merge) here.last here.floor
     (passes_all (g.H.Host.view c.args.host.now) index c.args.op.now c.args.body.now (λ bytes is. (g.met.H.Host.sound c.args.host.now).fits index.file bytes is) c.requires.some content on m.last m.floor c.loop-turn._turn c.loop-turn.blocks.page
-    c.loop-turn.blocks.index c.loop-turn.entry (sources_of c.loop-turn.merge) (omega (arith, ap (λ (r : BlockRef). r.terms) c.blocks-turn-end.ensures)) (here.collects content on))
+    c.loop-turn.blocks.index c.loop-turn.entry (sources_of c.loop-turn.merge) (omega arith) (here.collects content on))
 
 pub returns-in_default-clause-reads : goal.returns-in_default-clause-reads
 returns-in_default-clause-reads g c content on =

@@ -1,6 +1,7 @@
-use Rattle.std.proofs.Common.{ℕ, ◌≡◌}
+use Rattle.std.proofs.Common.{◌≡◌}
 use Rattle.std.proofs.lemmas.Result.{err_from_is_err_and}
 use Rattle.sasi_tokentree.proofs.AfterRead.{tree_shown_more}
+use Rattle.sasi_treemerge.proofs.Disorder.{at_head_of}
 use Rattle.sasi_treemerge.proofs.Merging.{goes_none, goes_some}
 use Rattle.sasi_treemerge.proofs.source.source_of.Goals as goal
 
@@ -16,3 +17,7 @@ returns-in-None-clause-ok g c = goes_none (g.H.Host.view c.args.host.now) c.args
 pub returns-in-Some-clause-ok : goal.returns-in-Some-clause-ok
 returns-in-Some-clause-ok g c =
     goes_some (g.H.Host.view c.args.host.now) c.args.tree c.next.new.self c.in_ok-next.field-0 c.in-Some.head c.in-Some.is c.in_ok-next.ensures.ok c.next.ensures.tree c.in_ok-next.ensures.some c.in_ok-next.ensures.passed
+
+pub returns-in-Some-clause-at_head : goal.returns-in-Some-clause-at_head
+returns-in-Some-clause-at_head g c =
+    at_head_of (g.H.Host.view c.args.host.now) c.args.tree.buffered.file c.args.tree.tree c.next.new.self c.in_ok-next.field-0 c.in-Some.head c.in-Some.is c.in_ok-next.ensures.stands c.next.ensures.tree c.in_ok-next.ensures.passed

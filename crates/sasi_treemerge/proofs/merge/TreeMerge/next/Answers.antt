@@ -1,17 +1,16 @@
-use Rattle.std.proofs.Common.{◌≡◌, ◌∙◌, ap, refl, subst, sym, ℕ, Option, None, Some, true, false}
+use Rattle.std.proofs.Common.{◌≡◌, ◌∙◌, ap, refl, subst, sym, ℕ, Option, Some, true, false}
 use Rattle.std.proofs.lemmas.Result.{err_from_is_err_and}
 use Rattle.sasi_types.specs.declared.tree.Pair.{Pair}
 use Rattle.sasi_host.specs.declared.name.FileName.{FileName}
 use Rattle.sasi_host.specs.ChangeLaws.{stays}
 use Rattle.sasi_host.specs.View.{IsThere}
-use Rattle.sasi_host.specs.PageReading.{HasRead}
 use Rattle.std.proofs.Common.{inl}
 use Rattle.sasi_tokentree.proofs.AfterRead.{reads_still}
 use Rattle.sasi_treemerge.specs.Merges.{Gives, Steps, is_left, sources_of}
 use Rattle.sasi_treemerge.proofs.Merging.{each_on, fewer_left, gives_none, gives_on, head_least, head_listed, left_same, named_all, shown_of, spares_of, trees_on, trees_same, trees_step, within_all}
 use Rattle.sasi_treemerge.proofs.PairOrder.{last_gone, left_behind}
 use Rattle.sasi_treemerge.proofs.Stepping.{pays_none, pays_on, read_next, there_same}
-use Rattle.sasi_treemerge.proofs.merge.Merge.next.Goals as goal
+use Rattle.sasi_treemerge.proofs.merge.TreeMerge.next.Goals as goal
 
 pub loop-pair-init : goal.loop-pair-init
 loop-pair-init g c =

@@ -7,7 +7,7 @@ use Rattle.sasi_host.specs.View.{IsThere, contents}
 use Rattle.sasi_host.specs.PageReading.{HasRead}
 use Rattle.sasi_treemerge.specs.Merges.{CanMerge, Gives, IsSourceIn, TreesStay, left_of, sources_of, unread_of}
 use Rattle.sasi_treemerge.proofs.Stepping.{Pays}
-use Rattle.sasi_treemerge.proofs.merge.Merge.next.Given as goal
+use Rattle.sasi_treemerge.proofs.merge.TreeMerge.next.Given as goal
 
 abbrev pub invariant-loop-pair : goal.invariant-loop-pair
 invariant-loop-pair g l =
