@@ -12,21 +12,22 @@ use Rattle.sasi_host.specs.ChangeLaws.{changes_as, crash_leaves_on, since_start,
 use Rattle.sasi_layout.specs.Layout.{Layout, state_of}
 use Rattle.sasi_layout.specs.Running.{Crashed, after_pieces}
 use Rattle.sasi_layout.specs.Serving.{Ended, closed}
-use Rattle.sasi_layout.specs.Shape.{ShapeOf}
+use Rattle.sasi_layout.specs.Shape.{ShapeOf, Stands}
 use Rattle.sasi_layout.specs.Wells.{IsWell}
 use Rattle.sasi_layout.specs.Worlds.{ServesWorld, new_world, steps}
 use Rattle.sasi_layout.proofs.LayoutLaws.{bare_state}
 use Rattle.sasi_model.specs.Pieces.{Piece, all_pieces}
 use Rattle.sasi_model.specs.State.{State}
 use Rattle.sasi_model.specs.Parsers.{grammar_parser}
-use Rattle.sasi_model.specs.Step.{replies}
+use Rattle.sasi_model.specs.Step.{replies, state_after}
 use Rattle.sasi_cql.proofs.Parsing.{is_parser}
 use Rattle.sasi_recover.specs.declared.fault.OpenFault.{OpenFault}
 use Rattle.sasi_recover.specs.declared.fault.OpenFault.TheVariants as open_fault
 use Rattle.sasi_store.specs.StoreView.{StoreView}
 use Rattle.sasi_run.specs.Crashing.{CrashLeavesPieces, IsOfState, RunsCrashSafe, RunsWorld}
-use Rattle.sasi_run.specs.Headline.{EmitsByStatus, EmitsFirstReplies, Headline, RanToEnd, ReadsToEnd, Replies, Runs, RunsFrom, StandsForEnd, StartsFrom, but_rows, exact, script_of, status_of_fault}
-use Rattle.sasi_run.specs.Recovering.{HasShapeOfImage, LeavesShape, Recovers}
+use Rattle.sasi_run.specs.Headline.{EmitsByStatus, EmitsFirstReplies, EndsWith, Headline, RanToEnd, ReadsToEnd, Replies, Runs, RunsFrom, StartsFrom, but_rows, exact, script_of, status_of_fault}
+use Rattle.sasi_run.specs.Recovering.{Recovers}
+use Rattle.sasi_run.specs.Shapes.{HasShapeOfImage, LeavesShape, Shapes, StandsForEnd, StartsFromLayout}
 use Rattle.sasi_run.specs.declared.status.Status.{Status}
 use Rattle.sasi_run.specs.declared.status.Status.TheVariants.{Usage}
 use Rattle.sasi_run.proofs.ConsumedBytes.{consumes_nothing}
@@ -43,7 +44,7 @@ UnchangedOrShaped asked l x y = (y ≡ x) ⊎ ShapeOf asked y l
 
 -- ---- the start, and the opening
 
-module _ (asked : Option Partitioner) (a : View) (l : Layout) (starts : StartsFrom asked a l) (before : List ℕ) (emitted : a.emitted ≡ Some before) where
+module _ (asked : Option Partitioner) (a : View) (l : Layout) (starts : StartsFromLayout asked a l) (before : List ℕ) (emitted : a.emitted ≡ Some before) where
   from_image : (folder image : Folder) (out : List ℕ) (m : Layout) → a.emitted ≡ Some out → a.image image → ShapeOf asked image m → ShapeOf asked folder m
       → HasShapeOfImage asked a before folder out
   from_image folder image out m said was had has =
@@ -80,7 +81,7 @@ module _ (asked : Option Partitioner) (a : View) (l : Layout) (starts : StartsFr
     -- ---- by states
 
     pub recovers_image : (folder : Folder) (out : List ℕ) → HasShapeOfImage asked a before folder out
-        → Recovers grammar_parser asked a (state_of l) pieces before folder out
+        → Recovers Stands grammar_parser asked a (state_of l) pieces before folder out
     recovers_image folder out is =
         let n = counted (state_of l) pieces [] in
         record {
@@ -95,7 +96,7 @@ module _ (asked : Option Partitioner) (a : View) (l : Layout) (starts : StartsFr
         }
 
     from_moment : (folder : Folder) (out shown : List ℕ) → out ≡ before ++ shown → moments.Crashed (state_of l) before pieces folder out
-        → Recovers grammar_parser asked a (state_of l) pieces before folder out
+        → Recovers Stands grammar_parser asked a (state_of l) pieces before folder out
     from_moment folder out shown went was =
         let n = counted (state_of l) pieces shown in
         let after = after_crash (state_of l) before pieces folder out shown went n.0 n.1 was in
@@ -111,7 +112,7 @@ module _ (asked : Option Partitioner) (a : View) (l : Layout) (starts : StartsFr
         }
 
     pub recovers : IsWell l → (folder : Folder) (out : List ℕ) → LeavesShape grammar_parser asked a l pieces before folder out
-        → Recovers grammar_parser asked a (state_of l) pieces before folder out
+        → Recovers Stands grammar_parser asked a (state_of l) pieces before folder out
     recovers well folder out left = ⊎_elim (recovers_image folder out)
         (λ crashed.
         (let was = by_states (new_world l) well before folder out pieces crashed in
@@ -136,6 +137,23 @@ stands_for_end v l s sound told ended is =
 
 -- ---- what a run does
 
+-- the replies from a layout, and what a crash leaves of it by states and by shapes
+pub record RunsWhole (asked : Option Partitioner) (status : Status) (l : Layout) (left_old left_new : Option (List ℕ)) (host_old host_new : View) : Type 0 where
+  pub runs : Runs grammar_parser (exact grammar_parser) status (state_of l) left_old left_new host_old.emitted host_new.emitted
+  pub crash : (before : List ℕ) → host_old.emitted ≡ Some before → (folder : Folder) (out : List ℕ) → host_new.left host_old.moment folder out
+      → Recovers Stands grammar_parser asked host_old (state_of l) (all_pieces (script_of left_old runs.read)) before folder out
+  pub shapes : (before : List ℕ) → host_old.emitted ≡ Some before → (folder : Folder) (out : List ℕ) → host_new.left host_old.moment folder out
+      → LeavesShape grammar_parser asked host_old l (all_pieces (script_of left_old runs.read)) before folder out
+  pub ends : RanToEnd status → StandsForEnd host_new (closed (after_pieces steps (new_world l) (all_pieces (script_of left_old runs.read))).layout)
+      (state_after (state_of l) (all_pieces (script_of left_old runs.read)))
+
+-- what a run does, from each layout
+pub record Whole (asked : Option Partitioner) (status : Status) (script_old script_new : SourceView) (host_old host_new : View) : Type 0 where
+  pub on_every_host : (s : State) × Runs grammar_parser (but_rows grammar_parser) status s script_old.left script_new.left host_old.emitted host_new.emitted
+  pub as_it_reads : (folder : Folder) (l : Layout) → host_old.files ≡ Some folder → ShapeOf asked folder l
+      → Runs grammar_parser (exact grammar_parser) status (state_of l) script_old.left script_new.left host_old.emitted host_new.emitted
+  pub shows : (l : Layout) → StartsFromLayout asked host_old l → RunsWhole asked status l script_old.left script_new.left host_old host_new
+
 -- the words named no script
 pub nothing_runs : (r : Replies) (s : State) (l o : Option (List ℕ)) → Runs grammar_parser r Usage s l l o o
 nothing_runs r s l o = record {
@@ -148,8 +166,8 @@ nothing_runs r s l o = record {
   bounded = omega arith;
 }
 
-runs_nothing : (asked : Option Partitioner) (a : View) (m : Layout) (l : Option (List ℕ)) → IsSound a → StartsFrom asked a m
-    → RunsFrom grammar_parser asked Usage m l l a a
+runs_nothing : (asked : Option Partitioner) (a : View) (m : Layout) (l : Option (List ℕ)) → IsSound a → StartsFromLayout asked a m
+    → RunsWhole asked Usage m l l a a
 runs_nothing asked a m l sound starts =
     let same : Changes (UnchangedOrShaped asked m) a a = changes_as a a Same (UnchangedOrShaped asked m) (stays a) (λ x y is. inl is) in
     record {
@@ -207,8 +225,8 @@ not_ended open_fault.OutOfMemory is = is
 not_ended (open_fault.Damaged damage) is = is
 not_ended (open_fault.PartitionerDiffers asked kept) is = is
 
-runs_unopened : (asked : Option Partitioner) (fault : OpenFault) (a b : View) (m : Layout) (l : Option (List ℕ)) → IsSound a → StartsFrom asked a m
-    → Appends a.emitted b.emitted [] → Changes (UnchangedOrShaped asked m) a b → RunsFrom grammar_parser asked (status_of_fault fault) m l l a b
+runs_unopened : (asked : Option Partitioner) (fault : OpenFault) (a b : View) (m : Layout) (l : Option (List ℕ)) → IsSound a → StartsFromLayout asked a m
+    → Appends a.emitted b.emitted [] → Changes (UnchangedOrShaped asked m) a b → RunsWhole asked (status_of_fault fault) m l l a b
 runs_unopened asked fault a b m l sound starts silent change = record {
   runs = first_runs (exact grammar_parser) fault (state_of m) l a.emitted b.emitted refl silent;
   crash = λ before emitted folder out left. recovers_image asked a m starts before emitted _ folder out (leaves_opening asked a m starts before emitted b sound change folder out left);
@@ -230,8 +248,8 @@ moved r status s l l2 o p q same runs = record {
 
 -- it was opened, and the script run
 runs_opened : (asked : Option Partitioner) (status : Status) (a b c : View) (m : Layout) (store : StoreView) (l l2 : Option (List ℕ)) → IsSound a
-    → StartsFrom asked a m → Changes (UnchangedOrShaped asked m) a b → ServesWorld b store.hand (new_world m) → IsSound c
-    → RunsWorld status (new_world m) l l2 b c → RunsFrom grammar_parser asked status m l l2 a c
+    → StartsFromLayout asked a m → Changes (UnchangedOrShaped asked m) a b → ServesWorld b store.hand (new_world m) → IsSound c
+    → RunsWorld status (new_world m) l l2 b c → RunsWhole asked status m l l2 a c
 unfolding moved
 runs_opened asked status a b c m store l l2 sound starts change serves sound_c on = record {
   runs = moved (exact grammar_parser) status (state_of m) l l2 b.emitted a.emitted c.emitted change.emitted on.runs;
@@ -242,43 +260,37 @@ runs_opened asked status a b c m store l l2 sound starts change serves sound_c o
       (state_is (all_pieces (script_of l on.runs.read)) (new_world m) serves.well);
 }
 
--- ---- the headline
+-- ---- from each layout
 
 -- a state without tables
 abbrev pub no_tables : State
 no_tables = record { partitioner = Lead8; tables = [] }
 
 -- the words name no script
-pub headline_unused : (asked : Option Partitioner) (script : SourceView) (a : View) → IsSound a → Headline asked Usage script script a a
-headline_unused asked script a sound = record {
-  parser = grammar_parser;
-  parses = is_parser;
+pub whole_unused : (asked : Option Partitioner) (script : SourceView) (a : View) → IsSound a → Whole asked Usage script script a a
+whole_unused asked script a sound = record {
   on_every_host = (no_tables, nothing_runs (but_rows grammar_parser) no_tables script.left a.emitted);
   as_it_reads = λ folder l files shape. nothing_runs (exact grammar_parser) (state_of l) script.left a.emitted;
   shows = λ l starts. runs_nothing asked a l script.left sound starts;
 }
 
 -- the folder wasn't opened
-pub headline_unopened : (asked : Option Partitioner) (fault : OpenFault) (script : SourceView) (a b : View) → IsSound a → Appends a.emitted b.emitted []
+pub whole_unopened : (asked : Option Partitioner) (fault : OpenFault) (script : SourceView) (a b : View) → IsSound a → Appends a.emitted b.emitted []
     → ((folder : Folder) (l : Layout) → a.files ≡ Some folder → ShapeOf asked folder l → Changes (UnchangedOrShaped asked l) a b)
-    → Headline asked (status_of_fault fault) script script a b
-headline_unopened asked fault script a b sound silent change = record {
-  parser = grammar_parser;
-  parses = is_parser;
+    → Whole asked (status_of_fault fault) script script a b
+whole_unopened asked fault script a b sound silent change = record {
   on_every_host = (no_tables, first_runs (but_rows grammar_parser) fault no_tables script.left a.emitted b.emitted refl silent);
   as_it_reads = λ folder l files shape. first_runs (exact grammar_parser) fault (state_of l) script.left a.emitted b.emitted refl silent;
   shows = λ l starts. runs_unopened asked fault a b l script.left sound starts silent (change starts.folder l starts.reads starts.shape);
 }
 
 -- the script was run
-pub headline_opened : (asked : Option Partitioner) (status : Status) (script later : SourceView) (a b c : View) (store : StoreView) (s : State) → IsOfState store s → IsSound a → IsSound c
+pub whole_opened : (asked : Option Partitioner) (status : Status) (script later : SourceView) (a b c : View) (store : StoreView) (s : State) → IsOfState store s → IsSound a → IsSound c
     → b.emitted ≡ a.emitted
     → ((folder : Folder) (l : Layout) → a.files ≡ Some folder → ShapeOf asked folder l → Changes (UnchangedOrShaped asked l) a b)
     → ((folder : Folder) (l : Layout) → a.files ≡ Some folder → ShapeOf asked folder l → ServesWorld b store.hand (new_world l))
-    → RunsCrashSafe status store script.left later.left b c → Headline asked status script later a c
-headline_opened asked status script later a b c store s of sound sound_c silent change opened on = record {
-  parser = grammar_parser;
-  parses = is_parser;
+    → RunsCrashSafe status store script.left later.left b c → Whole asked status script later a c
+whole_opened asked status script later a b c store s of sound sound_c silent change opened on = record {
   on_every_host = (s, moved (but_rows grammar_parser) status s script.left later.left b.emitted a.emitted c.emitted silent (on.anywhere s of));
   as_it_reads = λ folder l files shape.
       moved (exact grammar_parser) status (state_of l) script.left later.left b.emitted a.emitted c.emitted silent (on.from (new_world l) (opened folder l files shape)).runs;
@@ -286,4 +298,47 @@ headline_opened asked status script later a b c store s of sound sound_c silent 
       (let serves = opened starts.folder l starts.reads starts.shape in
       runs_opened asked status a b c l store script.left later.left sound starts (change starts.folder l starts.reads starts.shape) serves sound_c
       (on.from (new_world l) serves));
+}
+
+-- ---- the headline
+
+-- it ends with the state of the layout
+ends_with : (v : View) (l : Layout) (s : State) → StandsForEnd v (closed l) s → EndsWith Stands v s
+ends_with v l s is = record {
+  folder = is.folder;
+  reads = is.reads;
+  stands = λ asked. record { shape = _; has = inr is.shape; state_is = sym is.state_is };
+  images = λ image now asked. record { shape = _; has = inr (is.images image now); state_is = sym is.state_is };
+}
+
+from_layout : (asked : Option Partitioner) (status : Status) (l : Layout) (left later : Option (List ℕ)) (a b : View) → RunsWhole asked status l left later a b
+    → RunsFrom Stands grammar_parser asked status (state_of l) left later a b
+from_layout asked status l left later a b is = record { runs = is.runs; crash = is.crash; ends = λ ran. ends_with b _ _ (is.ends ran) }
+
+-- where the folder stands for a state, a run starts from a layout of it
+starts_from : (asked : Option Partitioner) (a : View) (s : State) (starts : StartsFrom Stands asked a s) → StartsFromLayout asked a starts.stands.shape
+starts_from asked a s starts = record {
+  folder = starts.folder;
+  reads = starts.reads;
+  shape = starts.stands.has;
+  images = λ image now. (let other = starts.images image now in (other.1.shape, other.1.has));
+}
+
+pub headline_of : (asked : Option Partitioner) (status : Status) (script later : SourceView) (a b : View) → Whole asked status script later a b → Headline Stands asked status script later a b
+headline_of asked status script later a b is = record {
+  parser = grammar_parser;
+  parses = is_parser;
+  on_every_host = is.on_every_host;
+  as_it_reads = λ folder s reads stands.
+      subst (λ (t : State). Runs grammar_parser (exact grammar_parser) status t script.left later.left a.emitted b.emitted) (sym stands.state_is) (is.as_it_reads folder stands.shape reads stands.has);
+  shows = λ s starts.
+      subst (λ (t : State). RunsFrom Stands grammar_parser asked status t script.left later.left a b) (sym starts.stands.state_is)
+      (from_layout asked status starts.stands.shape script.left later.left a b (is.shows starts.stands.shape (starts_from asked a s starts)));
+}
+
+pub shapes_of : (asked : Option Partitioner) (status : Status) (script later : SourceView) (a b : View) → Whole asked status script later a b → Shapes asked status script later a b
+shapes_of asked status script later a b is = record {
+  parser = grammar_parser;
+  parses = is_parser;
+  shows = λ l starts. (let whole = is.shows l starts in record { runs = whole.runs; shapes = whole.shapes; ends = whole.ends });
 }

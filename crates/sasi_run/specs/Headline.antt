@@ -1,6 +1,6 @@
 -- The headline: what a run reads and emits, by the status that it answers, and what a crash leaves. The emitted bytes are
--- the replies that the model gives to the pieces of the script, and each status says how many of them. A run goes through
--- layouts, of which the folder always has the shape of one; their states are those of the model.
+-- the replies that the model gives to the pieces of the script, and each status says how many of them. When a folder stands for
+-- a state is a parameter: nothing here rests on a file's format. `Shapes` says it of files.
 use Rattle.std.specs.Prelude.{◌≡◌, ℕ, ◌+◌, ◌-◌, ◌^◌, ◌≤◌, ◌<◌, ◌==◌, if◌then◌else◌, min, List, [], ◌∷◌, ◌++◌, length, take, Option, Some, unwrap_or}
 use Rattle.std.specs.Io.KnownBytes.{Appends, Consumes, IsAtEnd}
 use Rattle.sasi_types.specs.declared.partitioner.Partitioner.{Partitioner}
@@ -10,16 +10,10 @@ use Rattle.sasi_model.specs.Pieces.{Piece, pieces, all_pieces}
 use Rattle.sasi_model.specs.State.{State}
 use Rattle.sasi_model.specs.Parsers.{Parser, IsParser}
 use Rattle.sasi_model.specs.Step.{step_by, state_by, replies_by, refusals_by}
-use Rattle.sasi_layout.specs.Kept.{HasExactly}
-use Rattle.sasi_layout.specs.Layout.{Layout, bare, state_of}
-use Rattle.sasi_layout.specs.Running.{after_pieces}
-use Rattle.sasi_layout.specs.Serving.{closed}
-use Rattle.sasi_layout.specs.Shape.{IsOfShape, ShapeOf}
-use Rattle.sasi_layout.specs.Worlds.{new_world, steps_by}
 use Rattle.sasi_recover.specs.declared.fault.OpenFault.{OpenFault}
 use Rattle.sasi_recover.specs.declared.fault.OpenFault.TheVariants as open_fault
 use Rattle.sasi_store.specs.Answers.{PrintsRows}
-use Rattle.sasi_run.specs.Recovering.{LeavesShape, Recovers}
+use Rattle.sasi_run.specs.Recovering.{Recovers, StandsRelation}
 use Rattle.sasi_run.specs.declared.session.Stop.{Stop}
 use Rattle.sasi_run.specs.declared.session.Stop.TheVariants.{Disk, Output, Memory, Corrupt, Spent}
 use Rattle.sasi_run.specs.declared.status.Status.{Status}
@@ -151,46 +145,41 @@ pub record Runs (parser : Parser) (r : Replies) (status : Status) (s : State) (l
   pub shows : EmitsByStatus parser r status s (script_of left_old read) read shown
   pub bounded : length read ≤ SCRIPT_MOST + READ_MOST
 
--- ---- from a layout
+-- ---- from a state
 
--- A run on this host begins with this layout: its folder, as it reads, has that shape, and each image of it has some shape.
-pub record StartsFrom (asked : Option Partitioner) (host : View) (l : Layout) : Type 0 where
+-- A run on this host begins with this state: its folder, as it reads, stands for it, and each image of it stands for some state.
+pub record StartsFrom (StandsFor : StandsRelation) (asked : Option Partitioner) (host : View) (s : State) : Type 0 where
   pub folder : Folder
   pub reads : host.files ≡ Some folder
-  pub shape : ShapeOf asked folder l
-  pub images : (image : Folder) → host.image image → (m : Layout) × ShapeOf asked image m
+  pub stands : StandsFor asked folder s
+  pub images : (image : Folder) → host.image image → (t : State) × StandsFor asked image t
 
--- The folder as it reads has exactly the files of the layout, and each image of it has its shape, which stands for the state.
-pub record StandsForEnd (v : View) (l : Layout) (s : State) : Type 0 where
+-- The folder as it reads stands for the state, and so does each image of it, whatever partitioner is asked.
+pub record EndsWith (StandsFor : StandsRelation) (host : View) (s : State) : Type 0 where
   pub folder : Folder
-  pub reads : v.files ≡ Some folder
-  pub exactly : HasExactly l folder
-  pub shape : IsOfShape (bare l) folder
-  pub images : (image : Folder) → v.image image → IsOfShape (bare l) image
-  pub state_is : state_of (bare l) ≡ s
+  pub reads : host.files ≡ Some folder
+  pub stands : (asked : Option Partitioner) → StandsFor asked folder s
+  pub images : (image : Folder) → host.image image → (asked : Option Partitioner) → StandsFor asked image s
 
--- **The replies, and what a crash leaves.** What was emitted are replies as the status says, and at each moment since the start a crash leaves the state after the pieces whose replies were emitted, or after one more: the folder has the shape of the layout after these pieces and a first part of the moves of the next one. A run to the script's end leaves the layout after all of them, and no other file.
-pub record RunsFrom (parser : Parser) (asked : Option Partitioner) (status : Status) (l : Layout) (left_old left_new : Option (List ℕ)) (host_old host_new : View) : Type 0 where
-  pub runs : Runs parser (exact parser) status (state_of l) left_old left_new host_old.emitted host_new.emitted
+-- **The replies, and what a crash leaves.** What was emitted are replies as the status says, and at each moment since the start a crash leaves the state after the pieces whose replies were emitted, or after one more. A run to the script's end leaves the state after all of them.
+pub record RunsFrom (StandsFor : StandsRelation) (parser : Parser) (asked : Option Partitioner) (status : Status) (s : State) (left_old left_new : Option (List ℕ)) (host_old host_new : View) : Type 0 where
+  pub runs : Runs parser (exact parser) status s left_old left_new host_old.emitted host_new.emitted
   pub crash : (before : List ℕ) → host_old.emitted ≡ Some before → (folder : Folder) (out : List ℕ) → host_new.left host_old.moment folder out
-      → Recovers parser asked host_old (state_of l) (all_pieces (script_of left_old runs.read)) before folder out
-  pub shapes : (before : List ℕ) → host_old.emitted ≡ Some before → (folder : Folder) (out : List ℕ) → host_new.left host_old.moment folder out
-      → LeavesShape parser asked host_old l (all_pieces (script_of left_old runs.read)) before folder out
-  pub ends : RanToEnd status → StandsForEnd host_new (closed (after_pieces (steps_by parser) (new_world l) (all_pieces (script_of left_old runs.read))).layout)
-      (state_by parser (state_of l) (all_pieces (script_of left_old runs.read)))
+      → Recovers StandsFor parser asked host_old s (all_pieces (script_of left_old runs.read)) before folder out
+  pub ends : RanToEnd status → EndsWith StandsFor host_new (state_by parser s (all_pieces (script_of left_old runs.read)))
 
 -- what a run does where this partitioner is asked, by what its source and its host tell before it and after it
-pub record Headline (asked : Option Partitioner) (status : Status) (script_old script_new : SourceView) (host_old host_new : View) : Type 0 where
+pub record Headline (StandsFor : StandsRelation) (asked : Option Partitioner) (status : Status) (script_old script_new : SourceView) (host_old host_new : View) : Type 0 where
   -- the parser of the grammar, by which each piece is read
   pub parser : Parser
   pub parses : IsParser parser
-  -- on every host, also where its files aren't told or have no shape: from some state all but the rows
+  -- on every host, also where its files aren't told or stand for nothing: from some state all but the rows
   pub on_every_host : (s : State) × Runs parser (but_rows parser) status s script_old.left script_new.left host_old.emitted host_new.emitted
-  -- the replies, from the layout whose shape the folder as it reads has, whatever its images have
-  pub as_it_reads : (folder : Folder) (l : Layout) → host_old.files ≡ Some folder → ShapeOf asked folder l
-      → Runs parser (exact parser) status (state_of l) script_old.left script_new.left host_old.emitted host_new.emitted
+  -- the replies, from the state for which the folder as it reads stands, whatever its images are
+  pub as_it_reads : (folder : Folder) (s : State) → host_old.files ≡ Some folder → StandsFor asked folder s
+      → Runs parser (exact parser) status s script_old.left script_new.left host_old.emitted host_new.emitted
   -- the replies, and the crash
-  pub shows : (l : Layout) → StartsFrom asked host_old l → RunsFrom parser asked status l script_old.left script_new.left host_old host_new
+  pub shows : (s : State) → StartsFrom StandsFor asked host_old s → RunsFrom StandsFor parser asked status s script_old.left script_new.left host_old host_new
 
 -- ---- the status of a run's end
 

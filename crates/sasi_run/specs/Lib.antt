@@ -9,4 +9,5 @@ pub mod Recovering
 pub mod Spending
 pub mod FileCalls
 pub mod EmitCounts
+pub mod Shapes
 pub mod InMemory

@@ -7,12 +7,12 @@ use Rattle.sasi_model.specs.Pieces.{Piece}
 use Rattle.sasi_model.specs.State.{State}
 use Rattle.sasi_model.specs.Parsers.{Parser}
 use Rattle.sasi_model.specs.Step.{state_by, replies_by}
-use Rattle.sasi_layout.specs.Layout.{Layout}
-use Rattle.sasi_layout.specs.Running.{Crashed}
-use Rattle.sasi_layout.specs.Shape.{ShapeOf, Stands}
-use Rattle.sasi_layout.specs.Worlds.{new_world, steps_by}
 
 -- ---- the state
+
+-- when a folder stands for a state, where this partitioner is asked
+abbrev pub StandsRelation : Type 1
+StandsRelation = Option Partitioner → Folder → State → Type 0
 
 -- n is the number of whole replies that were emitted: what was shown begins with the replies of the first n pieces, and of no more
 pub record IsReplyCount (parser : Parser) (s : State) (pieces : List Piece) (shown : List ℕ) (n : ℕ) : Type 0 where
@@ -31,37 +31,22 @@ abbrev pub IsStateAfter : Parser → State → List Piece → ℕ → State → 
 IsStateAfter parser s pieces n state = (state ≡ state_by parser s (take n pieces)) ⊎ ((n < length pieces) × (state ≡ state_by parser s (take (suc n) pieces)))
 
 -- nothing was shown, and an image of the start stood for the state
-pub record IsStateOfImage (asked : Option Partitioner) (start : View) (shown : List ℕ) (state : State) : Type 0 where
+pub record IsStateOfImage (StandsFor : StandsRelation) (asked : Option Partitioner) (start : View) (shown : List ℕ) (state : State) : Type 0 where
   pub nothing : shown ≡ []
   pub image : Folder
   pub was : start.image image
-  pub stood : Stands asked image state
+  pub stood : StandsFor asked image state
 
 -- What a crash leaves of a run of these pieces, where so much was emitted before the run: the replies of the first `count` pieces, for a greatest such number, with a first part of the next reply behind them; and a folder that stands for the state after these pieces, or after one more.
-pub record Recovers (parser : Parser) (asked : Option Partitioner) (start : View) (s : State) (pieces : List Piece) (before : List ℕ) (folder : Folder) (out : List ℕ) : Type 0 where
+pub record Recovers (StandsFor : StandsRelation) (parser : Parser) (asked : Option Partitioner) (start : View) (s : State) (pieces : List Piece) (before : List ℕ) (folder : Folder) (out : List ℕ) : Type 0 where
   pub shown : List ℕ
   pub went : out ≡ before ++ shown
   pub count : ℕ
   pub whole : IsReplyCount parser s pieces shown count
   pub next : IsPartOfNextReply parser s pieces count whole.rest
   pub state : State
-  pub stands : Stands asked folder state
-  pub after : IsStateOfImage asked start shown state ⊎ IsStateAfter parser s pieces count state
-
--- ---- the layout
-
--- nothing was emitted, and the folder has the shape of an image of the start
-pub record HasShapeOfImage (asked : Option Partitioner) (start : View) (before : List ℕ) (folder : Folder) (out : List ℕ) : Type 0 where
-  pub nothing : out ≡ before
-  pub image : Folder
-  pub was : start.image image
-  pub shape : Layout
-  pub had : ShapeOf asked image shape
-  pub has : ShapeOf asked folder shape
-
--- The folder that a crash leaves has the shape of the layout after some pieces and some first part of the moves of the next one, or that of an image of the start.
-abbrev pub LeavesShape : Parser → Option Partitioner → View → Layout → List Piece → List ℕ → Folder → List ℕ → Type 0
-LeavesShape parser asked start l pieces before folder out = HasShapeOfImage asked start before folder out ⊎ Crashed (steps_by parser) (new_world l) before pieces folder out
+  pub stands : StandsFor asked folder state
+  pub after : IsStateOfImage StandsFor asked start shown state ⊎ IsStateAfter parser s pieces count state
 
 -- ---- the next run
 

@@ -4,8 +4,10 @@ ghost use Rattle.sasi_host.specs.Memory.{host_view, seen, source_view};
 ghost use Rattle.sasi_host.specs.View.{Rose};
 ghost use Rattle.sasi_run.specs.CommandLine.{IsCommandLine, asked_by};
 ghost use Rattle.sasi_run.specs.Causes.{RanThrough, RunCauses};
+ghost use Rattle.sasi_layout.specs.Shape.{Stands};
 ghost use Rattle.sasi_run.specs.Headline.{Headline, SCRIPT_MOST};
 ghost use Rattle.sasi_run.specs.InMemory.{FailsNowhere};
+ghost use Rattle.sasi_run.specs.Shapes.{Shapes};
 
 use crate::Status;
 use crate::runner::run;
@@ -22,7 +24,8 @@ pub fn run_in_memory(
     host: &mut MemHost,
     analyzers: Vec<Box<dyn Analyzer>>,
 ) -> Status
-    ensures headline { Headline (asked_by (map (λ w. string_bytes w) words.now)) result (source_view script.old) (source_view script.new) (host_view (seen host.old)) (host_view (seen host.new)) }
+    ensures headline { Headline Stands (asked_by (map (λ w. string_bytes w) words.now)) result (source_view script.old) (source_view script.new) (host_view (seen host.old)) (host_view (seen host.new)) }
+    ensures shapes { Shapes (asked_by (map (λ w. string_bytes w) words.now)) result (source_view script.old) (source_view script.new) (host_view (seen host.old)) (host_view (seen host.new)) }
     ensures causes { RunCauses (map (λ w. string_bytes w) words.now) result (source_view script.old) (source_view script.new) (host_view (seen host.old)) (host_view (seen host.new)) }
     ensures through { IsCommandLine (map (λ w. string_bytes w) words.now) → FailsNowhere script.old (seen host.old) → ¬ (Rose (seen host.old).refused (seen host.new).refused) → length script.old.left ≤ SCRIPT_MOST → RanThrough result }
 {

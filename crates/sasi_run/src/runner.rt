@@ -1,7 +1,9 @@
 // The entry point: a run of a script over a folder.
 ghost use Rattle.std.specs.Prelude.{◌≡◌, map, string_bytes, Some};
 ghost use Rattle.sasi_run.specs.CommandLine.{asked_by};
+ghost use Rattle.sasi_layout.specs.Shape.{Stands};
 ghost use Rattle.sasi_run.specs.Headline.{Headline, status_of_fault};
+ghost use Rattle.sasi_run.specs.Shapes.{Shapes};
 ghost use Rattle.sasi_run.specs.Causes.{RunCauses};
 
 use crate::reading::run_store;
@@ -20,7 +22,8 @@ pub fn run<S: Source, H: Host>(
     host: &mut H,
     analyzers: Vec<Box<dyn Analyzer>>,
 ) -> Status
-    ensures headline { Headline (asked_by (map (λ w. string_bytes w) words.now)) result (S.view script.old) (S.view script.new) (H.view host.old) (H.view host.new) }
+    ensures headline { Headline Stands (asked_by (map (λ w. string_bytes w) words.now)) result (S.view script.old) (S.view script.new) (H.view host.old) (H.view host.new) }
+    ensures shapes { Shapes (asked_by (map (λ w. string_bytes w) words.now)) result (S.view script.old) (S.view script.new) (H.view host.old) (H.view host.new) }
     ensures causes { RunCauses (map (λ w. string_bytes w) words.now) result (S.view script.old) (S.view script.new) (H.view host.old) (H.view host.new) }
     ensures untouched { result ≡ Status.Usage → (script.new ≡ script.old) × (host.new ≡ host.old) }
 {

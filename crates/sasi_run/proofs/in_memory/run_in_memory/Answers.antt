@@ -5,6 +5,7 @@ use Rattle.sasi_run.proofs.in_memory.run_in_memory.Goals as goal
 pub returns : goal.returns
 returns g c = record {
   headline = c.run.ensures.headline;
+  shapes = c.run.ensures.shapes;
   causes = c.run.ensures.causes;
   through = λ words nowhere grew short.
       (let causes = c.run.ensures.causes in

@@ -2,11 +2,14 @@ use Rattle.sasi_store.specs.StoreView.{StoreView}
 use Rattle.sasi_run.proofs.Causes.{causes_opened, causes_unopened, causes_unused}
 use Rattle.sasi_run.proofs.FailedCalls.{calls_behind, opened_calls, unopened_calls}
 use Rattle.sasi_run.proofs.RunParts.{unmoved}
-use Rattle.sasi_run.proofs.WholeRun.{headline_opened, headline_unopened, headline_unused}
+use Rattle.sasi_run.proofs.WholeRun.{headline_of, shapes_of, whole_opened, whole_unopened, whole_unused}
 use Rattle.sasi_run.proofs.runner.run.Goals as goal
 
 pub returns-in-None-clause-headline : goal.returns-in-None-clause-headline
-returns-in-None-clause-headline g c = headline_unused _ (g.S.Source.view c.args.script.now) (g.H.Host.view c.args.host.now) (g.met.H.Host.sound c.args.host.now)
+returns-in-None-clause-headline g c = headline_of _ _ _ _ _ _ (whole_unused _ (g.S.Source.view c.args.script.now) (g.H.Host.view c.args.host.now) (g.met.H.Host.sound c.args.host.now))
+
+pub returns-in-None-clause-shapes : goal.returns-in-None-clause-shapes
+returns-in-None-clause-shapes g c = shapes_of _ _ _ _ _ _ (whole_unused _ (g.S.Source.view c.args.script.now) (g.H.Host.view c.args.host.now) (g.met.H.Host.sound c.args.host.now))
 
 pub returns-in-None-clause-causes : goal.returns-in-None-clause-causes
 returns-in-None-clause-causes g c = causes_unused _ (g.S.Source.view c.args.script.now) (g.H.Host.view c.args.host.now) c.in-None.ensures.none
@@ -16,8 +19,16 @@ returns-in-Err-clause-headline g c =
     let start = g.H.Host.view c.args.host.now in
     let later = g.H.Host.view c.open.new.host in
     rw c.fault_status.ensures
-    (headline_unopened _ c.in-Err.fault (g.S.Source.view c.args.script.now) start later (g.met.H.Host.sound c.args.host.now)
-    (unmoved start later c.open.ensures.safe.changes.emitted) (rw c.in-Some.ensures.asked at c.open.ensures.safe.any_moment))
+    (headline_of _ _ _ _ _ _ (whole_unopened _ c.in-Err.fault (g.S.Source.view c.args.script.now) start later (g.met.H.Host.sound c.args.host.now)
+    (unmoved start later c.open.ensures.safe.changes.emitted) (rw c.in-Some.ensures.asked at c.open.ensures.safe.any_moment)))
+
+pub returns-in-Err-clause-shapes : goal.returns-in-Err-clause-shapes
+returns-in-Err-clause-shapes g c =
+    let start = g.H.Host.view c.args.host.now in
+    let later = g.H.Host.view c.open.new.host in
+    rw c.fault_status.ensures
+    (shapes_of _ _ _ _ _ _ (whole_unopened _ c.in-Err.fault (g.S.Source.view c.args.script.now) start later (g.met.H.Host.sound c.args.host.now)
+    (unmoved start later c.open.ensures.safe.changes.emitted) (rw c.in-Some.ensures.asked at c.open.ensures.safe.any_moment)))
 
 pub returns-in-Err-clause-causes : goal.returns-in-Err-clause-causes
 returns-in-Err-clause-causes g c =
@@ -40,10 +51,19 @@ returns-in-Err-clause-causes g c =
 
 pub returns-in-Ok-clause-headline : goal.returns-in-Ok-clause-headline
 returns-in-Ok-clause-headline g c =
-    headline_opened _ c.run_store.result (g.S.Source.view c.args.script.now) (g.S.Source.view c.run_store.new.script) (g.H.Host.view c.args.host.now)
+    headline_of _ _ _ _ _ _ (
+    whole_opened _ c.run_store.result (g.S.Source.view c.args.script.now) (g.S.Source.view c.run_store.new.script) (g.H.Host.view c.args.host.now)
     (g.H.Host.view c.open.new.host) (g.H.Host.view c.run_store.new.host) c.in-Ok.store c.in-Ok.ensures.state.0 c.in-Ok.ensures.state.1 (g.met.H.Host.sound c.args.host.now)
     (g.met.H.Host.sound c.run_store.new.host) c.open.ensures.safe.changes.emitted (rw c.in-Some.ensures.asked at c.open.ensures.safe.any_moment)
-    (rw c.in-Some.ensures.asked at c.in-Ok.ensures.serves) c.run_store.ensures.runs
+    (rw c.in-Some.ensures.asked at c.in-Ok.ensures.serves) c.run_store.ensures.runs)
+
+pub returns-in-Ok-clause-shapes : goal.returns-in-Ok-clause-shapes
+returns-in-Ok-clause-shapes g c =
+    shapes_of _ _ _ _ _ _ (
+    whole_opened _ c.run_store.result (g.S.Source.view c.args.script.now) (g.S.Source.view c.run_store.new.script) (g.H.Host.view c.args.host.now)
+    (g.H.Host.view c.open.new.host) (g.H.Host.view c.run_store.new.host) c.in-Ok.store c.in-Ok.ensures.state.0 c.in-Ok.ensures.state.1 (g.met.H.Host.sound c.args.host.now)
+    (g.met.H.Host.sound c.run_store.new.host) c.open.ensures.safe.changes.emitted (rw c.in-Some.ensures.asked at c.open.ensures.safe.any_moment)
+    (rw c.in-Some.ensures.asked at c.in-Ok.ensures.serves) c.run_store.ensures.runs)
 
 pub returns-in-Ok-clause-causes : goal.returns-in-Ok-clause-causes
 returns-in-Ok-clause-causes g c =
