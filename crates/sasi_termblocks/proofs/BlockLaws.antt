@@ -71,7 +71,7 @@ offset_short items index d lt =
       length-append (entries_bytes (take index items)) ((get_or items index d).bytes ++ entries_bytes (drop (suc index) items)),
     )
 
-offset_is : (items : List Item) (index : ℕ) (d : Item) → size items ≤ 4096 → index < length items → offset_in (block items) index ≡ 2 + 2 * length items + length (entries_bytes (take index items))
+pub offset_is : (items : List Item) (index : ℕ) (d : Item) → size items ≤ 4096 → index < length items → offset_in (block items) index ≡ 2 + 2 * length items + length (entries_bytes (take index items))
 unfolding block
 offset_is items index d le lt =
     let n = length items in

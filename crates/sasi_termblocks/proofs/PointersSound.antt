@@ -36,7 +36,7 @@ use Rattle.sasi_termblocks.proofs.Levels.{at_up, items_up, level_are, level_bloc
 use Rattle.sasi_termblocks.proofs.Found.{value_sound}
 use Rattle.sasi_termblocks.proofs.Children.{all_items, page_block, pointer_is}
 use Rattle.sasi_termblocks.proofs.Descent.{high_is, level_aligned, low_is, top_for}
-use Rattle.sasi_termblocks.proofs.Sound.{block_ends, count_sound, terms_sound}
+use Rattle.sasi_termblocks.proofs.Sound.{block_ends, front_sound, terms_sound}
 
 -- where a block of a level is
 pub record IsOn (r : BlockRef) (entries : List TermEntry) (level page : ℕ) : Type 0 where
@@ -107,7 +107,7 @@ pub pointers_sound : (bytes : Bytes) (r : BlockRef) (entries : List TermEntry) (
 pointers_sound bytes r entries level page rule_ at_seen seen has on (inl count) =
     let items = items_of entries in
     let here = level_items (suc level) r.first items in
-    count_sound (get_or (blocks here) on.group []) rule_ at_seen seen (is_block (blocks here) on.group (all_blocks here (are_small here (level_are (suc level) r.first items (all_items bytes r entries has)))) on.lt) count
+    front_sound (get_or (blocks here) on.group []) rule_ at_seen seen (is_block (blocks here) on.group (all_blocks here (are_small here (level_are (suc level) r.first items (all_items bytes r entries has)))) on.lt) count
 pointers_sound bytes r entries level page rule_ at_seen seen has on (inr entry) =
     let items = items_of entries in
     let are = all_items bytes r entries has in

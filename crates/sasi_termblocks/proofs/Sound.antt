@@ -9,23 +9,31 @@ use Rattle.sasi_termblocks.specs.declared.block_ref.BlockRef.{BlockRef}
 use Rattle.sasi_termblocks.specs.declared.term_entry.TermEntry.{TermEntry}
 use Rattle.sasi_termblocks.specs.Entries.{is_below, term, term_entry}
 use Rattle.sasi_termblocks.specs.Blocks.{Item, block, blocks, items_of}
-use Rattle.sasi_termblocks.specs.Windows.{BreaksCount, BreaksOrder}
+use Rattle.sasi_termblocks.specs.Windows.{BreaksCount, BreaksFront, BreaksOrder, number_at}
+use Rattle.sasi_termblocks.specs.Windows.BreaksFront.{in_count, in_start}
 use Rattle.sasi_termblocks.specs.Damages.{BreaksTerms}
 use Rattle.sasi_termblocks.specs.Descents.{level_at, level_items}
 use Rattle.sasi_termblocks.specs.Scans.{HasBlocks, HaveBytes, start_of}
 use Rattle.sasi_termblocks.proofs.CutLaws.{all_blocks, block_length}
-use Rattle.sasi_termblocks.proofs.BlockLaws.{count_is, one_entry}
+use Rattle.sasi_termblocks.proofs.BlockLaws.{count_is, offset_is, one_entry}
 use Rattle.sasi_termblocks.proofs.Groups.{Every, IsBlock, IsItem, are_small, block_every, every_at, is_block, item_at, item_within, joined, joined_blocks, term_at, terms_in}
 use Rattle.sasi_termblocks.proofs.Levels.{level_are, level_block}
 use Rattle.sasi_termblocks.proofs.Found.{IsValue, term_begins, value_sound}
 use Rattle.sasi_termblocks.proofs.Children.{all_items, all_rise}
 
 -- a block in the format has a right count
-pub count_sound : (group : List Item) (r : FormatRule) (at : ℕ) (seen : Bytes) → IsBlock group → BreaksCount (block group) r at seen → ⊥
+count_sound : (group : List Item) (r : FormatRule) (at : ℕ) (seen : Bytes) → IsBlock group → BreaksCount (block group) r at seen → ⊥
 count_sound group r at seen one broken = ⊎_elim
     (λ none. omega (arith, none, count_is group one.fits, one.some))
     (λ many. omega (arith, many, count_is group one.fits, one.fits))
     broken.wrong
+
+-- and its first entry stands behind the offsets
+pub front_sound : (group : List Item) (r : FormatRule) (at : ℕ) (seen : Bytes) → IsBlock group → BreaksFront (block group) r at seen → ⊥
+front_sound group r at seen one (in_count broken) = count_sound group r at seen one broken
+front_sound group r at seen one (in_start broken) =
+    let first : number_at (block group) 2 ≡ 2 + 2 * length group + 0 = offset_is group 0 (record { term = []; bytes = [] }) one.fits one.some in
+    broken.wrong (omega (arith, first, count_is group one.fits))
 
 values : (entries : List TermEntry) → HaveBytes entries → Every (λ (i : Item). IsValue term_entry i) (items_of entries)
 values [] fit = tt
@@ -75,7 +83,7 @@ module _ (bytes : Bytes) (r : BlockRef) (entries : List TermEntry) (has : HasBlo
 
   pub terms_sound : (group : ℕ) (rule_ : FormatRule) (at : ℕ) (seen : Bytes) → group < length (blocks (items_of entries)) → BreaksTerms (block (get_or (blocks (items_of entries)) group [])) rule_ at seen → ⊥
   terms_sound group rule_ at seen lt (inl count) =
-      count_sound (get_or (blocks (items_of entries)) group []) rule_ at seen (is_block (blocks (items_of entries)) group (all_blocks (items_of entries) (are_small (items_of entries) (all_items bytes r entries has))) lt) count
+      front_sound (get_or (blocks (items_of entries)) group []) rule_ at seen (is_block (blocks (items_of entries)) group (all_blocks (items_of entries) (are_small (items_of entries) (all_items bytes r entries has))) lt) count
   terms_sound group rule_ at seen lt (inr (inl entry)) =
       let items = items_of entries in
       let here = get_or (blocks items) group [] in

@@ -11,7 +11,7 @@ use Rattle.sasi_termblocks.specs.declared.block_ref.BlockRef.{BlockRef}
 use Rattle.sasi_termblocks.specs.declared.fault.BlockFault.{BlockFault}
 use Rattle.sasi_termblocks.specs.declared.fault.BlockFault.TheVariants.{OutOfMemory, Broken}
 use Rattle.sasi_termblocks.specs.Entries.{pointer, term_entry}
-use Rattle.sasi_termblocks.specs.Windows.{BreaksCount, BreaksEntry, BreaksOrder, HasEntry, count_in}
+use Rattle.sasi_termblocks.specs.Windows.{BreaksEntry, BreaksFront, BreaksOrder, HasEntry, count_in}
 use Rattle.sasi_termblocks.specs.Descents.{high_page, low_page, pointer_to}
 
 -- ---- the faults of a block in its file
@@ -27,14 +27,14 @@ IsLifted file at (Broken broken) _ = ⊥
 -- what breaks a term block
 abbrev pub BreaksTerms : Bytes → FormatRule → ℕ → Bytes → Type 0
 BreaksTerms block broken at seen =
-    BreaksCount block broken at seen
+    BreaksFront block broken at seen
     ⊎ ((index : ℕ) × (index < count_in block) × BreaksEntry term_entry block index broken at seen)
     ⊎ ((index : ℕ) × (index + 1 < count_in block) × BreaksOrder block index broken at seen)
 
 -- what breaks a pointer block, whose places are those of pages from one to another
 abbrev pub BreaksPointers : ℕ → ℕ → Bytes → FormatRule → ℕ → Bytes → Type 0
 BreaksPointers low high block broken at seen =
-    BreaksCount block broken at seen
+    BreaksFront block broken at seen
     ⊎ ((index : ℕ) × (index < count_in block) × BreaksEntry (pointer_to low high) block index broken at seen)
 
 -- the damage is that of this file, in which a block on the page breaks a rule so, or which ends within it

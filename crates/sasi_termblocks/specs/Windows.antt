@@ -1,5 +1,5 @@
 -- A block as it is read: bytes that may be those of a block.
-use Rattle.std.specs.Prelude.{◌≡◌, ℕ, ◌+◌, ◌*◌, ◌<◌, ◌≤◌, ◌⊎◌, true, false, take, drop}
+use Rattle.std.specs.Prelude.{◌≡◌, ◌≢◌, ℕ, ◌+◌, ◌*◌, ◌<◌, ◌≤◌, ◌⊎◌, true, false, take, drop}
 use Rattle.std.specs.Int.{from_be_bytes, w16}
 use Rattle.sasi_host.specs.Names.{Bytes}
 use Rattle.sasi_host.specs.Damages.{seen_bytes}
@@ -33,6 +33,10 @@ bytes_in block index = drop (offset_in block index) block
 abbrev pub HasEntry : {A : Type 0} → Format A → Bytes → ℕ → A → Type 0
 HasEntry format block index value = (behind : Reading) × (read format (start (bytes_in block index)) ≡ Got value behind)
 
+-- the first entry stands behind the offsets
+abbrev pub StartsBehind : Bytes → Type 0
+StartsBehind block = number_at block 2 ≡ 2 + 2 * count_in block
+
 -- ---- what breaks a block
 
 -- it has no entries, or more than have room
@@ -41,6 +45,18 @@ pub record BreaksCount (block : Bytes) (broken : FormatRule) (at : ℕ) (seen : 
   pub at_is : at ≡ 0
   pub seen_is : seen ≡ take 2 block
   pub wrong : (count_in block ≡ 0) ⊎ (4096 < 2 + 2 * count_in block)
+
+-- its first entry stands elsewhere
+pub record BreaksStart (block : Bytes) (broken : FormatRule) (at : ℕ) (seen : Bytes) : Type 0 where
+  pub rule_is : broken ≡ rule.Number
+  pub at_is : at ≡ 2
+  pub seen_is : seen ≡ take 2 (drop 2 block)
+  pub wrong : number_at block 2 ≢ 2 + 2 * count_in block
+
+-- one of both
+pub data BreaksFront (block : Bytes) (broken : FormatRule) (at : ℕ) (seen : Bytes) : Type 0 where
+  in_count : BreaksCount block broken at seen → BreaksFront block broken at seen
+  in_start : BreaksStart block broken at seen → BreaksFront block broken at seen
 
 -- no value of the format begins where it tells this entry
 pub data BreaksEntry {A : Type 0} (format : Format A) (block : Bytes) (index : ℕ) (broken : FormatRule) (at : ℕ) (seen : Bytes) : Type 0 where

@@ -2,7 +2,7 @@
 ghost use Rattle.std.specs.Prelude.{◌≡◌, ◌+◌, ◌-◌, ◌*◌, ◌^◌, ◌<◌, ◌≤◌, ℕ, length, take, IfErr, IfOk, OnOk};
 ghost use Rattle.sasi_formats.specs.Reader.{start};
 ghost use Rattle.sasi_termblocks.specs.Entries.{is_below, term, term_entry};
-ghost use Rattle.sasi_termblocks.specs.Windows.{BreaksCount, BreaksEntry, HasEntry, IsBound, IsFault, bytes_in, count_in, number_at, offset_in};
+ghost use Rattle.sasi_termblocks.specs.Windows.{BreaksCount, BreaksEntry, BreaksFront, BreaksStart, HasEntry, IsBound, IsFault, StartsBehind, bytes_in, count_in, number_at, offset_in};
 ghost use Rattle.sasi_termblocks.specs.Descents.{pointer_to};
 ghost use Rattle.sasi_termblocks.specs.BlockFaults.{BreaksSome, BreaksUpTo, HasPlace, IsAboveLast, IsBrokenAt, IsCompared, IsMoved, IsNear, IsPlaced, IsSearched};
 
@@ -24,8 +24,8 @@ fn number_at(block: &[u8], at: usize) -> usize
     usize::from(u16::from_be_bytes([block[at], block[at + 1]]))
 }
 
-// How many entries the block has.
-pub fn count_of(block: &[u8]) -> Result<usize, BlockFault>
+// How many entries the block tells.
+fn told_count(block: &[u8]) -> Result<usize, BlockFault>
     requires whole { length block.now ≡ 4096 }
     ensures ok { IfOk result (λ count. count ≡ count_in block.now) }
     ensures some { IfOk result (λ count. 0 < count) }
@@ -36,6 +36,34 @@ pub fn count_of(block: &[u8]) -> Result<usize, BlockFault>
     if count == 0 || 2 + 2 * count > BLOCK_BYTES {
         return Err(broken(FormatRule::Number, 0, &block[..2]));
     }
+    Ok(count)
+}
+
+// Checks that the first of so many entries stands behind their offsets.
+fn check_start(block: &[u8], count: usize) -> Result<(), BlockFault>
+    requires whole { length block.now ≡ 4096 }
+    requires count { count ≡ count_in block.now }
+    requires within { 2 + 2 * count ≤ 4096 }
+    ensures ok { OnOk result (StartsBehind block.now) }
+    ensures seen { IfErr result (IsFault (BreaksStart block.now)) }
+{
+    if number_at(block, 2) != 2 + 2 * count {
+        return Err(broken(FormatRule::Number, 2, &block[2..4]));
+    }
+    Ok(())
+}
+
+// How many entries the block has.
+pub fn count_of(block: &[u8]) -> Result<usize, BlockFault>
+    requires whole { length block.now ≡ 4096 }
+    ensures ok { IfOk result (λ count. count ≡ count_in block.now) }
+    ensures some { IfOk result (λ count. 0 < count) }
+    ensures within { IfOk result (λ count. 2 + 2 * count ≤ 4096) }
+    ensures start { OnOk result (StartsBehind block.now) }
+    ensures seen { IfErr result (IsFault (BreaksFront block.now)) }
+{
+    let count = told_count(block)?;
+    check_start(block, count)?;
     Ok(count)
 }
 

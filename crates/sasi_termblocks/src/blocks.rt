@@ -86,7 +86,7 @@ impl Blocks {
     ) -> Result<Option<TermEntry>, ReadFault>
         requires read { CanReadOn (P.agrees pages.old) (H.view host.old) self.old.buffered }
         ensures ok { IfOk result (λ found. ReadsNext (H.view host.old) self.old.buffered.file self.old.blocks self.old.page self.old.index self.new.page self.new.index found) }
-        // In any file it is an entry of a term block, and above the one before it there.
+        // In any file it is an entry of a term block whose first entry stands behind the offsets, and above the one before it there.
         ensures stands { IfOk result (λ found. ReadsHere (H.view host.old) self.old.buffered.file self.old.page self.old.index self.new.page self.new.index found) }
         ensures damaged { IfErr result (DamageShown (H.view host.old) self.old.buffered.file (ShowsBlocks self.old.buffered.file self.old.blocks)) }
         ensures undamaged { IfErr result (NoFalseDamage (H.view host.old) self.old.buffered.file self.old.blocks) }
