@@ -28,7 +28,7 @@ use Rattle.sasi_formats.proofs.OfSize.{IsOfSize, IsRule, field_of_size, decoded_
 use Rattle.sasi_formats.proofs.Prefixes.{fixed_fits, prefixed_fails_behind, prefixed_fits, prefixed_got}
 use Rattle.sasi_termblocks.specs.Entries.{tree}
 use Rattle.sasi_indexwrite.specs.declared.footer.Footer.{Footer}
-use Rattle.sasi_indexwrite.specs.Format.{magic, mode_field, type_field, header_fields, header, header_bytes, first_field, blocks_field, levels_field, top_field, table_field, spill_field, footer_fields, footer, end_mark, footer_bytes, has_levels, has_room, is_first, is_spill, is_top}
+use Rattle.sasi_indexwrite.specs.Format.{magic, mode_field, type_field, header_fields, header, header_bytes, first_field, blocks_field, levels_field, top_field, table_field, spill_field, footer_fields, footer, end_mark, footer_bytes, has_levels, has_room, is_first, is_spill, is_top, is_term_count, terms_field}
 
 -- ---- a format after one on whose value it depends
 
@@ -115,15 +115,15 @@ pub footer_of_size : (at : ℕ) → IsOfSize (footer at) 64
 footer_of_size at =
     let two = both_of_size (number w64) (number w64) 8 8 number_of_size number_of_size in
     let tree_size = decoded_of_size rule.Number 0 _ (number w64 & number w64) 16 two in
-    let spill = λ (first : ℕ). both_of_size (spill_field first) (number w64) 16 8 (decoded_of_size rule.Place 8 (passing (is_spill first)) tree 16 tree_size) number_of_size in
-    let table = λ (first : ℕ). both_of_size table_field (spill_field first & number w64) 8 24 (fixed_of_size rule.Place (to_be_bytes w64 0)) (spill first) in
-    let top = λ (first blocks levels : ℕ). both_of_size (top_field at first blocks levels) (table_field & spill_field first & number w64) 8 32 (checked_of_size rule.Place (is_top at first blocks levels)) (table first) in
-    let levels = λ (first blocks : ℕ). then_of_size (levels_field at first blocks) (λ l. top_field at first blocks l & table_field & spill_field first & number w64) 8 40
+    let spill = λ (first blocks : ℕ). both_of_size (spill_field first) (terms_field blocks) 16 8 (decoded_of_size rule.Place 8 (passing (is_spill first)) tree 16 tree_size) (checked_of_size rule.Number (is_term_count blocks)) in
+    let table = λ (first blocks : ℕ). both_of_size table_field (spill_field first & terms_field blocks) 8 24 (fixed_of_size rule.Place (to_be_bytes w64 0)) (spill first blocks) in
+    let top = λ (first blocks levels : ℕ). both_of_size (top_field at levels) (table_field & spill_field first & terms_field blocks) 8 32 (checked_of_size rule.Place (is_top at levels)) (table first blocks) in
+    let levels = λ (first blocks : ℕ). then_of_size (levels_field at first blocks) (λ l. top_field at l & table_field & spill_field first & terms_field blocks) 8 40
     (checked_of_size rule.Number (has_levels at first blocks)) (λ l. top first blocks l) in
-    let blocks = λ (first : ℕ). then_of_size (blocks_field at first) (λ b. Then (levels_field at first b) (λ l. top_field at first b l & table_field & spill_field first & number w64)) 8 48
+    let blocks = λ (first : ℕ). then_of_size (blocks_field at first) (λ b. Then (levels_field at first b) (λ l. top_field at l & table_field & spill_field first & terms_field b)) 8 48
     (checked_of_size rule.Number (has_room at first)) (λ b. levels first b) in
     decoded_of_size rule.Number 0 _ (footer_fields at) 64
-    (then_of_size (first_field at) (λ f. Then (blocks_field at f) (λ b. Then (levels_field at f b) (λ l. top_field at f b l & table_field & spill_field f & number w64))) 8 56
+    (then_of_size (first_field at) (λ f. Then (blocks_field at f) (λ b. Then (levels_field at f b) (λ l. top_field at l & table_field & spill_field f & terms_field b))) 8 56
     (checked_of_size rule.Place (is_first at)) (λ f. blocks f))
 
 -- numbers in their ranges have bytes
@@ -139,8 +139,9 @@ pub record AreInRange (at : ℕ) (f : Footer) : Type 0 where
   pub first : is_first at f.blocks.first ≡ true
   pub blocks : has_room at f.blocks.first f.blocks.blocks ≡ true
   pub levels : has_levels at f.blocks.first f.blocks.blocks f.blocks.levels ≡ true
-  pub top : is_top at f.blocks.first f.blocks.blocks f.blocks.levels f.blocks.top ≡ true
+  pub top : is_top at f.blocks.levels f.blocks.top ≡ true
   pub spill : is_spill f.blocks.first f.spill ≡ true
+  pub terms : is_term_count f.blocks.blocks f.blocks.terms ≡ true
 
 pub footer_fits : (at : ℕ) (f : Footer) → AreInRange at f → Fits (footer at) f
 footer_fits at f are =
@@ -155,12 +156,12 @@ footer_fits at f are =
           (
             checked_fits rule.Number 8 (has_levels at first blocks) (number w64) levels (number_fits w64 levels are.low) are.levels,
             (
-              checked_fits rule.Place 8 (is_top at first blocks levels) (number w64) f.blocks.top (number_fits w64 f.blocks.top are.near) are.top,
+              checked_fits rule.Place 8 (is_top at levels) (number w64) f.blocks.top (number_fits w64 f.blocks.top are.near) are.top,
               (
                 fixed_fits rule.Place (to_be_bytes w64 0),
                 (
                   checked_fits rule.Place 8 (is_spill first) tree f.spill spill_tree are.spill,
-                  number_fits w64 f.blocks.terms are.few_terms,
+                  checked_fits rule.Number 8 (is_term_count blocks) (number w64) f.blocks.terms (number_fits w64 f.blocks.terms are.few_terms) are.terms,
                 ),
               ),
             ),

@@ -1,7 +1,7 @@
 -- The offsets of the parts of an index file.
 use Rattle.std.specs.Prelude.{◌≡◌, ℕ, zero, suc, ◌+◌, ◌-◌, ◌*◌, ◌/◌, ◌^◌, ◌<◌, ◌≤◌, true, List, [], ◌∷◌, ◌++◌, length, get_or, replicate, Some, None, refl}
 use Rattle.std.proofs.Common.{sym, ◌∙◌, ap, subst, arith, append_assoc, length-append, ⊎_elim}
-use Rattle.std.proofs.lemmas.List.{append-nil, length-replicate}
+use Rattle.std.proofs.lemmas.List.{append-nil, length-map, length-replicate}
 use Rattle.std.proofs.lemmas.Bool.Decides.{leb_tells}
 use Rattle.std.specs.List.{AllByRecursion}
 use Rattle.sasi_types.specs.declared.mode.Mode.{Mode}
@@ -16,16 +16,16 @@ use Rattle.sasi_tokentree.specs.Format.{HasTree, above, level_bytes, levels, siz
 use Rattle.sasi_tokentree.specs.Sizes.{level_length, more_levels, one_level}
 use Rattle.sasi_tokentree.proofs.Laws.{root_place}
 use Rattle.sasi_termblocks.specs.declared.term_entry.TermEntry.{TermEntry}
-use Rattle.sasi_termblocks.specs.Blocks.{IsRefOf, blocks, items_of, levels_bytes}
+use Rattle.sasi_termblocks.specs.Blocks.{IsRefOf, blocks, items_of, levels_bytes, term_item}
 use Rattle.sasi_termblocks.specs.Scans.{HasBlocks, HaveBytes, terms_of, IsRising as AreRisingTerms}
 use Rattle.sasi_termblocks.proofs.EntryLaws.{entry_fits}
-use Rattle.sasi_termblocks.proofs.Groups.{AreItems, items_are}
+use Rattle.sasi_termblocks.proofs.Groups.{AreItems, are_small, items_are}
 use Rattle.sasi_indexwrite.specs.declared.footer.Footer.{Footer}
 use Rattle.sasi_indexwrite.specs.Content.{ArePairs, IndexContent, IsTerm, TermPairs, terms_in}
 use Rattle.sasi_indexwrite.specs.Files.{IsIndexFile}
 use Rattle.sasi_indexwrite.specs.Format.{header_bytes, footer, footer_bytes, trees_bytes, entries_from, trees, entries, spill_at, spill_ref, front, next_page, padding, blocks_at, index_bytes, is_first, has_room, has_levels, is_top, is_spill}
 use Rattle.sasi_indexread.proofs.LevelSizes.{levels_are}
-use Rattle.sasi_indexread.proofs.Ranges.{first_passes, levels_pass, room_passes, spill_passes, top_passes, top_small}
+use Rattle.sasi_indexread.proofs.Ranges.{first_passes, levels_pass, room_passes, spill_passes, term_count_passes, top_passes, top_small}
 use Rattle.sasi_indexread.proofs.Fields.{footer_fits}
 
 pub footer_length : (numbers : Footer) → length (footer_bytes numbers) ≡ 72
@@ -249,12 +249,12 @@ module _ (bytes : Bytes) (content : IndexContent) (is : IsIndexFile bytes conten
           low = omega (arith, are.enough, below);
           near = omega (arith, is.referred.top_is, top_small r.levels at first (items_of (entries content)) are room is.referred.levels_are, room, below);
           first = subst (λ (n : ℕ). is_first at n ≡ true) (sym is.referred.first) (first_passes at first ((length (front content) + 4095) / 4096) are.total refl (omega (arith, front_long)) room);
-          blocks = subst (λ (n : ℕ). has_room at n r.blocks ≡ true) (sym is.referred.first) (room_passes at first r.blocks are.total room (omega (arith, is.referred.blocks_are, are.enough)));
+          blocks = subst (λ (n : ℕ). has_room at n r.blocks ≡ true) (sym is.referred.first) (room_passes r.levels at first (items_of (entries content)) are room is.referred.levels_are r.blocks is.referred.blocks_are);
           levels = subst (λ (n : ℕ). has_levels at n r.blocks r.levels ≡ true) (sym is.referred.first)
-              (levels_pass at first r.blocks r.levels are.total (items_of (entries content)) room is.referred.blocks_are (omega (arith, is.referred.blocks_are, are.enough)) is.referred.levels_are);
-          top = subst (λ (n : ℕ). is_top at n r.blocks r.levels r.top ≡ true) (sym is.referred.first)
-              (top_passes r.levels at first r.blocks r.top are.total ((length (front content) + 4095) / 4096) (items_of (entries content)) are refl room is.referred.blocks_are is.referred.levels_are is.referred.top_is);
+              (levels_pass r.levels at first (items_of (entries content)) are room is.referred.levels_are r.blocks is.referred.blocks_are);
+          top = top_passes r.levels at first r.top (items_of (entries content)) are room is.referred.levels_are is.referred.top_is;
           spill = subst (λ (n : ℕ). is_spill n (spill_ref content) ≡ true) (sym is.referred.first) (spill_passes first (spill_at content) content.spill (omega arith) (omega (arith, front_long, up)));
+          terms = term_count_passes r.blocks r.terms (items_of (entries content)) (are_small (items_of (entries content)) are_items) is.referred.blocks_are (is.referred.terms_are ∙ sym (length-map (entries content) term_item));
         })
 
     -- the trees that the file has

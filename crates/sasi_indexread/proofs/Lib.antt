@@ -1,4 +1,5 @@
 pub mod LevelSizes
+pub mod BlockCounts
 pub mod Ranges
 pub mod Fields
 pub mod Laws

@@ -6,7 +6,7 @@ ghost use Rattle.sasi_formats.specs.Fields.{number};
 ghost use Rattle.sasi_formats.specs.Gives.{Gives, TakesNoMemory};
 ghost use Rattle.sasi_formats.specs.Parts.{ReadsPart};
 ghost use Rattle.sasi_termblocks.specs.Entries.{tree};
-ghost use Rattle.sasi_indexwrite.specs.Format.{blocks_field, first_field, footer, has_levels, has_room, header, header_fields, is_first, is_spill, is_top, levels_field, mode_field, spill_field, top_field, type_field};
+ghost use Rattle.sasi_indexwrite.specs.Format.{blocks_field, first_field, footer, has_levels, has_room, header, header_fields, is_first, is_spill, is_term_count, is_top, levels_field, mode_field, spill_field, terms_field, top_field, type_field};
 
 use sasi_fields::FieldReader;
 use sasi_formats::{FieldStart, FormatFault, damage_in, expect, read_front, read_u64};
@@ -114,10 +114,10 @@ fn read_numbers(reader: &mut FieldReader, at: u64) -> Result<Footer, FormatFault
     let first = read_first(reader, at)?;
     let blocks = read_blocks(reader, at, first)?;
     let levels = read_levels(reader, at, first, blocks)?;
-    let top = read_top(reader, at, first, blocks, levels)?;
+    let top = read_top(reader, at, levels)?;
     expect(reader, FormatRule::Place, &0_u64.to_be_bytes())?;
     let spill = read_spill(reader, first)?;
-    let terms = read_u64(reader)?;
+    let terms = read_terms(reader, blocks)?;
     Ok(Footer {
         blocks: BlockRef {
             first,
@@ -134,7 +134,7 @@ fn read_numbers(reader: &mut FieldReader, at: u64) -> Result<Footer, FormatFault
 fn is_first(at: u64, first: u64) -> bool
     ensures { result ≡ is_first at first }
 {
-    first.is_multiple_of(BLOCK) && (first >= BLOCK && first <= at)
+    first.is_multiple_of(BLOCK) && (at.is_multiple_of(BLOCK) && (first >= BLOCK && first <= at))
 }
 
 // Reads the offset of the first term block.
@@ -150,11 +150,15 @@ fn read_first(reader: &mut FieldReader, at: u64) -> Result<u64, FormatFault>
     Ok(first)
 }
 
-// Whether so many blocks have room between the first one and a footer at this offset.
+// Whether so many of the blocks between the first one and a footer at this offset can be term blocks.
 fn has_room(at: u64, first: u64, blocks: u64) -> bool
     ensures { result ≡ has_room at first blocks }
 {
-    blocks <= at.saturating_sub(first) / BLOCK
+    let all = at.saturating_sub(first) / BLOCK;
+    if all <= 1 {
+        return blocks == all;
+    }
+    1 < blocks && blocks < all
 }
 
 // Reads the number of term blocks.
@@ -177,7 +181,11 @@ fn has_levels(at: u64, first: u64, blocks: u64, levels: u64) -> bool
     if blocks <= 1 {
         return levels == 0;
     }
-    0 < levels && levels <= (at.saturating_sub(first) / BLOCK).saturating_sub(blocks)
+    let pointer_blocks = (at.saturating_sub(first) / BLOCK).saturating_sub(blocks);
+    if pointer_blocks == 1 {
+        return levels == 1;
+    }
+    1 < levels && levels < pointer_blocks
 }
 
 // Reads the number of levels of pointers.
@@ -198,31 +206,24 @@ fn read_levels(
     Ok(levels)
 }
 
-// Whether the top pointer block can stand there.
-fn is_top(at: u64, first: u64, blocks: u64, levels: u64, top: u64) -> bool
-    ensures { result ≡ is_top at first blocks levels top }
+// Whether the top pointer block of so many levels stands there, in front of a footer at this offset.
+fn is_top(at: u64, levels: u64, top: u64) -> bool
+    ensures { result ≡ is_top at levels top }
 {
     if levels == 0 {
         return top == 0;
     }
-    top.is_multiple_of(BLOCK)
-        && (blocks <= top.saturating_sub(first) / BLOCK && top <= at.saturating_sub(BLOCK))
+    top == at.saturating_sub(BLOCK)
 }
 
 // Reads the offset of the top pointer block.
-fn read_top(
-    reader: &mut FieldReader,
-    at: u64,
-    first: u64,
-    blocks: u64,
-    levels: u64,
-) -> Result<u64, FormatFault>
-    ensures top { Gives (read (top_field at first blocks levels) reader.old) result reader.new }
+fn read_top(reader: &mut FieldReader, at: u64, levels: u64) -> Result<u64, FormatFault>
+    ensures top { Gives (read (top_field at levels) reader.old) result reader.new }
     ensures memory { TakesNoMemory result }
 {
     let start = FieldStart::of(reader);
     let top = read_u64(reader)?;
-    if !is_top(at, first, blocks, levels, top) {
+    if !is_top(at, levels, top) {
         return Err(start.broken(FormatRule::Place, 8));
     }
     Ok(top)
@@ -259,4 +260,27 @@ fn read_spill(reader: &mut FieldReader, first: u64) -> Result<TreeRef, FormatFau
         return Err(start.broken(FormatRule::Place, 8));
     }
     Ok(spill)
+}
+
+// Whether so many blocks can have so many terms: each has one at least.
+fn is_term_count(blocks: u64, terms: u64) -> bool
+    ensures { result ≡ is_term_count blocks terms }
+{
+    if blocks == 0 {
+        return terms == 0;
+    }
+    blocks <= terms
+}
+
+// Reads the number of terms of so many blocks.
+fn read_terms(reader: &mut FieldReader, blocks: u64) -> Result<u64, FormatFault>
+    ensures terms { Gives (read (terms_field blocks) reader.old) result reader.new }
+    ensures memory { TakesNoMemory result }
+{
+    let start = FieldStart::of(reader);
+    let terms = read_u64(reader)?;
+    if !is_term_count(blocks, terms) {
+        return Err(start.broken(FormatRule::Number, 8));
+    }
+    Ok(terms)
 }

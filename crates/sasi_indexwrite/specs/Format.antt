@@ -49,25 +49,30 @@ header_bytes mode kind = encoded header (mode, kind)
 
 -- ---- the footer, of 72 bytes
 
--- the first term block stands behind the header, on a page in front of a footer at this offset
+-- the first term block stands behind the header, on a page in front of a footer at this offset, which stands on a page too
 abbrev pub is_first : ℕ → ℕ → Bool
-is_first at first = first % 4096 == 0 && (nat_le 4096 first && nat_le first at)
+is_first at first = first % 4096 == 0 && (at % 4096 == 0 && (nat_le 4096 first && nat_le first at))
 
--- so many blocks have room between there and the footer
+-- so many of the blocks between there and the footer are term blocks: two or more have pointer blocks behind them
 abbrev pub has_room : ℕ → ℕ → ℕ → Bool
-has_room at first blocks = nat_le blocks ((at - first) / 4096)
+has_room at first blocks = if nat_le ((at - first) / 4096) 1 then blocks == (at - first) / 4096 else (nat_lt 1 blocks && nat_lt blocks ((at - first) / 4096))
 
--- two term blocks or more have levels of pointers above them, each of one block at least
+-- and the others are those of so many levels of pointers: one block is one level, and more have two blocks in the lowest one
 abbrev pub has_levels : ℕ → ℕ → ℕ → ℕ → Bool
-has_levels at first blocks levels = if nat_le blocks 1 then levels == 0 else (nat_lt 0 levels && nat_le levels ((at - first) / 4096 - blocks))
+has_levels at first blocks levels =
+    if nat_le blocks 1 then levels == 0 else (if (at - first) / 4096 - blocks == 1 then levels == 1 else (nat_lt 1 levels && nat_lt levels ((at - first) / 4096 - blocks)))
 
--- the top pointer block stands on a page behind the term blocks; 0 where there is none
-abbrev pub is_top : ℕ → ℕ → ℕ → ℕ → ℕ → Bool
-is_top at first blocks levels top = if levels == 0 then top == 0 else (top % 4096 == 0 && (nat_le blocks ((top - first) / 4096) && nat_le top (at - 4096)))
+-- the top pointer block is the last one in front of the footer; 0 where there is none
+abbrev pub is_top : ℕ → ℕ → ℕ → Bool
+is_top at levels top = if levels == 0 then top == 0 else top == at - 4096
 
 -- the root of the spill tree stands between the header and the term blocks; that of no pairs is 0
 abbrev pub is_spill : ℕ → TreeRef → Bool
 is_spill first spill = if spill.pairs == 0 then spill.root == 0 else is_node_place 16 first spill.root
+
+-- each term block has a term at least
+abbrev pub is_term_count : ℕ → ℕ → Bool
+is_term_count blocks terms = if blocks == 0 then terms == 0 else nat_le blocks terms
 
 -- the offset of the first term block, and how many there are; the levels of pointers, and the top pointer block
 abbrev pub first_field : ℕ → Format ℕ
@@ -79,8 +84,8 @@ blocks_field at first = checked rule.Number 8 (has_room at first) (number w64)
 abbrev pub levels_field : ℕ → ℕ → ℕ → Format ℕ
 levels_field at first blocks = checked rule.Number 8 (has_levels at first blocks) (number w64)
 
-abbrev pub top_field : ℕ → ℕ → ℕ → ℕ → Format ℕ
-top_field at first blocks levels = checked rule.Place 8 (is_top at first blocks levels) (number w64)
+abbrev pub top_field : ℕ → ℕ → Format ℕ
+top_field at levels = checked rule.Place 8 (is_top at levels) (number w64)
 
 -- the offset of a table that only an index of the mode SPARSE has
 abbrev pub table_field : Format (Unit {0})
@@ -90,11 +95,15 @@ table_field = fixed rule.Place (to_be_bytes w64 0)
 abbrev pub spill_field : ℕ → Format TreeRef
 spill_field first = checked rule.Place 8 (is_spill first) tree
 
--- all of them, and the number of terms
+-- the number of terms
+abbrev pub terms_field : ℕ → Format ℕ
+terms_field blocks = checked rule.Number 8 (is_term_count blocks) (number w64)
+
+-- all of them
 abbrev pub footer_fields : ℕ → Format (ℕ × (ℕ × (ℕ × (ℕ × (Unit {0} × (TreeRef × ℕ))))))
 footer_fields at =
     Then (first_field at) (λ first. Then (blocks_field at first) (λ blocks. Then (levels_field at first blocks) (λ levels.
-    top_field at first blocks levels & table_field & spill_field first & number w64)))
+    top_field at levels & table_field & spill_field first & terms_field blocks)))
 
 -- the numbers of a footer at this offset
 abbrev pub footer : ℕ → Format Footer
