@@ -1,5 +1,5 @@
 -- The faults of a block's entries.
-use Rattle.std.proofs.Common.{◌≡◌, ℕ, ◌+◌, ◌≤◌, ◌-◌, length, take, drop, min, false, sym, ap, ◌∙◌, subst, arith, length-drop, inl, inr}
+use Rattle.std.proofs.Common.{◌≡◌, ℕ, Bool, ◌+◌, ◌≤◌, ◌-◌, length, take, drop, min, false, sym, ap, ◌∙◌, subst, arith, length-drop, inl, inr}
 use Rattle.std.proofs.lemmas.List.{drop_min, take_rest}
 use Rattle.sasi_fields.specs.Reading.{Reading}
 use Rattle.std.specs.Prelude.{◌⊎◌}
@@ -21,7 +21,7 @@ use Rattle.sasi_termblocks.specs.declared.fault.BlockFault.TheVariants.{OutOfMem
 use Rattle.sasi_termblocks.specs.Entries.{is_below, term, term_entry}
 use Rattle.sasi_termblocks.specs.Windows.{BreaksEntry, HasEntry, IsFault, bytes_in, offset_in}
 use Rattle.sasi_termblocks.specs.Windows.BreaksEntry.{offset, field}
-use Rattle.sasi_termblocks.specs.BlockFaults.{BreaksUpTo, HasPlace, IsBrokenAt, IsMoved, IsNear, IsPlaced}
+use Rattle.sasi_termblocks.specs.BlockFaults.{BreaksUpTo, HasPlace, IsBrokenAt, IsMisplaced, IsMoved, IsNear, IsPlaced}
 use Rattle.sasi_termblocks.specs.Descents.{pointer_to}
 
 -- the offset of a fault that a format tells lies within the block
@@ -143,3 +143,15 @@ order_fault block index last before after at seen (Broken b) is has_before has_a
   ),
   near,
 )
+
+-- an entry where the way to it tells otherwise
+pub misplaced_fault : (test : Bool) (index : ℕ) (sought block entry : Bytes) (now : BlockFault) → HasEntry term block index entry → is_below entry sought ≡ test → IsBrokenAt rule.Order (offset_in block index) (take 8 (bytes_in block index)) now
+    → IsNear now → IsFault (IsMisplaced test index sought block) now
+misplaced_fault test index sought block entry OutOfMemory has compared broken near = tt
+misplaced_fault test index sought block entry (Broken b) has compared broken near =
+    (record { entry = entry; has = has; compared = compared; rule_is = broken.0; at_is = broken.1; seen_is = broken.2 }, near)
+
+pub order_at : (block : Bytes) (index at : ℕ) (seen : Bytes) (now : BlockFault) → at ≡ offset_in block index → seen ≡ take 8 (bytes_in block index) → IsBrokenAt rule.Order at seen now
+    → IsBrokenAt rule.Order (offset_in block index) (take 8 (bytes_in block index)) now
+order_at block index at seen OutOfMemory at_is seen_is broken = broken
+order_at block index at seen (Broken b) at_is seen_is broken = (broken.0, broken.1 ∙ at_is, broken.2 ∙ seen_is)

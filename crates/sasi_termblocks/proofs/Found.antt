@@ -9,8 +9,9 @@ use Rattle.sasi_host.proofs.Offsets.{same_at}
 use Rattle.sasi_formats.specs.Formats.{Format, Fits, encoded}
 use Rattle.sasi_formats.specs.Reader.{Corruption, Short, Long, Broken, start}
 use Rattle.sasi_formats.specs.Failures.{Fails}
-use Rattle.sasi_formats.proofs.Agreement.{is_encoded}
-use Rattle.sasi_termblocks.specs.Entries.{is_below, term}
+use Rattle.sasi_formats.proofs.Agreement.{is_encoded, reads_exactly}
+use Rattle.sasi_termblocks.specs.declared.term_entry.TermEntry.{TermEntry}
+use Rattle.sasi_termblocks.specs.Entries.{is_below, term, term_entry}
 use Rattle.sasi_termblocks.specs.Blocks.{Item, block, size}
 use Rattle.sasi_termblocks.specs.Windows.{BreaksEntry, HasEntry, IsBound, bytes_in}
 use Rattle.sasi_termblocks.specs.Windows.BreaksEntry.{offset, field}
@@ -67,6 +68,13 @@ value_stands format group index d v le lt is =
 pub value_begins : {A : Type 0} (format : Format A) (group : List Item) (index : ℕ) (d : Item) (v : A) → size group ≤ 4096 → index < length group → (get_or group index d).bytes ≡ encoded format v → Fits format v → HasEntry format (block group) index v
 value_begins format group index d v le lt is fits =
     entry_read format (block group) index v (encoded format v) [] (is_encoded format v (encoded format v) fits refl) (value_stands format group index d v le lt is)
+
+-- an entry that was read begins with its term
+pub entry_begins : (block : Bytes) (index : ℕ) (e : TermEntry) → HasEntry term_entry block index e → HasEntry term block index e.term
+entry_begins block index e has =
+    let next = (reads_exactly term_entry (start (bytes_in block index)) has.0 e).0 has.1 in
+    let parts = next.is.is in
+    entry_read term block index e.term parts.front parts.behind parts.starts (record { behind = has.0.left; is = next.passes.next ∙ ap (λ (l : Bytes). l ++ has.0.left) parts.whole })
 
 -- no such entry is broken
 pub value_sound : {A : Type 0} (format : Format A) (group : List Item) (index : ℕ) (d : Item) (v : A) (broken : FormatRule) (at : ℕ) (seen : Bytes) → size group ≤ 4096 → index < length group → (get_or group index d).bytes ≡ encoded format v → Fits format v

@@ -13,5 +13,6 @@ pub mod Shown
 pub mod Steps
 pub mod Descent
 pub mod Sound
+pub mod Led
 pub mod PointersSound
 pub mod Callers

@@ -1,5 +1,5 @@
 -- Pointer blocks in the format break no rule, and so neither do all the blocks.
-use Rattle.std.proofs.Common.{◌≡◌, ℕ, zero, suc, ◌+◌, ◌-◌, ◌*◌, ◌/◌, ◌%◌, ◌^◌, ◌<◌, ◌≤◌, Bool, true, false, ◌&&◌, List, [], length, sym, ap, ◌∙◌, subst, arith, rules, inl, inr, ⊎_elim}
+use Rattle.std.proofs.Common.{◌≡◌, ℕ, zero, suc, ◌+◌, ◌-◌, ◌*◌, ◌/◌, ◌%◌, ◌^◌, ◌<◌, ◌≤◌, Bool, true, false, ◌&&◌, List, [], length, refl, sym, ap, ◌∙◌, subst, arith, rules, inl, inr, ⊎_elim}
 use Rattle.std.proofs.lemmas.Bool.Decides.{leb_tells}
 use Rattle.std.proofs.lemmas.List.{length-map}
 use Rattle.std.specs.Prelude.{get_or, ◌==◌, nat_le, nat_lt, if◌then◌else◌}
@@ -24,7 +24,8 @@ use Rattle.sasi_termblocks.specs.Blocks.{Item, EndsAfter, above, block, blocks, 
 use Rattle.sasi_termblocks.specs.Windows.{HasEntry, count_in}
 use Rattle.sasi_termblocks.specs.Damages.{BreaksPointers, BreaksTerms, Leads, ShowsBlocks}
 use Rattle.sasi_termblocks.specs.Damages.ShowsBlock.{ends, breaks}
-use Rattle.sasi_termblocks.specs.Damages.ShowsBlocks.{ends_early, in_terms, in_pointers}
+use Rattle.sasi_termblocks.specs.Damages.ShowsBlocks.{ends_early, in_terms, in_pointers, behind_terms, led_too_far, led_too_near}
+use Rattle.sasi_termblocks.specs.BlockFaults.{BreaksFirstPointer}
 use Rattle.sasi_termblocks.specs.Damages.Leads.{top, down}
 use Rattle.sasi_termblocks.specs.Descents.{high_page, is_place, level_at, level_items, low_page, page_of_top, pointer_to}
 use Rattle.sasi_termblocks.specs.Scans.{HasBlocks, NoFalseDamage, start_of}
@@ -32,7 +33,8 @@ use Rattle.sasi_termblocks.proofs.CutLaws.{all_blocks}
 use Rattle.sasi_termblocks.proofs.LevelLaws.{pointer_at, pointers_length}
 use Rattle.sasi_termblocks.proofs.BlockLaws.{count_is}
 use Rattle.sasi_termblocks.proofs.Groups.{AreItems, IsItem, are_small, block_every, blocks_length, every_at, is_block, item_at, item_within, joined, joined_blocks}
-use Rattle.sasi_termblocks.proofs.Levels.{at_up, items_up, level_are, level_block, level_stands}
+use Rattle.sasi_termblocks.proofs.Led.{led_for, not_too_far, not_too_near}
+use Rattle.sasi_termblocks.proofs.Levels.{at_up, items_up, level_are, level_block, level_stands, some_blocks}
 use Rattle.sasi_termblocks.proofs.Found.{value_sound}
 use Rattle.sasi_termblocks.proofs.Children.{all_items, page_block, pointer_is}
 use Rattle.sasi_termblocks.proofs.Descent.{high_is, level_aligned, low_is, top_for}
@@ -156,6 +158,53 @@ pointers_sound bytes r entries level page rule_ at_seen seen has on (inr entry) 
     value_sound (pointer_to (low_page r (suc level)) (high_page r (suc level) page)) group_here index d (least_n, place_n) rule_ at_seen seen one.fits within (ap (λ (i : Item). i.bytes) item_is)
     (term_fits, checked_fits rule.Place 8 (is_place (low_page r (suc level)) (high_page r (suc level) page)) (number w64) place_n (number_fits w64 place_n short) test) entry.2
 
+-- ---- the first pointer block
+
+module _ (bytes : Bytes) (r : BlockRef) (entries : List TermEntry) (has : HasBlocks bytes r entries) (some : 0 < r.levels) where
+  first_level : 0 < length (blocks (level_items (suc zero) r.first (items_of entries)))
+  first_level =
+      let items = items_of entries in
+      let any = ends_some r.levels r.first items some has.referred.levels_are in
+      some_blocks (above r.first items) (omega (arith, any, pointers_length r.first (leasts items), length-map (blocks items) least))
+
+  first_page : (page : ℕ) → page ≡ r.first / 4096 + r.blocks → 4096 * page ≡ level_at (suc zero) r.first (items_of entries) + 4096 * 0
+  first_page page page_is =
+      let at_is : level_at (suc zero) r.first (items_of entries) ≡ r.first + 4096 * length (blocks (items_of entries)) = refl in
+      omega (arith, page_is, has.aligned, has.referred.blocks_are, at_is)
+
+  -- it begins with a pointer to the first term block
+  first_sound : (rule_ : FormatRule) (at_seen : ℕ) (seen : Bytes) → BreaksFirstPointer (r.first / 4096) (block (get_or (blocks (level_items (suc zero) r.first (items_of entries))) 0 [])) rule_ at_seen seen → ⊥
+  first_sound rule_ at_seen seen (inl front) =
+      let items = items_of entries in
+      let up = level_items (suc zero) r.first items in
+      front_sound (get_or (blocks up) 0 []) rule_ at_seen seen (is_block (blocks up) 0 (all_blocks up (are_small up (level_are (suc zero) r.first items (all_items bytes r entries has)))) first_level) front
+  first_sound rule_ at_seen seen (inr entry) =
+      let items = items_of entries in
+      let are = all_items bytes r entries has in
+      let up = above r.first items in
+      let up_are : AreItems up = level_are (suc zero) r.first items are in
+      let lt : 0 < length (blocks up) = first_level in
+      let group_here = get_or (blocks up) 0 [] in
+      let one = is_block (blocks up) 0 (all_blocks up (are_small up up_are)) lt in
+      let d : Item = record { term = []; bytes = [] } in
+      let n = start_of (blocks up) 0 + 0 in
+      let inside = item_within (blocks up) 0 0 lt one.some in
+      let count : length (joined (blocks up)) ≡ length (leasts items) = ap (λ (l : List Item). length l) (joined_blocks up) ∙ pointers_length r.first (leasts items) in
+      let least_n = get_or (leasts items) n [] in
+      let place_n = r.first + 4096 * n in
+      let begins : n ≡ 0 = refl in
+      let item_is : get_or group_here 0 d ≡ pointer_item least_n place_n =
+      sym (item_at (blocks up) 0 0 d lt one.some) ∙ ap (λ (l : List Item). get_or l n d) (joined_blocks up) ∙ pointer_at r.first (leasts items) n d (omega (arith, inside, count)) in
+      let own = every_at IsItem group_here 0 d (block_every IsItem up 0 up_are) one.some in
+      let term_fits : Fits term least_n = subst (λ (i : Item). Fits term i.term) item_is own.fits in
+      let fits : n < length (blocks items) = omega (arith, inside, count, length-map (blocks items) least) in
+      let stands = level_block zero r.levels r.first items bytes n (omega arith) are has.stands fits in
+      let short : place_n < 2 ^ 64 = omega (arith, at_ends bytes place_n (block (get_or (blocks items) n [])) stands, has.short) in
+      let page = r.first / 4096 in
+      let test : is_place page (page + 1) place_n ≡ true = place_passes page (page + 1) place_n (omega (arith, begins, has.aligned)) (omega (arith, begins)) (omega (arith, begins)) in
+      value_sound (pointer_to page (page + 1)) group_here 0 d (least_n, place_n) rule_ at_seen seen one.fits one.some (ap (λ (i : Item). i.bytes) item_is)
+      (term_fits, checked_fits rule.Place 8 (is_place page (page + 1)) (number w64) place_n (number_fits w64 place_n short) test) entry
+
 -- no corruption is shown of blocks in the format
 pub blocks_sound : (file : FileName) (bytes : Bytes) (r : BlockRef) (entries : List TermEntry) (damage : Damage) → HasBlocks bytes r entries → ShowsBlocks file r bytes damage → ⊥
 blocks_sound file bytes r entries damage has (ends_early early) =
@@ -180,6 +229,13 @@ blocks_sound file bytes r entries damage has (in_pointers (suc level) page some 
     let window_is = page_block bytes window r entries (suc level) on.group page has on.le on.lt on.is stands long in
     pointers_sound bytes r entries level page damage.rule at (seen_bytes damage.seen) has on
     (subst (λ (w : Bytes). BreaksPointers (low_page r (suc level)) (high_page r (suc level) page) w damage.rule at (seen_bytes damage.seen)) window_is broken)
+blocks_sound file bytes r entries damage has (behind_terms some (ends early)) =
+    omega (arith, early.short, block_ends bytes r entries has (suc zero) 0 (r.first / 4096 + r.blocks) (omega (arith, some)) (first_level bytes r entries has some) (first_page bytes r entries has some (r.first / 4096 + r.blocks) refl))
+blocks_sound file bytes r entries damage has (behind_terms some (breaks window at named stands long at_is broken)) =
+    let window_is = page_block bytes window r entries (suc zero) 0 (r.first / 4096 + r.blocks) has (omega (arith, some)) (first_level bytes r entries has some) (first_page bytes r entries has some (r.first / 4096 + r.blocks) refl) stands long in
+    first_sound bytes r entries has some damage.rule at (seen_bytes damage.seen) (subst (λ (w : Bytes). BreaksFirstPointer (r.first / 4096) w damage.rule at (seen_bytes damage.seen)) window_is broken)
+blocks_sound file bytes r entries damage has (led_too_far sought page leads past shown) = not_too_far file bytes r entries damage sought has page (led_for bytes r entries sought 0 page has leads) past shown
+blocks_sound file bytes r entries damage has (led_too_near sought page index leads within shown) = not_too_near file bytes r entries damage sought has page index leads within shown
 
 pub no_false : (v : View) (file : FileName) (r : BlockRef) (f : ReadFault) → DamageShown v file (ShowsBlocks file r) f → NoFalseDamage v file r f
 no_false v file r fault.Failed shown = tt

@@ -1,5 +1,5 @@
 -- The corruption of a block is that of the file.
-use Rattle.std.proofs.Common.{◌≡◌, ℕ, ◌+◌, ◌*◌, ◌/◌, ◌<◌, ◌≤◌, ◌^◌, length, take, drop, Option, None, Some, ⊎_elim, sym, ap, ◌∙◌, subst, arith, inl, inr}
+use Rattle.std.proofs.Common.{◌≡◌, ℕ, ◌+◌, ◌*◌, ◌/◌, ◌<◌, ◌≤◌, ◌^◌, length, take, drop, [], ◌∷◌, true, Option, None, Some, ⊎_elim, sym, ap, ◌∙◌, subst, arith, inl, inr}
 use Rattle.std.specs.Prelude.{◌⊎◌}
 use Rattle.std.proofs.Common.{length-drop}
 use Rattle.std.proofs.lemmas.List.{length-take, take-take}
@@ -18,12 +18,12 @@ use Rattle.sasi_host.proofs.DamageLaws.{end_shown, shown_as, shown_before}
 use Rattle.sasi_termblocks.specs.declared.fault.BlockFault.{BlockFault}
 use Rattle.sasi_termblocks.specs.declared.fault.BlockFault.TheVariants.{OutOfMemory, Broken}
 use Rattle.sasi_termblocks.specs.declared.block_ref.BlockRef.{BlockRef}
-use Rattle.sasi_termblocks.specs.Entries.{term}
+use Rattle.sasi_termblocks.specs.Entries.{is_below, term}
 use Rattle.sasi_termblocks.specs.Windows.{IsFault, count_in}
-use Rattle.sasi_termblocks.specs.BlockFaults.{BreaksSome, BreaksUpTo, IsNear}
-use Rattle.sasi_termblocks.specs.Damages.{BreaksPointers, BreaksTerms, IsLifted, Leads, ShowsBlock, ShowsBlocks}
+use Rattle.sasi_termblocks.specs.BlockFaults.{BreaksFirstPointer, BreaksLeast, BreaksSome, BreaksUpTo, IsMisplaced, IsNear}
+use Rattle.sasi_termblocks.specs.Damages.{BreaksGiven, BreaksPointers, BreaksSplit, BreaksTerms, IsLifted, Leads, LeadsFor, LeadsTo, ShowsBlock, ShowsBlocks, ShowsGiven}
 use Rattle.sasi_termblocks.specs.Damages.ShowsBlock.{ends, breaks}
-use Rattle.sasi_termblocks.specs.Damages.ShowsBlocks.{in_terms, in_pointers, ends_early}
+use Rattle.sasi_termblocks.specs.Damages.ShowsBlocks.{in_terms, in_pointers, ends_early, behind_terms, led_too_far, led_too_near}
 use Rattle.sasi_termblocks.specs.declared.term_entry.TermEntry.{TermEntry}
 use Rattle.sasi_termblocks.specs.Descents.{high_page, low_page}
 use Rattle.sasi_termblocks.specs.Scans.{GivesEntry, ReadsHere}
@@ -48,6 +48,10 @@ pointers_broken low high block count r at seen is some = inr (some.0, omega (ari
 pub order_broken : (block : Bytes) (index : ℕ) (r : FormatRule) (at : ℕ) (seen : Bytes) → index < count_in block → BreaksUpTo block index r at seen → BreaksTerms block r at seen
 order_broken block index r at seen lt (inl some) = inr (inl (some.0, omega (arith, some.1, lt), entry_breaks block some.0 r at seen some.2))
 order_broken block index r at seen lt (inr two) = inr (inr (two.0, omega (arith, two.1, lt), two.2))
+
+pub least_broken : (index : ℕ) (least block : Bytes) (r : FormatRule) (at : ℕ) (seen : Bytes) → index < count_in block → BreaksLeast index least block r at seen → BreaksGiven index least block r at seen
+least_broken index least block r at seen lt (inl broken) = inl (inr (inl (index, lt, entry_breaks block index r at seen broken)))
+least_broken index least block r at seen lt (inr misplaced) = inr misplaced
 
 -- ---- in the file
 
@@ -98,6 +102,60 @@ pub pointers_shown : (v : View) (file : FileName) (r : BlockRef) (level page : �
     → DamageShown v file (ShowsBlock (BreaksPointers (low_page r level) (high_page r level page)) file page) f → DamageShown v file (ShowsBlocks file r) f
 pointers_shown v file r level page f some leads shown =
     shown_as (ShowsBlock (BreaksPointers (low_page r level) (high_page r level page)) file page) (ShowsBlocks file r) v file f (λ bytes damage is block. in_pointers level page some (leads bytes is) block) shown
+
+-- the first pointer block
+pub behind_shown : (v : View) (file : FileName) (r : BlockRef) (f : ReadFault) → 0 < r.levels → DamageShown v file (ShowsBlock (BreaksFirstPointer (r.first / 4096)) file (r.first / 4096 + r.blocks)) f → DamageShown v file (ShowsBlocks file r) f
+behind_shown v file r f some shown =
+    shown_as (ShowsBlock (BreaksFirstPointer (r.first / 4096)) file (r.first / 4096 + r.blocks)) (ShowsBlocks file r) v file f (λ bytes damage is block. behind_terms some block) shown
+
+-- a block to which the pointers lead
+split_shows : (file : FileName) (r : BlockRef) (sought : Bytes) (page : ℕ) (bytes : Bytes) (damage : Damage) → r.first / 4096 ≤ page → page < r.first / 4096 + r.blocks → LeadsFor bytes r sought 0 page
+    → ShowsBlock (BreaksSplit (r.first / 4096) page sought) file page bytes damage → ShowsBlocks file r bytes damage
+split_shows file r sought page bytes damage low high leads (ends early) = in_terms page low high (ends early)
+split_shows file r sought page bytes damage low high leads (breaks window at named stands long at_is (inl broken)) = in_terms page low high (breaks window at named stands long at_is broken)
+split_shows file r sought page bytes damage low high leads (breaks window at named stands long at_is (inr late)) = led_too_far sought page leads late.0 (breaks window at named stands long at_is late.1)
+
+pub split_shown : (v : View) (file : FileName) (r : BlockRef) (sought : Bytes) (page : ℕ) (f : ReadFault) → r.first / 4096 ≤ page → page < r.first / 4096 + r.blocks → ((bytes : Bytes) → contents v file ≡ Some bytes → LeadsFor bytes r sought 0 page)
+    → DamageShown v file (ShowsBlock (BreaksSplit (r.first / 4096) page sought) file page) f → DamageShown v file (ShowsBlocks file r) f
+split_shown v file r sought page f low high leads shown =
+    shown_as (ShowsBlock (BreaksSplit (r.first / 4096) page sought) file page) (ShowsBlocks file r) v file f (λ bytes damage is block. split_shows file r sought page bytes damage low high (leads bytes is) block) shown
+
+-- a block of which an entry is given
+given_shows : (file : FileName) (r : BlockRef) (page index : ℕ) (least bytes : Bytes) (damage : Damage) → r.first / 4096 ≤ page → page < r.first / 4096 + r.blocks → ShowsBlock (BreaksGiven index least) file page bytes damage
+    → ShowsGiven file r page index least bytes damage
+given_shows file r page index least bytes damage low high (ends early) = inl (in_terms page low high (ends early))
+given_shows file r page index least bytes damage low high (breaks window at named stands long at_is (inl broken)) = inl (in_terms page low high (breaks window at named stands long at_is broken))
+given_shows file r page index least bytes damage low high (breaks window at named stands long at_is (inr early)) = inr (high, breaks window at named stands long at_is early)
+
+pub given_shown : (v : View) (file : FileName) (r : BlockRef) (page index : ℕ) (least : Bytes) (f : ReadFault) → r.first / 4096 ≤ page → page < r.first / 4096 + r.blocks → DamageShown v file (ShowsBlock (BreaksGiven index least) file page) f
+    → DamageShown v file (ShowsGiven file r page index least) f
+given_shown v file r page index least f low high shown =
+    shown_as (ShowsBlock (BreaksGiven index least) file page) (ShowsGiven file r page index least) v file f (λ bytes damage is block. given_shows file r page index least bytes damage low high block) shown
+
+pub given_all : (v : View) (file : FileName) (r : BlockRef) (page index : ℕ) (least : Bytes) (f : ReadFault) → DamageShown v file (ShowsBlocks file r) f → DamageShown v file (ShowsGiven file r page index least) f
+given_all v file r page index least f shown = shown_as (ShowsBlocks file r) (ShowsGiven file r page index least) v file f (λ bytes damage is all. inl all) shown
+
+-- where the pointers lead to it
+pub found_shown : (v : View) (file : FileName) (r : BlockRef) (page index : ℕ) (sought : Bytes) (f : ReadFault) → ((bytes : Bytes) → contents v file ≡ Some bytes → LeadsTo bytes r sought page index)
+    → DamageShown v file (ShowsGiven file r page index sought) f → DamageShown v file (ShowsBlocks file r) f
+found_shown v file r page index sought f leads shown =
+    shown_as (ShowsGiven file r page index sought) (ShowsBlocks file r) v file f (λ bytes damage is shows. ⊎_elim (λ all. all) (λ early. led_too_near sought page index (leads bytes is) early.0 early.1) shows) shown
+
+-- or where the entry needs to be above none
+none_below : (t : Bytes) → is_below t [] ≡ true → ⊥
+none_below [] is = absurd cc
+none_below (b ∷ others) is = absurd cc
+
+next_block : (file : FileName) (r : BlockRef) (page index : ℕ) (bytes : Bytes) (damage : Damage) → r.first / 4096 ≤ page → page < r.first / 4096 + r.blocks → ShowsBlock (IsMisplaced true index []) file page bytes damage → ShowsBlocks file r bytes damage
+next_block file r page index bytes damage low high (ends early) = in_terms page low high (ends early)
+next_block file r page index bytes damage low high (breaks window at named stands long at_is early) = absurd (none_below early.entry early.compared)
+
+next_shows : (file : FileName) (r : BlockRef) (page index : ℕ) (bytes : Bytes) (damage : Damage) → r.first / 4096 ≤ page → ShowsGiven file r page index [] bytes damage → ShowsBlocks file r bytes damage
+next_shows file r page index bytes damage low (inl all) = all
+next_shows file r page index bytes damage low (inr both) = next_block file r page index bytes damage low both.0 both.1
+
+pub next_shown : (v : View) (file : FileName) (r : BlockRef) (page index : ℕ) (f : ReadFault) → r.first / 4096 ≤ page → DamageShown v file (ShowsGiven file r page index []) f → DamageShown v file (ShowsBlocks file r) f
+next_shown v file r page index f low shown = shown_as (ShowsGiven file r page index []) (ShowsBlocks file r) v file f (λ bytes damage is shows. next_shows file r page index bytes damage low shows) shown
 
 -- an entry that a block gives
 pub here_given : (v : View) (file : FileName) (page index new_page new_index : ℕ) (window : Bytes) (found : Option TermEntry) → ((bytes : Bytes) → contents v file ≡ Some bytes → HasAt bytes (4096 * page) window)

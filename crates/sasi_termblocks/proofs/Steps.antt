@@ -32,7 +32,7 @@ leads_on bytes window r level page low high index place some leads stands long l
     let up : level ≡ level - 1 + 1 = omega (arith, some) in
     down (level - 1) (place / 4096) page index window has.0 place (subst (λ (n : ℕ). Leads bytes r n page) up leads) stands long lt (pointer_kept low high window index has.0 place has.1).0 refl
 
-terms_same : (l : List TermEntry) → terms_in (items_of l) ≡ terms_of l
+pub terms_same : (l : List TermEntry) → terms_in (items_of l) ≡ terms_of l
 terms_same [] = refl
 terms_same (e ∷ others) = ap (λ (rest : List Bytes). e.term ∷ rest) (terms_same others)
 

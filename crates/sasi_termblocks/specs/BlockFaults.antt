@@ -11,7 +11,7 @@ use Rattle.sasi_termblocks.specs.declared.fault.BlockFault.{BlockFault}
 use Rattle.sasi_termblocks.specs.declared.fault.BlockFault.TheVariants.{OutOfMemory, Broken}
 use Rattle.sasi_termblocks.specs.Entries.{is_below, term}
 use Rattle.sasi_termblocks.specs.Descents.{pointer_to}
-use Rattle.sasi_termblocks.specs.Windows.{BreaksEntry, BreaksOrder, HasEntry, offset_in}
+use Rattle.sasi_termblocks.specs.Windows.{BreaksEntry, BreaksFront, BreaksOrder, HasEntry, bytes_in, offset_in}
 
 -- the place is that of a pointer with some term
 abbrev pub HasPlace : ℕ → ℕ → Bytes → ℕ → ℕ → Type 0
@@ -32,6 +32,27 @@ IsAboveLast block index = (last : ℕ) → index ≡ last + 1 → (a b : Bytes) 
 -- the entry or the one before is broken, or the two don't rise
 abbrev pub BreaksUpTo : Bytes → ℕ → FormatRule → ℕ → Bytes → Type 0
 BreaksUpTo block index broken at seen = BreaksSome term block (index + 1) broken at seen ⊎ ((last : ℕ) × (index ≡ last + 1) × BreaksOrder block last broken at seen)
+
+-- an entry's term isn't below this one
+abbrev pub IsAtLeast : Bytes → ℕ → Bytes → Type 0
+IsAtLeast block index least = (t : Bytes) × HasEntry term block index t × (is_below t least ≡ false)
+
+-- an entry's term is below a term that is sought, or isn't, where the way to it tells otherwise
+pub record IsMisplaced (test : Bool) (index : ℕ) (sought : Bytes) (block : Bytes) (broken : FormatRule) (at : ℕ) (seen : Bytes) : Type 0 where
+  pub entry : Bytes
+  pub has : HasEntry term block index entry
+  pub compared : is_below entry sought ≡ test
+  pub rule_is : broken ≡ rule.Order
+  pub at_is : at ≡ offset_in block index
+  pub seen_is : seen ≡ take 8 (bytes_in block index)
+
+-- an entry is broken, or its term is below this one
+abbrev pub BreaksLeast : ℕ → Bytes → Bytes → FormatRule → ℕ → Bytes → Type 0
+BreaksLeast index least block broken at seen = BreaksEntry term block index broken at seen ⊎ IsMisplaced true index least block broken at seen
+
+-- what breaks the first pointer block, whose first pointer leads to this page
+abbrev pub BreaksFirstPointer : ℕ → Bytes → FormatRule → ℕ → Bytes → Type 0
+BreaksFirstPointer page block broken at seen = BreaksFront block broken at seen ⊎ BreaksEntry (pointer_to page (page + 1)) block 0 broken at seen
 
 -- the fault's offset is that of a number of two bytes, and within a block from there
 abbrev pub IsNear : BlockFault → Type 0

@@ -1,5 +1,5 @@
 -- Where a file breaks the format of blocks, and what is there.
-use Rattle.std.specs.Prelude.{◌≡◌, ◌⊎◌, ℕ, ◌+◌, ◌*◌, ◌/◌, ◌<◌, ◌≤◌, length}
+use Rattle.std.specs.Prelude.{◌≡◌, ◌⊎◌, ℕ, ◌+◌, ◌-◌, ◌*◌, ◌/◌, ◌<◌, ◌≤◌, nat_lt, if◌then◌else◌, true, false, length}
 use Rattle.sasi_host.specs.declared.name.FileName.{FileName}
 use Rattle.sasi_host.specs.declared.damage.Damage.{Damage}
 use Rattle.sasi_host.specs.declared.damage.FormatRule.{FormatRule}
@@ -11,8 +11,9 @@ use Rattle.sasi_termblocks.specs.declared.block_ref.BlockRef.{BlockRef}
 use Rattle.sasi_termblocks.specs.declared.fault.BlockFault.{BlockFault}
 use Rattle.sasi_termblocks.specs.declared.fault.BlockFault.TheVariants.{OutOfMemory, Broken}
 use Rattle.sasi_termblocks.specs.Entries.{pointer, term_entry}
-use Rattle.sasi_termblocks.specs.Windows.{BreaksEntry, BreaksFront, BreaksOrder, HasEntry, count_in}
-use Rattle.sasi_termblocks.specs.Descents.{high_page, low_page, pointer_to}
+use Rattle.sasi_termblocks.specs.Windows.{BreaksEntry, BreaksFront, BreaksOrder, HasEntry, IsBound, count_in}
+use Rattle.sasi_termblocks.specs.Descents.{high_page, low_page, page_of_top, pointer_to}
+use Rattle.sasi_termblocks.specs.BlockFaults.{BreaksFirstPointer, HasPlace, IsMisplaced}
 
 -- ---- the faults of a block in its file
 
@@ -37,6 +38,14 @@ BreaksPointers low high block broken at seen =
     BreaksFront block broken at seen
     ⊎ ((index : ℕ) × (index < count_in block) × BreaksEntry (pointer_to low high) block index broken at seen)
 
+-- what breaks a term block to which pointers lead for a term: where it isn't the first one, its first entry is below the term
+abbrev pub BreaksSplit : ℕ → ℕ → Bytes → Bytes → FormatRule → ℕ → Bytes → Type 0
+BreaksSplit first page sought block broken at seen = BreaksTerms block broken at seen ⊎ ((first < page) × IsMisplaced false 0 sought block broken at seen)
+
+-- and what breaks one of which an entry is given that isn't below this term
+abbrev pub BreaksGiven : ℕ → Bytes → Bytes → FormatRule → ℕ → Bytes → Type 0
+BreaksGiven index least block broken at seen = BreaksTerms block broken at seen ⊎ IsMisplaced true index least block broken at seen
+
 -- the damage is that of this file, in which a block on the page breaks a rule so, or which ends within it
 pub data ShowsBlock (Breaks : Bytes → FormatRule → ℕ → Bytes → Type 0) (file : FileName) (page : ℕ) (bytes : Bytes) (damage : Damage) : Type 0 where
   ends : ShowsEnd (4096 * page + 4096) file bytes damage → ShowsBlock Breaks file page bytes damage
@@ -49,6 +58,24 @@ pub data Leads (bytes : Bytes) (ref : BlockRef) : ℕ → ℕ → Type 0 where
   down : (level page from index : ℕ) (block t : Bytes) (place : ℕ) → Leads bytes ref (level + 1) from → HasAt bytes (4096 * from) block → length block ≡ 4096
       → index < count_in block → HasEntry pointer block index (t, place) → page ≡ place / 4096 → Leads bytes ref level page
 
+-- so they do in a search for a term: at each block it takes the last pointer with a term below, or the first one
+pub data LeadsFor (bytes : Bytes) (ref : BlockRef) (sought : Bytes) : ℕ → ℕ → Type 0 where
+  from_top : (level page : ℕ) → 0 < ref.blocks → level ≡ ref.levels → page ≡ page_of_top ref → LeadsFor bytes ref sought level page
+  further_down : (level page from below place : ℕ) (block : Bytes) → LeadsFor bytes ref sought (level + 1) from → HasAt bytes (4096 * from) block → length block ≡ 4096
+      → IsBound block (count_in block) sought below → HasPlace (low_page ref (level + 1)) (high_page ref (level + 1) from) block (below - 1) place → page ≡ place / 4096 → LeadsFor bytes ref sought level page
+
+-- and in the term block on to the first entry that isn't below
+pub record LeadsTo (bytes : Bytes) (ref : BlockRef) (sought : Bytes) (page index : ℕ) : Type 0 where
+  pub from : ℕ
+  pub leads : LeadsFor bytes ref sought 0 from
+  pub block : Bytes
+  pub stands : HasAt bytes (4096 * from) block
+  pub long : length block ≡ 4096
+  pub below : ℕ
+  pub bound : IsBound block (count_in block) sought below
+  pub page_is : page ≡ (if nat_lt below (count_in block) then from else from + 1)
+  pub index_is : index ≡ (if nat_lt below (count_in block) then below else 0)
+
 -- the damage is that of this file, which breaks the format of the blocks with this reference
 pub data ShowsBlocks (file : FileName) (ref : BlockRef) (bytes : Bytes) (damage : Damage) : Type 0 where
   -- it ends within the term blocks
@@ -57,3 +84,20 @@ pub data ShowsBlocks (file : FileName) (ref : BlockRef) (bytes : Bytes) (damage 
   in_terms : (page : ℕ) → ref.first / 4096 ≤ page → page < ref.first / 4096 + ref.blocks → ShowsBlock BreaksTerms file page bytes damage → ShowsBlocks file ref bytes damage
   -- or a pointer block, to which the pointers above it lead
   in_pointers : (level page : ℕ) → 0 < level → Leads bytes ref level page → ShowsBlock (BreaksPointers (low_page ref level) (high_page ref level page)) file page bytes damage → ShowsBlocks file ref bytes damage
+  -- or the pointer blocks don't begin behind the term blocks, with a pointer to the first of these
+  behind_terms : 0 < ref.levels → ShowsBlock (BreaksFirstPointer (ref.first / 4096)) file (ref.first / 4096 + ref.blocks) bytes damage → ShowsBlocks file ref bytes damage
+  -- or they lead a search behind the first term block, to one whose first entry isn't below the term
+  led_too_far : (sought : Bytes) (page : ℕ) → LeadsFor bytes ref sought 0 page → ref.first / 4096 < page → ShowsBlock (IsMisplaced false 0 sought) file page bytes damage → ShowsBlocks file ref bytes damage
+  -- or to an entry that is below the term
+  led_too_near : (sought : Bytes) (page index : ℕ) → LeadsTo bytes ref sought page index → page < ref.first / 4096 + ref.blocks → ShowsBlock (IsMisplaced true index sought) file page bytes damage → ShowsBlocks file ref bytes damage
+
+-- what a scan shows that reads the entry with this index of a block, which isn't below this term
+abbrev pub ShowsGiven : FileName → BlockRef → ℕ → ℕ → Bytes → Bytes → Damage → Type 0
+ShowsGiven file ref page index least bytes damage = ShowsBlocks file ref bytes damage ⊎ ((page < ref.first / 4096 + ref.blocks) × ShowsBlock (IsMisplaced true index least) file page bytes damage)
+
+-- ---- where the term blocks end
+
+-- the pointer blocks, if there are any, begin behind the term blocks, with a pointer to the first of these
+abbrev pub EndsTerms : Bytes → BlockRef → Type 0
+EndsTerms bytes ref =
+    0 < ref.levels → (block : Bytes) × HasAt bytes (4096 * (ref.first / 4096 + ref.blocks)) block × ((place : ℕ) × HasPlace (ref.first / 4096) (ref.first / 4096 + 1) block 0 place)

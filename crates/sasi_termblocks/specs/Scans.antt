@@ -106,6 +106,11 @@ ReadsSome v file None = Unit {0}
 ReadsSome v file (Some entry) =
     (bytes : Bytes) → contents v file ≡ Some bytes → (page : ℕ) × (index : ℕ) × (block : Bytes) × HasAt bytes (4096 * page) block × (index < count_in block) × HasEntry term_entry block index entry
 
+-- the entry, if any, has a term that isn't below this one
+abbrev pub IsNotBelow : Bytes → Option TermEntry → Type 0
+IsNotBelow least None = Unit {0}
+IsNotBelow least (Some entry) = is_below entry.term least ≡ false
+
 -- corruption is reported only where the file doesn't have the blocks
 abbrev pub NoFalseDamage : View → FileName → BlockRef → ReadFault → Type 0
 NoFalseDamage v file ref = OnDamage (λ _. (bytes : Bytes) (entries : List TermEntry) → contents v file ≡ Some bytes → HasBlocks bytes ref entries → ⊥)

@@ -1,10 +1,11 @@
 // Reads the bytes of a block.
 ghost use Rattle.std.specs.Prelude.{◌≡◌, ◌+◌, ◌-◌, ◌*◌, ◌^◌, ◌<◌, ◌≤◌, ℕ, length, take, IfErr, IfOk, OnOk};
+ghost use Rattle.sasi_host.specs.declared.damage.FormatRule.TheVariants as rule;
 ghost use Rattle.sasi_formats.specs.Reader.{start};
 ghost use Rattle.sasi_termblocks.specs.Entries.{is_below, term, term_entry};
 ghost use Rattle.sasi_termblocks.specs.Windows.{BreaksCount, BreaksEntry, BreaksFront, BreaksStart, HasEntry, IsBound, IsFault, StartsBehind, bytes_in, count_in, number_at, offset_in};
 ghost use Rattle.sasi_termblocks.specs.Descents.{pointer_to};
-ghost use Rattle.sasi_termblocks.specs.BlockFaults.{BreaksSome, BreaksUpTo, HasPlace, IsAboveLast, IsBrokenAt, IsCompared, IsMoved, IsNear, IsPlaced, IsSearched};
+ghost use Rattle.sasi_termblocks.specs.BlockFaults.{BreaksFirstPointer, BreaksLeast, BreaksSome, BreaksUpTo, HasPlace, IsAboveLast, IsAtLeast, IsBrokenAt, IsCompared, IsMoved, IsNear, IsPlaced, IsSearched};
 
 use crate::block_encode::BLOCK_BYTES;
 use crate::decode::{read_entry, read_place, read_term};
@@ -146,6 +147,18 @@ pub fn place_at(block: &[u8], index: usize, low: u64, high: u64) -> Result<u64, 
     }
 }
 
+// The place of the first pointer, which leads to this page.
+pub fn first_place(block: &[u8], page: u64) -> Result<u64, BlockFault>
+    requires whole { length block.now ≡ 4096 }
+    requires page { page ≤ 2 ^ 52 }
+    ensures ok { IfOk result (HasPlace page (page + 1) block.now 0) }
+    ensures seen { IfErr result (IsFault (BreaksFirstPointer page block.now)) }
+{
+    let _ = count_of(block)?;
+    let place = place_at(block, 0, page, page + 1)?;
+    Ok(place)
+}
+
 // Whether the first term is below the second.
 fn is_below(first: &[u8], second: &[u8]) -> bool
     ensures { result ≡ is_below first.now second.now }
@@ -224,8 +237,32 @@ pub fn check_order(block: &[u8], index: usize) -> Result<(), BlockFault>
     let before = term_at(block, index - 1)?;
     let after = term_at(block, index)?;
     if !is_below(before, after) {
-        let at = number_at(block, 2 + 2 * index);
-        return Err(broken(FormatRule::Order, at, &block[at.min(BLOCK_BYTES)..]));
+        return Err(out_of_order(block, index));
     }
     Ok(())
+}
+
+// Checks that the entry with this index isn't below the term.
+pub fn check_least(block: &[u8], index: usize, least: &[u8]) -> Result<(), BlockFault>
+    requires whole { length block.now ≡ 4096 }
+    requires within { 4 + 2 * index ≤ 4096 }
+    ensures ok { OnOk result (IsAtLeast block.now index least.now) }
+    ensures seen { IfErr result (IsFault (BreaksLeast index least.now block.now)) }
+{
+    let below = has_below(block, index, least)?;
+    if below {
+        return Err(out_of_order(block, index));
+    }
+    Ok(())
+}
+
+// The fault of an entry that is out of order.
+pub fn out_of_order(block: &[u8], index: usize) -> BlockFault
+    requires whole { length block.now ≡ 4096 }
+    requires within { 4 + 2 * index ≤ 4096 }
+    ensures near { IsNear result }
+    ensures is { IsBrokenAt rule.Order (offset_in block.now index) (take 8 (bytes_in block.now index)) result }
+{
+    let at = number_at(block, 2 + 2 * index);
+    broken(FormatRule::Order, at, &block[at.min(BLOCK_BYTES)..])
 }

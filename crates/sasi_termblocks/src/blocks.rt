@@ -1,10 +1,12 @@
 // Readers of blocks.
-ghost use Rattle.std.specs.Prelude.{◌≡◌, ◌+◌, ◌/◌, [], IfErr, IfOk, OnErr, None};
+ghost use Rattle.std.specs.Prelude.{◌≡◌, ◌+◌, ◌/◌, ◌≤◌, [], IfErr, IfOk, OnErr, OnOk, None, Some};
 ghost use Rattle.sasi_host.specs.View.{ReadsAtMost};
 ghost use Rattle.sasi_host.specs.Damages.{DamageShown};
 ghost use Rattle.sasi_host.specs.PageReading.{CanReadOn, HasReadOn};
-ghost use Rattle.sasi_termblocks.specs.Damages.{ShowsBlocks};
-ghost use Rattle.sasi_termblocks.specs.Scans.{NoFalseDamage, ReadsFirst, ReadsHere, ReadsNext, ReadsSome};
+ghost use Rattle.sasi_host.specs.Names.{Bytes};
+ghost use Rattle.sasi_host.specs.View.{contents};
+ghost use Rattle.sasi_termblocks.specs.Damages.{EndsTerms, ShowsBlocks};
+ghost use Rattle.sasi_termblocks.specs.Scans.{IsNotBelow, NoFalseDamage, ReadsFirst, ReadsHere, ReadsNext, ReadsSome};
 
 use crate::block_encode::BLOCK_BYTES;
 use crate::block_ref::BlockRef;
@@ -62,8 +64,9 @@ impl Blocks {
     ) -> Result<Option<TermEntry>, ReadFault>
         requires read { CanReadOn (P.agrees pages.old) (H.view host.old) self.old.buffered }
         ensures ok { IfOk result (λ found. ReadsFirst (H.view host.old) self.old.buffered.file self.old.blocks term.now self.new.page self.new.index found) }
-        // In any file it is an entry of a block.
+        // In any file it is an entry of a block, and not below the term.
         ensures stands { IfOk result (λ found. ReadsSome (H.view host.old) self.old.buffered.file found) }
+        ensures least { IfOk result (IsNotBelow term.now) }
         ensures damaged { IfErr result (DamageShown (H.view host.old) self.old.buffered.file (ShowsBlocks self.old.buffered.file self.old.blocks)) }
         ensures undamaged { IfErr result (NoFalseDamage (H.view host.old) self.old.buffered.file self.old.blocks) }
         ensures read { HasReadOn (P.agrees pages.new) (P.covers pages.old) (P.covers pages.new) (H.view host.old) (H.view host.new) self.old.buffered self.new.buffered }
@@ -88,6 +91,8 @@ impl Blocks {
         ensures ok { IfOk result (λ found. ReadsNext (H.view host.old) self.old.buffered.file self.old.blocks self.old.page self.old.index self.new.page self.new.index found) }
         // In any file it is an entry of a term block whose first entry stands behind the offsets, and above the one before it there.
         ensures stands { IfOk result (λ found. ReadsHere (H.view host.old) self.old.buffered.file self.old.page self.old.index self.new.page self.new.index found) }
+        // It ends where the pointer blocks begin.
+        ensures ends { OnOk result (self.old.blocks.first / 4096 + self.old.blocks.blocks ≤ self.old.page → (bytes : Bytes) → contents (H.view host.old) self.old.buffered.file ≡ Some bytes → EndsTerms bytes self.old.blocks) }
         ensures damaged { IfErr result (DamageShown (H.view host.old) self.old.buffered.file (ShowsBlocks self.old.buffered.file self.old.blocks)) }
         ensures undamaged { IfErr result (NoFalseDamage (H.view host.old) self.old.buffered.file self.old.blocks) }
         ensures read { HasReadOn (P.agrees pages.new) (P.covers pages.old) (P.covers pages.new) (H.view host.old) (H.view host.new) self.old.buffered self.new.buffered }
@@ -107,6 +112,7 @@ impl Blocks {
             &mut self.buffered,
             self.blocks,
             position,
+            &[],
         )?;
         self.page = found.position.page;
         self.index = found.position.index;

@@ -1,13 +1,14 @@
 // Scans the entries of blocks, one after another.
-ghost use Rattle.std.specs.Prelude.{◌≡◌, ◌+◌, ◌-◌, ◌*◌, ◌/◌, ◌^◌, ◌<◌, ◌≤◌, ◌⊎◌, List, ℕ, length, IfErr, IfOk, IsTrue, None, Some, false};
+ghost use Rattle.std.specs.Prelude.{◌≡◌, ◌+◌, ◌-◌, ◌*◌, ◌/◌, ◌^◌, ◌<◌, ◌≤◌, ◌⊎◌, List, ℕ, length, IfErr, IfOk, IsTrue, None, OnOk, Some, false};
 ghost use Rattle.sasi_host.specs.View.{contents, ReadsAtMost};
 ghost use Rattle.sasi_host.specs.Damages.{DamageShown, HasAt};
 ghost use Rattle.sasi_host.specs.PageReading.{CanReadOn, HasReadOn};
 ghost use Rattle.sasi_termblocks.specs.Windows.{IsFault, count_in};
-ghost use Rattle.sasi_termblocks.specs.Damages.{BreaksTerms, ShowsBlocks};
-ghost use Rattle.sasi_termblocks.specs.Scans.{GivesEntry, ReadsFirst, ReadsHere, ReadsNext, ReadsSome};
+ghost use Rattle.sasi_termblocks.specs.BlockFaults.{BreaksFirstPointer, HasPlace};
+ghost use Rattle.sasi_termblocks.specs.Damages.{BreaksGiven, EndsTerms, ShowsBlock, ShowsBlocks, ShowsGiven};
+ghost use Rattle.sasi_termblocks.specs.Scans.{GivesEntry, IsNotBelow, ReadsFirst, ReadsHere, ReadsNext, ReadsSome};
 
-use crate::block::{check_order, count_of, entry_at};
+use crate::block::{check_least, check_order, count_of, entry_at, first_place};
 use crate::block_encode::BLOCK_BYTES;
 use crate::block_read::{fault_of, load_block, loaded_block};
 use crate::block_ref::BlockRef;
@@ -39,12 +40,64 @@ fn is_too_long(blocks: BlockRef) -> bool
     blocks.first > MAX_FILE_SIZE || blocks.blocks > MAX_BLOCKS
 }
 
-// The entry with this index of a block on this page, and the position behind it; none where it has no such entry.
-fn entry_in(alloc: Global, block: &[u8], position: Position) -> Result<ScannedEntry, BlockFault>
+// Checks that the block on this page begins with a pointer to the first term block, which is on the first page.
+fn check_pointer_block<H: Host, P: PageReader>(
+    host: &mut H,
+    pages: &mut P,
+    buffered: &mut BufferedFile,
+    first: u64,
+    page: u64,
+) -> Result<(), ReadFault>
+    requires read { CanReadOn (P.agrees pages.old) (H.view host.old) buffered.old }
+    requires first { first ≤ 2 ^ 52 }
+    ensures ok { OnOk result ((bytes : List ℕ) → contents (H.view host.old) buffered.old.file ≡ Some bytes → (block : List ℕ) × HasAt bytes (4096 * page) block × ((place : ℕ) × HasPlace first (first + 1) block 0 place)) }
+    ensures damaged { IfErr result (DamageShown (H.view host.old) buffered.old.file (ShowsBlock (BreaksFirstPointer first) buffered.old.file page)) }
+    ensures read { HasReadOn (P.agrees pages.new) (P.covers pages.old) (P.covers pages.new) (H.view host.old) (H.view host.new) buffered.old buffered.new }
+    ensures causes { ReadsAtMost 1 (H.view host.old) (H.view host.new) result }
+{
+    load_block(host, pages, buffered, page)?;
+    match first_place(loaded_block(buffered), first) {
+        Ok(_) => Ok(()),
+        Err(fault) => Err(fault_of(buffered.file(), page, fault)),
+    }
+}
+
+// Checks that the term blocks end where the pointer blocks begin, if there are any.
+fn check_end<H: Host, P: PageReader>(
+    host: &mut H,
+    pages: &mut P,
+    buffered: &mut BufferedFile,
+    blocks: BlockRef,
+) -> Result<(), ReadFault>
+    requires read { CanReadOn (P.agrees pages.old) (H.view host.old) buffered.old }
+    requires first { blocks.first ≤ 2 ^ 62 }
+    requires few { blocks.blocks ≤ 2 ^ 50 }
+    ensures ok { OnOk result ((bytes : List ℕ) → contents (H.view host.old) buffered.old.file ≡ Some bytes → EndsTerms bytes blocks) }
+    ensures damaged { IfErr result (DamageShown (H.view host.old) buffered.old.file (ShowsBlocks buffered.old.file blocks)) }
+    ensures read { HasReadOn (P.agrees pages.new) (P.covers pages.old) (P.covers pages.new) (H.view host.old) (H.view host.new) buffered.old buffered.new }
+    ensures causes { ReadsAtMost 1 (H.view host.old) (H.view host.new) result }
+{
+    if blocks.levels == 0 {
+        return Ok(());
+    }
+    let first = blocks.first / BLOCK_BYTES as u64;
+    check_pointer_block(host, pages, buffered, first, first + blocks.blocks)?;
+    Ok(())
+}
+
+// The entry with this index of a block on this page, which isn't below the least term, and the position behind it; none where it
+// has no such entry.
+fn entry_in(
+    alloc: Global,
+    block: &[u8],
+    position: Position,
+    least: &[u8],
+) -> Result<ScannedEntry, BlockFault>
     requires whole { length block.now ≡ 4096 }
     requires page { position.page < 2 ^ 50 }
     ensures ok { IfOk result (λ found. GivesEntry block.now position.page position.index found.position.page found.position.index found.entry) }
-    ensures seen { IfErr result (IsFault (BreaksTerms block.now)) }
+    ensures least { IfOk result (λ found. IsNotBelow least.now found.entry) }
+    ensures seen { IfErr result (IsFault (BreaksGiven position.index least.now block.now)) }
 {
     let count = count_of(block)?;
     if position.index >= count {
@@ -54,6 +107,7 @@ fn entry_in(alloc: Global, block: &[u8], position: Position) -> Result<ScannedEn
         });
     }
     check_order(block, position.index)?;
+    check_least(block, position.index, least)?;
     let entry = entry_at(alloc, block, position.index)?;
     Ok(ScannedEntry {
         entry: Some(entry),
@@ -61,7 +115,7 @@ fn entry_in(alloc: Global, block: &[u8], position: Position) -> Result<ScannedEn
     })
 }
 
-// The entry at a position, and the position behind it.
+// The entry at a position, which isn't below the least term, and the position behind it.
 pub fn entry_from<H: Host, P: PageReader>(
     alloc: Global,
     host: &mut H,
@@ -69,13 +123,16 @@ pub fn entry_from<H: Host, P: PageReader>(
     buffered: &mut BufferedFile,
     blocks: BlockRef,
     position: Position,
+    least: &[u8],
 ) -> Result<ScannedEntry, ReadFault>
     requires read { CanReadOn (P.agrees pages.old) (H.view host.old) buffered.old }
     requires low { blocks.first / 4096 ≤ position.page }
     ensures ok { IfOk result (λ found. ReadsNext (H.view host.old) buffered.old.file blocks position.page position.index found.position.page found.position.index found.entry) }
     ensures stands { IfOk result (λ found. ReadsHere (H.view host.old) buffered.old.file position.page position.index found.position.page found.position.index found.entry) }
+    ensures least { IfOk result (λ found. IsNotBelow least.now found.entry) }
+    ensures ends { IfOk result (λ found. blocks.first / 4096 + blocks.blocks ≤ position.page → (bytes : List ℕ) → contents (H.view host.old) buffered.old.file ≡ Some bytes → EndsTerms bytes blocks) }
     ensures low { IfOk result (λ found. blocks.first / 4096 ≤ found.position.page) }
-    ensures damaged { IfErr result (DamageShown (H.view host.old) buffered.old.file (ShowsBlocks buffered.old.file blocks)) }
+    ensures damaged { IfErr result (DamageShown (H.view host.old) buffered.old.file (ShowsGiven buffered.old.file blocks position.page position.index least.now)) }
     ensures read { HasReadOn (P.agrees pages.new) (P.covers pages.old) (P.covers pages.new) (H.view host.old) (H.view host.new) buffered.old buffered.new }
     ensures causes { ReadsAtMost 1 (H.view host.old) (H.view host.new) result }
 {
@@ -83,13 +140,14 @@ pub fn entry_from<H: Host, P: PageReader>(
         return Err(unexpected_end(host, buffered.file()));
     }
     if position.page >= blocks.first / BLOCK_BYTES as u64 + blocks.blocks {
+        check_end(host, pages, buffered, blocks)?;
         return Ok(ScannedEntry {
             entry: None,
             position,
         });
     }
     load_block(host, pages, buffered, position.page)?;
-    match entry_in(alloc, loaded_block(buffered), position) {
+    match entry_in(alloc, loaded_block(buffered), position, least) {
         Ok(found) => Ok(found),
         Err(fault) => Err(fault_of(buffered.file(), position.page, fault)),
     }
@@ -107,6 +165,7 @@ pub fn first_from<H: Host, P: PageReader>(
     requires read { CanReadOn (P.agrees pages.old) (H.view host.old) buffered.old }
     ensures ok { IfOk result (λ found. ReadsFirst (H.view host.old) buffered.old.file blocks sought.now found.position.page found.position.index found.entry) }
     ensures stands { IfOk result (λ found. ReadsSome (H.view host.old) buffered.old.file found.entry) }
+    ensures least { IfOk result (λ found. IsNotBelow sought.now found.entry) }
     ensures low { IfOk result (λ found. blocks.first / 4096 ≤ found.position.page) }
     ensures damaged { IfErr result (DamageShown (H.view host.old) buffered.old.file (ShowsBlocks buffered.old.file blocks)) }
     ensures read { HasReadOn (P.agrees pages.new) (P.covers pages.old) (P.covers pages.new) (H.view host.old) (H.view host.new) buffered.old buffered.new }
@@ -126,7 +185,7 @@ pub fn first_from<H: Host, P: PageReader>(
         });
     }
     let page = leaf_page(host, pages, buffered, blocks, sought)?;
-    let position = position_for(host, pages, buffered, page, sought)?;
-    let found = entry_from(alloc, host, pages, buffered, blocks, position)?;
+    let position = position_for(host, pages, buffered, first, page, sought)?;
+    let found = entry_from(alloc, host, pages, buffered, blocks, position, sought)?;
     Ok(found)
 }

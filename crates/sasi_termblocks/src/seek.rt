@@ -7,11 +7,11 @@ ghost use Rattle.sasi_termblocks.specs.declared.block_ref.BlockRef.{BlockRef};
 ghost use Rattle.sasi_termblocks.specs.declared.term_entry.TermEntry.{TermEntry};
 ghost use Rattle.sasi_termblocks.specs.Windows.{IsBound, IsFault, count_in};
 ghost use Rattle.sasi_termblocks.specs.BlockFaults.{HasPlace};
-ghost use Rattle.sasi_termblocks.specs.Damages.{BreaksPointers, BreaksTerms, Leads, ShowsBlock, ShowsBlocks};
+ghost use Rattle.sasi_termblocks.specs.Damages.{BreaksPointers, BreaksSplit, BreaksTerms, Leads, LeadsFor, LeadsTo, ShowsBlock, ShowsBlocks};
 ghost use Rattle.sasi_termblocks.specs.Descents.{IsPageFor, high_page, low_page, page_of_top};
 ghost use Rattle.sasi_termblocks.specs.Scans.{CountsBelow, HasBlocks, HasPassed, terms_of};
 
-use crate::block::{count_below, count_of, place_at};
+use crate::block::{count_below, count_of, out_of_order, place_at};
 use crate::block_encode::BLOCK_BYTES;
 use crate::block_read::{fault_of, load_block, loaded_block};
 use crate::block_ref::BlockRef;
@@ -44,11 +44,30 @@ fn split_block(block: &[u8], sought: &[u8]) -> Result<SplitBlock, BlockFault>
     requires whole { length block.now ≡ 4096 }
     ensures ok { IfOk result (λ split. IsBound block.now split.count sought.now split.below) }
     ensures count { IfOk result (λ split. split.count ≡ count_in block.now) }
+    ensures some { IfOk result (λ split. 0 < split.count) }
     ensures seen { IfErr result (IsFault (BreaksTerms block.now)) }
 {
     let count = count_of(block)?;
     let below = count_below(block, count, sought)?;
     Ok(SplitBlock { below, count })
+}
+
+// The same in a block to which the pointers lead: where it isn't the first one, its first entry is below the term.
+fn split_led(block: &[u8], first: u64, page: u64, sought: &[u8]) -> Result<SplitBlock, BlockFault>
+    requires whole { length block.now ≡ 4096 }
+    ensures ok { IfOk result (λ split. IsBound block.now split.count sought.now split.below) }
+    ensures count { IfOk result (λ split. split.count ≡ count_in block.now) }
+    ensures led { IfOk result (λ split. first < page → 0 < split.below) }
+    ensures seen { IfErr result (IsFault (BreaksSplit first page sought.now block.now)) }
+{
+    let split = split_block(block, sought)?;
+    if split.below > 0 {
+        return Ok(split);
+    }
+    if first < page {
+        return Err(out_of_order(block, 0));
+    }
+    Ok(split)
 }
 
 // The page of the block to which a block of a level points for a term.
@@ -68,6 +87,7 @@ fn child_page<H: Host, P: PageReader>(
     ensures ok { IfOk result (λ child. (bytes : List ℕ) (entries : List TermEntry) → contents (H.view host.old) buffered.old.file ≡ Some bytes → HasBlocks bytes blocks entries → level ≤ blocks.levels
         → IsPageFor blocks.first entries level sought.now page → IsPageFor blocks.first entries (level - 1) sought.now child) }
     ensures leads { IfOk result (λ child. (bytes : List ℕ) → contents (H.view host.old) buffered.old.file ≡ Some bytes → Leads bytes blocks level page → Leads bytes blocks (level - 1) child) }
+    ensures led { IfOk result (λ child. (bytes : List ℕ) → contents (H.view host.old) buffered.old.file ≡ Some bytes → LeadsFor bytes blocks sought.now level page → LeadsFor bytes blocks sought.now (level - 1) child) }
     ensures below { IfOk result (λ child. low_page blocks level ≤ child) }
     ensures within { IfOk result (λ child. child < high_page blocks level page) }
     ensures damaged { IfErr result (DamageShown (H.view host.old) buffered.old.file (ShowsBlock (BreaksPointers (low_page blocks level) (high_page blocks level page)) buffered.old.file page)) }
@@ -135,6 +155,7 @@ pub fn leaf_page<H: Host, P: PageReader>(
     requires few { blocks.blocks ≤ 2 ^ 50 }
     requires some { 0 < blocks.blocks }
     ensures ok { IfOk result (λ page. (bytes : List ℕ) (entries : List TermEntry) → contents (H.view host.old) buffered.old.file ≡ Some bytes → HasBlocks bytes blocks entries → IsPageFor blocks.first entries 0 sought.now page) }
+    ensures led { IfOk result (λ page. (bytes : List ℕ) → contents (H.view host.old) buffered.old.file ≡ Some bytes → LeadsFor bytes blocks sought.now 0 page) }
     ensures low { IfOk result (λ page. blocks.first / 4096 ≤ page) }
     ensures high { IfOk result (λ page. page < blocks.first / 4096 + blocks.blocks) }
     ensures damaged { IfErr result (DamageShown (H.view host.old) buffered.old.file (ShowsBlocks buffered.old.file blocks)) }
@@ -149,24 +170,27 @@ pub fn leaf_page<H: Host, P: PageReader>(
     Ok(page)
 }
 
-// Where the first entry of a term block at or above a term is: behind the block, where it has none.
+// Where the first entry at or above a term is, in the block on this page to which the pointers lead: behind the block, where it
+// has none. The first block is that on the first page.
 pub fn position_for<H: Host, P: PageReader>(
     host: &mut H,
     pages: &mut P,
     buffered: &mut BufferedFile,
+    first: u64,
     page: u64,
     sought: &[u8],
 ) -> Result<Position, ReadFault>
     requires read { CanReadOn (P.agrees pages.old) (H.view host.old) buffered.old }
     ensures ok { IfOk result (λ here. (bytes : List ℕ) (blocks : BlockRef) (entries : List TermEntry) → contents (H.view host.old) buffered.old.file ≡ Some bytes → HasBlocks bytes blocks entries → IsPageFor blocks.first entries 0 sought.now page
         → (passed : ℕ) × CountsBelow (terms_of entries) sought.now passed × HasPassed blocks entries here.page here.index passed) }
+    ensures led { IfOk result (λ here. (bytes : List ℕ) (blocks : BlockRef) → contents (H.view host.old) buffered.old.file ≡ Some bytes → LeadsFor bytes blocks sought.now 0 page → LeadsTo bytes blocks sought.now here.page here.index) }
     ensures later { IfOk result (λ here. page ≤ here.page) }
-    ensures damaged { IfErr result (DamageShown (H.view host.old) buffered.old.file (ShowsBlock BreaksTerms buffered.old.file page)) }
+    ensures damaged { IfErr result (DamageShown (H.view host.old) buffered.old.file (ShowsBlock (BreaksSplit first page sought.now) buffered.old.file page)) }
     ensures read { HasReadOn (P.agrees pages.new) (P.covers pages.old) (P.covers pages.new) (H.view host.old) (H.view host.new) buffered.old buffered.new }
     ensures causes { ReadsAtMost 1 (H.view host.old) (H.view host.new) result }
 {
     load_block(host, pages, buffered, page)?;
-    match split_block(loaded_block(buffered), sought) {
+    match split_led(loaded_block(buffered), first, page, sought) {
         Ok(split) => Ok(position_in(page, split.below, split.count)),
         Err(fault) => Err(fault_of(buffered.file(), page, fault)),
     }

@@ -1,11 +1,11 @@
-use Rattle.std.proofs.Common.{arith, subst}
+use Rattle.std.proofs.Common.{◌/◌, arith, subst}
 use Rattle.std.proofs.lemmas.Result.{err_from_is_err_and}
 use Rattle.sasi_host.specs.declared.name.FileName.{FileName}
 use Rattle.sasi_host.specs.Damages.{DamageShown, TellsSize}
 use Rattle.sasi_host.specs.PageReading.{reads_nothing, reads_then}
-use Rattle.sasi_termblocks.specs.Damages.{BreaksTerms, ShowsBlock, ShowsBlocks}
+use Rattle.sasi_termblocks.specs.Damages.{BreaksSplit, ShowsBlock, ShowsGiven}
 use Rattle.sasi_termblocks.proofs.Descent.{still_reads}
-use Rattle.sasi_termblocks.proofs.Shown.{shown_still, terms_shown, too_long_shown}
+use Rattle.sasi_termblocks.proofs.Shown.{found_shown, shown_still, split_shown, too_long_shown}
 use Rattle.sasi_termblocks.proofs.Steps.{here_some, no_entries}
 use Rattle.sasi_termblocks.proofs.scan.first_from.Goals as goal
 
@@ -25,9 +25,11 @@ pub returns-in_err-position-clause-damaged : goal.returns-in_err-position-clause
 returns-in_err-position-clause-damaged g c =
     let p = err_from_is_err_and c.from_residual-in_err-position.result c.from_residual-in_err-position.ensures.1 in
     let v = g.H.Host.view c.args.host.now in
+    let r = c.args.blocks in
     let page = c.in_ok-page.page in
-    rw (p.1, p.2) (terms_shown v c.args.buffered.now.file c.args.blocks page c.in_err-position.field-0.0 c.in_ok-page.ensures.low c.in_ok-page.ensures.high
-    (shown_still (λ (n : FileName). ShowsBlock BreaksTerms n page) v _ c.args.buffered.now.file c.leaf_page.new.buffered.file c.in_err-position.field-0.0
+    let sought = c.args.sought.now in
+    rw (p.1, p.2) (split_shown v c.args.buffered.now.file r sought page c.in_err-position.field-0.0 c.in_ok-page.ensures.low c.in_ok-page.ensures.high c.in_ok-page.ensures.led
+    (shown_still (λ (n : FileName). ShowsBlock (BreaksSplit (r.first / 4096) page sought) n page) v _ c.args.buffered.now.file c.leaf_page.new.buffered.file c.in_err-position.field-0.0
     c.leaf_page.ensures.read.changes c.leaf_page.ensures.read.file c.in_err-position.ensures.damaged))
 
 pub returns-in_err-position-clause-read : goal.returns-in_err-position-clause-read
@@ -40,9 +42,13 @@ pub returns-in_err-found-clause-damaged : goal.returns-in_err-found-clause-damag
 returns-in_err-found-clause-damaged g c =
     let p = err_from_is_err_and c.from_residual-in_err-found.result c.from_residual-in_err-found.ensures.1 in
     let v = g.H.Host.view c.args.host.now in
-    let shows = λ (n : FileName). ShowsBlocks n c.args.blocks in
-    rw (p.1, p.2) (shown_still shows v _ c.args.buffered.now.file c.leaf_page.new.buffered.file c.in_err-found.field-0.0 c.leaf_page.ensures.read.changes c.leaf_page.ensures.read.file
-    (shown_still shows _ _ c.leaf_page.new.buffered.file c.position_for.new.buffered.file c.in_err-found.field-0.0 c.position_for.ensures.read.changes c.position_for.ensures.read.file c.in_err-found.ensures.damaged))
+    let file = c.args.buffered.now.file in
+    let here = c.in_ok-position.position in
+    let shows = λ (n : FileName). ShowsGiven n c.args.blocks here.page here.index c.args.sought.now in
+    rw (p.1, p.2) (found_shown v file c.args.blocks here.page here.index c.args.sought.now c.in_err-found.field-0.0
+    (λ bytes is. c.in_ok-position.ensures.led bytes c.args.blocks (still_reads v _ file c.leaf_page.new.buffered.file bytes c.leaf_page.ensures.read.changes c.leaf_page.ensures.read.file is) (c.in_ok-page.ensures.led bytes is))
+    (shown_still shows v _ file c.leaf_page.new.buffered.file c.in_err-found.field-0.0 c.leaf_page.ensures.read.changes c.leaf_page.ensures.read.file
+    (shown_still shows _ _ c.leaf_page.new.buffered.file c.position_for.new.buffered.file c.in_err-found.field-0.0 c.position_for.ensures.read.changes c.position_for.ensures.read.file c.in_err-found.ensures.damaged)))
 
 pub returns-in_err-found-clause-read : goal.returns-in_err-found-clause-read
 returns-in_err-found-clause-read g c =

@@ -2,10 +2,12 @@ use Rattle.std.proofs.Common.{◌≡◌, ◌+◌, ◌-◌, ◌*◌, ℕ, ◌∙�
 use Rattle.sasi_host.specs.Names.{Bytes}
 use Rattle.sasi_host.specs.Damages.{HasAt}
 use Rattle.sasi_termblocks.specs.Windows.{IsFault}
+use Rattle.sasi_termblocks.specs.BlockFaults.{HasPlace}
 use Rattle.sasi_termblocks.specs.Damages.{BreaksPointers}
 use Rattle.sasi_termblocks.specs.Descents.{IsPageFor, high_page, low_page}
 use Rattle.sasi_termblocks.proofs.Children.{child_for, place_in, pointer_kept}
 use Rattle.sasi_termblocks.proofs.Shown.{lifted_shown}
+use Rattle.sasi_termblocks.proofs.Led.{led_on}
 use Rattle.sasi_termblocks.proofs.Steps.{leads_on}
 use Rattle.sasi_termblocks.proofs.seek.child_page.Goals as goal
 
@@ -22,6 +24,19 @@ returns-in-Ok-clause-leads g c bytes is leads =
     let stands = subst (λ (w : Bytes). HasAt bytes (4096 * c.args.page) w) (sym c.loaded_block.ensures.is) (c.in_ok-load_block.ensures.is bytes is) in
     leads_on bytes c.loaded_block.result.now c.args.blocks c.args.level c.args.page _ _ (c.in-Ok.ensures.ok.0 - 1) c.in-Ok.place c.requires.level leads stands c.loaded_block.ensures.whole
     (omega (arith, c.in-Ok.ensures.ok.1.within, c.in-Ok.ensures.some)) c.in-Ok.ensures.ok.2
+
+pub returns-in-Ok-clause-led : goal.returns-in-Ok-clause-led
+returns-in-Ok-clause-led g c bytes is leads =
+    let r = c.args.blocks in
+    let level = c.args.level in
+    let page = c.args.page in
+    let window = c.loaded_block.result.now in
+    let stands = subst (λ (w : Bytes). HasAt bytes (4096 * page) w) (sym c.loaded_block.ensures.is) (c.in_ok-load_block.ensures.is bytes is) in
+    let below = c.in-Ok.ensures.ok.0 in
+    let place = c.in-Ok.place in
+    let has = subst (λ (n : ℕ). HasPlace (low_page r level) n window (below - 1) place) c.range_of-range.ensures.high
+    (subst (λ (n : ℕ). HasPlace n c.range_of-range.result.high window (below - 1) place) c.range_of-range.ensures.low c.in-Ok.ensures.ok.2) in
+    led_on bytes window r c.args.sought.now level page below place c.requires.level leads stands c.loaded_block.ensures.whole c.in-Ok.ensures.ok.1 has
 
 pub returns-in-Ok-clause-below : goal.returns-in-Ok-clause-below
 returns-in-Ok-clause-below g c =

@@ -2,7 +2,8 @@ use Rattle.std.proofs.Common.{◌≡◌, ◌+◌, ◌-◌, ◌<◌, ℕ, [], ari
 use Rattle.std.proofs.lemmas.Result.{err_from_is_err_and}
 use Rattle.sasi_host.specs.declared.name.FileName.{FileName}
 use Rattle.sasi_host.specs.PageReading.{reads_nothing, reads_then}
-use Rattle.sasi_termblocks.specs.Damages.{BreaksPointers, Leads, ShowsBlock}
+use Rattle.sasi_termblocks.specs.Damages.{BreaksPointers, Leads, LeadsFor, ShowsBlock}
+use Rattle.sasi_termblocks.specs.Damages.LeadsFor.{from_top}
 use Rattle.sasi_termblocks.specs.Descents.{IsPageFor, high_page, low_page}
 use Rattle.sasi_termblocks.proofs.Descent.{costs_more, high_is, low_is, still_reads, top_for, top_leads, top_low}
 use Rattle.sasi_termblocks.proofs.Shown.{pointers_shown, shown_still}
@@ -16,6 +17,7 @@ loop-passed-init g c =
       costs = record { disk = omega arith; out = refl; reads = omega arith; ok = refl; failed = tt; memory = tt; damaged = tt };
       page_for = λ bytes entries is has. top_for bytes r c.top_page-page.result c.top_page-page.ensures entries (r.levels - 0) c.args.sought.now has (omega arith) c.requires.some;
       leads = λ bytes is some. top_leads bytes r c.top_page-page.result c.top_page-page.ensures (r.levels - 0) (omega arith) some;
+      led = λ bytes is. from_top (r.levels - 0) c.top_page-page.result c.requires.some (omega arith) c.top_page-page.ensures;
       low = λ none. omega (arith, top_low [] r c.top_page-page.result c.top_page-page.ensures (omega (arith, none)));
       high = λ none. omega (arith, c.requires.some, top_low [] r c.top_page-page.result c.top_page-page.ensures (omega (arith, none)));
     }
@@ -52,6 +54,8 @@ loop-passed-preserved g c =
           (child.ok bytes entries (still_reads v _ c.args.buffered.now.file c.loop-passed.buffered.file bytes before.read.changes before.read.file is) has (omega arith) (before.page_for bytes entries is has));
       leads = λ bytes is some. subst (λ (n : ℕ). Leads bytes r n c.in_ok-page.page) down
           (child.leads bytes (still_reads v _ c.args.buffered.now.file c.loop-passed.buffered.file bytes before.read.changes before.read.file is) (before.leads bytes is (omega (arith, some))));
+      led = λ bytes is. subst (λ (n : ℕ). LeadsFor bytes r c.args.sought.now n c.in_ok-page.page) down
+          (child.led bytes (still_reads v _ c.args.buffered.now.file c.loop-passed.buffered.file bytes before.read.changes before.read.file is) (before.led bytes is));
       low = λ none. omega (arith, child.below, low_is r level (omega (arith, none, down)));
       high = λ none. omega (arith, child.within, high_is r level page (omega (arith, none, down)));
     }
@@ -60,3 +64,8 @@ pub returns-clause-ok : goal.returns-clause-ok
 returns-clause-ok g c bytes entries is has =
     let none : c.args.blocks.levels - c.loop-passed.passed ≡ 0 = omega arith in
     subst (λ (n : ℕ). IsPageFor c.args.blocks.first entries n c.args.sought.now c.loop-passed.page) none (c.loop-passed.invariant.page_for bytes entries is has)
+
+pub returns-clause-led : goal.returns-clause-led
+returns-clause-led g c bytes is =
+    let none : c.args.blocks.levels - c.loop-passed.passed ≡ 0 = omega arith in
+    subst (λ (n : ℕ). LeadsFor bytes c.args.blocks c.args.sought.now n c.loop-passed.page) none (c.loop-passed.invariant.led bytes is)

@@ -2,7 +2,7 @@ use Rattle.std.proofs.Common.{◌≡◌, ◌+◌, ◌-◌, ◌/◌, ◌<◌, ◌
 use Rattle.sasi_host.specs.View.{ReadsAtMost, contents}
 use Rattle.sasi_host.specs.PageReading.{HasReadOn}
 use Rattle.sasi_termblocks.specs.declared.term_entry.TermEntry.{TermEntry}
-use Rattle.sasi_termblocks.specs.Damages.{Leads}
+use Rattle.sasi_termblocks.specs.Damages.{Leads, LeadsFor}
 use Rattle.sasi_termblocks.specs.Descents.{IsPageFor}
 use Rattle.sasi_termblocks.specs.Scans.{HasBlocks}
 use Rattle.sasi_termblocks.proofs.seek.leaf_page.Given as goal
@@ -16,6 +16,7 @@ invariant-loop-passed g l =
       costs : ReadsAtMost {T = Unit {0}} l.passed (view l.fn.host) (view l.host) (Ok tt);
       page_for : (bytes : List ℕ) (entries : List TermEntry) → contents (view l.fn.host) l.fn.buffered.file ≡ Some bytes → HasBlocks bytes l.blocks entries → IsPageFor l.blocks.first entries level l.sought l.page;
       leads : (bytes : List ℕ) → contents (view l.fn.host) l.fn.buffered.file ≡ Some bytes → 0 < level → Leads bytes l.blocks level l.page;
+      led : (bytes : List ℕ) → contents (view l.fn.host) l.fn.buffered.file ≡ Some bytes → LeadsFor bytes l.blocks l.sought level l.page;
       low : level ≡ 0 → l.blocks.first / 4096 ≤ l.page;
       high : level ≡ 0 → l.page < l.blocks.first / 4096 + l.blocks.blocks;
     }

@@ -1,15 +1,20 @@
-use Rattle.std.proofs.Common.{subst}
+use Rattle.std.proofs.Common.{◌≡◌, ◌+◌, ◌/◌, ◌≤◌, Some, arith, subst}
+use Rattle.sasi_host.specs.Names.{Bytes}
+use Rattle.sasi_host.specs.View.{contents}
 use Rattle.std.proofs.lemmas.Result.{err_from_is_err_and}
 use Rattle.sasi_host.specs.Damages.{DamageShown}
-use Rattle.sasi_termblocks.specs.Damages.{ShowsBlocks}
+use Rattle.sasi_termblocks.specs.Damages.{EndsTerms, ShowsBlocks}
 use Rattle.sasi_termblocks.specs.Scans.{NoFalseDamage, ReadsHere, ReadsNext, Scan}
 use Rattle.sasi_termblocks.proofs.PointersSound.{no_false}
+use Rattle.sasi_termblocks.proofs.Shown.{next_shown}
 use Rattle.sasi_termblocks.proofs.blocks.Blocks.next.Goals as goal
 
 pub returns-in_err-found-clause-damaged : goal.returns-in_err-found-clause-damaged
 returns-in_err-found-clause-damaged g c =
     let p = err_from_is_err_and c.from_residual.result c.from_residual.ensures.1 in
-    rw (p.1, p.2) (subst (λ (h : Scan). DamageShown (g.H.Host.view c.args.host.now) h.buffered.file (ShowsBlocks h.buffered.file h.blocks) c.in_err-found.field-0.0) c.self.view_is c.in_err-found.ensures.damaged)
+    let v = g.H.Host.view c.args.host.now in
+    let shown = next_shown v c.self.inside.buffered.file c.self.inside.blocks c.self.inside.page c.self.inside.index c.in_err-found.field-0.0 (omega arith) c.in_err-found.ensures.damaged in
+    rw (p.1, p.2) (subst (λ (h : Scan). DamageShown v h.buffered.file (ShowsBlocks h.buffered.file h.blocks) c.in_err-found.field-0.0) c.self.view_is shown)
 
 pub returns-clause-ok : goal.returns-clause-ok
 returns-clause-ok g c = subst (λ (h : Scan). ReadsNext (g.H.Host.view c.args.host.now) h.buffered.file h.blocks h.page h.index c.in_ok-found.found.position.page c.in_ok-found.found.position.index
@@ -22,5 +27,11 @@ returns-clause-stands g c = subst (λ (h : Scan). ReadsHere (g.H.Host.view c.arg
 pub returns-in_err-found-clause-undamaged : goal.returns-in_err-found-clause-undamaged
 returns-in_err-found-clause-undamaged g c =
     let p = err_from_is_err_and c.from_residual.result c.from_residual.ensures.1 in
-    rw (p.1, p.2) (subst (λ (h : Scan). NoFalseDamage (g.H.Host.view c.args.host.now) h.buffered.file h.blocks c.in_err-found.field-0.0) c.self.view_is
-    (no_false (g.H.Host.view c.args.host.now) c.self.inside.buffered.file c.self.inside.blocks c.in_err-found.field-0.0 c.in_err-found.ensures.damaged))
+    let v = g.H.Host.view c.args.host.now in
+    let shown = next_shown v c.self.inside.buffered.file c.self.inside.blocks c.self.inside.page c.self.inside.index c.in_err-found.field-0.0 (omega arith) c.in_err-found.ensures.damaged in
+    rw (p.1, p.2) (subst (λ (h : Scan). NoFalseDamage v h.buffered.file h.blocks c.in_err-found.field-0.0) c.self.view_is
+    (no_false v c.self.inside.buffered.file c.self.inside.blocks c.in_err-found.field-0.0 shown))
+
+pub returns-clause-ends : goal.returns-clause-ends
+returns-clause-ends g c = subst (λ (h : Scan). h.blocks.first / 4096 + h.blocks.blocks ≤ h.page → (bytes : Bytes) → contents (g.H.Host.view c.args.host.now) h.buffered.file ≡ Some bytes → EndsTerms bytes h.blocks) c.self.view_is
+    c.in_ok-found.ensures.ends
