@@ -1,6 +1,5 @@
 -- Which headers and footers of index files have bytes, and how many.
 use Rattle.std.proofs.Common.{◌≡◌, ◌≢◌, ℕ, ◌+◌, ◌^◌, ◌<◌, ◌≤◌, inl, inr, Bool, true, [], ◌∷◌, ◌++◌, length, refl, ap, ◌∙◌, arith, lit<, length-append}
-use Rattle.std.specs.Prelude.{◌-◌}
 use Rattle.std.specs.Int.{w8, w32, w64, to_be_bytes}
 use Rattle.sasi_types.specs.Codes.{mode_code, type_code}
 use Rattle.sasi_types.specs.declared.column.ColumnType.{ColumnType}

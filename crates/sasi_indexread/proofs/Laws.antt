@@ -1,5 +1,5 @@
 -- The offsets of the parts of an index file.
-use Rattle.std.specs.Prelude.{◌≡◌, ℕ, zero, suc, ◌+◌, ◌-◌, ◌*◌, ◌/◌, ◌^◌, ◌<◌, ◌≤◌, true, List, [], ◌∷◌, ◌++◌, length, get_or, replicate, Some, None, refl}
+use Rattle.std.specs.Prelude.{◌≡◌, ℕ, zero, suc, ◌+◌, ◌-◌, ◌*◌, ◌/◌, ◌^◌, ◌<◌, ◌≤◌, true, List, [], ◌∷◌, ◌++◌, length, get_or, Some, None, refl}
 use Rattle.std.proofs.Common.{sym, ◌∙◌, ap, subst, arith, append_assoc, length-append, ⊎_elim}
 use Rattle.std.proofs.lemmas.List.{append-nil, length-map, length-replicate}
 use Rattle.std.proofs.lemmas.Bool.Decides.{leb_tells}
@@ -16,14 +16,14 @@ use Rattle.sasi_tokentree.specs.Format.{HasTree, above, level_bytes, levels, siz
 use Rattle.sasi_tokentree.specs.Sizes.{level_length, more_levels, one_level}
 use Rattle.sasi_tokentree.proofs.Laws.{root_place}
 use Rattle.sasi_termblocks.specs.declared.term_entry.TermEntry.{TermEntry}
-use Rattle.sasi_termblocks.specs.Blocks.{IsRefOf, blocks, items_of, levels_bytes, term_item}
+use Rattle.sasi_termblocks.specs.Blocks.{IsRefOf, items_of, levels_bytes, term_item}
 use Rattle.sasi_termblocks.specs.Scans.{HasBlocks, HaveBytes, terms_of, IsRising as AreRisingTerms}
 use Rattle.sasi_termblocks.proofs.EntryLaws.{entry_fits}
 use Rattle.sasi_termblocks.proofs.Groups.{AreItems, are_small, items_are}
 use Rattle.sasi_indexwrite.specs.declared.footer.Footer.{Footer}
 use Rattle.sasi_indexwrite.specs.Content.{ArePairs, IndexContent, IsTerm, TermPairs, terms_in}
 use Rattle.sasi_indexwrite.specs.Files.{IsIndexFile}
-use Rattle.sasi_indexwrite.specs.Format.{header_bytes, footer, footer_bytes, trees_bytes, entries_from, trees, entries, spill_at, spill_ref, front, next_page, padding, blocks_at, index_bytes, is_first, has_room, has_levels, is_top, is_spill}
+use Rattle.sasi_indexwrite.specs.Format.{header_bytes, footer, footer_bytes, trees_bytes, entries_from, trees, entries, spill_at, spill_ref, front, next_page, padding, blocks_at, index_bytes, is_first, has_room, has_levels, is_spill}
 use Rattle.sasi_indexread.proofs.LevelSizes.{levels_are}
 use Rattle.sasi_indexread.proofs.Ranges.{first_passes, levels_pass, room_passes, spill_passes, term_count_passes, top_passes, top_small}
 use Rattle.sasi_indexread.proofs.Fields.{footer_fits}

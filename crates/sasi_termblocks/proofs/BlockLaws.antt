@@ -6,7 +6,7 @@ use Rattle.std.specs.Int.{to_be_bytes, from_be_bytes, w16}
 use Rattle.std.specs.Prelude.{get_or, replicate}
 use Rattle.sasi_host.specs.Names.{Bytes}
 use Rattle.sasi_formats.specs.Formats.{Format, Encodes}
-use Rattle.sasi_formats.specs.Reader.{Corruption, Got, start}
+use Rattle.sasi_formats.specs.Reader.{Corruption, Got, read, start}
 use Rattle.sasi_formats.specs.Failures.{Fails}
 use Rattle.sasi_formats.proofs.Agreement.{apart}
 use Rattle.sasi_formats.proofs.Completed.{complete}
@@ -85,6 +85,19 @@ offset_is items index d le lt =
     two_more : (k : ℕ) → 2 + k ≡ suc (suc k)
     two_more k = omega arith
 
+taken : (items : List Item) (index : ℕ) (d : Item) → index < length items → length (entries_bytes (take (suc index) items)) ≡ length (entries_bytes (take index items)) + length (get_or items index d).bytes
+taken [] index d lt = absurd (omega (arith, lt))
+taken (item ∷ others) zero d lt = omega (arith, length-append item.bytes [])
+taken (item ∷ others) (suc index) d lt =
+    omega (arith, length-append item.bytes (entries_bytes (take (suc index) others)), length-append item.bytes (entries_bytes (take index others)), taken others index d (omega (arith, lt)))
+
+-- an entry stands where the one before it ends
+pub next_offset : (items : List Item) (index : ℕ) (d : Item) → size items ≤ 4096 → index + 1 < length items → offset_in (block items) (index + 1) ≡ offset_in (block items) index + length (get_or items index d).bytes
+next_offset items index d le lt =
+    let more : index + 1 ≡ suc index = omega arith in
+    let one_more : length (entries_bytes (take (index + 1) items)) ≡ length (entries_bytes (take (suc index) items)) = ap (λ (n : ℕ). length (entries_bytes (take n items))) more in
+    omega (arith, offset_is items index d le (omega (arith, lt)), offset_is items (index + 1) d le lt, one_more, taken items index d (omega (arith, lt)))
+
 -- what stands there: the bytes of the entry, and others behind them
 pub record StandsIn (bytes : Bytes) (index : ℕ) (entry : Bytes) : Type 0 where
   pub behind : Bytes
@@ -109,11 +122,17 @@ entry_stands items index d le lt =
 -- ---- what is read there
 
 -- a value that begins there
-pub entry_read : {A : Type 0} (format : Format A) (bytes : Bytes) (index : ℕ) (value : A) (entry rest : Bytes) → Encodes format value entry → StandsIn bytes index (entry ++ rest) → HasEntry format bytes index value
-entry_read format bytes index value entry rest encodes stands =
+pub entry_done : {A : Type 0} (format : Format A) (bytes : Bytes) (index : ℕ) (value : A) (entry rest : Bytes) → Encodes format value entry → StandsIn bytes index (entry ++ rest)
+    → (left : Bytes) × (read format (start (bytes_in bytes index)) ≡ Got value (record { done = entry; left = left }))
+entry_done format bytes index value entry rest encodes stands =
     let behind = rest ++ stands.behind in
     let is : bytes_in bytes index ≡ entry ++ behind = stands.is ∙ append_assoc entry rest stands.behind in
-    (record { done = entry; left = behind }, complete format value entry (start (bytes_in bytes index)) (record { done = entry; left = behind }) encodes (record { next = is; done = refl }))
+    (behind, complete format value entry (start (bytes_in bytes index)) (record { done = entry; left = behind }) encodes (record { next = is; done = refl }))
+
+pub entry_read : {A : Type 0} (format : Format A) (bytes : Bytes) (index : ℕ) (value : A) (entry rest : Bytes) → Encodes format value entry → StandsIn bytes index (entry ++ rest) → HasEntry format bytes index value
+entry_read format bytes index value entry rest encodes stands =
+    let done = entry_done format bytes index value entry rest encodes stands in
+    (record { done = entry; left = done.0 }, done.1)
 
 pub one_entry : {A : Type 0} (format : Format A) (bytes : Bytes) (index : ℕ) (a b : A) → HasEntry format bytes index a → HasEntry format bytes index b → a ≡ b
 one_entry format bytes index a b first second = let same : Got a first.0 ≡ Got b second.0 = sym first.1 ∙ second.1 in cc

@@ -1,5 +1,5 @@
 -- For callers: a scan begins before the first entry, and what was written has the blocks.
-use Rattle.std.proofs.Common.{◌≡◌, ℕ, ◌+◌, ◌*◌, ◌/◌, ◌^◌, ◌<◌, ◌≤◌, List, [], ◌++◌, length, take, drop, Some, refl, sym, ap, ◌∙◌, subst, arith, ⊎_elim}
+use Rattle.std.proofs.Common.{◌≡◌, ℕ, ◌+◌, ◌*◌, ◌/◌, ◌^◌, ◌≤◌, List, length, take, drop, refl, sym, ap, ◌∙◌, subst, arith, ⊎_elim}
 use Rattle.std.proofs.lemmas.Bool.Decides.{leb_tells}
 use Rattle.std.proofs.lemmas.List.{length-take-le}
 use Rattle.sasi_host.specs.Names.{Bytes}
@@ -8,10 +8,10 @@ use Rattle.sasi_host.specs.Disk.{overlay}
 use Rattle.sasi_termblocks.specs.declared.block_ref.BlockRef.{BlockRef}
 use Rattle.sasi_termblocks.specs.declared.term_entry.TermEntry.{TermEntry}
 use Rattle.sasi_termblocks.specs.Blocks.{IsRefOf, blocks, items_of, levels_bytes}
-use Rattle.sasi_termblocks.specs.Scans.{HasBlocks, HasPassed, HaveBytes, IsAt, IsRising, start_of, terms_of}
+use Rattle.sasi_termblocks.specs.Scans.{HasBlocks, HasPassed, HaveBytes, IsRising, start_of, terms_of}
 use Rattle.sasi_termblocks.specs.Scans.IsAt.{at_entry, at_end}
-use Rattle.sasi_termblocks.proofs.CutLaws.{AreBlocks, all_blocks}
-use Rattle.sasi_termblocks.proofs.Groups.{IsBlock, are_small, is_block}
+use Rattle.sasi_termblocks.proofs.CutLaws.{all_blocks}
+use Rattle.sasi_termblocks.proofs.Groups.{are_small, is_block}
 use Rattle.sasi_termblocks.proofs.Children.{all_items}
 
 -- a new scan has passed no entry

@@ -1,5 +1,5 @@
 -- The faults of a block's entries.
-use Rattle.std.proofs.Common.{◌≡◌, ℕ, Bool, ◌+◌, ◌≤◌, ◌-◌, length, take, drop, min, false, sym, ap, ◌∙◌, subst, arith, length-drop, inl, inr}
+use Rattle.std.proofs.Common.{◌≡◌, ◌≢◌, ℕ, Bool, ◌+◌, ◌*◌, ◌≤◌, ◌-◌, length, take, drop, min, false, sym, ap, ◌∙◌, subst, arith, length-drop, inl, inr}
 use Rattle.std.proofs.lemmas.List.{drop_min, take_rest}
 use Rattle.sasi_fields.specs.Reading.{Reading}
 use Rattle.std.specs.Prelude.{◌⊎◌}
@@ -19,7 +19,8 @@ use Rattle.sasi_formats.proofs.Offsets.{fails_within}
 use Rattle.sasi_termblocks.specs.declared.fault.BlockFault.{BlockFault}
 use Rattle.sasi_termblocks.specs.declared.fault.BlockFault.TheVariants.{OutOfMemory, Broken}
 use Rattle.sasi_termblocks.specs.Entries.{is_below, term, term_entry}
-use Rattle.sasi_termblocks.specs.Windows.{BreaksEntry, HasEntry, IsFault, bytes_in, offset_in}
+use Rattle.sasi_termblocks.specs.declared.term_entry.TermEntry.{TermEntry}
+use Rattle.sasi_termblocks.specs.Windows.{BreaksEntry, BreaksNext, HasEntry, HasSize, IsFault, bytes_in, offset_in}
 use Rattle.sasi_termblocks.specs.Windows.BreaksEntry.{offset, field}
 use Rattle.sasi_termblocks.specs.BlockFaults.{BreaksUpTo, HasPlace, IsBrokenAt, IsMisplaced, IsMoved, IsNear, IsPlaced}
 use Rattle.sasi_termblocks.specs.Descents.{pointer_to}
@@ -155,3 +156,31 @@ pub order_at : (block : Bytes) (index at : ℕ) (seen : Bytes) (now : BlockFault
     → IsBrokenAt rule.Order (offset_in block index) (take 8 (bytes_in block index)) now
 order_at block index at seen OutOfMemory at_is seen_is broken = broken
 order_at block index at seen (Broken b) at_is seen_is broken = (broken.0, broken.1 ∙ at_is, broken.2 ∙ seen_is)
+
+-- ---- an entry that is passed over
+
+abbrev no_value : TermEntry → Unit {0}
+no_value entry = tt
+
+skipped : (o : Outcome TermEntry) (t : Reading) → outcome_as no_value o ≡ Got tt t → (entry : TermEntry) × (o ≡ Got entry t)
+skipped (Got entry u) t is = let behind : u ≡ t = cc in (entry, ap (λ (r : Reading). Got entry r) behind)
+skipped (Failed f) t is = absurd cc
+
+pub size_got : (block : Bytes) (index : ℕ) (s t : Reading) (size : ℕ) → s ≡ start (bytes_in block index) → outcome_as no_value (read term_entry s) ≡ Got tt t → size ≡ length t.done → HasSize block index size
+size_got block index s t size is got size_is = let both = skipped (read term_entry s) t got in (both.0, t, subst (λ (r : Reading). read term_entry r ≡ Got both.0 t) is both.1, size_is)
+
+skip_failed : (o : Outcome TermEntry) (f : Corruption) → outcome_as no_value o ≡ Failed f → o ≡ Failed f
+skip_failed (Got entry u) f is = absurd cc
+skip_failed (Failed g) f is = let same : g ≡ f = cc in ap (λ (x : Corruption). Failed x) same
+
+pub skip_fails : (o : Outcome TermEntry) (f : FormatFault) → FailsWith (outcome_as no_value o) f → FailsWith o f
+skip_fails o fault.OutOfMemory fails = tt
+skip_fails o fault.Short fails = skip_failed o reader.Short fails
+skip_fails o fault.Long fails = skip_failed o reader.Long fails
+skip_fails o (fault.Broken b) fails = skip_failed o (reader.Broken b.rule b.at (seen_bytes b.seen)) fails
+
+-- an entry that stands elsewhere than where the one before it ends
+pub next_fault : (block : Bytes) (index size : ℕ) (now : BlockFault) → HasSize block index size → offset_in block (index + 1) - offset_in block index ≢ size
+    → IsBrokenAt rule.Number (2 + 2 * (index + 1)) (take 2 (drop (2 + 2 * (index + 1)) block)) now → IsNear now → IsFault (BreaksNext block index) now
+next_fault block index size OutOfMemory has wrong broken near = tt
+next_fault block index size (Broken b) has wrong broken near = (record { size = size; has = has; wrong = wrong; rule_is = broken.0; at_is = broken.1; seen_is = broken.2 }, near)

@@ -7,18 +7,19 @@ use Rattle.sasi_host.specs.Damages.{HasAt}
 use Rattle.sasi_host.specs.declared.damage.FormatRule.{FormatRule}
 use Rattle.sasi_host.proofs.Offsets.{same_at}
 use Rattle.sasi_formats.specs.Formats.{Format, Fits, encoded}
-use Rattle.sasi_formats.specs.Reader.{Corruption, Short, Long, Broken, start}
+use Rattle.sasi_fields.specs.Reading.{Reading}
+use Rattle.sasi_formats.specs.Reader.{Corruption, Got, Short, Long, Broken, start}
 use Rattle.sasi_formats.specs.Failures.{Fails}
 use Rattle.sasi_formats.proofs.Agreement.{is_encoded, reads_exactly}
 use Rattle.sasi_termblocks.specs.declared.term_entry.TermEntry.{TermEntry}
 use Rattle.sasi_termblocks.specs.Entries.{is_below, term, term_entry}
 use Rattle.sasi_termblocks.specs.Blocks.{Item, block, size}
-use Rattle.sasi_termblocks.specs.Windows.{BreaksEntry, HasEntry, IsBound, bytes_in}
+use Rattle.sasi_termblocks.specs.Windows.{BreaksEntry, BreaksNext, HasEntry, IsBound, bytes_in}
 use Rattle.sasi_termblocks.specs.Windows.BreaksEntry.{offset, field}
 use Rattle.sasi_termblocks.specs.Scans.{IsAt, start_of}
 use Rattle.sasi_termblocks.specs.Scans.IsAt.{at_entry, at_end}
 use Rattle.sasi_termblocks.proofs.CutLaws.{AreBlocks, block_length}
-use Rattle.sasi_termblocks.proofs.BlockLaws.{StandsIn, entry_read, entry_sound, entry_stands, one_entry}
+use Rattle.sasi_termblocks.proofs.BlockLaws.{StandsIn, entry_done, entry_read, entry_sound, entry_stands, next_offset, one_entry}
 use Rattle.sasi_termblocks.proofs.Groups.{AreItems, IsItem, every_at, is_block, start_next}
 use Rattle.sasi_termblocks.proofs.Levels.{IsSplit}
 
@@ -88,6 +89,19 @@ value_sound {A = A} format group index d v broken at seen le lt is fits breaks =
     by broken at seen (offset rule_is at_is seen_is (inl fails)) = sound Short fails
     by broken at seen (offset rule_is at_is seen_is (inr fails)) = sound Long fails
     by broken at seen (field inner at_is fails) = sound (Broken broken inner seen) fails
+
+got_same : {A : Type 0} (a b : A) (s t : Reading) → Got a s ≡ Got b t → s ≡ t
+got_same a b s t is = cc
+
+-- and the next one stands where it ends
+pub next_sound : (group : List Item) (index : ℕ) (d : Item) (v : TermEntry) (broken : FormatRule) (at : ℕ) (seen : Bytes) → size group ≤ 4096 → index + 1 < length group → (get_or group index d).bytes ≡ encoded term_entry v → Fits term_entry v
+    → BreaksNext (block group) index broken at seen → ⊥
+next_sound group index d v broken at seen le lt is fits breaks =
+    let stands = value_stands term_entry group index d v le (omega (arith, lt)) is in
+    let mine = entry_done term_entry (block group) index v (encoded term_entry v) [] (is_encoded term_entry v (encoded term_entry v) fits refl) stands in
+    let has = breaks.has in
+    let same = got_same v has.0 (record { done = encoded term_entry v; left = mine.0 }) has.1 (sym mine.1 ∙ has.2) in
+    breaks.wrong (omega (arith, next_offset group index d le lt, ap (λ (l : Bytes). length l) is, ap (λ (r : Reading). length r.done) same, has.3))
 
 -- ---- the entry at a position
 

@@ -1,5 +1,5 @@
 -- Where the pointers lead in a search for a term.
-use Rattle.std.proofs.Common.{◌≡◌, ℕ, zero, ◌+◌, ◌-◌, ◌*◌, ◌/◌, ◌<◌, ◌≤◌, true, false, List, [], length, refl, sym, ap, ◌∙◌, subst, arith}
+use Rattle.std.proofs.Common.{◌≡◌, ℕ, ◌+◌, ◌-◌, ◌*◌, ◌/◌, ◌<◌, ◌≤◌, true, false, List, [], length, refl, sym, ap, ◌∙◌, subst, arith}
 use Rattle.std.proofs.lemmas.List.{length-map}
 use Rattle.std.specs.Prelude.{get_or}
 use Rattle.sasi_host.specs.declared.name.FileName.{FileName}
@@ -9,7 +9,7 @@ use Rattle.sasi_host.specs.Damages.{HasAt}
 use Rattle.sasi_termblocks.specs.declared.block_ref.BlockRef.{BlockRef}
 use Rattle.sasi_termblocks.specs.declared.term_entry.TermEntry.{TermEntry}
 use Rattle.sasi_termblocks.specs.Entries.{is_below, term}
-use Rattle.sasi_termblocks.specs.Blocks.{Item, block, blocks, items_of, least}
+use Rattle.sasi_termblocks.specs.Blocks.{Item, block, blocks, items_of}
 use Rattle.sasi_termblocks.specs.Windows.{HasEntry, IsBound, count_in}
 use Rattle.sasi_termblocks.specs.BlockFaults.{HasPlace, IsMisplaced}
 use Rattle.sasi_termblocks.specs.Damages.{LeadsFor, LeadsTo, ShowsBlock}

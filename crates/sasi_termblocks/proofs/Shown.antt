@@ -20,7 +20,7 @@ use Rattle.sasi_termblocks.specs.declared.fault.BlockFault.TheVariants.{OutOfMem
 use Rattle.sasi_termblocks.specs.declared.block_ref.BlockRef.{BlockRef}
 use Rattle.sasi_termblocks.specs.Entries.{is_below, term}
 use Rattle.sasi_termblocks.specs.Windows.{IsFault, count_in}
-use Rattle.sasi_termblocks.specs.BlockFaults.{BreaksFirstPointer, BreaksLeast, BreaksSome, BreaksUpTo, IsMisplaced, IsNear}
+use Rattle.sasi_termblocks.specs.BlockFaults.{BreaksEnd, BreaksFirstPointer, BreaksLeast, BreaksSome, BreaksUpTo, IsMisplaced, IsNear}
 use Rattle.sasi_termblocks.specs.Damages.{BreaksGiven, BreaksPointers, BreaksSplit, BreaksTerms, IsLifted, Leads, LeadsFor, LeadsTo, ShowsBlock, ShowsBlocks, ShowsGiven}
 use Rattle.sasi_termblocks.specs.Damages.ShowsBlock.{ends, breaks}
 use Rattle.sasi_termblocks.specs.Damages.ShowsBlocks.{in_terms, in_pointers, ends_early, behind_terms, led_too_far, led_too_near}
@@ -47,11 +47,15 @@ pointers_broken low high block count r at seen is some = inr (some.0, omega (ari
 
 pub order_broken : (block : Bytes) (index : ℕ) (r : FormatRule) (at : ℕ) (seen : Bytes) → index < count_in block → BreaksUpTo block index r at seen → BreaksTerms block r at seen
 order_broken block index r at seen lt (inl some) = inr (inl (some.0, omega (arith, some.1, lt), entry_breaks block some.0 r at seen some.2))
-order_broken block index r at seen lt (inr two) = inr (inr (two.0, omega (arith, two.1, lt), two.2))
+order_broken block index r at seen lt (inr two) = inr (inr (inl (two.0, omega (arith, two.1, lt), two.2)))
 
 pub least_broken : (index : ℕ) (least block : Bytes) (r : FormatRule) (at : ℕ) (seen : Bytes) → index < count_in block → BreaksLeast index least block r at seen → BreaksGiven index least block r at seen
 least_broken index least block r at seen lt (inl broken) = inl (inr (inl (index, lt, entry_breaks block index r at seen broken)))
 least_broken index least block r at seen lt (inr misplaced) = inr misplaced
+
+pub end_broken : (block : Bytes) (index : ℕ) (r : FormatRule) (at : ℕ) (seen : Bytes) → index < count_in block → BreaksEnd block index r at seen → BreaksTerms block r at seen
+end_broken block index r at seen lt (inl entry) = inr (inl (index, lt, entry))
+end_broken block index r at seen lt (inr next) = inr (inr (inr (index, next.0, next.1)))
 
 -- ---- in the file
 

@@ -18,7 +18,7 @@ use Rattle.sasi_termblocks.proofs.CutLaws.{all_blocks, block_length}
 use Rattle.sasi_termblocks.proofs.BlockLaws.{count_is, offset_is, one_entry}
 use Rattle.sasi_termblocks.proofs.Groups.{Every, IsBlock, IsItem, are_small, block_every, every_at, is_block, item_at, item_within, joined, joined_blocks, term_at, terms_in}
 use Rattle.sasi_termblocks.proofs.Levels.{level_are, level_block}
-use Rattle.sasi_termblocks.proofs.Found.{IsValue, term_begins, value_sound}
+use Rattle.sasi_termblocks.proofs.Found.{IsValue, next_sound, term_begins, value_sound}
 use Rattle.sasi_termblocks.proofs.Children.{all_items, all_rise}
 
 -- a block in the format has a right count
@@ -91,8 +91,16 @@ module _ (bytes : Bytes) (r : BlockRef) (entries : List TermEntry) (has : HasBlo
       let within : entry.0 < length here = omega (arith, entry.1, count_is here one.fits) in
       let value = every_at (λ (i : Item). IsValue term_entry i) here entry.0 (record { term = []; bytes = [] }) (block_every (λ (i : Item). IsValue term_entry i) items group (values entries has.fit)) within in
       value_sound term_entry here entry.0 (record { term = []; bytes = [] }) value.value rule_ at seen one.fits within value.is value.fits entry.2
-  terms_sound group rule_ at seen lt (inr (inr order)) =
+  terms_sound group rule_ at seen lt (inr (inr (inl order))) =
       let items = items_of entries in
       let here = get_or (blocks items) group [] in
       let one = is_block (blocks items) group (all_blocks items (are_small items (all_items bytes r entries has))) lt in
       order_sound group order.0 rule_ at seen lt (omega (arith, order.1, count_is here one.fits)) order.2
+  terms_sound group rule_ at seen lt (inr (inr (inr next))) =
+      let items = items_of entries in
+      let here = get_or (blocks items) group [] in
+      let d : Item = record { term = []; bytes = [] } in
+      let one = is_block (blocks items) group (all_blocks items (are_small items (all_items bytes r entries has))) lt in
+      let within : next.0 + 1 < length here = omega (arith, next.1, count_is here one.fits) in
+      let value = every_at (λ (i : Item). IsValue term_entry i) here next.0 d (block_every (λ (i : Item). IsValue term_entry i) items group (values entries has.fit)) (omega (arith, within)) in
+      next_sound here next.0 d value.value rule_ at seen one.fits within value.is value.fits next.2

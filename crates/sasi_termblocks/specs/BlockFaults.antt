@@ -9,9 +9,9 @@ use Rattle.sasi_formats.specs.declared.fault.FormatFault.{FormatFault}
 use Rattle.sasi_formats.specs.declared.fault.FormatFault.TheVariants as fault
 use Rattle.sasi_termblocks.specs.declared.fault.BlockFault.{BlockFault}
 use Rattle.sasi_termblocks.specs.declared.fault.BlockFault.TheVariants.{OutOfMemory, Broken}
-use Rattle.sasi_termblocks.specs.Entries.{is_below, term}
+use Rattle.sasi_termblocks.specs.Entries.{is_below, term, term_entry}
 use Rattle.sasi_termblocks.specs.Descents.{pointer_to}
-use Rattle.sasi_termblocks.specs.Windows.{BreaksEntry, BreaksFront, BreaksOrder, HasEntry, bytes_in, offset_in}
+use Rattle.sasi_termblocks.specs.Windows.{BreaksEntry, BreaksFront, BreaksNext, BreaksOrder, HasEntry, bytes_in, count_in, offset_in}
 
 -- the place is that of a pointer with some term
 abbrev pub HasPlace : ℕ → ℕ → Bytes → ℕ → ℕ → Type 0
@@ -49,6 +49,10 @@ pub record IsMisplaced (test : Bool) (index : ℕ) (sought : Bytes) (block : Byt
 -- an entry is broken, or its term is below this one
 abbrev pub BreaksLeast : ℕ → Bytes → Bytes → FormatRule → ℕ → Bytes → Type 0
 BreaksLeast index least block broken at seen = BreaksEntry term block index broken at seen ⊎ IsMisplaced true index least block broken at seen
+
+-- an entry is broken, or isn't the last one and ends elsewhere than where the next one stands
+abbrev pub BreaksEnd : Bytes → ℕ → FormatRule → ℕ → Bytes → Type 0
+BreaksEnd block index broken at seen = BreaksEntry term_entry block index broken at seen ⊎ ((index + 1 < count_in block) × BreaksNext block index broken at seen)
 
 -- what breaks the first pointer block, whose first pointer leads to this page
 abbrev pub BreaksFirstPointer : ℕ → Bytes → FormatRule → ℕ → Bytes → Type 0

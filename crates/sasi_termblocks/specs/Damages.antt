@@ -11,7 +11,7 @@ use Rattle.sasi_termblocks.specs.declared.block_ref.BlockRef.{BlockRef}
 use Rattle.sasi_termblocks.specs.declared.fault.BlockFault.{BlockFault}
 use Rattle.sasi_termblocks.specs.declared.fault.BlockFault.TheVariants.{OutOfMemory, Broken}
 use Rattle.sasi_termblocks.specs.Entries.{pointer, term_entry}
-use Rattle.sasi_termblocks.specs.Windows.{BreaksEntry, BreaksFront, BreaksOrder, HasEntry, IsBound, count_in}
+use Rattle.sasi_termblocks.specs.Windows.{BreaksEntry, BreaksFront, BreaksNext, BreaksOrder, HasEntry, IsBound, count_in}
 use Rattle.sasi_termblocks.specs.Descents.{high_page, low_page, page_of_top, pointer_to}
 use Rattle.sasi_termblocks.specs.BlockFaults.{BreaksFirstPointer, HasPlace, IsMisplaced}
 
@@ -31,6 +31,7 @@ BreaksTerms block broken at seen =
     BreaksFront block broken at seen
     ⊎ ((index : ℕ) × (index < count_in block) × BreaksEntry term_entry block index broken at seen)
     ⊎ ((index : ℕ) × (index + 1 < count_in block) × BreaksOrder block index broken at seen)
+    ⊎ ((index : ℕ) × (index + 1 < count_in block) × BreaksNext block index broken at seen)
 
 -- what breaks a pointer block, whose places are those of pages from one to another
 abbrev pub BreaksPointers : ℕ → ℕ → Bytes → FormatRule → ℕ → Bytes → Type 0

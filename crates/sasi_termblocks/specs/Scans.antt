@@ -11,7 +11,7 @@ use Rattle.sasi_formats.specs.Formats.{Fits}
 use Rattle.sasi_termblocks.specs.declared.block_ref.BlockRef.{BlockRef}
 use Rattle.sasi_termblocks.specs.declared.term_entry.TermEntry.{TermEntry}
 use Rattle.sasi_termblocks.specs.Entries.{is_below, term_entry}
-use Rattle.sasi_termblocks.specs.Windows.{HasEntry, StartsBehind, count_in}
+use Rattle.sasi_termblocks.specs.Windows.{EndsAtNext, HasEntry, StartsBehind, count_in}
 use Rattle.sasi_termblocks.specs.BlockFaults.{IsAboveLast}
 use Rattle.sasi_termblocks.specs.Blocks.{Item, IsRefOf, blocks, items_of, levels_bytes}
 
@@ -85,14 +85,14 @@ ReadsFirst v file ref sought new_page new_index found =
 
 -- ---- in any file
 
--- the entry, if any, is that of the block with this index, above the one before it; the position is then behind it, and the block
--- has as many entries as its first offset leaves room for
+-- the entry, if any, is that of the block with this index, above the one before it; the position is then behind it. The block has as
+-- many entries as its first offset leaves room for, and the next one stands where this one ends.
 abbrev pub GivesEntry : Bytes → ℕ → ℕ → ℕ → ℕ → Option TermEntry → Type 0
 GivesEntry block page index new_page new_index None = (count_in block ≤ index) × (new_page ≡ page) × (new_index ≡ index)
 GivesEntry block page index new_page new_index (Some entry) =
     (index < count_in block) × HasEntry term_entry block index entry × IsAboveLast block index
     × (new_page ≡ (if nat_lt (index + 1) (count_in block) then page else page + 1)) × (new_index ≡ (if nat_lt (index + 1) (count_in block) then (index + 1) else 0))
-    × StartsBehind block
+    × StartsBehind block × (index + 1 < count_in block → EndsAtNext block index)
 
 -- the entry, if any, is that with this index of the block on this page, even where other blocks are damaged
 abbrev pub ReadsHere : View → FileName → ℕ → ℕ → ℕ → ℕ → Option TermEntry → Type 0

@@ -1,5 +1,5 @@
 -- A block as it is read: bytes that may be those of a block.
-use Rattle.std.specs.Prelude.{◌≡◌, ◌≢◌, ℕ, ◌+◌, ◌*◌, ◌<◌, ◌≤◌, ◌⊎◌, true, false, take, drop}
+use Rattle.std.specs.Prelude.{◌≡◌, ◌≢◌, ℕ, ◌+◌, ◌-◌, ◌*◌, ◌<◌, ◌≤◌, ◌⊎◌, true, false, length, take, drop}
 use Rattle.std.specs.Int.{from_be_bytes, w16}
 use Rattle.sasi_host.specs.Names.{Bytes}
 use Rattle.sasi_host.specs.Damages.{seen_bytes}
@@ -12,7 +12,8 @@ use Rattle.sasi_formats.specs.Failures.{Fails}
 use Rattle.sasi_termblocks.specs.declared.fault.BlockFault.{BlockFault}
 use Rattle.sasi_termblocks.specs.declared.fault.BlockFault.TheVariants.{OutOfMemory}
 use Rattle.sasi_termblocks.specs.declared.fault.BlockFault.TheVariants as fault
-use Rattle.sasi_termblocks.specs.Entries.{is_below, term}
+use Rattle.sasi_termblocks.specs.declared.term_entry.TermEntry.{TermEntry}
+use Rattle.sasi_termblocks.specs.Entries.{is_below, term, term_entry}
 
 -- the number of two bytes at an offset
 unfoldable pub number_at : Bytes → ℕ → ℕ
@@ -36,6 +37,14 @@ HasEntry format block index value = (behind : Reading) × (read format (start (b
 -- the first entry stands behind the offsets
 abbrev pub StartsBehind : Bytes → Type 0
 StartsBehind block = number_at block 2 ≡ 2 + 2 * count_in block
+
+-- the entry has so many bytes
+abbrev pub HasSize : Bytes → ℕ → ℕ → Type 0
+HasSize block index size = (entry : TermEntry) × (behind : Reading) × (read term_entry (start (bytes_in block index)) ≡ Got entry behind) × (size ≡ length behind.done)
+
+-- the next entry stands where this one ends
+abbrev pub EndsAtNext : Bytes → ℕ → Type 0
+EndsAtNext block index = (size : ℕ) × HasSize block index size × (offset_in block (index + 1) - offset_in block index ≡ size)
 
 -- ---- what breaks a block
 
@@ -76,6 +85,15 @@ pub record BreaksOrder (block : Bytes) (index : ℕ) (broken : FormatRule) (at :
   pub rule_is : broken ≡ rule.Order
   pub at_is : at ≡ offset_in block (index + 1)
   pub seen_is : seen ≡ take 8 (bytes_in block (index + 1))
+
+-- the entry behind one stands elsewhere than where that ends
+pub record BreaksNext (block : Bytes) (index : ℕ) (broken : FormatRule) (at : ℕ) (seen : Bytes) : Type 0 where
+  pub size : ℕ
+  pub has : HasSize block index size
+  pub wrong : offset_in block (index + 1) - offset_in block index ≢ size
+  pub rule_is : broken ≡ rule.Number
+  pub at_is : at ≡ 2 + 2 * (index + 1)
+  pub seen_is : seen ≡ take 2 (drop (2 + 2 * (index + 1)) block)
 
 -- the fault is out of memory, or of this kind; its offset is that of a number of two bytes, and within a block from there
 abbrev pub IsFault : (FormatRule → ℕ → Bytes → Type 0) → BlockFault → Type 0

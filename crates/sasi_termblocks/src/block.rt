@@ -1,14 +1,14 @@
 // Reads the bytes of a block.
-ghost use Rattle.std.specs.Prelude.{◌≡◌, ◌+◌, ◌-◌, ◌*◌, ◌^◌, ◌<◌, ◌≤◌, ℕ, length, take, IfErr, IfOk, OnOk};
+ghost use Rattle.std.specs.Prelude.{◌≡◌, ◌+◌, ◌-◌, ◌*◌, ◌^◌, ◌<◌, ◌≤◌, ℕ, length, take, drop, IfErr, IfOk, OnOk};
 ghost use Rattle.sasi_host.specs.declared.damage.FormatRule.TheVariants as rule;
 ghost use Rattle.sasi_formats.specs.Reader.{start};
 ghost use Rattle.sasi_termblocks.specs.Entries.{is_below, term, term_entry};
-ghost use Rattle.sasi_termblocks.specs.Windows.{BreaksCount, BreaksEntry, BreaksFront, BreaksStart, HasEntry, IsBound, IsFault, StartsBehind, bytes_in, count_in, number_at, offset_in};
+ghost use Rattle.sasi_termblocks.specs.Windows.{BreaksCount, BreaksEntry, BreaksFront, BreaksStart, EndsAtNext, HasEntry, HasSize, IsBound, IsFault, StartsBehind, bytes_in, count_in, number_at, offset_in};
 ghost use Rattle.sasi_termblocks.specs.Descents.{pointer_to};
-ghost use Rattle.sasi_termblocks.specs.BlockFaults.{BreaksFirstPointer, BreaksLeast, BreaksSome, BreaksUpTo, HasPlace, IsAboveLast, IsAtLeast, IsBrokenAt, IsCompared, IsMoved, IsNear, IsPlaced, IsSearched};
+ghost use Rattle.sasi_termblocks.specs.BlockFaults.{BreaksEnd, BreaksFirstPointer, BreaksLeast, BreaksSome, BreaksUpTo, HasPlace, IsAboveLast, IsAtLeast, IsBrokenAt, IsCompared, IsMoved, IsNear, IsPlaced, IsSearched};
 
 use crate::block_encode::BLOCK_BYTES;
-use crate::decode::{read_entry, read_place, read_term};
+use crate::decode::{read_entry, read_place, read_term, skip_entry};
 use crate::fault::BlockFault;
 use crate::term_entry::TermEntry;
 use sasi_fields::FieldReader;
@@ -87,6 +87,17 @@ fn reader_at(block: &[u8], index: usize) -> FieldReader
     FieldReader::new(&block[at.min(BLOCK_BYTES)..])
 }
 
+// The offset of the entry with this index is wrong.
+fn wrong_offset(block: &[u8], index: usize) -> BlockFault
+    requires whole { length block.now ≡ 4096 }
+    requires within { 4 + 2 * index ≤ 4096 }
+    ensures near { IsNear result }
+    ensures is { IsBrokenAt rule.Number (2 + 2 * index) (take 2 (drop (2 + 2 * index) block.now)) result }
+{
+    let at = 2 + 2 * index;
+    broken(FormatRule::Number, at, &block[at..at + 2])
+}
+
 // The fault of the entry with this index, by its offset in the block. Where the entry ends behind the block, its offset is wrong.
 fn fault_at(block: &[u8], index: usize, fault: FormatFault) -> BlockFault
     requires whole { length block.now ≡ 4096 }
@@ -95,14 +106,13 @@ fn fault_at(block: &[u8], index: usize, fault: FormatFault) -> BlockFault
     ensures moved { IsMoved block.now index fault result }
     ensures near { IsNear result }
 {
-    let at = 2 + 2 * index;
     match fault {
         FormatFault::OutOfMemory => BlockFault::OutOfMemory,
-        FormatFault::Short => broken(FormatRule::Number, at, &block[at..at + 2]),
-        FormatFault::Long => broken(FormatRule::Number, at, &block[at..at + 2]),
+        FormatFault::Short => wrong_offset(block, index),
+        FormatFault::Long => wrong_offset(block, index),
         FormatFault::Broken(found) => BlockFault::Broken(Broken {
             rule: found.rule,
-            at: number_at(block, at) + found.at,
+            at: number_at(block, 2 + 2 * index) + found.at,
             seen: found.seen,
         }),
     }
@@ -132,6 +142,47 @@ pub fn entry_at(alloc: Global, block: &[u8], index: usize) -> Result<TermEntry, 
         Ok(found) => Ok(found),
         Err(fault) => Err(fault_at(block, index, fault)),
     }
+}
+
+// How many bytes the entry with this index has.
+fn size_of(alloc: Global, block: &[u8], index: usize) -> Result<usize, BlockFault>
+    requires whole { length block.now ≡ 4096 }
+    requires within { 4 + 2 * index ≤ 4096 }
+    ensures ok { IfOk result (HasSize block.now index) }
+    ensures seen { IfErr result (IsFault (BreaksEntry term_entry block.now index)) }
+{
+    let mut reader = reader_at(block, index);
+    match skip_entry(alloc, &mut reader) {
+        Ok(()) => Ok(reader.offset()),
+        Err(fault) => Err(fault_at(block, index, fault)),
+    }
+}
+
+// Checks the entry with this index, and that the next one, if there is one, stands where it ends.
+pub fn check_entry(
+    alloc: Global,
+    block: &[u8],
+    index: usize,
+    count: usize,
+) -> Result<(), BlockFault>
+    requires whole { length block.now ≡ 4096 }
+    requires count { count ≡ count_in block.now }
+    requires within { 2 + 2 * count ≤ 4096 }
+    requires index { index < count }
+    ensures ok { OnOk result (index + 1 < count_in block.now → EndsAtNext block.now index) }
+    ensures seen { IfErr result (IsFault (BreaksEnd block.now index)) }
+{
+    let size = size_of(alloc, block, index)?;
+    if index + 1 >= count {
+        return Ok(());
+    }
+    let here = number_at(block, 2 + 2 * index);
+    let next = number_at(block, 2 + 2 * (index + 1));
+    let bytes = next.saturating_sub(here);
+    if bytes != size {
+        return Err(wrong_offset(block, index + 1));
+    }
+    Ok(())
 }
 
 // The place of the pointer with this index, which is that of a page from one to another.

@@ -45,6 +45,15 @@ pub fn read_entry(alloc: Global, reader: &mut FieldReader) -> Result<TermEntry, 
     })
 }
 
+// Reads an entry, and keeps nothing of it.
+pub fn skip_entry(alloc: Global, reader: &mut FieldReader) -> Result<(), FormatFault>
+    ensures { Gives (outcome_as (λ _. tt) (read term_entry reader.old)) result reader.new }
+{
+    read_term(reader)?;
+    read_postings(alloc, reader)?;
+    Ok(())
+}
+
 // Reads the place of a pointer to a page from one to another.
 pub fn read_place(reader: &mut FieldReader, low: u64, high: u64) -> Result<u64, FormatFault>
     ensures { Gives (outcome_as (λ both. both.1) (read (pointer_to low high) reader.old)) result reader.new }

@@ -8,7 +8,7 @@ ghost use Rattle.sasi_termblocks.specs.BlockFaults.{BreaksFirstPointer, HasPlace
 ghost use Rattle.sasi_termblocks.specs.Damages.{BreaksGiven, EndsTerms, ShowsBlock, ShowsBlocks, ShowsGiven};
 ghost use Rattle.sasi_termblocks.specs.Scans.{GivesEntry, IsNotBelow, ReadsFirst, ReadsHere, ReadsNext, ReadsSome};
 
-use crate::block::{check_least, check_order, count_of, entry_at, first_place};
+use crate::block::{check_entry, check_least, check_order, count_of, entry_at, first_place};
 use crate::block_encode::BLOCK_BYTES;
 use crate::block_read::{fault_of, load_block, loaded_block};
 use crate::block_ref::BlockRef;
@@ -108,6 +108,7 @@ fn entry_in(
     }
     check_order(block, position.index)?;
     check_least(block, position.index, least)?;
+    check_entry(alloc, block, position.index, count)?;
     let entry = entry_at(alloc, block, position.index)?;
     Ok(ScannedEntry {
         entry: Some(entry),
@@ -185,7 +186,7 @@ pub fn first_from<H: Host, P: PageReader>(
         });
     }
     let page = leaf_page(host, pages, buffered, blocks, sought)?;
-    let position = position_for(host, pages, buffered, first, page, sought)?;
+    let position = position_for(alloc, host, pages, buffered, first, page, sought)?;
     let found = entry_from(alloc, host, pages, buffered, blocks, position, sought)?;
     Ok(found)
 }

@@ -5,19 +5,20 @@ ghost use Rattle.sasi_host.specs.Damages.{DamageShown};
 ghost use Rattle.sasi_host.specs.PageReading.{CanReadOn, HasReadOn};
 ghost use Rattle.sasi_termblocks.specs.declared.block_ref.BlockRef.{BlockRef};
 ghost use Rattle.sasi_termblocks.specs.declared.term_entry.TermEntry.{TermEntry};
-ghost use Rattle.sasi_termblocks.specs.Windows.{IsBound, IsFault, count_in};
-ghost use Rattle.sasi_termblocks.specs.BlockFaults.{HasPlace};
+ghost use Rattle.sasi_termblocks.specs.Windows.{EndsAtNext, IsBound, IsFault, count_in};
+ghost use Rattle.sasi_termblocks.specs.BlockFaults.{HasPlace, IsAboveLast};
 ghost use Rattle.sasi_termblocks.specs.Damages.{BreaksPointers, BreaksSplit, BreaksTerms, Leads, LeadsFor, LeadsTo, ShowsBlock, ShowsBlocks};
 ghost use Rattle.sasi_termblocks.specs.Descents.{IsPageFor, high_page, low_page, page_of_top};
 ghost use Rattle.sasi_termblocks.specs.Scans.{CountsBelow, HasBlocks, HasPassed, terms_of};
 
-use crate::block::{count_below, count_of, out_of_order, place_at};
+use crate::block::{check_entry, check_order, count_below, count_of, out_of_order, place_at};
 use crate::block_encode::BLOCK_BYTES;
 use crate::block_read::{fault_of, load_block, loaded_block};
 use crate::block_ref::BlockRef;
 use crate::fault::BlockFault;
 use crate::position::{Position, position_in};
 use sasi_host::{BufferedFile, Host, PageReader, ReadFault};
+use std::alloc::Global;
 
 // The place to which a block points for a term: that of its last pointer with a term below it, or of its first one.
 fn place_for(block: &[u8], sought: &[u8], low: u64, high: u64) -> Result<u64, BlockFault>
@@ -45,6 +46,7 @@ fn split_block(block: &[u8], sought: &[u8]) -> Result<SplitBlock, BlockFault>
     ensures ok { IfOk result (λ split. IsBound block.now split.count sought.now split.below) }
     ensures count { IfOk result (λ split. split.count ≡ count_in block.now) }
     ensures some { IfOk result (λ split. 0 < split.count) }
+    ensures within { IfOk result (λ split. 2 + 2 * split.count ≤ 4096) }
     ensures seen { IfErr result (IsFault (BreaksTerms block.now)) }
 {
     let count = count_of(block)?;
@@ -52,15 +54,41 @@ fn split_block(block: &[u8], sought: &[u8]) -> Result<SplitBlock, BlockFault>
     Ok(SplitBlock { below, count })
 }
 
+// Splits a term block, and checks the entries beside the split: that the two before it end where the next ones stand, and the order.
+fn split_whole(alloc: Global, block: &[u8], sought: &[u8]) -> Result<SplitBlock, BlockFault>
+    requires whole { length block.now ≡ 4096 }
+    ensures ok { IfOk result (λ split. IsBound block.now split.count sought.now split.below) }
+    ensures count { IfOk result (λ split. split.count ≡ count_in block.now) }
+    ensures some { IfOk result (λ split. 0 < split.count) }
+    ensures last { IfOk result (λ split. 0 < split.below → split.below < split.count → EndsAtNext block.now (split.below - 1)) }
+    ensures order { IfOk result (λ split. IsAboveLast block.now (split.below - 1)) }
+    ensures next { IfOk result (λ split. split.below + 1 < split.count → IsAboveLast block.now (split.below + 1)) }
+    ensures seen { IfErr result (IsFault (BreaksTerms block.now)) }
+{
+    let split = split_block(block, sought)?;
+    let last = split.below.saturating_sub(1);
+    check_entry(alloc, block, last, split.count)?;
+    check_entry(alloc, block, last.saturating_sub(1), split.count)?;
+    check_order(block, last)?;
+    check_order(block, (split.below + 1).min(split.count - 1))?;
+    Ok(split)
+}
+
 // The same in a block to which the pointers lead: where it isn't the first one, its first entry is below the term.
-fn split_led(block: &[u8], first: u64, page: u64, sought: &[u8]) -> Result<SplitBlock, BlockFault>
+fn split_led(
+    alloc: Global,
+    block: &[u8],
+    first: u64,
+    page: u64,
+    sought: &[u8],
+) -> Result<SplitBlock, BlockFault>
     requires whole { length block.now ≡ 4096 }
     ensures ok { IfOk result (λ split. IsBound block.now split.count sought.now split.below) }
     ensures count { IfOk result (λ split. split.count ≡ count_in block.now) }
     ensures led { IfOk result (λ split. first < page → 0 < split.below) }
     ensures seen { IfErr result (IsFault (BreaksSplit first page sought.now block.now)) }
 {
-    let split = split_block(block, sought)?;
+    let split = split_whole(alloc, block, sought)?;
     if split.below > 0 {
         return Ok(split);
     }
@@ -173,6 +201,7 @@ pub fn leaf_page<H: Host, P: PageReader>(
 // Where the first entry at or above a term is, in the block on this page to which the pointers lead: behind the block, where it
 // has none. The first block is that on the first page.
 pub fn position_for<H: Host, P: PageReader>(
+    alloc: Global,
     host: &mut H,
     pages: &mut P,
     buffered: &mut BufferedFile,
@@ -190,7 +219,7 @@ pub fn position_for<H: Host, P: PageReader>(
     ensures causes { ReadsAtMost 1 (H.view host.old) (H.view host.new) result }
 {
     load_block(host, pages, buffered, page)?;
-    match split_led(loaded_block(buffered), first, page, sought) {
+    match split_led(alloc, loaded_block(buffered), first, page, sought) {
         Ok(split) => Ok(position_in(page, split.below, split.count)),
         Err(fault) => Err(fault_of(buffered.file(), page, fault)),
     }

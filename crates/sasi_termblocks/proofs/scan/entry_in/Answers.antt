@@ -1,12 +1,12 @@
 use Rattle.std.proofs.Common.{◌≡◌, ◌∙◌, List, ℕ, ap, arith, inl, inr}
 use Rattle.std.proofs.lemmas.Result.{err_from_is_err_and}
-use Rattle.sasi_termblocks.specs.BlockFaults.{BreaksLeast, BreaksUpTo}
-use Rattle.sasi_termblocks.specs.Damages.{BreaksGiven, BreaksTerms}
+use Rattle.sasi_termblocks.specs.BlockFaults.{BreaksEnd, BreaksLeast, BreaksUpTo}
+use Rattle.sasi_termblocks.specs.Damages.{BreaksGiven}
 use Rattle.sasi_termblocks.specs.Entries.{is_below, term, term_entry}
 use Rattle.sasi_termblocks.specs.Windows.{BreaksEntry, BreaksFront}
 use Rattle.sasi_termblocks.proofs.BlockLaws.{one_entry}
 use Rattle.sasi_termblocks.proofs.Found.{entry_begins}
-use Rattle.sasi_termblocks.proofs.Shown.{fault_as, least_broken, order_broken}
+use Rattle.sasi_termblocks.proofs.Shown.{end_broken, fault_as, least_broken, order_broken}
 use Rattle.sasi_termblocks.proofs.scan.entry_in.Goals as goal
 
 pub returns-in_err-count-clause-seen : goal.returns-in_err-count-clause-seen
@@ -25,6 +25,12 @@ returns-in_err-check_least-clause-seen c =
     let p = err_from_is_err_and c.from_residual-in_err-check_least.result c.from_residual-in_err-check_least.ensures.1 in
     rw (p.1, p.2) (fault_as (BreaksLeast c.args.position.index c.args.least.now c.args.block.now) (BreaksGiven c.args.position.index c.args.least.now c.args.block.now) c.in_err-check_least.field-0.0
     (λ r at seen some. least_broken c.args.position.index c.args.least.now c.args.block.now r at seen (omega (arith, c.in_ok-count.ensures.ok)) some) c.in_err-check_least.ensures.seen)
+
+pub returns-in_err-check_entry-clause-seen : goal.returns-in_err-check_entry-clause-seen
+returns-in_err-check_entry-clause-seen c =
+    let p = err_from_is_err_and c.from_residual-in_err-check_entry.result c.from_residual-in_err-check_entry.ensures.1 in
+    rw (p.1, p.2) (fault_as (BreaksEnd c.args.block.now c.args.position.index) (BreaksGiven c.args.position.index c.args.least.now c.args.block.now) c.in_err-check_entry.field-0.0
+    (λ r at seen broken. inl (end_broken c.args.block.now c.args.position.index r at seen (omega (arith, c.in_ok-count.ensures.ok)) broken)) c.in_err-check_entry.ensures.seen)
 
 pub returns-in_err-entry-clause-seen : goal.returns-in_err-entry-clause-seen
 returns-in_err-entry-clause-seen c =
