@@ -1,2 +1,3 @@
+pub mod NumberOrder
 pub mod Percents
 pub mod Searches

@@ -1,6 +1,20 @@
-// The number whose term some bytes are.
+// The terms of numbers, and the number whose term some bytes are.
 ghost use Rattle.std.specs.Prelude.{◌≡◌, length};
-ghost use Rattle.sasi_terms.specs.Numbers.{bigint_of, int_of, number_of};
+ghost use Rattle.sasi_terms.specs.Numbers.{bigint_of, bigint_term, int_of, int_term, number_of};
+
+/// The term of an int.
+pub fn int_term(number: i32) -> [u8; 4]
+    ensures { result ≡ int_term number }
+{
+    (number.cast_unsigned() ^ (1 << 31)).to_be_bytes()
+}
+
+/// The term of a bigint.
+pub fn bigint_term(number: i64) -> [u8; 8]
+    ensures { result ≡ bigint_term number }
+{
+    (number.cast_unsigned() ^ (1 << 63)).to_be_bytes()
+}
 
 // The int of a term of four bytes.
 fn int_of(term: &[u8]) -> i32
