@@ -1,18 +1,19 @@
 -- Where the terms that are asked for begin and end, in the order of terms.
-use Rattle.std.specs.Prelude.{◌≡◌, ℕ, ◌<◌, Bool, true, false, ◌&&◌, nat_eq, [], ◌∷◌, refl}
+use Rattle.std.specs.Prelude.{◌≡◌, ℕ, ◌<◌, Bool, true, false, ◌&&◌, not, nat_eq, [], ◌∷◌, Some, refl}
 use Rattle.std.proofs.Common.{◌∙◌, sym, ap, arith, rules}
 use Rattle.std.specs.List.{starts_with}
-use Rattle.std.specs.Ordering.{MatchOrdering, is_lt, nat_cmp, ordering_then}
+use Rattle.std.specs.Ordering.{MatchOrdering, is_le, is_lt, is_some_and, nat_cmp, ordering_reverse, ordering_then}
 use Rattle.std.specs.declared.cmp.Ordering.{Ordering}
 use Rattle.std.specs.declared.cmp.Ordering.TheVariants.{Less, Equal, Greater}
-use Rattle.std.specs.Cmp.Lexicographic.{nat_list_cmp_total, pointwise, same_text, slice_cmp}
+use Rattle.std.specs.Cmp.Lexicographic.{lists_agrees, nat_list_cmp_total, pointwise, same_text, slice_cmp, slice_partial_cmp}
+use Rattle.std.proofs.lemmas.Bool.{not-false}
 use Rattle.std.proofs.lemmas.Cmp.{ranked, tied_itself}
+use Rattle.sasi_types.specs.declared.column.ColumnType.{ColumnType}
 use Rattle.sasi_host.specs.Names.{Bytes}
 use Rattle.sasi_terms.specs.declared.op.Op.{Op}
 use Rattle.sasi_terms.specs.declared.op.Op.TheVariants.{Eq, Prefix, Suffix, Contains, Range}
-use Rattle.sasi_terms.specs.Holds.{holds}
 use Rattle.sasi_termblocks.specs.Entries.{is_below}
-use Rattle.sasi_indexread.specs.Asked.{is_run, lower}
+use Rattle.sasi_indexread.specs.Asked.{is_match, is_run, lower, nearest_term}
 
 not_true : true ≡ false → ⊥
 not_true e = cc
@@ -96,20 +97,44 @@ by_truth : (test : Bool) → (test ≡ true → ⊥) → test ≡ false
 by_truth true never = absurd (never refl)
 by_truth false never = refl
 
+is_less : (o : Ordering) → is_lt o ≡ true → o ≡ Less
+is_less Less h = refl
+is_less Equal h = absurd cc
+is_less Greater h = absurd cc
+
+below_then : (first second third : Bytes) → is_below first second ≡ true → is_below second third ≡ true → is_below first third ≡ true
+below_then first second third one two =
+    ap is_lt (nat_list_cmp_total.trans first second third (is_less (slice_cmp nat_cmp first second) one) (is_less (slice_cmp nat_cmp second third) two))
+
 -- no term below is asked for
-pub below_lower : (op : Op) (body term : Bytes) → is_below term (lower op body) ≡ true → holds op term body ≡ false
-below_lower Eq body term below =
+pub below_lower : (kind : ColumnType) (op : Op) (body term : Bytes) → is_below term (lower kind op body) ≡ true → is_match kind op body term ≡ false
+below_lower kind Eq body term below =
     by_truth (pointwise nat_eq term body) (λ h. not_true (sym below ∙ ap (λ (t : Bytes). is_below t body) (same_text term body (sym h)) ∙ not_itself body))
-below_lower Prefix body term below = by_truth (starts_with nat_eq term body) (λ h. not_true (sym below ∙ starts_not_below term body h))
-below_lower Suffix body term below = absurd (none_below term below)
-below_lower Contains body term below = absurd (none_below term below)
-below_lower (Range least greatest) body term below = absurd (none_below term below)
+below_lower kind Prefix body term below = by_truth (starts_with nat_eq term body) (λ h. not_true (sym below ∙ starts_not_below term body h))
+below_lower kind Suffix body term below = absurd (none_below term below)
+below_lower kind Contains body term below = absurd (none_below term below)
+below_lower kind (Range least greatest) body term below = ap (λ (b : Bool). not b && not (is_below (nearest_term kind greatest) term)) below
 
 -- and none behind the last one of a run
-pub past_run : (op : Op) (body first second : Bytes) → is_run op ≡ true → is_below first (lower op body) ≡ false → holds op first body ≡ false → is_below first second ≡ true → holds op second body ≡ false
-past_run Eq body first second run low out rise =
+pub past_run : (kind : ColumnType) (op : Op) (body first second : Bytes) → is_run op ≡ true → is_below first (lower kind op body) ≡ false → is_match kind op body first ≡ false → is_below first second ≡ true → is_match kind op body second ≡ false
+past_run kind Eq body first second run low out rise =
     by_truth (pointwise nat_eq second body) (λ h. not_true (sym rise ∙ ap (λ (t : Bytes). is_below first t) (same_text second body (sym h)) ∙ low))
-past_run Prefix body first second run low out rise = starts_no_more first second body low out rise
-past_run Suffix body first second run low out rise = absurd cc
-past_run Contains body first second run low out rise = absurd cc
-past_run (Range least greatest) body first second run low out rise = absurd cc
+past_run kind Prefix body first second run low out rise = starts_no_more first second body low out rise
+past_run kind Suffix body first second run low out rise = absurd cc
+past_run kind Contains body first second run low out rise = absurd cc
+past_run kind (Range least greatest) body first second run low out rise =
+    let last = nearest_term kind greatest in
+    let above : is_below last first ≡ true = not-false (is_below last first) (second_false (not (is_below first (nearest_term kind least))) (not (is_below last first)) (ap not low) out) in
+    and_false (not (is_below second (nearest_term kind least))) (not (is_below last second)) (ap not (below_then last first second above rise))
+
+-- ---- what the code compares
+
+turned : (o : Ordering) → is_le o ≡ not (is_lt (ordering_reverse o))
+turned Less = refl
+turned Equal = refl
+turned Greater = refl
+
+pub up_to : (first second : Bytes) → is_some_and is_le (slice_partial_cmp (λ x y. Some (nat_cmp x y)) first second) ≡ not (is_below second first)
+up_to first second =
+    ap (is_some_and is_le) (lists_agrees {R = nat_cmp} (λ x y. refl) first second) ∙ turned (slice_cmp nat_cmp first second)
+    ∙ ap (λ (o : Ordering). not (is_lt o)) (sym (nat_list_cmp_total.antisymm second first))

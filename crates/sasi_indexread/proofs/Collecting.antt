@@ -10,7 +10,6 @@ use Rattle.sasi_host.specs.declared.name.FileName.{FileName}
 use Rattle.sasi_host.specs.Names.{Bytes}
 use Rattle.sasi_host.specs.View.{View, contents}
 use Rattle.sasi_terms.specs.declared.op.Op.{Op}
-use Rattle.sasi_terms.specs.Holds.{holds}
 use Rattle.sasi_tokentree.specs.Format.{HasTree}
 use Rattle.sasi_termblocks.specs.declared.block_ref.BlockRef.{BlockRef}
 use Rattle.sasi_termblocks.specs.declared.term_entry.TermEntry.{TermEntry}
@@ -20,7 +19,7 @@ use Rattle.sasi_indexwrite.specs.Content.{IndexContent, TermPairs, terms_in}
 use Rattle.sasi_indexwrite.specs.Files.{IsIndexFile}
 use Rattle.sasi_indexwrite.specs.Format.{entries}
 use Rattle.sasi_treemerge.specs.declared.source.Source.{Source}
-use Rattle.sasi_indexread.specs.Asked.{asked_lists, asks_none, is_asked_term, is_run, lists_of, lower}
+use Rattle.sasi_indexread.specs.Asked.{asked_lists, asks_none, is_asked_term, is_match, is_run, lists_of, lower}
 use Rattle.sasi_indexread.specs.Collects.{AddsEntry, AddsIf, AddsList}
 use Rattle.sasi_treemerge.specs.Merges.{Adds, Gives}
 use Rattle.sasi_indexread.proofs.AskedLaws.{below_lower, past_run}
@@ -48,7 +47,7 @@ none_behind test (suc n) (one ∷ others) none = none_behind test n others (λ k
 -- were asked for so far
 pub record Collects (bytes : Bytes) (content : IndexContent) (ref : BlockRef) (op : Op) (body : Bytes) (last : Option Pair) (floor turn page index : ℕ) (entry : Option TermEntry) (sources : List Source) : Type 0 where
   pub from : ℕ
-  pub above : (k : ℕ) → from ≤ k → k < length content.terms → is_below (get_or content.terms k ([], [])).0 (lower op body) ≡ false
+  pub above : (k : ℕ) → from ≤ k → k < length content.terms → is_below (get_or content.terms k ([], [])).0 (lower content.kind op body) ≡ false
   pub steps : StepsTo ref (entries content) (from + turn) page index entry
   pub gives : Gives bytes (lists_of content op body (take (from + turn) content.terms)) last floor sources
 
@@ -75,8 +74,8 @@ module _ (v : View) (file : FileName) (bytes : Bytes) (content : IndexContent) (
   abbrev term_at : ℕ → Bytes
   term_at k = (get_or content.terms k ([], [])).0
 
-  asked_is : (one : TermPairs) → is_asked_term content op body one ≡ holds op one.0 body
-  asked_is one = ap (λ (b : Bool). not b && holds op one.0 body) some
+  asked_is : (one : TermPairs) → is_asked_term content op body one ≡ is_match content.kind op body one.0
+  asked_is one = ap (λ (b : Bool). not b && is_match content.kind op body one.0) some
 
   named : (l : List TermPairs) (k : ℕ) → k < length l → get_or (terms_in l) k [] ≡ (get_or l k ([], [])).0
   named [] k lt = absurd (omega (arith, lt))
@@ -92,23 +91,23 @@ module _ (v : View) (file : FileName) (bytes : Bytes) (content : IndexContent) (
   entries_long : length (entries content) ≡ length content.terms
   entries_long = entries_length 16 content.terms
 
-  front_lists : (n : ℕ) → ((k : ℕ) → k < n → k < length content.terms → holds op (get_or content.terms k ([], [])).0 body ≡ false) → content.spill ∷ [] ≡ lists_of content op body (take n content.terms)
+  front_lists : (n : ℕ) → ((k : ℕ) → k < n → k < length content.terms → is_match content.kind op body (get_or content.terms k ([], [])).0 ≡ false) → content.spill ∷ [] ≡ lists_of content op body (take n content.terms)
   front_lists n out =
       ap (λ (l : List TermPairs). content.spill ∷ map (λ (one : TermPairs). one.1) l)
       (sym (none_front (is_asked_term content op body) n content.terms (λ k lt within. asked_is (get_or content.terms k ([], [])) ∙ out k lt within)))
 
   -- where it begins, no term before is asked for
-  pub begins : (last : Option Pair) (floor passed page index : ℕ) (entry : Option TermEntry) (sources : List Source) → CountsBelow (terms_of (entries content)) (lower op body) passed → StepsTo ref (entries content) passed page index entry
+  pub begins : (last : Option Pair) (floor passed page index : ℕ) (entry : Option TermEntry) (sources : List Source) → CountsBelow (terms_of (entries content)) (lower content.kind op body) passed → StepsTo ref (entries content) passed page index entry
       → Gives bytes (content.spill ∷ []) last floor sources → Collects bytes content ref op body last floor 0 page index entry sources
   begins last floor passed page index entry sources counts steps gives =
       let base : passed ≡ passed + 0 = omega arith in
       record {
         from = passed;
-        above = λ k le lt. ap (λ (t : Bytes). is_below t (lower op body)) (sym (term_is k lt)) ∙ counts.above k le (omega (arith, lt, terms_long));
+        above = λ k le lt. ap (λ (t : Bytes). is_below t (lower content.kind op body)) (sym (term_is k lt)) ∙ counts.above k le (omega (arith, lt, terms_long));
         steps = subst (λ (n : ℕ). StepsTo ref (entries content) n page index entry) base steps;
         gives = subst (λ (n : ℕ). Gives bytes (lists_of content op body (take n content.terms)) last floor sources) base
             (subst (λ (l : List (List Pair)). Gives bytes l last floor sources)
-            (front_lists passed (λ k lt within. below_lower op body (get_or content.terms k ([], [])).0 (ap (λ (t : Bytes). is_below t (lower op body)) (sym (term_is k within)) ∙ counts.below k lt))) gives);
+            (front_lists passed (λ k lt within. below_lower content.kind op body (get_or content.terms k ([], [])).0 (ap (λ (t : Bytes). is_below t (lower content.kind op body)) (sym (term_is k within)) ∙ counts.below k lt))) gives);
       }
 
   -- the entry in hand is that of the next term
@@ -131,19 +130,19 @@ module _ (v : View) (file : FileName) (bytes : Bytes) (content : IndexContent) (
       ap (λ (l : List TermPairs). content.spill ∷ map f l) (filter_more test content.terms k ([], []) lt)
       ∙ ap (λ (l : List (List Pair)). content.spill ∷ l) (map-append f (filter test (take k content.terms)) (cond (test (get_or content.terms k ([], []))) (get_or content.terms k ([], []) ∷ []) []))
 
-  lists_asked : (k : ℕ) → k < length content.terms → holds op (get_or content.terms k ([], [])).0 body ≡ true
+  lists_asked : (k : ℕ) → k < length content.terms → is_match content.kind op body (get_or content.terms k ([], [])).0 ≡ true
       → lists_of content op body (take k content.terms) ++ (get_or content.terms k ([], [])).1 ∷ [] ≡ lists_of content op body (take (k + 1) content.terms)
   lists_asked k lt holds_so =
       sym (lists_more k lt ∙ ap (λ (b : Bool). lists_of content op body (take k content.terms) ++ map (λ (one : TermPairs). one.1) (cond b (get_or content.terms k ([], []) ∷ []) [])) (asked_is (get_or content.terms k ([], [])) ∙ holds_so))
 
-  lists_not : (k : ℕ) → k < length content.terms → holds op (get_or content.terms k ([], [])).0 body ≡ false → lists_of content op body (take k content.terms) ≡ lists_of content op body (take (k + 1) content.terms)
+  lists_not : (k : ℕ) → k < length content.terms → is_match content.kind op body (get_or content.terms k ([], [])).0 ≡ false → lists_of content op body (take k content.terms) ≡ lists_of content op body (take (k + 1) content.terms)
   lists_not k lt out =
       sym (lists_more k lt ∙ ap (λ (b : Bool). lists_of content op body (take k content.terms) ++ map (λ (one : TermPairs). one.1) (cond b (get_or content.terms k ([], []) ∷ []) [])) (asked_is (get_or content.terms k ([], [])) ∙ out)
       ∙ append-nil (lists_of content op body (take k content.terms)))
 
   -- an entry more
   pub goes_on : (last : Option Pair) (floor turn page index new_page new_index : ℕ) (entry : TermEntry) (next : Option TermEntry) (old new : List Source) → Collects bytes content ref op body last floor turn page index (Some entry) old
-      → AddsEntry v file op body entry true old new → ((passed : ℕ) → HasPassed ref (entries content) page index passed → StepsTo ref (entries content) passed new_page new_index next)
+      → AddsEntry v file content.kind op body entry true old new → ((passed : ℕ) → HasPassed ref (entries content) page index passed → StepsTo ref (entries content) passed new_page new_index next)
       → Collects bytes content ref op body last floor (turn + 1) new_page new_index next new
   goes_on last floor turn page index new_page new_index entry next old new was adds steps =
       let k = was.from + turn in
@@ -154,23 +153,23 @@ module _ (v : View) (file : FileName) (bytes : Bytes) (content : IndexContent) (
         above = was.above;
         steps = subst (λ (n : ℕ). StepsTo ref (entries content) n new_page new_index next) up (steps (k + 1) was.steps.1);
         gives = subst (λ (n : ℕ). Gives bytes (lists_of content op body (take n content.terms)) last floor new) up
-            (by (holds op entry.term body) refl adds entry.list refl here);
+            (by (is_match content.kind op body entry.term) refl adds entry.list refl here);
       }
     where
-      by : (test : Bool) → holds op entry.term body ≡ test → AddsIf v file op entry test true old new → (list : Option TreeRef) → entry.list ≡ list → IsHere last floor turn page index entry (was.from + turn)
+      by : (test : Bool) → is_match content.kind op body entry.term ≡ test → AddsIf v file op entry test true old new → (list : Option TreeRef) → entry.list ≡ list → IsHere last floor turn page index entry (was.from + turn)
           → Gives bytes (lists_of content op body (take (was.from + turn + 1) content.terms)) last floor new
       by false out added list list_is here =
-          subst (λ (l : List (List Pair)). Gives bytes l last floor new) (lists_not (was.from + turn) here.within (ap (λ (t : Bytes). holds op t body) (sym here.is_entry.term) ∙ out))
+          subst (λ (l : List (List Pair)). Gives bytes l last floor new) (lists_not (was.from + turn) here.within (ap (λ (t : Bytes). is_match content.kind op body t) (sym here.is_entry.term) ∙ out))
           (subst (λ (l : List Source). Gives bytes (lists_of content op body (take (was.from + turn) content.terms)) last floor l) (sym added.1) was.gives)
       by true holds_so added None list_is here = absurd (no_list here.is_entry.tree (sym here.is_entry.list ∙ list_is))
       by true holds_so added (Some list) list_is here =
           let same : list ≡ here.is_entry.tree = some_same list here.is_entry.tree (sym list_is ∙ here.is_entry.list) in
           let adds_one : Adds v file list old new = subst (λ (o : Option TreeRef). AddsList v file o old new) list_is added.1 in
-          subst (λ (l : List (List Pair)). Gives bytes l last floor new) (lists_asked (was.from + turn) here.within (ap (λ (t : Bytes). holds op t body) (sym here.is_entry.term) ∙ holds_so))
+          subst (λ (l : List (List Pair)). Gives bytes l last floor new) (lists_asked (was.from + turn) here.within (ap (λ (t : Bytes). is_match content.kind op body t) (sym here.is_entry.term) ∙ holds_so))
           (adds_list v file bytes (lists_of content op body (take (was.from + turn) content.terms)) last floor list (get_or content.terms (was.from + turn) ([], [])).1 old new adds_one reads
           (subst (λ (t : TreeRef). HasTree bytes t (get_or content.terms (was.from + turn) ([], [])).1) (sym same) here.is_entry.has) was.gives)
 
-  whole_lists : (n : ℕ) → ((k : ℕ) → n ≤ k → k < length content.terms → holds op (get_or content.terms k ([], [])).0 body ≡ false) → lists_of content op body (take n content.terms) ≡ asked_lists content op body
+  whole_lists : (n : ℕ) → ((k : ℕ) → n ≤ k → k < length content.terms → is_match content.kind op body (get_or content.terms k ([], [])).0 ≡ false) → lists_of content op body (take n content.terms) ≡ asked_lists content op body
   whole_lists n out =
       let test = is_asked_term content op body in
       let none = none_behind test n content.terms (λ k le lt. asked_is (get_or content.terms k ([], [])) ∙ out k le lt) in
@@ -191,9 +190,9 @@ module _ (v : View) (file : FileName) (bytes : Bytes) (content : IndexContent) (
       subst (λ (l : List (List Pair)). Gives bytes l last floor sources) (whole_lists (was.from + turn) (λ k le lt. absurd (omega (arith, le, lt, few)))) was.gives
 
   -- behind the last one of a run no term is asked for
-  out_behind : (from more : ℕ) → is_run op ≡ true → ((k : ℕ) → from ≤ k → k < length content.terms → is_below (get_or content.terms k ([], [])).0 (lower op body) ≡ false) → from + more < length content.terms
-      → holds op (get_or content.terms from ([], [])).0 body ≡ false → holds op (get_or content.terms (from + more) ([], [])).0 body ≡ false
-  out_behind from zero run above lt out = ap (λ (n : ℕ). holds op (get_or content.terms n ([], [])).0 body) (omega arith) ∙ out
+  out_behind : (from more : ℕ) → is_run op ≡ true → ((k : ℕ) → from ≤ k → k < length content.terms → is_below (get_or content.terms k ([], [])).0 (lower content.kind op body) ≡ false) → from + more < length content.terms
+      → is_match content.kind op body (get_or content.terms from ([], [])).0 ≡ false → is_match content.kind op body (get_or content.terms (from + more) ([], [])).0 ≡ false
+  out_behind from zero run above lt out = ap (λ (n : ℕ). is_match content.kind op body (get_or content.terms n ([], [])).0) (omega arith) ∙ out
   out_behind from (suc more) run above lt out =
       let before = out_behind from more run above (omega (arith, lt)) out in
       let step : is_below (get_or (terms_in content.terms) (from + more) []) (get_or (terms_in content.terms) (from + more + 1) []) ≡ true =
@@ -202,20 +201,20 @@ module _ (v : View) (file : FileName) (bytes : Bytes) (content : IndexContent) (
       let second = named content.terms (from + more + 1) (omega (arith, lt)) in
       let rise : is_below (get_or content.terms (from + more) ([], [])).0 (get_or content.terms (from + more + 1) ([], [])).0 ≡ true =
       ap (λ (t : Bytes). is_below t (get_or content.terms (from + more + 1) ([], [])).0) (sym first) ∙ ap (λ (t : Bytes). is_below (get_or (terms_in content.terms) (from + more) []) t) (sym second) ∙ step in
-      ap (λ (n : ℕ). holds op (get_or content.terms n ([], [])).0 body) (omega arith)
-      ∙ past_run op body (get_or content.terms (from + more) ([], [])).0 (get_or content.terms (from + more + 1) ([], [])).0 run (above (from + more) (omega arith) (omega (arith, lt))) before rise
+      ap (λ (n : ℕ). is_match content.kind op body (get_or content.terms n ([], [])).0) (omega arith)
+      ∙ past_run content.kind op body (get_or content.terms (from + more) ([], [])).0 (get_or content.terms (from + more + 1) ([], [])).0 run (above (from + more) (omega arith) (omega (arith, lt))) before rise
 
-  pub stops : (last : Option Pair) (floor turn page index : ℕ) (entry : TermEntry) (old new : List Source) → Collects bytes content ref op body last floor turn page index (Some entry) old → AddsEntry v file op body entry false old new
+  pub stops : (last : Option Pair) (floor turn page index : ℕ) (entry : TermEntry) (old new : List Source) → Collects bytes content ref op body last floor turn page index (Some entry) old → AddsEntry v file content.kind op body entry false old new
       → Gives bytes (asked_lists content op body) last floor new
-  stops last floor turn page index entry old new was adds = by (holds op entry.term body) refl adds (in_hand last floor turn page index (was.from + turn) entry was.steps.0)
+  stops last floor turn page index entry old new was adds = by (is_match content.kind op body entry.term) refl adds (in_hand last floor turn page index (was.from + turn) entry was.steps.0)
     where
-      by : (test : Bool) → holds op entry.term body ≡ test → AddsIf v file op entry test false old new → IsHere last floor turn page index entry (was.from + turn) → Gives bytes (asked_lists content op body) last floor new
+      by : (test : Bool) → is_match content.kind op body entry.term ≡ test → AddsIf v file op entry test false old new → IsHere last floor turn page index entry (was.from + turn) → Gives bytes (asked_lists content op body) last floor new
       by true holds_so added here = absurd (no_truth added.0)
       by false out added here =
           let run : is_run op ≡ true = turned (is_run op) added.0 in
           let k = was.from + turn in
-          let first = ap (λ (t : Bytes). holds op t body) (sym here.is_entry.term) ∙ out in
+          let first = ap (λ (t : Bytes). is_match content.kind op body t) (sym here.is_entry.term) ∙ out in
           let behind = λ (n : ℕ) (le : was.from + turn ≤ n) (lt : n < length content.terms).
-          ap (λ (m : ℕ). holds op (get_or content.terms m ([], [])).0 body) (omega (arith, le)) ∙ out_behind (was.from + turn) (n - (was.from + turn)) run (λ m low within. was.above m (omega (arith, low)) within) (omega (arith, le, lt)) first in
+          ap (λ (m : ℕ). is_match content.kind op body (get_or content.terms m ([], [])).0) (omega (arith, le)) ∙ out_behind (was.from + turn) (n - (was.from + turn)) run (λ m low within. was.above m (omega (arith, low)) within) (omega (arith, le, lt)) first in
           subst (λ (l : List Source). Gives bytes (asked_lists content op body) last floor l) (sym added.1)
           (subst (λ (l : List (List Pair)). Gives bytes l last floor old) (whole_lists (was.from + turn) behind) was.gives)

@@ -3,13 +3,13 @@ use Rattle.std.specs.Prelude.{◌≡◌, ℕ, ◌+◌, ◌*◌, ◌≤◌, Bool,
 use Rattle.std.proofs.Common.{◌∙◌, sym, ap, subst, arith}
 use Rattle.std.specs.List.{sum_by}
 use Rattle.std.proofs.lemmas.List.Sums.{sum_by-take-le, sum_by_more}
+use Rattle.sasi_types.specs.declared.column.ColumnType.{ColumnType}
 use Rattle.sasi_types.specs.declared.tree.TreeRef.{TreeRef}
 use Rattle.sasi_host.specs.declared.name.FileName.{FileName}
 use Rattle.sasi_host.specs.Names.{Bytes}
 use Rattle.sasi_host.specs.View.{View, contents}
 use Rattle.sasi_host.specs.Disk.{Changes, Same}
 use Rattle.sasi_terms.specs.declared.op.Op.{Op}
-use Rattle.sasi_terms.specs.Holds.{holds}
 use Rattle.sasi_tokentree.proofs.AfterRead.{reads_still}
 use Rattle.sasi_termblocks.specs.declared.block_ref.BlockRef.{BlockRef}
 use Rattle.sasi_termblocks.specs.declared.term_entry.TermEntry.{TermEntry}
@@ -19,7 +19,7 @@ use Rattle.sasi_indexwrite.specs.Format.{entries}
 use Rattle.sasi_treemerge.specs.declared.source.Source.{Source}
 use Rattle.sasi_treemerge.specs.declared.merge.TreeMerge.{TreeMerge}
 use Rattle.sasi_treemerge.specs.Merges.{sources_of, unread_of}
-use Rattle.sasi_indexread.specs.Asked.{asks_none, is_asked_term, is_run}
+use Rattle.sasi_indexread.specs.Asked.{asks_none, is_asked, is_asked_term, is_match, is_run}
 use Rattle.sasi_indexread.specs.Collects.{AddsEntry, AddsIf}
 use Rattle.sasi_indexread.specs.Costs.{added_pairs, cost_if, cost_left, list_pairs, term_cost, terms_cost, whole_cost}
 use Rattle.sasi_indexread.specs.Opened.{IsOpenOn, Opened}
@@ -42,22 +42,22 @@ pub costs_end : (content : IndexContent) (ref : BlockRef) (op : Op) (body : Byte
 costs_end content ref op body turn page index low high entry was = omega (arith, was.spent, sum_by-take-le (term_cost content op body) content.terms (was.from + turn))
 
 -- where the scan stops, no tree was added
-pub none_added : (u : View) (added : FileName) (op : Op) (body : Bytes) (entry : TermEntry) (old new : List Source) → AddsEntry u added op body entry false old new → added_pairs op body entry ≡ 0
-none_added u added op body entry old new adds = by (holds op entry.term body) adds
+pub none_added : (u : View) (added : FileName) (kind : ColumnType) (op : Op) (body : Bytes) (entry : TermEntry) (old new : List Source) → AddsEntry u added kind op body entry false old new → added_pairs kind op body entry ≡ 0
+none_added u added kind op body entry old new adds = by (is_match kind op body entry.term) adds
   where
     by : (test : Bool) → AddsIf u added op entry test false old new → (if test then list_pairs entry.list else 0) ≡ 0
     by true h = absurd (no_truth h.0)
     by false h = refl
 
 module _ (v : View) (opened : Opened) (op : Op) (body : Bytes) (short : IsShort v opened.file) (some : asks_none opened.kind op ≡ false) (content : IndexContent) (on : IsOpenOn v opened content) where
-  asked_is : (one : TermPairs) → is_asked_term content op body one ≡ holds op one.0 body
-  asked_is one = ap (λ (b : Bool). not b && holds op one.0 body) (some_here v opened op body short some content on)
+  asked_is : (one : TermPairs) → is_asked_term content op body one ≡ is_match opened.kind op body one.0
+  asked_is one = ap (λ (k : ColumnType). is_asked k op body one.0) (sym on.kind) ∙ ap (λ (b : Bool). not b && is_match opened.kind op body one.0) some
 
   -- a term costs what its entry does
-  one_cost : (entry : TermEntry) (one : TermPairs) (u : View) (added : FileName) (old new : List Source) → IsEntryOf on.bytes one entry → AddsEntry u added op body entry true old new → 1 + 2 * added_pairs op body entry ≤ term_cost content op body one
+  one_cost : (entry : TermEntry) (one : TermPairs) (u : View) (added : FileName) (old new : List Source) → IsEntryOf on.bytes one entry → AddsEntry u added opened.kind op body entry true old new → 1 + 2 * added_pairs opened.kind op body entry ≤ term_cost content op body one
   one_cost entry one u added old new is adds =
-      subst (λ (b : Bool). 1 + 2 * added_pairs op body entry ≤ cost_if b (is_run op) (length one.1)) (sym (asked_is one ∙ ap (λ (t : Bytes). holds op t body) (sym is.term)))
-      (by (holds op entry.term body) (is_run op) refl adds)
+      subst (λ (b : Bool). 1 + 2 * added_pairs opened.kind op body entry ≤ cost_if b (is_run op) (length one.1)) (sym (asked_is one ∙ ap (λ (t : Bytes). is_match opened.kind op body t) (sym is.term)))
+      (by (is_match opened.kind op body entry.term) (is_run op) refl adds)
     where
       by : (test run : Bool) → is_run op ≡ run → AddsIf u added op entry test true old new → 1 + 2 * (if test then list_pairs entry.list else 0) ≤ cost_if test run (length one.1)
       by true run run_is h =
@@ -80,7 +80,7 @@ module _ (v : View) (opened : Opened) (op : Op) (body : Bytes) (short : IsShort 
       }
 
   pub costs_on : (w u : View) (turn page index new_page new_index low high now : ℕ) (entry : TermEntry) (next : Option TermEntry) (old new : List Source) (added file : FileName) (ref : BlockRef) → file ≡ opened.file → ref ≡ opened.blocks → Changes Same v w
-      → Costs content opened.blocks op body turn page index (Some entry) low high → AddsEntry u added op body entry true old new → ReadsNext w file ref page index new_page new_index next → now ≤ high + 2 * added_pairs op body entry + 1
+      → Costs content opened.blocks op body turn page index (Some entry) low high → AddsEntry u added opened.kind op body entry true old new → ReadsNext w file ref page index new_page new_index next → now ≤ high + 2 * added_pairs opened.kind op body entry + 1
       → Costs content opened.blocks op body (turn + 1) new_page new_index next low now
   costs_on w u turn page index new_page new_index low high now entry next old new added file ref named is same was adds reads le =
       let has = subst (λ (r : BlockRef). HasBlocks on.bytes r (entries content)) (sym is) (blocks_there v opened content on short) in

@@ -5,6 +5,8 @@ pub mod Fields
 pub mod Laws
 pub mod Footers
 pub mod AskedLaws
+pub mod Nearest
+pub mod RangeLaws
 pub mod Collecting
 pub mod Callers
 pub mod CostLaws

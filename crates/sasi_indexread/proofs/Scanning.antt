@@ -18,7 +18,6 @@ use Rattle.sasi_host.specs.View.{View, contents}
 use Rattle.sasi_host.specs.Disk.{Changes, Same}
 use Rattle.sasi_host.proofs.DamageLaws.{shown_as, shown_before}
 use Rattle.sasi_terms.specs.declared.op.Op.{Op}
-use Rattle.sasi_terms.specs.Holds.{holds}
 use Rattle.sasi_tokentree.specs.Damages.{ShowsTree}
 use Rattle.sasi_tokentree.specs.Format.{HasTree}
 use Rattle.sasi_tokentree.specs.Reads.{NoFalseTreeDamage}
@@ -32,7 +31,7 @@ use Rattle.sasi_termblocks.specs.Damages.{ShowsBlocks}
 use Rattle.sasi_termblocks.specs.Scans.{CountsBelow, HasBlocks, HasPassed, NoFalseDamage, ReadsFirst, ReadsNext, ReadsSome, StepsTo, terms_of}
 use Rattle.sasi_indexwrite.specs.Content.{IndexContent}
 use Rattle.sasi_indexwrite.specs.Format.{entries}
-use Rattle.sasi_indexread.specs.Asked.{asked_lists, asks_none, lower}
+use Rattle.sasi_indexread.specs.Asked.{asked_lists, asks_none, is_match, lower}
 use Rattle.sasi_indexread.specs.Collects.{AddsEntry, AddsIf, AddsList, NoFalseListDamage, ShowsList}
 use Rattle.sasi_indexread.specs.Damages.{IsListed, ShowsIndex}
 use Rattle.sasi_indexread.specs.Damages.IsListed.{of_spill, of_term}
@@ -65,9 +64,9 @@ entry_leads v opened entry list stands is bytes reads =
     let h = stands bytes reads in
     of_term (record { page = h.0; block = h.2; stands = h.3; index = h.1; entry = entry; has = h.5; list = is })
 
-pub entry_listed : (v w : View) (opened : Opened) (file : FileName) (op : Op) (body : Bytes) (entry : TermEntry) (more : Bool) (old new : List Source) → AddsEntry w file op body entry more old new → ReadsSome v opened.file (Some entry)
+pub entry_listed : (v w : View) (opened : Opened) (file : FileName) (op : Op) (body : Bytes) (entry : TermEntry) (more : Bool) (old new : List Source) → AddsEntry w file opened.kind op body entry more old new → ReadsSome v opened.file (Some entry)
     → AreListed v opened old → AreListed v opened new
-entry_listed v w opened file op body entry more old new adds stands listed = by (holds op entry.term body) adds
+entry_listed v w opened file op body entry more old new adds stands listed = by (is_match opened.kind op body entry.term) adds
   where
     with_list : (list : Option TreeRef) → entry.list ≡ list → AddsList w file list old new → AreListed v opened new
     with_list None is same = subst (λ (l : List Source). AreListed v opened l) (sym same) listed
@@ -128,20 +127,21 @@ module _ (v : View) (opened : Opened) (op : Op) (body : Bytes) (short : IsShort 
   pub some_here : asks_none content.kind op ≡ false
   some_here = ap (λ (k : ColumnType). asks_none k op) (sym on.kind) ∙ some
 
-  pub starts : (last : Option Pair) (floor page index : ℕ) (entry : Option TermEntry) (sources : List Source) (file : FileName) (ref : BlockRef) (sought : Bytes) → file ≡ opened.file → ref ≡ opened.blocks → sought ≡ lower op body
+  pub starts : (last : Option Pair) (floor page index : ℕ) (entry : Option TermEntry) (sources : List Source) (file : FileName) (ref : BlockRef) (sought : Bytes) → file ≡ opened.file → ref ≡ opened.blocks → sought ≡ lower opened.kind op body
       → ReadsFirst v file ref sought page index entry → Gives on.bytes (content.spill ∷ []) last floor sources → Collects on.bytes content opened.blocks op body last floor 0 page index entry sources
   starts last floor page index entry sources file ref sought named is from first gives =
       let has = subst (λ (r : BlockRef). HasBlocks on.bytes r (entries content)) (sym is) (blocks_there v opened content on short) in
       let r = first on.bytes (entries content) (ap (λ (n : FileName). contents v n) named ∙ on.reads) has in
       begins v opened.file on.bytes content on.index_file (short on.bytes on.reads) on.reads op body some_here opened.blocks last floor r.0 page index entry sources
-      (subst (λ (t : Bytes). CountsBelow (terms_of (entries content)) t r.0) from r.1) (subst (λ (b : BlockRef). StepsTo b (entries content) r.0 page index entry) is r.2) gives
+      (subst (λ (t : Bytes). CountsBelow (terms_of (entries content)) t r.0) (from ∙ ap (λ (k : ColumnType). lower k op body) on.kind) r.1) (subst (λ (b : BlockRef). StepsTo b (entries content) r.0 page index entry) is r.2) gives
 
   pub goes_further : (w : View) (last : Option Pair) (floor turn page index new_page new_index : ℕ) (entry : TermEntry) (next : Option TermEntry) (old new : List Source) (added file : FileName) (ref : BlockRef) → file ≡ opened.file → ref ≡ opened.blocks
-      → added ≡ opened.file → (u : View) → Changes Same v u → Changes Same v w → Collects on.bytes content opened.blocks op body last floor turn page index (Some entry) old → AddsEntry u added op body entry true old new
+      → added ≡ opened.file → (u : View) → Changes Same v u → Changes Same v w → Collects on.bytes content opened.blocks op body last floor turn page index (Some entry) old → AddsEntry u added opened.kind op body entry true old new
       → ReadsNext w file ref page index new_page new_index next → Collects on.bytes content opened.blocks op body last floor (turn + 1) new_page new_index next new
   goes_further w last floor turn page index new_page new_index entry next old new added file ref named is adds_named u same_u same_w was adds reads =
       let has = subst (λ (r : BlockRef). HasBlocks on.bytes r (entries content)) (sym is) (blocks_there v opened content on short) in
-      goes_on u added on.bytes content on.index_file (short on.bytes on.reads) (reads_still v u opened.file added on.bytes same_u adds_named on.reads) op body some_here opened.blocks last floor turn page index new_page new_index entry next old new was adds
+      goes_on u added on.bytes content on.index_file (short on.bytes on.reads) (reads_still v u opened.file added on.bytes same_u adds_named on.reads) op body some_here opened.blocks last floor turn page index new_page new_index entry next old new was
+      (subst (λ (k : ColumnType). AddsEntry u added k op body entry true old new) on.kind adds)
       (λ passed has_passed. subst (λ (b : BlockRef). StepsTo b (entries content) passed new_page new_index next) is
       (reads on.bytes (entries content) passed (reads_still v w opened.file file on.bytes same_w named on.reads) has (subst (λ (b : BlockRef). HasPassed b (entries content) page index passed) (sym is) has_passed)))
 
@@ -151,9 +151,10 @@ module _ (v : View) (opened : Opened) (op : Op) (body : Bytes) (short : IsShort 
       (subst (λ (o : Option TermEntry). Collects on.bytes content opened.blocks op body last floor turn page index o sources) none was)
 
   pub stops_here : (last : Option Pair) (floor turn page index : ℕ) (entry : TermEntry) (old new : List Source) (added : FileName) → added ≡ opened.file → (u : View) → Changes Same v u
-      → Collects on.bytes content opened.blocks op body last floor turn page index (Some entry) old → AddsEntry u added op body entry false old new → Gives on.bytes (asked_lists content op body) last floor new
+      → Collects on.bytes content opened.blocks op body last floor turn page index (Some entry) old → AddsEntry u added opened.kind op body entry false old new → Gives on.bytes (asked_lists content op body) last floor new
   stops_here last floor turn page index entry old new added named u same was adds =
-      stops u added on.bytes content on.index_file (short on.bytes on.reads) (reads_still v u opened.file added on.bytes same named on.reads) op body some_here opened.blocks last floor turn page index entry old new was adds
+      stops u added on.bytes content on.index_file (short on.bytes on.reads) (reads_still v u opened.file added on.bytes same named on.reads) op body some_here opened.blocks last floor turn page index entry old new was
+      (subst (λ (k : ColumnType). AddsEntry u added k op body entry false old new) on.kind adds)
 
   pub passes_all : (last : Option Pair) (floor turn page index : ℕ) (entry : Option TermEntry) (sources : List Source) → 2 ^ 62 ≤ turn → Collects on.bytes content opened.blocks op body last floor turn page index entry sources
       → Gives on.bytes (asked_lists content op body) last floor sources

@@ -3,7 +3,6 @@ use Rattle.std.specs.Prelude.{◌≡◌, ℕ, ◌+◌, ◌-◌, Bool, true, fals
 use Rattle.std.proofs.Common.{◌∙◌, sym, ap, subst, arith, cond}
 use Rattle.std.specs.List.{filter}
 use Rattle.sasi_types.specs.declared.column.ColumnType.{ColumnType}
-use Rattle.sasi_terms.specs.Holds.{holds}
 use Rattle.std.proofs.lemmas.List.Elements.{All-contains, All-nil, All-weaker}
 use Rattle.sasi_types.specs.declared.tree.Pair.{Pair}
 use Rattle.sasi_types.specs.declared.tree.TreeRef.{TreeRef}
@@ -25,7 +24,7 @@ use Rattle.sasi_treemerge.specs.MergeDamages.{NoFalseDamageOf, ShowsSources}
 use Rattle.sasi_treemerge.specs.Merges.{Adds, CanMerge, Gives, IsLeast, IsSourceIn, TreesStay, sources_of}
 use Rattle.sasi_treemerge.proofs.Merging.{adds_list}
 use Rattle.sasi_indexwrite.specs.Content.{IndexContent, TermPairs}
-use Rattle.sasi_indexread.specs.Asked.{asked_lists, asks_none, is_asked_term}
+use Rattle.sasi_indexread.specs.Asked.{asked_lists, asks_none, is_asked_term, is_match}
 use Rattle.sasi_indexread.specs.Damages.{IsListed, ShowsIndex}
 use Rattle.sasi_indexread.specs.Damages.IsListed.{of_spill}
 use Rattle.sasi_indexread.specs.Damages.ShowsIndex.{in_tree}
@@ -79,7 +78,7 @@ pub spill_alone : (content : IndexContent) (opened : Opened) (op : Op) (body : B
     → Gives bytes (asked_lists content op body) last floor sources
 spill_alone content opened op body bytes last floor sources kind asks gives =
     let none : filter (is_asked_term content op body) content.terms ≡ [] =
-    none_kept (is_asked_term content op body) content.terms (λ one. ap (λ (b : Bool). not b && holds op one.0 body) (ap (λ (k : ColumnType). asks_none k op) (sym kind) ∙ asks)) in
+    none_kept (is_asked_term content op body) content.terms (λ one. ap (λ (b : Bool). not b && is_match content.kind op body one.0) (ap (λ (k : ColumnType). asks_none k op) (sym kind) ∙ asks)) in
     subst (λ (l : List (List Pair)). Gives bytes l last floor sources) (ap (λ (l : List TermPairs). content.spill ∷ map (λ (one : TermPairs). one.1) l) (sym none)) gives
 
 -- ---- one search

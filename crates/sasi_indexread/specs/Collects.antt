@@ -1,5 +1,6 @@
 -- One entry more in the scan of the terms.
 use Rattle.std.specs.Prelude.{◌≡◌, Bool, true, false, not, List, Option, None, Some}
+use Rattle.sasi_types.specs.declared.column.ColumnType.{ColumnType}
 use Rattle.sasi_types.specs.declared.tree.Pair.{Pair}
 use Rattle.sasi_types.specs.declared.tree.TreeRef.{TreeRef}
 use Rattle.sasi_host.specs.declared.name.FileName.{FileName}
@@ -9,12 +10,11 @@ use Rattle.sasi_host.specs.Names.{Bytes}
 use Rattle.sasi_host.specs.Damages.{OnDamage}
 use Rattle.sasi_host.specs.View.{View, contents}
 use Rattle.sasi_terms.specs.declared.op.Op.{Op}
-use Rattle.sasi_terms.specs.Holds.{holds}
 use Rattle.sasi_tokentree.specs.Damages.{ShowsTree}
 use Rattle.sasi_tokentree.specs.Format.{HasTree}
 use Rattle.sasi_termblocks.specs.declared.term_entry.TermEntry.{TermEntry}
 use Rattle.sasi_treemerge.specs.declared.source.Source.{Source}
-use Rattle.sasi_indexread.specs.Asked.{is_run}
+use Rattle.sasi_indexread.specs.Asked.{is_match, is_run}
 use Rattle.sasi_treemerge.specs.Merges.{Adds}
 
 -- the tree of an entry is added, if it has one
@@ -27,8 +27,8 @@ AddsIf v file op entry false more old new = (more ≡ not (is_run op)) × (new �
 AddsIf v file op entry true more old new = (more ≡ true) × AddsList v file entry.list old new
 
 -- it is added where its term is asked for, and others can be behind it if one is or those that are don't follow one another
-abbrev pub AddsEntry : View → FileName → Op → Bytes → TermEntry → Bool → List Source → List Source → Type 0
-AddsEntry v file op body entry more old new = AddsIf v file op entry (holds op entry.term body) more old new
+abbrev pub AddsEntry : View → FileName → ColumnType → Op → Bytes → TermEntry → Bool → List Source → List Source → Type 0
+AddsEntry v file kind op body entry more old new = AddsIf v file op entry (is_match kind op body entry.term) more old new
 
 -- the damage is that of the entry's tree
 abbrev pub ShowsList : FileName → TermEntry → Bytes → Damage → Type 0

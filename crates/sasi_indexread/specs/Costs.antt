@@ -1,14 +1,14 @@
 -- How many reads a search makes.
 use Rattle.std.specs.Prelude.{ℕ, ◌+◌, ◌*◌, Bool, true, false, if◌then◌else◌, length, Option, None, Some}
 use Rattle.std.specs.List.{sum_by}
+use Rattle.sasi_types.specs.declared.column.ColumnType.{ColumnType}
 use Rattle.sasi_types.specs.declared.tree.TreeRef.{TreeRef}
 use Rattle.sasi_host.specs.Names.{Bytes}
 use Rattle.sasi_terms.specs.declared.op.Op.{Op}
-use Rattle.sasi_terms.specs.Holds.{holds}
 use Rattle.sasi_termblocks.specs.declared.term_entry.TermEntry.{TermEntry}
 use Rattle.sasi_indexwrite.specs.Content.{IndexContent, TermPairs}
 use Rattle.sasi_treemerge.specs.Merges.{sources_of, unread_of}
-use Rattle.sasi_indexread.specs.Asked.{is_asked_term, is_run}
+use Rattle.sasi_indexread.specs.Asked.{is_asked_term, is_match, is_run}
 use Rattle.sasi_indexread.specs.Searches.{Searching}
 
 -- the pairs of an entry's tree, where its term is asked for
@@ -16,8 +16,8 @@ abbrev pub list_pairs : Option TreeRef → ℕ
 list_pairs None = 0
 list_pairs (Some list) = list.pairs
 
-abbrev pub added_pairs : Op → Bytes → TermEntry → ℕ
-added_pairs op body entry = if holds op entry.term body then list_pairs entry.list else 0
+abbrev pub added_pairs : ColumnType → Op → Bytes → TermEntry → ℕ
+added_pairs kind op body entry = if is_match kind op body entry.term then list_pairs entry.list else 0
 
 -- a term costs one read, and two for each of its pairs if it is asked for; in a run, one that isn't costs nothing
 abbrev pub cost_if : Bool → Bool → ℕ → ℕ

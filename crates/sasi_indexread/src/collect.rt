@@ -15,10 +15,10 @@ ghost use Rattle.sasi_indexread.specs.Opened.{IsOpenOn};
 ghost use Rattle.sasi_indexread.specs.Searches.{AreListed, NoFalseSearchDamage};
 
 use crate::IndexFile;
-use crate::asked::{asks_none, is_run, lower};
+use crate::asked::{asks_none, is_match, is_run, lower};
 use sasi_host::{Host, PageReader, ReadFault};
 use sasi_termblocks::{Blocks, TermEntry};
-use sasi_terms::{Op, holds};
+use sasi_terms::Op;
 use sasi_treemerge::TreeMerge;
 use std::alloc::Global;
 
@@ -29,6 +29,7 @@ const MAX_TERMS: u64 = 1 << 62;
 fn add_entry<H: Host, P: PageReader>(
     host: &mut H,
     pages: &mut P,
+    index: &IndexFile,
     op: &Op,
     body: &[u8],
     entry: &TermEntry,
@@ -36,16 +37,16 @@ fn add_entry<H: Host, P: PageReader>(
 ) -> Result<bool, ReadFault>
     requires read { CanRead (P.agrees pages.old) (H.view host.old) merge.old.file }
     requires merge { CanMerge (H.view host.old) merge.old }
-    ensures ok { IfOk result (λ more. AddsEntry (H.view host.old) merge.old.file op.now body.now entry.now more (sources_of merge.old) (sources_of merge.new)) }
+    ensures ok { IfOk result (λ more. AddsEntry (H.view host.old) merge.old.file index.now.kind op.now body.now entry.now more (sources_of merge.old) (sources_of merge.new)) }
     ensures merge { OnOk result (CanMerge (H.view host.new) merge.new) }
     ensures damaged { IfErr result (DamageShown (H.view host.old) merge.old.file (ShowsList merge.old.file entry.now)) }
     ensures undamaged { IfErr result (NoFalseListDamage (H.view host.old) merge.old.file entry.now) }
     ensures read { HasRead (P.agrees pages.new) (P.covers pages.old) (P.covers pages.new) (H.view host.old) (H.view host.new) merge.old.file }
     ensures causes { ReadsAtMost 2 (H.view host.old) (H.view host.new) result }
-    ensures reads { OnOk result ((H.view host.new).reads + 2 * unread_of (sources_of merge.new) ≤ (H.view host.old).reads + 2 * unread_of (sources_of merge.old) + 2 * added_pairs op.now body.now entry.now) }
+    ensures reads { OnOk result ((H.view host.new).reads + 2 * unread_of (sources_of merge.new) ≤ (H.view host.old).reads + 2 * unread_of (sources_of merge.old) + 2 * added_pairs index.now.kind op.now body.now entry.now) }
     ensures same { (merge.new.file ≡ merge.old.file) × (merge.new.last ≡ merge.old.last) × (merge.new.floor ≡ merge.old.floor) }
 {
-    if !holds(op, entry.term.bytes(), body) {
+    if !is_match(index.kind(), op, body, entry.term.bytes()) {
         return Ok(!is_run(op));
     }
     match entry.list {
@@ -85,12 +86,12 @@ fn add_terms<H: Host, P: PageReader>(
     ensures same { (merge.new.file ≡ merge.old.file) × (merge.new.last ≡ merge.old.last) × (merge.new.floor ≡ merge.old.floor) }
 {
     let mut blocks = Blocks::new(alloc, index.file(), index.blocks());
-    let mut entry = blocks.seek(host, pages, lower(op, body))?;
+    let mut entry = blocks.seek(host, pages, lower(index.kind(), op, body).bytes())?;
     for _turn in 0..MAX_TERMS {
         let Some(found) = &entry else {
             return Ok(());
         };
-        if !add_entry(host, pages, op, body, found, merge)? {
+        if !add_entry(host, pages, index, op, body, found, merge)? {
             return Ok(());
         }
         entry = blocks.next(host, pages)?;

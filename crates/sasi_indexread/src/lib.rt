@@ -2,6 +2,7 @@
 #![tactic(auto)]
 
 mod asked;
+mod bound_term;
 mod collect;
 mod footer;
 mod index_file;

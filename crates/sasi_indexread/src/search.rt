@@ -5,7 +5,7 @@ ghost use Rattle.sasi_host.specs.View.{ReadsAtMost};
 ghost use Rattle.sasi_host.specs.Damages.{DamageShown};
 ghost use Rattle.sasi_host.specs.PageReading.{CanRead, HasRead};
 ghost use Rattle.sasi_indexwrite.specs.Content.{IndexContent};
-ghost use Rattle.sasi_indexread.specs.Asked.{asked_lists};
+ghost use Rattle.sasi_indexread.specs.Asked.{AreNumberTerms, asked_lists, holding_lists};
 ghost use Rattle.sasi_indexread.specs.Costs.{cost_left};
 ghost use Rattle.sasi_indexread.specs.Damages.{ShowsIndex};
 ghost use Rattle.sasi_treemerge.specs.Merges.{IsLeast, last_after, sources_of};
@@ -138,6 +138,9 @@ impl Search {
         requires search { CanSearch (H.view host.old) self.old }
         ensures ok { IfOk result (λ found. (content : IndexContent) → IsSearching (H.view host.old) self.old content
             → IsLeast (asked_lists content self.old.op self.old.body) self.old.merge.last self.old.merge.floor found × IsSearching (H.view host.new) self.new content) }
+        // In an index of numbers, a range gives the pairs of those that are in it.
+        ensures numbers { IfOk result (λ found. (content : IndexContent) → IsSearching (H.view host.old) self.old content → AreNumberTerms content
+            → IsLeast (holding_lists content self.old.op self.old.body) self.old.merge.last self.old.merge.floor found) }
         ensures last { IfOk result (λ found. self.new.merge.last ≡ last_after self.old.merge.last found) }
         ensures floor { OnOk result (self.new.merge.floor ≡ self.old.merge.floor) }
         ensures search { OnOk result (CanSearch (H.view host.new) self.new) }

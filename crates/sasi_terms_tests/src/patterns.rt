@@ -1,5 +1,5 @@
 //! Which terms a relation asks for.
-use sasi_terms::{LikeEmpty, Op, Pattern, holds};
+use sasi_terms::{LikeEmpty, Op, Pattern, bigint_term, holds, int_term};
 use std::process::Abort;
 
 /// The word for an operator.
@@ -104,5 +104,35 @@ fn numbers_are_compared_with_bounds(rt: HostRuntime) {
             holds(&op, term, b"") == want,
             "{least} {greatest} {term:?}"
         );
+    }
+}
+
+// Ints, and their terms in order.
+const INTS: [(i32, [u8; 4]); 6] = [
+    (i32::MIN, [0, 0, 0, 0]),
+    (-2, [0x7f, 0xff, 0xff, 0xfe]),
+    (-1, [0x7f, 0xff, 0xff, 0xff]),
+    (0, [0x80, 0, 0, 0]),
+    (258, [0x80, 0, 1, 2]),
+    (i32::MAX, [0xff, 0xff, 0xff, 0xff]),
+];
+
+// Bigints, and their terms in order.
+const BIGINTS: [(i64, [u8; 8]); 6] = [
+    (i64::MIN, [0, 0, 0, 0, 0, 0, 0, 0]),
+    (-2, [0x7f, 0xff, 0xff, 0xff, 0xff, 0xff, 0xff, 0xfe]),
+    (-1, [0x7f, 0xff, 0xff, 0xff, 0xff, 0xff, 0xff, 0xff]),
+    (0, [0x80, 0, 0, 0, 0, 0, 0, 0]),
+    (258, [0x80, 0, 0, 0, 0, 0, 1, 2]),
+    (i64::MAX, [0xff, 0xff, 0xff, 0xff, 0xff, 0xff, 0xff, 0xff]),
+];
+
+#[test]
+fn numbers_have_their_terms(rt: HostRuntime) {
+    for (number, want) in INTS {
+        assert!(rt; int_term(number) == want, "{number}");
+    }
+    for (number, want) in BIGINTS {
+        assert!(rt; bigint_term(number) == want, "{number}");
     }
 }

@@ -7,8 +7,8 @@ use Rattle.sasi_indexread.specs.Collects.{ShowsList}
 use Rattle.sasi_indexread.proofs.Scanning.{tree_spares}
 use Rattle.sasi_indexread.proofs.collect.add_entry.Goals as goal
 
-pub returns-then-not-holds-clause-read : goal.returns-then-not-holds-clause-read
-returns-then-not-holds-clause-read g c = record { agrees = c.requires.read.agrees; covers = λ name at. inl at; changes = stays (g.H.Host.view c.args.host.now) }
+pub returns-then-not-is_match-clause-read : goal.returns-then-not-is_match-clause-read
+returns-then-not-is_match-clause-read g c = record { agrees = c.requires.read.agrees; covers = λ name at. inl at; changes = stays (g.H.Host.view c.args.host.now) }
 
 pub returns-in-None-clause-read : goal.returns-in-None-clause-read
 returns-in-None-clause-read g c = record { agrees = c.requires.read.agrees; covers = λ name at. inl at; changes = stays (g.H.Host.view c.args.host.now) }

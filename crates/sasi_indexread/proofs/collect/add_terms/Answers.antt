@@ -1,9 +1,10 @@
-use Rattle.std.proofs.Common.{◌≡◌, ◌∙◌, ◌+◌, ◌*◌, ap, arith, refl, rules, subst, sym, Bool, true, false, Option, None, Some}
+use Rattle.std.proofs.Common.{◌≡◌, ◌∙◌, ◌+◌, ◌*◌, ap, arith, refl, rules, subst, Bool, true, false, Option}
 use Rattle.std.proofs.lemmas.Result.{err_from_is_err_and}
 use Rattle.sasi_host.specs.Disk.{Same}
 use Rattle.sasi_host.specs.ChangeLaws.{stays, then_same}
 use Rattle.sasi_host.specs.PageReading.{read_of, read_then}
 use Rattle.sasi_host.specs.declared.name.FileName.{FileName}
+use Rattle.sasi_types.specs.declared.column.ColumnType.{ColumnType}
 use Rattle.sasi_tokentree.proofs.AfterRead.{reads_still}
 use Rattle.sasi_treemerge.specs.Merges.{sources_of, unread_of}
 use Rattle.sasi_treemerge.proofs.Merging.{merge_still}
@@ -12,7 +13,7 @@ use Rattle.sasi_termblocks.specs.declared.block_ref.BlockRef.{BlockRef}
 use Rattle.sasi_termblocks.specs.declared.term_entry.TermEntry.{TermEntry}
 use Rattle.sasi_termblocks.specs.Scans.{ReadsSome, Scan}
 use Rattle.sasi_termblocks.proofs.Steps.{here_some}
-use Rattle.sasi_indexread.specs.Asked.{asked_lists}
+use Rattle.sasi_indexread.specs.Asked.{asked_lists, lower}
 use Rattle.sasi_indexread.specs.Collects.{AddsEntry}
 use Rattle.sasi_indexread.proofs.Collecting.{Collects}
 use Rattle.sasi_indexread.proofs.Counting.{Costs, costs_begin, costs_end, costs_on, none_added}
@@ -41,6 +42,7 @@ loop-turn-init g c =
     let index = c.args.index.now in
     let named : c.new-blocks.result.buffered.file ≡ index.file = ap (λ (s : Scan). s.buffered.file) c.new-blocks.ensures ∙ c.file.ensures in
     let ref : c.new-blocks.result.blocks ≡ index.blocks = ap (λ (s : Scan). s.blocks) c.new-blocks.ensures ∙ c.blocks-2.ensures in
+    let sought : c.bytes.result.now ≡ lower index.kind c.args.op.now c.args.body.now = c.bytes.ensures ∙ c.lower.ensures ∙ ap (λ (k : ColumnType). lower k c.args.op.now c.args.body.now) c.kind.ensures in
     record {
       there = there_same v y index.file c.seek.ensures.read.changes c.requires.read.there;
       read = read_of _ _ _ _ _ _ _ _ named c.seek.ensures.read;
@@ -56,10 +58,10 @@ loop-turn-init g c =
       stands = subst (λ (n : FileName). ReadsSome v n c.in_ok-entry.entry) named c.in_ok-entry.ensures.stands;
       collects = λ content on.
           starts v index c.args.op.now c.args.body.now (λ bytes is. (g.met.H.Host.sound c.args.host.now).fits index.file bytes is) c.requires.some content on c.args.merge.now.last c.args.merge.now.floor c.seek.new.self.page c.seek.new.self.index
-          c.in_ok-entry.entry (sources_of c.args.merge.now) c.new-blocks.result.buffered.file c.new-blocks.result.blocks c.lower.result.now named ref c.lower.ensures c.in_ok-entry.ensures.ok (c.requires.spill content on);
+          c.in_ok-entry.entry (sources_of c.args.merge.now) c.new-blocks.result.buffered.file c.new-blocks.result.blocks c.bytes.result.now named ref sought c.in_ok-entry.ensures.ok (c.requires.spill content on);
       costs = λ content on.
           costs_begin v index c.args.op.now c.args.body.now (λ bytes is. (g.met.H.Host.sound c.args.host.now).fits index.file bytes is) c.requires.some content on c.seek.new.self.page c.seek.new.self.index
-          (v.reads + 2 * unread_of (sources_of c.args.merge.now) + index.blocks.levels + 2) (y.reads + 2 * unread_of (sources_of c.args.merge.now)) c.in_ok-entry.entry c.new-blocks.result.buffered.file c.new-blocks.result.blocks c.lower.result.now named ref
+          (v.reads + 2 * unread_of (sources_of c.args.merge.now) + index.blocks.levels + 2) (y.reads + 2 * unread_of (sources_of c.args.merge.now)) c.in_ok-entry.entry c.new-blocks.result.buffered.file c.new-blocks.result.blocks c.bytes.result.now named ref
           c.in_ok-entry.ensures.ok (omega (arith, c.in_ok-entry.ensures.causes.reads, ap (λ (r : BlockRef). r.levels) ref));
     }
 
@@ -113,7 +115,7 @@ returns-then-not-branch-clause-ok g c content on =
     (stops_here (g.H.Host.view c.args.host.now) index c.args.op.now c.args.body.now (λ bytes is. (g.met.H.Host.sound c.args.host.now).fits index.file bytes is) c.requires.some content on m.last m.floor c.loop-turn._turn c.loop-turn.blocks.page
     c.loop-turn.blocks.index c.in-Some.found old new c.loop-turn.merge.file here.named w here.read.changes
     (subst (λ (o : Option TermEntry). Collects on.bytes content index.blocks c.args.op.now c.args.body.now m.last m.floor c.loop-turn._turn c.loop-turn.blocks.page c.loop-turn.blocks.index o old) c.in-Some.is (here.collects content on))
-    (subst (λ (b : Bool). AddsEntry w c.loop-turn.merge.file c.args.op.now c.args.body.now c.in-Some.found b old new) out c.in_ok-add_entry.ensures.ok))
+    (subst (λ (b : Bool). AddsEntry w c.loop-turn.merge.file c.args.index.now.kind c.args.op.now c.args.body.now c.in-Some.found b old new) out c.in_ok-add_entry.ensures.ok))
 
 pub returns-then-not-branch-clause-listed : goal.returns-then-not-branch-clause-listed
 returns-then-not-branch-clause-listed g c =
@@ -176,14 +178,14 @@ loop-turn-preserved g c =
           goes_further v index c.args.op.now c.args.body.now (λ bytes is. (g.met.H.Host.sound c.args.host.now).fits index.file bytes is) c.requires.some content on u m.last m.floor c.loop-turn._turn c.loop-turn.blocks.page c.loop-turn.blocks.index
           c.next.new.self.page c.next.new.self.index c.in-Some.found c.in_ok-entry-2.entry old new c.loop-turn.merge.file c.loop-turn.blocks.buffered.file c.loop-turn.blocks.blocks here.blocks_file here.blocks_ref here.named w here.read.changes change
           (subst (λ (o : Option TermEntry). Collects on.bytes content index.blocks c.args.op.now c.args.body.now m.last m.floor c.loop-turn._turn c.loop-turn.blocks.page c.loop-turn.blocks.index o old) c.in-Some.is (here.collects content on))
-          (subst (λ (b : Bool). AddsEntry w c.loop-turn.merge.file c.args.op.now c.args.body.now c.in-Some.found b old new) more c.in_ok-add_entry.ensures.ok) c.in_ok-entry-2.ensures.ok;
+          (subst (λ (b : Bool). AddsEntry w c.loop-turn.merge.file c.args.index.now.kind c.args.op.now c.args.body.now c.in-Some.found b old new) more c.in_ok-add_entry.ensures.ok) c.in_ok-entry-2.ensures.ok;
       costs = λ content on.
           (let low = v.reads + 2 * unread_of (sources_of m) + index.blocks.levels + 2 in
           let high = w.reads + 2 * unread_of old in
           costs_on v index c.args.op.now c.args.body.now (λ bytes is. (g.met.H.Host.sound c.args.host.now).fits index.file bytes is) c.requires.some content on u w c.loop-turn._turn c.loop-turn.blocks.page c.loop-turn.blocks.index
           c.next.new.self.page c.next.new.self.index low high (x.reads + 2 * unread_of new) c.in-Some.found c.in_ok-entry-2.entry old new c.loop-turn.merge.file c.loop-turn.blocks.buffered.file c.loop-turn.blocks.blocks here.blocks_file here.blocks_ref change
           (subst (λ (o : Option TermEntry). Costs content index.blocks c.args.op.now c.args.body.now c.loop-turn._turn c.loop-turn.blocks.page c.loop-turn.blocks.index o low high) c.in-Some.is (here.costs content on))
-          (subst (λ (b : Bool). AddsEntry w c.loop-turn.merge.file c.args.op.now c.args.body.now c.in-Some.found b old new) more c.in_ok-add_entry.ensures.ok) c.in_ok-entry-2.ensures.ok
+          (subst (λ (b : Bool). AddsEntry w c.loop-turn.merge.file c.args.index.now.kind c.args.op.now c.args.body.now c.in-Some.found b old new) more c.in_ok-add_entry.ensures.ok) c.in_ok-entry-2.ensures.ok
           (omega (arith, c.in_ok-add_entry.ensures.reads, c.in_ok-entry-2.ensures.causes.reads)));
     }
 
@@ -228,6 +230,6 @@ returns-then-not-branch-clause-reads g c content on =
       c.in_ok-add_entry.ensures.reads,
       costs_end content index.blocks c.args.op.now c.args.body.now c.loop-turn._turn c.loop-turn.blocks.page c.loop-turn.blocks.index (v.reads + 2 * unread_of (sources_of c.args.merge.now) + index.blocks.levels + 2) (w.reads + 2 * unread_of old) c.loop-turn.entry
           (here.costs content on),
-      none_added w c.loop-turn.merge.file c.args.op.now c.args.body.now c.in-Some.found old new
-          (subst (λ (b : Bool). AddsEntry w c.loop-turn.merge.file c.args.op.now c.args.body.now c.in-Some.found b old new) out c.in_ok-add_entry.ensures.ok),
+      none_added w c.loop-turn.merge.file c.args.index.now.kind c.args.op.now c.args.body.now c.in-Some.found old new
+          (subst (λ (b : Bool). AddsEntry w c.loop-turn.merge.file c.args.index.now.kind c.args.op.now c.args.body.now c.in-Some.found b old new) out c.in_ok-add_entry.ensures.ok),
     )
