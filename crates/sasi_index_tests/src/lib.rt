@@ -6,4 +6,6 @@ mod files;
 #[cfg(test)]
 mod fixture;
 #[cfg(test)]
+mod ranges;
+#[cfg(test)]
 mod searches;

@@ -13,7 +13,7 @@ use std::alloc::Global;
 use std::process::Abort;
 
 /// A search of the file.
-fn search(rt: &impl Abort, alloc: Global, host: &mut MemHost, op: Op, body: &[u8]) -> Search
+pub fn search(rt: &impl Abort, alloc: Global, host: &mut MemHost, op: Op, body: &[u8]) -> Search
     ensures { IsSearchOf FILE (host_view (seen host.new)) result }
 {
     assert!(rt; host.bytes(FILE).is_some());
@@ -31,7 +31,7 @@ fn next_pair(rt: &impl Abort, host: &mut MemHost, found: &mut Search) -> Option<
 }
 
 /// The token of the next pair of a search.
-fn next(rt: &impl Abort, host: &mut MemHost, found: &mut Search) -> Option<Token>
+pub fn next(rt: &impl Abort, host: &mut MemHost, found: &mut Search) -> Option<Token>
     requires { IsSearchOf FILE (host_view (seen host.old)) found.old }
     ensures { IsSearchOf FILE (host_view (seen host.new)) found.new }
 {
@@ -84,7 +84,7 @@ pub fn check_all(
 }
 
 /// Adds a pair with this token.
-fn put(
+pub fn put(
     rt: &impl Abort,
     alloc: Global,
     gather: &mut Gather,
