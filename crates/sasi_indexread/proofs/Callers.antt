@@ -23,7 +23,7 @@ pub fresh_can : (v : View) (asked : Searching) → IsFresh asked → CanSearch v
 fresh_can v asked fresh = record {
   named = fresh.named;
   merge = record { heap = fresh.heap; each = subst (λ (l : List Source). All (IsReadable v asked.merge.file) l) (sym fresh.empty) (All-nil (IsReadable v asked.merge.file)) };
-  listed = λ bytes is. subst (λ (l : List Source). All (λ (s : Source). IsListed asked.index bytes s.tree.tree) l) (sym fresh.empty) (All-nil (λ (s : Source). IsListed asked.index bytes s.tree.tree));
+  listed = λ bytes is. subst (λ (l : List Source). All (λ (s : Source). IsListed asked.index bytes s.tree.value.tree) l) (sym fresh.empty) (All-nil (λ (s : Source). IsListed asked.index bytes s.tree.value.tree));
   fresh = λ _. fresh.empty;
 }
 

@@ -52,11 +52,11 @@ pub adds_listed : (v w : View) (opened : Opened) (file : FileName) (list : TreeR
 adds_listed v w opened file list old new adds leads listed = λ bytes is. from adds.next adds.goes adds.put bytes is
   where
     from : (next : Option Source) → GoesOn w (record { buffered = record { file = file; page = None; bytes = [] }; tree = list; passed = 0 }) next → IsPermutation (option_to_list next ++ old) new → (bytes : Bytes) → contents v opened.file ≡ Some bytes
-        → All (λ (s : Source). IsListed opened bytes s.tree.tree) new
-    from None goes put bytes is = All-permutation (λ (s : Source). IsListed opened bytes s.tree.tree) old new put (listed bytes is)
+        → All (λ (s : Source). IsListed opened bytes s.tree.value.tree) new
+    from None goes put bytes is = All-permutation (λ (s : Source). IsListed opened bytes s.tree.value.tree) old new put (listed bytes is)
     from (Some next) goes put bytes is =
-        All-permutation (λ (s : Source). IsListed opened bytes s.tree.tree) (next ∷ old) new put
-        (All-cons (λ (s : Source). IsListed opened bytes s.tree.tree) next old (subst (λ (t : TreeRef). IsListed opened bytes t) (sym goes.0) (leads bytes is)) (listed bytes is))
+        All-permutation (λ (s : Source). IsListed opened bytes s.tree.value.tree) (next ∷ old) new put
+        (All-cons (λ (s : Source). IsListed opened bytes s.tree.value.tree) next old (subst (λ (t : TreeRef). IsListed opened bytes t) (sym goes.0) (leads bytes is)) (listed bytes is))
 
 -- an entry that stands in the file leads to its tree
 pub entry_leads : (v : View) (opened : Opened) (entry : TermEntry) (list : TreeRef) → ReadsSome v opened.file (Some entry) → entry.list ≡ Some list → (bytes : Bytes) → contents v opened.file ≡ Some bytes → IsListed opened bytes list

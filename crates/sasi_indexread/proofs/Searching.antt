@@ -52,7 +52,7 @@ spill_gives v opened file list last floor old new short named is none adds conte
 
 pub spill_listed : (v : View) (opened : Opened) (file : FileName) (list : TreeRef) (old new : List Source) → list ≡ opened.spill → old ≡ [] → Adds v file list old new → AreListed v opened new
 spill_listed v opened file list old new is none adds =
-    adds_listed v v opened file list old new adds (λ bytes told. of_spill is) (λ bytes told. subst (λ (l : List Source). All (λ (s : Source). IsListed opened bytes s.tree.tree) l) (sym none) (All-nil (λ (s : Source). IsListed opened bytes s.tree.tree)))
+    adds_listed v v opened file list old new adds (λ bytes told. of_spill is) (λ bytes told. subst (λ (l : List Source). All (λ (s : Source). IsListed opened bytes s.tree.value.tree) l) (sym none) (All-nil (λ (s : Source). IsListed opened bytes s.tree.value.tree)))
 
 none_kept : (test : TermPairs → Bool) (terms : List TermPairs) → ((one : TermPairs) → test one ≡ false) → filter test terms ≡ []
 none_kept test [] none = refl
@@ -88,8 +88,8 @@ listed_now a b opened sources same listed = λ bytes is. listed bytes (sym (cont
 
 pub listed_stay : (v : View) (opened : Opened) (old new : List Source) → TreesStay old new → AreListed v opened old → AreListed v opened new
 listed_stay v opened old new stay listed = λ bytes is.
-    All-weaker (λ (s : Source). (was : Source) × Contains old was × (s.tree.tree ≡ was.tree.tree)) (λ (s : Source). IsListed opened bytes s.tree.tree)
-    (λ s was. subst (λ (t : TreeRef). IsListed opened bytes t) (sym was.2) (All-contains (λ (t : Source). IsListed opened bytes t.tree.tree) old was.0 (listed bytes is) was.1)) new stay
+    All-weaker (λ (s : Source). (was : Source) × Contains old was × (s.tree.value.tree ≡ was.tree.value.tree)) (λ (s : Source). IsListed opened bytes s.tree.value.tree)
+    (λ s was. subst (λ (t : TreeRef). IsListed opened bytes t) (sym was.2) (All-contains (λ (t : Source). IsListed opened bytes t.tree.value.tree) old was.0 (listed bytes is) was.1)) new stay
 
 pub now_collected : (a b : View) (index : Opened) (op : Op) (body : Bytes) (was : Bool) (old new : TreeMerge) (content : IndexContent) → Changes Same a b
     → ((content : IndexContent) (on : IsOpenOn a index content) → Gives on.bytes (asked_lists content op body) new.last new.floor (sources_of new))
@@ -136,7 +136,7 @@ pub merge_shown : (a b : View) (index : Opened) (file : FileName) (sources : Lis
 merge_shown a b index file sources f same named listed shown =
     shown_before (ShowsIndex index) a b index.file f same
     (shown_as (ShowsSources sources index.file) (ShowsIndex index) b index.file f
-    (λ bytes damage is shows. in_tree shows.source.tree.tree (All-contains (λ (s : Source). IsListed index bytes s.tree.tree) sources shows.source (listed bytes is) shows.there) shows.shows)
+    (λ bytes damage is shows. in_tree shows.source.tree.value.tree (All-contains (λ (s : Source). IsListed index bytes s.tree.value.tree) sources shows.source (listed bytes is) shows.there) shows.shows)
     (subst (λ (n : FileName). DamageShown b n (ShowsSources sources n) f) named shown))
 
 pub merge_spares : (a b : View) (index : Opened) (op : Op) (body : Bytes) (was done : Bool) (first old : TreeMerge) (f : ReadFault) → done ≡ true → old.file ≡ index.file

@@ -28,7 +28,7 @@ searching index op body is_collected merge = record { index = index; op = op; bo
 
 -- each source's tree is one to which the file leads
 abbrev pub AreListed : View → Opened → List Source → Type 0
-AreListed v opened sources = (bytes : Bytes) → contents v opened.file ≡ Some bytes → All (λ source. IsListed opened bytes source.tree.tree) sources
+AreListed v opened sources = (bytes : Bytes) → contents v opened.file ≡ Some bytes → All (λ source. IsListed opened bytes source.tree.value.tree) sources
 
 -- the search can go on
 pub record CanSearch (v : View) (search : Searching) : Type 0 where

@@ -23,11 +23,11 @@ differ : true ≡ false → ⊥
 differ e = cc
 
 -- the pair that a scan gives is the last entry that it has passed
-pub at_head_of : (v : View) (file : FileName) (tree : TreeRef) (after : PairScan) (found : Option Pair) (head : Pair) → found ≡ Some head → ReadsEntry v file tree after.passed found → after.tree ≡ tree → (IsSome found → HasPassed after.tree after.passed)
-    → IsAtHead v file (record { head = head; tree = after })
-at_head_of v file tree after found head is stands same passed = record {
+pub at_head_of : (v : View) (file : FileName) (tree : TreeRef) (next : Source) (found : Option Pair) → found ≡ Some next.head → ReadsEntry v file tree next.tree.value.passed found → next.tree.value.tree ≡ tree
+    → (IsSome found → HasPassed next.tree.value.tree next.tree.value.passed) → IsAtHead v file next
+at_head_of v file tree next found is stands same passed = record {
   passed = passed (subst (λ (o : Option Pair). IsSome o) (sym is) refl);
-  stands = subst (λ (t : TreeRef). ReadsEntry v file t after.passed (Some head)) (sym same) (subst (λ (o : Option Pair). ReadsEntry v file tree after.passed o) is stands);
+  stands = subst (λ (t : TreeRef). ReadsEntry v file t next.tree.value.passed (Some next.head)) (sym same) (subst (λ (o : Option Pair). ReadsEntry v file tree next.tree.value.passed o) is stands);
 }
 
 -- ---- damage of the tree
@@ -36,21 +36,21 @@ pub pairs_shown : (v : View) (file : FileName) (scan : PairScan) (f : ReadFault)
 pairs_shown v file scan f same shown =
     shown_as (ShowsTree file scan.tree) (ShowsPairs file scan.tree) v file f (λ bytes damage is shows. of_tree shows) (subst (λ (n : FileName). DamageShown v n (ShowsTree n scan.tree) f) same shown)
 
-pub pairs_spare : (v : View) (file : FileName) (source : Source) (f : ReadFault) → source.tree.buffered.file ≡ file → NoFalseTreeDamage v source.tree.buffered.file source.tree.tree f → NoFalseSourceDamage v file source f
+pub pairs_spare : (v : View) (file : FileName) (source : Source) (f : ReadFault) → source.tree.value.buffered.file ≡ file → NoFalseTreeDamage v source.tree.value.buffered.file source.tree.value.tree f → NoFalseSourceDamage v file source f
 pairs_spare v file source fault.Failed same right = tt
 pairs_spare v file source fault.OutOfMemory same right = tt
 pairs_spare v file source (fault.Damaged damage) same right = λ bytes pairs is of. right bytes pairs (ap (λ (n : FileName). contents v n) same ∙ is) of.tree
 
 -- ---- disorder
 
-pub disorder_shown : (v : View) (file : FileName) (source next : Source) (found : Option Source) (damage : Damage) → found ≡ Some next → source.tree.buffered.file ≡ file → IsAtHead v file source → IfSome found (IsAtHead v source.tree.buffered.file)
-    → GoesOn v source.tree found → TellsDisorder file source.head next damage → DamageShown v file (ShowsPairs file source.tree.tree) (fault.Damaged damage)
+pub disorder_shown : (v : View) (file : FileName) (source next : Source) (found : Option Source) (damage : Damage) → found ≡ Some next → source.tree.value.buffered.file ≡ file → IsAtHead v file source → IfSome found (IsAtHead v source.tree.value.buffered.file)
+    → GoesOn v source.tree.value found → TellsDisorder file source.head next damage → DamageShown v file (ShowsPairs file source.tree.value.tree) (fault.Damaged damage)
 disorder_shown v file source next found damage is same here there_is goes_is tells = λ bytes told.
-    (let tree = source.tree.tree in
-    let goes : GoesOn v source.tree (Some next) = subst (λ (o : Option Source). GoesOn v source.tree o) is goes_is in
-    let there : IsAtHead v file next = subst (λ (n : FileName). IsAtHead v n next) same (subst (λ (o : Option Source). IfSome o (IsAtHead v source.tree.buffered.file)) is there_is) in
+    (let tree = source.tree.value.tree in
+    let goes : GoesOn v source.tree.value (Some next) = subst (λ (o : Option Source). GoesOn v source.tree.value o) is goes_is in
+    let there : IsAtHead v file next = subst (λ (n : FileName). IsAtHead v n next) same (subst (λ (o : Option Source). IfSome o (IsAtHead v source.tree.value.buffered.file)) is there_is) in
     let index : there.stands.0 ≡ here.stands.0 + 1 = omega (arith, here.stands.1, there.stands.1, goes.1) in
-    let last : next.tree.passed - 1 ≡ here.stands.0 + 1 = omega (arith, here.stands.1, goes.1) in
+    let last : next.tree.value.passed - 1 ≡ here.stands.0 + 1 = omega (arith, here.stands.1, goes.1) in
     of_order (record {
       named = tells.named;
       rule_is = tells.rule_is;
@@ -60,14 +60,14 @@ disorder_shown v file source next found damage is same here there_is goes_is tel
       has_before = here.stands.2 bytes told;
       has_after = subst (λ (n : ℕ). HasEntry bytes tree n next.head) index (subst (λ (t : TreeRef). HasEntry bytes t there.stands.0 next.head) goes.0 (there.stands.2 bytes told));
       disorder = tells.disorder;
-      at_is = tells.at_is ∙ ap (λ (t : TreeRef). pair_place t (next.tree.passed - 1)) goes.0 ∙ ap (λ (n : ℕ). pair_place tree n) last;
+      at_is = tells.at_is ∙ ap (λ (t : TreeRef). pair_place t (next.tree.value.passed - 1)) goes.0 ∙ ap (λ (n : ℕ). pair_place tree n) last;
       seen_is = tells.seen_is;
     }))
 
-pub disorder_spares : (v : View) (file : FileName) (source next : Source) (found : Option Source) (damage : Damage) → found ≡ Some next → source.tree.buffered.file ≡ file → GoesOn v source.tree found → TellsDisorder file source.head next damage
+pub disorder_spares : (v : View) (file : FileName) (source next : Source) (found : Option Source) (damage : Damage) → found ≡ Some next → source.tree.value.buffered.file ≡ file → GoesOn v source.tree.value found → TellsDisorder file source.head next damage
     → NoFalseSourceDamage v file source (fault.Damaged damage)
 disorder_spares v file source next found damage is same goes_is tells = λ bytes pairs told of.
-    (let goes : GoesOn v source.tree (Some next) = subst (λ (o : Option Source). GoesOn v source.tree o) is goes_is in
-    let left : drop of.before pairs ≡ source.head ∷ next.head ∷ drop next.tree.passed pairs =
+    (let goes : GoesOn v source.tree.value (Some next) = subst (λ (o : Option Source). GoesOn v source.tree.value o) is goes_is in
+    let left : drop of.before pairs ≡ source.head ∷ next.head ∷ drop next.tree.value.passed pairs =
     of.left ∙ ap (λ (l : List Pair). source.head ∷ l) (goes.3 bytes pairs (ap (λ (n : FileName). contents v n) same ∙ told) of.tree) in
-    differ (sym (next_rises pairs of.before source.head next.head (drop next.tree.passed pairs) of.tree.rising left) ∙ tells.disorder))
+    differ (sym (next_rises pairs of.before source.head next.head (drop next.tree.value.passed pairs) of.tree.rising left) ∙ tells.disorder))

@@ -54,19 +54,19 @@ differ : true ≡ false → ⊥
 differ e = cc
 
 module _ (v : View) (file : FileName) (bytes : Bytes) (lists : List (List Pair)) (old new : List Source) (head : Pair) (steps : StepsBy v head old new)
-    (named : All (λ (s : Source). s.tree.buffered.file ≡ file) old) (reads : contents v file ≡ Some bytes) (each : All (IsSourceIn bytes lists) old) where
+    (named : All (λ (s : Source). s.tree.value.buffered.file ≡ file) old) (reads : contents v file ≡ Some bytes) (each : All (IsSourceIn bytes lists) old) where
   source_there : Contains old steps.source
   source_there = Contains-permutation (steps.source ∷ steps.others) old steps.source (IsPermutation-sym old (steps.source ∷ steps.others) steps.taken) (contains_first steps.source steps.others)
 
   own : IsSourceIn bytes lists steps.source
   own = All-contains (IsSourceIn bytes lists) old steps.source each source_there
 
-  own_reads : contents v steps.source.tree.buffered.file ≡ Some bytes
-  own_reads = ap (λ (n : FileName). contents v n) (All-contains (λ (s : Source). s.tree.buffered.file ≡ file) old steps.source named source_there) ∙ reads
+  own_reads : contents v steps.source.tree.value.buffered.file ≡ Some bytes
+  own_reads = ap (λ (n : FileName). contents v n) (All-contains (λ (s : Source). s.tree.value.buffered.file ≡ file) old steps.source named source_there) ∙ reads
 
   head_first : Contains own.pairs steps.source.head
   head_first =
-      drop_has own.is.before own.pairs steps.source.head (subst (λ (l : List Pair). Contains l steps.source.head) (sym own.is.left) (contains_first steps.source.head (drop steps.source.tree.passed own.pairs)))
+      drop_has own.is.before own.pairs steps.source.head (subst (λ (l : List Pair). Contains l steps.source.head) (sym own.is.left) (contains_first steps.source.head (drop steps.source.tree.value.passed own.pairs)))
     where
       drop_has : (n : ℕ) (pairs : List Pair) (p : Pair) → Contains (drop n pairs) p → Contains pairs p
       drop_has zero pairs p has = has
@@ -81,15 +81,15 @@ module _ (v : View) (file : FileName) (bytes : Bytes) (lists : List (List Pair))
   pub head_least : (last : Option Pair) (floor : ℕ) → Gives bytes lists last floor old → (pair : Pair) → IsPairOf lists pair → is_left last floor pair ≡ true → is_before pair head ≡ false
   head_least last floor gives pair of left =
       let still = gives.all of.pairs pair of.listed of.has left in
-      let first = first_least of.pairs still.is.before still.source.tree.passed still.source.head pair still.is.tree.rising still.is.left still.gives in
+      let first = first_least of.pairs still.is.before still.source.tree.value.passed still.source.head pair still.is.tree.rising still.is.left still.gives in
       let bound = All-contains (λ (s : Source). is_lt (source_cmp steps.source s) ≡ false) old still.source (All-from_recursion _ old steps.least) still.there in
       ap (λ (p : Pair). is_before pair p) steps.head_is ∙ not_before_on pair still.source.head steps.source.head first bound
 
   -- what the next source of the same list is
-  next_is : (pairs : List Pair) (next : Source) → IsSourceOf bytes pairs steps.source → GoesOn v steps.source.tree (Some next) → IsSourceOf bytes pairs next
+  next_is : (pairs : List Pair) (next : Source) → IsSourceOf bytes pairs steps.source → GoesOn v steps.source.tree.value (Some next) → IsSourceOf bytes pairs next
   next_is pairs next is goes = record {
     tree = subst (λ (t : TreeRef). HasTree bytes t pairs) (sym goes.0) is.tree;
-    before = steps.source.tree.passed;
+    before = steps.source.tree.value.passed;
     left = goes.3 bytes pairs own_reads is.tree;
   }
 
@@ -99,7 +99,7 @@ module _ (v : View) (file : FileName) (bytes : Bytes) (lists : List (List Pair))
   pub each_on : All (IsSourceIn bytes lists) new
   each_on = from steps.next steps.goes steps.put
     where
-      from : (next : Option Source) → GoesOn v steps.source.tree next → IsPermutation (option_to_list next ++ steps.others) new → All (IsSourceIn bytes lists) new
+      from : (next : Option Source) → GoesOn v steps.source.tree.value next → IsPermutation (option_to_list next ++ steps.others) new → All (IsSourceIn bytes lists) new
       from None goes put = All-permutation (IsSourceIn bytes lists) steps.others new put others_each
       from (Some next) goes put =
           All-permutation (IsSourceIn bytes lists) (next ∷ steps.others) new put
@@ -109,9 +109,9 @@ module _ (v : View) (file : FileName) (bytes : Bytes) (lists : List (List Pair))
   other_there s has = Contains-permutation (option_to_list steps.next ++ steps.others) new s steps.put (Contains-append_right (option_to_list steps.next) steps.others s has)
 
   -- a pair of the source, other than its head, is still given by the next one
-  by_next : (pairs : List Pair) (pair : Pair) (next : Option Source) → IsSourceOf bytes pairs steps.source → GoesOn v steps.source.tree next → IsPermutation (option_to_list next ++ steps.others) new
-      → Contains (drop steps.source.tree.passed pairs) pair → IsStillGiven bytes pairs new pair
-  by_next pairs pair None is goes put has = absurd (contains_none (drop steps.source.tree.passed pairs) pair (goes bytes pairs own_reads is.tree) has)
+  by_next : (pairs : List Pair) (pair : Pair) (next : Option Source) → IsSourceOf bytes pairs steps.source → GoesOn v steps.source.tree.value next → IsPermutation (option_to_list next ++ steps.others) new
+      → Contains (drop steps.source.tree.value.passed pairs) pair → IsStillGiven bytes pairs new pair
+  by_next pairs pair None is goes put has = absurd (contains_none (drop steps.source.tree.value.passed pairs) pair (goes bytes pairs own_reads is.tree) has)
   by_next pairs pair (Some next) is goes put has = record {
     source = next;
     there = Contains-permutation (next ∷ steps.others) new next put (contains_first next steps.others);
@@ -123,11 +123,11 @@ module _ (v : View) (file : FileName) (bytes : Bytes) (lists : List (List Pair))
   still_given last_now floor_now gone pairs pair left was = ⊎_elim
       (λ this.
       let is : IsSourceOf bytes pairs steps.source = subst (λ (s : Source). IsSourceOf bytes pairs s) (sym this) was.is in
-      let has : Contains (steps.source.head ∷ drop steps.source.tree.passed pairs) pair = subst (λ (s : Source). Contains (s.head ∷ drop s.tree.passed pairs) pair) (sym this) was.gives in
+      let has : Contains (steps.source.head ∷ drop steps.source.tree.value.passed pairs) pair = subst (λ (s : Source). Contains (s.head ∷ drop s.tree.value.passed pairs) pair) (sym this) was.gives in
       ⊎_elim
       (λ first. absurd (differ (sym left ∙ ap (λ (p : Pair). is_left last_now floor_now p) (sym first ∙ sym steps.head_is) ∙ gone)))
       (λ later. by_next pairs pair steps.next is steps.goes steps.put later)
-      (contains_cases steps.source.head pair (drop steps.source.tree.passed pairs) has))
+      (contains_cases steps.source.head pair (drop steps.source.tree.value.passed pairs) has))
       (λ other. record { source = was.source; there = other_there was.source other; is = was.is; gives = was.gives })
       (contains_cases steps.source was.source steps.others (Contains-permutation old (steps.source ∷ steps.others) was.source steps.taken was.there))
 
@@ -180,7 +180,7 @@ adds_list v file bytes lists last floor list pairs old new adds reads tree gives
                 source = next;
                 there = Contains-permutation (next ∷ old) new next put (contains_first next old);
                 is = subst (λ (l : List Pair). IsSourceOf bytes l next) (sym same) is;
-                gives = subst (λ (l : List Pair). Contains (next.head ∷ drop next.tree.passed l) pair) (sym same)
+                gives = subst (λ (l : List Pair). Contains (next.head ∷ drop next.tree.value.passed l) pair) (sym same)
                     (subst (λ (l : List Pair). Contains l pair) (goes.3 bytes pairs reads tree) (subst (λ (l : List Pair). Contains l pair) same has));
               })
               (Contains-append_cases lists (pairs ∷ []) these listed);
@@ -188,13 +188,13 @@ adds_list v file bytes lists last floor list pairs old new adds reads tree gives
 
 -- ---- how many pairs are left
 
-pub fewer_left : (v : View) (head : Pair) (old new : List Source) → StepsBy v head old new → All (λ (s : Source). s.tree.passed ≤ s.tree.tree.pairs) old → left_of new < left_of old
+pub fewer_left : (v : View) (head : Pair) (old new : List Source) → StepsBy v head old new → All (λ (s : Source). s.tree.value.passed ≤ s.tree.value.tree.pairs) old → left_of new < left_of old
 fewer_left v head old new steps within = from steps.next steps.goes steps.put
   where
     gone : left_of steps.others + left_in steps.source ≡ left_of old
     gone = sum_by_popped left_in steps.source old steps.others steps.taken
 
-    from : (next : Option Source) → GoesOn v steps.source.tree next → IsPermutation (option_to_list next ++ steps.others) new → left_of new < left_of old
+    from : (next : Option Source) → GoesOn v steps.source.tree.value next → IsPermutation (option_to_list next ++ steps.others) new → left_of new < left_of old
     from None goes put = omega (arith, gone, sum_by-IsPermutation left_in steps.others new put)
     from (Some next) goes put =
         let less : left_in next < left_in steps.source = omega (arith, ap (λ (t : TreeRef). t.pairs) goes.0, goes.1, goes.2) in
@@ -212,7 +212,7 @@ pub merge_still : (a b : View) (merge : TreeMerge) → Changes Same a b → CanM
 merge_still a b merge same can = record {
   heap = can.heap;
   each = All-weaker (IsReadable a merge.file) (IsReadable b merge.file)
-      (λ s is. record { named = is.named; buffered = buffered_after s.tree.buffered a b same is.buffered; at_head = at_head_still a b merge.file s same is.at_head }) (sources_of merge) can.each;
+      (λ s is. record { named = is.named; buffered = buffered_after s.tree.value.buffered a b same is.buffered; at_head = at_head_still a b merge.file s same is.at_head }) (sources_of merge) can.each;
 }
 
 -- ---- a scan goes on
@@ -220,24 +220,24 @@ merge_still a b merge same can = record {
 pub goes_none : (v : View) (scan : PairScan) (after : ℕ) (found : Option Pair) → found ≡ None → ReadsNextPair v scan.buffered.file scan.tree scan.passed after found → GoesOn v scan None
 goes_none v scan after found is reads = λ bytes pairs told has. (subst (λ (o : Option Pair). StepsToPair pairs scan.passed after o) is (reads bytes pairs told has)).0
 
-pub goes_some : (v : View) (scan after : PairScan) (found : Option Pair) (head : Pair) → found ≡ Some head → ReadsNextPair v scan.buffered.file scan.tree scan.passed after.passed found → after.tree ≡ scan.tree
-    → (IsSome found → after.passed ≡ scan.passed + 1) → (IsSome found → HasPassed after.tree after.passed) → GoesOn v scan (Some (record { head = head; tree = after }))
-goes_some v scan after found head is reads same one passed =
+pub goes_some : (v : View) (scan : PairScan) (next : Source) (found : Option Pair) → found ≡ Some next.head → ReadsNextPair v scan.buffered.file scan.tree scan.passed next.tree.value.passed found
+    → next.tree.value.tree ≡ scan.tree → (IsSome found → next.tree.value.passed ≡ scan.passed + 1) → (IsSome found → HasPassed next.tree.value.tree next.tree.value.passed) → GoesOn v scan (Some next)
+goes_some v scan next found is reads same one passed =
     let there : IsSome found = subst (λ (o : Option Pair). IsSome o) (sym is) refl in
     let within = (passed there).within in
-    (same, one there, omega (arith, within, ap (λ (t : TreeRef). t.pairs) same), λ bytes pairs told has. subst (λ (o : Option Pair). StepsToPair pairs scan.passed after.passed o) is (reads bytes pairs told has))
+    (same, one there, omega (arith, within, ap (λ (t : TreeRef). t.pairs) same), λ bytes pairs told has. subst (λ (o : Option Pair). StepsToPair pairs scan.passed next.tree.value.passed o) is (reads bytes pairs told has))
 
 -- ---- one source more or less
 
 -- the source that a scan gives
-pub source_readable : (v b : View) (file : FileName) (scan : PairScan) (found : Option Source) (source : Source) → Changes Same v b → found ≡ Some source → scan.buffered.file ≡ file → IfSome found (λ (s : Source). s.tree.buffered.file ≡ scan.buffered.file)
-    → IfSome found (λ (s : Source). IsBuffered s.tree.buffered b.files) → IfSome found (IsAtHead v scan.buffered.file) → IsReadable b file source
+pub source_readable : (v b : View) (file : FileName) (scan : PairScan) (found : Option Source) (source : Source) → Changes Same v b → found ≡ Some source → scan.buffered.file ≡ file → IfSome found (λ (s : Source). s.tree.value.buffered.file ≡ scan.buffered.file)
+    → IfSome found (λ (s : Source). IsBuffered s.tree.value.buffered b.files) → IfSome found (IsAtHead v scan.buffered.file) → IsReadable b file source
 source_readable v b file scan found source same is scanned named buffered at_head =
-    let here : source.tree.buffered.file ≡ scan.buffered.file = subst (λ (o : Option Source). IfSome o (λ (s : Source). s.tree.buffered.file ≡ scan.buffered.file)) is named in
+    let here : source.tree.value.buffered.file ≡ scan.buffered.file = subst (λ (o : Option Source). IfSome o (λ (s : Source). s.tree.value.buffered.file ≡ scan.buffered.file)) is named in
     let at : IsAtHead v scan.buffered.file source = subst (λ (o : Option Source). IfSome o (IsAtHead v scan.buffered.file)) is at_head in
     record {
       named = here ∙ scanned;
-      buffered = subst (λ (o : Option Source). IfSome o (λ (s : Source). IsBuffered s.tree.buffered b.files)) is buffered;
+      buffered = subst (λ (o : Option Source). IfSome o (λ (s : Source). IsBuffered s.tree.value.buffered b.files)) is buffered;
       at_head = at_head_still v b file source same (subst (λ (n : FileName). IsAtHead v n source) scanned at);
     }
 
@@ -275,23 +275,23 @@ pub tree_pairs : (before after : ℕ) (v : View) (scan : PairScan) (list : TreeR
 tree_pairs before after v scan list source old new is goes put cost =
     omega (arith, add_reads before after v scan source old new goes (ap (λ (s : PairScan). s.passed) is) put cost, ap (λ (s : PairScan). s.tree.pairs) is)
 
-pub ended_reads : (before after : ℕ) (source : Source) (old others : List Source) → IsPermutation old (source ∷ others) → after ≤ before + 2 → (source.tree.tree.pairs ≤ source.tree.passed → after ≡ before)
+pub ended_reads : (before after : ℕ) (source : Source) (old others : List Source) → IsPermutation old (source ∷ others) → after ≤ before + 2 → (source.tree.value.tree.pairs ≤ source.tree.value.passed → after ≡ before)
     → after + 2 * unread_of others ≤ before + 2 * unread_of old
 ended_reads before after source old others taken cost ended = ⊎_elim
     (λ over. omega (arith, sum_by_popped unread_in source old others taken, ended over.1))
     (λ more. omega (arith, sum_by_popped unread_in source old others taken, more.1, cost))
-    (leb_tells source.tree.tree.pairs source.tree.passed)
+    (leb_tells source.tree.value.tree.pairs source.tree.value.passed)
 
-pub step_reads : (before after : ℕ) (v : View) (source next : Source) (old others new : List Source) → IsPermutation old (source ∷ others) → IsPermutation (next ∷ others) new → GoesOn v source.tree (Some next) → after ≤ before + 2
+pub step_reads : (before after : ℕ) (v : View) (source next : Source) (old others new : List Source) → IsPermutation old (source ∷ others) → IsPermutation (next ∷ others) new → GoesOn v source.tree.value (Some next) → after ≤ before + 2
     → after + 2 * unread_of new ≤ before + 2 * unread_of old
 step_reads before after v source next old others new taken put goes cost =
     omega (arith, sum_by_popped unread_in source old others taken, sum_by_pushed unread_in next others new put, ap (λ (t : TreeRef). t.pairs) goes.0, goes.1, goes.2, cost)
 
 -- ---- damage
 
-pub head_shown : (v : View) (file : FileName) (source : Source) (old others : List Source) (f : ReadFault) → IsPermutation old (source ∷ others) → DamageShown v file (ShowsPairs file source.tree.tree) f → DamageShown v file (ShowsSources old file) f
+pub head_shown : (v : View) (file : FileName) (source : Source) (old others : List Source) (f : ReadFault) → IsPermutation old (source ∷ others) → DamageShown v file (ShowsPairs file source.tree.value.tree) f → DamageShown v file (ShowsSources old file) f
 head_shown v file source old others f taken shown =
-    shown_as (ShowsPairs file source.tree.tree) (ShowsSources old file) v file f
+    shown_as (ShowsPairs file source.tree.value.tree) (ShowsSources old file) v file f
     (λ bytes damage is shows. record { source = source; there = Contains-permutation (source ∷ others) old source (IsPermutation-sym old (source ∷ others) taken) (contains_first source others); shows = shows })
     shown
 
@@ -305,34 +305,34 @@ head_spares v file source old others (fault.Damaged damage) taken right = λ byt
 -- ---- trees
 
 pub trees_same : (sources : List Source) → TreesStay sources sources
-trees_same sources = All-weaker (Contains sources) (λ (s : Source). (was : Source) × Contains sources was × (s.tree.tree ≡ was.tree.tree)) (λ s has. (s, has, refl)) sources (All-contains_itself sources)
+trees_same sources = All-weaker (Contains sources) (λ (s : Source). (was : Source) × Contains sources was × (s.tree.value.tree ≡ was.tree.value.tree)) (λ s has. (s, has, refl)) sources (All-contains_itself sources)
 
 pub trees_on : (a b c : List Source) → TreesStay a b → TreesStay b c → TreesStay a c
 trees_on a b c first second =
-    All-weaker (λ (s : Source). (was : Source) × Contains b was × (s.tree.tree ≡ was.tree.tree)) (λ (s : Source). (was : Source) × Contains a was × (s.tree.tree ≡ was.tree.tree))
-    (λ s has. (let before = All-contains (λ (t : Source). (was : Source) × Contains a was × (t.tree.tree ≡ was.tree.tree)) b has.0 first has.1 in (before.0, before.1, has.2 ∙ before.2))) c second
+    All-weaker (λ (s : Source). (was : Source) × Contains b was × (s.tree.value.tree ≡ was.tree.value.tree)) (λ (s : Source). (was : Source) × Contains a was × (s.tree.value.tree ≡ was.tree.value.tree))
+    (λ s has. (let before = All-contains (λ (t : Source). (was : Source) × Contains a was × (t.tree.value.tree ≡ was.tree.value.tree)) b has.0 first has.1 in (before.0, before.1, has.2 ∙ before.2))) c second
 
-next_tree : (v : View) (old : List Source) (source : Source) (next : Option Source) → GoesOn v source.tree next → Contains old source → All (λ (s : Source). (was : Source) × Contains old was × (s.tree.tree ≡ was.tree.tree)) (option_to_list next)
-next_tree v old source None goes there = All-nil (λ (s : Source). (was : Source) × Contains old was × (s.tree.tree ≡ was.tree.tree))
+next_tree : (v : View) (old : List Source) (source : Source) (next : Option Source) → GoesOn v source.tree.value next → Contains old source → All (λ (s : Source). (was : Source) × Contains old was × (s.tree.value.tree ≡ was.tree.value.tree)) (option_to_list next)
+next_tree v old source None goes there = All-nil (λ (s : Source). (was : Source) × Contains old was × (s.tree.value.tree ≡ was.tree.value.tree))
 next_tree v old source (Some next) goes there =
-    All-cons (λ (s : Source). (was : Source) × Contains old was × (s.tree.tree ≡ was.tree.tree)) next [] (source, there, goes.0) (All-nil (λ (s : Source). (was : Source) × Contains old was × (s.tree.tree ≡ was.tree.tree)))
+    All-cons (λ (s : Source). (was : Source) × Contains old was × (s.tree.value.tree ≡ was.tree.value.tree)) next [] (source, there, goes.0) (All-nil (λ (s : Source). (was : Source) × Contains old was × (s.tree.value.tree ≡ was.tree.value.tree)))
 
 pub trees_step : (v : View) (head : Pair) (old new : List Source) → StepsBy v head old new → TreesStay old new
 trees_step v head old new steps = from steps.next steps.goes steps.put
   where
-    from : (next : Option Source) → GoesOn v steps.source.tree next → IsPermutation (option_to_list next ++ steps.others) new → TreesStay old new
+    from : (next : Option Source) → GoesOn v steps.source.tree.value next → IsPermutation (option_to_list next ++ steps.others) new → TreesStay old new
     from next goes put =
-        let P = λ (s : Source). (was : Source) × Contains old was × (s.tree.tree ≡ was.tree.tree) in
+        let P = λ (s : Source). (was : Source) × Contains old was × (s.tree.value.tree ≡ was.tree.value.tree) in
         let back = λ (s : Source) (has : Contains (steps.source ∷ steps.others) s). Contains-permutation (steps.source ∷ steps.others) old s (IsPermutation-sym old (steps.source ∷ steps.others) steps.taken) has in
         All-permutation P (option_to_list next ++ steps.others) new put
         (All-append P (option_to_list next) steps.others (next_tree v old steps.source next goes (back steps.source (contains_first steps.source steps.others)))
         (All-weaker (Contains steps.others) P (λ s has. (s, back s (contains_later steps.source s steps.others has), refl)) steps.others (All-contains_itself steps.others)))
 
-pub named_all : (v : View) (merge : TreeMerge) → CanMerge v merge → All (λ (s : Source). s.tree.buffered.file ≡ merge.file) (sources_of merge)
-named_all v merge can = All-weaker (IsReadable v merge.file) (λ (s : Source). s.tree.buffered.file ≡ merge.file) (λ s is. is.named) (sources_of merge) can.each
+pub named_all : (v : View) (merge : TreeMerge) → CanMerge v merge → All (λ (s : Source). s.tree.value.buffered.file ≡ merge.file) (sources_of merge)
+named_all v merge can = All-weaker (IsReadable v merge.file) (λ (s : Source). s.tree.value.buffered.file ≡ merge.file) (λ s is. is.named) (sources_of merge) can.each
 
-pub within_all : (v : View) (merge : TreeMerge) → CanMerge v merge → All (λ (s : Source). s.tree.passed ≤ s.tree.tree.pairs) (sources_of merge)
-within_all v merge can = All-weaker (IsReadable v merge.file) (λ (s : Source). s.tree.passed ≤ s.tree.tree.pairs) (λ s is. is.at_head.passed.within) (sources_of merge) can.each
+pub within_all : (v : View) (merge : TreeMerge) → CanMerge v merge → All (λ (s : Source). s.tree.value.passed ≤ s.tree.value.tree.pairs) (sources_of merge)
+within_all v merge can = All-weaker (IsReadable v merge.file) (λ (s : Source). s.tree.value.passed ≤ s.tree.value.tree.pairs) (λ s is. is.at_head.passed.within) (sources_of merge) can.each
 
 pub left_same : (last now : Option Pair) (floor floor_now : ℕ) (pair : Pair) → now ≡ last → floor_now ≡ floor → is_left now floor_now pair ≡ is_left last floor pair
 left_same last now floor floor_now pair same below = ap (λ (l : Option Pair). is_left l floor_now pair) same ∙ ap (λ (n : ℕ). is_left last n pair) below
@@ -342,7 +342,7 @@ pub shown_of : (a b : View) (file now : FileName) (old new : List Source) (f : R
 shown_of a b file now old new f stay same named shown =
     shown_before (ShowsSources old file) a b file f same
     (shown_as (ShowsSources new file) (ShowsSources old file) b file f
-    (λ bytes damage is shows. (let was = All-contains (λ (s : Source). (t : Source) × Contains old t × (s.tree.tree ≡ t.tree.tree)) new shows.source stay shows.there in
+    (λ bytes damage is shows. (let was = All-contains (λ (s : Source). (t : Source) × Contains old t × (s.tree.value.tree ≡ t.tree.value.tree)) new shows.source stay shows.there in
     record { source = was.0; there = was.1; shows = subst (λ (t : TreeRef). ShowsPairs file t bytes damage) was.2 shows.shows }))
     (subst (λ (n : FileName). DamageShown b n (ShowsSources new n) f) named shown))
 

@@ -50,14 +50,14 @@ pays_fault a b c before mid f first second =
 
 -- a step reads nothing where no pair is to be read
 pub head_causes : {T : Type 0} (a b : View) (source : Source) (old others : List Source) (result : Result T ReadFault) → IsPermutation old (source ∷ others) → ReadsAtMost 2 a b result
-    → (source.tree.tree.pairs ≤ source.tree.passed → b.reads ≡ a.reads) → ReadsAtMost (2 * unread_of old) a b result
+    → (source.tree.value.tree.pairs ≤ source.tree.value.passed → b.reads ≡ a.reads) → ReadsAtMost (2 * unread_of old) a b result
 head_causes a b source old others result taken causes ended = record {
   disk = causes.disk;
   out = causes.out;
   reads = ⊎_elim
       (λ over. omega (arith, ended over.1))
       (λ more. omega (arith, sum_by_popped unread_in source old others taken, more.1, causes.reads))
-      (leb_tells source.tree.tree.pairs source.tree.passed);
+      (leb_tells source.tree.value.tree.pairs source.tree.value.passed);
   ok = causes.ok;
   failed = causes.failed;
   memory = causes.memory;
@@ -65,16 +65,16 @@ head_causes a b source old others result taken causes ended = record {
 }
 
 pub head_fails : {S T : Type 0} (a b : View) (source : Source) (old others : List Source) (f : ReadFault) → IsPermutation old (source ∷ others) → ReadsAtMost {T = S} 2 a b (Err f)
-    → (source.tree.tree.pairs ≤ source.tree.passed → b.reads ≡ a.reads) → ReadsAtMost {T = T} (2 * unread_of old) a b (Err f)
+    → (source.tree.value.tree.pairs ≤ source.tree.value.passed → b.reads ≡ a.reads) → ReadsAtMost {T = T} (2 * unread_of old) a b (Err f)
 head_fails a b source old others f taken causes ended = fault_reads a b (2 * unread_of old) (2 * unread_of old) f (omega arith) (head_causes a b source old others (Err f) taken causes ended)
 
 pub head_gives : {S T : Type 0} (a b : View) (source : Source) (old others : List Source) (first : S) (x : T) → IsPermutation old (source ∷ others) → ReadsAtMost 2 a b (Ok first)
-    → (source.tree.tree.pairs ≤ source.tree.passed → b.reads ≡ a.reads) → ReadsAtMost (2 * unread_of old) a b (Ok x)
+    → (source.tree.value.tree.pairs ≤ source.tree.value.passed → b.reads ≡ a.reads) → ReadsAtMost (2 * unread_of old) a b (Ok x)
 head_gives a b source old others first x taken causes ended = ok_reads a b (2 * unread_of old) first x (head_causes a b source old others (Ok first) taken causes ended)
 
 -- and out of memory behind it is no failure of the host
 pub head_full : {S T : Type 0} (a b : View) (source : Source) (old others : List Source) (first : S) → IsPermutation old (source ∷ others) → ReadsAtMost 2 a b (Ok first)
-    → (source.tree.tree.pairs ≤ source.tree.passed → b.reads ≡ a.reads) → ReadsAtMost {T = T} (2 * unread_of old) a b (Err fault.OutOfMemory)
+    → (source.tree.value.tree.pairs ≤ source.tree.value.passed → b.reads ≡ a.reads) → ReadsAtMost {T = T} (2 * unread_of old) a b (Err fault.OutOfMemory)
 head_full a b source old others first taken causes ended =
     let all = head_causes a b source old others (Ok first) taken causes ended in
     record {

@@ -38,14 +38,14 @@ pub data ShowsPairs (file : FileName) (tree : TreeRef) (bytes : Bytes) (damage :
 pub record ShowsSources (sources : List Source) (file : FileName) (bytes : Bytes) (damage : Damage) : Type 0 where
   pub source : Source
   pub there : Contains sources source
-  pub shows : ShowsPairs file source.tree.tree bytes damage
+  pub shows : ShowsPairs file source.tree.value.tree bytes damage
 
 -- the damage is that the pair of a source isn't above this one
 pub record TellsDisorder (file : FileName) (before : Pair) (source : Source) (damage : Damage) : Type 0 where
   pub named : damage.file ≡ file
   pub rule_is : damage.rule ≡ rule.Order
   pub disorder : is_before before source.head ≡ false
-  pub at_is : damage.at ≡ pair_place source.tree.tree (source.tree.passed - 1)
+  pub at_is : damage.at ≡ pair_place source.tree.value.tree (source.tree.value.passed - 1)
   pub seen_is : seen_bytes damage.seen ≡ to_be_bytes w64 source.head.token
 
 -- damage is reported only where the file doesn't have the tree that the source scans

@@ -48,9 +48,9 @@ last_after last (Some found) = Some found
 
 -- the file has the tree of these pairs, and the source is a scan of it that has its next pair in hand
 pub record IsSourceOf (bytes : Bytes) (pairs : List Pair) (source : Source) : Type 0 where
-  pub tree : HasTree bytes source.tree.tree pairs
+  pub tree : HasTree bytes source.tree.value.tree pairs
   pub before : ℕ
-  pub left : drop before pairs ≡ source.head ∷ drop source.tree.passed pairs
+  pub left : drop before pairs ≡ source.head ∷ drop source.tree.value.passed pairs
 
 -- such a source of one of the lists
 pub record IsSourceIn (bytes : Bytes) (lists : List (List Pair)) (source : Source) : Type 0 where
@@ -63,7 +63,7 @@ pub record IsStillGiven (bytes : Bytes) (pairs : List Pair) (sources : List Sour
   pub source : Source
   pub there : Contains sources source
   pub is : IsSourceOf bytes pairs source
-  pub gives : Contains (source.head ∷ drop source.tree.passed pairs) pair
+  pub gives : Contains (source.head ∷ drop source.tree.value.passed pairs) pair
 
 -- the sources are those of the lists, and give each of their pairs that is left
 pub record Gives (bytes : Bytes) (lists : List (List Pair)) (last : Option Pair) (floor : ℕ) (sources : List Source) : Type 0 where
@@ -72,32 +72,32 @@ pub record Gives (bytes : Bytes) (lists : List (List Pair)) (last : Option Pair)
 
 -- the pair in hand is the last entry that the scan has passed, in any file
 pub record IsAtHead (v : View) (file : FileName) (source : Source) : Type 0 where
-  pub passed : HasPassed source.tree.tree source.tree.passed
-  pub stands : ReadsEntry v file source.tree.tree source.tree.passed (Some source.head)
+  pub passed : HasPassed source.tree.value.tree source.tree.value.passed
+  pub stands : ReadsEntry v file source.tree.value.tree source.tree.value.passed (Some source.head)
 
 -- what is known of a source in any file
 pub record IsReadable (v : View) (file : FileName) (source : Source) : Type 0 where
-  pub named : source.tree.buffered.file ≡ file
-  pub buffered : IsBuffered source.tree.buffered v.files
+  pub named : source.tree.value.buffered.file ≡ file
+  pub buffered : IsBuffered source.tree.value.buffered v.files
   pub at_head : IsAtHead v file source
 
 -- how many pairs the sources have, with those in hand
 abbrev pub left_in : Source → ℕ
-left_in source = source.tree.tree.pairs - source.tree.passed + 1
+left_in source = source.tree.value.tree.pairs - source.tree.value.passed + 1
 
 abbrev pub left_of : List Source → ℕ
 left_of sources = sum_by left_in sources
 
 -- how many of their pairs weren't read yet
 abbrev pub unread_in : Source → ℕ
-unread_in source = source.tree.tree.pairs - source.tree.passed
+unread_in source = source.tree.value.tree.pairs - source.tree.value.passed
 
 abbrev pub unread_of : List Source → ℕ
 unread_of sources = sum_by unread_in sources
 
 -- each tree of the one list is one of the other
 abbrev pub TreesStay : List Source → List Source → Type 0
-TreesStay old new = All (λ source. (was : Source) × Contains old was × (source.tree.tree ≡ was.tree.tree)) new
+TreesStay old new = All (λ source. (was : Source) × Contains old was × (source.tree.value.tree ≡ was.tree.value.tree)) new
 
 -- ---- a merge
 
@@ -115,8 +115,8 @@ pub record CanMerge (v : View) (merge : TreeMerge) : Type 0 where
 abbrev pub GoesOn : View → PairScan → Option Source → Type 0
 GoesOn v scan None = (bytes : Bytes) (pairs : List Pair) → contents v scan.buffered.file ≡ Some bytes → HasTree bytes scan.tree pairs → drop scan.passed pairs ≡ []
 GoesOn v scan (Some source) =
-    (source.tree.tree ≡ scan.tree) × (source.tree.passed ≡ scan.passed + 1) × (source.tree.passed ≤ scan.tree.pairs)
-    × ((bytes : Bytes) (pairs : List Pair) → contents v scan.buffered.file ≡ Some bytes → HasTree bytes scan.tree pairs → drop scan.passed pairs ≡ source.head ∷ drop source.tree.passed pairs)
+    (source.tree.value.tree ≡ scan.tree) × (source.tree.value.passed ≡ scan.passed + 1) × (source.tree.value.passed ≤ scan.tree.pairs)
+    × ((bytes : Bytes) (pairs : List Pair) → contents v scan.buffered.file ≡ Some bytes → HasTree bytes scan.tree pairs → drop scan.passed pairs ≡ source.head ∷ drop source.tree.value.passed pairs)
 
 -- the source with the least pair is gone, and back with its next one if it has one
 pub record StepsBy (v : View) (head : Pair) (old new : List Source) : Type 0 where
@@ -126,7 +126,7 @@ pub record StepsBy (v : View) (head : Pair) (old new : List Source) : Type 0 whe
   pub head_is : head ≡ source.head
   pub taken : IsPermutation old (source ∷ others)
   pub least : IsUpperBound source_cmp source old
-  pub goes : GoesOn v source.tree next
+  pub goes : GoesOn v source.tree.value next
   pub put : IsPermutation (option_to_list next ++ others) new
 
 abbrev pub Steps : View → List Source → List Source → Option Pair → Type 0

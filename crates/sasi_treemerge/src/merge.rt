@@ -23,6 +23,7 @@ use std::collections::BinaryHeap;
 /// A merge of the pairs of trees, in their order and each once. After a fault it isn't used again.
 #[derive(Drop)]
 pub struct TreeMerge {
+    pub alloc: Global,
     pub file: FileName,
     pub sources: BinaryHeap<Source, Global>,
     // The pair that was given last.
@@ -39,6 +40,14 @@ fn is_left(last: Option<Pair>, floor: Token, pair: Pair) -> bool
         Some(last) if pair <= last => false,
         _ => floor <= pair.token,
     }
+}
+
+// A scan of the tree with this reference.
+fn scan_of(alloc: Global, file: FileName, list: TreeRef) -> Result<Box<Tree>, AllocError>
+    ensures { IfOk result (λ tree. tree.value ≡ record { buffered = record { file = file; page = None; bytes = [] }; tree = list; passed = 0 }) }
+{
+    let tree = Box::new(alloc, Tree::new(file, list))?;
+    Ok(tree)
 }
 
 // Adds a source.
@@ -60,6 +69,7 @@ impl TreeMerge {
         ensures floor { result.floor ≡ 0 }
     {
         TreeMerge {
+            alloc,
             file,
             sources: BinaryHeap::new(alloc),
             last: None,
@@ -85,7 +95,7 @@ impl TreeMerge {
         ensures reads { OnOk result ((H.view host.new).reads + 2 * unread_of (sources_of self.new) ≤ (H.view host.old).reads + 2 * unread_of (sources_of self.old) + 2 * list.pairs) }
         ensures same { (self.new.file ≡ self.old.file) × (self.new.last ≡ self.old.last) × (self.new.floor ≡ self.old.floor) }
     {
-        let tree = Tree::new(self.file, list);
+        let tree = scan_of(self.alloc, self.file, list)?;
         match source_of(host, pages, tree)? {
             None => Ok(()),
             Some(source) => {

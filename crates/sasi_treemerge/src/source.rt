@@ -25,7 +25,8 @@ use std::cmp::Ordering;
 #[derive(Drop)]
 pub struct Source {
     pub head: Pair,
-    pub tree: Tree,
+    // Apart, so that a heap moves no page.
+    pub tree: Box<Tree>,
 }
 
 impl PartialEq for Source {
@@ -70,18 +71,18 @@ impl Ord for Source {
 pub fn source_of<H: Host, P: PageReader>(
     host: &mut H,
     pages: &mut P,
-    mut tree: Tree,
+    mut tree: Box<Tree>,
 ) -> Result<Option<Source>, ReadFault>
-    requires read { CanReadOn (P.agrees pages.old) (H.view host.old) tree.buffered }
-    ensures ok { IfOk result (GoesOn (H.view host.old) tree) }
-    ensures named { IfOk result (λ found. IfSome found (λ source. source.tree.buffered.file ≡ tree.buffered.file)) }
-    ensures buffered { IfOk result (λ found. IfSome found (λ source. IsBuffered source.tree.buffered (H.view host.new).files)) }
-    ensures at_head { IfOk result (λ found. IfSome found (IsAtHead (H.view host.old) tree.buffered.file)) }
-    ensures damaged { IfErr result (DamageShown (H.view host.old) tree.buffered.file (ShowsTree tree.buffered.file tree.tree)) }
-    ensures undamaged { IfErr result (NoFalseTreeDamage (H.view host.old) tree.buffered.file tree.tree) }
-    ensures read { HasRead (P.agrees pages.new) (P.covers pages.old) (P.covers pages.new) (H.view host.old) (H.view host.new) tree.buffered.file }
+    requires read { CanReadOn (P.agrees pages.old) (H.view host.old) tree.value.buffered }
+    ensures ok { IfOk result (GoesOn (H.view host.old) tree.value) }
+    ensures named { IfOk result (λ found. IfSome found (λ source. source.tree.value.buffered.file ≡ tree.value.buffered.file)) }
+    ensures buffered { IfOk result (λ found. IfSome found (λ source. IsBuffered source.tree.value.buffered (H.view host.new).files)) }
+    ensures at_head { IfOk result (λ found. IfSome found (IsAtHead (H.view host.old) tree.value.buffered.file)) }
+    ensures damaged { IfErr result (DamageShown (H.view host.old) tree.value.buffered.file (ShowsTree tree.value.buffered.file tree.value.tree)) }
+    ensures undamaged { IfErr result (NoFalseTreeDamage (H.view host.old) tree.value.buffered.file tree.value.tree) }
+    ensures read { HasRead (P.agrees pages.new) (P.covers pages.old) (P.covers pages.new) (H.view host.old) (H.view host.new) tree.value.buffered.file }
     ensures causes { ReadsAtMost 2 (H.view host.old) (H.view host.new) result }
-    ensures ended { tree.tree.pairs ≤ tree.passed → (H.view host.new).reads ≡ (H.view host.old).reads }
+    ensures ended { tree.value.tree.pairs ≤ tree.value.passed → (H.view host.new).reads ≡ (H.view host.old).reads }
 {
     match tree.next(host, pages)? {
         None => Ok(None),
@@ -91,7 +92,7 @@ pub fn source_of<H: Host, P: PageReader>(
 
 // Checks that the pair of a source is above the one before it.
 fn check_order(file: FileName, before: Pair, source: &Source) -> Result<(), Damage>
-    requires { HasPassed source.now.tree.tree source.now.tree.passed }
+    requires { HasPassed source.now.tree.value.tree source.now.tree.value.passed }
     ensures ok { OnOk result (is_before before source.now.head ≡ true) }
     ensures damaged { IfErr result (TellsDisorder file before source.now) }
 {
@@ -110,18 +111,18 @@ pub fn next_of<H: Host, P: PageReader>(
     file: FileName,
     source: Source,
 ) -> Result<Option<Source>, ReadFault>
-    requires read { CanReadOn (P.agrees pages.old) (H.view host.old) source.tree.buffered }
-    requires named { source.tree.buffered.file ≡ file }
+    requires read { CanReadOn (P.agrees pages.old) (H.view host.old) source.tree.value.buffered }
+    requires named { source.tree.value.buffered.file ≡ file }
     requires at_head { IsAtHead (H.view host.old) file source }
-    ensures ok { IfOk result (GoesOn (H.view host.old) source.tree) }
-    ensures named { IfOk result (λ found. IfSome found (λ next. next.tree.buffered.file ≡ source.tree.buffered.file)) }
-    ensures buffered { IfOk result (λ found. IfSome found (λ next. IsBuffered next.tree.buffered (H.view host.new).files)) }
-    ensures at_head { IfOk result (λ found. IfSome found (IsAtHead (H.view host.old) source.tree.buffered.file)) }
-    ensures damaged { IfErr result (DamageShown (H.view host.old) file (ShowsPairs file source.tree.tree)) }
+    ensures ok { IfOk result (GoesOn (H.view host.old) source.tree.value) }
+    ensures named { IfOk result (λ found. IfSome found (λ next. next.tree.value.buffered.file ≡ source.tree.value.buffered.file)) }
+    ensures buffered { IfOk result (λ found. IfSome found (λ next. IsBuffered next.tree.value.buffered (H.view host.new).files)) }
+    ensures at_head { IfOk result (λ found. IfSome found (IsAtHead (H.view host.old) source.tree.value.buffered.file)) }
+    ensures damaged { IfErr result (DamageShown (H.view host.old) file (ShowsPairs file source.tree.value.tree)) }
     ensures undamaged { IfErr result (NoFalseSourceDamage (H.view host.old) file source) }
-    ensures read { HasRead (P.agrees pages.new) (P.covers pages.old) (P.covers pages.new) (H.view host.old) (H.view host.new) source.tree.buffered.file }
+    ensures read { HasRead (P.agrees pages.new) (P.covers pages.old) (P.covers pages.new) (H.view host.old) (H.view host.new) source.tree.value.buffered.file }
     ensures causes { ReadsAtMost 2 (H.view host.old) (H.view host.new) result }
-    ensures ended { source.tree.tree.pairs ≤ source.tree.passed → (H.view host.new).reads ≡ (H.view host.old).reads }
+    ensures ended { source.tree.value.tree.pairs ≤ source.tree.value.passed → (H.view host.new).reads ≡ (H.view host.old).reads }
 {
     let head = source.head;
     let Some(next) = source_of(host, pages, source.tree)? else {

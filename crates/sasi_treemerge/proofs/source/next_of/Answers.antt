@@ -7,7 +7,7 @@ use Rattle.sasi_treemerge.proofs.source.next_of.Goals as goal
 pub returns-in_err-next-clause-damaged : goal.returns-in_err-next-clause-damaged
 returns-in_err-next-clause-damaged g c =
     let p = err_from_is_err_and c.from_residual.result c.from_residual.ensures.1 in
-    rw (p.1, p.2) (pairs_shown (g.H.Host.view c.args.host.now) c.args.file c.args.source.tree c.in_err-next.field-0.0 c.requires.named c.in_err-next.ensures.damaged)
+    rw (p.1, p.2) (pairs_shown (g.H.Host.view c.args.host.now) c.args.file c.args.source.tree.value c.in_err-next.field-0.0 c.requires.named c.in_err-next.ensures.damaged)
 
 pub returns-in_err-next-clause-undamaged : goal.returns-in_err-next-clause-undamaged
 returns-in_err-next-clause-undamaged g c =

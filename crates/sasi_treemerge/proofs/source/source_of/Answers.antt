@@ -1,5 +1,6 @@
 use Rattle.std.proofs.Common.{◌≡◌}
 use Rattle.std.proofs.lemmas.Result.{err_from_is_err_and}
+use Rattle.std.specs.Box.{with_value}
 use Rattle.sasi_tokentree.proofs.AfterRead.{tree_shown_more}
 use Rattle.sasi_treemerge.proofs.Disorder.{at_head_of}
 use Rattle.sasi_treemerge.proofs.Merging.{goes_none, goes_some}
@@ -8,16 +9,19 @@ use Rattle.sasi_treemerge.proofs.source.source_of.Goals as goal
 pub returns-in_err-next-clause-damaged : goal.returns-in_err-next-clause-damaged
 returns-in_err-next-clause-damaged g c =
     let p = err_from_is_err_and c.from_residual.result c.from_residual.ensures.1 in
-    rw (p.1, p.2) (tree_shown_more (λ index. index ≡ c.args.tree.passed) (λ index. Unit {0}) (g.H.Host.view c.args.host.now) c.args.tree.buffered.file c.args.tree.tree c.in_err-next.field-0.0
-    (λ bytes index is alone lt short. tt) c.in_err-next.ensures.damaged)
+    let tree = c.args.tree.value in
+    rw (p.1, p.2) (tree_shown_more (λ index. index ≡ tree.passed) (λ index. Unit {0}) (g.H.Host.view c.args.host.now) tree.buffered.file tree.tree c.in_err-next.field-0.0
+    (λ bytes index is alone lt short. tt) (rw c.deref_mut.ensures.value at c.in_err-next.ensures.damaged))
 
 pub returns-in-None-clause-ok : goal.returns-in-None-clause-ok
-returns-in-None-clause-ok g c = goes_none (g.H.Host.view c.args.host.now) c.args.tree c.next.new.self.passed c.in_ok-next.field-0 c.in-None.is c.in_ok-next.ensures.ok
+returns-in-None-clause-ok g c = goes_none (g.H.Host.view c.args.host.now) c.args.tree.value c.next.new.self.passed c.in_ok-next.field-0 c.in-None.is (rw c.deref_mut.ensures.value at c.in_ok-next.ensures.ok)
 
 pub returns-in-Some-clause-ok : goal.returns-in-Some-clause-ok
 returns-in-Some-clause-ok g c =
-    goes_some (g.H.Host.view c.args.host.now) c.args.tree c.next.new.self c.in_ok-next.field-0 c.in-Some.head c.in-Some.is c.in_ok-next.ensures.ok c.next.ensures.tree c.in_ok-next.ensures.some c.in_ok-next.ensures.passed
+    goes_some (g.H.Host.view c.args.host.now) c.args.tree.value (record { head = c.in-Some.head; tree = with_value c.args.tree c.next.new.self }) c.in_ok-next.field-0 c.in-Some.is
+    (rw c.deref_mut.ensures.value at c.in_ok-next.ensures.ok) (rw c.deref_mut.ensures.value at c.next.ensures.tree) (rw c.deref_mut.ensures.value at c.in_ok-next.ensures.some) c.in_ok-next.ensures.passed
 
 pub returns-in-Some-clause-at_head : goal.returns-in-Some-clause-at_head
 returns-in-Some-clause-at_head g c =
-    at_head_of (g.H.Host.view c.args.host.now) c.args.tree.buffered.file c.args.tree.tree c.next.new.self c.in_ok-next.field-0 c.in-Some.head c.in-Some.is c.in_ok-next.ensures.stands c.next.ensures.tree c.in_ok-next.ensures.passed
+    at_head_of (g.H.Host.view c.args.host.now) c.args.tree.value.buffered.file c.args.tree.value.tree (record { head = c.in-Some.head; tree = with_value c.args.tree c.next.new.self }) c.in_ok-next.field-0 c.in-Some.is
+    (rw c.deref_mut.ensures.value at c.in_ok-next.ensures.stands) (rw c.deref_mut.ensures.value at c.next.ensures.tree) c.in_ok-next.ensures.passed

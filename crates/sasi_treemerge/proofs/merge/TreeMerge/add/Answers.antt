@@ -1,22 +1,26 @@
-use Rattle.std.proofs.Common.{ap, refl, subst, Option}
+use Rattle.std.proofs.Common.{ap, inl, refl, subst, Option}
+use Rattle.sasi_host.specs.ChangeLaws.{stays}
 use Rattle.sasi_tokentree.specs.Scans.{PairScan}
 use Rattle.sasi_treemerge.specs.declared.source.Source.{Source}
 use Rattle.sasi_treemerge.specs.Merges.{GoesOn}
 use Rattle.sasi_treemerge.proofs.Merging.{can_add, merge_still, source_readable, tree_pairs}
 use Rattle.sasi_treemerge.proofs.merge.TreeMerge.add.Goals as goal
 
+pub returns-in_err-tree-clause-read : goal.returns-in_err-tree-clause-read
+returns-in_err-tree-clause-read g c = record { agrees = c.requires.read.agrees; covers = λ name at. inl at; changes = stays (g.H.Host.view c.args.host.now) }
+
 pub returns-in_ok-put-in-Some-clause-merge : goal.returns-in_ok-put-in-Some-clause-merge
 returns-in_ok-put-in-Some-clause-merge g c =
     let v = g.H.Host.view c.args.host.now in
     let w = g.H.Host.view c.source_of.new.host in
     can_add v w c.args.self.now _ c.in-Some.source c.requires.merge c.source_of.ensures.read.changes c.in_ok-put-in-Some.ensures.heap c.in_ok-put-in-Some.ensures.put refl
-    (source_readable v w c.args.self.now.file c.new-tree.result c.in_ok-source_of.field-0 c.in-Some.source c.source_of.ensures.read.changes c.in-Some.is (ap (λ (s : PairScan). s.buffered.file) c.new-tree.ensures)
+    (source_readable v w c.args.self.now.file c.in_ok-tree.tree.value c.in_ok-source_of.field-0 c.in-Some.source c.source_of.ensures.read.changes c.in-Some.is (ap (λ (s : PairScan). s.buffered.file) c.in_ok-tree.ensures)
     c.in_ok-source_of.ensures.named c.in_ok-source_of.ensures.buffered c.in_ok-source_of.ensures.at_head)
 
 pub returns-in_ok-put-in-Some-clause-reads : goal.returns-in_ok-put-in-Some-clause-reads
 returns-in_ok-put-in-Some-clause-reads g c =
     let v = g.H.Host.view c.args.host.now in
-    tree_pairs _ _ v c.new-tree.result c.args.list c.in-Some.source _ _ c.new-tree.ensures (subst (λ (o : Option Source). GoesOn v c.new-tree.result o) c.in-Some.is c.in_ok-source_of.ensures.ok) c.in_ok-put-in-Some.ensures.put
+    tree_pairs _ _ v c.in_ok-tree.tree.value c.args.list c.in-Some.source _ _ c.in_ok-tree.ensures (subst (λ (o : Option Source). GoesOn v c.in_ok-tree.tree.value o) c.in-Some.is c.in_ok-source_of.ensures.ok) c.in_ok-put-in-Some.ensures.put
     c.source_of.ensures.causes.reads
 
 pub returns-in-None-clause-merge : goal.returns-in-None-clause-merge
