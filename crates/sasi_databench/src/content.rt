@@ -10,14 +10,19 @@ pub fn types(alloc: Global) -> Result<TypeList, AllocError> {
     Ok(list)
 }
 
-/// The body of a partition: its key, no deletion, the marker, and a text of ten letters.
-pub fn body(alloc: Global, number: u64) -> Result<Vec<u8>, AllocError> {
-    let mut body = vec![in alloc; 0, 8]?;
-    body.extend_from_slice(&number.to_be_bytes())?;
-    body.extend_from_slice(&[0; 8])?;
-    body.extend_from_slice(&[0, 2])?;
-    body.extend_from_slice(&[0, 0, 0, 0, 0, 0, 0, 0, 0, 5, 1, 0, 0])?;
-    body.extend_from_slice(&[0, 1, 0, 0, 0, 0, 0, 0, 0, 5, 1, 0, 10])?;
-    body.extend_from_slice(b"abcdefghij")?;
-    Ok(body)
+// The body of partition 0: its key, no deletion, the marker, and a text of ten letters.
+const BODY: [u8; 56] = [
+    0, 8, 0, 0, 0, 0, 0, 0, 0, 0, //
+    0, 0, 0, 0, 0, 0, 0, 0, //
+    0, 2, //
+    0, 0, 0, 0, 0, 0, 0, 0, 0, 5, 1, 0, 0, //
+    0, 1, 0, 0, 0, 0, 0, 0, 0, 5, 1, 0, 10, //
+    b'a', b'b', b'c', b'd', b'e', b'f', b'g', b'h', b'i', b'j',
+];
+
+/// The body of a partition, with its number as the key.
+pub fn body(number: u64) -> [u8; 56] {
+    let mut body = BODY;
+    body[2..10].copy_from_slice(&number.to_be_bytes());
+    body
 }

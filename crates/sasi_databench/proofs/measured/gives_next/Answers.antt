@@ -1,4 +1,4 @@
-use Rattle.sasi_databench.proofs.measured.scan_all.Goals as goal
+use Rattle.sasi_databench.proofs.measured.gives_next.Goals as goal
 
 pub next-requires-clause-pairs_buffered : goal.next-requires-clause-pairs_buffered
 next-requires-clause-pairs_buffered c page bytes is reads = absurd (cc)

@@ -2,7 +2,7 @@ use Rattle.std.proofs.Common.{◌≡◌, ◌≤◌, length}
 use Rattle.std.specs.Prelude.{IsTrue}
 use Rattle.sasi_types.specs.declared.partitioner.Partitioner.TheVariants.{Lead8}
 use Rattle.sasi_datawrite.specs.Writing.{last_pair}
-use Rattle.sasi_databench.proofs.measured.write_all.Given as goal
+use Rattle.sasi_databench.proofs.measured.push_all.Given as goal
 
 abbrev pub invariant-loop-number : goal.invariant-loop-number
 invariant-loop-number l = record {
