@@ -14,46 +14,51 @@ mod fields;
 mod statements;
 mod terms;
 
-use crate::statements::print_statement;
-use crate::terms::print_terms;
+use crate::statements::add_statement;
+use crate::terms::add_terms;
 use sasi_cql::{ParseFault, parse};
 use sasi_types::Rule;
-use std::alloc::Global;
+use std::alloc::{AllocError, Global};
 use std::io::{self, BufRead, BufReader};
 use std::str;
 
-fn print_fault(rt: &impl Print, fault: ParseFault) -> io::Result<()> {
+fn add_fault(line: &mut String, fault: ParseFault) -> Result<(), AllocError> {
     match fault {
-        ParseFault::Syntax { at } => println!(rt; "syntax at {at}"),
-        ParseFault::OutOfMemory => println!(rt; "out of memory"),
+        ParseFault::Syntax { at } => write!(line, "syntax at {at}"),
+        ParseFault::OutOfMemory => line.push_str("out of memory"),
     }
 }
 
-// Prints what the text is.
-fn print_piece(rt: &impl Print, alloc: Global, text: &str) -> io::Result<()> {
+// What the text is.
+fn add_piece(line: &mut String, alloc: Global, text: &str) -> Result<(), AllocError> {
     match parse(alloc, text) {
-        Ok(statement) => print_statement(rt, alloc, &statement),
-        Err(fault) => print_fault(rt, fault),
+        Ok(statement) => add_statement(line, alloc, &statement),
+        Err(fault) => add_fault(line, fault),
     }
 }
 
-// Prints whether the text has a statement.
-fn print_parsed(rt: &impl Print, alloc: Global, text: &str) -> io::Result<()> {
+// Whether the text has a statement.
+fn add_parsed(line: &mut String, alloc: Global, text: &str) -> Result<(), AllocError> {
     match parse(alloc, text) {
-        Ok(_) => println!(rt; "a statement"),
-        Err(fault) => print_fault(rt, fault),
+        Ok(_) => line.push_str("a statement"),
+        Err(fault) => add_fault(line, fault),
     }
 }
 
-// Prints what the bytes of these digits are.
-fn print_digits(rt: &impl Print, alloc: Global, digits: &str) -> io::Result<()> {
+// What the bytes are.
+fn add_bytes(line: &mut String, alloc: Global, bytes: &[u8]) -> Result<(), AllocError> {
+    match str::from_utf8(bytes) {
+        Ok(text) => add_piece(line, alloc, text),
+        Err(_) => line.push_str("not UTF-8"),
+    }
+}
+
+// What the bytes of these digits are.
+fn add_digits(line: &mut String, alloc: Global, digits: &str) -> Result<(), AllocError> {
     let Ok(bytes) = hex::decode(alloc, digits) else {
-        return println!(rt; "no digits");
+        return line.push_str("no digits");
     };
-    match str::from_utf8(&bytes) {
-        Ok(text) => print_piece(rt, alloc, text),
-        Err(_) => println!(rt; "not UTF-8"),
-    }
+    add_bytes(line, alloc, &bytes)
 }
 
 // The word in front, and what follows the space behind it.
@@ -61,32 +66,39 @@ fn front_word(line: &str) -> (&str, &str) {
     line.split_once(' ').unwrap_or((line, ""))
 }
 
-// Prints the terms of a text, folded.
-fn print_folded(rt: &impl Print, alloc: Global, line: &str) -> io::Result<()> {
-    let (word, text) = front_word(line);
+// The terms of a text, folded.
+fn add_folded(line: &mut String, alloc: Global, asked: &str) -> Result<(), AllocError> {
+    let (word, text) = front_word(asked);
     match word {
-        "whole" => print_terms(rt, alloc, Rule::Whole { fold: true }, text),
-        _ => print_terms(rt, alloc, Rule::Words { fold: true }, text),
+        "whole" => add_terms(line, alloc, Rule::Whole { fold: true }, text),
+        _ => add_terms(line, alloc, Rule::Words { fold: true }, text),
     }
 }
 
-fn print_line(rt: &impl Print, alloc: Global, line: &str) -> io::Result<()> {
-    let (word, rest) = front_word(line);
+// What is printed of a line of stdin.
+fn add_answer(line: &mut String, alloc: Global, asked: &str) -> Result<(), AllocError> {
+    let (word, rest) = front_word(asked);
     match word {
-        "#" => println!(rt; "{line}"),
-        "hex" => print_digits(rt, alloc, rest),
-        "parse" => print_parsed(rt, alloc, rest),
-        "whole" => print_terms(rt, alloc, Rule::Whole { fold: false }, rest),
-        "words" => print_terms(rt, alloc, Rule::Words { fold: false }, rest),
-        "fold" => print_folded(rt, alloc, rest),
-        _ => print_piece(rt, alloc, &line.replace(alloc, "\\n", "\n")?),
+        "#" => line.push_str(asked),
+        "hex" => add_digits(line, alloc, rest),
+        "parse" => add_parsed(line, alloc, rest),
+        "whole" => add_terms(line, alloc, Rule::Whole { fold: false }, rest),
+        "words" => add_terms(line, alloc, Rule::Words { fold: false }, rest),
+        "fold" => add_folded(line, alloc, rest),
+        _ => add_piece(line, alloc, &asked.replace(alloc, "\\n", "\n")?),
     }
+}
+
+fn print_answer(rt: &impl Print, alloc: Global, asked: io::Result<String>) -> io::Result<()> {
+    let mut line = String::new(alloc);
+    add_answer(&mut line, alloc, &asked?)?;
+    println!(rt; "{line}")
 }
 
 fn main(rt: HostRuntime) -> io::Result<()> {
     let alloc = rt.alloc();
-    for line in BufReader::new(alloc, rt.reader())?.lines(alloc) {
-        print_line(&rt, alloc, &line?)?;
+    for asked in BufReader::new(alloc, rt.reader())?.lines(alloc) {
+        print_answer(&rt, alloc, asked)?;
     }
     Ok(())
 }

@@ -1,87 +1,170 @@
-// Statements, each printed on a line: its kind, and its fields behind words.
+// Statements, each spelled on a line: its kind, and its fields behind words.
 use crate::fields::{
-    print_columns, print_given, print_literal, print_literals, print_name, print_names,
-    print_number, print_options, print_relations, print_sets, print_text,
+    add_columns, add_given, add_literal, add_name, add_named, add_names, add_number, add_options,
+    add_relations, add_sets, add_text, add_values,
 };
-use sasi_types::{Literal, Name, Number, Options, Select, Statement, Text};
-use std::alloc::Global;
-use std::io;
-
-// A statement of a kind and a name alone.
-fn print_named(rt: &impl Print, kind: &str, name: &Name) -> io::Result<()> {
-    print!(rt; "{kind}")?;
-    print_name(rt, name)
-}
+use sasi_types::{Literal, Name, Names, Number, Options, Select, Statement, Text};
+use std::alloc::{AllocError, Global};
 
 // A statement of a kind, a name and a number.
-fn print_counted(rt: &impl Print, kind: &str, name: &Name, number: Number) -> io::Result<()> {
-    print_named(rt, kind, name)?;
-    print_number(rt, number)
+fn add_counted(
+    line: &mut String,
+    kind: &str,
+    name: &Name,
+    number: Number,
+) -> Result<(), AllocError> {
+    add_named(line, kind, name)?;
+    add_number(line, number)
 }
 
-fn print_select(rt: &impl Print, alloc: Global, select: &Select) -> io::Result<()> {
-    match &select.columns {
-        Some(names) => print_names(rt, alloc, "columns", names)?,
-        None => print!(rt; " columns *")?,
+// The columns of a SELECT.
+fn add_selected(line: &mut String, columns: &Option<Names>) -> Result<(), AllocError> {
+    match columns {
+        Some(names) => add_names(line, " columns", names),
+        None => line.push_str(" columns *"),
     }
-    print!(rt; " from")?;
-    print_name(rt, &select.table)?;
-    print_relations(rt, alloc, &select.relations)?;
-    print_given(rt, "limit", select.limit)?;
-    print!(rt; " filtering {}", select.filtering)
+}
+
+fn add_select(line: &mut String, alloc: Global, select: &Select) -> Result<(), AllocError> {
+    add_selected(line, &select.columns)?;
+    add_named(line, " from", &select.table)?;
+    add_relations(line, alloc, &select.relations)?;
+    add_given(line, " limit", select.limit)?;
+    write!(line, " filtering {}", select.filtering)
 }
 
 // The key column of a WHERE, and its literal.
-fn print_key(rt: &impl Print, alloc: Global, key: &Name, value: &Literal) -> io::Result<()> {
-    print!(rt; " key")?;
-    print_name(rt, key)?;
-    print_literal(rt, alloc, value)
+fn add_key(
+    line: &mut String,
+    alloc: Global,
+    key: &Name,
+    value: &Literal,
+) -> Result<(), AllocError> {
+    add_named(line, " key", key)?;
+    add_literal(line, alloc, value)
 }
 
 // The table and the column of an index, its class and its options.
-fn print_index(
-    rt: &impl Print,
+fn add_index(
+    line: &mut String,
     alloc: Global,
     table: &Name,
     column: &Name,
     class: &Text,
     options: &Options,
-) -> io::Result<()> {
-    print!(rt; " on")?;
-    print_name(rt, table)?;
-    print_name(rt, column)?;
-    print!(rt; " class")?;
-    print_text(rt, alloc, class)?;
-    print_options(rt, alloc, options)
+) -> Result<(), AllocError> {
+    add_named(line, " on", table)?;
+    add_name(line, column.bytes())?;
+    line.push_str(" class")?;
+    add_text(line, alloc, class)?;
+    add_options(line, alloc, options)
 }
 
-// The name of an index, or `?` for the one that it gets.
-fn print_index_name(rt: &impl Print, name: &Option<Name>) -> io::Result<()> {
-    match name {
-        Some(name) => print_name(rt, name),
-        None => print!(rt; " ?"),
-    }
-}
-
-const fn creation(stepped: bool) -> &'static str {
-    if stepped {
+// How an index is made, and its name, or `?` for the one that it gets.
+fn add_creation(line: &mut String, stepped: bool, name: &Option<Name>) -> Result<(), AllocError> {
+    let kind = if stepped {
         "begin index"
     } else {
         "create index"
+    };
+    match name {
+        Some(name) => add_named(line, kind, name),
+        None => write!(line, "{kind} ?"),
     }
 }
 
-// What creates tables and indexes.
-fn print_definition(rt: &impl Print, alloc: Global, statement: &Statement) -> io::Result<()> {
+// What changes rows.
+fn add_write(line: &mut String, alloc: Global, statement: &Statement) -> Result<(), AllocError> {
+    match statement {
+        Statement::Insert {
+            table,
+            columns,
+            values,
+            time,
+        } => {
+            add_named(line, "insert", table)?;
+            add_names(line, " columns", columns)?;
+            add_values(line, alloc, values)?;
+            add_given(line, " time", *time)
+        }
+        Statement::Update {
+            table,
+            time,
+            sets,
+            key,
+            value,
+        } => {
+            add_named(line, "update", table)?;
+            add_given(line, " time", *time)?;
+            add_sets(line, alloc, sets)?;
+            add_key(line, alloc, key, value)
+        }
+        Statement::Delete {
+            table,
+            columns,
+            time,
+            key,
+            value,
+        } => {
+            add_named(line, "delete", table)?;
+            add_names(line, " columns", columns)?;
+            add_given(line, " time", *time)?;
+            add_key(line, alloc, key, value)
+        }
+        _ => add_query(line, alloc, statement),
+    }
+}
+
+// What reads rows.
+fn add_query(line: &mut String, alloc: Global, statement: &Statement) -> Result<(), AllocError> {
+    match statement {
+        Statement::Query { select } => {
+            line.push_str("select")?;
+            add_select(line, alloc, select)
+        }
+        Statement::OpenCursor { cursor, select } => {
+            add_named(line, "open", cursor)?;
+            add_select(line, alloc, select)
+        }
+        Statement::Fetch { cursor, count } => add_counted(line, "fetch", cursor, *count),
+        Statement::CloseCursor { cursor } => add_named(line, "close", cursor),
+        Statement::Trace { on: true } => line.push_str("trace on"),
+        Statement::Trace { on: false } => line.push_str("trace off"),
+        Statement::ShowFiles => line.push_str("show files"),
+        _ => add_task(line, statement),
+    }
+}
+
+// What works on files.
+fn add_task(line: &mut String, statement: &Statement) -> Result<(), AllocError> {
+    match statement {
+        Statement::DropIndex { index } => add_named(line, "drop index", index),
+        Statement::Flush { table } => add_named(line, "flush", table),
+        Statement::Compact { table } => add_named(line, "compact", table),
+        Statement::Rebuild { index } => add_named(line, "rebuild index", index),
+        Statement::BeginCompact { table } => add_named(line, "begin compact", table),
+        Statement::BeginRebuild { index } => add_named(line, "begin rebuild index", index),
+        Statement::StepCompact { table, units } => add_counted(line, "step compact", table, *units),
+        Statement::StepIndex { index, units } => add_counted(line, "step index", index, *units),
+        _ => Ok(()),
+    }
+}
+
+/// A statement: one that creates a table or an index, or another one.
+pub fn add_statement(
+    line: &mut String,
+    alloc: Global,
+    statement: &Statement,
+) -> Result<(), AllocError> {
     match statement {
         Statement::CreateTable {
             table,
             columns,
             keys,
         } => {
-            print_named(rt, "create table", table)?;
-            print_columns(rt, alloc, columns)?;
-            print_names(rt, alloc, "keys", keys)
+            add_named(line, "create table", table)?;
+            add_columns(line, alloc, columns)?;
+            add_names(line, " keys", keys)
         }
         Statement::CreateIndex {
             name,
@@ -91,96 +174,9 @@ fn print_definition(rt: &impl Print, alloc: Global, statement: &Statement) -> io
             options,
             stepped,
         } => {
-            print!(rt; "{}", creation(*stepped))?;
-            print_index_name(rt, name)?;
-            print_index(rt, alloc, table, column, class, options)
+            add_creation(line, *stepped, name)?;
+            add_index(line, alloc, table, column, class, options)
         }
-        _ => Ok(()),
+        _ => add_write(line, alloc, statement),
     }
-}
-
-// What changes rows.
-fn print_write(rt: &impl Print, alloc: Global, statement: &Statement) -> io::Result<()> {
-    match statement {
-        Statement::Insert {
-            table,
-            columns,
-            values,
-            time,
-        } => {
-            print_named(rt, "insert", table)?;
-            print_names(rt, alloc, "columns", columns)?;
-            print_literals(rt, alloc, values)?;
-            print_given(rt, "time", *time)
-        }
-        Statement::Update {
-            table,
-            time,
-            sets,
-            key,
-            value,
-        } => {
-            print_named(rt, "update", table)?;
-            print_given(rt, "time", *time)?;
-            print_sets(rt, alloc, sets)?;
-            print_key(rt, alloc, key, value)
-        }
-        Statement::Delete {
-            table,
-            columns,
-            time,
-            key,
-            value,
-        } => {
-            print_named(rt, "delete", table)?;
-            print_names(rt, alloc, "columns", columns)?;
-            print_given(rt, "time", *time)?;
-            print_key(rt, alloc, key, value)
-        }
-        _ => Ok(()),
-    }
-}
-
-// What reads rows.
-fn print_query(rt: &impl Print, alloc: Global, statement: &Statement) -> io::Result<()> {
-    match statement {
-        Statement::Query { select } => {
-            print!(rt; "select")?;
-            print_select(rt, alloc, select)
-        }
-        Statement::OpenCursor { cursor, select } => {
-            print_named(rt, "open", cursor)?;
-            print_select(rt, alloc, select)
-        }
-        Statement::Fetch { cursor, count } => print_counted(rt, "fetch", cursor, *count),
-        Statement::CloseCursor { cursor } => print_named(rt, "close", cursor),
-        Statement::Trace { on: true } => print!(rt; "trace on"),
-        Statement::Trace { on: false } => print!(rt; "trace off"),
-        Statement::ShowFiles => print!(rt; "show files"),
-        _ => Ok(()),
-    }
-}
-
-// What works on files.
-fn print_task(rt: &impl Print, statement: &Statement) -> io::Result<()> {
-    match statement {
-        Statement::DropIndex { index } => print_named(rt, "drop index", index),
-        Statement::Flush { table } => print_named(rt, "flush", table),
-        Statement::Compact { table } => print_named(rt, "compact", table),
-        Statement::Rebuild { index } => print_named(rt, "rebuild index", index),
-        Statement::BeginCompact { table } => print_named(rt, "begin compact", table),
-        Statement::BeginRebuild { index } => print_named(rt, "begin rebuild index", index),
-        Statement::StepCompact { table, units } => print_counted(rt, "step compact", table, *units),
-        Statement::StepIndex { index, units } => print_counted(rt, "step index", index, *units),
-        _ => Ok(()),
-    }
-}
-
-/// Prints a statement.
-pub fn print_statement(rt: &impl Print, alloc: Global, statement: &Statement) -> io::Result<()> {
-    print_definition(rt, alloc, statement)?;
-    print_write(rt, alloc, statement)?;
-    print_query(rt, alloc, statement)?;
-    print_task(rt, statement)?;
-    println!(rt)
 }

@@ -1,8 +1,14 @@
 // The terms of texts.
 use sasi_analyzers::{Analyzer, Kit, Whole, Words};
-use sasi_types::{Rule, TermList};
+use sasi_types::{Rule, Term, TermList};
 use std::alloc::{AllocError, Global};
-use std::{io, str};
+use std::str;
+
+// Asks a kit for the terms of a text. It gives false where memory runs out.
+fn ask(kit: &mut Kit, alloc: Global, rule: Rule, text: &str, out: &mut TermList) -> bool {
+    out.clear();
+    kit.terms(alloc, rule, text, out).is_ok()
+}
 
 // The terms of a text, by a kit of both analyzers.
 fn terms_of(alloc: Global, rule: Rule, text: &str, out: &mut TermList) -> Result<bool, AllocError> {
@@ -10,18 +16,30 @@ fn terms_of(alloc: Global, rule: Rule, text: &str, out: &mut TermList) -> Result
     objects.push(Box::new(alloc, Whole::new())?)?;
     objects.push(Box::new(alloc, Words::new(alloc))?)?;
     let mut kit = Kit::new(objects);
-    out.clear();
-    Ok(kit.terms(alloc, rule, text, out).is_ok())
+    Ok(ask(&mut kit, alloc, rule, text, out))
 }
 
-/// Prints the terms of a text.
-pub fn print_terms(rt: &impl Print, alloc: Global, rule: Rule, text: &str) -> io::Result<()> {
+fn add_each_term(line: &mut String, terms: &[Term]) -> Result<(), AllocError> {
+    for term in terms {
+        write!(
+            line,
+            "[{}]",
+            str::from_utf8(term.bytes()).unwrap_or("not UTF-8")
+        )?;
+    }
+    Ok(())
+}
+
+/// The terms of a text.
+pub fn add_terms(
+    line: &mut String,
+    alloc: Global,
+    rule: Rule,
+    text: &str,
+) -> Result<(), AllocError> {
     let mut terms = TermList::new(alloc);
     if !terms_of(alloc, rule, text, &mut terms)? {
-        return println!(rt; "out of memory");
+        return line.push_str("out of memory");
     }
-    for term in terms.as_slice() {
-        print!(rt; "[{}]", str::from_utf8(term.bytes()).unwrap_or("not UTF-8"))?;
-    }
-    println!(rt)
+    add_each_term(line, terms.as_slice())
 }
