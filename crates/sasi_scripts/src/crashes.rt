@@ -59,12 +59,36 @@ fn run_stopped(
 ) -> io::Result<()> {
     let mut stopped = copy_of(host)?;
     stopped.stop_after(stop);
-    run_script(rt, alloc, script, &mut stopped)?;
-    for pick in picks() {
-        println!(rt; "{:?} {:?}", pick.names, pick.bytes)?;
-        show(rt, alloc, script, &mut stopped.crash(pick)?, shown)?;
+    run_and_crash(rt, alloc, script, &mut stopped, shown)
+}
+
+// Runs a script over the folder, and shows what each crash leaves.
+fn run_and_crash(
+    rt: &impl Print,
+    alloc: Global,
+    script: &str,
+    stopped: &mut MemHost,
+    shown: Shown,
+) -> io::Result<()> {
+    run_script(rt, alloc, script, stopped)?;
+    for pick in &picks() {
+        show_crash(rt, alloc, script, stopped, *pick, shown)?;
     }
     Ok(())
+}
+
+// Shows what this crash leaves.
+fn show_crash(
+    rt: &impl Print,
+    alloc: Global,
+    script: &str,
+    stopped: &MemHost,
+    pick: Pick,
+    shown: Shown,
+) -> io::Result<()> {
+    println!(rt; "{:?} {:?}", pick.names, pick.bytes)?;
+    let mut left = stopped.crash(pick)?;
+    show(rt, alloc, script, &mut left, shown)
 }
 
 // Shows what a crash left.

@@ -5,13 +5,20 @@ use sasi_host::{BytePick, FileName, Host, MemHost, NamePick, Pick};
 use std::alloc::{AllocError, Global};
 use std::io;
 
+// A file and its bytes.
+fn file_and_bytes(alloc: Global, line: &str) -> Option<(FileName, Vec<u8>)> {
+    let (name, digits) = line.split_once(' ').unwrap_or((line, ""));
+    let file = parse_name(name)?;
+    let bytes = hex::decode(alloc, digits).ok()?;
+    Some((file, bytes))
+}
+
 /// Puts a file: `NAME DIGITS`.
 pub fn put_file(rt: &impl Print, alloc: Global, line: &str, host: &mut MemHost) -> io::Result<()> {
-    let (name, digits) = line.split_once(' ').unwrap_or((line, ""));
-    match (parse_name(name), hex::decode(alloc, digits)) {
-        (Some(file), Ok(bytes)) => Ok(host.put(file, &bytes)?),
-        _ => println!(rt; "no name and digits"),
-    }
+    let Some((file, bytes)) = file_and_bytes(alloc, line) else {
+        return println!(rt; "no name and digits");
+    };
+    Ok(host.put(file, &bytes)?)
 }
 
 // Prints the name and the bytes of a file.
@@ -20,13 +27,32 @@ fn print_file(rt: &impl Print, alloc: Global, host: &MemHost, file: FileName) ->
     println!(rt; "{} {digits}", NameText(file))
 }
 
+// Prints the name and the bytes of each of these files.
+fn print_each(
+    rt: &impl Print,
+    alloc: Global,
+    host: &MemHost,
+    names: &[FileName],
+) -> io::Result<()> {
+    for file in names {
+        print_file(rt, alloc, host, *file)?;
+    }
+    Ok(())
+}
+
 /// Prints the name and the bytes of each file.
 pub fn print_files(rt: &impl Print, alloc: Global, host: &mut MemHost) -> io::Result<()> {
     let Ok(names) = host.list(alloc) else {
         return println!(rt; "no list");
     };
-    for file in &names {
-        print_file(rt, alloc, host, *file)?;
+    print_each(rt, alloc, host, &names)
+}
+
+// Prints the name and the length of each of these files.
+fn print_each_length(rt: &impl Print, host: &MemHost, names: &[FileName]) -> io::Result<()> {
+    for file in names {
+        let length = host.bytes(*file).unwrap_or(&[]).len();
+        println!(rt; "{} {length}", NameText(*file))?;
     }
     Ok(())
 }
@@ -36,11 +62,7 @@ pub fn print_lengths(rt: &impl Print, alloc: Global, host: &mut MemHost) -> io::
     let Ok(names) = host.list(alloc) else {
         return println!(rt; "no list");
     };
-    for file in &names {
-        let length = host.bytes(*file).unwrap_or(&[]).len();
-        println!(rt; "{} {length}", NameText(*file))?;
-    }
-    Ok(())
+    print_each_length(rt, host, &names)
 }
 
 // A file, two numbers, and a script.
@@ -74,8 +96,8 @@ pub fn run_changed(rt: &impl Print, alloc: Global, line: &str, host: &MemHost) -
     let Some((file, offset, byte, script)) = file_and_numbers(line) else {
         return println!(rt; "no file and numbers");
     };
-    let bytes = changed(alloc, host.bytes(file).unwrap_or(&[]), offset, byte)?;
     print!(rt; "{offset} ")?;
+    let bytes = changed(alloc, host.bytes(file).unwrap_or(&[]), offset, byte)?;
     run_over(rt, alloc, host, file, &bytes, script)
 }
 
@@ -106,9 +128,21 @@ fn run_over(
     script: &str,
 ) -> io::Result<()> {
     let mut copy = copy_of(host)?;
-    copy.put(file, bytes)?;
-    run_script(rt, alloc, script, &mut copy)?;
-    print_change(rt, &copy, file, bytes)
+    run_with(rt, alloc, &mut copy, file, bytes, script)
+}
+
+// Runs a script over a folder in which the file gets these bytes.
+fn run_with(
+    rt: &impl Print,
+    alloc: Global,
+    host: &mut MemHost,
+    file: FileName,
+    bytes: &[u8],
+    script: &str,
+) -> io::Result<()> {
+    host.put(file, bytes)?;
+    run_script(rt, alloc, script, host)?;
+    print_change(rt, host, file, bytes)
 }
 
 // Prints whether the file has these bytes.

@@ -64,11 +64,25 @@ fn take_new(rt: &impl Print, alloc: Global, host: &mut MemHost, line: &str) -> i
     }
 }
 
-fn main(rt: HostRuntime) -> io::Result<()> {
+// Takes a line as it was read.
+fn take_read(
+    rt: &impl Print,
+    alloc: Global,
+    host: &mut MemHost,
+    line: io::Result<String>,
+) -> io::Result<()> {
+    take_line(rt, alloc, host, &line?)
+}
+
+// Takes each line of stdin.
+fn take_lines(rt: &HostRuntime, host: &mut MemHost) -> io::Result<()> {
     let alloc = rt.alloc();
-    let mut host = MemHost::new(alloc);
     for line in BufReader::new(alloc, rt.reader())?.lines(alloc) {
-        take_line(&rt, alloc, &mut host, &line?)?;
+        take_read(rt, alloc, host, line)?;
     }
     Ok(())
+}
+
+fn main(rt: HostRuntime) -> io::Result<()> {
+    take_lines(&rt, &mut MemHost::new(rt.alloc()))
 }

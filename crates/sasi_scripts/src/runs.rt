@@ -1,25 +1,19 @@
 // Runs over a host, whose replies and statuses are printed.
 use sasi_host::{MemHost, MemSource};
-use sasi_run::run;
+use sasi_run::{Status, run};
 use std::alloc::{AllocError, Global};
 use std::{io, str};
 
 // The words of a command line that names a folder and a script.
-fn two_words(alloc: Global) -> Result<Vec<String>, AllocError> {
-    let mut words = Vec::new(alloc);
-    words.push(String::from_str(alloc, "folder")?)?;
-    words.push(String::from_str(alloc, "script")?)?;
-    Ok(words)
-}
+const WORDS: [&str; 2] = ["folder", "script"];
 
-// The words of a command line that asks for a partitioner.
-fn four_words(alloc: Global, partitioner: &str) -> Result<Vec<String>, AllocError> {
-    let mut words = Vec::new(alloc);
-    words.push(String::from_str(alloc, "--partitioner")?)?;
-    words.push(String::from_str(alloc, partitioner)?)?;
-    words.push(String::from_str(alloc, "folder")?)?;
-    words.push(String::from_str(alloc, "script")?)?;
-    Ok(words)
+// The words as strings of their own.
+fn strings(alloc: Global, words: &[&str]) -> Result<Vec<String>, AllocError> {
+    let mut strings = Vec::new(alloc);
+    for word in words {
+        strings.push(String::from_str(alloc, word)?)?;
+    }
+    Ok(strings)
 }
 
 // A source of the script that gives at most so many bytes a read, and whose read of this number fails.
@@ -29,8 +23,8 @@ fn source_of(
     piece: usize,
     failing: u64,
 ) -> Result<MemSource, AllocError> {
-    let bytes = script.replace(alloc, "\\n", "\n")?.into_bytes();
     let failing = vec![in alloc; failing]?;
+    let bytes = script.replace(alloc, "\\n", "\n")?.into_bytes();
     Ok(MemSource::new(bytes, piece.max(1), failing))
 }
 
@@ -40,17 +34,40 @@ fn replies_behind(host: &MemHost, before: usize) -> &str {
     str::from_utf8(replies).unwrap_or("replies that are not UTF-8\n")
 }
 
+// Runs a command line, and gives its status.
+fn status_of(
+    alloc: Global,
+    words: &[&str],
+    source: &mut MemSource,
+    host: &mut MemHost,
+) -> Result<Status, AllocError> {
+    let words = strings(alloc, words)?;
+    Ok(run(alloc, &words, source, host, Vec::new(alloc)))
+}
+
 // Runs a command line, and prints the replies and the status.
 fn run_from(
     rt: &impl Print,
     alloc: Global,
-    words: &[String],
+    words: &[&str],
     source: &mut MemSource,
     host: &mut MemHost,
 ) -> io::Result<()> {
     let before = host.emitted().len();
-    let status = run(alloc, words, source, host, Vec::new(alloc));
+    let status = status_of(alloc, words, source, host)?;
     print!(rt; "{}{status:?}\n", replies_behind(host, before))
+}
+
+// Runs a script under a command line of these words.
+fn run_under(
+    rt: &impl Print,
+    alloc: Global,
+    words: &[&str],
+    script: &str,
+    host: &mut MemHost,
+) -> io::Result<()> {
+    let mut source = source_of(alloc, script, 4096, 0)?;
+    run_from(rt, alloc, words, &mut source, host)
 }
 
 /// Runs a script.
@@ -60,8 +77,7 @@ pub fn run_script(
     script: &str,
     host: &mut MemHost,
 ) -> io::Result<()> {
-    let mut source = source_of(alloc, script, 4096, 0)?;
-    run_from(rt, alloc, &two_words(alloc)?, &mut source, host)
+    run_under(rt, alloc, &WORDS, script, host)
 }
 
 /// Runs a script where a partitioner is asked: `NAME SCRIPT`.
@@ -74,14 +90,8 @@ pub fn run_asking(
     let Some((partitioner, script)) = line.split_once(' ') else {
         return println!(rt; "a name is missing");
     };
-    let mut source = source_of(alloc, script, 4096, 0)?;
-    run_from(
-        rt,
-        alloc,
-        &four_words(alloc, partitioner)?,
-        &mut source,
-        host,
-    )
+    let words = ["--partitioner", partitioner, "folder", "script"];
+    run_under(rt, alloc, &words, script, host)
 }
 
 // The number before the first space, and what stands behind it.
@@ -119,7 +129,7 @@ pub fn run_outside(
     };
     host.fail_emits(vec![in alloc; failing_emit]?);
     let mut source = source_of(alloc, script, piece as usize, failing_read)?;
-    run_from(rt, alloc, &two_words(alloc)?, &mut source, host)
+    run_from(rt, alloc, &WORDS, &mut source, host)
 }
 
 // The letter that is this byte, so many times.
@@ -132,6 +142,12 @@ fn repeated(alloc: Global, count: u64, byte: u64) -> Result<String, AllocError> 
     Ok(text)
 }
 
+// The script with so many bytes in place of each `~`.
+fn filled(alloc: Global, script: &str, count: u64, byte: u64) -> Result<String, AllocError> {
+    let text = repeated(alloc, count, byte)?;
+    script.replace(alloc, "~", &text)
+}
+
 /// Runs a script with so many bytes in place of each `~`: `COUNT BYTE SCRIPT`.
 pub fn run_filled(
     rt: &impl Print,
@@ -142,18 +158,31 @@ pub fn run_filled(
     let Some((count, byte, script)) = two_numbers(line) else {
         return println!(rt; "numbers are missing");
     };
-    let script = script.replace(alloc, "~", &repeated(alloc, count, byte)?)?;
-    run_script(rt, alloc, &script, host)
+    run_script(rt, alloc, &filled(alloc, script, count, byte)?, host)
 }
 
-// The script for each of these numbers, which stands in place of each `#`, one after another.
+// Adds the script with this number in place of each `#`.
+fn add_copy(alloc: Global, all: &mut String, script: &str, number: u64) -> Result<(), AllocError> {
+    let digits = format!(in alloc; "{number}")?;
+    all.push_str(&script.replace(alloc, "#", &digits)?)
+}
+
+// The script for each of these numbers, one after another.
 fn copies(alloc: Global, script: &str, from: u64, to: u64) -> Result<String, AllocError> {
     let mut all = String::new(alloc);
     for number in from..=to {
-        let digits = format!(in alloc; "{number}")?;
-        all.push_str(&script.replace(alloc, "#", &digits)?)?;
+        add_copy(alloc, &mut all, script, number)?;
     }
     Ok(all)
+}
+
+// Runs a script, and prints how many lines the replies have, and the status.
+fn run_counted(rt: &impl Print, alloc: Global, script: &str, host: &mut MemHost) -> io::Result<()> {
+    let before = host.emitted().len();
+    let mut source = source_of(alloc, script, 4096, 0)?;
+    let status = status_of(alloc, &WORDS, &mut source, host)?;
+    let lines = replies_behind(host, before).lines().count();
+    print!(rt; "{lines} lines\n{status:?}\n")
 }
 
 /// Runs one script that has this one for each of these numbers, in place of each `#`, and prints how many lines the replies
@@ -162,30 +191,12 @@ pub fn run_many(rt: &impl Print, alloc: Global, line: &str, host: &mut MemHost) 
     let Some((from, to, script)) = two_numbers(line) else {
         return println!(rt; "numbers are missing");
     };
-    let before = host.emitted().len();
-    let mut source = source_of(alloc, &copies(alloc, script, from, to)?, 4096, 0)?;
-    let status = run(
-        alloc,
-        &two_words(alloc)?,
-        &mut source,
-        host,
-        Vec::new(alloc),
-    );
-    let lines = replies_behind(host, before).lines().count();
-    print!(rt; "{lines} lines\n{status:?}\n")
-}
-
-// The words behind each `|`.
-fn words_of(alloc: Global, line: &str) -> Result<Vec<String>, AllocError> {
-    let mut words = Vec::new(alloc);
-    for word in line.split('|').skip(1) {
-        words.push(String::from_str(alloc, word)?)?;
-    }
-    Ok(words)
+    run_counted(rt, alloc, &copies(alloc, script, from, to)?, host)
 }
 
 /// Runs a command line of these words, with a script that creates a table.
 pub fn run_words(rt: &impl Print, alloc: Global, line: &str, host: &mut MemHost) -> io::Result<()> {
-    let mut source = source_of(alloc, "CREATE TABLE t (k text PRIMARY KEY);", 4096, 0)?;
-    run_from(rt, alloc, &words_of(alloc, line)?, &mut source, host)
+    let words: Vec<&str> = line.split('|').skip(1).collect(alloc)?;
+    let script = "CREATE TABLE t (k text PRIMARY KEY);";
+    run_under(rt, alloc, &words, script, host)
 }
