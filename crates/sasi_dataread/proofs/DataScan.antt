@@ -6,7 +6,7 @@ use Rattle.sasi_host.specs.declared.fault.ReadFault.TheVariants as fault
 use Rattle.sasi_host.specs.Names.{Bytes}
 use Rattle.sasi_host.specs.View.{View, contents}
 use Rattle.sasi_host.specs.Disk.{Changes, Same}
-use Rattle.sasi_host.specs.Buffered.{Buffered, unbuffered_pages}
+use Rattle.sasi_host.specs.Buffered.{Buffered}
 use Rattle.sasi_host.specs.Contents.{contents_same}
 use Rattle.sasi_types.specs.declared.partitioner.Partitioner.{Partitioner}
 use Rattle.sasi_types.specs.declared.tree.Pair.{Pair}
@@ -22,7 +22,7 @@ use Rattle.sasi_tokentree.specs.Damages.{ShowsTree, ShowsTreeBy, pair_place}
 use Rattle.sasi_tokentree.proofs.AfterRead.{tree_shown_more}
 use Rattle.sasi_host.proofs.DamageLaws.{shown_as}
 use Rattle.sasi_tokentree.specs.Reads.{NoFalseTreeDamage}
-use Rattle.sasi_tokentree.specs.Scans.{ReadsEntry, ReadsNextPair, IsEntryBuffered, StepsToPair, PairScan}
+use Rattle.sasi_tokentree.specs.Scans.{ReadsEntry, ReadsNextPair, IsEntryBuffered, StepsToPair, PairScan, entry_cost}
 use Rattle.sasi_body.specs.Body.{body}
 use Rattle.sasi_datawrite.specs.Format.{Content, front, header, key_pairs, partitions}
 use Rattle.sasi_dataread.specs.Opened.{Opened, IsOpenedAs, StandsAt}
@@ -124,7 +124,7 @@ pub walk_goes : (v w : View) (opened : Opened) (tree after : PairScan) (buffered
     (partitioner : Partitioner) (content : Content) (r0 r1 r2 : ℕ) (is : IsOpenOn v opened partitioner content) → Changes Same v w
     → StepsToPair (key_pairs partitioner content) tree.passed after.passed (Some pair) → ReadsPartition w opened pair.place key part → tree.tree ≡ opened.tree →
     after.tree ≡ tree.tree → ReadsEntry v opened.file opened.tree after.passed (Some pair) → IsSequential is.bytes content (scan_of opened tree buffered)
-    → r1 ≤ r0 + unbuffered_pages tree.buffered.page (pair_place tree.tree tree.passed) 16
+    → r1 ≤ r0 + entry_cost tree.buffered.page tree.tree tree.passed
     → ((partitioner : Partitioner) (content : Content) (key : Bytes) (part : Partition) → IsOpenOn w opened partitioner content → StandsAt content
     pair.place key part → r2 ≤ r1 + partition_reads buffered.page pair.place (length (body key part)))
     → after.passed ≡ tree.passed + 1 → IsEntryBuffered after (Some pair) → now.page ≡ Some ((pair.place + 3 + length (body key part)) / 4096) → ReadsEachPageOnce is.bytes

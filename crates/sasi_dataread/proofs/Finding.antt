@@ -14,7 +14,6 @@ use Rattle.sasi_host.specs.declared.fault.ReadFault.TheVariants as fault
 use Rattle.sasi_host.specs.Names.{Bytes}
 use Rattle.sasi_host.specs.View.{View, ReadsAtMost, contents}
 use Rattle.sasi_host.specs.Disk.{Changes, Same}
-use Rattle.sasi_host.specs.Buffered.{unbuffered_pages}
 use Rattle.sasi_types.specs.declared.partitioner.Partitioner.{Partitioner}
 use Rattle.sasi_types.specs.declared.tree.Pair.{Pair}
 use Rattle.sasi_types.specs.declared.tree.TreeRef.{TreeRef}
@@ -26,8 +25,7 @@ use Rattle.sasi_body.specs.Body.{body}
 use Rattle.sasi_tokentree.specs.Format.{pair_at}
 use Rattle.sasi_tokentree.specs.Heights.{height}
 use Rattle.sasi_tokentree.specs.Reads.{CountsBelow}
-use Rattle.sasi_tokentree.specs.Damages.{pair_place}
-use Rattle.sasi_tokentree.specs.Scans.{ReadsEntry, ReadsFirstPair, IsEntryBuffered, StepsToPair, PairScan}
+use Rattle.sasi_tokentree.specs.Scans.{ReadsEntry, ReadsFirstPair, IsEntryBuffered, StepsToPair, PairScan, entry_cost}
 use Rattle.sasi_tokentree.proofs.EntryPages.{next_entry_cost}
 use Rattle.sasi_datawrite.specs.Format.{Content, header, key_pairs, pairs_from, partition_bytes, partitions, decorated_key}
 use Rattle.sasi_datawrite.proofs.Laws.{pairs_length}
@@ -286,11 +284,11 @@ searches_on v w opened partitioner content token key turns passed place reads mo
 -- the pair behind one that was found takes at most one page more
 pub one_more : {T : Type 0} (view a b : View) (file : FileName) (ref : TreeRef) (tree : PairScan) (token place : ℕ) (next : Option Pair)
     (result : Result T ReadFault) → LeadsTo token next (Some place) → ReadsEntry view file ref tree.passed next → IsEntryBuffered tree next
-    → ReadsAtMost (unbuffered_pages tree.buffered.page (pair_place tree.tree tree.passed) 16) a b result → ReadsAtMost 1 a b result
+    → ReadsAtMost (entry_cost tree.buffered.page tree.tree tree.passed) a b result → ReadsAtMost 1 a b result
 one_more view a b file ref tree token place next result leads gives entry_buffered causes =
     let pair : Pair = record { token = token; place = place } in
     let entry = subst (λ (o : Option Pair). ReadsEntry view file ref tree.passed o) leads gives in
-    reads_within a b (unbuffered_pages tree.buffered.page (pair_place tree.tree tree.passed) 16) 1 result
+    reads_within a b (entry_cost tree.buffered.page tree.tree tree.passed) 1 result
     (next_entry_cost tree pair (omega (arith, entry.1)) (subst (λ (o : Option Pair). IsEntryBuffered tree o) leads entry_buffered)) causes
 
 -- ---- none is left

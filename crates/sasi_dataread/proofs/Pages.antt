@@ -1,5 +1,5 @@
 -- What reading on costs, with a page in hand.
-use Rattle.std.proofs.Common.{◌≡◌, ◌≢◌, ◌⊎◌, ℕ, zero, suc, add-one, [], ◌∷◌, ◌++◌, length, take, drop, sym, ◌∙◌, subst, lit<, length-append, ◌+◌, ◌-◌, ◌/◌, ◌^◌, ◌<◌, ◌≤◌, Bool, Option, None, Some, inl, inr, ap, arith, ⊎_elim}
+use Rattle.std.proofs.Common.{◌≡◌, ◌≢◌, ◌⊎◌, ℕ, zero, suc, add-one, [], ◌∷◌, ◌++◌, length, take, drop, sym, ◌∙◌, subst, length-append, ◌+◌, ◌-◌, ◌/◌, ◌^◌, ◌<◌, ◌≤◌, Bool, Option, None, Some, inl, inr, ap, arith, ⊎_elim}
 use Rattle.std.specs.Prelude.{if◌then◌else◌}
 use Rattle.std.proofs.lemmas.Bool.Decides.{eqb_tells}
 use Rattle.sasi_host.specs.Buffered.{Buffered, buffered_at, reached, unbuffered_pages}
@@ -9,7 +9,8 @@ use Rattle.sasi_model.specs.Cells.{Partition}
 use Rattle.sasi_host.specs.Names.{Bytes}
 use Rattle.sasi_body.specs.Body.{body}
 use Rattle.sasi_tokentree.specs.Damages.{pair_place}
-use Rattle.sasi_tokentree.specs.Scans.{PairScan}
+use Rattle.sasi_tokentree.specs.Scans.{PairScan, entry_cost, header_read, read_place}
+use Rattle.sasi_tokentree.proofs.EntryPages.{header_short, read_behind}
 use Rattle.sasi_datawrite.specs.Format.{Content, front, header, partition_bytes, partitions}
 use Rattle.sasi_datawrite.proofs.Laws.{partition_length}
 use Rattle.sasi_dataread.specs.Opened.{Opened}
@@ -36,9 +37,15 @@ few_pages buffered at n le = omega (arith, le)
 
 -- ---- a walk
 
--- the next pair ends behind the one before it
-pub pair_behind : (tree : TreeRef) (index : ℕ) → pair_place tree index + 16 ≤ pair_place tree (index + 1)
-pair_behind tree index = omega arith
+-- the next pair is read from behind the one before it on
+pair_behind : (tree : TreeRef) (index : ℕ) → pair_place tree index + 16 ≡ read_place tree (index + 1)
+pair_behind tree index =
+    let same : pair_place tree (index + 1 - 1) ≡ pair_place tree index = ap (λ (n : ℕ). pair_place tree n) (omega arith) in
+    ap (λ (n : ℕ). n + 16) (sym same) ∙ sym (read_behind tree (index + 1) (omega arith))
+
+-- what is read for it ends where it does
+pair_ends : (tree : TreeRef) (index : ℕ) → read_place tree index + (16 + header_read index) ≡ pair_place tree index + 16
+pair_ends tree index = omega (arith, header_short index)
 
 -- behind one more partition the next one begins
 pub front_more : (content rest : Content) (passed : ℕ) (key : Bytes) (part : Partition) → drop passed content ≡ (key, part) ∷ rest → length
@@ -78,23 +85,26 @@ pub goes_on : (bytes : Bytes) (content rest : Content) (opened : Opened) (tree a
     (part : Partition) (r0 r1 r2 : ℕ) → tree.tree ≡ opened.tree → after.passed ≡ tree.passed + 1 → drop tree.passed content ≡ (key, part) ∷ rest
     → place ≡ length (front (take tree.passed content)) → pair_place tree.tree tree.passed + 16 ≤ length bytes → place + (4 + length (body key part))
     ≤ length bytes → IsSequential bytes content (scan_of opened tree buffered)
-    → r1 ≤ r0 + unbuffered_pages tree.buffered.page (pair_place tree.tree tree.passed) 16 → r2 ≤ r1 + partition_reads buffered.page place (length (body key part))
+    → r1 ≤ r0 + entry_cost tree.buffered.page tree.tree tree.passed → r2 ≤ r1 + partition_reads buffered.page place (length (body key part))
     → after.buffered.page ≡ Some ((pair_place tree.tree tree.passed + 15) / 4096) → now.page ≡ Some ((place + 3 + length (body key part)) / 4096)
     → ReadsEachPageOnce bytes content r0 r2 (scan_of opened tree buffered) (scan_of opened after now)
 goes_on bytes content rest opened tree after buffered now place key part r0 r1 r2 tree_is passed left place_is pair_within part_within sequential first second pairs_page page =
     let pp = pair_place opened.tree tree.passed in
     let size = length (body key part) in
     let same : pair_place tree.tree tree.passed ≡ pp = ap (λ (t : TreeRef). pair_place t tree.passed) tree_is in
-    let one = fresh_reaches tree.buffered.page pp 16 (lit< tt) (λ p is. omega (arith, sequential.pairs p is)) in
+    let from = read_place opened.tree tree.passed in
+    let long = 16 + header_read tree.passed in
+    let one = fresh_reaches tree.buffered.page from long (omega arith) (λ p is. omega (arith, sequential.pairs p is)) in
+    let ends = pair_ends opened.tree tree.passed in
     let two = fresh_reaches buffered.page place (4 + size) (omega arith) (λ p is. omega (arith, place_is, sequential.partitions p is)) in
-    let fresh_same : unbuffered_pages tree.buffered.page (pair_place tree.tree tree.passed) 16 ≡ unbuffered_pages tree.buffered.page pp 16 = ap (λ (n : ℕ). unbuffered_pages tree.buffered.page n 16) same in
+    let fresh_same : entry_cost tree.buffered.page tree.tree tree.passed ≡ unbuffered_pages tree.buffered.page from long = ap (λ (t : TreeRef). entry_cost tree.buffered.page t tree.passed) tree_is in
     let reached_one : reached after.buffered.page ≡ suc ((pp + 15) / 4096) = ap reached pairs_page ∙ ap (λ (n : ℕ). suc ((n + 15) / 4096)) same in
     let reached_two : reached now.page ≡ suc ((place + 3 + size) / 4096) = ap reached page in
     record {
       sequential = record {
         pairs = λ p is.
             let this : p ≡ (pair_place tree.tree tree.passed + 15) / 4096 = some_same p ((pair_place tree.tree tree.passed + 15) / 4096) (sym is ∙ pairs_page) in
-            let next : pair_place opened.tree after.passed ≡ pair_place opened.tree (tree.passed + 1) = ap (λ (n : ℕ). pair_place opened.tree n) passed in
+            let next : read_place opened.tree after.passed ≡ read_place opened.tree (tree.passed + 1) = ap (λ (n : ℕ). read_place opened.tree n) passed in
             omega (arith, this, same, next, pair_behind opened.tree tree.passed);
         partitions = λ p is.
             let this : p ≡ (place + 3 + size) / 4096 = some_same p ((place + 3 + size) / 4096) (sym is ∙ page) in
@@ -103,7 +113,7 @@ goes_on bytes content rest opened tree after buffered now place key part r0 r1 r
         pairs_within = omega (arith, reached_one, same, pair_within);
         within = omega (arith, reached_two, part_within);
       };
-      pages = omega (arith, first, second, one, two, fresh_same, reached_one, reached_two);
+      pages = omega (arith, first, second, one, ends, two, fresh_same, reached_one, reached_two);
     }
   where
     some_same : (a b : ℕ) → Some a ≡ Some b → a ≡ b

@@ -3,8 +3,7 @@ use Rattle.std.specs.Prelude.{◌≡◌, ℕ, ◌+◌, ◌*◌, ◌/◌, ◌<◌
 use Rattle.std.proofs.Common.{ap, arith, sym, ◌∙◌}
 use Rattle.sasi_host.specs.Names.{Bytes}
 use Rattle.sasi_host.specs.Buffered.{Buffered, reached}
-use Rattle.sasi_tokentree.specs.Damages.{pair_place}
-use Rattle.sasi_tokentree.specs.Scans.{PairScan}
+use Rattle.sasi_tokentree.specs.Scans.{PairScan, read_place}
 use Rattle.sasi_datawrite.specs.Format.{Content, front}
 use Rattle.sasi_dataread.specs.Opened.{Opened}
 use Rattle.sasi_dataread.specs.Scans.{DataScan}
@@ -17,9 +16,9 @@ file_pages bytes = (length bytes + 4095) / 4096
 abbrev pub progress : DataScan → ℕ
 progress walk = reached walk.pairs_buffered.page + reached walk.buffered.page
 
--- A sequential scan: its buffered pages begin before the next pair and the next partition, and are pages of the file.
+-- A sequential scan: its buffered pages begin before what is read for the next pair and before the next partition, and are pages of the file.
 pub record IsSequential (bytes : Bytes) (content : Content) (walk : DataScan) : Type 0 where
-  pub pairs : (page : ℕ) → walk.pairs_buffered.page ≡ Some page → 4096 * page < pair_place walk.opened.tree walk.passed
+  pub pairs : (page : ℕ) → walk.pairs_buffered.page ≡ Some page → 4096 * page < read_place walk.opened.tree walk.passed
   pub partitions : (page : ℕ) → walk.buffered.page ≡ Some page → 4096 * page < length (front (take walk.passed content))
   pub pairs_within : reached walk.pairs_buffered.page ≤ file_pages bytes
   pub within : reached walk.buffered.page ≤ file_pages bytes

@@ -1,12 +1,12 @@
--- How many pages an entry lies on that aren't buffered.
-use Rattle.std.specs.Prelude.{◌≡◌, ◌⊎◌, ℕ, ◌+◌, ◌-◌, ◌/◌, ◌%◌, ◌<◌, ◌≤◌, Option, Some}
-use Rattle.std.proofs.Common.{arith, inl, inr, subst, sym, ⊎_elim}
-use Rattle.std.proofs.lemmas.Bool.Decides.{leb_tells, nat_tests}
+-- How many pages an entry is read from that aren't buffered.
+use Rattle.std.specs.Prelude.{◌≡◌, ◌≢◌, ◌⊎◌, ℕ, ◌+◌, ◌-◌, ◌*◌, ◌/◌, ◌%◌, ◌<◌, ◌≤◌, Bool, if◌then◌else◌, Option, Some}
+use Rattle.std.proofs.Common.{◌∙◌, ap, arith, inl, inr, subst, sym, ⊎_elim}
+use Rattle.std.proofs.lemmas.Bool.Decides.{eqb_tells, leb_tells, nat_tests}
 use Rattle.sasi_types.specs.declared.tree.Pair.{Pair}
 use Rattle.sasi_types.specs.declared.tree.TreeRef.{TreeRef}
 use Rattle.sasi_host.specs.Buffered.{pages_of, buffered_at, unbuffered_pages}
 use Rattle.sasi_tokentree.specs.Damages.{pair_place}
-use Rattle.sasi_tokentree.specs.Scans.{PairScan, IsEntryBuffered}
+use Rattle.sasi_tokentree.specs.Scans.{PairScan, IsEntryBuffered, entry_cost, header_read, read_place}
 
 -- a node lies on at most two pages
 pub node_pages : (page : Option ℕ) (at n : ℕ) → n ≤ 4088 → unbuffered_pages page at n ≤ 2
@@ -15,35 +15,66 @@ node_pages page at n le = over (buffered_at page at)
     over : (h : ℕ) → pages_of at n - h ≤ 2
     over h = omega (arith, le)
 
--- and so does an entry
-pub entry_pages : (page : Option ℕ) (at : ℕ) → unbuffered_pages page at 16 ≤ 2
-entry_pages page at = node_pages page at 16 (omega arith)
+-- the header is read with the first entry of a leaf, and with no other one
+pub header_cases : (index : ℕ) → ((index % 255 ≡ 0) × (header_read index ≡ 8)) ⊎ ((index % 255 ≢ 0) × (header_read index ≡ 0))
+unfolding header_read
+header_cases index = ⊎_elim
+    (λ first. inl (first.1, ap (λ (b : Bool). if b then 8 else 0) first.0))
+    (λ other. inr (other.1, ap (λ (b : Bool). if b then 8 else 0) other.0))
+    (eqb_tells (index % 255) 0)
 
--- the next entry begins right behind the one before it, or behind the header of the next leaf
-place_behind : (tree : TreeRef) (passed : ℕ) → 0 < passed → (pair_place tree passed ≡ pair_place tree (passed - 1) + 16) ⊎ (pair_place tree passed ≡ pair_place tree (passed - 1) + 24)
-place_behind tree passed some = ⊎_elim
-    (λ first. inr (omega (arith, some, first.1)))
-    (λ later. inl (omega (arith, some, later.1)))
-    (leb_tells (passed % 255) 0)
+pub header_short : (index : ℕ) → header_read index ≤ 8
+header_short index = ⊎_elim (λ first. omega (arith, first.1)) (λ other. omega (arith, other.1)) (header_cases index)
 
--- where the page on which the entry before ends is buffered, at most one more is read
-behind_pages : (before next : ℕ) → (next ≡ before + 16) ⊎ (next ≡ before + 24) → unbuffered_pages (Some ((before + 15) / 4096)) next 16 ≤ 1
-behind_pages before next behind = ⊎_elim
-    (λ entry_buffered. over (buffered_at (Some ((before + 15) / 4096)) next) first (omega (arith, entry_buffered)) (omega (arith, entry_buffered)))
-    (λ far. over (buffered_at (Some ((before + 15) / 4096)) next) first (omega (arith, far)) (omega (arith, far)))
-    behind
+-- so an entry is read from at most two pages
+pub entry_pages : (page : Option ℕ) (tree : TreeRef) (index : ℕ) → entry_cost page tree index ≤ 2
+entry_pages page tree index = node_pages page (read_place tree index) (16 + header_read index) (omega (arith, header_short index))
+
+-- the next one from behind the one before it on
+pub read_behind : (tree : TreeRef) (passed : ℕ) → 0 < passed → read_place tree passed ≡ pair_place tree (passed - 1) + 16
+read_behind tree passed some = ⊎_elim
+    (λ first. omega (arith, some, first.0, first.1))
+    (λ other. omega (arith, some, other.0, other.1))
+    (header_cases passed)
+
+-- where the page on which that one ends is buffered, at most one more is read
+behind_pages : (before n : ℕ) → n ≤ 24 → unbuffered_pages (Some ((before + 15) / 4096)) (before + 16) n ≤ 1
+behind_pages before n le = over (buffered_at (Some ((before + 15) / 4096)) (before + 16)) first
   where
-    first : (before + 15) / 4096 ≡ next / 4096 → buffered_at (Some ((before + 15) / 4096)) next ≡ 1
+    first : (before + 15) / 4096 ≡ (before + 16) / 4096 → buffered_at (Some ((before + 15) / 4096)) (before + 16) ≡ 1
     first is = grind (arith, nat_tests)
 
-    over : (h : ℕ) → ((before + 15) / 4096 ≡ next / 4096 → h ≡ 1) → before + 16 ≤ next → next ≤ before + 24 → pages_of next 16 - h ≤ 1
-    over h same low high = ⊎_elim
-        (λ here. omega (arith, same (omega (arith, low, high, here.1)), low, high, here.1))
-        (λ behind. omega (arith, low, high, behind.1))
-        (leb_tells (next / 4096) ((before + 15) / 4096))
+    over : (h : ℕ) → ((before + 15) / 4096 ≡ (before + 16) / 4096 → h ≡ 1) → pages_of (before + 16) n - h ≤ 1
+    over h same = ⊎_elim
+        (λ here. omega (arith, same (omega (arith, here.1)), here.1, le))
+        (λ behind. omega (arith, behind.1, le))
+        (leb_tells ((before + 16) / 4096) ((before + 15) / 4096))
 
 -- behind a pair that was read, the next one costs at most one page more
-pub next_entry_cost : (w : PairScan) (pair : Pair) → 0 < w.passed → IsEntryBuffered w (Some pair) → unbuffered_pages w.buffered.page (pair_place w.tree w.passed) 16 ≤ 1
+pub next_entry_cost : (w : PairScan) (pair : Pair) → 0 < w.passed → IsEntryBuffered w (Some pair) → entry_cost w.buffered.page w.tree w.passed ≤ 1
 next_entry_cost w pair some entry_buffered =
-    subst (λ (p : Option ℕ). unbuffered_pages p (pair_place w.tree w.passed) 16 ≤ 1) (sym entry_buffered)
-    (behind_pages (pair_place w.tree (w.passed - 1)) (pair_place w.tree w.passed) (place_behind w.tree w.passed some))
+    let n = 16 + header_read w.passed in
+    subst (λ (p : Option ℕ). unbuffered_pages p (read_place w.tree w.passed) n ≤ 1) (sym entry_buffered)
+    (subst (λ (at : ℕ). unbuffered_pages (Some ((pair_place w.tree (w.passed - 1) + 15) / 4096)) at n ≤ 1) (sym (read_behind w.tree w.passed some))
+    (behind_pages (pair_place w.tree (w.passed - 1)) n (omega (arith, header_short w.passed))))
+
+-- ---- what the reads of one pair cost
+
+same_pages : (page : Option ℕ) (at place n m : ℕ) → at ≡ place → n ≡ m → unbuffered_pages page at n ≡ unbuffered_pages page place m
+same_pages page at place n m at_is n_is = ap (λ (k : ℕ). unbuffered_pages page k n) at_is ∙ ap (λ (k : ℕ). unbuffered_pages page place k) n_is
+
+-- of one that begins a leaf
+pub first_pages : (page : Option ℕ) (at index : ℕ) → index % 255 ≡ 0 → unbuffered_pages page (at + 4088 * (index / 255)) 24
+    ≡ unbuffered_pages page (at + 4088 * (index / 255) + (8 + 16 * (index % 255)) - header_read index) (16 + header_read index)
+first_pages page at index first = same_pages page _ _ _ _ (omega (arith, first, read)) (omega (arith, read))
+  where
+    read : header_read index ≡ 8
+    read = ⊎_elim (λ yes. yes.1) (λ no. absurd (no.0 first)) (header_cases index)
+
+-- of another one
+pub later_pages : (page : Option ℕ) (place index : ℕ) → index % 255 ≢ 0 → unbuffered_pages page place 16
+    ≡ unbuffered_pages page (place - header_read index) (16 + header_read index)
+later_pages page place index later = same_pages page _ _ _ _ (omega (arith, read)) (omega (arith, read))
+  where
+    read : header_read index ≡ 0
+    read = ⊎_elim (λ yes. absurd (later yes.0)) (λ no. no.1) (header_cases index)

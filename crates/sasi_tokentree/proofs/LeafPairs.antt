@@ -1,9 +1,8 @@
 -- The pairs of a tree, found in its leaves.
 use Rattle.std.proofs.Common.{◌≡◌, ◌⊎◌, ℕ, zero, suc, ◌+◌, ◌-◌, ◌*◌, ◌/◌, ◌%◌, ◌^◌, ◌<◌, ◌≤◌, List, ◌∷◌, ◌++◌, length, take, drop, refl, sym, ◌∙◌, ap, subst, min, arith, append_assoc, length-append, take-append-drop, ⊎_elim, Option, Some, None}
 use Rattle.std.proofs.lemmas.Bool.Decides.{leb_tells}
-use Rattle.std.proofs.lemmas.List.{take_at, drop_at, drop_more, drop_all, length-take-le}
+use Rattle.std.proofs.lemmas.List.{drop_more, drop_all, length-take-le}
 use Rattle.std.specs.List.{flat_map}
-use Rattle.std.specs.Int.{to_be_bytes, w64}
 use Rattle.sasi_types.specs.declared.tree.Pair.{Pair}
 use Rattle.sasi_types.specs.declared.tree.TreeRef.{TreeRef}
 use Rattle.sasi_host.specs.declared.name.FileName.{FileName}
@@ -13,19 +12,19 @@ use Rattle.sasi_host.specs.Names.{Bytes}
 use Rattle.sasi_host.specs.View.{View, contents}
 use Rattle.sasi_host.specs.Disk.{Changes, Same}
 use Rattle.sasi_host.specs.Damages.{HasAt, ShowsEnd, DamageShown, TellsSize}
-use Rattle.sasi_host.proofs.Offsets.{at_window}
+use Rattle.sasi_host.proofs.Offsets.{same_at}
 use Rattle.sasi_host.proofs.DamageLaws.{end_shown, shown_as}
-use Rattle.sasi_tokentree.specs.Format.{pair_at, entry, node, nodes, size, entries_of_node, above, level_bytes, levels, tree_bytes, HasTree}
+use Rattle.sasi_tokentree.specs.Format.{pair_at, entry, node, node_header, nodes, size, entries_of_node, above, level_bytes, levels, tree_bytes, HasTree}
 use Rattle.sasi_tokentree.specs.Sizes.{entry_length, node_length, part_length, level_length, one_level, more_levels, first_above_length}
 use Rattle.sasi_tokentree.specs.Heights.{bytes_below_root, none_below_root, more_below_root, top_is}
 use Rattle.sasi_tokentree.specs.declared.node_read.Node.{Node}
-use Rattle.sasi_tokentree.specs.Damages.{BeginsLeaf, IsNodeFrom, IsNodeOf, ShowsOf, ShownOf, ShowsTreeBy, start, pair_place}
+use Rattle.sasi_tokentree.specs.Damages.{BeginsLeaf, IsNodeFrom, IsNodeOf, ShowsEndOr, ShowsOf, ShownOf, ShowsTreeBy, start, pair_place}
 use Rattle.sasi_tokentree.specs.Damages.ShowsTreeBy.{in_node, in_entry}
 use Rattle.sasi_tokentree.specs.Damages.IsNodeFrom.{of_level, of_above}
-use Rattle.sasi_tokentree.specs.Reads.{HasNode, HasLevels, CountsBelow, IsReached, NoFalseTreeDamage, NoFalseLevelDamage, NoFalsePairDamage}
-use Rattle.sasi_tokentree.specs.Scans.{ReadsEntry, StepsToPair}
+use Rattle.sasi_tokentree.specs.Reads.{HasNode, HasLevels, CountsBelow, IsReached, NoFalseTreeDamage, NoFalseLevelDamage}
+use Rattle.sasi_tokentree.specs.Scans.{ReadsEntry, ReadsHeader, StepsToPair}
 use Rattle.sasi_tokentree.proofs.AfterRead.{reads_still}
-use Rattle.sasi_tokentree.proofs.NodeParts.{from_entry, same_number, pair_fits}
+use Rattle.sasi_tokentree.proofs.NodeParts.{from_entry, same_entry, pair_fits}
 use Rattle.sasi_tokentree.proofs.NodeReads.{header_ends}
 use Rattle.sasi_tokentree.proofs.StoredLevels.{part_at, stands_node}
 
@@ -72,28 +71,22 @@ ends_within bytes at index entries stands lt =
       entry_length (pair_at entries index),
     )
 
-pub pair_reads : (bytes window : Bytes) (at index token place n m : ℕ) (entries : List Pair) → HasLevels bytes 0 at entries → index < length entries
-    → window ≡ take 16 (drop (at + 4088 * (index / 255) + (8 + 16 * (index % 255))) bytes) → n ≡ 8 → m ≡ 8
-    → token < 2 ^ 64 → place < 2 ^ 64 → to_be_bytes w64 token ≡ take n window → to_be_bytes w64 place ≡ take m (drop 8 window) → record { token = token; place = place } ≡ pair_at entries index
-unfolding entry
-pair_reads bytes window at index token place n m entries stands lt is n_is m_is token_fits place_fits token_is place_is =
+-- the entry that stands in the place of a pair is the pair
+pub pair_is : (bytes : Bytes) (at index : ℕ) (entries : List Pair) (pair : Pair) → HasLevels bytes 0 at entries → index < length entries → pair.token < 2 ^ 64 → pair.place < 2 ^ 64
+    → HasAt bytes (at + 4088 * (index / 255) + (8 + 16 * (index % 255))) (entry pair) → pair ≡ pair_at entries index
+pair_is bytes at index entries pair stands lt token_fits place_fits has =
     let p = pair_at entries index in
-    let has = entry_stands bytes at index entries stands lt in
-    let whole : window ≡ to_be_bytes w64 p.token ++ to_be_bytes w64 p.place = is ∙ at_window bytes (at + 4088 * (index / 255) + (8 + 16 * (index % 255))) (entry p) has in
-    let first : take n window ≡ to_be_bytes w64 p.token = ap (λ (k : ℕ). take k window) n_is ∙ ap (λ (l : Bytes). take 8 l) whole ∙ take_at
-    (to_be_bytes w64 p.token) (to_be_bytes w64 p.place) 8 refl in
-    let second : take m (drop 8 window) ≡ to_be_bytes w64 p.place = ap (λ (k : ℕ). take k (drop 8 window)) m_is ∙ ap
-    (λ (l : Bytes). take 8 (drop 8 l)) whole ∙ ap (λ (l : Bytes). take 8 l) (drop_at (to_be_bytes w64 p.token) (to_be_bytes w64 p.place) 8 refl)
-    in
-    let tokens : token ≡ p.token = same_number token p.token token_fits (stands.fit index).0 (token_is ∙ first) in
-    let places : place ≡ p.place = same_number place p.place place_fits (stands.fit index).1 (place_is ∙ second) in
-    ap (λ (k : ℕ). record { token = k; place = place }) tokens ∙ ap (λ (k : ℕ). record { token = p.token; place = k }) places
+    same_entry pair p token_fits place_fits (stands.fit index).0 (stands.fit index).1
+    (same_at bytes (at + 4088 * (index / 255) + (8 + 16 * (index % 255))) (entry pair) (entry p) has (entry_stands bytes at index entries stands lt) (entry_length pair ∙ sym (entry_length p)))
 
-pub short_spares : (v : View) (file : FileName) (at index : ℕ) (f : ReadFault) → DamageShown v file
-    (ShowsEnd (at + 4088 * (index / 255) + (8 + 16 * (index % 255)) + 16) file) f → NoFalsePairDamage v file at index f
-short_spares v file at index fault.Failed short = tt
-short_spares v file at index fault.OutOfMemory short = tt
-short_spares v file at index (fault.Damaged damage) short = λ bytes entries is stands lt. let less = (short bytes is).short in omega (arith, less, ends_within bytes at index entries stands lt)
+-- no leaves stand where the file ends before one of their pairs does
+pub short_spares : (v : View) (file : FileName) (at count index : ℕ) (f : ReadFault) → index < count → DamageShown v file
+    (ShowsEnd (at + 4088 * (index / 255) + (8 + 16 * (index % 255)) + 16) file) f → NoFalseLevelDamage v file 0 at count f
+short_spares v file at count index fault.Failed lt short = tt
+short_spares v file at count index fault.OutOfMemory lt short = tt
+short_spares v file at count index (fault.Damaged damage) lt short = λ bytes entries is stands long.
+    let less = (short bytes is).short in
+    omega (arith, less, ends_within bytes at index entries stands (omega (arith, lt, long)))
 
 -- ---- the tree whole
 
@@ -183,15 +176,6 @@ long_spares v file tree fault.Failed short some long = tt
 long_spares v file tree fault.OutOfMemory short some long = tt
 long_spares v file tree (fault.Damaged damage) short some long = λ bytes pairs is has. tree_fits bytes tree pairs has some (short bytes is) long
 
-pub pair_spares : (v : View) (file : FileName) (tree : TreeRef) (index start : ℕ) (f : ReadFault) →
-    ((bytes : Bytes) → contents v file ≡ Some bytes → length bytes ≤ 2 ^ 62) → index < tree.pairs → start ≡ tree.root - bytes_below_root tree.pairs tree.pairs →
-    NoFalsePairDamage v file start index f → NoFalseTreeDamage v file tree f
-pair_spares v file tree index start fault.Failed short lt is no_false_damage = tt
-pair_spares v file tree index start fault.OutOfMemory short lt is no_false_damage = tt
-pair_spares v file tree index start (fault.Damaged damage) short lt is no_false_damage = λ bytes pairs reads has.
-    no_false_damage bytes pairs reads (subst (λ (n : ℕ). HasLevels bytes 0 n pairs) (sym is)
-    (tree_stands bytes tree pairs has (omega (arith, lt)) (short bytes reads))) (omega (arith, lt, count_is bytes tree pairs has))
-
 pub level_spares : (v : View) (file : FileName) (tree : TreeRef) (start : ℕ) (f : ReadFault) →
     ((bytes : Bytes) → contents v file ≡ Some bytes → length bytes ≤ 2 ^ 62) → 0 < tree.pairs → start ≡ tree.root - bytes_below_root tree.pairs tree.pairs →
     NoFalseLevelDamage v file 0 start tree.pairs f → NoFalseTreeDamage v file tree f
@@ -243,13 +227,15 @@ long_shown Alone v file tree f short some long told =
     node_in_tree Alone v file tree f (header_ends (IsNodeOf tree) v file end long_one.0 f long_one.1 (omega arith)
     (end_shown v file end f (λ bytes is. let le = short bytes is in omega (arith, le, long_one.2)) told))
 
--- the file ends before a pair that is read alone
+-- the file ends before a pair, or a leaf breaks a rule
 pub pair_shown : (Alone : ℕ → Type 0) (v : View) (file : FileName) (tree : TreeRef) (begin index : ℕ) (f : ReadFault) → Alone index → index < tree.pairs → begin ≡
-    start tree → DamageShown v file (ShowsEnd (begin + 4088 * (index / 255) + (8 + 16 * (index % 255)) + 16) file) f → DamageShown v file
+    start tree → DamageShown v file (ShowsEndOr (begin + 4088 * (index / 255) + (8 + 16 * (index % 255)) + 16) (λ n. IsNodeFrom n 0 begin tree.pairs) file) f → DamageShown v file
     (ShowsTreeBy Alone file tree) f
 pair_shown Alone v file tree begin index f alone lt is shown =
-    shown_as (ShowsEnd (begin + 4088 * (index / 255) + (8 + 16 * (index % 255)) + 16) file) (ShowsTreeBy Alone file tree) v file f (λ bytes damage reads ends. in_entry index alone lt
-    (subst (λ (n : ℕ). ShowsEnd (n + 4088 * (index / 255) + (8 + 16 * (index % 255)) + 16) file bytes damage) is ends)) shown
+    shown_as (ShowsEndOr (begin + 4088 * (index / 255) + (8 + 16 * (index % 255)) + 16) (λ n. IsNodeFrom n 0 begin tree.pairs) file) (ShowsTreeBy Alone file tree) v file f (λ bytes damage reads shows. ⊎_elim
+    (λ ends. in_entry index alone lt (subst (λ (n : ℕ). ShowsEnd (n + 4088 * (index / 255) + (8 + 16 * (index % 255)) + 16) file bytes damage) is ends))
+    (λ node. in_node (subst (λ (n : ℕ). ShowsOf (λ k. IsNodeFrom k 0 n tree.pairs) file bytes damage) is node))
+    shows) shown
 
 pub leaves_shown : (Alone : ℕ → Type 0) (v : View) (file : FileName) (tree : TreeRef) (begin : ℕ) (f : ReadFault) → begin ≡ start tree → ShownOf
     (λ n. IsNodeFrom n 0 begin tree.pairs) v file f → DamageShown v file (ShowsTreeBy Alone file tree) f
@@ -285,6 +271,18 @@ pub gave_entry : (a b : View) (was now : FileName) (tree : TreeRef) (passed : �
     now tree passed found → ReadsEntry a was tree passed found
 gave_entry a b was now tree passed None change same gives = tt
 gave_entry a b was now tree passed (Some pair) change same gives = (gives.0, gives.1, λ bytes is. gives.2 bytes (reads_still a b was now bytes change same is))
+
+-- and the header before it
+pub gives_header : (v : View) (file : FileName) (tree : TreeRef) (begin index : ℕ) (pair : Pair) → begin ≡ start tree
+    → ((leaf : ℕ) → index ≡ 255 * leaf → (bytes : Bytes) → contents v file ≡ Some bytes → HasAt bytes (begin + 4088 * leaf) (node_header 0 (min (tree.pairs - 255 * leaf) 255)))
+    → ReadsHeader v file tree (index + 1) (Some pair)
+gives_header v file tree begin index pair is stands = λ leaf at bytes reads.
+    subst (λ (n : ℕ). HasAt bytes (n + 4088 * leaf) (node_header 0 (min (tree.pairs - 255 * leaf) 255))) is (stands leaf (omega (arith, at)) bytes reads)
+
+pub gave_header : (a b : View) (was now : FileName) (tree : TreeRef) (passed : ℕ) (found : Option Pair) → Changes Same a b → now ≡ was → ReadsHeader b
+    now tree passed found → ReadsHeader a was tree passed found
+gave_header a b was now tree passed None change same gives = tt
+gave_header a b was now tree passed (Some pair) change same gives = λ leaf at bytes is. gives leaf at bytes (reads_still a b was now bytes change same is)
 
 -- the page on which it ends is in hand
 pub near_entry : (page : Option ℕ) (tree : TreeRef) (begin index : ℕ) → begin ≡ start tree → page ≡ Some

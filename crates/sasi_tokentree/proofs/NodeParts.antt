@@ -117,6 +117,16 @@ from_entry level entries index lt =
 pub same_number : (a b : ℕ) → a < 2 ^ 64 → b < 2 ^ 64 → to_be_bytes w64 a ≡ to_be_bytes w64 b → a ≡ b
 same_number a b a_fits b_fits same = sym (from_be_bytes-to_be_bytes_8 a a_fits) ∙ ap (from_be_bytes w64) same ∙ from_be_bytes-to_be_bytes_8 b b_fits
 
+-- entries of the same bytes are the same
+pub same_entry : (a b : Pair) → a.token < 2 ^ 64 → a.place < 2 ^ 64 → b.token < 2 ^ 64 → b.place < 2 ^ 64 → entry a ≡ entry b → a ≡ b
+unfolding entry
+same_entry a b a_token a_place b_token b_place same =
+    let tokens : a.token ≡ b.token = same_number a.token b.token a_token b_token (sym (take_at (to_be_bytes w64 a.token) (to_be_bytes w64 a.place) 8 refl) ∙ ap (λ (l : Bytes). take 8 l) same
+    ∙ take_at (to_be_bytes w64 b.token) (to_be_bytes w64 b.place) 8 refl) in
+    let places : a.place ≡ b.place = same_number a.place b.place a_place b_place (sym (drop_at (to_be_bytes w64 a.token) (to_be_bytes w64 a.place) 8 refl) ∙ ap (λ (l : Bytes). drop 8 l) same
+    ∙ drop_at (to_be_bytes w64 b.token) (to_be_bytes w64 b.place) 8 refl) in
+    ap (λ (n : ℕ). record { token = n; place = a.place }) tokens ∙ ap (λ (n : ℕ). record { token = b.token; place = n }) places
+
 pub entry_reads : (bytes : Bytes) (level : ℕ) (entries : List Pair) (index token place : ℕ) → AreFit entries → bytes ≡ node level entries → 24 + 16 *
     index ≤ length bytes → token < 2 ^ 64 → place < 2 ^ 64
     → to_be_bytes w64 token ≡ take 8 (drop (8 + 16 * index) bytes) → to_be_bytes w64 place ≡ take 8 (drop (8 + 16 * index + 8) bytes) → record { token = token; place = place } ≡ pair_at entries index

@@ -1,7 +1,7 @@
 -- A read gives the node that the file has there, and a fault shows that the file has none.
-use Rattle.std.proofs.Common.{◌≡◌, ℕ, ◌+◌, ◌*◌, ◌<◌, ◌≤◌, List, [], ◌++◌, length, take, drop, refl, sym, ◌∙◌, ap, subst, min, ◌-◌, ◌≢◌, arith, length-append, length-drop, ⊎_elim, Some}
+use Rattle.std.proofs.Common.{◌≡◌, ℕ, ◌+◌, ◌*◌, ◌<◌, ◌≤◌, List, [], ◌++◌, length, take, drop, refl, sym, ◌∙◌, ap, subst, min, ◌-◌, ◌≢◌, arith, inl, inr, length-append, length-drop, take-append-drop, ⊎_elim, Some}
 use Rattle.std.proofs.lemmas.Bool.Decides.{leb_tells}
-use Rattle.std.proofs.lemmas.List.{append-nil, drop_all, take_all, take_at}
+use Rattle.std.proofs.lemmas.List.{append-nil, drop_all, length-take-le, take_at}
 use borrow.Rule.Slice.PartMut.{put_mid}
 use Rattle.std.specs.List.{flat_map}
 use Rattle.sasi_types.specs.declared.tree.Pair.{Pair}
@@ -17,7 +17,7 @@ use Rattle.sasi_host.proofs.Offsets.{at_ends, both_at, differs_in, first_at, inn
 use Rattle.sasi_host.proofs.DamageLaws.{shown_as}
 use Rattle.sasi_tokentree.specs.Format.{entry, node_header, node}
 use Rattle.sasi_tokentree.specs.declared.node_read.Node.{Node}
-use Rattle.sasi_tokentree.specs.Damages.{IsNodeFrom, EndsWithin, NodeBreaks, ShowsOf, ShownOf}
+use Rattle.sasi_tokentree.specs.Damages.{IsNodeFrom, EndsWithin, NodeBreaks, ShowsOf, ShownOf, ShowsEndOr}
 use Rattle.sasi_tokentree.specs.Damages.EndsWithin.{in_header, in_entries}
 use Rattle.sasi_tokentree.specs.Damages.IsNodeFrom.{of_level}
 use Rattle.sasi_tokentree.specs.Sizes.{head_length, node_length}
@@ -47,13 +47,21 @@ early_spares v file level at count end fault.Failed le early = tt
 early_spares v file level at count end fault.OutOfMemory le early = tt
 early_spares v file level at count end (fault.Damaged damage) le early = λ bytes entries is has long. let less = (early bytes is).short in omega (arith, le, less, long, node_ends bytes level at entries has)
 
--- a read of its header gives the header that it begins with
-pub node_head : (bytes out : Bytes) (level at count : ℕ) (entries : List Pair) → HasNode bytes level at entries → length entries ≡ count → HasAt bytes at out → length out ≡ 8 → take 8 out ≡ node_header level count
+-- what was read begins with its first eight bytes
+front_at : (bytes window : Bytes) (at : ℕ) → HasAt bytes at window → HasAt bytes at (take 8 window)
+front_at bytes window at stands = first_at bytes at (take 8 window) (drop 8 window) (subst (λ (l : Bytes). HasAt bytes at l) (sym (take-append-drop 8 window)) stands)
+
+-- they are the header of the node that stands there
+pub node_head : (bytes out : Bytes) (level at count : ℕ) (entries : List Pair) → HasNode bytes level at entries → length entries ≡ count → HasAt bytes at out → 8 ≤ length out → take 8 out ≡ node_header level count
 unfolding node
 node_head bytes out level at count entries has long stands size =
     let header : HasAt bytes at (node_header level (length entries)) = first_at bytes at (node_header level (length entries)) (flat_map entry entries) has.stands in
-    take_all 8 out (omega (arith, size)) ∙ same_at bytes at out (node_header level (length entries)) stands header (size ∙ sym (head_length level (length entries)))
+    same_at bytes at (take 8 out) (node_header level (length entries)) (front_at bytes out at stands) header (length-take-le 8 out size ∙ sym (head_length level (length entries)))
     ∙ ap (λ (k : ℕ). node_header level k) long
+
+-- and a header that they are stands there
+pub header_at : (bytes out : Bytes) (level at count : ℕ) → HasAt bytes at out → take 8 out ≡ node_header level count → HasAt bytes at (node_header level count)
+header_at bytes out level at count stands is = subst (λ (l : Bytes). HasAt bytes at l) is (front_at bytes out at stands)
 
 -- a buffer's first eight bytes and the bytes behind them, filled one after the other
 pub filled_behind : (header old entries : Bytes) (k : ℕ) → length header ≡ 8 → k ≡ length (header ++ drop 8 old) - 8 → put_mid 8 k (header ++ drop 8 old) entries ≡ header ++ entries
@@ -143,6 +151,23 @@ entries_end These v file end node f is_of le header early =
 pub shown_more : (These Those : Node → Type 0) (v : View) (file : FileName) (f : ReadFault) → ((node : Node) → These node → Those node) → ShownOf These v file f → ShownOf Those v file f
 shown_more These Those v file f more shown =
     shown_as (ShowsOf These file) (ShowsOf Those file) v file f (λ bytes damage is s. record { named = s.named; node = s.node; is_of = more s.node s.is_of; breaks = s.breaks }) shown
+
+-- and so where the file may end as well
+pub end_or_more : (These Those : Node → Type 0) (v : View) (file : FileName) (end far : ℕ) (f : ReadFault) → end ≡ far → ((node : Node) → These node → Those node)
+    → DamageShown v file (ShowsEndOr end These file) f → DamageShown v file (ShowsEndOr far Those file) f
+end_or_more These Those v file end far f same more shown =
+    shown_as (ShowsEndOr end These file) (ShowsEndOr far Those file) v file f (λ bytes damage is shows. ⊎_elim
+    (λ ends. inl (subst (λ (n : ℕ). ShowsEnd n file bytes damage) same ends))
+    (λ s. inr (record { named = s.named; node = s.node; is_of = more s.node s.is_of; breaks = s.breaks }))
+    shows) shown
+
+-- a file that ends
+pub end_or_ends : (These : Node → Type 0) (v : View) (file : FileName) (end far : ℕ) (f : ReadFault) → end ≡ far → DamageShown v file (ShowsEnd end file) f → DamageShown v file (ShowsEndOr far These file) f
+end_or_ends These v file end far f same shown = shown_as (ShowsEnd end file) (ShowsEndOr far These file) v file f (λ bytes damage is ends. inl (subst (λ (n : ℕ). ShowsEnd n file bytes damage) same ends)) shown
+
+-- or a node that breaks a rule
+pub end_or_breaks : (These : Node → Type 0) (v : View) (file : FileName) (end : ℕ) (f : ReadFault) → ShownOf These v file f → DamageShown v file (ShowsEndOr end These file) f
+end_or_breaks These v file end f shown = shown_as (ShowsOf These file) (ShowsEndOr end These file) v file f (λ bytes damage is shows. inr shows) shown
 
 -- a node of the level
 pub node_of_level : (level at count node here : ℕ) → 255 * node < count → here ≡ min (count - 255 * node) 255 → (n : Node) → n ≡ record

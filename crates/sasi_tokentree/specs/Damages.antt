@@ -1,5 +1,5 @@
 -- Where a file breaks the format of a tree, and what is there.
-use Rattle.std.specs.Prelude.{◌≡◌, ℕ, ◌+◌, ◌-◌, ◌*◌, ◌/◌, ◌%◌, ◌<◌, nat_le, Bool, ◌&&◌, [], ◌∷◌, ◌++◌, length, min}
+use Rattle.std.specs.Prelude.{◌≡◌, ◌⊎◌, ℕ, ◌+◌, ◌-◌, ◌*◌, ◌/◌, ◌%◌, ◌<◌, nat_le, Bool, ◌&&◌, [], ◌∷◌, ◌++◌, length, min}
 use Rattle.std.specs.Int.{to_be_bytes, w16, w32, w64}
 use Rattle.sasi_types.specs.declared.tree.Pair.{Pair}
 use Rattle.sasi_types.specs.declared.tree.TreeRef.{TreeRef}
@@ -93,17 +93,21 @@ pub record ShowsOf (These : Node → Type 0) (file : FileName) (bytes : Bytes) (
 pub data ShowsTreeBy (Alone : ℕ → Type 0) (file : FileName) (tree : TreeRef) (bytes : Bytes) (damage : Damage) : Type 0 where
   -- in a node, which is judged from its header on
   in_node : ShowsOf (IsNodeOf tree) file bytes damage → ShowsTreeBy Alone file tree bytes damage
-  -- or it ends before a pair does whose entry is read alone, without the header of its leaf
+  -- or it ends before a pair does that is read without the entries before it in its leaf
   in_entry : (index : ℕ) → Alone index → index < tree.pairs → ShowsEnd (pair_place tree index + 16) file bytes damage → ShowsTreeBy Alone file tree bytes damage
 
--- a search reads an entry alone only where it begins a leaf below a root
+-- a search reads so only a pair that begins a leaf below a root
 abbrev pub BeginsLeaf : TreeRef → ℕ → Type 0
 BeginsLeaf tree index = (255 < tree.pairs) × (index % 255 ≡ 0)
 
--- a scan reads each
+-- a scan reads each of them so
 abbrev pub ShowsTree : FileName → TreeRef → Bytes → Damage → Type 0
 ShowsTree = ShowsTreeBy (λ index. Unit {0})
 
 -- damage is that one of these nodes breaks a rule
 abbrev pub ShownOf : (Node → Type 0) → View → FileName → ReadFault → Type 0
 ShownOf These v file = DamageShown v file (ShowsOf These file)
+
+-- the damage is that of this file, which ends before this offset, or in which one of these nodes breaks the rule
+abbrev pub ShowsEndOr : ℕ → (Node → Type 0) → FileName → Bytes → Damage → Type 0
+ShowsEndOr end These file bytes damage = ShowsEnd end file bytes damage ⊎ ShowsOf These file bytes damage

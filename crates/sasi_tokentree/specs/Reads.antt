@@ -69,7 +69,3 @@ NoFalseNodeDamage v file level at count = OnDamage (λ _. (bytes : Bytes) (entri
 -- damage is reported only where the file has no level of so many entries there, with those above it
 abbrev pub NoFalseLevelDamage : View → FileName → ℕ → ℕ → ℕ → ReadFault → Type 0
 NoFalseLevelDamage v file level at count = OnDamage (λ _. (bytes : Bytes) (entries : List Pair) → contents v file ≡ Some bytes → HasLevels bytes level at entries → length entries ≡ count → ⊥)
-
--- damage is reported only where the file has no leaves there that reach to a pair with this index
-abbrev pub NoFalsePairDamage : View → FileName → ℕ → ℕ → ReadFault → Type 0
-NoFalsePairDamage v file at index = OnDamage (λ _. (bytes : Bytes) (entries : List Pair) → contents v file ≡ Some bytes → HasLevels bytes 0 at entries → index < length entries → ⊥)

@@ -1,14 +1,14 @@
 -- Scans of the pairs of a tree.
-use Rattle.std.specs.Prelude.{◌≡◌, ℕ, ◌+◌, ◌-◌, ◌/◌, ◌^◌, ◌<◌, ◌≤◌, List, [], ◌∷◌, drop, Option, None, Some}
+use Rattle.std.specs.Prelude.{◌≡◌, ℕ, ◌+◌, ◌-◌, ◌*◌, ◌/◌, ◌%◌, ◌^◌, ◌<◌, ◌≤◌, nat_eq, if◌then◌else◌, min, List, [], ◌∷◌, drop, Option, None, Some}
 use Rattle.sasi_types.specs.declared.tree.Pair.{Pair}
 use Rattle.sasi_types.specs.declared.tree.TreeRef.{TreeRef}
 use Rattle.sasi_host.specs.declared.name.FileName.{FileName}
 use Rattle.sasi_host.specs.Names.{Bytes}
 use Rattle.sasi_host.specs.View.{View, contents}
-use Rattle.sasi_host.specs.Buffered.{Buffered}
+use Rattle.sasi_host.specs.Buffered.{Buffered, unbuffered_pages}
 use Rattle.sasi_host.specs.Damages.{HasAt}
-use Rattle.sasi_tokentree.specs.Format.{entry, AreFit, HasTree}
-use Rattle.sasi_tokentree.specs.Damages.{pair_place}
+use Rattle.sasi_tokentree.specs.Format.{entry, node_header, AreFit, HasTree}
+use Rattle.sasi_tokentree.specs.Damages.{pair_place, start}
 use Rattle.sasi_tokentree.specs.Reads.{CountsBelow}
 
 -- the view of a scan: the buffered file, where the tree is, and how many of its pairs the scan has passed
@@ -45,6 +45,15 @@ abbrev pub ReadsEntry : View → FileName → TreeRef → ℕ → Option Pair �
 ReadsEntry v file tree passed None = Unit {0}
 ReadsEntry v file tree passed (Some pair) = (index : ℕ) × (passed ≡ index + 1) × ((bytes : Bytes) → contents v file ≡ Some bytes → HasEntry bytes tree index pair)
 
+-- the file has the header of this leaf, even where the tree is damaged: with 255 entries, or what is left for the last one
+abbrev pub HasLeafHeader : Bytes → TreeRef → ℕ → Type 0
+HasLeafHeader bytes tree leaf = HasAt bytes (start tree + 4088 * leaf) (node_header 0 (min (tree.pairs - 255 * leaf) 255))
+
+-- where the pair read, if any, is the first one of a leaf, the header of that leaf stands before it
+abbrev pub ReadsHeader : View → FileName → TreeRef → ℕ → Option Pair → Type 0
+ReadsHeader v file tree passed None = Unit {0}
+ReadsHeader v file tree passed (Some pair) = (leaf : ℕ) → passed ≡ 255 * leaf + 1 → (bytes : Bytes) → contents v file ≡ Some bytes → HasLeafHeader bytes tree leaf
+
 -- where the file has the tree, this is the next of its pairs
 abbrev pub ReadsNextPair : View → FileName → TreeRef → ℕ → ℕ → Option Pair → Type 0
 ReadsNextPair v file tree before after found = (bytes : Bytes) (pairs : List Pair) → contents v file ≡ Some bytes → HasTree bytes tree pairs → StepsToPair pairs before after found
@@ -53,3 +62,17 @@ ReadsNextPair v file tree before after found = (bytes : Bytes) (pairs : List Pai
 abbrev pub ReadsFirstPair : View → FileName → TreeRef → ℕ → ℕ → Option Pair → Type 0
 ReadsFirstPair v file tree token after found =
     (bytes : Bytes) (pairs : List Pair) → contents v file ≡ Some bytes → HasTree bytes tree pairs → (count : ℕ) × CountsBelow pairs token count × StepsToPair pairs count after found
+
+-- ---- what a scan reads
+
+-- how many bytes before an entry are read with it: with the first one of a leaf those of the leaf's header
+unfoldable pub header_read : ℕ → ℕ
+header_read index = if nat_eq (index % 255) 0 then 8 else 0
+
+-- where the entry with this index is read from
+abbrev pub read_place : TreeRef → ℕ → ℕ
+read_place tree index = pair_place tree index - header_read index
+
+-- how many of the pages that it is read from aren't buffered
+abbrev pub entry_cost : Option ℕ → TreeRef → ℕ → ℕ
+entry_cost buffered tree index = unbuffered_pages buffered (read_place tree index) (16 + header_read index)

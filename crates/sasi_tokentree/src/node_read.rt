@@ -3,15 +3,17 @@ ghost use Rattle.std.specs.Prelude.{◌≡◌, ◌+◌, ◌*◌, ◌/◌, ◌^�
 ghost use Rattle.sasi_types.specs.declared.tree.Pair.{Pair};
 ghost use Rattle.sasi_host.specs.View.{contents, ReadsAtMost};
 ghost use Rattle.sasi_host.specs.Buffered.{unbuffered_pages};
-ghost use Rattle.sasi_host.specs.Damages.{HasAt};
+ghost use Rattle.sasi_host.specs.Damages.{DamageShown, HasAt};
 ghost use Rattle.sasi_host.specs.PageReading.{CanReadOn, HasReadOn};
-ghost use Rattle.sasi_tokentree.specs.Format.{node as encoded_node, node_header};
-ghost use Rattle.sasi_tokentree.specs.Damages.{ShownOf};
+ghost use Rattle.sasi_tokentree.specs.Format.{entry, node as encoded_node, node_header};
+ghost use Rattle.sasi_tokentree.specs.Damages.{ShownOf, ShowsEndOr};
 ghost use Rattle.sasi_tokentree.specs.Reads.{IsLowerBound, HasNode, NoFalseNodeDamage};
 
-use crate::node_decode::{ENTRY_BYTES, LowerBound, NODE_HEADER_BYTES, check_header, find_below};
+use crate::node_decode::{
+    ENTRY_BYTES, LowerBound, NODE_HEADER_BYTES, check_header, entry_in, find_below,
+};
 use sasi_host::{BufferedFile, Host, PageReader, ReadFault};
-use sasi_types::Token;
+use sasi_types::{Pair, Token};
 
 // A node of a tree: its level, where it begins, and how many entries it has.
 #[derive(Clone, Copy)]
@@ -101,4 +103,30 @@ pub fn node_below<H: Host, P: PageReader>(
     read_node(host, pages, buffered, Node { level, at, count }, bytes)?;
     let below = find_below(buffered.file(), at, count, bytes, token)?;
     Ok(below)
+}
+
+// Reads the first entry of a leaf of so many with the leaf's header, in one read, and checks the header.
+pub fn first_of_leaf<H: Host, P: PageReader>(
+    host: &mut H,
+    pages: &mut P,
+    buffered: &mut BufferedFile,
+    at: u64,
+    count: usize,
+) -> Result<Pair, ReadFault>
+    requires read { CanReadOn (P.agrees pages.old) (H.view host.old) buffered.old }
+    requires place { at < 2 ^ 63 + 2 ^ 60 }
+    requires some { 0 < count }
+    requires most { count ≤ 255 }
+    ensures header { OnOk result ((bytes : List ℕ) → contents (H.view host.old) buffered.old.file ≡ Some bytes → HasAt bytes at (node_header 0 count)) }
+    ensures stands { IfOk result (λ pair. (bytes : List ℕ) → contents (H.view host.old) buffered.old.file ≡ Some bytes → HasAt bytes (at + 8) (entry pair)) }
+    ensures damaged { IfErr result (DamageShown (H.view host.old) buffered.old.file (ShowsEndOr (at + 24) (λ n. n ≡ record { level = 0; at = at; count = count }) buffered.old.file)) }
+    ensures undamaged { IfErr result (NoFalseNodeDamage (H.view host.old) buffered.old.file 0 at count) }
+    ensures read { HasReadOn (P.agrees pages.new) (P.covers pages.old) (P.covers pages.new) (H.view host.old) (H.view host.new) buffered.old buffered.new }
+    ensures page { OnOk result (buffered.new.page ≡ Some ((at + 23) / 4096)) }
+    ensures causes { ReadsAtMost (unbuffered_pages buffered.old.page at 24) (H.view host.old) (H.view host.new) result }
+{
+    let mut bytes = [0; 24];
+    buffered.read_into(host, pages, at, &mut bytes)?;
+    check_header(buffered.file(), at, 0, count as u16, &bytes)?;
+    Ok(entry_in(&bytes, 0))
 }

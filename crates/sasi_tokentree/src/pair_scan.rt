@@ -1,18 +1,18 @@
 // Reads the pairs of a tree, one after another.
-ghost use Rattle.std.specs.Prelude.{◌≡◌, ◌⊎◌, ◌+◌, ◌-◌, ◌*◌, ◌/◌, ◌%◌, ◌^◌, ◌<◌, ◌≤◌, List, ℕ, length, IfErr, IfOk, IsSome, IsTrue, None, Some, false};
-ghost use Rattle.sasi_types.specs.declared.tree.Pair.{Pair};
+ghost use Rattle.std.specs.Prelude.{◌≡◌, ◌⊎◌, ◌+◌, ◌-◌, ◌*◌, ◌/◌, ◌%◌, ◌^◌, ◌<◌, ◌≤◌, List, ℕ, min, IfErr, IfOk, OnOk, IsSome, IsTrue, None, Some, false};
 ghost use Rattle.sasi_host.specs.View.{contents, ReadsAtMost};
 ghost use Rattle.sasi_host.specs.Buffered.{unbuffered_pages};
 ghost use Rattle.sasi_host.specs.Damages.{HasAt, DamageShown, ShowsEnd};
 ghost use Rattle.sasi_host.specs.PageReading.{CanReadOn, HasReadOn};
-ghost use Rattle.sasi_tokentree.specs.Format.{pair_at, entry};
-ghost use Rattle.sasi_tokentree.specs.Damages.{BeginsLeaf, ShowsTreeBy, pair_place};
+ghost use Rattle.sasi_tokentree.specs.Format.{entry, node_header};
+ghost use Rattle.sasi_tokentree.specs.Damages.{BeginsLeaf, IsNodeFrom, ShowsEndOr, ShowsTreeBy, pair_place};
 ghost use Rattle.sasi_tokentree.specs.Heights.{height, bytes_below_root};
-ghost use Rattle.sasi_tokentree.specs.Reads.{NoFalseTreeDamage, NoFalsePairDamage, HasLevels};
-ghost use Rattle.sasi_tokentree.specs.Scans.{HasPassed, ReadsEntry, ReadsFirstPair, ReadsNextPair, IsEntryBuffered};
+ghost use Rattle.sasi_tokentree.specs.Reads.{NoFalseLevelDamage, NoFalseTreeDamage};
+ghost use Rattle.sasi_tokentree.specs.Scans.{HasPassed, ReadsEntry, ReadsFirstPair, ReadsHeader, ReadsNextPair, IsEntryBuffered, entry_cost, header_read};
 
 use crate::node_decode::{ENTRY_BYTES, NODE_HEADER_BYTES, number_in};
 use crate::node_layout::{MAX_ENTRIES, MAX_NODE_BYTES};
+use crate::node_read::first_of_leaf;
 use crate::seek::{count_below, size_below_root};
 use sasi_host::{BufferedFile, Host, PageReader, ReadFault, unexpected_end};
 use sasi_types::{Pair, Token, TreeRef};
@@ -68,8 +68,8 @@ pub fn last_offset(tree: TreeRef, passed: u64) -> u64
     offset_of(start_of(tree), passed - 1)
 }
 
-// The pair with this index, of leaves at this offset.
-fn read_pair<H: Host, P: PageReader>(
+// The entry with this index, of leaves at this offset.
+fn read_entry<H: Host, P: PageReader>(
     host: &mut H,
     pages: &mut P,
     buffered: &mut BufferedFile,
@@ -78,10 +78,8 @@ fn read_pair<H: Host, P: PageReader>(
 ) -> Result<Pair, ReadFault>
     requires read { CanReadOn (P.agrees pages.old) (H.view host.old) buffered.old }
     requires place { at + 17 * index < 2 ^ 63 + 2 ^ 59 }
-    ensures ok { IfOk result (λ pair. (bytes : List ℕ) (entries : List Pair) → contents (H.view host.old) buffered.old.file ≡ Some bytes → HasLevels bytes 0 at entries → index < length entries → pair ≡ pair_at entries index) }
     ensures stands { IfOk result (λ pair. (bytes : List ℕ) → contents (H.view host.old) buffered.old.file ≡ Some bytes → HasAt bytes (at + 4088 * (index / 255) + (8 + 16 * (index % 255))) (entry pair)) }
     ensures damaged { IfErr result (DamageShown (H.view host.old) buffered.old.file (ShowsEnd (at + 4088 * (index / 255) + (8 + 16 * (index % 255)) + 16) buffered.old.file)) }
-    ensures undamaged { IfErr result (NoFalsePairDamage (H.view host.old) buffered.old.file at index) }
     ensures read { HasReadOn (P.agrees pages.new) (P.covers pages.old) (P.covers pages.new) (H.view host.old) (H.view host.new) buffered.old buffered.new }
     ensures page { IfOk result (λ _. buffered.new.page ≡ Some ((at + 4088 * (index / 255) + (8 + 16 * (index % 255)) + 15) / 4096)) }
     ensures causes { ReadsAtMost (unbuffered_pages buffered.old.page (at + 4088 * (index / 255) + (8 + 16 * (index % 255))) 16) (H.view host.old) (H.view host.new) result }
@@ -92,6 +90,61 @@ fn read_pair<H: Host, P: PageReader>(
         token: number_in(&bytes[..8]),
         place: number_in(&bytes[8..16]),
     })
+}
+
+// The first pair of the leaf with this index, of leaves at this offset that have so many pairs.
+fn read_first<H: Host, P: PageReader>(
+    host: &mut H,
+    pages: &mut P,
+    buffered: &mut BufferedFile,
+    at: u64,
+    pairs: u64,
+    leaf: u64,
+) -> Result<Pair, ReadFault>
+    requires read { CanReadOn (P.agrees pages.old) (H.view host.old) buffered.old }
+    requires within { 255 * leaf < pairs }
+    requires place { at + 4088 * leaf < 2 ^ 63 + 2 ^ 60 }
+    ensures stands { IfOk result (λ pair. (bytes : List ℕ) → contents (H.view host.old) buffered.old.file ≡ Some bytes → HasAt bytes (at + 4088 * leaf + 8) (entry pair)) }
+    ensures header { OnOk result ((bytes : List ℕ) → contents (H.view host.old) buffered.old.file ≡ Some bytes → HasAt bytes (at + 4088 * leaf) (node_header 0 (min (pairs - 255 * leaf) 255))) }
+    ensures damaged { IfErr result (DamageShown (H.view host.old) buffered.old.file (ShowsEndOr (at + 4088 * leaf + 24) (λ n. IsNodeFrom n 0 at pairs) buffered.old.file)) }
+    ensures undamaged { IfErr result (NoFalseLevelDamage (H.view host.old) buffered.old.file 0 at pairs) }
+    ensures read { HasReadOn (P.agrees pages.new) (P.covers pages.old) (P.covers pages.new) (H.view host.old) (H.view host.new) buffered.old buffered.new }
+    ensures page { OnOk result (buffered.new.page ≡ Some ((at + 4088 * leaf + 23) / 4096)) }
+    ensures causes { ReadsAtMost (unbuffered_pages buffered.old.page (at + 4088 * leaf) 24) (H.view host.old) (H.view host.new) result }
+{
+    let left = (pairs - MAX_ENTRIES as u64 * leaf).min(MAX_ENTRIES as u64);
+    let place = at + MAX_NODE_BYTES * leaf;
+    let pair = first_of_leaf(host, pages, buffered, place, left as usize)?;
+    Ok(pair)
+}
+
+// The pair with this index, of leaves at this offset that have so many pairs. The first one of a leaf is read with the leaf's
+// header.
+fn read_pair<H: Host, P: PageReader>(
+    host: &mut H,
+    pages: &mut P,
+    buffered: &mut BufferedFile,
+    at: u64,
+    pairs: u64,
+    index: u64,
+) -> Result<Pair, ReadFault>
+    requires read { CanReadOn (P.agrees pages.old) (H.view host.old) buffered.old }
+    requires within { index < pairs }
+    requires place { at + 17 * index < 2 ^ 63 + 2 ^ 59 }
+    ensures stands { IfOk result (λ pair. (bytes : List ℕ) → contents (H.view host.old) buffered.old.file ≡ Some bytes → HasAt bytes (at + 4088 * (index / 255) + (8 + 16 * (index % 255))) (entry pair)) }
+    ensures header { OnOk result ((leaf : ℕ) → index ≡ 255 * leaf → (bytes : List ℕ) → contents (H.view host.old) buffered.old.file ≡ Some bytes → HasAt bytes (at + 4088 * leaf) (node_header 0 (min (pairs - 255 * leaf) 255))) }
+    ensures damaged { IfErr result (DamageShown (H.view host.old) buffered.old.file (ShowsEndOr (at + 4088 * (index / 255) + (8 + 16 * (index % 255)) + 16) (λ n. IsNodeFrom n 0 at pairs) buffered.old.file)) }
+    ensures undamaged { IfErr result (NoFalseLevelDamage (H.view host.old) buffered.old.file 0 at pairs) }
+    ensures read { HasReadOn (P.agrees pages.new) (P.covers pages.old) (P.covers pages.new) (H.view host.old) (H.view host.new) buffered.old buffered.new }
+    ensures page { OnOk result (buffered.new.page ≡ Some ((at + 4088 * (index / 255) + (8 + 16 * (index % 255)) + 15) / 4096)) }
+    ensures causes { ReadsAtMost (unbuffered_pages buffered.old.page (at + 4088 * (index / 255) + (8 + 16 * (index % 255)) - header_read index) (16 + header_read index)) (H.view host.old) (H.view host.new) result }
+{
+    if index % MAX_ENTRIES as u64 == 0 {
+        let first = read_first(host, pages, buffered, at, pairs, index / MAX_ENTRIES as u64)?;
+        return Ok(first);
+    }
+    let pair = read_entry(host, pages, buffered, at, index)?;
+    Ok(pair)
 }
 
 // The pair behind the passed ones.
@@ -105,13 +158,14 @@ pub fn pair_from<H: Host, P: PageReader>(
     requires read { CanReadOn (P.agrees pages.old) (H.view host.old) buffered.old }
     ensures ok { IfOk result (λ found. ReadsNextPair (H.view host.old) buffered.old.file tree passed found.passed found.pair) }
     ensures stands { IfOk result (λ found. ReadsEntry (H.view host.old) buffered.old.file tree found.passed found.pair) }
+    ensures header { IfOk result (λ found. ReadsHeader (H.view host.old) buffered.old.file tree found.passed found.pair) }
     ensures damaged { IfErr result (DamageShown (H.view host.old) buffered.old.file (ShowsTreeBy (λ index. index ≡ passed) buffered.old.file tree)) }
     ensures undamaged { IfErr result (NoFalseTreeDamage (H.view host.old) buffered.old.file tree) }
     ensures read { HasReadOn (P.agrees pages.new) (P.covers pages.old) (P.covers pages.new) (H.view host.old) (H.view host.new) buffered.old buffered.new }
     ensures entry_buffered { IfOk result (λ found. IsEntryBuffered (record { buffered = buffered.new; tree = tree; passed = found.passed }) found.pair) }
     ensures passed { IfOk result (λ found. IsSome found.pair → HasPassed tree found.passed) }
     ensures none { IfOk result (λ found. found.pair ≡ None → (buffered.new ≡ buffered.old) × (found.passed ≡ passed)) }
-    ensures causes { ReadsAtMost (unbuffered_pages buffered.old.page (pair_place tree passed) 16) (H.view host.old) (H.view host.new) result }
+    ensures causes { ReadsAtMost (entry_cost buffered.old.page tree passed) (H.view host.old) (H.view host.new) result }
     ensures some { IfOk result (λ found. IsSome found.pair → found.passed ≡ passed + 1) }
     ensures ended { tree.pairs ≤ passed → (H.view host.new).reads ≡ (H.view host.old).reads }
 {
@@ -121,7 +175,8 @@ pub fn pair_from<H: Host, P: PageReader>(
     if is_too_long(tree) {
         return Err(unexpected_end(host, buffered.file()));
     }
-    let pair = read_pair(host, pages, buffered, start_of(tree), passed)?;
+    let start = start_of(tree);
+    let pair = read_pair(host, pages, buffered, start, tree.pairs, passed)?;
     Ok(ScannedPair {
         pair: Some(pair),
         passed: passed + 1,
@@ -139,6 +194,7 @@ pub fn first_from<H: Host, P: PageReader>(
     requires read { CanReadOn (P.agrees pages.old) (H.view host.old) buffered.old }
     ensures ok { IfOk result (λ found. ReadsFirstPair (H.view host.old) buffered.old.file tree token found.passed found.pair) }
     ensures stands { IfOk result (λ found. ReadsEntry (H.view host.old) buffered.old.file tree found.passed found.pair) }
+    ensures header { IfOk result (λ found. ReadsHeader (H.view host.old) buffered.old.file tree found.passed found.pair) }
     ensures damaged { IfErr result (DamageShown (H.view host.old) buffered.old.file (ShowsTreeBy (BeginsLeaf tree) buffered.old.file tree)) }
     ensures undamaged { IfErr result (NoFalseTreeDamage (H.view host.old) buffered.old.file tree) }
     ensures read { HasReadOn (P.agrees pages.new) (P.covers pages.old) (P.covers pages.new) (H.view host.old) (H.view host.new) buffered.old buffered.new }

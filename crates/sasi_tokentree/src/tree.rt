@@ -2,13 +2,12 @@
 ghost use Rattle.std.specs.Prelude.{◌≡◌, ◌+◌, ◌-◌, ◌*◌, ◌^◌, ◌<◌, ◌≤◌, ℕ, [], IfErr, IfOk, IsSome, OnErr, None};
 ghost use Rattle.sasi_host.specs.declared.name.FileName.{FileName};
 ghost use Rattle.sasi_host.specs.View.{ReadsAtMost};
-ghost use Rattle.sasi_host.specs.Buffered.{unbuffered_pages};
 ghost use Rattle.sasi_host.specs.Damages.{DamageShown};
 ghost use Rattle.sasi_host.specs.PageReading.{CanReadOn, HasReadOn};
 ghost use Rattle.sasi_tokentree.specs.Heights.{height};
 ghost use Rattle.sasi_tokentree.specs.Damages.{BeginsLeaf, ShowsTreeBy, pair_place};
 ghost use Rattle.sasi_tokentree.specs.Reads.{NoFalseTreeDamage};
-ghost use Rattle.sasi_tokentree.specs.Scans.{HasPassed, ReadsEntry, ReadsFirstPair, ReadsNextPair, IsEntryBuffered};
+ghost use Rattle.sasi_tokentree.specs.Scans.{HasPassed, ReadsEntry, ReadsFirstPair, ReadsHeader, ReadsNextPair, IsEntryBuffered, entry_cost};
 
 use crate::pair_scan::{first_from, last_offset, pair_from};
 use sasi_host::{BufferedFile, FileName, Host, PageReader, ReadFault};
@@ -65,6 +64,8 @@ impl Tree {
         ensures ok { IfOk result (λ found. ReadsFirstPair (H.view host.old) self.old.buffered.file self.old.tree token self.new.passed found) }
         // In any file it is an entry of a leaf.
         ensures stands { IfOk result (λ found. ReadsEntry (H.view host.old) self.old.buffered.file self.old.tree self.new.passed found) }
+        // The first one of a leaf stands behind the leaf's header.
+        ensures header { IfOk result (λ found. ReadsHeader (H.view host.old) self.old.buffered.file self.old.tree self.new.passed found) }
         ensures damaged { IfErr result (DamageShown (H.view host.old) self.old.buffered.file (ShowsTreeBy (BeginsLeaf self.old.tree) self.old.buffered.file self.old.tree)) }
         ensures undamaged { IfErr result (NoFalseTreeDamage (H.view host.old) self.old.buffered.file self.old.tree) }
         ensures read { HasReadOn (P.agrees pages.new) (P.covers pages.old) (P.covers pages.new) (H.view host.old) (H.view host.new) self.old.buffered self.new.buffered }
@@ -89,12 +90,14 @@ impl Tree {
         ensures ok { IfOk result (λ found. ReadsNextPair (H.view host.old) self.old.buffered.file self.old.tree self.old.passed self.new.passed found) }
         // In any file it is an entry of a leaf.
         ensures stands { IfOk result (λ found. ReadsEntry (H.view host.old) self.old.buffered.file self.old.tree self.new.passed found) }
+        // The first one of a leaf stands behind the leaf's header.
+        ensures header { IfOk result (λ found. ReadsHeader (H.view host.old) self.old.buffered.file self.old.tree self.new.passed found) }
         ensures damaged { IfErr result (DamageShown (H.view host.old) self.old.buffered.file (ShowsTreeBy (λ index. index ≡ self.old.passed) self.old.buffered.file self.old.tree)) }
         ensures undamaged { IfErr result (NoFalseTreeDamage (H.view host.old) self.old.buffered.file self.old.tree) }
         ensures read { HasReadOn (P.agrees pages.new) (P.covers pages.old) (P.covers pages.new) (H.view host.old) (H.view host.new) self.old.buffered self.new.buffered }
         ensures entry_buffered { IfOk result (IsEntryBuffered self.new) }
         ensures passed { IfOk result (λ found. IsSome found → HasPassed self.new.tree self.new.passed) }
-        ensures causes { ReadsAtMost (unbuffered_pages self.old.buffered.page (pair_place self.old.tree self.old.passed) 16) (H.view host.old) (H.view host.new) result }
+        ensures causes { ReadsAtMost (entry_cost self.old.buffered.page self.old.tree self.old.passed) (H.view host.old) (H.view host.new) result }
         ensures tree { self.new.tree ≡ self.old.tree }
         ensures err { OnErr result (self.new.passed ≡ self.old.passed) }
         ensures some { IfOk result (λ found. IsSome found → self.new.passed ≡ self.old.passed + 1) }

@@ -4,7 +4,6 @@ use Rattle.sasi_host.specs.PageReading.{read_of, read_then}
 use Rattle.sasi_types.specs.declared.tree.Pair.{Pair}
 use Rattle.sasi_host.specs.Buffered.{buffered_after}
 use Rattle.sasi_host.proofs.DamageLaws.{shown_before}
-use Rattle.sasi_tokentree.specs.Damages.{pair_place}
 use Rattle.sasi_tokentree.specs.Scans.{ReadsEntry, ReadsNextPair, IsEntryBuffered}
 use Rattle.sasi_tokentree.proofs.EntryPages.{entry_pages}
 use Rattle.sasi_dataread.proofs.Pairs.{none_left}
@@ -63,14 +62,14 @@ pub returns-in_err-next-clause-causes : goal.returns-in_err-next-clause-causes
 returns-in_err-next-clause-causes g c =
     let p = err_from_is_err_and c.from_residual.result c.from_residual.ensures.1 in
     rw (p.1, p.2) (fault_reads _ _ _ 2052 c.in_err-next.field-0.0 (omega
-    (arith, entry_pages c.args.tree.now.buffered.page (pair_place c.args.tree.now.tree c.args.tree.now.passed))) c.in_err-next.ensures.causes)
+    (arith, entry_pages c.args.tree.now.buffered.page c.args.tree.now.tree c.args.tree.now.passed)) c.in_err-next.ensures.causes)
 
 pub returns-in-None-clause-buffered : goal.returns-in-None-clause-buffered
 returns-in-None-clause-buffered g c = buffered_after c.args.buffered.now _ _ c.next.ensures.read.changes c.requires.buffered
 
 pub returns-in-None-clause-causes : goal.returns-in-None-clause-causes
 returns-in-None-clause-causes g c = reads_within _ _ _ 2052 (Ok None)
-    (omega (arith, entry_pages c.args.tree.now.buffered.page (pair_place c.args.tree.now.tree c.args.tree.now.passed)))
+    (omega (arith, entry_pages c.args.tree.now.buffered.page c.args.tree.now.tree c.args.tree.now.passed))
     (ok_reads _ _ _ _ None c.in_ok-next.ensures.causes)
 
 pub returns-in-None-clause-reads : goal.returns-in-None-clause-reads
@@ -92,7 +91,7 @@ returns-in_err-key-clause-causes g c =
     let p = err_from_is_err_and c.from_residual-in_err-key.result c.from_residual-in_err-key.ensures.1 in
     rw (p.1, p.2) (fault_reads _ _ 2052 2052 c.in_err-key.field-0.0 (omega arith)
     (reads_on _ _ _ _ 2050 2052 _ (Err c.in_err-key.field-0.0)
-    (omega (arith, entry_pages c.args.tree.now.buffered.page (pair_place c.args.tree.now.tree c.args.tree.now.passed))) c.in_ok-next.ensures.causes
+    (omega (arith, entry_pages c.args.tree.now.buffered.page c.args.tree.now.tree c.args.tree.now.passed)) c.in_ok-next.ensures.causes
     c.in_err-key.ensures.causes))
 
 pub returns-clause-pairs_buffered : goal.returns-clause-pairs_buffered
@@ -101,7 +100,7 @@ returns-clause-pairs_buffered g c = buffered_after c.next.new.self.buffered _ _ 
 pub returns-clause-causes : goal.returns-clause-causes
 returns-clause-causes g c =
     ok_reads _ _ 2052 _ _ (reads_on _ _ _ _ 2050 2052 _ _
-    (omega (arith, entry_pages c.args.tree.now.buffered.page (pair_place c.args.tree.now.tree c.args.tree.now.passed))) c.in_ok-next.ensures.causes
+    (omega (arith, entry_pages c.args.tree.now.buffered.page c.args.tree.now.tree c.args.tree.now.passed)) c.in_ok-next.ensures.causes
     c.in_ok-key.ensures.causes)
 
 pub returns-clause-reads : goal.returns-clause-reads

@@ -3,12 +3,12 @@ use Rattle.std.proofs.lemmas.Result.{err_from_is_err_and}
 use Rattle.sasi_host.specs.PageReading.{reads_nothing, reads_then}
 use Rattle.sasi_host.specs.declared.name.FileName.{FileName}
 use Rattle.sasi_host.specs.Damages.{DamageShown, TellsSize}
-use Rattle.sasi_tokentree.specs.Damages.{BeginsLeaf, pair_place}
+use Rattle.sasi_tokentree.specs.Damages.{BeginsLeaf}
 use Rattle.sasi_tokentree.specs.Heights.{height}
 use Rattle.sasi_tokentree.proofs.EntryPages.{entry_pages}
 use Rattle.sasi_tokentree.proofs.AfterRead.{reads_still, tree_shown_more, tree_shown_still}
 use Rattle.sasi_host.specs.CauseLaws.{reads_on, ok_reads}
-use Rattle.sasi_tokentree.proofs.LeafPairs.{begins_leaf, long_spares, long_shown, leaves_shown, gave_entry, level_spares, tree_spares_before, tree_stands_at, count_is, no_pairs, takes_none}
+use Rattle.sasi_tokentree.proofs.LeafPairs.{begins_leaf, long_spares, long_shown, leaves_shown, gave_entry, gave_header, level_spares, tree_spares_before, tree_stands_at, count_is, no_pairs, takes_none}
 use Rattle.sasi_tokentree.proofs.pair_scan.first_from.Goals as goal
 
 pub returns-then-tree-eq0-clause-ok : goal.returns-then-tree-eq0-clause-ok
@@ -35,6 +35,9 @@ returns-in_err-below-clause-damaged g c =
 
 pub returns-clause-stands : goal.returns-clause-stands
 returns-clause-stands g c = gave_entry _ _ c.args.buffered.now.file _ c.args.tree _ _ c.count_below.ensures.read.changes c.count_below.ensures.read.file c.in_ok-found.ensures.stands
+
+pub returns-clause-header : goal.returns-clause-header
+returns-clause-header g c = gave_header _ _ c.args.buffered.now.file _ c.args.tree _ _ c.count_below.ensures.read.changes c.count_below.ensures.read.file c.in_ok-found.ensures.header
 
 pub returns-in_err-below-clause-undamaged : goal.returns-in_err-below-clause-undamaged
 returns-in_err-below-clause-undamaged g c =
@@ -72,13 +75,13 @@ returns-clause-ok g c bytes pairs is has =
 pub returns-in_err-found-clause-causes : goal.returns-in_err-found-clause-causes
 returns-in_err-found-clause-causes g c most le =
     let p = err_from_is_err_and c.from_residual-in_err-found.result c.from_residual-in_err-found.ensures.1 in
-    let two = entry_pages c.count_below.new.buffered.page (pair_place c.args.tree c.in_ok-below.below.count) in
+    let two = entry_pages c.count_below.new.buffered.page c.args.tree c.in_ok-below.below.count in
     rw (p.1, p.2) (reads_on _ _ _ (2 * height most c.args.tree.pairs) _ (2 * height most c.args.tree.pairs + 2) c.in_ok-below.below
     (Err c.in_err-found.field-0.0) (omega (arith, two)) (c.in_ok-below.ensures.causes most le) c.in_err-found.ensures.causes)
 
 pub returns-clause-causes : goal.returns-clause-causes
 returns-clause-causes g c most le =
-    let two = entry_pages c.count_below.new.buffered.page (pair_place c.args.tree c.in_ok-below.below.count) in
+    let two = entry_pages c.count_below.new.buffered.page c.args.tree c.in_ok-below.below.count in
     ok_reads _ _ _ c.in_ok-found.found _ (reads_on _ _ _ (2 * height most c.args.tree.pairs) _ (2 * height most c.args.tree.pairs + 2)
     c.in_ok-below.below (Ok c.in_ok-found.found) (omega (arith, two)) (c.in_ok-below.ensures.causes most le) c.in_ok-found.ensures.causes)
 

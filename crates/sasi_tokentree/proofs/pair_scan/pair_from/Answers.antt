@@ -4,7 +4,7 @@ use Rattle.sasi_host.specs.PageReading.{reads_nothing}
 use Rattle.sasi_host.specs.declared.name.FileName.{FileName}
 use Rattle.sasi_host.specs.Damages.{DamageShown, TellsSize}
 use Rattle.sasi_host.specs.CauseLaws.{fault_reads, ok_reads}
-use Rattle.sasi_tokentree.proofs.LeafPairs.{long_spares, long_shown, pair_spares, pair_shown, gives_entry, near_entry, tree_stands_at, count_is, takes_pair, takes_none}
+use Rattle.sasi_tokentree.proofs.LeafPairs.{long_spares, long_shown, level_spares, pair_shown, pair_is, gives_entry, gives_header, near_entry, tree_stands_at, count_is, takes_pair, takes_none}
 use Rattle.sasi_tokentree.proofs.pair_scan.pair_from.Goals as goal
 
 pub returns-then-passed-tree-clause-ok : goal.returns-then-passed-tree-clause-ok
@@ -19,9 +19,9 @@ returns-then-is_too_long-clause-undamaged g c =
 pub returns-in_err-pair-clause-undamaged : goal.returns-in_err-pair-clause-undamaged
 returns-in_err-pair-clause-undamaged g c =
     let p = err_from_is_err_and c.from_residual.result c.from_residual.ensures.1 in
-    rw (p.1, p.2) (pair_spares (g.H.Host.view c.args.host.now) c.args.buffered.now.file c.args.tree c.args.passed c.start_of.result
+    rw (p.1, p.2) (level_spares (g.H.Host.view c.args.host.now) c.args.buffered.now.file c.args.tree c.start_of-start.result
     c.in_err-pair.field-0.0 (λ bytes is. (g.met.H.Host.sound c.args.host.now).fits c.args.buffered.now.file bytes is) (omega arith)
-    c.start_of.ensures.is c.in_err-pair.ensures.undamaged)
+    c.start_of-start.ensures.is c.in_err-pair.ensures.undamaged)
 
 pub returns-then-is_too_long-clause-damaged : goal.returns-then-is_too_long-clause-damaged
 returns-then-is_too_long-clause-damaged g c =
@@ -33,30 +33,34 @@ returns-then-is_too_long-clause-damaged g c =
 pub returns-in_err-pair-clause-damaged : goal.returns-in_err-pair-clause-damaged
 returns-in_err-pair-clause-damaged g c =
     let p = err_from_is_err_and c.from_residual.result c.from_residual.ensures.1 in
-    rw (p.1, p.2) (pair_shown (λ index. index ≡ c.args.passed) (g.H.Host.view c.args.host.now) c.args.buffered.now.file c.args.tree c.start_of.result c.args.passed c.in_err-pair.field-0.0
-    refl (omega arith) c.start_of.ensures.is c.in_err-pair.ensures.damaged)
+    rw (p.1, p.2) (pair_shown (λ index. index ≡ c.args.passed) (g.H.Host.view c.args.host.now) c.args.buffered.now.file c.args.tree c.start_of-start.result c.args.passed c.in_err-pair.field-0.0
+    refl (omega arith) c.start_of-start.ensures.is c.in_err-pair.ensures.damaged)
 
 pub returns-clause-stands : goal.returns-clause-stands
-returns-clause-stands g c = gives_entry (g.H.Host.view c.args.host.now) c.args.buffered.now.file c.args.tree c.start_of.result c.args.passed
-    c.in_ok-pair.pair c.start_of.ensures.is (omega arith) (omega arith) (omega arith) c.in_ok-pair.ensures.stands
+returns-clause-stands g c = gives_entry (g.H.Host.view c.args.host.now) c.args.buffered.now.file c.args.tree c.start_of-start.result c.args.passed
+    c.in_ok-pair.pair c.start_of-start.ensures.is (omega arith) (omega arith) (omega arith) c.in_ok-pair.ensures.stands
+
+pub returns-clause-header : goal.returns-clause-header
+returns-clause-header g c = gives_header (g.H.Host.view c.args.host.now) c.args.buffered.now.file c.args.tree c.start_of-start.result c.args.passed
+    c.in_ok-pair.pair c.start_of-start.ensures.is c.in_ok-pair.ensures.header
 
 pub returns-clause-ok : goal.returns-clause-ok
 returns-clause-ok g c bytes pairs is has =
     let short = (g.met.H.Host.sound c.args.host.now).fits c.args.buffered.now.file bytes is in
-    let stands = tree_stands_at bytes c.args.tree pairs c.start_of.result has (omega arith) short c.start_of.ensures.is in
+    let stands = tree_stands_at bytes c.args.tree pairs c.start_of-start.result has (omega arith) short c.start_of-start.ensures.is in
     let within : c.args.passed < length pairs = omega (arith, count_is bytes c.args.tree pairs has) in
-    takes_pair pairs c.args.passed c.in_ok-pair.pair within (c.in_ok-pair.ensures.ok bytes pairs is stands within)
+    takes_pair pairs c.args.passed c.in_ok-pair.pair within (pair_is bytes c.start_of-start.result c.args.passed pairs c.in_ok-pair.pair stands within (omega arith) (omega arith) (c.in_ok-pair.ensures.stands bytes is))
 
 pub returns-clause-entry_buffered : goal.returns-clause-entry_buffered
-returns-clause-entry_buffered g c = near_entry c.read_pair.new.buffered.page c.args.tree c.start_of.result c.args.passed c.start_of.ensures.is c.in_ok-pair.ensures.page
+returns-clause-entry_buffered g c = near_entry c.read_pair.new.buffered.page c.args.tree c.start_of-start.result c.args.passed c.start_of-start.ensures.is c.in_ok-pair.ensures.page
 
 pub returns-in_err-pair-clause-causes : goal.returns-in_err-pair-clause-causes
 returns-in_err-pair-clause-causes g c =
     let p = err_from_is_err_and c.from_residual.result c.from_residual.ensures.1 in
-    rw (p.1, p.2) (fault_reads _ _ _ _ c.in_err-pair.field-0.0 (omega arith) (rw c.start_of.ensures.is at c.in_err-pair.ensures.causes))
+    rw (p.1, p.2) (fault_reads _ _ _ _ c.in_err-pair.field-0.0 (omega arith) (rw c.start_of-start.ensures.is at c.in_err-pair.ensures.causes))
 
 pub returns-clause-causes : goal.returns-clause-causes
-returns-clause-causes g c = ok_reads _ _ _ c.in_ok-pair.pair _ (rw c.start_of.ensures.is at c.in_ok-pair.ensures.causes)
+returns-clause-causes g c = ok_reads _ _ _ c.in_ok-pair.pair _ (rw c.start_of-start.ensures.is at c.in_ok-pair.ensures.causes)
 
 pub returns-then-passed-tree-clause-read : goal.returns-then-passed-tree-clause-read
 returns-then-passed-tree-clause-read g c = reads_nothing _ _ _ _ c.requires.read.agrees c.requires.read.buffered

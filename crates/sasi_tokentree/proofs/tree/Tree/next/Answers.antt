@@ -2,11 +2,11 @@ use Rattle.std.proofs.Common.{◌≡◌, arith, Ok, ℕ, ◌∙◌, ap, subst, E
 use Rattle.std.proofs.lemmas.Result.{err_from_is_err_and}
 use Rattle.sasi_host.specs.View.{ReadsAtMost}
 use Rattle.sasi_host.specs.Damages.{DamageShown}
-use Rattle.sasi_host.specs.Buffered.{Buffered, unbuffered_pages}
+use Rattle.sasi_host.specs.Buffered.{Buffered}
 use Rattle.sasi_tokentree.specs.declared.pair_scan.ScannedPair.{ScannedPair}
-use Rattle.sasi_tokentree.specs.Damages.{ShowsTreeBy, pair_place}
+use Rattle.sasi_tokentree.specs.Damages.{ShowsTreeBy}
 use Rattle.sasi_tokentree.specs.Reads.{NoFalseTreeDamage}
-use Rattle.sasi_tokentree.specs.Scans.{ReadsEntry, ReadsNextPair, PairScan}
+use Rattle.sasi_tokentree.specs.Scans.{ReadsEntry, ReadsHeader, ReadsNextPair, PairScan, entry_cost}
 use Rattle.sasi_host.specs.CauseLaws.{fault_reads, ok_reads}
 use Rattle.sasi_tokentree.proofs.tree.Tree.next.Goals as goal
 
@@ -23,13 +23,13 @@ pub returns-in_err-found-clause-causes : goal.returns-in_err-found-clause-causes
 returns-in_err-found-clause-causes g c =
     let p = err_from_is_err_and c.from_residual.result c.from_residual.ensures.1 in
     rw (p.1, p.2) (fault_reads _ _ _ _ c.in_err-found.field-0.0 (omega arith)
-    (subst (λ (h : PairScan). ReadsAtMost {T = ScannedPair} (unbuffered_pages h.buffered.page (pair_place h.tree h.passed) 16) (g.H.Host.view c.args.host.now)
+    (subst (λ (h : PairScan). ReadsAtMost {T = ScannedPair} (entry_cost h.buffered.page h.tree h.passed) (g.H.Host.view c.args.host.now)
     (g.H.Host.view c.pair_from.new.host) (Err c.in_err-found.field-0.0)) c.self.view_is c.in_err-found.ensures.causes))
 
 pub returns-clause-causes : goal.returns-clause-causes
 returns-clause-causes g c =
     ok_reads _ _ _ c.in_ok-found.found _
-    (subst (λ (h : PairScan). ReadsAtMost (unbuffered_pages h.buffered.page (pair_place h.tree h.passed) 16) (g.H.Host.view c.args.host.now)
+    (subst (λ (h : PairScan). ReadsAtMost (entry_cost h.buffered.page h.tree h.passed) (g.H.Host.view c.args.host.now)
     (g.H.Host.view c.pair_from.new.host) (Ok c.in_ok-found.found)) c.self.view_is c.in_ok-found.ensures.causes)
 
 pub returns-clause-none : goal.returns-clause-none
@@ -47,3 +47,7 @@ returns-in_err-found-clause-damaged g c =
 pub returns-clause-stands : goal.returns-clause-stands
 returns-clause-stands g c = subst (λ (h : PairScan). ReadsEntry (g.H.Host.view c.args.host.now) h.buffered.file h.tree c.in_ok-found.found.passed
     c.in_ok-found.found.pair) c.self.view_is c.in_ok-found.ensures.stands
+
+pub returns-clause-header : goal.returns-clause-header
+returns-clause-header g c = subst (λ (h : PairScan). ReadsHeader (g.H.Host.view c.args.host.now) h.buffered.file h.tree c.in_ok-found.found.passed
+    c.in_ok-found.found.pair) c.self.view_is c.in_ok-found.ensures.header
