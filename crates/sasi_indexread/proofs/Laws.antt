@@ -67,7 +67,7 @@ entries_fit at [] all lt = tt
 entries_fit at (one ∷ others) all lt =
     let next = at + length (tree_bytes at one.1) in
     let both = length-append (tree_bytes at one.1) (trees_bytes next others) in
-    (entry_fits one.0 (tree_ref at one.1) all.0.short (omega (arith, root_small at one.1, both, lt)) (omega (arith, pairs_few at one.1, both, lt)), entries_fit next others all.1 (omega (arith, both, lt)))
+    (entry_fits one.0 (tree_ref at one.1) all.0.short (omega (arith, root_small at one.1, both, lt)) (omega (arith, pairs_few at one.1, both, lt)) (omega (arith, all.0.some)), entries_fit next others all.1 (omega (arith, both, lt)))
 
 pub terms_same : (at : ℕ) (terms : List TermPairs) → terms_of (entries_from at terms) ≡ terms_in terms
 terms_same at [] = refl

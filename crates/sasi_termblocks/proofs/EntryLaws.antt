@@ -1,13 +1,16 @@
 -- The bytes of entries that fit.
-use Rattle.std.proofs.Common.{◌≡◌, ℕ, ◌+◌, ◌*◌, ◌^◌, ◌<◌, ◌≤◌, List, [], ◌∷◌, ◌++◌, length, Option, Some, None, refl, sym, ap, subst, arith, length-append}
+use Rattle.std.proofs.Common.{◌≡◌, ℕ, ◌+◌, ◌*◌, ◌^◌, ◌<◌, ◌≤◌, List, [], ◌∷◌, ◌++◌, length, Option, Some, None, refl, sym, ap, subst, arith, rules, length-append}
+use Rattle.std.specs.Prelude.{nat_lt}
 use Rattle.std.specs.Int.{to_be_bytes, w8, w16, w64}
 use Rattle.sasi_types.specs.declared.tree.Pair.{Pair}
 use Rattle.sasi_types.specs.declared.tree.TreeRef.{TreeRef}
 use Rattle.sasi_host.specs.Names.{Bytes}
 use Rattle.sasi_formats.specs.Formats.{Fits, encoded, encoded_items}
-use Rattle.sasi_formats.proofs.Fitting.{fits_range, number_fits, range_fits}
+use Rattle.sasi_host.specs.declared.damage.FormatRule.TheVariants as rule
+use Rattle.sasi_formats.specs.Fields.{number}
+use Rattle.sasi_formats.proofs.Fitting.{checked_fits, fits_range, number_fits, range_fits}
 use Rattle.sasi_termblocks.specs.declared.term_entry.TermEntry.{TermEntry}
-use Rattle.sasi_termblocks.specs.Entries.{Postings, in_tree, pair, pairs_of, pointer, postings, term, term_entry}
+use Rattle.sasi_termblocks.specs.Entries.{Postings, in_tree, pair, pair_count, pairs_of, pointer, postings, term, term_entry}
 
 -- a term that fits is short
 pub term_short : (bytes : Bytes) → Fits term bytes → length bytes ≤ 1024
@@ -69,9 +72,11 @@ pointer_small least place le = omega (arith, le, length-append (encoded term lea
 pub short_term : (t : Bytes) → length t ≤ 1024 → Fits term t
 short_term t le = (range_fits w16 0 1024 (length t) (omega (arith, le)) (omega arith) le, refl)
 
-pub tree_fits : (list : TreeRef) → list.root < 2 ^ 64 → list.pairs < 2 ^ 64 → Fits postings (Some list, None)
-tree_fits list root pairs = (((number_fits w8 1 (omega arith), refl), (((number_fits w64 list.root root, number_fits w64 list.pairs pairs), refl), refl)), refl)
+pub tree_fits : (list : TreeRef) → list.root < 2 ^ 64 → list.pairs < 2 ^ 64 → 0 < list.pairs → Fits postings (Some list, None)
+tree_fits list root pairs some =
+    let count : Fits pair_count list.pairs = checked_fits rule.Number 8 (λ n. nat_lt 0 n) (number w64) list.pairs (number_fits w64 list.pairs pairs) (search (rules, some)) in
+    (((number_fits w8 1 (omega arith), refl), (((number_fits w64 list.root root, count), refl), refl)), refl)
 
--- a short term with a tree has an entry
-pub entry_fits : (t : Bytes) (list : TreeRef) → length t ≤ 1024 → list.root < 2 ^ 64 → list.pairs < 2 ^ 64 → Fits term_entry (record { term = t; list = Some list; inline = None })
-entry_fits t list le root pairs = ((short_term t le, tree_fits list root pairs), refl)
+-- a short term with a tree of some pairs has an entry
+pub entry_fits : (t : Bytes) (list : TreeRef) → length t ≤ 1024 → list.root < 2 ^ 64 → list.pairs < 2 ^ 64 → 0 < list.pairs → Fits term_entry (record { term = t; list = Some list; inline = None })
+entry_fits t list le root pairs some = ((short_term t le, tree_fits list root pairs some), refl)

@@ -40,6 +40,13 @@ pair = mapped (λ p. record { token = p.0; place = p.1 }) (λ p. (p.token, p.pla
 abbrev pub tree : Format TreeRef
 tree = mapped (λ t. record { root = t.0; pairs = t.1 }) (λ t. (t.root, t.pairs)) (λ _. refl) (number w64 & number w64)
 
+-- the tree of a term, which has a pair at least
+abbrev pub pair_count : Format ℕ
+pair_count = checked rule.Number 8 (λ n. nat_lt 0 n) (number w64)
+
+abbrev pub term_tree : Format TreeRef
+term_tree = mapped (λ t. record { root = t.0; pairs = t.1 }) (λ t. (t.root, t.pairs)) (λ _. refl) (number w64 & pair_count)
+
 -- a count of one byte, and one to five pairs, which rise
 abbrev pub few_pairs : Format (List Pair)
 few_pairs = Counted (in_range w8 1 5) (λ before. checked rule.Order 8 (is_behind (last before)) pair)
@@ -57,7 +64,7 @@ pairs_of None = []
 pairs_of (Some pairs) = pairs
 
 abbrev pub in_tree : Format Postings
-in_tree = mapped (λ t. (Some t, None)) (λ p. tree_of p.0) (λ _. refl) tree
+in_tree = mapped (λ t. (Some t, None)) (λ p. tree_of p.0) (λ _. refl) term_tree
 
 abbrev pub inline : Format Postings
 inline = mapped (λ pairs. (None, Some pairs)) (λ p. pairs_of p.1) (λ _. refl) few_pairs

@@ -5,7 +5,7 @@ ghost use Rattle.sasi_host.specs.declared.damage.FormatRule.TheVariants as rule;
 ghost use Rattle.sasi_formats.specs.Reader.{outcome_as, read};
 ghost use Rattle.sasi_formats.specs.Fields.{checked, last};
 ghost use Rattle.sasi_formats.specs.Gives.{Gives, GivesBytes};
-ghost use Rattle.sasi_termblocks.specs.Entries.{few_pairs, flags, is_behind, pair, postings, term, term_entry, tree};
+ghost use Rattle.sasi_termblocks.specs.Entries.{few_pairs, flags, is_behind, pair, pair_count, postings, term, term_entry, term_tree};
 ghost use Rattle.sasi_termblocks.specs.Descents.{is_place, pointer_to};
 
 use crate::block_encode::BLOCK_BYTES;
@@ -113,12 +113,25 @@ fn read_flags(reader: &mut FieldReader) -> Result<u8, FormatFault>
     Ok(tag)
 }
 
+// Reads the reference of a term's tree.
 fn read_tree(reader: &mut FieldReader) -> Result<TreeRef, FormatFault>
-    ensures { Gives (read tree reader.old) result reader.new }
+    ensures { Gives (read term_tree reader.old) result reader.new }
 {
     let root = read_u64(reader)?;
-    let pairs = read_u64(reader)?;
+    let pairs = read_pair_count(reader)?;
     Ok(TreeRef { root, pairs })
+}
+
+// Reads a number of pairs, one at least.
+fn read_pair_count(reader: &mut FieldReader) -> Result<u64, FormatFault>
+    ensures { Gives (read pair_count reader.old) result reader.new }
+{
+    let start = FieldStart::of(reader);
+    let count = read_u64(reader)?;
+    if count == 0 {
+        return Err(start.broken(FormatRule::Number, 8));
+    }
+    Ok(count)
 }
 
 // Reads one to five pairs.
