@@ -35,6 +35,7 @@ fn entry_of(rt: &impl Abort, bytes: Vec<u8>, list: TreeRef) -> TermEntry
     ensures { Fits term_entry result }
 {
     assert!(rt; bytes.len() <= 1024);
+    assert!(rt; list.pairs > 0);
     TermEntry {
         term: Term::new(bytes),
         list: Some(list),
