@@ -8,8 +8,7 @@ use std::str;
 
 /// A name.
 pub fn add_name(line: &mut String, name: &[u8]) -> Result<(), AllocError> {
-    line.push(' ')?;
-    line.push_str(str::from_utf8(name).unwrap_or("?"))
+    write!(line, " {}", str::from_utf8(name).unwrap_or("?"))
 }
 
 /// A name after words.

@@ -37,11 +37,16 @@ fn add_piece(line: &mut String, alloc: Global, text: &str) -> Result<(), AllocEr
     }
 }
 
+// The fault of a text that has no statement.
+fn fault_of(alloc: Global, text: &str) -> Option<ParseFault> {
+    parse(alloc, text).err()
+}
+
 // Whether the text has a statement.
 fn add_parsed(line: &mut String, alloc: Global, text: &str) -> Result<(), AllocError> {
-    match parse(alloc, text) {
-        Ok(_) => line.push_str("a statement"),
-        Err(fault) => add_fault(line, fault),
+    match fault_of(alloc, text) {
+        None => line.push_str("a statement"),
+        Some(fault) => add_fault(line, fault),
     }
 }
 
