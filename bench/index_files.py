@@ -1,5 +1,5 @@
 #!/usr/bin/env python3
-"""Writes an index file of 1,000,000 postings over 100,000 terms, and searches it for 10,000 terms, 1,000 prefixes and 10 infixes.
+"""Writes an index file of 1,000,000 postings over 100,000 terms, and searches it for 10,000 terms, 1,000 prefixes, 1,000 ranges and 10 infixes.
 
 The program is crates/sasi_indexbench, which `rt run` in its folder builds. Each step is a process of its own: the table has its
 seconds of processor time and by the clock, the pairs that it gives, the pages of 4,096 bytes that it reads, and the most memory
@@ -13,7 +13,7 @@ import tempfile
 import time
 
 TERMS, PAIRS = 100000, 10
-ROUNDS = [('terms', 10000), ('prefixes', 1000), ('infixes', 10)]
+ROUNDS = [('terms', 10000), ('prefixes', 1000), ('ranges', 1000), ('infixes', 10)]
 
 
 def child(work):
@@ -41,7 +41,7 @@ def term(number):
 
 def asked(what, turn):
     number = turn * 7919 % TERMS
-    return {'terms': term(number), 'prefixes': term(number)[:7], 'infixes': term(number)[4:]}[what]
+    return {'terms': term(number), 'prefixes': term(number)[:7], 'ranges': term(number)[:7], 'infixes': term(number)[4:]}[what]
 
 
 def fill(path):
@@ -60,7 +60,7 @@ def ask(path, what, count):
     for turn in range(count):
         text = asked(what, turn)
         # The pattern is part of the statement: only so does sqlite3 look up a prefix in the index.
-        test = {'terms': "= '%s'", 'prefixes': "LIKE '%s%%'", 'infixes': "LIKE '%%%s%%'"}[what] % text
+        test = {'terms': "= '{0}'", 'prefixes': "LIKE '{0}%'", 'ranges': "BETWEEN '{0}0' AND '{0}9'", 'infixes': "LIKE '%{0}%'"}[what].format(text)
         given += len(db.execute('SELECT k FROM t INDEXED BY i WHERE a ' + test).fetchall())
     os.write(1, b'%d' % given)
 

@@ -1,6 +1,6 @@
 //! Measures an index file in a real folder. The arguments are the folder, the number of terms, the pairs of each, and what is
-//! done: write makes the file; terms, prefixes and infixes search a file that is there, 10,000, 1,000 and 10 times; and try writes
-//! a file and looks up 100 of its terms. It prints how many pairs were given and how many pages were read.
+//! done: write makes the file; terms, prefixes, ranges and infixes search a file that is there, 10,000, 1,000, 1,000 and 10 times;
+//! and try writes a file and looks up 100 of its terms. It prints how many pairs were given and how many pages were read.
 #![tactic(auto)]
 
 mod filled;
@@ -18,6 +18,7 @@ fn round(what: &str) -> Option<Round> {
     match what {
         "terms" => Some(Round::Terms { asked: 10_000 }),
         "prefixes" => Some(Round::Prefixes { asked: 1_000 }),
+        "ranges" => Some(Round::Ranges { asked: 1_000 }),
         "infixes" => Some(Round::Infixes { asked: 10 }),
         "try" => Some(Round::Terms { asked: 100 }),
         _ => None,

@@ -1,4 +1,4 @@
-// Writes an index file, and searches it for terms, prefixes and infixes.
+// Writes an index file of bigints, and searches it for terms, prefixes, ranges and infixes.
 ghost use Rattle.std.specs.Prelude.{OnOk};
 ghost use Rattle.sasi_indexwrite.specs.Gathered.{AreGathered, AreUpTo};
 
@@ -10,7 +10,7 @@ use sasi_indexread::IndexFile;
 use sasi_indexwrite::write_index;
 use sasi_segments::{Gather, Posting};
 use sasi_terms::Op;
-use sasi_types::{ColumnType, IndexDef, Mode, Name, Pair, Rule};
+use sasi_types::{ColumnType, IndexDef, Mode, Name, Pair};
 use std::alloc::Global;
 
 /// The index file that is measured.
@@ -21,7 +21,7 @@ pub const FILE: FileName = FileName {
     part: 1,
 };
 
-// The term with this number: its eight decimal digits.
+// The term with this number: its eight decimal digits, which are the bytes of a bigint's term.
 fn term_of(number: u64) -> [u8; 8] {
     let mut term = [b'0'; 8];
     let mut left = number;
@@ -79,9 +79,9 @@ fn write(alloc: Global, host: &mut FileHost, gather: Gather) -> Result<(), ReadF
         table: 1,
         name,
         column: 1,
-        kind: ColumnType::Text,
+        kind: ColumnType::BigInt,
         mode: Mode::Prefix,
-        rule: Some(Rule::Whole { fold: false }),
+        rule: None,
     };
     write_index(alloc, host, FILE, &def, gather)
 }
@@ -119,6 +119,19 @@ fn search(
     Ok(count)
 }
 
+// The bigint with this term.
+fn bigint_of(term: [u8; 8]) -> i64 {
+    (u64::from_be_bytes(term) ^ (1 << 63)).cast_signed()
+}
+
+// The range of ten terms from the one with this number on.
+fn ten_from(number: u64) -> Op {
+    Op::Range {
+        least: bigint_of(term_of(number)),
+        greatest: bigint_of(term_of(number.saturating_add(9))),
+    }
+}
+
 /// What a round of searches asks for.
 #[derive(Clone, Copy)]
 pub enum Round {
@@ -126,6 +139,8 @@ pub enum Round {
     Terms { asked: u64 },
     /// So many prefixes of seven digits, which ten terms have.
     Prefixes { asked: u64 },
+    /// So many ranges, each of the ten terms with the same first seven digits.
+    Ranges { asked: u64 },
     /// So many infixes of four digits.
     Infixes { asked: u64 },
 }
@@ -135,14 +150,17 @@ impl Round {
         match self {
             Round::Terms { asked } => asked,
             Round::Prefixes { asked } => asked,
+            Round::Ranges { asked } => asked,
             Round::Infixes { asked } => asked,
         }
     }
 
-    fn op(self) -> Op {
+    // What is asked of the term with this number.
+    fn op(self, number: u64) -> Op {
         match self {
             Round::Terms { .. } => Op::Eq,
             Round::Prefixes { .. } => Op::Prefix,
+            Round::Ranges { .. } => ten_from(number - number % 10),
             Round::Infixes { .. } => Op::Contains,
         }
     }
@@ -153,6 +171,7 @@ fn part(round: Round, term: &[u8; 8]) -> &[u8] {
     match round {
         Round::Terms { .. } => term,
         Round::Prefixes { .. } => &term[..7],
+        Round::Ranges { .. } => &[],
         Round::Infixes { .. } => &term[4..],
     }
 }
@@ -170,7 +189,14 @@ pub fn search_all(
     for turn in 0..round.asked() {
         let number = turn.wrapping_mul(7919).checked_rem(terms).unwrap_or(0);
         let term = term_of(number);
-        let found = search(alloc, host, pages, opened, round.op(), part(round, &term))?;
+        let found = search(
+            alloc,
+            host,
+            pages,
+            opened,
+            round.op(number),
+            part(round, &term),
+        )?;
         given = given.saturating_add(found);
     }
     Ok(given)
