@@ -13,6 +13,9 @@ Counted is each definition that is reached, of the crates here:
 
 A name that stands in a definition counts as used, but where a variable has it.
 
+When a folder stands for a state is a parameter of the headline, so the formats of files aren't reached from it. They are from the clause
+of files: --from sasi_run.specs.Shapes Shapes.
+
     count_definitions.py              the count by crate, module and definition
     count_definitions.py --brief      by crate and module
     count_definitions.py --why NAME   the definitions that lead from the headline to this one
