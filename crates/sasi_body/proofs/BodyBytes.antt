@@ -65,7 +65,7 @@ parts_length key_bytes part =
       length-append (to_be_bytes w16 (length (cells_of part))) entries,
     )
 
--- a body has less than 2^23 bytes
+-- a body has fewer than 2^23 bytes
 pub body_short : (key_bytes : Bytes) (part : Partition) → HasBody key_bytes part → length (body key_bytes part) < 2 ^ 23
 body_short key_bytes part has = omega (arith, has.key_short, has.count.few, cells_length part.deleted [] (cells_of part) has.cells, parts_length key_bytes part)
 

@@ -14,7 +14,7 @@ use sasi_host::FormatRule;
 use sasi_types::{Cell, ColumnType};
 use std::alloc::Global;
 
-// Reads cells of a table whose columns have these types, above a deletion.
+/// Reads cells of a table whose columns have these types, above a deletion.
 #[derive(Drop)]
 pub struct ReadCell<'a> {
     pub types: &'a [ColumnType],

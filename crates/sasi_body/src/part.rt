@@ -20,7 +20,7 @@ use sasi_host::FormatRule;
 use sasi_types::{ColumnType, Key};
 use std::alloc::Global;
 
-// The largest timestamp.
+/// The largest timestamp.
 pub const MAX_TIME: u64 = 1 << 62;
 
 /// Reads the fields of a body, of a table whose columns have these types: the key, the timestamp of the deletion, and the

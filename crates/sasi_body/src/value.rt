@@ -14,7 +14,7 @@ use sasi_host::FormatRule;
 use sasi_types::{ColumnType, Value};
 use std::alloc::{AllocError, Global};
 
-// Reads the tag of a tombstone, or that of a value and the value.
+/// Reads the tag of a tombstone, or that of a value and the value.
 pub fn read_value(
     alloc: Global,
     reader: &mut FieldReader,
@@ -94,7 +94,7 @@ fn value_in(
     Ok(Some(decode_value(alloc, kind, bytes)?))
 }
 
-// Whether the bytes encode a value of the type.
+/// Whether the bytes encode a value of the type.
 pub fn is_value(kind: ColumnType, bytes: &[u8]) -> bool
     ensures { result ≡ is_value kind bytes.now }
 {

@@ -10,7 +10,7 @@ ghost use Rattle.sasi_commitlog.specs.Faults.{IsWithin, IsRecordFault};
 use sasi_formats::{Broken, FormatFault, found};
 use sasi_host::{Damage, FileName, FormatRule, ReadFault};
 
-// The fault of the payload after the gate at this offset, with its offset in the file.
+/// The fault of the payload after the gate at this offset, with its offset in the file.
 pub fn fault_in_file(file: FileName, gate: u64, payload: &[u8], fault: FormatFault) -> ReadFault
     requires offset { gate ≤ 2 ^ 62 }
     requires short { length payload.now ≤ 2 ^ 30 }
@@ -29,7 +29,7 @@ pub fn fault_in_file(file: FileName, gate: u64, payload: &[u8], fault: FormatFau
     }
 }
 
-// The record's length is not that of its content.
+// The damage of a record whose length isn't that of its content.
 fn other_length(file: FileName, gate: u64, payload: &[u8]) -> ReadFault
     requires offset { gate ≤ 2 ^ 62 }
     requires short { length payload.now ≤ 2 ^ 30 }

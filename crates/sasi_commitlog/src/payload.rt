@@ -16,7 +16,7 @@ use sasi_host::FormatRule;
 use sasi_types::{Key, TableNumber, TypeList};
 use std::alloc::{AllocError, Global};
 
-// Appends the number of the table, and the body.
+/// Appends the number of the table, and the body.
 pub fn put_mutation(out: &mut Vec<u8>, mutation: &Mutation) -> Result<(), AllocError>
     requires { HasBody mutation.now.key mutation.now.change }
     ensures { OnOk result (out.new.items ≡ out.old.items ++ payload_of mutation.now) }
@@ -25,7 +25,7 @@ pub fn put_mutation(out: &mut Vec<u8>, mutation: &Mutation) -> Result<(), AllocE
     put_body(out, &mutation.key, &mutation.change)
 }
 
-// Decodes a whole payload.
+/// Decodes a whole payload.
 pub fn read_mutation(
     alloc: Global,
     payload: &[u8],

@@ -18,7 +18,7 @@ use sasi_host::{Host, HostFault, ReadFault};
 use sasi_types::TableTypes;
 use std::alloc::Global;
 
-// Reads the mutation after the next gate. A closed gate has none.
+/// Reads the mutation after the next gate. A closed gate has none.
 pub fn read_next<H: Host>(
     alloc: Global,
     gated: &mut Gated,
@@ -55,7 +55,7 @@ pub fn read_next<H: Host>(
     }
 }
 
-// Appends a mutation at the closed gate.
+/// Appends a mutation at the closed gate.
 pub fn append<H: Host>(
     alloc: Global,
     gated: &mut Gated,

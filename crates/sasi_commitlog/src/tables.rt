@@ -5,7 +5,7 @@ ghost use Rattle.sasi_commitlog.specs.Format.{types_in};
 
 use sasi_types::{TableNumber, TypeList};
 
-// The column types of this table, if the list has the table.
+/// The column types of this table, if the list has the table.
 pub fn types_of(tables: &[(TableNumber, TypeList)], table: TableNumber) -> Option<&TypeList>
     ensures { option_copied result ≡ types_in tables.now table }
 {

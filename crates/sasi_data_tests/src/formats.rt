@@ -1,4 +1,4 @@
-// A text that a format wants, which no format of this repository reads in this way.
+// Fixed bytes that a format expects.
 use sasi_fields::FieldReader;
 use sasi_formats::{FormatFault, expect, found};
 use sasi_host::FormatRule;

@@ -52,7 +52,7 @@ fn file_that_is_given_up_is_gone(rt: HostRuntime) {
     assert!(rt; host.bytes(DATA).is_none());
 }
 
-// A writer whose first partition can't be written, and the fault.
+// A writer whose first push failed.
 fn failed(rt: &impl Abort, alloc: Global, host: &mut MemHost) -> PairWriter
     ensures { IsThere (host_view (seen host.new)) result.file }
 {

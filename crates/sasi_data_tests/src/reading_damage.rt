@@ -101,7 +101,7 @@ fn check_bytes(rt: &impl Abort, alloc: Global, bytes: &[u8], at: usize) {
     }
 }
 
-/// So it is where the last bit of this byte is turned.
+/// Checks the file of one partition where the last bit of this byte is turned.
 fn check_changed(rt: &impl Abort, alloc: Global, at: usize) {
     let byte = ONE.get(at).expect(rt, "a byte");
     let bytes = changed(rt, alloc, &ONE, at, *byte ^ 1);

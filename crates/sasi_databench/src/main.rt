@@ -16,7 +16,7 @@ use sasi_types::TypeList;
 use std::alloc::Global;
 use std::process::ExitCode;
 
-// How many partitions of the file are given, as the last argument asks.
+// Scans the file or looks up each of its keys, as the last argument asks, and gives how many partitions it got.
 fn ask(
     alloc: Global,
     host: &mut FileHost,

@@ -31,7 +31,7 @@ use Rattle.sasi_host.specs.CauseLaws.{reads_on}
 
 -- ---- what is read
 
--- the body at a place is the only one there
+-- the body at an offset is the only one there
 pub sized_same : (bytes : Bytes) (at : ℕ) (a b : Bytes) → length a < 2 ^ 32 → length b < 2 ^ 32 → HasAt bytes at (length_prefixed a) → HasAt bytes at (length_prefixed b) → a ≡ b
 sized_same bytes at a b a_fits b_fits ha hb =
     let long : length a ≡ length b = number_at bytes at (length a) (length b) a_fits b_fits (first_at bytes at (to_be_bytes w32 (length a)) a ha)
@@ -97,7 +97,7 @@ cut_spares a b file end place count (fault.Damaged damage) fits has same short =
 
 -- ---- what is shown
 
--- a place that no file reaches
+-- an offset that no file reaches
 pub far_shown : (types : List ColumnType) (v : View) (file : FileName) (end place : ℕ) (f : ReadFault) → 2 ^ 62 < place →
     ((bytes : Bytes) → contents v file ≡ Some bytes → length bytes ≤ 2 ^ 62) → DamageShown v file (TellsSize file) f → DamageShown v file
     (ShowsPartition types end place file) f

@@ -43,7 +43,7 @@ IsShort v file = (bytes : Bytes) → contents v file ≡ Some bytes → length b
 pub open_same : (a b : View) (opened : Opened) (partitioner : Partitioner) (content : Content) → Changes Same a b → IsOpenOn a opened partitioner content → IsOpenOn b opened partitioner content
 open_same a b opened partitioner content same is = record { bytes = is.bytes; reads = contents_same a b opened.file same ∙ is.reads; data_file = is.data_file; of = is.of }
 
--- the tree that one reads is the key tree
+-- the tree that is read is the key tree
 pub tree_there : (v : View) (opened : Opened) (tree : TreeRef) → tree ≡ opened.tree → IsShort v opened.file → (partitioner : Partitioner)
     (content : Content) (is : IsOpenOn v opened partitioner content) → KeysAreBytes content → HasTree is.bytes tree
     (key_pairs partitioner content)
@@ -63,7 +63,7 @@ tree_spares v opened file tree fault.OutOfMemory file_is tree_is short no_false_
 tree_spares v opened file tree (fault.Damaged damage) file_is tree_is short no_false_damage = λ partitioner content is have.
     no_false_damage is.bytes (key_pairs partitioner content) (ap (λ (f : FileName). contents v f) file_is ∙ is.reads) (tree_there v opened tree tree_is short partitioner content is have)
 
--- what stands at the place of a pair is the next partition
+-- what stands at the offset of a pair is the next partition
 pub took_partition : (v w : View) (opened : Opened) (before after : ℕ) (pair : Pair) (key : Bytes) (part : Partition) (partitioner : Partitioner)
     (content : Content) → IsOpenOn v opened partitioner content → Changes Same v w
     → StepsToPair (key_pairs partitioner content) before after (Some pair) → ReadsPartition w opened pair.place key part →
@@ -111,7 +111,7 @@ partition_shown v opened passed pair f gives shown =
     shown_as (ShowsPair opened (passed - 1) pair.place) (ShowsData opened) v opened.file f
     (λ bytes damage is shows. at_pair gives.0 pair (gives.2 bytes is) (subst (λ (n : ℕ). ShowsPair opened n pair.place bytes damage) index shows)) shown
 
--- ---- the pages of a walk
+-- ---- the pages of a scan
 
 -- where no pair is left all were passed
 pub all_pairs : (opened : Opened) (partitioner : Partitioner) (content : Content) (tree : TreeRef) (passed : ℕ) → IsOpenedAs opened partitioner content →
@@ -119,7 +119,7 @@ pub all_pairs : (opened : Opened) (partitioner : Partitioner) (content : Content
 all_pairs opened partitioner content tree passed of same none =
     omega (arith, ap (λ (t : TreeRef). t.pairs) (same ∙ of.tree), ap (λ (l : List Pair). length l) none, length-drop passed (key_pairs partitioner content))
 
--- the walk went over one partition more
+-- the scan passed one partition more
 pub walk_goes : (v w : View) (opened : Opened) (tree after : PairScan) (buffered now : Buffered) (pair : Pair) (key : Bytes) (part : Partition)
     (partitioner : Partitioner) (content : Content) (r0 r1 r2 : ℕ) (is : IsOpenOn v opened partitioner content) → Changes Same v w
     → StepsToPair (key_pairs partitioner content) tree.passed after.passed (Some pair) → ReadsPartition w opened pair.place key part → tree.tree ≡ opened.tree →

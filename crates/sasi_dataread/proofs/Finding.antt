@@ -102,7 +102,7 @@ sorted_behind partitioner content zero sorted = sorted
 sorted_behind partitioner [] (suc index) sorted = sorted
 sorted_behind partitioner (one ∷ others) (suc index) sorted = sorted_behind partitioner others index sorted.1
 
--- ---- what the partitions from an index on partition_pages
+-- ---- what the partitions from an index on cost
 
 abbrev pub left_cost : Partitioner → ℕ → ℕ → Content → ℕ → ℕ
 left_cost partitioner token at content zero = token_reads partitioner token at content
@@ -148,7 +148,7 @@ left_one partitioner token at (first ∷ others) (suc index) one rest is same =
 -- ---- a search
 
 -- The search has come to an index: this is the pair there. None of the partitions before it has the key, and no pair from
--- it on has a lower token. What the reads have partition_pages and what is left partition_pages no more than so much.
+-- it on has a lower token. The reads so far and those that are left are no more than so many.
 pub record Searches (partitioner : Partitioner) (content : Content) (token : ℕ) (key : Bytes) (turns passed : ℕ) (next : Option Pair) (reads most : ℕ) : Type 0 where
   pub index : ℕ
   pub far : turns ≤ index

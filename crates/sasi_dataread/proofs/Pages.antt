@@ -1,4 +1,4 @@
--- What reading on costs, with a page in hand.
+-- What reading on costs, with a page buffered.
 use Rattle.std.proofs.Common.{◌≡◌, ◌≢◌, ◌⊎◌, ℕ, zero, suc, add-one, [], ◌∷◌, ◌++◌, length, take, drop, sym, ◌∙◌, subst, length-append, ◌+◌, ◌-◌, ◌/◌, ◌^◌, ◌<◌, ◌≤◌, Bool, Option, None, Some, inl, inr, ap, arith, ⊎_elim}
 use Rattle.std.specs.Prelude.{if◌then◌else◌}
 use Rattle.std.proofs.lemmas.Bool.Decides.{eqb_tells}
@@ -17,7 +17,7 @@ use Rattle.sasi_dataread.specs.Opened.{Opened}
 use Rattle.sasi_dataread.specs.Bodies.{partition_reads}
 use Rattle.sasi_dataread.specs.ReadCosts.{scan_of, IsSequential, ReadsEachPageOnce}
 
--- a page is that of a place, or another
+-- a page is that of an offset, or another
 hand : (page at : ℕ) → ((page ≡ at / 4096) × (buffered_at (Some page) at ≡ 1)) ⊎ ((page ≢ at / 4096) × (buffered_at (Some page) at ≡ 0))
 hand page at = ⊎_elim (λ yes. inl (yes.1, ap (λ (b : Bool). if b then 1 else 0) yes.0)) (λ no. inr (no.1, ap (λ (b : Bool). if b then 1 else 0) no.0)) (eqb_tells page (at / 4096))
 
@@ -25,7 +25,7 @@ at_most_one : (buffered : Option ℕ) (at : ℕ) → buffered_at buffered at ≤
 at_most_one None at = omega arith
 at_most_one (Some page) at = ⊎_elim (λ yes. omega (arith, yes.1)) (λ no. omega (arith, no.1)) (hand page at)
 
--- some bytes, and then those behind them, partition_pages no more than all at once
+-- some bytes, and then those behind them, cost no more than all at once
 pub fresh_on : (buffered : Option ℕ) (at n m : ℕ) → 0 < n → unbuffered_pages buffered at n + unbuffered_pages (Some ((at + n - 1) / 4096)) (at + n) m ≤ unbuffered_pages buffered at (n + m)
 fresh_on buffered at n m some = ⊎_elim
     (λ yes. omega (arith, yes.0, yes.1, at_most_one buffered at))
@@ -35,7 +35,7 @@ fresh_on buffered at n m some = ⊎_elim
 pub few_pages : (buffered : Option ℕ) (at n : ℕ) → n ≤ 2 ^ 23 + 4 → unbuffered_pages buffered at n ≤ 2050
 few_pages buffered at n le = omega (arith, le)
 
--- ---- a walk
+-- ---- a scan
 
 -- the next pair is read from behind the one before it on
 pair_behind : (tree : TreeRef) (index : ℕ) → pair_place tree index + 16 ≡ read_place tree (index + 1)

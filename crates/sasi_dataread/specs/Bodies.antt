@@ -17,12 +17,12 @@ use Rattle.sasi_body.specs.Body.{body, IsBodyOf}
 abbrev pub length_prefixed : Bytes → Bytes
 length_prefixed body = to_be_bytes w32 (length body) ++ body
 
--- a partition can begin at this offset, before the end: the smallest one has 17 bytes
+-- a partition can begin at this offset, where the partitions end at `end`: the smallest one has 17 bytes
 pub record IsPartitionPlace (end place : ℕ) : Type 0 where
   pub behind : 16 ≤ place
   pub within : place + 17 ≤ end
 
--- a body at this offset, before the end, may have so many bytes
+-- the body of a partition at this offset may have so many bytes, where the partitions end at `end`
 pub record IsLength (end place count : ℕ) : Type 0 where
   pub some : 0 < count
   pub short : count < 2 ^ 23

@@ -26,7 +26,7 @@ use Rattle.sasi_dataread.specs.HeaderAndFooter.{HasHeaderAndFooter, data_framing
 abbrev pub ShowsHeaderOrFooter : FileName → Bytes → Damage → Type 0
 ShowsHeaderOrFooter file = ShowsFraming data_framing file
 
--- ---- a partition at an offset, which has to end before the end
+-- ---- a partition at an offset, which has to end where the partitions do, or before
 
 -- the file has a length there that no body has
 pub record IsWrongLength (end place : ℕ) (file : FileName) (bytes : Bytes) (damage : Damage) : Type 0 where

@@ -21,7 +21,7 @@ data_framing = record { least = 97; header = file_header magic 0; numbers = foot
 abbrev pub HasHeaderAndFooter : Bytes → Footer → Type 0
 HasHeaderAndFooter bytes numbers = HasFraming data_framing bytes tt numbers
 
--- the file is as long as the shortest data file, and ends with the mark of a footer
+-- the file is at least as long as the shortest data file, and ends with the mark of a footer
 pub record EndsAsDataFile (bytes : Bytes) : Type 0 where
   pub long : 97 ≤ length bytes
   pub at : ℕ

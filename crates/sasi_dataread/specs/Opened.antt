@@ -9,14 +9,14 @@ use Rattle.sasi_host.specs.Names.{Bytes}
 use Rattle.sasi_tokentree.specs.Format.{tree_ref}
 use Rattle.sasi_datawrite.specs.Format.{Content, front, content_max_timestamp, key_pairs}
 
--- what one knows of a data file in hand
+-- the view of an open data file
 pub record Opened : Type 0 where
   pub file : FileName
   -- the types of its table's columns
   pub types : List ColumnType
   -- what refers to the key tree, which has a pair for each partition
   pub tree : TreeRef
-  -- the content_max_timestamp time
+  -- the largest timestamp of a deletion or a cell
   pub max_timestamp : ℕ
   -- where the partitions end
   pub end : ℕ
@@ -27,7 +27,7 @@ pub record IsOpenedAs (opened : Opened) (partitioner : Partitioner) (content : C
   pub max_timestamp : opened.max_timestamp ≡ content_max_timestamp content
   pub end : opened.end ≡ length (front content)
 
--- in the data file of the content this partition begins at this place
+-- in the data file of the content this partition begins at this offset
 pub record StandsAt (content : Content) (place : ℕ) (key : Bytes) (part : Partition) : Type 0 where
   pub before : Content
   pub behind : Content

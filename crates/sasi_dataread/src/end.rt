@@ -17,7 +17,7 @@ use crate::parts::numbers_in;
 use sasi_framing::{check_mark, read_footer};
 use sasi_host::{BufferedFile, Damage, Direct, FileName, Host, ReadFault};
 
-/// Checks that a file is as long as the shortest data file and ends with their mark, and gives the largest timestamp of its
+/// Checks that a file is at least as long as the shortest data file and ends with their mark, and gives the largest timestamp of its
 /// footer. Nothing else of it is looked at: of a file that isn't a data file, the timestamp may be any number.
 pub fn read_max_timestamp<H: Host>(host: &mut H, file: FileName) -> Result<u64, ReadFault>
     requires { IsThere (H.view host.old) file }

@@ -8,7 +8,7 @@ ghost use Rattle.sasi_host.specs.PageReading.{CanReadOn, HasReadOn};
 use sasi_host::{BufferedFile, Host, PageReader, ReadFault};
 use std::alloc::Global;
 
-// Reads `count` bytes at this offset of the file.
+/// Reads `count` bytes at this offset of the file.
 pub fn read_bytes<H: Host, P: PageReader>(
     alloc: Global,
     host: &mut H,

@@ -69,7 +69,7 @@ fn partition_with_key<H: Host, P: PageReader>(
     Ok(Some(part))
 }
 
-// Searches for the partition with this key among those with its token.
+/// Searches for the partition with this key among those with its token.
 pub fn find_partition<H: Host, P: PageReader>(
     alloc: Global,
     host: &mut H,

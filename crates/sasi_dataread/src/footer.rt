@@ -19,13 +19,13 @@ use sasi_host::{Damage, FileName, Host, PageReader, ReadFault};
 // The bytes of a header.
 const HEADER: usize = 16;
 
-// The bytes of a footer.
+/// The bytes of a footer.
 pub const FOOTER: usize = 40;
 
-// The bytes of the numbers in a footer.
+/// The bytes of the numbers in a footer.
 pub const NUMBERS: usize = 32;
 
-// No data file is shorter.
+/// No data file is shorter.
 pub const MIN_FILE_SIZE: u64 = 97;
 
 // Decodes the header and the footer of a file of this size.
@@ -44,7 +44,7 @@ fn decode(file: FileName, size: u64, header: &[u8], footer: &[u8]) -> Result<Foo
     Ok(numbers)
 }
 
-// Reads the header and the footer of a file, and gives the footer.
+/// Reads the header and the footer of a file, and gives the footer.
 pub fn read_footer<H: Host, P: PageReader>(
     host: &mut H,
     pages: &mut P,

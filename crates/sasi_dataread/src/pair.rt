@@ -31,7 +31,7 @@ const MIN_PARTITION_BYTES: u64 = 17;
 // Where the offset stands in a pair.
 const PLACE: u64 = 8;
 
-// Whether no partition can begin at this offset, where they end at another.
+// Whether no partition can begin at this offset. `end` is where the partitions end.
 fn is_wrong_place(place: u64, end: u64) -> bool
     ensures place { result ≡ false → IsPartitionPlace end place }
     ensures wrong { IsTrue result → (place < 16) ⊎ (end < place + 17) }
@@ -39,7 +39,7 @@ fn is_wrong_place(place: u64, end: u64) -> bool
     place < PARTITIONS_START || place > end.saturating_sub(MIN_PARTITION_BYTES)
 }
 
-// Reads the partition to which the pair leads that the tree read last.
+/// Reads the partition to which the pair leads that the tree read last.
 pub fn partition_of_pair<H: Host, P: PageReader>(
     alloc: Global,
     host: &mut H,

@@ -55,7 +55,7 @@ fn is_wrong_length(count: u64, room: u64) -> bool
     count == 0 || count >= BODY_LIMIT || count > room
 }
 
-// Reads the length of the body at this offset, and checks that the body ends before the end.
+// Reads the length of the body at this offset, and checks that the body ends at `end` or before it.
 fn read_length<H: Host, P: PageReader>(
     host: &mut H,
     pages: &mut P,
@@ -110,7 +110,7 @@ fn read_body_bytes<H: Host, P: PageReader>(
     Ok(body)
 }
 
-// The length at this offset is not that of the body after it.
+// The damage where the length at this offset isn't that of the body behind it.
 fn other_length(file: FileName, place: u64, bytes: &[u8]) -> ReadFault
     requires short { length bytes.now < 2 ^ 23 }
     ensures shown { (types : List ColumnType) (end : ℕ) (whole : Bytes) → HasOtherLength (body_of types) bytes.now → HasAt whole place (length_prefixed bytes.now) → OnDamage (ShowsPartition types end place file whole) result }
@@ -121,7 +121,7 @@ fn other_length(file: FileName, place: u64, bytes: &[u8]) -> ReadFault
     ReadFault::Damaged(found(file, place, FormatRule::Number, &field))
 }
 
-// The fault in the file, by one of the body at this offset.
+// The fault of the body at this offset, with its offset in the file.
 fn fault_in_file(file: FileName, place: u64, bytes: &[u8], fault: FormatFault) -> ReadFault
     requires short { length bytes.now < 2 ^ 23 }
     requires place { place + 4 + length bytes.now < 2 ^ 64 }
@@ -143,7 +143,7 @@ fn fault_in_file(file: FileName, place: u64, bytes: &[u8], fault: FormatFault) -
     }
 }
 
-// Reads the partition at this offset, and checks that it ends before the end.
+/// Reads the partition at this offset, and checks that it ends at `end` or before it.
 pub fn partition_at<H: Host, P: PageReader>(
     alloc: Global,
     host: &mut H,

@@ -15,7 +15,7 @@ use sasi_types::TreeRef;
 // The least offset where partitions can end.
 const MIN_PARTITIONS_END: u64 = 33;
 
-// Decodes the numbers of a footer at this offset of a file.
+/// Decodes the numbers of a footer at this offset of a file.
 pub fn numbers_in(file: FileName, at: u64, bytes: &[u8]) -> Result<Footer, Damage>
     requires size { length bytes.now ≡ 32 }
     requires offset { at + 32 < 2 ^ 64 }

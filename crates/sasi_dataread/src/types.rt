@@ -4,6 +4,7 @@ ghost use Rattle.std.specs.Prelude.{◌≡◌, IfOk};
 use sasi_types::TypeList;
 use std::alloc::{AllocError, Global};
 
+/// A copy of a list of types.
 pub fn copy_types(alloc: Global, types: &TypeList) -> Result<TypeList, AllocError>
     ensures { IfOk result (λ copy. copy ≡ types.now) }
 {

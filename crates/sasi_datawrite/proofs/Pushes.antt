@@ -21,7 +21,7 @@ length_put room bytes is =
     ap (λ (l : Bytes). to_be_bytes w32 (length (room ++ bytes) - 4) ++ l) (drop_at room bytes 4 is)
     ∙ ap (λ (n : ℕ). to_be_bytes w32 n ++ bytes) (omega (arith, is, length-append room bytes))
 
--- where a list takes bytes back of which the first four were so put
+-- the same once the bytes are written back to their list
 pub length_set : (out set room bytes : Bytes) (len : ℕ) → length room ≡ 4 → out ≡ room ++ bytes → len ≡ length out → set ≡ to_be_bytes w32
     (length out - 4) ++ drop 4 out → take len (set ++ drop (length set) out) ≡ to_be_bytes w32 (length bytes) ++ bytes
 length_set out set room bytes len four put same is =
@@ -42,7 +42,7 @@ length_set out set room bytes len four put same is =
 less_or_equal : (m n : ℕ) → m ≤ n → (m < n) ⊎ (m ≡ n)
 less_or_equal m n le = grind arith
 
--- a pair is before one with a token not below its own, and a place above
+-- a pair is before one with a token not below its own, and an offset above its own
 before : (a b : Pair) → a.token ≤ b.token → a.place < b.place → IsBefore a b
 before a b le lt = ⊎_elim (λ less. inl less) (λ same. inr (same, lt)) (less_or_equal a.token b.token le)
 
@@ -77,7 +77,7 @@ up_to_push pairs pair place next up le at lt fits = record {
   fits = fits;
 }
 
--- no pair rises up to the first partition
+-- where there is no pair, none is at the offset of the first partition or behind it
 pub up_to_none : (pairs : List Pair) → pairs ≡ [] → RiseBelow pairs 16
 up_to_none pairs none = subst (λ (l : List Pair). RiseBelow l 16) (sym none) (record {
   rising = λ index within. absurd (omega (arith, within));

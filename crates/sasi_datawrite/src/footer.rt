@@ -15,7 +15,7 @@ pub struct Footer {
     pub end: u64,
 }
 
-// The numbers of a footer, and the mark behind them.
+/// The numbers of a footer, and the mark behind them.
 pub fn footer_bytes(alloc: Global, footer: Footer) -> Result<Vec<u8>, AllocError>
     ensures { IfOk result (λ bytes. bytes.items ≡ footer_bytes footer) }
 {

@@ -2,7 +2,7 @@
 ghost use Rattle.std.specs.Prelude.{◌≡◌};
 ghost use Rattle.sasi_datawrite.specs.Format.{magic};
 
-// The offset of the first partition.
+/// The offset of the first partition.
 pub const HEADER_LENGTH: u64 = 16;
 
 /// The first bytes of a data file.

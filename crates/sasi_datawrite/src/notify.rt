@@ -9,7 +9,7 @@ use sasi_cells::{Entry, Partition};
 use sasi_types::{KitFault, Pair};
 use std::alloc::Global;
 
-// Passes the start of a partition to the observer, and each of its cells.
+/// Passes the start of a partition to the observer, and each of its cells.
 pub fn notify<O: FlushObserver>(
     alloc: Global,
     watch: &mut O,

@@ -14,7 +14,7 @@ use sasi_host::{FileName, Host, HostFault};
 use sasi_types::Key;
 use std::alloc::AllocError;
 
-// Writes a partition at this offset by one call, and gives the offset behind it. It overwrites the buffer.
+/// Writes a partition at this offset by one call, and gives the offset behind it. It overwrites the buffer.
 pub fn write_partition<H: Host>(
     host: &mut H,
     file: FileName,

@@ -16,7 +16,7 @@ use sasi_cells::Partition;
 use sasi_host::{FileName, Host};
 use sasi_types::{Key, Pair};
 
-// Writes a partition at the offset of this pair, passes it to the observer, and gives the offset behind it.
+/// Writes a partition at the offset of this pair, passes it to the observer, and gives the offset behind it.
 pub fn push_partition<H: Host, O: FlushObserver>(
     host: &mut H,
     watch: &mut O,

@@ -12,7 +12,7 @@ use sasi_tokentree::write;
 use sasi_types::PairList;
 use std::alloc::Global;
 
-// Writes the key tree where the partitions end, and the footer, and syncs the file.
+/// Writes the key tree where the partitions end, and the footer, and syncs the file.
 pub fn write_trailer<H: Host>(
     alloc: Global,
     host: &mut H,

@@ -1,5 +1,5 @@
--- Moves that are made: how they begin, go on over further calls, and stop early. A flush goes by its stretches: files that nothing
--- lists are made, the manifest gets its record, and segments that nothing lists any more are deleted.
+-- Moves that are made: how they begin, go on over further calls, and stop early. A flush has three stages: files that nothing lists
+-- yet are made, the manifest gets its record, and segments that nothing lists any more are deleted.
 use Rattle.std.specs.Prelude.{ℕ, List, ◌∷◌, ◌++◌, []}
 use Rattle.std.proofs.Common.{subst}
 use Rattle.std.proofs.lemmas.List.{append-nil}

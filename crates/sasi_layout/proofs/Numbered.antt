@@ -26,7 +26,7 @@ module _ {A B : Type 0} (g : A → B) (f : A → A) where
         | false ↦ ap (λ (l : List B). g x ∷ l) rest
       ]
 
-  -- where only the items that are as they should be are seen so
+  -- the same where the change of an item needs P, which all items have
   pub seen_where : (P : B → Type 0) (h : B → B) → ((x : A) → P (g x) → g (f x) ≡ h (g x)) → (n number : ℕ) (xs : List A) → AllByRecursion P (map g xs) → map g (at_number n number f xs) ≡ at_number n number h (map g xs)
   seen_where P h same n number [] all = refl
   seen_where P h same n number (x ∷ xs) all =
@@ -36,7 +36,7 @@ module _ {A B : Type 0} (g : A → B) (f : A → A) where
         | false ↦ λ i. g x ∷ rest i
       ]
 
-  -- or the changed one alone
+  -- or which the changed item alone has
   pub seen_of_it : (P : A → Type 0) (h : B → B) → ((x : A) → P x → g (f x) ≡ h (g x)) → (n number : ℕ) (xs : List A) → At n number P xs → map g (at_number n number f xs) ≡ at_number n number h (map g xs)
   seen_of_it P h same n number [] all = refl
   seen_of_it P h same n number (x ∷ xs) all =

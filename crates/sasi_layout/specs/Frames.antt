@@ -1,4 +1,4 @@
--- The files of a folder that a layout lists: where two folders have the same of them, they have the same shapes.
+-- The files of a folder that a layout lists: where two folders agree on them, they have the same shapes.
 use Rattle.std.specs.Prelude.{◌≡◌, ◌≢◌, ◌≤◌, ◌<◌, ℕ}
 use Rattle.std.specs.FinMap.{get}
 use Rattle.std.specs.List.{AllByRecursion}
@@ -6,7 +6,7 @@ use Rattle.sasi_host.specs.declared.name.FileName.{FileName}
 use Rattle.sasi_host.specs.Names.{Folder, data_name, log_name, manifest_name, seal_name}
 use Rattle.sasi_layout.specs.Layout.{File, Layout, TableParts}
 
--- the same of the seals, of the sealed manifest, of the live segments and of the files of the tables
+-- the folders agree on the seals, the sealed manifest, the live segments and the files of the tables
 pub record AgreeOn (l : Layout) (x y : Folder) : Type 0 where
   pub seals : (other : ℕ) → get y (seal_name other) ≡ get x (seal_name other)
   pub manifest : get y (manifest_name l.used.manifest) ≡ get x (manifest_name l.used.manifest)

@@ -1,4 +1,4 @@
--- The files that belong to a store, by their names alone: its store in memory knows them without a look into the folder.
+-- The files that belong to a store, by their names alone: a store in memory knows them without reading the folder.
 use Rattle.std.specs.Prelude.{◌≡◌, ◌&&◌, ◌||◌, ℕ, Bool, nat_le, List, is_some}
 use Rattle.std.specs.FinMap.{get}
 use Rattle.std.specs.List.{list_any}

@@ -83,7 +83,7 @@ abbrev pub greatest_data : List ListedDefinition → ℕ
 greatest_data [] = 0
 greatest_data (t ∷ ts) = max (greatest_file t.files) (greatest_data ts)
 
--- the greatest numbers that are listed, under the manifest of this number
+-- the largest numbers that are listed, under the manifest of this number
 abbrev pub used_in : ℕ → Listing → Used
 used_in manifest listing = record { manifest = manifest; log = listing.last; file = greatest_data listing.tables; index = 0; part = 0 }
 

@@ -41,7 +41,7 @@ in_order_push tables more t order numbered few free none is = record {
   files = subst AllInOrder (sym is) (order_push tables t order.files (subst (λ (l : List ListedFile). AreInOrder 0 l) (sym none) tt));
 }
 
--- the same tables once more
+-- copies of the tables are in order as they are
 pub in_order_same : (tables copies : List ListedTable) → IsInOrder tables → map listed copies ≡ map listed tables → map
     (λ (x : ListedTable). x.table.number) copies ≡ map (λ (x : ListedTable). x.table.number) tables → IsInOrder copies
 in_order_same tables copies order same numbers = record {

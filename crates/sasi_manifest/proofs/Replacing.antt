@@ -32,7 +32,7 @@ false_not : (a : Bool) → not a ≡ false → a ≡ true
 false_not true is = refl
 false_not false is = cc
 
--- from what it would follow
+-- a test that can't be true is false
 contra : (a : Bool) → (a ≡ true → false ≡ true) → a ≡ false
 contra true h = (let never = h refl in cc)
 contra false h = refl

@@ -139,7 +139,8 @@ abbrev pub are_within : ℕ → ℕ → ℕ → List ListedDefinition → Bool
 are_within last table n [] = true
 are_within last table n (t ∷ tables) = (nat_eq n table || nat_le t.since last) && are_within last table (suc n) tables
 
--- no other table begins after the segment; where it is before one of those that stand first, that one is reported
+-- No other table begins after the segment. One before the table's first segment or the first live one passes here: the segment that it is
+-- before is reported.
 abbrev pub is_last : List ListedDefinition → ℕ → ℕ → ℕ → ℕ → Bool
 is_last tables table since floor last = nat_lt last since || (nat_lt last floor || are_within last table 1 tables)
 

@@ -18,7 +18,7 @@ use sasi_gated::Gated;
 use sasi_host::{Host, HostFault};
 use std::alloc::{AllocError, Global};
 
-// Appends the record of the edits, and applies them to the listing.
+/// Appends the record of the edits, and applies them to the listing.
 pub fn append_edits<H: Host>(
     alloc: Global,
     host: &mut H,

@@ -12,7 +12,7 @@ use sasi_schema::Table;
 use sasi_types::{Partitioner, TableNumber};
 use std::alloc::{AllocError, Global};
 
-// Applies edits one after another; a manifest has no listing before its first edit.
+/// Applies edits one after another; a manifest has no listing before its first edit.
 pub fn apply_all(
     alloc: Global,
     from: Option<Listing>,
@@ -28,7 +28,7 @@ pub fn apply_all(
     Ok(listed)
 }
 
-// Applies an edit.
+/// Applies an edit.
 pub fn apply(alloc: Global, from: Option<Listing>, edit: &Edit) -> Result<Listing, AllocError>
     requires { Applies from edit.now }
     ensures { IfOk result (λ listing. Some listing ≡ after from edit.now) }
@@ -58,7 +58,7 @@ fn first(alloc: Global, edit: &Edit) -> Listing
     started(alloc, *partitioner, *floor, *last)
 }
 
-// Changes a listing by an edit that isn't the first.
+/// Changes a listing by an edit that isn't the first.
 pub fn change(alloc: Global, listing: &mut Listing, edit: &Edit) -> Result<(), AllocError>
     requires { Applies (Some listing.old) edit.now }
     ensures ok { OnOk result (Some listing.new ≡ after (Some listing.old) edit.now) }

@@ -15,7 +15,7 @@ use std::alloc::Global;
 // The most columns of a table.
 const COLUMN_LIMIT: u16 = 64;
 
-// Reads the number of columns, and each column.
+/// Reads the number of columns, and each column.
 pub fn read_columns(alloc: Global, reader: &mut FieldReader) -> Result<Columns, FormatFault>
     ensures { Gives (read columns reader.old) result reader.new }
 {
@@ -62,7 +62,7 @@ fn read_type(reader: &mut FieldReader) -> Result<ColumnType, FormatFault>
     }
 }
 
-// Reads the position of the key among the columns.
+/// Reads the position of the key among the columns.
 pub fn read_key(
     reader: &mut FieldReader,
     columns: &[(Name, ColumnType)],

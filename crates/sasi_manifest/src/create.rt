@@ -20,13 +20,14 @@ use sasi_gated::Gated;
 use sasi_host::{FileName, Host, HostFault, ManifestNumber};
 use std::alloc::{AllocError, Global};
 
-// The open file of a manifest, and its listing.
+/// The open file of a manifest, and its listing.
 #[derive(Drop)]
 pub struct Opened {
     pub gated: Gated,
     pub listing: Listing,
 }
 
+/// Creates the file of a manifest that has this listing in one record, and its seal.
 pub fn create_sealed<H: Host>(
     alloc: Global,
     host: &mut H,

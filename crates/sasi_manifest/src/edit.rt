@@ -21,7 +21,8 @@ pub enum Edit {
         key: u16,
         since: SegmentNumber,
     },
-    /// Data files of a table that take the place of others. `since`, `floor` and `last` are as they are from then on.
+    /// Data files of a table that take the place of others. From then on `since` is the table's first segment, and `floor` and `last`
+    /// are the first and the last live one.
     Replace {
         table: TableNumber,
         removed: NumberList,

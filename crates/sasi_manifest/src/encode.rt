@@ -10,6 +10,7 @@ use sasi_fields::put_u32;
 use sasi_gated::Record;
 use std::alloc::{AllocError, Global};
 
+/// The record of the edits.
 pub fn encode(alloc: Global, edits: &[Edit]) -> Result<Record, AllocError>
     requires writable { AllByRecursion IsWritable edits.now }
     requires short { length (encoded edits.now) ≤ 2 ^ 30 }

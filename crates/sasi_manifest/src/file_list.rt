@@ -10,7 +10,7 @@ use sasi_host::DataNumber;
 use std::alloc::{AllocError, Global};
 use std::collections::VecDeque;
 
-// Whether one of the files, which are in the order of their numbers, has the number.
+/// Whether one of the files, which are in the order of their numbers, has the number.
 pub fn has_file(files: &[ListedFile], number: DataNumber) -> bool
     requires { AreInOrder 0 files.now }
     ensures { result ≡ has_file files.now number }
@@ -39,7 +39,7 @@ fn copy_parts(alloc: Global, parts: &[PartNumber]) -> Result<PartNumbers, AllocE
     Ok(copy)
 }
 
-// A copy of a file.
+/// A copy of a file.
 pub fn copy_file(alloc: Global, file: &ListedFile) -> Result<ListedFile, AllocError>
     ensures { IfOk result (λ copy. copy ≡ file.now) }
 {
@@ -50,7 +50,7 @@ pub fn copy_file(alloc: Global, file: &ListedFile) -> Result<ListedFile, AllocEr
     })
 }
 
-// A copy of files.
+/// A copy of files.
 pub fn copy_files(alloc: Global, files: &[ListedFile]) -> Result<Vec<ListedFile>, AllocError>
     ensures { IfOk result (λ copy. copy.items ≡ files.now) }
 {
@@ -70,7 +70,7 @@ fn place_of(files: &[ListedFile], number: DataNumber) -> usize
     files.partition_point(|file| file.number < number)
 }
 
-// Puts files in the place of those of these numbers.
+/// Puts files in the place of those of these numbers.
 pub fn replace_files(
     files: &mut Vec<ListedFile>,
     removed: &NumberSet,
@@ -98,7 +98,7 @@ fn remove_files(files: &mut Vec<ListedFile>, removed: &NumberSet)
     files.retain(|file| !removed.has(file.number));
 }
 
-// Puts files at their places, for which there is room.
+// Inserts files in the order of their numbers. There is room for them.
 fn put_files(files: &mut Vec<ListedFile>, added: Vec<ListedFile>)
     requires order { AreInOrder 0 files.old.items }
     requires room { vec_len files.old + vec_len added ≤ vec_capacity files.old }
@@ -110,7 +110,7 @@ fn put_files(files: &mut Vec<ListedFile>, added: Vec<ListedFile>)
     }
 }
 
-// Puts a file at its place by its number, for which there is room.
+// Inserts a file in the order of the numbers. There is room for it.
 fn put_file(files: &mut Vec<ListedFile>, file: ListedFile)
     requires order { AreInOrder 0 files.old.items }
     requires room { vec_len files.old < vec_capacity files.old }

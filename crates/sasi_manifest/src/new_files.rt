@@ -8,7 +8,7 @@ use sasi_host::DataNumber;
 use std::alloc::{AllocError, Global};
 use std::marker::Model;
 
-// Files in the order in which they came, each of which is found by its number.
+/// Files in the order in which they came, each of which is found by its number.
 #[derive(Drop)]
 pub struct NewFiles {
     files: ListedFiles,
@@ -27,7 +27,7 @@ impl Model for NewFiles {
 }
 
 impl NewFiles {
-    // No files.
+    /// No files.
     pub fn new(alloc: Global) -> NewFiles
         ensures { result ≡ [] }
     {
@@ -37,14 +37,14 @@ impl NewFiles {
         }
     }
 
-    // Whether one of them has the number.
+    /// Whether one of them has the number.
     pub fn has(&self, number: DataNumber) -> bool
         ensures { result ≡ has_file self.now number }
     {
         self.numbers.has(number)
     }
 
-    // With one file more at the end.
+    /// With one file more at the end.
     pub fn with(self, file: ListedFile) -> Result<NewFiles, AllocError>
         ensures { IfOk result (λ more. more ≡ self ++ file ∷ []) }
     {
@@ -54,7 +54,7 @@ impl NewFiles {
         Ok(NewFiles { files, numbers })
     }
 
-    // The files. Allocates nothing.
+    /// The files. Allocates nothing.
     pub fn into_files(self) -> ListedFiles
         ensures { result ≡ self }
     {

@@ -8,7 +8,7 @@ use std::alloc::{AllocError, Global};
 use std::collections::BTreeSet;
 use std::marker::Model;
 
-// Numbers in the order in which they came, each of which is found in logarithmic time.
+/// Numbers in the order in which they came, each of which is found in logarithmic time.
 #[derive(Drop)]
 pub struct NumberSet {
     numbers: NumberList,
@@ -27,7 +27,7 @@ impl Model for NumberSet {
 }
 
 impl NumberSet {
-    // No numbers.
+    /// No numbers.
     pub fn new(alloc: Global) -> NumberSet
         ensures { result ≡ [] }
     {
@@ -37,7 +37,7 @@ impl NumberSet {
         }
     }
 
-    // These numbers.
+    /// These numbers.
     pub fn of(alloc: Global, numbers: &[DataNumber]) -> Result<NumberSet, AllocError>
         ensures { IfOk result (λ set. set ≡ numbers.now) }
     {
@@ -48,21 +48,21 @@ impl NumberSet {
         Ok(set)
     }
 
-    // Whether it has no numbers.
+    /// Whether it has no numbers.
     pub fn is_empty(&self) -> bool
         ensures { result ≡ true → self.now ≡ [] }
     {
         self.numbers.as_slice().is_empty()
     }
 
-    // Whether it has the number.
+    /// Whether it has the number.
     pub fn has(&self, number: DataNumber) -> bool
         ensures { result ≡ is_among self.now number }
     {
         self.tree.contains(&number)
     }
 
-    // With one number more at the end.
+    /// With one number more at the end.
     pub fn with(self, number: DataNumber) -> Result<NumberSet, AllocError>
         ensures { IfOk result (λ more. more ≡ self ++ number ∷ []) }
     {
@@ -75,7 +75,7 @@ impl NumberSet {
         Ok(NumberSet { numbers, tree })
     }
 
-    // The numbers. Allocates nothing.
+    /// The numbers. Allocates nothing.
     pub fn into_list(self) -> NumberList
         ensures { result ≡ self }
     {

@@ -26,7 +26,7 @@ use sasi_gated::Gated;
 use sasi_host::{Damage, FileName, FormatRule, Host, ManifestNumber, ReadFault, Seen};
 use std::alloc::Global;
 
-// Reads all records of a manifest.
+/// Reads all records of a manifest.
 pub fn open_manifest<H: Host>(
     alloc: Global,
     host: &mut H,

@@ -15,6 +15,7 @@ use sasi_host::{DataNumber, SegmentNumber};
 use sasi_types::{ColumnType, Name, Partitioner};
 use std::alloc::AllocError;
 
+/// Appends an edit: its tag and its fields.
 #[tactic(auto, unfolding(crate::specs::Edits::edit, crate::specs::Edits::replace))]
 pub fn put_edit(out: &mut Vec<u8>, edit: &Edit) -> Result<(), AllocError>
     requires { IsWritable edit.now }

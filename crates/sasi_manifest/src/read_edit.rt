@@ -19,7 +19,7 @@ use std::alloc::Global;
 // The most tables.
 const TABLE_LIMIT: u32 = 256;
 
-// Reads the next edit, which applies to the listing.
+/// Reads the next edit, which applies to the listing.
 pub fn read_edit(
     alloc: Global,
     reader: &mut FieldReader,

@@ -16,7 +16,7 @@ use sasi_host::{DataNumber, FormatRule};
 use sasi_types::TableNumber;
 use std::alloc::Global;
 
-// Reads the numbers of files of a table that go, and the files that come.
+/// Reads the numbers of files of a table that go, and the files that come.
 pub fn read_files(
     alloc: Global,
     reader: &mut FieldReader,

@@ -16,7 +16,7 @@ use sasi_fields::FieldReader;
 use sasi_formats::{FormatFault, read_u32_in_range};
 use std::alloc::Global;
 
-// Applies the record with this payload to the listing.
+/// Applies the record with this payload to the listing.
 pub fn read_record(
     alloc: Global,
     listed: Option<Listing>,
@@ -71,7 +71,7 @@ fn read_edits(
     Ok(listed)
 }
 
-// Counts one record more, whose payload has this size.
+/// Counts one record more, whose payload has this size.
 pub fn count_record(listing: &mut Listing, size: u64)
     requires records { listing.old.records ≤ 2 ^ 62 }
     requires length { listing.old.length ≤ 2 ^ 62 + 1 }

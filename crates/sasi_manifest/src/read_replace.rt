@@ -13,7 +13,7 @@ use sasi_host::{FormatRule, SegmentNumber};
 use sasi_types::TableNumber;
 use std::alloc::Global;
 
-// Reads the fields of a replacement of files of a listed table.
+/// Reads the fields of a replacement of files of a listed table.
 #[tactic(auto, unfolding(crate::specs::Edits::replace))]
 pub fn read_replace(
     alloc: Global,
@@ -107,7 +107,8 @@ fn read_last(
     Ok(last)
 }
 
-// Whether no other table begins after the segment, or it is before those that are reported first.
+// Whether no other table begins after the segment. One before the table's first segment or the first live one passes: the segment that
+// it is before is reported instead.
 fn is_last(
     tables: &ListedTables,
     table: TableNumber,

@@ -9,7 +9,7 @@ use sasi_host::SegmentNumber;
 use sasi_types::TableNumber;
 use std::alloc::{AllocError, Global};
 
-// The start, then the tables in order, then their files.
+/// The start, then the tables in order, then their files.
 pub fn edits_of(alloc: Global, listing: &Listing) -> Result<Vec<Edit>, AllocError>
     ensures { IfOk result (λ edits. edits.items ≡ edits_of listing.now) }
 {

@@ -7,7 +7,7 @@ ghost use Rattle.sasi_manifest.specs.OpenManifest.{IsUnsealed};
 
 use sasi_host::{Failed, FileName, Host, ManifestNumber};
 
-// Creates the seal, and syncs the folder.
+/// Creates the seal, and syncs the folder.
 pub fn make_seal<H: Host>(host: &mut H, number: ManifestNumber) -> Result<(), Failed>
     requires { IsAbsent (H.view host.old) (seal_name number) }
     ensures kept { OnOk result (IsUnsealed (H.view host.old) number → IsFileDurable (H.view host.new) (seal_name number) []) }

@@ -9,7 +9,7 @@ ghost use Rattle.sasi_manifest.specs.Abbreviations.{column as column_format};
 use crate::{Edit, ListedFile, ListedFiles, NumberList};
 use sasi_types::{ColumnType, Columns, Name};
 
-// The length of the payload of their record, or `u64::MAX` where it is longer.
+/// The length of the payload of their record, or `u64::MAX` where it is longer.
 pub fn edits_size(edits: &[Edit]) -> u64
     ensures { result ≡ min (length (encoded edits.now)) (2 ^ 64 - 1) }
 {

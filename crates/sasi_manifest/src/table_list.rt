@@ -15,7 +15,7 @@ use sasi_host::{DataNumber, SegmentNumber};
 use sasi_types::TableNumber;
 use std::alloc::{AllocError, Global};
 
-// Whether one of the tables has the name.
+/// Whether one of the tables has the name.
 pub fn is_listed(name: &[u8], tables: &[ListedTable]) -> bool
     ensures { result ≡ list_any (same name.now) (listed_names (map listed tables.now)) }
 {
@@ -27,7 +27,7 @@ pub fn is_listed(name: &[u8], tables: &[ListedTable]) -> bool
     false
 }
 
-// Whether one of the tables has a file of this number.
+/// Whether one of the tables has a file of this number.
 pub fn is_file_listed(number: DataNumber, tables: &[ListedTable]) -> bool
     requires { AllByRecursion (λ t. AreInOrder 0 t.files) tables.now }
     ensures { result ≡ list_any (λ t. has_file t.files number) (map listed tables.now) }
@@ -40,7 +40,7 @@ pub fn is_file_listed(number: DataNumber, tables: &[ListedTable]) -> bool
     false
 }
 
-// The files of the table with this number, if there is one.
+/// The files of the table with this number, if there is one.
 pub fn files_at(tables: &[ListedTable], table: TableNumber) -> &[ListedFile]
     ensures { result.now ≡ files_of (map listed tables.now) table }
 {
@@ -50,7 +50,7 @@ pub fn files_at(tables: &[ListedTable], table: TableNumber) -> &[ListedFile]
     }
 }
 
-// Whether a file of the table with this number has the number.
+/// Whether a file of the table with this number has the number.
 pub fn is_file_of(tables: &[ListedTable], table: TableNumber, number: DataNumber) -> bool
     requires { AllByRecursion (λ t. AreInOrder 0 t.files) tables.now }
     ensures { result ≡ has_file (files_of (map listed tables.now) table) number }
@@ -58,7 +58,7 @@ pub fn is_file_of(tables: &[ListedTable], table: TableNumber, number: DataNumber
     has_file(files_at(tables, table), number)
 }
 
-// Whether no table but this one begins after the segment.
+/// Whether no table but this one begins after the segment.
 pub fn are_within(tables: &[ListedTable], table: TableNumber, last: SegmentNumber) -> bool
     requires { length tables.now ≤ 256 }
     ensures { result ≡ are_within last table 1 (map listed tables.now) }
@@ -73,7 +73,7 @@ pub fn are_within(tables: &[ListedTable], table: TableNumber, last: SegmentNumbe
     true
 }
 
-// Puts files of the table with this number in the place of others, and changes its first segment.
+/// Puts files of the table with this number in the place of others, and changes its first segment.
 pub fn replace_at(
     alloc: Global,
     tables: &mut Vec<ListedTable>,
@@ -96,7 +96,7 @@ pub fn replace_at(
     Ok(())
 }
 
-// A copy of the tables.
+/// A copy of the tables.
 pub fn copies(alloc: Global, tables: &[ListedTable]) -> Result<Vec<ListedTable>, AllocError>
     ensures same { IfOk result (λ copies. map listed copies.items ≡ map listed tables.now) }
     ensures numbers { IfOk result (λ copies. map (λ t. t.table.number) copies.items ≡ map (λ t. t.table.number) tables.now) }

@@ -10,7 +10,7 @@ use sasi_schema::Table;
 use sasi_types::{ColumnType, Name, TableTypes, TypeList};
 use std::alloc::{AllocError, Global};
 
-// The number of each table with its types.
+/// The number of each table with its types.
 pub fn table_types(alloc: Global, tables: &[ListedTable]) -> Result<TableTypes, AllocError>
     requires { length tables.now ≤ 256 }
     ensures { IfOk result (λ types. types ≡ numbered_types 1 (map listed tables.now)) }

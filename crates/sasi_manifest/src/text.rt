@@ -19,7 +19,7 @@ use std::alloc::Global;
 // The most bytes that a name has.
 const NAME_LIMIT: u8 = 48;
 
-// Reads the name of a column, which no column before it has.
+/// Reads the name of a column, which no column before it has.
 pub fn read_column_name(
     alloc: Global,
     reader: &mut FieldReader,
@@ -36,7 +36,7 @@ pub fn read_column_name(
     Ok(Name::new(text.to_vec(alloc)?))
 }
 
-// Reads the name of a table, which no listed table has.
+/// Reads the name of a table, which no listed table has.
 pub fn read_table_name(
     alloc: Global,
     reader: &mut FieldReader,

@@ -1,4 +1,4 @@
--- Files that a record of a manifest lists together with what they go with.
+-- Data files that one record of a manifest lists, and what each moment of its append leaves.
 use Rattle.std.specs.Prelude.{◌≡◌, ℕ, List, [], ◌∷◌, Some}
 use Rattle.std.specs.List.{flat_map}
 use Rattle.std.specs.FinMap.{get}

@@ -8,7 +8,7 @@ ghost use Rattle.sasi_datawrite.specs.Writing.{IsWriting};
 use sasi_datawrite::{DataRef, DataWriter};
 use sasi_host::{Host, HostFault};
 
-// Ends a data file, and syncs it and the folder. Then each image has it.
+/// Ends a data file, and syncs it and the folder. Then each image has it.
 pub fn finish_durably<H: Host>(writer: DataWriter, host: &mut H) -> Result<DataRef, HostFault>
     requires some { 1 ≤ length writer.pairs }
     requires room { Reaches (H.view host.old) writer.file writer.offset }

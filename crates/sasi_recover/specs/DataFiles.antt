@@ -31,9 +31,10 @@ pub record IsLargestOf (v : View) (files : List ℕ) (time : ℕ) : Type 0 where
 abbrev pub ShowsEndDamage : View → List ℕ → ReadFault → Type 0
 ShowsEndDamage v files = OnDamage (λ damage. (number : ℕ) × Contains files number × ((bytes : Bytes) → contents v (data_name number) ≡ Some bytes → ShowsHeaderOrFooter (data_name number) bytes damage))
 
--- and of none where each reads as a data file
+-- the bytes are a data file, whatever its table and its content
 abbrev pub IsSomeDataFile : Bytes → Type 0
 IsSomeDataFile bytes = (partitioner : Partitioner) × (types : List ColumnType) × (content : Content) × IsDataFile partitioner types bytes content
 
+-- damage is reported only where one of the files doesn't read as a data file
 abbrev pub NoFalseEndDamage : View → List ℕ → ReadFault → Type 0
 NoFalseEndDamage v files = OnDamage (λ _. ((number : ℕ) → Contains files number → (bytes : Bytes) × (contents v (data_name number) ≡ Some bytes) × IsSomeDataFile bytes) → ⊥)

@@ -9,7 +9,7 @@ use Rattle.sasi_host.specs.View.{View, FailedAtLast}
 use Rattle.sasi_recover.specs.declared.fault.OpenFault.{OpenFault}
 use Rattle.sasi_recover.specs.declared.fault.OpenFault.TheVariants as fault
 
--- a read failed
+-- the fault of an opening in which a read failed
 abbrev pub open_fault_of : ReadFault → OpenFault
 open_fault_of read_fault.Failed = fault.Failed
 open_fault_of read_fault.OutOfMemory = fault.OutOfMemory
@@ -30,7 +30,7 @@ abbrev pub IsDifference : Option Partitioner → Partitioner → OpenFault → T
 IsDifference asked kept (fault.PartitionerDiffers a k) = (asked ≡ Some a) × (k ≡ kept) × (a ≢ k)
 IsDifference asked kept _ = ⊥
 
--- it tells that the one is asked and the other kept, unless a call failed or memory is out
+-- it tells that the one is asked and the other kept, unless a call failed or memory ran out
 abbrev pub TellsDifference : {T : Type 0} → Partitioner → Partitioner → Result T OpenFault → Type 0
 TellsDifference asked kept (Ok opened) = ⊥
 TellsDifference asked kept (Err fault.Failed) = Unit {0}

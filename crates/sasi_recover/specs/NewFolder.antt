@@ -23,7 +23,7 @@ pub record IsForeign (folder : Folder) : Type 0 where
   pub there : IsSome (get folder file)
   pub other : is_initial file ≡ false
 
--- the damage reports the first of the names that is another one
+-- the damage reports the first of the names that an unfinished creation doesn't leave
 pub record ReportsForeign (names : List FileName) (damage : Damage) : Type 0 where
   pub before : List FileName
   pub behind : List FileName

@@ -1,4 +1,4 @@
--- An opened folder as a store in hand.
+-- An opened folder as a store in memory.
 use Rattle.std.specs.Prelude.{◌≡◌, [], map}
 use Rattle.sasi_host.specs.Names.{Folder}
 use Rattle.sasi_layout.specs.Layout.{Used}
@@ -18,7 +18,7 @@ table_in_hand t = record { first = t.first; frozen = []; memtable = t.memtable.p
 abbrev pub AnyFolderChange : Folder → Folder → Type 0
 AnyFolderChange old new = Unit {0}
 
--- what a store that goes on from here has in hand
+-- the store in memory that an opening leaves
 abbrev pub in_hand : Opened → StoreInHand
 in_hand opened = record {
   definitions = map (λ (t : ListedDefinition). t.definition) opened.manifest.listing.tables;

@@ -41,7 +41,7 @@ listing_reads folder listing = 2 * data_count listing.tables + live_reads folder
 abbrev pub ReadsListingOnce : Folder → Listing → View → View → Type 0
 ReadsListingOnce folder listing old new = new.reads ≤ old.reads + listing_reads folder listing
 
--- they were read so often at most
+-- the live segments were read so often at most
 abbrev pub ReadsLiveOnce : View → View → Listing → Type 0
 ReadsLiveOnce old new listing = (folder : Folder) → old.files ≡ Some folder → new.reads ≤ old.reads + live_reads folder listing
 

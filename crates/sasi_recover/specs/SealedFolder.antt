@@ -37,7 +37,7 @@ pub record ReportsMissingSegment (names : List FileName) (floor last : ℕ) (dam
   pub earlier : (number : ℕ) → floor ≤ number → number < segment → Contains names (log_name number)
   pub missing : ReportsMissing names (log_name segment) damage
 
--- or the first of these data files
+-- or one of these data files
 pub record ReportsMissingData (names : List FileName) (files : List ℕ) (damage : Damage) : Type 0 where
   pub number : ℕ
   pub listed : Contains files number

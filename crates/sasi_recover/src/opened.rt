@@ -5,7 +5,7 @@ use sasi_manifest::Manifest;
 use sasi_memtable::Memtable;
 use sasi_types::TableNumber;
 
-/// The memtable of the table with a number, as the commit log has it.
+/// The memtable of a table, with the table's number.
 #[derive(Drop)]
 pub struct TableMap {
     pub number: TableNumber,

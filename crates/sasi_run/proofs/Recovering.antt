@@ -1,4 +1,4 @@
--- What a crash leaves is the state after the pieces whose replies were shown, or after one more; and a greatest number of such pieces exists.
+-- What a crash leaves is the state after the pieces whose replies were shown, or after one more; and a largest number of such pieces exists.
 use Rattle.std.proofs.Common.{◌≡◌, ◌⊎◌, ℕ, zero, suc, ◌+◌, ◌-◌, ◌<◌, ◌≤◌, List, [], ◌∷◌, ◌++◌, length, take, drop, Option, Some, None, refl, sym, ◌∙◌, ap, subst, inl, inr, ⊎_elim, arith, append_assoc, length-append}
 use Rattle.std.proofs.lemmas.List.{append-nil, append_cancel_left}
 use Rattle.std.proofs.Math.Seq.{take-append-add, take-append_seam, drop-append_seam}
@@ -59,7 +59,7 @@ silent s (p ∷ pieces) none =
     let first = silent_step s p (nil_front _ _ none) in
     silent (step s p).state pieces (nil_back (step s p).reply _ none) ∙ first
 
--- ---- a greatest number of whole replies exists
+-- ---- a largest number of whole replies exists
 
 abbrev Begins : List ℕ → List ℕ → Type 0
 Begins xs ys = (more : List ℕ) × (ys ≡ xs ++ more)

@@ -37,7 +37,7 @@ pub record IsStateOfImage (StandsFor : StandsRelation) (asked : Option Partition
   pub was : start.image image
   pub stood : StandsFor asked image state
 
--- What a crash leaves of a run of these pieces, where so much was emitted before the run: the replies of the first `count` pieces, for a greatest such number, with a first part of the next reply behind them; and a folder that stands for the state after these pieces, or after one more.
+-- What a crash leaves of a run of these pieces, where so much was emitted before the run: the replies of the first `count` pieces, for the largest such number, with a first part of the next reply behind them; and a folder that stands for the state after these pieces, or after one more.
 pub record Recovers (StandsFor : StandsRelation) (parser : Parser) (asked : Option Partitioner) (start : View) (s : State) (pieces : List Piece) (before : List ℕ) (folder : Folder) (out : List ℕ) : Type 0 where
   pub shown : List ℕ
   pub went : out ≡ before ++ shown

@@ -1,4 +1,4 @@
--- The exit status of the program for each status of a run. The number between them belongs to a status that is still to come.
+-- The exit status of the program for each status of a run. 8 belongs to a status that is still to come.
 use Rattle.std.specs.Prelude.{ℕ}
 use Rattle.sasi_run.specs.declared.status.Status.{Status}
 use Rattle.sasi_run.specs.declared.status.Status.TheVariants.{Done, Refused, Usage, ScriptFault, FolderFault, OutputFault, OutOfMemory, Damaged, PartitionerDiffers, NumbersSpent, ScriptTooLong}

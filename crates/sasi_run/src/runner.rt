@@ -14,7 +14,7 @@ use sasi_store::{OpenFault, Store};
 use std::alloc::Global;
 
 /// Runs a script over the folder of a host, and emits its replies. `words` are those of the command line, without the
-/// program's own. The analyzers are those that an index may ask for, and are dropped as the run ends.
+/// program's own. The analyzers are those that an index may ask for; the run drops them.
 pub fn run<S: Source, H: Host>(
     alloc: Global,
     words: &[String],

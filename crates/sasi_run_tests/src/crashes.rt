@@ -138,7 +138,7 @@ fn check_picked(
     check_state(rt, alloc, case, &mut crashed(rt, host, pick), replies)
 }
 
-/// So it does where its recovery is cut off by any crash, and a run follows.
+/// The same where any crash cuts off its recovery, and a run follows.
 fn check_crash(
     rt: &impl Abort,
     alloc: Global,

@@ -51,7 +51,7 @@ fn take_line(rt: &impl Print, alloc: Global, host: &mut MemHost, line: &str) -> 
     }
 }
 
-// So for a line that begins a new folder.
+// Does what a line says that begins a new folder.
 fn take_new(rt: &impl Print, alloc: Global, host: &mut MemHost, line: &str) -> io::Result<()> {
     *host = MemHost::new(alloc);
     let (word, rest) = line.split_once(' ').unwrap_or((line, ""));

@@ -1,4 +1,4 @@
--- What each stretch of a flush leaves as it is.
+-- What each stage of a flush leaves as it is.
 use Rattle.std.specs.Prelude.{◌≡◌, ◌≤◌, ℕ, suc, List, [], ◌∷◌, map}
 use Rattle.std.proofs.Common.{sym, ap, subst, ◌∙◌, arith}
 use Rattle.std.specs.FinMap.{get}

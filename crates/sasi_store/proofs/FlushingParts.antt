@@ -122,7 +122,7 @@ module _ (a : View) (sound : IsSound a) (p : Parts) (of : IsOfParts p) (ready : 
     flush_at : (l : Layout) (serves : Serves a (hand_of p) l) → IsFlushOf a p.manifest t.memtable numbers l (serves.older ++ serves.current ∷ [])
     flush_at l serves = flush_of a (hand_of p) ready numbers t.memtable held is.file last_is floor_is fits memtable_is under b l serves
 
-    -- a call failed, or memory was out
+    -- a call failed, or memory ran out
     pub flush_stopped : {T U : Type 0} (new : StoreInHand) (f : HostFault) → ListCauses {T = T} a b (Err f) → MakesMoves {T = U} (λ l. Flush number ∷ []) a b (hand_of p) new (Err (fault_of_call f))
     flush_stopped new f causes = record {
       any_moment = λ l serves. moments l (serves.older ++ serves.current ∷ []) (flush_at l serves);

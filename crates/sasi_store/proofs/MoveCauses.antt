@@ -52,7 +52,7 @@ module _ {T U : Type 0} (a b : View) where
   pub call_made : (x : T) (y : U) → ListCauses {T = T} a b (Ok x) → StepCauses {T = U} a b (Ok y)
   call_made x y causes = record { disk = causes.disk; out = causes.out; ok = causes.ok; failed = tt; others = tt }
 
-  -- it was made, and memory was out then
+  -- it was made, and memory ran out then
   pub made_then_full : (x : T) → ListCauses {T = T} a b (Ok x) → StepCauses {T = U} a b (Err fault.OutOfMemory)
   made_then_full x causes = record { disk = causes.disk; out = causes.out; ok = tt; failed = λ same. cc; others = λ _. causes.ok }
 
@@ -66,7 +66,7 @@ none_made v (Err e) other = record { disk = omega arith; out = refl; ok = tt; fa
 pub any_change : (S : Relation) (a b : View) → Changes S a b → Changes AnyFolderChange a b
 any_change S a b change = changes_as a b S AnyFolderChange change (λ x y step. tt)
 
--- memory was out, or a number spent, before anything was done
+-- memory ran out, or a number was spent, before anything was done
 pub makes_nothing : {T : Type 0} (moves : MovesOf) (v : View) (sound : IsSound v) (old new : StoreInHand) (e : StepFault) → OnStepDamage (λ _. ⊥) e → OnSpent (λ kind. (l : Layout) → Serves v old l → spent l (moves l) ≡ Some kind) e → e ≢ fault.Failed → MakesMoves {T = T} moves v v old new (Err e)
 makes_nothing moves v sound old new e undamaged spent_is other = record {
   any_moment = λ l serves. moves_none l v (moves l) sound (λ x now. (_, serves.shape x now));

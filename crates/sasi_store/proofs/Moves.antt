@@ -1,4 +1,4 @@
--- The sources whose heads have the least key go on: what all have left, and what they stay.
+-- The sources whose heads have the least key go on: what all have left, and what stays true of them.
 use Rattle.std.proofs.Common.{◌≡◌, ◌<◌, ℕ, suc, zero, true, false, cond, List, [], ◌∷◌, length, map, set, get_or, slice_get, Option, None, Some, refl, sym, ap, subst, ◌∙◌, arith}
 use Rattle.std.specs.List.{AllByRecursion}
 use Rattle.sasi_types.specs.declared.column.ColumnType.{ColumnType}
@@ -78,7 +78,7 @@ module _ (seen : Option Folder) (key : DecoratedKey) where
 
   -- ---- what stays of the sources
 
-  -- what each step keeps of a source, stays of all
+  -- what each step keeps true of a source stays true of all
   sources_keep : (P : Source → Type 0) → ((source : Source) (head : Head) (after : Source) → StepsTo seen source head after → P source → P after) → (n : ℕ) (heads : List Head) (sources : List Source) (nexts : List Head) (afters : List Source) → AreMoved seen key n heads sources nexts afters → AllByRecursion P sources → AllByRecursion P afters
   sources_keep P keeps zero heads sources nexts afters moved all = subst (AllByRecursion P) (sym moved.1) all
   sources_keep P keeps (suc n) (h ∷ heads) (s ∷ sources) (i ∷ nexts) (t ∷ afters) moved all = (one moved.0, sources_keep P keeps n heads sources nexts afters moved.1 all.1)

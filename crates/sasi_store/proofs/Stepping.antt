@@ -135,7 +135,7 @@ no_kind kind e = cc
 abbrev none_left : Result Outcome StepFault
 none_left = Err fault.OutOfMemory
 
--- memory was out before anything was done
+-- memory ran out before anything was done
 pub step_full : (v : View) (sound : IsSound v) (old : StoreInHand) (piece : Piece) (reply : List ℕ) → Steps piece v v old old reply (Err fault.OutOfMemory)
 step_full v sound old piece reply = record {
   answers = tt;

@@ -1,4 +1,4 @@
--- Steps of a source: what it has left afterwards, and what it stays.
+-- Steps of a source: what it has left afterwards, and what stays true of it.
 use Rattle.std.proofs.Common.{◌≡◌, ℕ, List, [], ◌∷◌, drop, slice_get, Option, None, Some, IfErr, IfOk, IfSome, IsSome, Result, Ok, Err, refl, sym, ap, subst, ◌∙◌}
 use Rattle.sasi_types.specs.declared.column.ColumnType.{ColumnType}
 use Rattle.sasi_types.specs.declared.column.ColumnType.TheVariants as types_

@@ -10,12 +10,12 @@ use Rattle.sasi_layout.specs.declared.number_kind.NumberKind.{NumberKind}
 use Rattle.sasi_store.specs.declared.fault.StepFault.{StepFault}
 use Rattle.sasi_store.specs.declared.fault.StepFault.TheVariants as fault
 
--- a call on the host failed
+-- the fault of a step in which a call on the host failed
 abbrev pub fault_of_call : HostFault → StepFault
 fault_of_call host_fault.Failed = fault.Failed
 fault_of_call host_fault.OutOfMemory = fault.OutOfMemory
 
--- a read failed
+-- the fault of a step in which a read failed
 abbrev pub fault_of_read : ReadFault → StepFault
 fault_of_read read_fault.Failed = fault.Failed
 fault_of_read read_fault.OutOfMemory = fault.OutOfMemory

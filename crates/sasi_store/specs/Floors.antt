@@ -12,7 +12,7 @@ abbrev pub floor_in_hand : ℕ → ℕ → ℕ → List TableInHand → ℕ
 floor_in_hand n table last [] = last
 floor_in_hand n table last (t ∷ ts) = if nat_eq n table then floor_in_hand (suc n) table last ts else lesser t.first (floor_in_hand (suc n) table last ts)
 
--- nothing is held of the table any more
+-- the table has nothing in memory any more
 abbrev pub flushed_in_hand : TableInHand → TableInHand
 flushed_in_hand t = record { first = None; frozen = []; memtable = map_.empty }
 

@@ -35,7 +35,7 @@ HaveBodies m = AllByRecursion (λ e. HasBody e.0.key e.1) (map_.entries m)
 
 -- ---- segments of the log
 
--- the segments from the first one up to before the other are there
+-- the segments from the first one up to before the floor are there
 abbrev pub AreThere : View → ℕ → ℕ → Type 0
 AreThere v first floor = (segment : ℕ) → first ≤ segment → segment < floor → IsThere v (log_name segment)
 

@@ -21,7 +21,7 @@ use sasi_memtable::Memtable;
 use sasi_recover::{Numbers, TableMap};
 use sasi_types::TableNumber;
 
-/// Flushes a table that holds anything in memory.
+/// Flushes a table, unless its memtable is empty.
 pub fn flush_held<H: Host>(
     parts: &mut Parts,
     host: &mut H,

@@ -6,7 +6,7 @@ ghost use Rattle.sasi_store.specs.Flushing.{AreAbsent, AreThere, DeletesSegments
 
 use sasi_host::{Failed, FileName, Host, SegmentNumber};
 
-/// Deletes the segments from the first one up to before the other, and syncs the folder.
+/// Deletes the segments from `first` up to before `floor`, and syncs the folder.
 pub fn delete_segments<H: Host>(
     host: &mut H,
     first: SegmentNumber,
