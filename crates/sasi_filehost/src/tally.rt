@@ -4,7 +4,7 @@ ghost use Rattle.sasi_filehost.specs.HostCounts.{no_calls, after_call, after_emi
 
 use sasi_host::Failed;
 
-// How many calls were made, how many of them failed, and whether the last one did. Each count stays at its last value.
+// How many calls were made, how many of them failed, and whether the last one did. A count stays at the last value of its type.
 #[derive(Clone, Copy)]
 pub struct Tally {
     pub disk_faults: u64,

@@ -28,7 +28,7 @@ mapped f g law format = Decoded rule.Number 0 (renamed f g law) format
 abbrev pub number : Width → Format ℕ
 number width = Sized (Empty (byte_len width)) rule.Number (number_of width)
 
--- one from the least to the most
+-- one from `least` to `most`
 abbrev pub in_range : Width → ℕ → ℕ → Format ℕ
 in_range width least most = checked rule.Number (byte_len width) (λ n. nat_le least n && nat_le n most) (number width)
 

@@ -53,7 +53,7 @@ fn read_header(reader: &mut FieldReader, magic: &[u8], number: u32) -> Result<()
     Ok(())
 }
 
-/// Checks that a file begins with the header of this magic and number, by as many bytes as that has.
+/// Checks that a file begins with the header of this magic and number, by its first bytes, as many as a header has.
 pub fn check_header(file: FileName, magic: &[u8], number: u32, bytes: &[u8]) -> Result<(), Damage>
     requires { length bytes.now ≡ length magic.now + 8 }
     ensures { ReadsPart (file_header magic.now number) 0 file bytes.now result }

@@ -59,7 +59,7 @@ impl<T: Drop> Items<T> {
 
 /// Reads items whose format may depend on the items before.
 pub trait ReadItem<T> {
-    // The format of an item after these.
+    /// The format of an item after these.
     ghost format: { Self → List T → Format T };
 
     /// Reads the next one.

@@ -11,7 +11,7 @@ use crate::numbers::{read_u8, read_u16, read_u32, read_u64};
 use sasi_fields::FieldReader;
 use sasi_host::FormatRule;
 
-/// Reads a number of one byte, from the least to the most.
+/// Reads a number of one byte, from `least` to `most`.
 pub fn read_u8_in_range(reader: &mut FieldReader, least: u8, most: u8) -> Result<u8, FormatFault>
     ensures { Gives (read (in_range w8 least most) reader.old) result reader.new }
 {
@@ -23,7 +23,7 @@ pub fn read_u8_in_range(reader: &mut FieldReader, least: u8, most: u8) -> Result
     Ok(number)
 }
 
-/// Reads a number of two bytes, from the least to the most.
+/// Reads a number of two bytes, big-endian, from `least` to `most`.
 pub fn read_u16_in_range(
     reader: &mut FieldReader,
     least: u16,
@@ -39,7 +39,7 @@ pub fn read_u16_in_range(
     Ok(number)
 }
 
-/// Reads a number of four bytes, from the least to the most.
+/// Reads a number of four bytes, big-endian, from `least` to `most`.
 pub fn read_u32_in_range(
     reader: &mut FieldReader,
     least: u32,
@@ -55,7 +55,7 @@ pub fn read_u32_in_range(
     Ok(number)
 }
 
-/// Reads a number of eight bytes, from the least to the most.
+/// Reads a number of eight bytes, big-endian, from `least` to `most`.
 pub fn read_u64_in_range(
     reader: &mut FieldReader,
     least: u64,

@@ -8,7 +8,7 @@ use sasi_fields::FieldReader;
 use sasi_formats::{damage_in, expect};
 use sasi_host::{Damage, FileName, FormatRule};
 
-/// Checks that this mark stands at this offset of a file, by as many bytes as it has.
+/// Checks that this mark stands at this offset of a file, by the bytes there, as many as the mark has.
 pub fn check_mark(file: FileName, at: u64, mark: &[u8], bytes: &[u8]) -> Result<(), Damage>
     requires size { length bytes.now ≡ length mark.now }
     requires offset { at + length mark.now < 2 ^ 64 }

@@ -8,7 +8,7 @@ ghost use Rattle.sasi_framing.specs.Framing.{EndsWith, BeginsAndEndsWith};
 
 use sasi_host::{BufferedFile, FileName, FormatRule, Host, PageReader, ReadFault, found};
 
-/// Reads the last bytes of a file that has at least so many, and gives its size.
+/// Reads the last bytes of a file, and gives its size. A file of fewer than `least` bytes is too short.
 pub fn read_footer<H: Host, P: PageReader>(
     host: &mut H,
     pages: &mut P,
@@ -36,7 +36,7 @@ pub fn read_footer<H: Host, P: PageReader>(
     Ok(size)
 }
 
-/// Reads the first and the last bytes of a file that has at least so many, and gives its size.
+/// Reads the first and the last bytes of a file, and gives its size. A file of fewer than `least` bytes is too short.
 pub fn read_header_and_footer<H: Host, P: PageReader>(
     host: &mut H,
     pages: &mut P,

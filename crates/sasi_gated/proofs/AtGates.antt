@@ -24,7 +24,7 @@ gate_byte gate bytes behind is = ⊎_elim
     (λ no. subst (λ (b : Bool). HasGate (not b) bytes behind) (sym no.0) (gate, no.1, is))
     (eqb_tells gate 0)
 
--- which was read
+-- a gate whose byte was read
 pub gate_seen : (bytes out : Bytes) (at : ℕ) → out ≡ take 1 (drop at bytes) → at + 1 ≤ length bytes
     → HasGate (not (eqb (get_or out 0 0) 0)) (drop at bytes) (drop (at + 1) bytes)
 gate_seen bytes out at is within =

@@ -1,4 +1,4 @@
--- Laws of where one stands in a gated file.
+-- Laws of where a reader stands in a gated file.
 use Rattle.std.specs.Prelude.{◌≡◌, ℕ, List, Some}
 use Rattle.std.proofs.Common.{inl, ◌∙◌, ap}
 use Rattle.std.specs.FinMap.{get}

@@ -155,7 +155,7 @@ left_at file bytes at done rest records gate gated =
     let same : gated.rest ≡ gate.front ++ rest = header_apart file gated.rest (gate.front ++ rest) (sym gated.is ∙ gate.is ∙ append_assoc (header file) gate.front rest) in
     from_gate_behind gate.front done rest records gate.records_stand (subst (λ (l : Bytes). FromGate l records) same gated.records_stand)
 
--- a gated file at whose end one stands has these records
+-- a gated file at whose end a reader stands has these records
 pub gated_end : (v : View) (file : FileName) (at : ℕ) (records : List Bytes) → (end : IsAtEnd v file at records) → IsGated file end.bytes records
 gated_end v file at records end =
     subst (λ (l : List Bytes). IsGated file end.bytes l) (append-nil records) (gated_at file end.bytes at records end.rest [] end.at_gate end.closed)

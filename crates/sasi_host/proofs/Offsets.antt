@@ -1,4 +1,4 @@
--- Bytes that stand at an start of a file.
+-- Bytes that stand at an offset of a file.
 use Rattle.std.specs.Prelude.{◌≡◌, ◌≢◌, ℕ, ◌+◌, ◌≤◌, ◌++◌, length, take, drop, refl}
 use Rattle.std.proofs.Common.{sym, ◌∙◌, ap, subst, arith, append_assoc, length-append, length-drop, take-append-drop}
 use Rattle.std.proofs.lemmas.List.{take_at, drop_at, drop-drop, length-take-le}
@@ -34,7 +34,7 @@ at_window bytes at part has =
 pub at_ends : (bytes : Bytes) (at : ℕ) (part : Bytes) → HasAt bytes at part → at + length part ≤ length bytes
 at_ends bytes at part has = omega (arith, ap length has.is, has.offset_is, length-append (has.front ++ part) has.rest, length-append has.front part)
 
--- as many bytes at one start are the same
+-- as many bytes at the same offset are the same
 pub same_at : (bytes : Bytes) (at : ℕ) (p q : Bytes) → HasAt bytes at p → HasAt bytes at q → length p ≡ length q → p ≡ q
 same_at bytes at p q hp hq long = sym (at_window bytes at p hp) ∙ ap (λ (n : ℕ). take n (drop at bytes)) long ∙ at_window bytes at q hq
 
@@ -85,7 +85,7 @@ pub differs_in : (whole : Bytes) (offset : ℕ) (bytes : Bytes) (at : ℕ) (seen
     → Differs whole (offset + at) seen wanted
 differs_in whole offset bytes at seen wanted outer inner = record { stands = inner_at whole offset bytes at seen outer inner.stands; long = inner.long; differs = inner.differs }
 
--- at an start of the bytes others stand than the wanted ones
+-- at an offset of the bytes others stand than the wanted ones
 pub other_at : (file : FileName) (at : ℕ) (bytes : Bytes) (start n : ℕ) (wanted : Bytes) (rule : FormatRule) (damage : Damage) → n ≡ length wanted
     → start + n ≤ length bytes → damage.file ≡ file → damage.at ≡ at + start → damage.rule ≡ rule
     → seen_bytes damage.seen ≡ take n (drop start bytes) → take (length wanted) (drop start bytes) ≢ wanted

@@ -97,16 +97,16 @@ torn_by old at bytes le = record {
         omega
         (arith, front, length-append (take at old ++ bytes) (drop (at + length bytes) old), length-append (take at old) bytes, length-drop (at + length bytes) old)
 
--- and so is none
+-- no write at all is one, too
 itself : (at n : ℕ) (b : Bytes) → Torn at n b b
 itself at n b = record { before = refl; after = refl; no_shorter = omega arith; no_longer = omega arith }
 
--- and so of a file that may not be there
+-- the same of a file that may not be there
 pub stays_on : (at n : ℕ) (o : Option Bytes) → InPlace (Torn at n) o o
 stays_on at n None = tt
 stays_on at n (Some b) = itself at n b
 
--- and so of a write that would leave a gap
+-- a write that may leave a gap does what a crash may leave of it
 overwrites_well : (old : Bytes) (at : ℕ) (bytes : Bytes) → Torn at (length bytes) old (overwritten old at bytes)
 overwrites_well old at bytes = from (nat_le at (length old)) refl
   where
@@ -124,7 +124,7 @@ writes_well file at bytes f (Some old) is = record {
       (subst (λ (o : Option Bytes). InPlace (Torn at (length bytes)) (Some old) o) (sym (insert_here f file (overwritten old at bytes))) (overwrites_well old at bytes));
 }
 
--- each call does
+-- the same of each call
 pub applies_well : AppliesWell
 applies_well (Created file) f = record { others = λ name apart. insert_apart f file name [] apart; this = inr (insert_here f file []) }
 applies_well (Wrote file at bytes) f = writes_well file at bytes f (get f file) refl
@@ -139,7 +139,7 @@ take_none : (k : ℕ) → take {A = ℕ} k [] ≡ []
 take_none zero = refl
 take_none (suc k) = refl
 
--- what is there twice is the same
+-- an option has one value
 pub some_same : {T : Type 0} (a b : T) → Some a ≡ Some b → a ≡ b
 some_same a b is = cc
 

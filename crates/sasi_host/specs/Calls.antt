@@ -26,7 +26,7 @@ apply FolderSynced folder = folder
 apply (Emitted bytes) folder = folder
 apply (Put file bytes) folder = insert folder file bytes
 
--- what a call may make of an image, where the folder reads so as it comes
+-- what a call may make of an image, where the folder reads like this before it
 abbrev pub Effect : Call → Folder → Folder → Folder → Type 0
 Effect (Created file) folder was image = FileChange file MaybeCreated was image
 Effect (Wrote file at bytes) folder was image = FileChange file (InPlace (Torn at (length bytes))) was image

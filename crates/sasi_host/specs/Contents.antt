@@ -31,7 +31,7 @@ told_after S a b change told =
     let g = change.seen f.0 f.1 in
     ap (λ (o : Option Folder). is_some o) g.1
 
--- a file that was there, and changed in offset, is there
+-- a file that was there, and changed in place, is there
 pub went : (R : Bytes → Bytes → Type 0) (x y : Option Bytes) (a : Bytes) → x ≡ Some a → InPlace R x y → (b : Bytes) × (y ≡ Some b) × R a b
 went R None y a is on = absurd (cc)
 went R (Some x) None a is on = absurd on

@@ -1,4 +1,4 @@
--- Bytes at an start of a file, and what damage tells of them.
+-- Bytes at an offset of a file, and what damage tells of them.
 use Rattle.std.specs.Prelude.{◌≡◌, ◌≢◌, ℕ, ◌+◌, ◌<◌, ◌++◌, length, take, Some}
 use Rattle.std.specs.Int.{to_be_bytes, w64}
 use Rattle.sasi_host.specs.declared.name.FileName.{FileName}
@@ -20,16 +20,16 @@ abbrev pub OnDamage : (Damage → Type 0) → ReadFault → Type 0
 OnDamage P (fault.Damaged damage) = P damage
 OnDamage P _ = Unit {0}
 
--- ---- bytes at an start
+-- ---- bytes at an offset
 
--- these bytes stand at this start
+-- these bytes stand at this offset
 pub record HasAt (bytes : Bytes) (at : ℕ) (part : Bytes) : Type 0 where
   pub front : Bytes
   pub rest : Bytes
   pub is : bytes ≡ front ++ part ++ rest
   pub offset_is : length front ≡ at
 
--- as many bytes as are wanted stand at this start, but other ones
+-- as many bytes as are wanted stand at this offset, but other ones
 pub record Differs (bytes : Bytes) (at : ℕ) (seen wanted : Bytes) : Type 0 where
   pub stands : HasAt bytes at seen
   pub long : length seen ≡ length wanted
@@ -44,7 +44,7 @@ pub record TellsSize (file : FileName) (bytes : Bytes) (damage : Damage) : Type 
   pub offset_is : damage.at ≡ length bytes
   pub seen : seen_bytes damage.seen ≡ to_be_bytes w64 (length bytes)
 
--- the damage is that this file ends before this start
+-- the damage is that this file ends before this offset
 pub record ShowsEnd (end : ℕ) (file : FileName) (bytes : Bytes) (damage : Damage) : Type 0 where
   pub tells : TellsSize file bytes damage
   pub short : length bytes < end
@@ -53,7 +53,7 @@ pub record ShowsEnd (end : ℕ) (file : FileName) (bytes : Bytes) (damage : Dama
 abbrev pub DamageShown : View → FileName → (Bytes → Damage → Type 0) → ReadFault → Type 0
 DamageShown v file Shows = OnDamage (λ damage. (bytes : Bytes) → contents v file ≡ Some bytes → Shows bytes damage)
 
--- the damage is that at an start of these bytes, which stand at `at` of the file, other bytes stand than the rule wants
+-- the damage is that at an offset of these bytes, which stand at `at` of the file, other bytes stand than the rule wants
 pub record IsOther (file : FileName) (at : ℕ) (window : Bytes) (start : ℕ) (wanted : Bytes) (rule : FormatRule) (damage : Damage) : Type 0 where
   pub named : damage.file ≡ file
   pub rule_is : damage.rule ≡ rule

@@ -13,19 +13,19 @@ pub record CanRead (Keeps : Option Folder → Type 0) (v : View) (file : FileNam
   pub there : IsThere v file
   pub agrees : Keeps v.files
 
--- so are the pages that it keeps afterwards, which are of no further file but this one; and the folder is unchanged
+-- the folder is unchanged, the pages that the reader then keeps are those of it, and they are of no further file but this one
 pub record HasRead (Keeps : Option Folder → Type 0) (Before After : FileName → Type 0) (old new : View) (file : FileName) : Type 0 where
   pub agrees : Keeps new.files
   pub covers : (name : FileName) → After name → Before name ⊎ (name ≡ file)
   pub changes : Changes Same old new
 
--- through a buffered file, whose page is that of the file
+-- the same of a read through a buffered file: the file has the buffered page
 pub record CanReadOn (Keeps : Option Folder → Type 0) (v : View) (was : Buffered) : Type 0 where
   pub there : IsThere v was.file
   pub agrees : Keeps v.files
   pub buffered : IsBuffered was v.files
 
--- and so is the page that it has afterwards, of the same file
+-- the same afterwards, and the buffered file is still that of this name
 pub record HasReadOn (Keeps : Option Folder → Type 0) (Before After : FileName → Type 0) (old new : View) (before after : Buffered) : Type 0 where
   pub agrees : Keeps new.files
   pub covers : (name : FileName) → After name → Before name ⊎ (name ≡ before.file)

@@ -9,9 +9,9 @@ use crate::FileName;
 pub enum FormatRule {
     /// The file has fewer bytes than the format needs there.
     Short,
-    /// The manifest of the highest seal, or a live log or file that it lists, isn't in the folder.
+    /// The manifest of the highest seal, or a live segment of the log or a file that it lists, isn't in the folder.
     Missing,
-    /// No seal is there, and this file is one other than the first manifest and the first log.
+    /// No seal is there, and this file is neither the first manifest nor the first segment of the log.
     NoSeal,
     /// A magic text differs.
     Magic,
@@ -21,7 +21,7 @@ pub enum FormatRule {
     Number,
     /// An item doesn't follow the one before it.
     Order,
-    /// An start field leads outside the file, or to a wrong part of it.
+    /// An offset leads outside the file, or to a wrong part of it.
     Place,
     /// Bytes that must be UTF-8, a value of a type or a free name aren't.
     Text,
@@ -53,13 +53,13 @@ impl Seen {
 #[derive(Clone, Copy, Debug, PartialEq, Eq)]
 pub struct Damage {
     pub file: FileName,
-    /// The start from the file's start.
+    /// The offset in the file.
     pub at: u64,
     pub rule: FormatRule,
     pub seen: Seen,
 }
 
-/// The damage of a file that breaks the rule at this start, where it has these bytes.
+/// The damage of a file that breaks the rule at this offset, where it has these bytes.
 pub fn found(file: FileName, at: u64, rule: FormatRule, bytes: &[u8]) -> Damage
     requires { length bytes.now ≤ 8 }
     ensures file { result.file ≡ file }
@@ -75,7 +75,7 @@ pub fn found(file: FileName, at: u64, rule: FormatRule, bytes: &[u8]) -> Damage
     }
 }
 
-/// Checks that the wanted bytes stand at this start of `bytes`, which stand at `at` of the file.
+/// Checks that the wanted bytes stand at `start` of `bytes`, which stand at the offset `at` of the file.
 pub fn check_part(
     file: FileName,
     at: u64,

@@ -9,7 +9,9 @@ use std::alloc::AllocError;
 /// Why a call on a host fails.
 #[derive(Clone, Copy, Debug, PartialEq, Eq)]
 pub enum HostFault {
+    /// An I/O error.
     Failed,
+    /// Memory can't grow.
     OutOfMemory,
 }
 
@@ -32,8 +34,11 @@ impl From<AllocError> for HostFault {
 /// Why a read of a format fails.
 #[derive(Clone, Copy, Debug, PartialEq, Eq)]
 pub enum ReadFault {
+    /// An I/O error.
     Failed,
+    /// Memory can't grow.
     OutOfMemory,
+    /// The file is corrupt.
     Damaged(Damage),
 }
 

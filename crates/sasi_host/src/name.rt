@@ -12,11 +12,17 @@ use std::cmp::Ordering;
 /// The kind of a file of the folder.
 #[derive(Clone, Copy, Debug)]
 pub enum Kind {
+    /// The list of the tables and their files.
     Manifest,
+    /// An empty file that tells that a manifest is whole.
     Seal,
+    /// A segment of the commit log.
     Log,
+    /// A data file of a table.
     Data,
+    /// An index file that goes with a data file.
     Index,
+    /// A sorted run of the postings that are gathered for an index file.
     Segment,
 }
 

@@ -1,4 +1,4 @@
-// The source and the host in memory, each call once.
+// The source and the host in memory: reads, emits, and calls that fail.
 use sasi_host::{Failed, FileName, Host, Kind, MemHost, MemSource, Source};
 use std::alloc::Global;
 use std::process::Abort;

@@ -10,7 +10,7 @@ use std::process::Abort;
 use std::rt::Files;
 use std::{fs, io};
 
-/// Files of which nothing is there but what a test needs.
+/// The error of a call that no test needs.
 fn unsupported() -> io::Error {
     io::ErrorKind::Unsupported.into()
 }
@@ -59,7 +59,7 @@ fn read_that_is_cut_short_goes_on(rt: HostRuntime) {
     check_read(&rt, 10, b"", 2);
 }
 
-/// What the calls on a folder were, in their order, as digits: 1 makes it, 2 opens its parent, 3 syncs that, 4 opens the folder.
+/// A folder that notes the calls on it as digits, in their order: 1 makes it, 2 opens its parent, 3 syncs that, 4 opens the folder.
 #[derive(Drop)]
 struct FakeFolder<'a> {
     is_there: bool,

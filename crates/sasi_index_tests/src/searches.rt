@@ -417,7 +417,7 @@ fn long_term(k: u64) -> [u8; 1024] {
     term
 }
 
-/// Adds 100 terms of 1,024 bytes: three or four to a block, so there are four levels of pointers above them.
+/// Adds 100 terms of 1,024 bytes: three to a block, so there are four levels of pointers above them.
 pub fn add_long_terms(rt: &impl Abort, alloc: Global, gather: &mut Gather, last: &mut Posting)
     requires { AreUpTo gather.old.postings last.old }
     ensures { AreUpTo gather.new.postings last.new }

@@ -43,7 +43,7 @@ none_behind test zero (one ∷ others) none =
 none_behind test (suc n) [] none = refl
 none_behind test (suc n) (one ∷ others) none = none_behind test n others (λ k le within. none (suc k) (omega (arith, le)) (omega (arith, within)))
 
--- the scan began at an entry, and is so many further on; it has this entry in hand, and the sources are those of the lists that
+-- the scan began at an entry, and is so many further on; it read this entry last, and the sources are those of the lists that
 -- were asked for so far
 pub record Collects (bytes : Bytes) (content : IndexContent) (ref : BlockRef) (op : Op) (body : Bytes) (last : Option Pair) (floor turn page index : ℕ) (entry : Option TermEntry) (sources : List Source) : Type 0 where
   pub from : ℕ
@@ -110,7 +110,7 @@ module _ (v : View) (file : FileName) (bytes : Bytes) (content : IndexContent) (
             (front_lists passed (λ k lt within. below_lower content.kind op body (get_or content.terms k ([], [])).0 (ap (λ (t : Bytes). is_below t (lower content.kind op body)) (sym (term_is k within)) ∙ counts.below k lt))) gives);
       }
 
-  -- the entry in hand is that of the next term
+  -- the entry that was read last is that of the next term
   pub record IsHere (last : Option Pair) (floor turn page index : ℕ) (entry : TermEntry) (k : ℕ) : Type 0 where
     pub within : k < length content.terms
     pub is_entry : IsEntryOf bytes (get_or content.terms k ([], [])) entry

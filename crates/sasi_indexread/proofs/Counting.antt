@@ -31,7 +31,7 @@ use Rattle.sasi_indexread.proofs.Scanning.{IsShort, blocks_there, some_here, spi
 no_truth : false ≡ true → ⊥
 no_truth e = cc
 
--- the scan has this entry in hand, and cost no more than the terms so far
+-- the scan read this entry last, and cost no more than the terms so far
 pub record Costs (content : IndexContent) (ref : BlockRef) (op : Op) (body : Bytes) (turn page index : ℕ) (entry : Option TermEntry) (low high : ℕ) : Type 0 where
   pub from : ℕ
   pub steps : StepsTo ref (entries content) (from + turn) page index entry

@@ -162,7 +162,7 @@ module _ (v : View) (opened : Opened) (op : Op) (body : Bytes) (short : IsShort 
       all_passed v opened.file on.bytes content on.index_file (short on.bytes on.reads) on.reads op body some_here opened.blocks last floor turn page index entry sources was
       (drop_all turn (entries content) (omega (arith, le, few_terms on.bytes content on.index_file (short on.bytes on.reads))))
 
--- the entry in hand has a tree that is there
+-- the entry that was read last has a tree that is there
 pub record HasList (bytes : Bytes) (entry : TermEntry) : Type 0 where
   pub tree : TreeRef
   pub pairs : List Pair
@@ -175,7 +175,7 @@ entry_there v opened op body short some content on last floor turn page index en
     let here = in_hand v opened.file on.bytes content on.index_file (short on.bytes on.reads) on.reads op body (some_here v opened op body short some content on) opened.blocks last floor turn page index (was.from + turn) entry was.steps.0 in
     record { tree = here.is_entry.tree; pairs = _; list = here.is_entry.list; there = here.is_entry.has }
 
--- the tree of the entry in hand is there
+-- the tree of the entry that was read last is there
 pub list_spares : (v w : View) (opened : Opened) (file : FileName) (entry : TermEntry) (f : ReadFault) → IsShort v opened.file → Changes Same v w → file ≡ opened.file
     → ((content : IndexContent) (on : IsOpenOn v opened content) → HasList on.bytes entry) → NoFalseListDamage w file entry f → NoFalseSearchDamage v opened f
 list_spares v w opened file entry fault.Failed short same named has right = tt

@@ -16,7 +16,7 @@ use Rattle.sasi_indexwrite.specs.Content.{IndexContent, TermPairs}
 
 -- ---- ranges
 
--- a column of this type has a number in the range, where its number that is nearest to the least one is in it; texts and uuids are none
+-- a column of this type has a number in the range, where its number that is nearest to the least one is in it; texts and uuids are no numbers
 abbrev pub has_number : ColumnType → ℤ → ℤ → Bool
 has_number Text least greatest = false
 has_number Int least greatest = is_between least greatest (Some (saturate_signed w32 least))

@@ -26,7 +26,7 @@ abbrev pub AddsIf : View → FileName → Op → TermEntry → Bool → Bool →
 AddsIf v file op entry false more old new = (more ≡ not (is_run op)) × (new ≡ old)
 AddsIf v file op entry true more old new = (more ≡ true) × AddsList v file entry.list old new
 
--- it is added where its term is asked for, and others can be behind it if one is or those that are don't follow one another
+-- the entry's tree is added where its term is asked for; others may follow then, and else where those that are asked for aren't in a row
 abbrev pub AddsEntry : View → FileName → ColumnType → Op → Bytes → TermEntry → Bool → List Source → List Source → Type 0
 AddsEntry v file kind op body entry more old new = AddsIf v file op entry (is_match kind op body entry.term) more old new
 

@@ -12,7 +12,7 @@ use Rattle.sasi_indexwrite.specs.Content.{IndexContent}
 use Rattle.sasi_indexwrite.specs.Files.{IsIndexFile}
 use Rattle.sasi_indexwrite.specs.Format.{spill_ref}
 
--- what one knows of an index file in hand
+-- the view of an open index file
 pub record Opened : Type 0 where
   pub file : FileName
   -- the type of the indexed column

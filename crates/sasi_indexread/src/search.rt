@@ -21,8 +21,8 @@ use sasi_types::{Pair, Token};
 use std::alloc::Global;
 use std::marker::Model;
 
-/// A search of an index file. It collects the trees of the terms that are asked for at the first pair, and merges them: each has
-/// its next pair in hand and a page. After a fault it isn't used again.
+/// A search of an index file. It collects the trees of the terms that are asked for at the first pair, and merges them: it keeps the
+/// next pair and one page of each in memory. After an error it isn't used again.
 #[derive(Drop)]
 pub struct Search {
     alloc: Global,

@@ -57,7 +57,7 @@ is_first at first = first % 4096 == 0 && (at % 4096 == 0 && (nat_le 4096 first &
 abbrev pub has_room : ℕ → ℕ → ℕ → Bool
 has_room at first blocks = if nat_le ((at - first) / 4096) 1 then blocks == (at - first) / 4096 else (nat_lt 1 blocks && nat_lt blocks ((at - first) / 4096))
 
--- and the others are those of so many levels of pointers: one block is one level, and more have two blocks in the lowest one
+-- and the others are those of so many levels of pointers: one block is one level, and where there are more the lowest level has two at least
 abbrev pub has_levels : ℕ → ℕ → ℕ → ℕ → Bool
 has_levels at first blocks levels =
     if nat_le blocks 1 then levels == 0 else (if (at - first) / 4096 - blocks == 1 then levels == 1 else (nat_lt 1 levels && nat_lt levels ((at - first) / 4096 - blocks)))

@@ -65,7 +65,7 @@ fn end_file<H: Host>(
 }
 
 /// Writes the file of an index from the postings that were gathered for it, and syncs it. Its name becomes durable when the
-/// folder is synced. The pairs of one term are in memory at a time, and the terms with the places of their trees.
+/// folder is synced. The pairs of one term are in memory at a time, and the terms with the offsets of their trees.
 ///
 /// An index of the mode `Sparse` isn't built yet. A gathering has each posting once, and one of the spill has no term.
 pub fn write_index<H: Host>(

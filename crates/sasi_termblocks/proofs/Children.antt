@@ -43,7 +43,7 @@ pointer_kept low high bytes index t place has =
       (when_is (is_place low high place) place place next.is.ends.is_value).0,
     )
 
--- what the place of a page is
+-- what the offset of a page is
 pub record IsPageIn (low high place : ℕ) : Type 0 where
   pub aligned : place % 4096 ≡ 0
   pub above : low ≤ place / 4096

@@ -91,7 +91,7 @@ pub fault_moved : {A : Type 0} (format : Format A) (block : Bytes) (index : ℕ)
     → IsFault (BreaksEntry format block index) now
 fault_moved format block index s f now is fails moved near = entry_moved format block index f now (subst (λ (r : Reading). FailsWith (read format r) f) is fails) moved near
 
--- the place of a pointer alone
+-- the offset of a pointer alone
 place_got : (o : Outcome (Bytes × ℕ)) (place : ℕ) (t : Reading) → outcome_as (λ both. both.1) o ≡ Got place t → (x : Bytes) × (o ≡ Got (x, place) t)
 place_got (Got both u) place t is =
     let value : both.1 ≡ place = cc in

@@ -39,7 +39,7 @@ led_within : (bytes : Bytes) (r : BlockRef) (sought : Bytes) (level page : ℕ) 
 led_within bytes r sought level page (from_top _ _ some is page_is) = omega (arith, is)
 led_within bytes r sought level page (further_down _ _ from below place window leads stands long bound has page_is) = omega (arith, led_within bytes r sought (level + 1) from leads)
 
--- in the format they lead to the block where the term's place is
+-- in the format they lead to the block for the term
 pub led_for : (bytes : Bytes) (r : BlockRef) (entries : List TermEntry) (sought : Bytes) (level page : ℕ) → HasBlocks bytes r entries → LeadsFor bytes r sought level page → IsPageFor r.first entries level sought page
 led_for bytes r entries sought level page has (from_top _ _ some is page_is) = top_for bytes r page page_is entries level sought has is some
 led_for bytes r entries sought level page has (further_down _ _ from below place window leads stands long bound entry page_is) =

@@ -13,7 +13,7 @@ use Rattle.sasi_termblocks.specs.Entries.{is_below, term, term_entry}
 use Rattle.sasi_termblocks.specs.Descents.{pointer_to}
 use Rattle.sasi_termblocks.specs.Windows.{BreaksEntry, BreaksFront, BreaksNext, BreaksOrder, HasEntry, bytes_in, count_in, offset_in}
 
--- the place is that of a pointer with some term
+-- the pointer with this index has some term and this offset
 abbrev pub HasPlace : ℕ → ℕ → Bytes → ℕ → ℕ → Type 0
 HasPlace low high block index place = (t : Bytes) × HasEntry (pointer_to low high) block index (t, place)
 

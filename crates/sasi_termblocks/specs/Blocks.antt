@@ -78,12 +78,12 @@ least (item ∷ others) = item.term
 abbrev pub leasts : List Item → List Bytes
 leasts items = map least (blocks items)
 
--- pointers to blocks with these least terms, of which the first stands at this place
+-- pointers to blocks with these least terms, of which the first stands at this offset
 abbrev pub pointers_to : ℕ → List Bytes → List Item
 pointers_to place [] = []
 pointers_to place (term ∷ others) = pointer_item term place ∷ pointers_to (place + 4096) others
 
--- the entries of the level above one of these entries at this place
+-- the entries of the level above one of these entries at this offset
 abbrev pub above : ℕ → List Item → List Item
 above at items = pointers_to at (leasts items)
 
@@ -93,7 +93,7 @@ next_at at items = at + 4096 * length (blocks items)
 
 -- ---- all levels
 
--- a level at this place, and so many levels above it
+-- a level at this offset, and so many levels above it
 unfoldable pub levels_bytes : ℕ → ℕ → List Item → Bytes
 levels_bytes zero at items = level_bytes items
 levels_bytes (suc more) at items = level_bytes items ++ levels_bytes more (next_at at items) (above at items)
@@ -103,7 +103,7 @@ unfoldable pub EndsAfter : ℕ → ℕ → List Item → Type 0
 EndsAfter zero at items = length (blocks items) ≤ 1
 EndsAfter (suc more) at items = (1 < length (blocks items)) × EndsAfter more (next_at at items) (above at items)
 
--- the place of the last level's block
+-- the offset of the last level's block
 unfoldable pub top_of : ℕ → ℕ → List Item → ℕ
 top_of zero at items = at
 top_of (suc more) at items = top_of more (next_at at items) (above at items)
@@ -115,7 +115,7 @@ top_pointer (suc more) at items = top_of (suc more) at items
 abbrev pub items_of : List TermEntry → List Item
 items_of entries = map term_item entries
 
--- the reference of the blocks of these entries at this place
+-- the reference of the blocks of these entries at this offset
 pub record IsRefOf (at : ℕ) (entries : List TermEntry) (ref : BlockRef) : Type 0 where
   pub first : ref.first ≡ at
   pub blocks_are : ref.blocks ≡ length (blocks (items_of entries))

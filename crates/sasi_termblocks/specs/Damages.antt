@@ -33,7 +33,7 @@ BreaksTerms block broken at seen =
     ⊎ ((index : ℕ) × (index + 1 < count_in block) × BreaksOrder block index broken at seen)
     ⊎ ((index : ℕ) × (index + 1 < count_in block) × BreaksNext block index broken at seen)
 
--- what breaks a pointer block, whose places are those of pages from one to another
+-- what breaks a pointer block, whose offsets are those of pages from `low` up to `high`, which isn't among them
 abbrev pub BreaksPointers : ℕ → ℕ → Bytes → FormatRule → ℕ → Bytes → Type 0
 BreaksPointers low high block broken at seen =
     BreaksFront block broken at seen

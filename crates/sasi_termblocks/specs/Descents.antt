@@ -1,4 +1,4 @@
--- The way from the top block down to the block where a term's place is.
+-- The way from the top block down to the term block for a term.
 use Rattle.std.specs.Prelude.{◌≡◌, ℕ, zero, suc, ◌+◌, ◌*◌, ◌/◌, ◌%◌, ◌<◌, ◌&&◌, ◌==◌, Bool, true, false, nat_le, nat_lt, List, [], length, get_or, if◌then◌else◌}
 use Rattle.std.specs.Int.{w64}
 use Rattle.sasi_host.specs.Names.{Bytes}
@@ -12,7 +12,7 @@ use Rattle.sasi_termblocks.specs.Blocks.{Item, above, blocks, items_of, least, n
 
 -- ---- the levels, counted from the term blocks on
 
--- the place of a level
+-- the offset of a level
 abbrev pub level_at : ℕ → ℕ → List Item → ℕ
 level_at zero at items = at
 level_at (suc level) at items = level_at level (next_at at items) (above at items)
@@ -38,7 +38,7 @@ pub record IsPageFor (first : ℕ) (entries : List TermEntry) (level : ℕ) (sou
 
 -- ---- pointers
 
--- the place is that of a page from one page to another
+-- the offset is that of a page from `low` up to `high`, which isn't among them
 abbrev pub is_place : ℕ → ℕ → ℕ → Bool
 is_place low high place = place % 4096 == 0 && (nat_le low (place / 4096) && nat_lt (place / 4096) high)
 

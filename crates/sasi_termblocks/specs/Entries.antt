@@ -36,7 +36,7 @@ is_behind (Some before) pair = is_before before pair
 abbrev pub pair : Format Pair
 pair = mapped (λ p. record { token = p.0; place = p.1 }) (λ p. (p.token, p.place)) (λ _. refl) (number w64 & number w64)
 
--- the place of a tree's root, and its number of pairs
+-- the offset of a tree's root, and its number of pairs
 abbrev pub tree : Format TreeRef
 tree = mapped (λ t. record { root = t.0; pairs = t.1 }) (λ t. (t.root, t.pairs)) (λ _. refl) (number w64 & number w64)
 
@@ -86,6 +86,6 @@ postings = tagged flags flags_of (λ n. select (n == 1) in_tree inline)
 abbrev pub term_entry : Format TermEntry
 term_entry = mapped (λ e. record { term = e.0; list = e.1.0; inline = e.1.1 }) (λ e. (e.term, (e.list, e.inline))) (λ _. refl) (term & postings)
 
--- the least term below a block, and the block's place
+-- the least term of a block, and the block's offset
 abbrev pub pointer : Format (Bytes × ℕ)
 pointer = term & number w64

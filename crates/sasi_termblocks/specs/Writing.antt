@@ -30,7 +30,7 @@ pub record Packs (packer : Packer) (cut : Cut) : Type 0 where
   pub entries_are : packer.entries.items ≡ entries_bytes cut.last
   pub leasts_are : packer.leasts.items ≡ map least (with_last cut.full cut.last)
 
--- the least terms, with that of a new block where so many bytes of full blocks have all the others
+-- the least terms, with that of a new block where there are no more of them than full blocks, which have so many bytes
 abbrev pub leasts_with : ℕ → List Bytes → Bytes → List Bytes
 leasts_with full terms term = if nat_le (4096 * length terms) full then (terms ++ term ∷ []) else terms
 

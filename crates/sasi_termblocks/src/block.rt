@@ -185,7 +185,7 @@ pub fn check_entry(
     Ok(())
 }
 
-// The place of the pointer with this index, which is that of a page from one to another.
+// The offset to which the pointer with this index leads: that of a page from `low` up to `high`, which isn't among them.
 pub fn place_at(block: &[u8], index: usize, low: u64, high: u64) -> Result<u64, BlockFault>
     requires whole { length block.now ≡ 4096 }
     requires within { 4 + 2 * index ≤ 4096 }
@@ -198,7 +198,7 @@ pub fn place_at(block: &[u8], index: usize, low: u64, high: u64) -> Result<u64, 
     }
 }
 
-// The place of the first pointer, which leads to this page.
+// The offset to which the first pointer leads: that of this page.
 pub fn first_place(block: &[u8], page: u64) -> Result<u64, BlockFault>
     requires whole { length block.now ≡ 4096 }
     requires page { page ≤ 2 ^ 52 }
@@ -228,7 +228,7 @@ fn has_below(block: &[u8], index: usize, sought: &[u8]) -> Result<bool, BlockFau
     Ok(is_below(found, sought))
 }
 
-// Entries from one index to another.
+// The entries from the index `low` up to `high`, which isn't among them.
 #[derive(Clone, Copy)]
 struct Between {
     low: usize,

@@ -27,7 +27,7 @@ pub fn put_block(out: &mut Vec<u8>, starts: &[u16], entries: &[u8]) -> Result<()
     Ok(())
 }
 
-// Appends the offsets of entries that begin so far behind this one.
+// Appends the offsets of entries, which begin so far behind `table`.
 fn put_offsets(out: &mut Vec<u8>, table: u16, starts: &[u16]) -> Result<(), AllocError>
     requires table { table ≤ 4096 }
     requires each { (k : ℕ) → slice_index starts.now k ≤ 4096 }

@@ -54,7 +54,7 @@ impl Blocks {
         }
     }
 
-    /// The first entry at or above the term; None where there is none. A fault leaves its position unchanged, but may leave
+    /// The first entry at or above the term; None where there is none. An error leaves its position unchanged, but may leave
     /// another page buffered.
     pub fn seek<H: Host, P: PageReader>(
         &mut self,
@@ -81,7 +81,7 @@ impl Blocks {
         Ok(found.entry)
     }
 
-    /// The next entry; None where there is none. A fault leaves its position unchanged, but may leave another page buffered.
+    /// The next entry; None where there is none. An error leaves its position unchanged, but may leave another page buffered.
     pub fn next<H: Host, P: PageReader>(
         &mut self,
         host: &mut H,

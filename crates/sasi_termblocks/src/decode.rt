@@ -54,7 +54,7 @@ pub fn skip_entry(alloc: Global, reader: &mut FieldReader) -> Result<(), FormatF
     Ok(())
 }
 
-// Reads the place of a pointer to a page from one to another.
+// Reads a pointer, and gives its offset: that of a page from `low` up to `high`, which isn't among them.
 pub fn read_place(reader: &mut FieldReader, low: u64, high: u64) -> Result<u64, FormatFault>
     ensures { Gives (outcome_as (λ both. both.1) (read (pointer_to low high) reader.old)) result reader.new }
 {
@@ -67,7 +67,7 @@ pub fn read_place(reader: &mut FieldReader, low: u64, high: u64) -> Result<u64, 
     Ok(place)
 }
 
-// Whether the place is that of a page from one to another.
+// Whether the offset is that of a page from `low` up to `high`, which isn't among them.
 fn is_place(low: u64, high: u64, place: u64) -> bool
     ensures { result ≡ is_place low high place }
 {

@@ -79,7 +79,7 @@ pub fn close(packer: &mut Packer) -> Result<(), AllocError>
     Ok(())
 }
 
-// Notes the least term of a block, where so many bytes of full blocks have all the others.
+// Keeps the term as the least one of the last block, where that has no entry yet: there are then as many least terms as full blocks.
 fn begin_block(leasts: &mut Vec<Term>, full: usize, term: &[u8]) -> Result<(), AllocError>
     requires terms { AreShort leasts.old.items }
     requires term { length term.now ≤ 1024 }

@@ -20,7 +20,7 @@ use crate::position::{Position, position_in};
 use sasi_host::{BufferedFile, Host, PageReader, ReadFault};
 use std::alloc::Global;
 
-// The place to which a block points for a term: that of its last pointer with a term below it, or of its first one.
+// The offset to which a block points for a term: that of its last pointer with a term below it, or of its first one.
 fn place_for(block: &[u8], sought: &[u8], low: u64, high: u64) -> Result<u64, BlockFault>
     requires whole { length block.now ≡ 4096 }
     ensures ok { IfOk result (λ place. (below : ℕ) × IsBound block.now (count_in block.now) sought.now below × HasPlace low high block.now (below - 1) place) }
@@ -33,7 +33,7 @@ fn place_for(block: &[u8], sought: &[u8], low: u64, high: u64) -> Result<u64, Bl
     Ok(place)
 }
 
-// How many entries of a block have terms below a given one, of how many.
+// How many entries a block has, and how many of them have terms below a given one.
 #[derive(Clone, Copy)]
 struct SplitBlock {
     below: usize,
@@ -130,7 +130,7 @@ fn child_page<H: Host, P: PageReader>(
     }
 }
 
-// Pages from one to another.
+// The pages from `low` up to `high`, which isn't among them.
 #[derive(Clone, Copy)]
 struct PageRange {
     low: u64,

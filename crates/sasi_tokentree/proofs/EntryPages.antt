@@ -30,7 +30,7 @@ header_short index = ⊎_elim (λ first. omega (arith, first.1)) (λ other. omeg
 pub entry_pages : (page : Option ℕ) (tree : TreeRef) (index : ℕ) → entry_cost page tree index ≤ 2
 entry_pages page tree index = node_pages page (read_place tree index) (16 + header_read index) (omega (arith, header_short index))
 
--- the next one from behind the one before it on
+-- the next one is read from behind the one before it on
 pub read_behind : (tree : TreeRef) (passed : ℕ) → 0 < passed → read_place tree passed ≡ pair_place tree (passed - 1) + 16
 read_behind tree passed some = ⊎_elim
     (λ first. omega (arith, some, first.0, first.1))

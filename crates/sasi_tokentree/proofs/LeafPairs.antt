@@ -71,7 +71,7 @@ ends_within bytes at index entries stands lt =
       entry_length (pair_at entries index),
     )
 
--- the entry that stands in the place of a pair is the pair
+-- the entry that stands at the offset of a pair is the pair
 pub pair_is : (bytes : Bytes) (at index : ℕ) (entries : List Pair) (pair : Pair) → HasLevels bytes 0 at entries → index < length entries → pair.token < 2 ^ 64 → pair.place < 2 ^ 64
     → HasAt bytes (at + 4088 * (index / 255) + (8 + 16 * (index % 255))) (entry pair) → pair ≡ pair_at entries index
 pair_is bytes at index entries pair stands lt token_fits place_fits has =
@@ -284,7 +284,7 @@ pub gave_header : (a b : View) (was now : FileName) (tree : TreeRef) (passed : �
 gave_header a b was now tree passed None change same gives = tt
 gave_header a b was now tree passed (Some pair) change same gives = λ leaf at bytes is. gives leaf at bytes (reads_still a b was now bytes change same is)
 
--- the page on which it ends is in hand
+-- the page on which it ends is buffered
 pub near_entry : (page : Option ℕ) (tree : TreeRef) (begin index : ℕ) → begin ≡ start tree → page ≡ Some
     ((begin + 4088 * (index / 255) + (8 + 16 * (index % 255)) + 15) / 4096) → page ≡ Some ((pair_place tree (index + 1 - 1) + 15) / 4096)
 near_entry page tree begin index is entry_buffered =

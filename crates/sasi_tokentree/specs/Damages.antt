@@ -96,11 +96,11 @@ pub data ShowsTreeBy (Alone : ℕ → Type 0) (file : FileName) (tree : TreeRef)
   -- or it ends before a pair does that is read without the entries before it in its leaf
   in_entry : (index : ℕ) → Alone index → index < tree.pairs → ShowsEnd (pair_place tree index + 16) file bytes damage → ShowsTreeBy Alone file tree bytes damage
 
--- a search reads so only a pair that begins a leaf below a root
+-- the only pair that a search reads alone begins a leaf below a root
 abbrev pub BeginsLeaf : TreeRef → ℕ → Type 0
 BeginsLeaf tree index = (255 < tree.pairs) × (index % 255 ≡ 0)
 
--- a scan reads each of them so
+-- a scan may read each pair alone
 abbrev pub ShowsTree : FileName → TreeRef → Bytes → Damage → Type 0
 ShowsTree = ShowsTreeBy (λ index. Unit {0})
 

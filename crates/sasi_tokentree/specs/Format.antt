@@ -57,7 +57,7 @@ first_nodes level entries (suc index) = first_nodes level entries index ++ node 
 abbrev pub level_bytes : ℕ → List Pair → Bytes
 level_bytes level entries = first_nodes level entries (nodes (length entries))
 
--- the entry for a node of the level below that begins at this place: its least token, and its own place
+-- the entry for a node of a level that begins at this offset: its least token, and its own offset
 abbrev pub entry_for : ℕ → List Pair → ℕ → Pair
 entry_for at entries index = record { token = (pair_at entries (255 * index)).token; place = at + 4088 * index }
 

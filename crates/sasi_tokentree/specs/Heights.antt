@@ -104,7 +104,7 @@ levels_length (suc most) level at entries le = ⊎_elim
     ))
     (leb_tells (length entries) 255)
 
--- so many bytes has a tree
+-- how many bytes a tree has
 pub tree_length : (at : ℕ) (pairs : List Pair) → length (tree_bytes at pairs) ≡ levels_size (length pairs) (length pairs)
 tree_length at pairs = levels_length (length pairs) 0 at pairs (omega arith)
 

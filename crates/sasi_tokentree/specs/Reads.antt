@@ -58,7 +58,7 @@ pub record IsLowerBound (entries : List Pair) (token count place : ℕ) : Type 0
   pub counts : CountsBelow entries token count
   pub last : 0 < count → place ≡ (pair_at entries (count - 1)).place
 
--- an entry of a level of so many begins a node below another one, or the file reaches to its end
+-- the entry with this index of a level of so many begins a node below another one, or the file reaches to the end of the entry
 abbrev pub IsReached : Bytes → ℕ → ℕ → ℕ → Type 0
 IsReached bytes at count index = index < count → ((255 < count) × (index % 255 ≡ 0)) ⊎ (at + 4088 * (index / 255) + (8 + 16 * (index % 255)) + 16 ≤ length bytes)
 

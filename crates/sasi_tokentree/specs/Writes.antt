@@ -34,7 +34,7 @@ pub record Writes (old new : View) (file : FileName) (at : ℕ) (bytes : Bytes) 
 
 -- ---- one write after another
 
--- what stays before a place stays before each earlier one
+-- what stays before an offset stays before each earlier one
 pub past_earlier : (at later : ℕ) (old new : Bytes) → at ≤ later → KeepsBefore later old new → KeepsBefore at old new
 past_earlier at later old new le past = record {
   before = sym (take-take at later new le) ∙ ap (λ (l : Bytes). take at l) past.before ∙ take-take at later old le;
@@ -71,13 +71,13 @@ in_place_same : (at : ℕ) (x : Option Bytes) → InPlace (KeepsBefore at) x x
 in_place_same at None = tt
 in_place_same at (Some a) = record { before = refl; no_shorter = omega arith }
 
--- a change past a place, and then one past a later place
+-- a change from an offset on, and then one from a later offset on
 pub changes_past_on : (a b c : View) (file : FileName) (at later : ℕ) → at ≤ later → ChangesFrom file at a b → ChangesFrom file later b c → ChangesFrom file at a c
 changes_past_on a b c file at later le first second =
     changes_on a b c (FileChange file (InPlace (KeepsBefore at))) (FileChange file (InPlace (KeepsBefore later))) (FileChange file (InPlace (KeepsBefore at))) first second (λ x y s. s)
     (step_on file (InPlace (KeepsBefore at)) (InPlace (KeepsBefore later)) (InPlace (KeepsBefore at)) (λ x y z s t. in_place_on at x y z s (in_place_earlier at later le y z t)))
 
--- a write changes the file from its place on
+-- a write changes the file from its offset on
 pub changes_past_torn : (a b : View) (file : FileName) (at n : ℕ) → Changes (FileChange file (InPlace (Torn at n))) a b → ChangesFrom file at a b
 changes_past_torn a b file at n change =
     changes_as a b (FileChange file (InPlace (Torn at n))) (FileChange file (InPlace (KeepsBefore at))) change (step_as file (InPlace (Torn at n)) (InPlace (KeepsBefore at)) (in_place_torn at n))

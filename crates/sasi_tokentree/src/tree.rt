@@ -52,7 +52,7 @@ impl Tree {
         last_offset(self.tree, self.passed)
     }
 
-    /// The first pair at or after the token; None where there is none. A fault leaves its position unchanged, but may leave
+    /// The first pair at or after the token; None where there is none. An error leaves its position unchanged, but may leave
     /// another page buffered.
     pub fn first<H: Host, P: PageReader>(
         &mut self,
@@ -80,7 +80,7 @@ impl Tree {
         Ok(found.pair)
     }
 
-    /// The next pair; None where there is none. A fault leaves its position unchanged, but may leave another page buffered.
+    /// The next pair; None where there is none. An error leaves its position unchanged, but may leave another page buffered.
     pub fn next<H: Host, P: PageReader>(
         &mut self,
         host: &mut H,

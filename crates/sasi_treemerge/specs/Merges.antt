@@ -46,7 +46,7 @@ last_after last (Some found) = Some found
 
 -- ---- sources
 
--- the file has the tree of these pairs, and the source is a scan of it that has its next pair in hand
+-- the file has the tree of these pairs, and the source is a scan of it whose head is its next pair
 pub record IsSourceOf (bytes : Bytes) (pairs : List Pair) (source : Source) : Type 0 where
   pub tree : HasTree bytes source.tree.value.tree pairs
   pub before : ℕ
@@ -70,7 +70,7 @@ pub record Gives (bytes : Bytes) (lists : List (List Pair)) (last : Option Pair)
   pub each : All (IsSourceIn bytes lists) sources
   pub all : (pairs : List Pair) (pair : Pair) → Contains lists pairs → Contains pairs pair → is_left last floor pair ≡ true → IsStillGiven bytes pairs sources pair
 
--- the pair in hand is the last entry that the scan has passed, in any file
+-- the head is the last entry that the scan has passed, in any file
 pub record IsAtHead (v : View) (file : FileName) (source : Source) : Type 0 where
   pub passed : HasPassed source.tree.value.tree source.tree.value.passed
   pub stands : ReadsEntry v file source.tree.value.tree source.tree.value.passed (Some source.head)
@@ -81,7 +81,7 @@ pub record IsReadable (v : View) (file : FileName) (source : Source) : Type 0 wh
   pub buffered : IsBuffered source.tree.value.buffered v.files
   pub at_head : IsAtHead v file source
 
--- how many pairs the sources have, with those in hand
+-- how many pairs the sources have left, with their heads
 abbrev pub left_in : Source → ℕ
 left_in source = source.tree.value.tree.pairs - source.tree.value.passed + 1
 
@@ -118,7 +118,7 @@ GoesOn v scan (Some source) =
     (source.tree.value.tree ≡ scan.tree) × (source.tree.value.passed ≡ scan.passed + 1) × (source.tree.value.passed ≤ scan.tree.pairs)
     × ((bytes : Bytes) (pairs : List Pair) → contents v scan.buffered.file ≡ Some bytes → HasTree bytes scan.tree pairs → drop scan.passed pairs ≡ source.head ∷ drop source.tree.value.passed pairs)
 
--- the source with the least pair is gone, and back with its next one if it has one
+-- the source with the least head is taken out, and put back with its next pair, if it has one
 pub record StepsBy (v : View) (head : Pair) (old new : List Source) : Type 0 where
   pub source : Source
   pub others : List Source

@@ -7,7 +7,7 @@ use Rattle.std.proofs.lemmas.Cmp.{back_total, on_total, then_total}
 use Rattle.sasi_types.specs.declared.tree.Pair.{Pair}
 use Rattle.sasi_treemerge.specs.declared.source.Source.{Source}
 
--- pairs are in the order of their tokens, and then of their places
+-- pairs are in the order of their tokens, and then of their offsets
 abbrev pub pair_cmp : Pair → Pair → Ordering
 pair_cmp a b = ordering_then (nat_cmp a.token b.token) (nat_cmp a.place b.place)
 

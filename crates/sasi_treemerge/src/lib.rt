@@ -1,5 +1,5 @@
-//! Merges the pairs of token trees of a file: they are given in their order, and each once. A merge has the next pair and a page of
-//! each tree in hand.
+//! Merges the pairs of token trees of a file: they are given in their order, and each once. A merge keeps the next pair and one page
+//! of each tree in memory.
 #![tactic(auto)]
 
 mod merge;

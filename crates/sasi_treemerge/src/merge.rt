@@ -20,15 +20,17 @@ use sasi_types::{Pair, Token, TreeRef};
 use std::alloc::{AllocError, Global};
 use std::collections::BinaryHeap;
 
-/// A merge of the pairs of trees, in their order and each once. After a fault it isn't used again.
+/// A merge of the pairs of trees, in their order and each once. After an error it isn't used again.
 #[derive(Drop)]
 pub struct TreeMerge {
     pub alloc: Global,
+    /// The file of the trees.
     pub file: FileName,
+    /// The trees that have a pair left.
     pub sources: BinaryHeap<Source, Global>,
-    // The pair that was given last.
+    /// The pair that was given last.
     pub last: Option<Pair>,
-    // Pairs of tokens below this one aren't given.
+    /// Pairs of tokens below this one aren't given.
     pub floor: Token,
 }
 
@@ -105,7 +107,7 @@ impl TreeMerge {
         }
     }
 
-    // Takes the least pair in hand, and moves its source on; none where there is no source.
+    // Takes the least head, and moves its source on; None where there is no source.
     fn take_head<H: Host, P: PageReader>(
         &mut self,
         host: &mut H,
@@ -135,7 +137,7 @@ impl TreeMerge {
         }
     }
 
-    /// The least pair that is left; none where none is.
+    /// The least pair that is left; None where none is.
     pub fn next<H: Host, P: PageReader>(
         &mut self,
         host: &mut H,
@@ -150,7 +152,7 @@ impl TreeMerge {
         ensures damaged { IfErr result (DamageShown (H.view host.old) self.old.file (ShowsSources (sources_of self.old) self.old.file)) }
         ensures undamaged { IfErr result (NoFalseDamageOf (H.view host.old) self.old.file (sources_of self.old)) }
         ensures read { HasRead (P.agrees pages.new) (P.covers pages.old) (P.covers pages.new) (H.view host.old) (H.view host.new) self.old.file }
-        // It makes at most two reads for each pair that it takes into hand.
+        // It makes at most two reads for each pair that becomes a head.
         ensures causes { ReadsAtMost (2 * unread_of (sources_of self.old)) (H.view host.old) (H.view host.new) result }
         ensures reads { OnOk result ((H.view host.new).reads + 2 * unread_of (sources_of self.new) ≤ (H.view host.old).reads + 2 * unread_of (sources_of self.old)) }
         ensures file { self.new.file ≡ self.old.file }

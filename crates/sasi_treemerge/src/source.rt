@@ -24,8 +24,9 @@ use std::cmp::Ordering;
 /// first.
 #[derive(Drop)]
 pub struct Source {
+    /// The pair that was read last.
     pub head: Pair,
-    // Apart, so that a heap moves no page.
+    /// The scan. It stands in a box, so that a heap moves no page.
     pub tree: Box<Tree>,
 }
 
@@ -104,7 +105,7 @@ fn check_order(file: FileName, before: Pair, source: &Source) -> Result<(), Dama
     Err(found(file, at, FormatRule::Order, &token))
 }
 
-/// Moves a source on to its next pair, if it has one, which is above the one in hand.
+/// Moves a source on to its next pair, if it has one. That has to be above its head.
 pub fn next_of<H: Host, P: PageReader>(
     host: &mut H,
     pages: &mut P,

@@ -7,7 +7,7 @@ use Rattle.sasi_filehost.proofs.HostCalls.{emits_untold, is_emit, out_causes}
 use Rattle.sasi_filehost.proofs.file_host.FileHostHost.emit.Goals.{in-Some, in-None}
 use Rattle.sasi_filehost.proofs.file_host.FileHostHost.emit.Goals as goal
 
--- the tally is counted on alone
+-- the call on the folder leaves the tally, which is then counted on
 kept : (c : goal.After-emit) → c.match-self.self.tally ≡ c.args.self.now.tally
 kept c = elim c.match-self.branch [
   | in-Some w ↦ ap (λ (h : FileHost). h.tally) w.self-is

@@ -8,7 +8,7 @@ use Rattle.sasi_filehost.proofs.HostCalls.{call_changes, is_call, list_causes}
 use Rattle.sasi_filehost.proofs.file_host.FileHostHost.list.Goals.{in-Some, in-None}
 use Rattle.sasi_filehost.proofs.file_host.FileHostHost.list.Goals as goal
 
--- the tally is counted on alone
+-- the call on the folder leaves the tally, which is then counted on
 kept : (c : goal.After-count_call) → c.match-self.self.tally ≡ c.args.self.now.tally
 kept c = elim c.match-self.branch [
   | in-Some w ↦ ap (λ (h : FileHost). h.tally) w.self-is

@@ -5,7 +5,7 @@ use Rattle.sasi_filehost.proofs.HostCalls.{counted_on}
 use Rattle.sasi_filehost.proofs.file_host.FileHostHost.sync_folder.Goals.{in-Some, in-None}
 use Rattle.sasi_filehost.proofs.file_host.FileHostHost.sync_folder.Goals as goal
 
--- the tally is counted on alone
+-- the call on the folder leaves the tally, which is then counted on
 kept : (c : goal.After-call) → c.match-self.self.tally ≡ c.args.self.now.tally
 kept c = elim c.match-self.branch [ in-Some w ↦ ap (λ (h : FileHost). h.tally) w.self-is | in-None w ↦ ap (λ (h : FileHost). h.tally) w.self-is ]
 
