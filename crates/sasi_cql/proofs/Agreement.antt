@@ -1,4 +1,4 @@
--- The grammar's reader finds exactly the statements that the grammar spells, and the place where there is none.
+-- The grammar's reader finds exactly the statements that the grammar spells, and the fault where there is none.
 use Rattle.std.proofs.Common.{◌≡◌, ◌<◌, ℕ, suc, true, List, [], ◌∷◌, ◌++◌, length, refl, sym, ap, ◌∙◌, append_assoc, append-nil, subst, ◌↔◌, arith}
 use Rattle.sasi_model.specs.Tokens.{Token}
 use Rattle.sasi_model.specs.Forms.{Form, Spells, Begins}
@@ -38,7 +38,7 @@ module _ {A : Type 0} (form : Form A) (d : decides form ≡ true) where
       let left = subst Q is passed in
       absurd (omega arith)
 
-  -- what stops the reader is the place of the fault
+  -- where the reader is stuck is the fault
   pub stuck_is_fault : (tokens : List Token) (size : ℕ) → read form tokens ≡ Stuck size → IsFault form tokens size
   stuck_is_fault tokens size is = by_reading (read form tokens) (explained form tokens) is refl where
     by_reading : (r : Reading A) → Explains (Spells form) (Begins form) tokens r → r ≡ Stuck size → read form tokens ≡ r → IsFault form tokens size

@@ -1,4 +1,4 @@
--- A fault has one place.
+-- Tokens have at most one fault.
 use Rattle.std.proofs.Common.{◌≡◌, ◌≤◌, ℕ, zero, suc, Bool, ◌||◌, List, [], ◌∷◌, ◌++◌, length, refl, sym, ap, ◌∙◌, append_assoc, append-nil, length-append, subst, arith, ◌⊎◌, inl, inr}
 use Rattle.sasi_model.specs.Tokens.{Token}
 use Rattle.sasi_model.specs.Forms.{Form, Never, Nothing, One, Then, As, Where, Choose, Many, Phrase, Behind, begin_items, BeginItems, Spells, Begins}
@@ -84,7 +84,7 @@ begins_front (Choose token first second) front more (inr b) = inr (begins_front 
 begins_front (Many between marks item marked) front more b =
     front_items between marks (λ m. Spells (item m)) (λ m. Begins (item m)) (λ m a ts s. begins_whole (item m) a ts s) (λ m. begins_nothing (item m)) (λ m ts more p. begins_front (item m) ts more p) b.whole_items marked front more b.is
 
--- ---- the place
+-- ---- the fault
 
 -- a text that begins one is no longer than what stands in front of a fault
 no_longer : {A : Type 0} (form : Form A) (tokens : List Token) (size : ℕ) → IsFault form tokens size → (front left : List Token) → tokens ≡ front ++ left → Begins form front → size ≤ length left
@@ -99,7 +99,7 @@ no_longer form tokens size f front left whole b = by_left f.left f.whole f.count
       by_middle [] u v = let P : List Token → Type 0 = λ us. Begins form us in absurd (e t ts refl (subst P (sym (u ∙ simp append-nil)) b))
       by_middle (x ∷ m) u v = let all = ap length v in let sum = length-append (x ∷ m) ts in omega arith
 
--- a fault has one place
+-- tokens have at most one fault
 pub one_fault : {A : Type 0} (form : Form A) (tokens : List Token) (one other : ℕ) → IsFault form tokens one → IsFault form tokens other → one ≡ other
 one_fault form tokens one other f g =
     let p = no_longer form tokens one f g.front g.left g.whole g.begins in

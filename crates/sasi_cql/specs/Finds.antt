@@ -18,7 +18,7 @@ abbrev pub Halts : {A : Type 0} → Reading A → Halt → Type 0
 Halts reading (halt.Stuck size) = reading ≡ Stuck size
 Halts reading halt.OutOfMemory = ⊤
 
--- the result shows the value that the form's reader gets, and is the text of the tokens behind it, or where it is stuck
+-- the result has the value that the form's reader gets, as it is shown, and the text of the tokens behind it; or it tells where the reader is stuck
 abbrev pub FindsAs : {L A : Type 0} → (L → A) → Reading A → Result (L × Bor (List ℕ)) Halt → Type 0
 FindsAs shown reading (Ok r) = reading ≡ Got (shown r.0) (tokens r.1.now)
 FindsAs shown reading (Err why) = Halts reading why

@@ -149,7 +149,7 @@ tentative Dash = 45 ∷ []
 tentative Slash = 47 ∷ []
 tentative _ = []
 
--- before a piece: the size with one more byte, which left this mode
+-- before a piece: the size with one more byte, which led to this mode
 abbrev pub front_size : ScanMode → ℕ → ℕ
 front_size Dash size = 1
 front_size Slash size = 1

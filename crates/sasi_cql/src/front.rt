@@ -32,7 +32,7 @@ pub fn has_token(text: &[u8]) -> bool
     first(text).is_some()
 }
 
-/// Nothing goes on with the first token of the text.
+/// The halt at the first token of the text, with which no text of the form goes on.
 pub fn stuck(text: &[u8]) -> Halt
     ensures { result ≡ Stuck (length (tokens text.now)) }
 {
@@ -72,7 +72,7 @@ pub fn after<'a>(wanted: &Token, text: &'a [u8]) -> Option<&'a [u8]>
     }
 }
 
-/// The rest after these words and signs, with which the text has to begin. The recursion is as deep as they are many.
+/// The rest after these words and signs, with which the text has to begin. It recurses once for each of them.
 pub fn expect<'a>(wanted: &[Token], text: &'a [u8]) -> Result<&'a [u8], Halt>
     ensures { FindsBehind (read (these (map model_token wanted.now)) (tokens text.now)) result }
 {

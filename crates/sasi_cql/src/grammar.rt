@@ -7,7 +7,7 @@ ghost use Rattle.sasi_model.specs.Faults.{IsSyntaxAt};
 ghost use Rattle.sasi_model.specs.Parsers.{grammar_parser, IsParser, Parser};
 ghost use Rattle.sasi_model.specs.Statements.{piece};
 
-/// Tokens spell at most one statement, and a text has at most one place at which it stops being one. So there is one parser.
+/// Tokens spell at most one statement, and a text has at most one offset at which it stops being one. So there is one parser.
 pub fn grammar_is_parsed()
     ensures parser { IsParser grammar_parser }
     ensures alone { (parser : Parser) → IsParser parser → (text : List ℕ) → parser text ≡ grammar_parser text }

@@ -7,7 +7,7 @@ use std::alloc::AllocError;
 /// Why a reader of a form halts.
 #[derive(Clone, Copy)]
 pub enum Halt {
-    /// Nothing goes on with the first of so many tokens.
+    /// No text of the form goes on with the next token. From it on the text has so many tokens.
     Stuck(usize),
     OutOfMemory,
 }

@@ -1,5 +1,5 @@
-//! The reading of scripts: a splitter cuts their bytes into pieces, and a parser finds the statement of a piece, or the place
-//! at which it is none. It promises exactly the pieces, statements and places of the model.
+//! The reading of scripts: a splitter cuts their bytes into pieces, and a parser finds the statement of a piece, or the offset
+//! at which it stops being one. It promises exactly the pieces, statements and offsets of the model.
 #![tactic(auto)]
 
 mod byte;

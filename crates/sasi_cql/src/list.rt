@@ -19,7 +19,7 @@ pub trait Item: Sized + Drop {
     // How it is spelled, by whether an item that marks came before it.
     ghost form: { Bool → Form Self };
 
-    // It marks the items after it.
+    // The items after it are read as marked: in a CREATE TABLE, those after a PRIMARY KEY.
     ghost marks: { Self → Bool };
 
     // The items of a list.
@@ -29,7 +29,7 @@ pub trait Item: Sized + Drop {
     fn read<'a>(alloc: Global, marked: bool, text: &'a [u8]) -> Result<(Self, &'a [u8]), Halt>
         ensures { Finds (read (form marked) (tokens text.now)) result };
 
-    /// It marks the items after it.
+    /// Whether the items after it are read as marked.
     fn marks(&self) -> bool
         ensures { result ≡ marks self.now };
 

@@ -20,7 +20,7 @@ pub fn count_tokens(text: &[u8]) -> usize
     text.len()
 }
 
-// The number of bytes from the token on that has so many in front of it.
+// The number of bytes from the token on that has `count` tokens in front of it; 0 if there is no such token.
 fn size_from(text: &[u8], count: usize) -> usize
     ensures { result ≡ size_from 0 count text.now }
 {
@@ -35,7 +35,7 @@ fn size_from(text: &[u8], count: usize) -> usize
     skip_separators(left, &mut unclosed).len()
 }
 
-/// The offset of the token from which on there are so many. It takes no memory, and goes through the text twice.
+/// The offset of the first of the last `size` tokens; the end of the text for none. It takes no memory, and reads the text twice.
 pub fn offset_of_last(text: &[u8], size: usize) -> usize
     ensures { result ≡ offset_of text.now (length (tokens text.now) - size) }
 {

@@ -93,7 +93,7 @@ fn next_size(size: usize) -> usize
     if size > LIMIT { size } else { size + 1 }
 }
 
-// The size after a byte before a piece, which left this mode.
+// The size after a byte before a piece, where the byte led to this mode.
 fn next_front_size(mode: ScanMode, size: usize) -> usize
     ensures { result ≡ front_size mode size }
 {
@@ -104,7 +104,7 @@ fn next_front_size(mode: ScanMode, size: usize) -> usize
     }
 }
 
-// Keeps a byte of a piece of which so many came before, unless that is as many as a piece has.
+// Keeps a byte of a piece that has `size` bytes so far, unless that is the limit.
 fn keep(text: &mut Vec<u8>, size: usize, byte: u8) -> Result<(), AllocError>
     ensures ok { OnOk result (text.new.items ≡ kept text.old.items size byte) }
     ensures err { OnErr result (text.new.items ≡ text.old.items) }
@@ -183,7 +183,7 @@ impl Splitter {
         }
     }
 
-    // Pushes a byte that may be before the piece or its first.
+    // Pushes a byte that stands before the piece, or may turn out to be its first.
     #[tactic(auto, unfolding(crate::specs::SplitterState::resume))]
     fn take_lead(&mut self, byte: u8) -> Result<(), AllocError>
         requires stage { self.old.stage ≡ Front }

@@ -29,7 +29,7 @@ fn add_fault(line: &mut String, fault: ParseFault) -> Result<(), AllocError> {
     }
 }
 
-// What the text is.
+// What the parser makes of a text: a statement, or a fault.
 fn add_piece(line: &mut String, alloc: Global, text: &str) -> Result<(), AllocError> {
     match parse(alloc, text) {
         Ok(statement) => add_statement(line, alloc, &statement),
@@ -50,7 +50,7 @@ fn add_parsed(line: &mut String, alloc: Global, text: &str) -> Result<(), AllocE
     }
 }
 
-// What the bytes are.
+// What the parser makes of bytes, where they are a text.
 fn add_bytes(line: &mut String, alloc: Global, bytes: &[u8]) -> Result<(), AllocError> {
     match str::from_utf8(bytes) {
         Ok(text) => add_piece(line, alloc, text),
@@ -58,7 +58,7 @@ fn add_bytes(line: &mut String, alloc: Global, bytes: &[u8]) -> Result<(), Alloc
     }
 }
 
-// What the bytes of these digits are.
+// What the parser makes of bytes in hexadecimal.
 fn add_digits(line: &mut String, alloc: Global, digits: &str) -> Result<(), AllocError> {
     let Ok(bytes) = hex::decode(alloc, digits) else {
         return line.push_str("no digits");
@@ -66,7 +66,7 @@ fn add_digits(line: &mut String, alloc: Global, digits: &str) -> Result<(), Allo
     add_bytes(line, alloc, &bytes)
 }
 
-// The word in front, and what follows the space behind it.
+// The first word, and what follows the space after it.
 fn front_word(line: &str) -> (&str, &str) {
     line.split_once(' ').unwrap_or((line, ""))
 }

@@ -115,7 +115,7 @@ fn add_write(line: &mut String, alloc: Global, statement: &Statement) -> Result<
     }
 }
 
-// What reads rows.
+// What reads rows, TRACE and SHOW FILES.
 fn add_query(line: &mut String, alloc: Global, statement: &Statement) -> Result<(), AllocError> {
     match statement {
         Statement::Query { select } => {

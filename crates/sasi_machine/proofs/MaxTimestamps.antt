@@ -74,7 +74,7 @@ greatest_set (d ∷ ds) (x ∷ cs) zero c new t held got is =
     omega (arith, is, ap (λ (c : MemtableView). max_timestamp_of_partitions (fin.values c.partitions)) same)
 greatest_set (d ∷ ds) (x ∷ cs) (suc at) c new t held got is = omega (arith, greatest_set ds cs at c new t held.1 got is)
 
--- no partitions have no time
+-- the largest timestamp of no partitions is 0
 pub nothing_held : max_timestamp_of_partitions (fin.values (fin.empty {R = decorated_cmp})) ≡ 0
 nothing_held = ap times (no_entries (fin.entries (fin.empty {R = decorated_cmp})) (sym (fin.len-entries (fin.empty {R = decorated_cmp})) ∙ fin.len-empty decorated_cmp Partition))
 

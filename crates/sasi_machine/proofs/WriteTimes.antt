@@ -43,11 +43,11 @@ cells_within d t (set ∷ sets) =
     let soon : cell.time ≤ t = omega arith in
     with_within t (number_of_column d set.0) (cells_set d t sets) cell (cells_within d t sets) soon
 
--- nothing has no time
+-- the largest timestamp of the empty partition is 0
 pub empty_time : max_timestamp_of empty_partition ≡ 0
 empty_time = omega (arith, values_below 0 fin.empty (none_within 0))
 
--- no write is later than its time
+-- no timestamp of a write's change is above that of the write
 pub change_within : (d : Definition) (t : ℕ) (statement : Statement) → max_timestamp_of (change_in d t statement) ≤ t
 change_within d t (Insert table columns values time) =
     let cells = cells_set d t (zip columns values) in

@@ -15,7 +15,7 @@ pub record IsKeyLiteral (type : ColumnType) (literal : Literal) : Type 0 where
   pub some : is_empty_text type literal ≡ false
   pub short : is_long_text type literal ≡ false
 
--- its bytes are some, and not too many
+-- it has 1 to 65,535 bytes
 abbrev pub IsKeyValue : Value → Type 0
 IsKeyValue (Text text) = (text ≢ []) × (length text ≤ TEXT_LIMIT)
 IsKeyValue (Int number) = ⊤

@@ -31,7 +31,7 @@ AreMemtables (d ∷ ds) (c ∷ cs) = KeysStored (key_type d) c.partitions × Are
 abbrev pub AreUnder : Partitioner → List MemtableView → Type 0
 AreUnder partitioner = AllByRecursion (λ c. c.partitioner ≡ partitioner)
 
--- and this is their largest timestamp
+-- each table has its memtable, under the one partitioner, and this is the largest timestamp of all
 pub record IsMachineState (partitioner : Partitioner) (tables : List Definition) (memtables : List MemtableView) (max_timestamp : ℕ) : Type 0 where
   pub held : AreMemtables tables memtables
   pub under : AreUnder partitioner memtables

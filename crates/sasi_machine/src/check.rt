@@ -19,7 +19,7 @@ use sasi_schema::{Table, repeated_column, repeated_name};
 use sasi_types::{Literal, Name, Number};
 use std::alloc::Global;
 
-// Checks that no name is there twice.
+/// Checks that no name is there twice.
 pub fn check_once(alloc: Global, names: &[Name]) -> Result<(), Fault>
     ensures { Answers refusal_of_fault (repeat_rules [] names.now) result }
 {

@@ -35,7 +35,7 @@ fn key_of_value(alloc: Global, value: &Value) -> Result<Key, AllocError>
     }
 }
 
-// The key of bytes that are some and not too many.
+// The key of 1 to 65,535 bytes.
 fn key_of(alloc: Global, bytes: &[u8]) -> Result<Key, AllocError>
     requires some { bytes.now ≢ [] }
     requires short { length bytes.now ≤ TEXT_LIMIT }

@@ -1,5 +1,5 @@
-//! The plain machine: it keeps the tables in memory, and runs one piece at a time. It stands on the parser, the schema and
-//! the cells, and promises the state, the reply and the refusal of the model's step.
+//! Prepares pieces: parses one, refuses it or tells what it asks, and prints its reply. `Machine` applies that to tables in memory
+//! alone. It stands on sasi_cql, sasi_schema and sasi_memtable, and promises the state, the reply and the refusal of the model's step.
 #![tactic(auto)]
 
 mod assign;

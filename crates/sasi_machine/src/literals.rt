@@ -22,6 +22,7 @@ pub fn is_of(kind: ColumnType, literal: &Literal) -> bool
     }
 }
 
+/// Whether it is NULL.
 pub fn is_null(literal: &Literal) -> bool
     ensures { result ≡ is_null literal.now }
 {

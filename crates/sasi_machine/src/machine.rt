@@ -125,7 +125,7 @@ impl Machine {
         print_rows(self.alloc, memtable, &rows.picked, reply)
     }
 
-    /// Creates a table that was prepared, or that a manifest lists.
+    /// Creates a table that was prepared.
     pub fn create_table(&mut self, table: Table) -> Result<(), AllocError>
         requires { IsNewTable self.old table }
         ensures ok { OnOk result (self.new ≡ with_new_table self.old (definition table)) }
@@ -138,7 +138,7 @@ impl Machine {
         Ok(())
     }
 
-    /// Applies a mutation that was prepared, or that the commit log has.
+    /// Applies a mutation that was prepared.
     pub fn apply(&mut self, mutation: Mutation) -> Result<(), AllocError>
         requires { IsApplicable self.old mutation }
         ensures ok { OnOk result (self.new ≡ state_with_mutation self.old mutation) }

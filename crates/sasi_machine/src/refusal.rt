@@ -9,7 +9,7 @@ use sasi_types::Name;
 #[derive(Drop)]
 pub enum Refusal {
     StatementTooLong,
-    /// The length of the longest front that is UTF-8.
+    /// The length of the longest prefix that is UTF-8.
     NotUtf8(usize),
     NoTable(Name),
     TableExists(Name),
@@ -30,7 +30,7 @@ pub enum Refusal {
 impl Refusal {
     ghost use Rattle.sasi_machine.specs.Refusal.{refusal_of};
 
-    /// The number that its line begins with.
+    /// The number in its line.
     pub fn number(&self) -> u32
         ensures { result ≡ refusal_number (refusal_of self.now) }
     {

@@ -112,7 +112,7 @@ is_resized old key change was growth total is =
       bytes_are = omega (arith, sum_inserted bytes_in old key merged);
     }
 
--- a count that isn't at its last value is known without a part of it
+-- a count that hasn't saturated stays right as one part of it is replaced by another
 pub replaced_is : (count before after others b a new : ℕ) → count ≡ saturated (others + b) → before ≡ saturated b → after ≡ saturated a → replaced count before after ≡ Some new → new ≡ saturated (others + a)
 replaced_is count before after others b a new count_is before_is after_is is =
     elim (count == 2 ^ 64 - 1) as (λ t. (count == 2 ^ 64 - 1) ≡ t → (if t then None else Some (saturated ((count - before) + after))) ≡ Some new → new ≡ saturated (others + a)) [

@@ -24,7 +24,7 @@ IsSizeAt key found = IsSizeOf (option_map_or cells_in found 0) (option_map_or (�
 abbrev pub IsTotal : Partitions → Size → Type 0
 IsTotal m = IsSizeOf (cell_count m) (byte_count m)
 
--- a count without one part and with another; none where it is at its last value, and so what it counts isn't known
+-- a count once one part of it is replaced by another; none where it has saturated, so that what it counts isn't known
 abbrev pub replaced : ℕ → ℕ → ℕ → Option ℕ
 replaced count before after = if count == 2 ^ 64 - 1 then None else Some (saturated ((count - before) + after))
 
@@ -33,7 +33,7 @@ pub record IsGrowth (old : Partitions) (key : DecoratedKey) (change : Partition)
   pub before : IsSizeAt key (map_.get old key) growth.before
   pub after : IsSizeAt key (Some (merge (unwrap_or (map_.get old key) empty_partition) change)) growth.after
 
--- the partitions are those of before but for one, which had the one size and has the other
+-- all partitions but one are as they were, and the growth has that one's size before and after
 pub record IsResized (new : Partitions) (was : Size) (growth : Growth) : Type 0 where
   pub cells : ℕ
   pub cells_before : ℕ

@@ -28,6 +28,6 @@ cell_count m = sum_by (λ e. cells_in e.1) (map_.entries m)
 abbrev pub byte_count : Partitions → ℕ
 byte_count m = sum_by bytes_in (map_.entries m)
 
--- a count of 64 bits stays at its last value
+-- a count of 64 bits saturates
 abbrev pub saturated : ℕ → ℕ
 saturated n = min n (2 ^ 64 - 1)

@@ -113,14 +113,14 @@ impl Memtable {
         self.partitions.len() == 0
     }
 
-    /// The number of all cells; a marker and a deletion are one each. It stays at its last value.
+    /// The number of all cells; a marker and a deletion are one each. It saturates at 2^64 - 1.
     pub fn cells(&self) -> u64
         ensures { result ≡ saturated (cell_count self.now.partitions) }
     {
         self.size.cells
     }
 
-    /// The bytes of all keys and values. It stays at its last value.
+    /// The bytes of all keys and values. It saturates at 2^64 - 1.
     pub fn bytes(&self) -> u64
         ensures { result ≡ saturated (byte_count self.now.partitions) }
     {
@@ -128,7 +128,7 @@ impl Memtable {
     }
 }
 
-// A copy of a key. The bytes of a key are always those of one, so only memory can be missing.
+// A copy of a key. Its bytes are those of a key, so the only fault is out of memory.
 fn copy_key(alloc: Global, key: &Key) -> Result<Key, AllocError>
     ensures { IfOk result (λ copy. copy ≡ key.now) }
 {

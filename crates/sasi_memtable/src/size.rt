@@ -7,7 +7,7 @@ ghost use Rattle.sasi_memtable.specs.Sized.{IsSizeAt, IsSizeOf, replaced};
 use sasi_cells::{Entry, Partition};
 use sasi_types::DecoratedKey;
 
-/// The number of cells, and the bytes of keys and values. Each stays at its last value.
+/// The number of cells, and the bytes of keys and values. Each saturates at 2^64 - 1.
 #[derive(Clone, Copy)]
 pub struct Size {
     pub cells: u64,
@@ -89,7 +89,7 @@ fn bytes_of_value(entry: &Entry) -> u64
     }
 }
 
-/// A count without one part and with another; None where it is at its last value, and has to be counted anew.
+/// A count once one part of it is replaced by another; None where it has saturated, and has to be counted anew.
 pub fn replaced(count: u64, before: u64, after: u64) -> Option<u64>
     requires { before ≤ count }
     ensures { result ≡ replaced count before after }

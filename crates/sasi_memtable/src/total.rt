@@ -10,8 +10,7 @@ use sasi_cells::Partition;
 use sasi_types::DecoratedKey;
 use std::collections::BTreeMap;
 
-/// The size of all partitions, once one of them has grown. Only where a count has come to its last value are all of them
-/// counted.
+/// The size of all partitions, once one of them has changed. It counts all of them only where a count has saturated.
 pub fn resized(partitions: &BTreeMap<DecoratedKey, Partition>, was: Size, growth: Growth) -> Size
     requires { IsResized (map.from_entries partitions.now.entries) was growth }
     ensures { IsTotal (map.from_entries partitions.now.entries) result }

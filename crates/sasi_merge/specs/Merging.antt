@@ -10,7 +10,7 @@ use Rattle.sasi_model.specs.Cells.{Partition}
 use Rattle.sasi_model.specs.Codes.{coded_bytes, coded_partition}
 use Rattle.sasi_cells.specs.Maps.{joined}
 
--- the next partition of a source, with the token of its key; none at its end
+-- the next partition of a source, with its token and its key; none at the source's end
 abbrev pub Head : Type 0
 Head = Option (ℕ × List ℕ × Partition)
 

@@ -6,7 +6,7 @@ use sasi_types::{DecoratedKey, Key, Token};
 use std::alloc::{AllocError, Global};
 use std::marker::Model;
 
-/// The next partition of a source, with the token of its key; None at the source's end.
+/// The next partition of a source, with its token and its key; None at the source's end.
 pub type Head = Option<(Token, Key, Partition)>;
 
 /// The heads of several sources, the oldest source first.
@@ -44,7 +44,7 @@ impl Heads {
         &self.items
     }
 
-    /// Adds the head of one more source, which is later than the others.
+    /// Adds the head of one more source, which is newer than the others.
     pub fn push(&mut self, head: Head) -> Result<(), AllocError>
         ensures ok { OnOk result (self.new ≡ self.old ++ head ∷ []) }
         ensures err { OnErr result (self.new ≡ self.old) }
@@ -53,7 +53,7 @@ impl Heads {
         Ok(())
     }
 
-    /// Puts the head of the source at this position in the place of the one before.
+    /// Replaces the head of the source at this position.
     pub fn replace(&mut self, position: usize, head: Head)
         requires { position < length self.old }
         ensures { self.new ≡ set self.old position head }
@@ -71,7 +71,7 @@ pub fn copy_head(alloc: Global, key: &DecoratedKey, part: &Partition) -> Result<
     Ok(Some((key.token, copy, part)))
 }
 
-/// A copy of a key. The bytes of a key are always those of one, so only memory can be missing.
+/// A copy of a key. Its bytes are those of a key, so the only fault is out of memory.
 pub fn copy_key(alloc: Global, key: &Key) -> Result<Key, AllocError>
     ensures { IfOk result (λ copy. copy ≡ key.now) }
 {

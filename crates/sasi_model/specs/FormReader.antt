@@ -1,5 +1,5 @@
 -- The reader of a form: a tool of proofs. Where the next token always decides, it gets exactly what the form spells, and is stuck exactly
--- at the first token with which nothing goes on.
+-- at the first token with which no text of the form goes on.
 use Rattle.std.specs.Prelude.{ℕ, zero, suc, Bool, true, false, not, ◌||◌, ◌&&◌, List, [], ◌∷◌, ◌++◌, length, Option, None, Some, is_some, if◌then◌else◌}
 use Rattle.std.specs.List.{list_any}
 use Rattle.sasi_model.specs.Tokens.{Token, same_token}
@@ -7,7 +7,7 @@ use Rattle.sasi_model.specs.Forms.{Form, Never, Nothing, One, Then, As, Where, C
 
 -- ---- the reader
 
--- what was read and the tokens behind it, or how many tokens there are from the first on with which nothing goes on
+-- the value that was read and the tokens behind it; or the number of tokens from the first one on with which no text of the form goes on
 pub data Reading (A : Type 0) : Type 0 where
   Got : A → List Token → Reading A
   Stuck : ℕ → Reading A

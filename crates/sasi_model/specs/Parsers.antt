@@ -1,4 +1,4 @@
--- What a parser gives for a text: the statement that it spells, or the place at which it stops being one.
+-- What a parser gives for a text: the statement that it spells, or the offset at which it stops being one.
 use Rattle.std.specs.Prelude.{◌-◌, ℕ, List, length}
 use Rattle.sasi_types.specs.declared.statement.Statement.{Statement}
 use Rattle.sasi_model.specs.Tokens.{tokens, offset_of}
@@ -14,7 +14,7 @@ pub data Parsed : Type 0 where
 abbrev pub Parser : Type 0
 Parser = List ℕ → Parsed
 
--- it is the statement that the text spells; or the text spells none, and this is the place
+-- it is the statement that the text spells; or the text spells none, and this is the offset of the fault
 abbrev pub IsParsed : List ℕ → Parsed → Type 0
 IsParsed text (Parses statement) = Spells piece statement (tokens text)
 IsParsed text (FailsAt at) = ((statement : Statement) → ¬ (Spells piece statement (tokens text))) × IsSyntaxAt text at

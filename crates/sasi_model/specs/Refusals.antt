@@ -54,7 +54,7 @@ abbrev pub piece_parsed : Parsed → ParsedPiece
 piece_parsed (Parses statement) = if is_built statement then Says statement else Bad (90, codes "NotBuilt")
 piece_parsed (FailsAt at) = Bad (90, codes "NotBuilt")
 
--- as this parser parses it; a text that isn't UTF-8 is refused with the length of its longest front that is
+-- as this parser parses it; a text that isn't UTF-8 is refused with the length of its longest prefix that is
 unfoldable pub read_by : Parser → Piece → ParsedPiece
 read_by parser (TooLong finished) = Bad (2, codes "StatementTooLong 1048576")
 read_by parser Unfinished = Bad (25, codes "Unfinished")

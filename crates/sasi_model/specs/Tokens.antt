@@ -171,7 +171,7 @@ tokens_from zero (b ∷ bs) =
 abbrev pub tokens : List ℕ → List Token
 tokens text = tokens_from 0 text
 
--- ---- places
+-- ---- offsets
 
 -- the number of bytes from a token on that has so many tokens in front of it, 0 where there are no more tokens
 abbrev pub size_from : ℕ → ℕ → List ℕ → ℕ

@@ -22,7 +22,7 @@ pub repeat_here : (names : List (List ℕ)) (i : ℕ) (name : List ℕ) → i < 
     → first_of (repeat_rules (take i names) (drop i names)) ≡ Some (ColumnRepeated name)
 repeat_here names i name inside is there = rw (drop-cons names i name inside, ← is, there) refl
 
--- two texts are alike in the order where they are the same
+-- the order has two names equal exactly where they are the same
 alike : (name q : List ℕ) → is_eq (key_cmp name q) ≡ same q name
 alike name q = is_eq-slice_cmp name q ∙ nat_list_eq_equiv.symm name q
 

@@ -44,7 +44,7 @@ pub answers_exit : {A F : Type 0} (refusal_of_fault : F → Option Refusal) (rul
 answers_exit refusal_of_fault rules (Ok x) fault is passed = absurd is
 answers_exit refusal_of_fault rules (Err e) fault is passed = rw is passed
 
--- ---- rules that none applies of
+-- ---- rules of which none applies
 
 pub none_first : (rule : Rule) (rules : List Rule) → first_of (rule ∷ rules) ≡ None → (rule.0 ≡ false) × (first_of rules ≡ None)
 none_first rule rules none =

@@ -3,7 +3,7 @@ use Rattle.std.specs.Prelude.{◌≡◌, List, Option, None, Some, Result, Ok, E
 use Rattle.sasi_model.specs.Refusals.{Refusal, Rule}
 use Rattle.sasi_model.specs.Abbreviations.{first_of}
 
--- the refusal is that of the first rule that applies; where memory was short there is none
+-- the refusal is that of the first rule that applies; out of memory is none
 abbrev pub IsFirstRefusal : Option Refusal → List Rule → Type 0
 IsFirstRefusal None rules = ⊤
 IsFirstRefusal (Some refusal) rules = first_of rules ≡ Some refusal

@@ -3,7 +3,7 @@ use Rattle.std.specs.Prelude.{List, map}
 use Rattle.sasi_model.specs.State.{Definition}
 use Rattle.sasi_schema.specs.declared.table.Table.{Table}
 
--- what is said of the table
+-- the definition of a table
 abbrev pub definition : Table → Definition
 definition t = record { name = t.name; columns = t.columns; key = t.key }
 

@@ -11,7 +11,7 @@ abbrev pub limit_refusal : Limit → Refusal
 limit_refusal Tables = model.TooManyTables
 limit_refusal Columns = model.TooManyColumns
 
--- the refusal that a fault is; want of memory is none
+-- the refusal that a fault is; out of memory is none
 abbrev pub refusal_of_fault : SchemaFault → Option Refusal
 refusal_of_fault OutOfMemory = None
 refusal_of_fault (TableExists name) = Some (model.TableExists name)

@@ -1,5 +1,5 @@
-// The definitions of tables: their names, columns and keys, and the rules by which a CREATE TABLE is refused. It stands
-// on the small types, and promises what the model says of a list of definitions.
+//! The definitions of tables: their names, columns and keys, and the rules by which a CREATE TABLE is refused. It stands
+//! on sasi_types, and promises what sasi_model says of a list of definitions.
 #![tactic(auto)]
 
 mod check;

@@ -1,4 +1,4 @@
-// Names that stand twice in a list. The search takes a set of the names before, so that it is no slower for long lists.
+// Names that stand twice in a list. A search keeps the names so far in an ordered set, so it takes O(n log n).
 ghost use Rattle.std.specs.Prelude.{◌≡◌, [], IfOk, map};
 ghost use Rattle.std.specs.Option.{option_map};
 ghost use Rattle.sasi_model.specs.Refusals.{repeat_rules};
@@ -8,7 +8,7 @@ use sasi_types::Name;
 use std::alloc::{AllocError, Global};
 use std::collections::BTreeSet;
 
-/// The first name that stands in the list before.
+/// The first name that repeats an earlier one.
 pub fn repeated_name(alloc: Global, names: &[Name]) -> Result<Option<Name>, AllocError>
     ensures { IfOk result (λ name. first_of (repeat_rules [] names.now) ≡ option_map ColumnRepeated name) }
 {
@@ -21,7 +21,7 @@ pub fn repeated_name(alloc: Global, names: &[Name]) -> Result<Option<Name>, Allo
     Ok(None)
 }
 
-/// The first column whose name another before it has.
+/// The first name of a column that repeats an earlier column's.
 pub fn repeated_column<T>(alloc: Global, columns: &[(Name, T)]) -> Result<Option<Name>, AllocError>
     ensures { IfOk result (λ name. first_of (repeat_rules [] (map (λ column. column.0) columns.now)) ≡ option_map ColumnRepeated name) }
 {

@@ -101,7 +101,7 @@ impl Schema {
         Ok(number)
     }
 
-    /// Adds a table, as it was defined before, behind the others.
+    /// Adds a table that was prepared, or that a manifest lists, behind the others.
     pub fn restore_table(&mut self, table: Table) -> Result<(), AllocError>
         requires number { table.number ≡ length self.old + 1 }
         requires free { definition_of table.name self.old ≡ None }

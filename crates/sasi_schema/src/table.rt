@@ -43,7 +43,7 @@ impl Table {
         }
     }
 
-    /// The same table once more.
+    /// A copy of the table.
     pub fn copy(&self, alloc: Global) -> Result<Table, AllocError>
         ensures number { IfOk result (λ copy. copy.number ≡ self.now.number) }
         ensures definition { IfOk result (λ copy. definition copy ≡ definition self.now) }

@@ -17,7 +17,7 @@ use Rattle.sasi_terms.specs.Numbers.{bigint_of, bigint_term, int_of, int_term}
 
 -- ---- bytes as big-endian numbers
 
--- behind the lower front the number is lower
+-- bytes behind a lower number make a lower one than as many behind a higher one
 rises : (a b : ℕ) (us vs : List ℕ) → length us ≡ length vs → AreBytes us → a < b → big_endian a us < big_endian b vs
 rises a b [] [] same are lt = lt
 rises a b [] (v ∷ vs) same are lt = absurd (omega (arith, same))
@@ -76,7 +76,7 @@ eight (a ∷ b ∷ c ∷ d ∷ e ∷ f ∷ g ∷ h ∷ i ∷ rest) size = absurd
 
 -- ---- the top bit
 
--- to flip it adds its worth, or takes it away
+-- flipping the bit adds 2^k, or takes it away
 flip_low : (k n : ℕ) → n < 2 ^ k → bit_xor n (2 ^ k) ≡ n + 2 ^ k
 flip_low k n lt =
     let first : n ≡ 0 * 2 ^ k + n = omega arith in
@@ -103,7 +103,7 @@ flip_twice k n lt = by (cases_lt n (2 ^ k))
 
 -- ---- numbers
 
--- a flipped number is below its own by half of the type's
+-- the signed number of n with its top bit flipped is n less 2^31, or 2^63
 flipped : (w : Width) → 2 ^ bits w ≡ 2 ^ hbits w + 2 ^ hbits w → (n : ℕ) → n < 2 ^ bits w → cast_signed w (bit_xor n (2 ^ hbits w)) +ℤ pos (2 ^ hbits w) ≡ pos n
 flipped w double n fits = by (cases_lt n (2 ^ hbits w))
   where
@@ -119,7 +119,7 @@ flipped w double n fits = by (cases_lt n (2 ^ hbits w))
         let is : cast_signed w (n - 2 ^ hbits w) +ℤ pos (2 ^ hbits w) ≡ pos n = omega (arith, ints, high, small) in
         ap (λ (m : ℕ). cast_signed w (bit_xor m (2 ^ hbits w)) +ℤ pos (2 ^ hbits w)) whole ∙ ap (λ (m : ℕ). cast_signed w m +ℤ pos (2 ^ hbits w)) (flip_high (hbits w) (n - 2 ^ hbits w) small) ∙ is
 
--- numbers that are as far apart are in the same order
+-- two numbers are in the order of those that are larger by h
 apart : (h m n : ℕ) (x y : ℤ) → x +ℤ pos h ≡ pos m → y +ℤ pos h ≡ pos n → nat_lt m n ≡ int_lt x y
 apart h m n x y one two = by (int_lt x y) refl
   where
@@ -168,7 +168,7 @@ bigint_bytes number (suc (suc (suc (suc (suc (suc zero)))))) = omega arith
 bigint_bytes number (suc (suc (suc (suc (suc (suc (suc zero))))))) = omega arith
 bigint_bytes number (suc (suc (suc (suc (suc (suc (suc (suc i)))))))) = none i
 
--- is that of this number
+-- a term's number is the one that it was made of
 pub int_back : (number : ℤ) → FitsSigned w32 number → int_of (int_term number) ≡ number
 int_back number fits =
     let own : cast_unsigned w32 number < 2 ^ 32 = omega (arith, ints, fits) in

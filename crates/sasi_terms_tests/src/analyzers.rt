@@ -102,7 +102,7 @@ fn kit_finds_the_analyzer_of_a_rule(rt: HostRuntime) {
     check_both(&rt, alloc, &mut Kit::new(objects));
 }
 
-/// A kit without an analyzer of words gives none.
+/// A kit without an analyzer of words says so.
 fn check_no_words(rt: &impl Abort, alloc: Global, kit: &mut Kit) {
     let mut terms = TermList::new(alloc);
     let answer = kit.terms(alloc, Rule::Words { fold: false }, "x", &mut terms);

@@ -49,7 +49,7 @@ fn percent_at_an_end_is_a_wildcard(rt: HostRuntime) {
     }
 }
 
-/// What the four operators that compare with a body say of a term: y or n for each.
+/// What the four operators that compare with a body say of a term, in the order of `Op`.
 fn answers(term: &[u8], body: &[u8]) -> [bool; 4] {
     [
         holds(&Op::Eq, term, body),

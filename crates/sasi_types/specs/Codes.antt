@@ -1,4 +1,4 @@
--- The numbers that stand for values in files.
+-- The numbers in files of column types and of modes.
 use Rattle.std.specs.Prelude.{ℕ}
 use Rattle.sasi_types.specs.declared.column.ColumnType.{ColumnType}
 use Rattle.sasi_types.specs.declared.column.ColumnType.TheVariants.{Text, Int, BigInt, Uuid}

@@ -14,7 +14,7 @@ text_bytes (packed.Int n ∷ items) = text_bytes items
 text_bytes (packed.Text size ∷ items) = size + text_bytes items
 text_bytes (packed.Other ∷ items) = text_bytes items
 
--- how many literals stand apart
+-- the number of literals that are kept in the other list
 abbrev pub others_in : List PackedLiteral → ℕ
 others_in [] = 0
 others_in (packed.Null ∷ items) = others_in items

@@ -1,4 +1,4 @@
--- Values, and the bytes that stand for them.
+-- Values, and their bytes in files and keys.
 use Rattle.std.specs.Prelude.{ℕ, List}
 use Rattle.std.specs.Int.{w32, w64, to_be_bytes, cast_unsigned}
 use Rattle.sasi_types.specs.declared.column.ColumnType.{ColumnType}

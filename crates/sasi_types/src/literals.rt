@@ -1,4 +1,4 @@
-// Lists of literals, in which a digit takes eight bytes. A literal by itself takes 48.
+// Lists of literals, in which NULL or a number of 32 bits takes eight bytes. A literal by itself takes 48.
 ghost use Rattle.std.specs.Prelude.{◌≡◌, ◌++◌, ◌∷◌, [], None, IfOk, OnErr, OnOk, length};
 ghost use Rattle.std.specs.Option.{option_to_list};
 ghost use Rattle.sasi_types.specs.PackedLiterals.{other_of, text_of};
@@ -86,7 +86,7 @@ impl Literals {
     }
 }
 
-// Adds the text of a literal to the bytes, or a literal that is no small item to the others.
+// The item of a literal, whose text is added to the bytes. A literal that fits no item is added to the others.
 fn pack(
     bytes: &mut Vec<u8>,
     others: &mut Vec<Literal>,

@@ -1,6 +1,6 @@
-// Small items that stand for literals in a list.
+// The items of a list of literals, of eight bytes each.
 
-/// A literal in a list, whose text stands apart, as does a literal that is no small item.
+/// An item of a list of literals. The list keeps the bytes of texts, and the literals that fit no item, beside its items.
 #[derive(Clone, Copy)]
 pub enum PackedLiteral {
     Null,

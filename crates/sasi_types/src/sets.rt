@@ -35,7 +35,7 @@ impl Sets {
         }
     }
 
-    /// The list with one column and its value more.
+    /// The list with one more column and its value.
     #[tactic(auto, using(crate::proofs::Zipped::zip_more))]
     pub fn with(self, column: &Name, value: Literal) -> Result<Sets, AllocError>
         ensures { IfOk result (λ sets. sets ≡ self ++ (column.now, value) ∷ []) }

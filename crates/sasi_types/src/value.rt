@@ -15,7 +15,7 @@ pub enum Value {
     Uuid([u8; 16]),
 }
 
-/// The bytes that stand for a value in files and keys: a text's own, and a number's in two's complement, big-endian.
+/// The bytes of a value in files and keys: a text's own, and a number's in two's complement, big-endian.
 #[derive(Clone, Copy)]
 pub enum Stored<'a> {
     Borrowed(&'a [u8]),
@@ -53,7 +53,7 @@ impl Value {
         }
     }
 
-    /// The bytes that stand for it.
+    /// The bytes of the value in files and keys.
     pub fn stored(&self) -> Stored<'_>
         ensures { bytes_of result ≡ stored self.now }
     {

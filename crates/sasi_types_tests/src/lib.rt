@@ -1,5 +1,5 @@
 //! Tests of the crates below any host: sasi_types, sasi_cells, sasi_fields and the splitter of sasi_cql. What a run shows of them
-//! is data of sasi_scripts, and what the parser reads that of sasi_language.
+//! is tested by sasi_scripts, and what the parser reads by sasi_language.
 #![tactic(auto)]
 
 #[cfg(test)]

@@ -7,7 +7,7 @@ use std::process::Abort;
 /// The most bytes that a piece has.
 const LIMIT: usize = 1 << 20;
 
-/// The line on a piece: its text, or how it is none.
+/// The line on a piece: its text, or why it has none.
 fn line(end: PieceEnd, text: &[u8]) -> &[u8] {
     match end {
         PieceEnd::Whole => text,
@@ -25,7 +25,7 @@ fn add(rt: &impl Abort, lines: &mut Vec<u8>, end: PieceEnd, text: &[u8]) {
     lines.push(b'|').expect(rt, "memory is left");
 }
 
-/// Pushes a byte, and tells the piece that it ends.
+/// Pushes a byte. Returns the end of the piece, if the byte ends one.
 fn pushed(rt: &impl Abort, splitter: &mut Splitter, byte: u8) -> Option<PieceEnd> {
     splitter.push(byte).expect(rt, "memory is left")
 }

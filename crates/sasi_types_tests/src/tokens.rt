@@ -17,7 +17,7 @@ fn token_is_the_first_eight_bytes(rt: HostRuntime) {
     }
 }
 
-// Fronts of one row of bytes, of every length of a tail, with bytes above 127 at every index of it.
+// Prefixes of one list of bytes, with tails of each length. A byte above 127 stands at each of the first eight indices of some tail.
 #[test]
 fn murmur_tokens_take_tail_bytes_as_signed(rt: HostRuntime) {
     let bytes: [u8; 40] = [

@@ -64,7 +64,7 @@ get_merge_maps a b q =
 
 -- ---- partitions
 
--- nothing is merged before as behind
+-- the empty partition may be merged first or last
 pub nothing_first : (q : Partition) → merge empty_partition q ≡ merge q empty_partition
 nothing_first q =
     let d : max empty_partition.deleted q.deleted ≡ max q.deleted empty_partition.deleted = omega arith in
@@ -131,13 +131,13 @@ from_empty a b = same_maps _ _ (λ q.
     ∙ joined_none (map_.get a q) (map_.get b q)
     ∙ sym (get_merge_maps a b q))
 
--- ---- a change of the latest map
+-- ---- a change of the later map
 
 joined_changed : (a b : Option Partition) (change : Partition) → joined a (Some (merge (unwrap_or b empty_partition) change)) ≡ Some (merge (unwrap_or (joined a b) empty_partition) change)
 joined_changed a None change = ap Some (with_nothing (unwrap_or a empty_partition) change)
 joined_changed a (Some p) change = ap Some (sym (merge_associates (unwrap_or a empty_partition) p change))
 
--- a change of the latest map is a change of the merge
+-- a change of the later map is a change of the merge
 pub put_last : (a m : Partitions) (key : DecoratedKey) (change : Partition) → merge_maps a (put m key change) ≡ put (merge_maps a m) key change
 put_last a m key change = same_maps _ _ (λ q.
     get_merge_maps a (put m key change) q
