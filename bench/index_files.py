@@ -3,8 +3,8 @@
 
 The program is crates/sasi_indexbench, which `rt run` in its folder builds. Each step is a process of its own: the table has its
 seconds of processor time and by the clock, the pairs that it gives, the pages of 4,096 bytes that it reads, and the most memory
-that it takes. Where Python has sqlite3, a table with an index on the same terms is asked the same beside it. The program keeps no page between two
-searches, and sqlite3 keeps 2 MB of them.
+that it takes. Beside it Python's sqlite3 searches a table with an index on the same terms. The program keeps no page between two searches,
+and sqlite3 keeps 2 MB of them.
 """
 import os
 import sqlite3

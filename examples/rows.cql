@@ -1,4 +1,4 @@
--- Rows come in the order of their tokens: the first eight bytes of the key, and then the key.
+-- Rows come in the order of their tokens, and then of their keys. Under lead8 the token is the first eight bytes of the key.
 CREATE TABLE people (id text PRIMARY KEY, name text, town text);
 INSERT INTO people (id, name, town) VALUES ('p2', 'Mira', 'Bern');
 INSERT INTO people (name, id) VALUES ('Jon', 'p1');

@@ -1,4 +1,4 @@
--- A write has a time: the one given, or one more than the greatest that is held. Of two writes of a column the newer counts.
+-- A write has a timestamp: the one given, or one more than the largest of the state. Of two writes of a column the newer wins.
 CREATE TABLE stock (id uuid PRIMARY KEY, name text, "Shelf" int, pence bigint);
 INSERT INTO stock (id, name, "Shelf", pence) VALUES (6F9619FF-8B86-D011-B42D-00CF4FC964FF, 'nuts', -3, 125) USING TIMESTAMP 10;
 UPDATE stock SET pence = 150, "Shelf" = NULL WHERE id = 6f9619ff-8b86-d011-b42d-00cf4fc964ff;
