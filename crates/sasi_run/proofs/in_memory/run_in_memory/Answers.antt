@@ -7,6 +7,7 @@ returns g c = record {
   headline = c.run.ensures.headline;
   shapes = c.run.ensures.shapes;
   causes = c.run.ensures.causes;
+  untouched = c.run.ensures.untouched;
   through = λ words nowhere grew short.
       (let causes = c.run.ensures.causes in
       let script = c.args.script.now in
