@@ -1,5 +1,6 @@
 -- Partitions that the key tree leads to.
-use Rattle.std.proofs.Common.{◌≡◌, ℕ, suc, ◌+◌, ◌-◌, ◌/◌, ◌^◌, ◌≤◌, List, [], ◌∷◌, length, length-append, length-drop, take, drop, arith, sym, ◌∙◌, ap, subst, Option, None, Some}
+use Rattle.std.proofs.Common.{◌≡◌, ℕ, suc, ◌+◌, ◌-◌, ◌/◌, ◌^◌, ◌*◌, ◌<◌, ◌≤◌, List, [], ◌∷◌, length, length-append, length-drop, take, drop, arith, sym, ◌∙◌, ap, subst, ⊎_elim, Option, None, Some}
+use Rattle.std.proofs.lemmas.Bool.Decides.{leb_tells}
 use Rattle.sasi_host.specs.declared.name.FileName.{FileName}
 use Rattle.sasi_host.specs.declared.fault.ReadFault.{ReadFault}
 use Rattle.sasi_host.specs.declared.fault.ReadFault.TheVariants as fault
@@ -13,13 +14,13 @@ use Rattle.sasi_types.specs.declared.tree.Pair.{Pair}
 use Rattle.sasi_types.specs.declared.tree.TreeRef.{TreeRef}
 use Rattle.sasi_types.specs.Token.{token_of}
 use Rattle.sasi_model.specs.Cells.{Partition}
-use Rattle.sasi_tokentree.specs.Format.{entry, HasTree}
-use Rattle.sasi_tokentree.specs.Sizes.{entry_length}
+use Rattle.sasi_tokentree.specs.Format.{HasTree}
 use Rattle.sasi_host.proofs.Offsets.{at_ends}
 use Rattle.std.specs.Int.{to_be_bytes, w32}
 use Rattle.sasi_host.specs.Damages.{DamageShown}
-use Rattle.sasi_tokentree.specs.Damages.{ShowsTree, ShowsTreeBy, pair_place}
+use Rattle.sasi_tokentree.specs.Damages.{ShowsTree, ShowsTreeBy, pair_place, start}
 use Rattle.sasi_tokentree.proofs.AfterRead.{tree_shown_more}
+use Rattle.sasi_tokentree.proofs.LeafPairs.{count_is, ends_within, tree_stands}
 use Rattle.sasi_host.proofs.DamageLaws.{shown_as}
 use Rattle.sasi_tokentree.specs.Reads.{NoFalseTreeDamage}
 use Rattle.sasi_tokentree.specs.Scans.{ReadsEntry, ReadsNextPair, IsEntryBuffered, StepsToPair, PairScan, entry_cost}
@@ -28,13 +29,13 @@ use Rattle.sasi_datawrite.specs.Format.{Content, front, header, key_pairs, parti
 use Rattle.sasi_dataread.specs.Opened.{Opened, IsOpenedAs, StandsAt}
 use Rattle.sasi_dataread.specs.Bodies.{length_prefixed, partition_reads}
 use Rattle.sasi_dataread.specs.Laws.{partition_stands}
-use Rattle.sasi_dataread.specs.ReadCosts.{ReadsEachPageOnce, IsSequential, scan_of}
-use Rattle.sasi_dataread.proofs.Pages.{goes_on}
+use Rattle.sasi_dataread.specs.ReadCosts.{ReadsEachPageOnce, IsSequential, file_pages, progress, scan_of}
+use Rattle.sasi_dataread.proofs.Pages.{goes_on, stops_at_pair, stops_behind_pair}
 use Rattle.sasi_dataread.specs.Damages.{ShowsData, ShowsPair}
 use Rattle.sasi_dataread.specs.Damages.ShowsData.{in_tree, at_pair}
 use Rattle.sasi_dataread.specs.Reads.{ReadsPartition, IsOpenOn, NoFalsePartitionDamage}
 use Rattle.sasi_dataread.specs.Scans.{KeysAreBytes, NoFalseOpenedDamage}
-use Rattle.sasi_dataread.proofs.Pairs.{has_tree, nth, nth_stands, nth_token, left_behind}
+use Rattle.sasi_dataread.proofs.Pairs.{IsNth, has_tree, nth, nth_stands, nth_token, left_behind}
 
 -- no file is longer
 abbrev pub IsShort : View → FileName → Type 0
@@ -119,17 +120,65 @@ pub all_pairs : (opened : Opened) (partitioner : Partitioner) (content : Content
 all_pairs opened partitioner content tree passed of same none =
     omega (arith, ap (λ (t : TreeRef). t.pairs) (same ∙ of.tree), ap (λ (l : List Pair). length l) none, length-drop passed (key_pairs partitioner content))
 
+-- where one comes next, one is left
+pairs_left : (opened : Opened) (partitioner : Partitioner) (content : Content) (tree : TreeRef) (passed after : ℕ) (pair : Pair) → IsOpenedAs opened partitioner content →
+    tree ≡ opened.tree → drop passed (key_pairs partitioner content) ≡ pair ∷ drop after (key_pairs partitioner content) → passed < tree.pairs
+pairs_left opened partitioner content tree passed after pair of same took =
+    omega (arith, ap (λ (t : TreeRef). t.pairs) (same ∙ of.tree), ap (λ (l : List Pair). length l) took, length-drop passed (key_pairs partitioner content))
+
+-- where a pair is left, its entry lies within the file
+pair_lies : (v : View) (opened : Opened) (tree : TreeRef) (passed : ℕ) (partitioner : Partitioner) (content : Content) (is : IsOpenOn v opened partitioner content) → KeysAreBytes content → tree ≡ opened.tree → IsShort v opened.file
+    → passed < tree.pairs → pair_place tree passed + 16 ≤ length is.bytes
+pair_lies v opened tree passed partitioner content is have tree_is short left =
+    let has = tree_there v opened tree tree_is short partitioner content is have in
+    ends_within is.bytes (start tree) passed (key_pairs partitioner content) (tree_stands is.bytes tree (key_pairs partitioner content) has (omega (arith, left)) (short is.bytes is.reads))
+    (omega (arith, left, count_is is.bytes tree (key_pairs partitioner content) has))
+
+-- and its partition does, behind those that were passed
+part_lies : (v : View) (opened : Opened) (passed : ℕ) (pair : Pair) (partitioner : Partitioner) (content : Content) (is : IsOpenOn v opened partitioner content) (n : IsNth partitioner (length header) content passed pair)
+    → (pair.place ≡ length (front (take passed content))) × (pair.place + (4 + length (body n.one.0 n.one.1)) ≤ length is.bytes)
+part_lies v opened passed pair partitioner content is n = (
+  ap (λ (p : Pair). p.place) n.pair_is ∙ sym (length-append header (partitions (take passed content))),
+  omega (
+    arith,
+    at_ends is.bytes pair.place (length_prefixed (body n.one.0 n.one.1)) (partition_stands partitioner opened.types is.bytes content pair.place n.one.0 n.one.1 is.data_file (nth_stands partitioner content passed pair n)),
+    length-append
+        (to_be_bytes w32 (length (body n.one.0 n.one.1))) (body n.one.0 n.one.1),
+  ),
+)
+
+module _ (v w : View) (opened : Opened) (tree : PairScan) (buffered : Buffered) (partitioner : Partitioner) (content : Content) (r0 r1 : ℕ) (is : IsOpenOn v opened partitioner content) (have : KeysAreBytes content) (short : IsShort v opened.file) (tree_is : tree.tree ≡ opened.tree) (sequential : IsSequential is.bytes content (scan_of opened tree buffered)) (first : r1 ≤ r0 + entry_cost tree.buffered.page tree.tree tree.passed) where
+  -- the scan stops at the next pair, if there is one
+  pub walk_stops : (tree.tree.pairs ≤ tree.passed → r1 ≡ r0) → r1 + progress (scan_of opened tree buffered) ≤ r0 + 2 * file_pages is.bytes
+  walk_stops ended = ⊎_elim
+      (λ none. omega (arith, ended none.1, sequential.pairs_within, sequential.within))
+      (λ left. stops_at_pair is.bytes content opened tree buffered r0 r1 sequential first tree_is (pair_lies v opened tree.tree tree.passed partitioner content is have tree_is short left.1))
+      (leb_tells tree.tree.pairs tree.passed)
+
+  -- or at its partition
+  pub walk_stops_behind : (after : ℕ) (pair : Pair) (r2 : ℕ) → Changes Same v w → StepsToPair (key_pairs partitioner content) tree.passed after (Some pair)
+      → ((partitioner : Partitioner) (content : Content) (key : Bytes) (part : Partition) → IsOpenOn w opened partitioner content → StandsAt content
+      pair.place key part → r2 ≤ r1 + partition_reads buffered.page pair.place (length (body key part)))
+      → r2 + progress (scan_of opened tree buffered) ≤ r0 + 2 * file_pages is.bytes
+  walk_stops_behind after pair r2 change took second =
+      let n = nth partitioner (length header) content tree.passed pair (drop after (key_pairs partitioner content)) took in
+      let lies = part_lies v opened tree.passed pair partitioner content is n in
+      stops_behind_pair is.bytes content opened tree buffered r0 r1 sequential first tree_is
+      (pair_lies v opened tree.tree tree.passed partitioner content is have tree_is short (pairs_left opened partitioner content tree.tree tree.passed after pair is.of tree_is took))
+      pair.place (length (body n.one.0 n.one.1)) r2 lies.0 lies.1
+      (second partitioner content n.one.0 n.one.1 (open_same v w opened partitioner content change is) (nth_stands partitioner content tree.passed pair n))
+
 -- the scan passed one partition more
 pub walk_goes : (v w : View) (opened : Opened) (tree after : PairScan) (buffered now : Buffered) (pair : Pair) (key : Bytes) (part : Partition)
-    (partitioner : Partitioner) (content : Content) (r0 r1 r2 : ℕ) (is : IsOpenOn v opened partitioner content) → Changes Same v w
+    (partitioner : Partitioner) (content : Content) (r0 r1 r2 : ℕ) (is : IsOpenOn v opened partitioner content) → KeysAreBytes content → IsShort v opened.file → Changes Same v w
     → StepsToPair (key_pairs partitioner content) tree.passed after.passed (Some pair) → ReadsPartition w opened pair.place key part → tree.tree ≡ opened.tree →
-    after.tree ≡ tree.tree → ReadsEntry v opened.file opened.tree after.passed (Some pair) → IsSequential is.bytes content (scan_of opened tree buffered)
+    after.tree ≡ tree.tree → IsSequential is.bytes content (scan_of opened tree buffered)
     → r1 ≤ r0 + entry_cost tree.buffered.page tree.tree tree.passed
     → ((partitioner : Partitioner) (content : Content) (key : Bytes) (part : Partition) → IsOpenOn w opened partitioner content → StandsAt content
     pair.place key part → r2 ≤ r1 + partition_reads buffered.page pair.place (length (body key part)))
     → after.passed ≡ tree.passed + 1 → IsEntryBuffered after (Some pair) → now.page ≡ Some ((pair.place + 3 + length (body key part)) / 4096) → ReadsEachPageOnce is.bytes
     content r0 r2 (scan_of opened tree buffered) (scan_of opened after now)
-walk_goes v w opened tree after buffered now pair key part partitioner content r0 r1 r2 is change took gives tree_is after_is given sequential first second passed entry_buffered page =
+walk_goes v w opened tree after buffered now pair key part partitioner content r0 r1 r2 is have short change took gives tree_is after_is sequential first second passed entry_buffered page =
     let n = nth partitioner (length header) content tree.passed pair (drop after.passed (key_pairs partitioner content)) took in
     let stands = nth_stands partitioner content tree.passed pair n in
     let w_open = open_same v w opened partitioner content change is in
@@ -138,24 +187,11 @@ walk_goes v w opened tree after buffered now pair key part partitioner content r
     let read : r2 ≤ r1 + partition_reads buffered.page pair.place (length (body key part)) =
     subst (λ (o : Bytes × Partition). r2 ≤ r1 + partition_reads buffered.page pair.place (length (body o.0 o.1))) one (second partitioner content n.one.0 n.one.1 w_open stands)
     in
-    let place : pair.place ≡ length (front (take tree.passed content)) = ap (λ (p : Pair). p.place) n.pair_is ∙ sym (length-append header (partitions (take tree.passed content))) in
+    let lies = part_lies v opened tree.passed pair partitioner content is n in
     let near_is : after.buffered.page ≡ Some ((pair_place tree.tree tree.passed + 15) / 4096) =
     entry_buffered ∙ ap (λ (t : TreeRef). Some ((pair_place t (after.passed - 1) + 15) / 4096)) after_is ∙ ap (λ (k : ℕ). Some ((pair_place tree.tree k + 15) / 4096)) (omega (arith, passed))
     in
-    let has = given.2 is.bytes is.reads in
-    let same_place : pair_place opened.tree given.0 ≡ pair_place tree.tree tree.passed = ap (λ (t : TreeRef). pair_place t given.0) (sym tree_is) ∙ ap
-    (λ (k : ℕ). pair_place tree.tree k) (omega (arith, given.1, passed)) in
-    let pair_within : pair_place tree.tree tree.passed + 16 ≤ length is.bytes = omega
-    (arith, same_place, at_ends is.bytes (pair_place opened.tree given.0) (entry pair) has.stands, entry_length pair) in
-    let read_there = partition_stands partitioner opened.types is.bytes content pair.place n.one.0 n.one.1 is.data_file stands in
-    let part_within : pair.place + (4 + length (body key part)) ≤ length is.bytes =
-    omega (
-      arith,
-      at_ends is.bytes pair.place (length_prefixed (body n.one.0 n.one.1)) read_there,
-      length-append
-          (to_be_bytes w32 (length (body n.one.0 n.one.1))) (body n.one.0 n.one.1),
-      ap (λ (o : Bytes × Partition). length (body o.0 o.1)) one,
-    )
-    in
+    let pair_within = pair_lies v opened tree.tree tree.passed partitioner content is have tree_is short (pairs_left opened partitioner content tree.tree tree.passed after.passed pair is.of tree_is took) in
+    let part_within : pair.place + (4 + length (body key part)) ≤ length is.bytes = omega (arith, lies.1, ap (λ (o : Bytes × Partition). length (body o.0 o.1)) one) in
     goes_on is.bytes content (drop (suc tree.passed) content) opened tree after buffered now pair.place key part r0 r1 r2 tree_is passed
-    (n.left ∙ ap (λ (o : Bytes × Partition). o ∷ drop (suc tree.passed) content) one) place pair_within part_within sequential first read near_is page
+    (n.left ∙ ap (λ (o : Bytes × Partition). o ∷ drop (suc tree.passed) content) one) lies.0 pair_within part_within sequential first read near_is page

@@ -1,5 +1,5 @@
 -- What reading on costs, with a page buffered.
-use Rattle.std.proofs.Common.{◌≡◌, ◌≢◌, ◌⊎◌, ℕ, zero, suc, add-one, [], ◌∷◌, ◌++◌, length, take, drop, sym, ◌∙◌, subst, length-append, ◌+◌, ◌-◌, ◌/◌, ◌^◌, ◌<◌, ◌≤◌, Bool, Option, None, Some, inl, inr, ap, arith, ⊎_elim}
+use Rattle.std.proofs.Common.{◌≡◌, ◌≢◌, ◌⊎◌, ℕ, zero, suc, add-one, [], ◌∷◌, ◌++◌, length, take, drop, sym, ◌∙◌, subst, length-append, ◌+◌, ◌-◌, ◌*◌, ◌/◌, ◌^◌, ◌<◌, ◌≤◌, Bool, Option, None, Some, inl, inr, ap, arith, ⊎_elim}
 use Rattle.std.specs.Prelude.{if◌then◌else◌}
 use Rattle.std.proofs.lemmas.Bool.Decides.{eqb_tells}
 use Rattle.sasi_host.specs.Buffered.{Buffered, buffered_at, reached, unbuffered_pages}
@@ -15,7 +15,7 @@ use Rattle.sasi_datawrite.specs.Format.{Content, front, header, partition_bytes,
 use Rattle.sasi_datawrite.proofs.Laws.{partition_length}
 use Rattle.sasi_dataread.specs.Opened.{Opened}
 use Rattle.sasi_dataread.specs.Bodies.{partition_reads}
-use Rattle.sasi_dataread.specs.ReadCosts.{scan_of, IsSequential, ReadsEachPageOnce}
+use Rattle.sasi_dataread.specs.ReadCosts.{scan_of, IsSequential, ReadsEachPageOnce, file_pages, progress}
 
 -- a page is that of an offset, or another
 hand : (page at : ℕ) → ((page ≡ at / 4096) × (buffered_at (Some page) at ≡ 1)) ⊎ ((page ≢ at / 4096) × (buffered_at (Some page) at ≡ 0))
@@ -125,3 +125,25 @@ pub goes_nowhere : (bytes : Bytes) (content : Content) (opened : Opened) (tree a
 goes_nowhere bytes content opened tree after buffered r0 r1 same few sequential = subst
     (λ (w : PairScan). ReadsEachPageOnce bytes content r0 r1 (scan_of opened tree buffered) (scan_of opened w buffered)) (sym same)
     (record { sequential = sequential; pages = omega (arith, few) })
+
+-- ---- a scan that stops
+
+module _ (bytes : Bytes) (content : Content) (opened : Opened) (tree : PairScan) (buffered : Buffered) (r0 r1 : ℕ) (sequential : IsSequential bytes content (scan_of opened tree buffered)) (first : r1 ≤ r0 + entry_cost tree.buffered.page tree.tree tree.passed) (tree_is : tree.tree ≡ opened.tree) (pair_within : pair_place tree.tree tree.passed + 16 ≤ length bytes) where
+  pair_reaches : r1 + reached tree.buffered.page ≤ r0 + file_pages bytes
+  pair_reaches =
+      let same : pair_place tree.tree tree.passed ≡ pair_place opened.tree tree.passed = ap (λ (t : TreeRef). pair_place t tree.passed) tree_is in
+      let from = read_place opened.tree tree.passed in
+      let long = 16 + header_read tree.passed in
+      let one = fresh_reaches tree.buffered.page from long (omega arith) (λ p is. omega (arith, sequential.pairs p is)) in
+      let fresh_same : entry_cost tree.buffered.page tree.tree tree.passed ≡ unbuffered_pages tree.buffered.page from long = ap (λ (t : TreeRef). entry_cost tree.buffered.page t tree.passed) tree_is in
+      omega (arith, first, one, pair_ends opened.tree tree.passed, fresh_same, same, pair_within)
+
+  -- at the next pair
+  pub stops_at_pair : r1 + progress (scan_of opened tree buffered) ≤ r0 + 2 * file_pages bytes
+  stops_at_pair = omega (arith, pair_reaches, sequential.within)
+
+  -- or behind it, at its partition
+  pub stops_behind_pair : (place size r2 : ℕ) → place ≡ length (front (take tree.passed content)) → place + (4 + size) ≤ length bytes → r2 ≤ r1 + partition_reads buffered.page place size → r2 + progress (scan_of opened tree buffered) ≤ r0 + 2 * file_pages bytes
+  stops_behind_pair place size r2 place_is part_within second =
+      let two = fresh_reaches buffered.page place (4 + size) (omega arith) (λ p is. omega (arith, place_is, sequential.partitions p is)) in
+      omega (arith, pair_reaches, second, two, part_within)

@@ -5,13 +5,10 @@ ghost use Rattle.sasi_host.specs.View.{ReadsAtMost};
 ghost use Rattle.sasi_host.specs.Damages.{DamageShown};
 ghost use Rattle.sasi_host.specs.Buffered.{IsBuffered};
 ghost use Rattle.sasi_host.specs.PageReading.{CanRead, HasRead};
-ghost use Rattle.sasi_types.specs.declared.partitioner.Partitioner.{Partitioner};
 ghost use Rattle.sasi_body.specs.Body.{IsBodyOf};
-ghost use Rattle.sasi_datawrite.specs.Format.{Content};
-ghost use Rattle.sasi_dataread.specs.Reads.{IsOpenOn};
-ghost use Rattle.sasi_dataread.specs.ReadCosts.{ReadsEachPageOnce, IsSequential, scan_of};
+ghost use Rattle.sasi_dataread.specs.ReadCosts.{ScansPagesOnce, scan_of};
 ghost use Rattle.sasi_dataread.specs.Damages.{ShowsData};
-ghost use Rattle.sasi_dataread.specs.Scans.{ReadsNextPartition, KeysAreBytes, NoFalseOpenedDamage};
+ghost use Rattle.sasi_dataread.specs.Scans.{ReadsNextPartition, NoFalseOpenedDamage};
 
 use crate::DataFile;
 use crate::pair::partition_of_pair;
@@ -76,8 +73,8 @@ impl Walk {
         ensures pairs_buffered { IsBuffered self.new.pairs_buffered (H.view host.new).files }
         ensures buffered { IsBuffered self.new.buffered (H.view host.new).files }
         ensures causes { ReadsAtMost 2052 (H.view host.old) (H.view host.new) result }
-        // A sequential scan reads each page once.
-        ensures reads { IfOk result (λ _. (partitioner : Partitioner) (content : Content) (is : IsOpenOn (H.view host.old) self.old.opened partitioner content) → KeysAreBytes content → IsSequential is.bytes content self.old → ReadsEachPageOnce is.bytes content (H.view host.old).reads (H.view host.new).reads self.old self.new) }
+        // A sequential scan reads each page once, also where it fails.
+        ensures reads { ScansPagesOnce (H.view host.old) (H.view host.new) self.old self.new result }
         ensures opened { self.new.opened ≡ self.old.opened }
     {
         next_partition(
@@ -114,8 +111,7 @@ fn next_partition<H: Host, P: PageReader>(
     ensures pairs_buffered { IsBuffered tree.new.buffered (H.view host.new).files }
     ensures buffered { IsBuffered buffered.new (H.view host.new).files }
     ensures causes { ReadsAtMost 2052 (H.view host.old) (H.view host.new) result }
-    ensures reads { IfOk result (λ _. (partitioner : Partitioner) (content : Content) (is : IsOpenOn (H.view host.old) opened.now partitioner content) → KeysAreBytes content → IsSequential is.bytes content (scan_of opened.now tree.old buffered.old)
-        → ReadsEachPageOnce is.bytes content (H.view host.old).reads (H.view host.new).reads (scan_of opened.now tree.old buffered.old) (scan_of opened.now tree.new buffered.new)) }
+    ensures reads { ScansPagesOnce (H.view host.old) (H.view host.new) (scan_of opened.now tree.old buffered.old) (scan_of opened.now tree.new buffered.new) result }
     ensures file { tree.new.buffered.file ≡ tree.old.buffered.file }
     ensures named { buffered.new.file ≡ buffered.old.file }
     ensures tree { tree.new.tree ≡ tree.old.tree }

@@ -1,5 +1,5 @@
 -- The reads of scans, one after another.
-use Rattle.std.proofs.Common.{◌≡◌, ◌+◌, ◌*◌, ◌<◌, ◌≤◌, ℕ, suc, zero, List, [], ◌∷◌, ◌++◌, get_or, length, map, set, take, slice_get, Option, None, Some, IfOk, Result, Ok, Err, refl, sym, ap, subst, ◌∙◌, arith}
+use Rattle.std.proofs.Common.{◌≡◌, ◌+◌, ◌*◌, ◌<◌, ◌≤◌, ℕ, suc, zero, List, [], ◌∷◌, ◌++◌, get_or, length, map, set, take, slice_get, MatchResult, Option, None, Some, Result, Ok, Err, refl, sym, ap, subst, ◌∙◌, arith}
 use Rattle.std.specs.List.{AllByRecursion}
 use Rattle.std.specs.Option.{option_map_or}
 use Rattle.sasi_types.specs.declared.column.ColumnType.{ColumnType}
@@ -12,9 +12,8 @@ use Rattle.sasi_host.specs.View.{View, contents_in}
 use Rattle.sasi_datawrite.specs.Files.{IsDataFile}
 use Rattle.sasi_datawrite.specs.Format.{Content}
 use Rattle.sasi_dataread.specs.Opened.{IsOpenedAs, Opened}
-use Rattle.sasi_dataread.specs.ReadCosts.{IsSequential, ReadsEachPageOnce, begins_sequential, file_pages, progress_within}
-use Rattle.sasi_dataread.specs.Reads.{IsOpenOn}
-use Rattle.sasi_dataread.specs.Scans.{DataScan, KeysAreBytes}
+use Rattle.sasi_dataread.specs.ReadCosts.{ReadsEachPageOnce, ScansPagesOnce, always_within, begins_sequential, file_pages, progress, progress_within}
+use Rattle.sasi_dataread.specs.Scans.{DataScan}
 use Rattle.sasi_layout.specs.Layout.{TableParts}
 use Rattle.sasi_manifest.specs.declared.files.ListedFile.{ListedFile}
 use Rattle.sasi_memtable.specs.MemtableView.{MemtableView}
@@ -22,7 +21,7 @@ use Rattle.sasi_merge.specs.Merging.{Head}
 use Rattle.sasi_store.specs.declared.source.Source.{Source}
 use Rattle.sasi_store.specs.declared.source.Source.TheVariants.{File}
 use Rattle.sasi_store.specs.Sources.{IsOpenIn}
-use Rattle.sasi_store.specs.Paging.{GoReading, IsPaged, OpensReading, PagesRead, StepsReading, all_pages_left, pages_in, pages_left, table_reads}
+use Rattle.sasi_store.specs.Paging.{AllPagesRead, GoReading, GoWithin, IsPaged, OpensReading, OpensWithin, PagesRead, StepsReading, StepsWithin, all_pages_left, pages_in, pages_left, table_reads}
 use Rattle.sasi_store.specs.Scanning.{AreContents, HasContent, IsOpenedFile, IsTableOf}
 use Rattle.sasi_store.proofs.Costs.{reads_same}
 use Rattle.sasi_store.proofs.Moves.{got}
@@ -51,13 +50,21 @@ file_reads seen p old new before now content is same once =
       reads = omega (arith, once.pages, within, pages, pages_now);
     }
 
-pub scan_reads : (v : View) (old new : DataScan) (before now : ℕ) (result : Result Head ReadFault) → new.opened ≡ old.opened
-    → IfOk result (λ _. (p : Partitioner) (content : Content) (is : IsOpenOn v old.opened p content) → KeysAreBytes content → IsSequential is.bytes content old → ReadsEachPageOnce is.bytes content before now old new)
-    → IfOk result (λ _. (p : Partitioner) → StepsReading v.files p (File old) (File new) before now)
-scan_reads v old new before now (Err f) same once = tt
-scan_reads v old new before now (Ok head) same once = λ p paged.
-    file_reads v.files p old new before now paged.content paged.is same
-    (once p paged.content (record { bytes = paged.is.bytes; reads = paged.is.reads; data_file = paged.is.data_file; of = paged.is.of }) paged.is.keys paged.sequential)
+scan_stops : (seen : Option Folder) (old : DataScan) (before now : ℕ) (bytes : Bytes) → contents_in seen old.opened.file ≡ Some bytes → now + progress old ≤ before + 2 * file_pages bytes → now ≤ before + pages_left seen (File old)
+scan_stops seen old before now bytes is within = omega (arith, within, pages_are seen old.opened.file bytes is)
+
+pub scan_reads : (v w : View) (old new : DataScan) (result : Result Head ReadFault) → new.opened ≡ old.opened → ScansPagesOnce v w old new result → (p : Partitioner) → StepsWithin v.files p (File old) (File new) v.reads w.reads result
+scan_reads v w old new result same once p paged =
+    by result (once p paged.content (record { bytes = paged.is.bytes; reads = paged.is.reads; data_file = paged.is.data_file; of = paged.is.of }) paged.is.keys paged.sequential)
+  where
+    by : (r : Result Head ReadFault) → MatchResult r (λ _. ReadsEachPageOnce paged.is.bytes paged.content v.reads w.reads old new) (λ _. w.reads + progress old ≤ v.reads + 2 * file_pages paged.is.bytes)
+        → MatchResult r (λ _. PagesRead v.files p (File old) (File new) v.reads w.reads) (λ _. w.reads ≤ v.reads + pages_left v.files (File old))
+    by (Ok head) goes = file_reads v.files p old new v.reads w.reads paged.content paged.is same goes
+    by (Err f) within = scan_stops v.files old v.reads w.reads paged.is.bytes paged.is.reads within
+
+-- whether it failed or not
+step_within : {T : Type 0} (seen : Option Folder) (p : Partitioner) (old new : Source) (before now : ℕ) (result : Result T ReadFault) → StepsWithin seen p old new before now result → IsPaged seen p old → now ≤ before + pages_left seen old
+step_within seen p old new before now result step paged = always_within (PagesRead seen p old new before now) now (before + pages_left seen old) result (λ goes. omega (arith, goes.reads)) (step paged)
 
 -- ---- all sources
 
@@ -69,6 +76,18 @@ reads_go_on seen p first second third a b c one two paged =
     let before = one paged in
     let after = two before.paged in
     record { paged = after.paged; reads = omega (arith, before.reads, after.reads) }
+
+-- whether one of their steps failed or not
+gone_within : {T : Type 0} (seen : Option Folder) (p : Partitioner) (old new : List Source) (before now : ℕ) (result : Result T ReadFault) → GoWithin seen p old new before now result → AllByRecursion (IsPaged seen p) old → now ≤ before + all_pages_left seen old
+gone_within seen p old new before now result goes paged = always_within (AllPagesRead seen p old new before now) now (before + all_pages_left seen old) result (λ all. omega (arith, all.reads)) (goes paged)
+
+-- they went on, and then one may have failed
+pub stops_on : {T : Type 0} (seen : Option Folder) (p : Partitioner) (first second third : List Source) (a b c : ℕ) (result : Result T ReadFault) → GoReading seen p first second a b → GoWithin seen p second third b c result → AllByRecursion (IsPaged seen p) first → c ≤ a + all_pages_left seen first
+stops_on seen p first second third a b c result one two paged = let before = one paged in omega (arith, before.reads, gone_within seen p second third b c result two before.paged)
+
+-- and no step did
+pub gone_by : (seen : Option Folder) (p : Partitioner) (first second : List Source) (a b : ℕ) → GoReading seen p first second a b → AllByRecursion (IsPaged seen p) first → b ≤ a + all_pages_left seen first
+gone_by seen p first second a b goes paged = omega (arith, (goes paged).reads)
 
 -- a step of the source at a position
 pub set_reads : (seen : Option Folder) (p : Partitioner) (sources : List Source) (at : ℕ) (source after : Source) (before now : ℕ) → slice_get sources at ≡ Some source → StepsReading seen p source after before now → GoReading seen p sources (set sources at after) before now
@@ -82,6 +101,14 @@ set_reads seen p (s ∷ sources) (suc at) source after before now is step paged 
     let rest = set_reads seen p sources at source after before now is step paged.1 in
     record { paged = (paged.0, rest.paged); reads = omega (arith, rest.reads) }
 
+-- and one that failed
+pub set_stops : (seen : Option Folder) (p : Partitioner) (sources : List Source) (at : ℕ) (source : Source) (before now : ℕ) → slice_get sources at ≡ Some source → (IsPaged seen p source → now ≤ before + pages_left seen source) → AllByRecursion (IsPaged seen p) sources → now ≤ before + all_pages_left seen sources
+set_stops seen p [] at source before now is step paged = absurd (let no : None ≡ Some source = is in cc)
+set_stops seen p (s ∷ sources) zero source before now is step paged =
+    let same : source ≡ s = cc in
+    omega (arith, step (subst (IsPaged seen p) (sym same) paged.0), ap (pages_left seen) same)
+set_stops seen p (s ∷ sources) (suc at) source before now is step paged = omega (arith, set_stops seen p sources at source before now is step paged.1)
+
 -- ---- the opening of sources
 
 paged_push : (seen : Option Folder) (p : Partitioner) (sources : List Source) (source : Source) → AllByRecursion (IsPaged seen p) sources → IsPaged seen p source → AllByRecursion (IsPaged seen p) (sources ++ source ∷ [])
@@ -92,11 +119,22 @@ pages_push : (seen : Option Folder) (sources : List Source) (source : Source) �
 pages_push seen [] source = omega arith
 pages_push seen (s ∷ sources) source = omega (arith, pages_push seen sources source)
 
+-- an opened file is scanned from its start
+opened_paged : (v : View) (p : Partitioner) (types : List ColumnType) (file : ListedFile) (content : Content) (scan : DataScan) → IsOpenedFile v.files types file scan → HasContent v.files p types file content → IsPaged v.files p (File scan)
+opened_paged v p types file content scan is has =
+    let open_in = is.opened p content has in
+    record { content = content; is = open_in; sequential = begins_sequential open_in.bytes content scan is.no_pairs_buffered is.nothing_buffered }
+
+-- its first step may fail, or what follows it
+pub open_stops : {T : Type 0} (v w u : View) (p : Partitioner) (types : List ColumnType) (file : ListedFile) (content : Content) (scan : DataScan) (after : Source) (result : Result T ReadFault) → Changes Same v w → IsOpenedFile v.files types file scan → HasContent v.files p types file content → w.reads ≤ v.reads + 3 → StepsWithin w.files p (File scan) after w.reads u.reads result → u.reads ≤ v.reads + (3 + 2 * pages_in v.files (data_name file.number))
+open_stops v w u p types file content scan after result change is has three steps =
+    let step = subst (λ (o : Option Folder). StepsWithin o p (File scan) after w.reads u.reads result) (reads_same v w change) steps in
+    let within = step_within v.files p (File scan) after w.reads u.reads result step (opened_paged v p types file content scan is has) in
+    omega (arith, three, within, ap (pages_in v.files) is.named)
+
 pub open_reads : (v w u : View) (p : Partitioner) (types : List ColumnType) (file : ListedFile) (content : Content) (scan : DataScan) (after : Source) (olds news : List Source) → Changes Same v w → IsOpenedFile v.files types file scan → HasContent v.files p types file content → w.reads ≤ v.reads + 3 → StepsReading w.files p (File scan) after w.reads u.reads → news ≡ olds ++ after ∷ [] → AllByRecursion (IsPaged v.files p) olds → OpensReading v.files p (3 + 2 * pages_in v.files (data_name file.number)) olds news v.reads u.reads
 open_reads v w u p types file content scan after olds news change is has three steps news_are paged =
-    let open_in = is.opened p content has in
-    let first : IsPaged v.files p (File scan) = record { content = content; is = open_in; sequential = begins_sequential open_in.bytes content scan is.no_pairs_buffered is.nothing_buffered } in
-    let step = subst (λ (o : Option Folder). StepsReading o p (File scan) after w.reads u.reads) (reads_same v w change) steps first in
+    let step = subst (λ (o : Option Folder). StepsReading o p (File scan) after w.reads u.reads) (reads_same v w change) steps (opened_paged v p types file content scan is has) in
     let named = ap (pages_in v.files) is.named in
     let pages = pages_push v.files olds after in
     record {
@@ -127,6 +165,22 @@ next_reads v w u p types files contents at file olds news change inside is have 
     let sum = ap (table_reads v.files) (take_next files at file inside is) ∙ reads_push v.files (take at files) file in
     record { paged = more.paged; reads = omega (arith, so_far.reads, more.reads, sum) }
 
+-- fewer files take fewer reads
+fewer_reads : (seen : Option Folder) (files : List ListedFile) (n : ℕ) → table_reads seen (take n files) ≤ table_reads seen files
+fewer_reads seen files zero = omega arith
+fewer_reads seen [] (suc n) = omega arith
+fewer_reads seen (f ∷ files) (suc n) = omega (arith, fewer_reads seen files n)
+
+-- the next file couldn't be opened
+pub next_stops : (v w u : View) (p : Partitioner) (types : List ColumnType) (files : List ListedFile) (contents : List Content) (at : ℕ) (file : ListedFile) (olds : List Source) → Changes Same v w → at < length files → file ≡ get_or files at file → AreContents v.files p types files contents → OpensReading v.files p (table_reads v.files (take at files)) [] olds v.reads w.reads
+    → ((q : Partitioner) (content : Content) → HasContent w.files q types file content → AllByRecursion (IsPaged w.files q) olds → u.reads ≤ w.reads + (3 + 2 * pages_in w.files (data_name file.number)))
+    → u.reads ≤ v.reads + table_reads v.files files
+next_stops v w u p types files contents at file olds change inside is have so_far next =
+    let one = content_at v.files p types files contents at file have (got files at file inside is) in
+    let more = subst (λ (o : Option Folder). HasContent o p types file one.0 → AllByRecursion (IsPaged o p) olds → u.reads ≤ w.reads + (3 + 2 * pages_in o (data_name file.number))) (reads_same v w change) (next p one.0) one.1 so_far.paged in
+    let sum = ap (table_reads v.files) (take_next files at file inside is) ∙ reads_push v.files (take at files) file in
+    omega (arith, so_far.reads, more, sum, fewer_reads v.files files (at + 1))
+
 pub opening_begins : (v : View) (p : Partitioner) (sources : List Source) → sources ≡ [] → OpensReading v.files p 0 [] sources v.reads v.reads
 opening_begins v p sources none = subst (λ (ss : List Source). OpensReading v.files p 0 [] ss v.reads v.reads) (sym none) (record { paged = tt; reads = omega arith })
 
@@ -151,14 +205,22 @@ maps_pages seen [] [] = refl
 maps_pages seen [] (m ∷ ms) = omega (arith, maps_pages seen [] ms)
 maps_pages seen (s ∷ sources) ms = omega (arith, maps_pages seen sources ms)
 
-pub whole_reads : (v w u : View) (types : List ColumnType) (files : List ListedFile) (ms : List MemtableView) (sources all news : List Source) (folder : Folder) (p : Partitioner) (t : TableParts) → Changes Same v w → all ≡ sources ++ map_sources ms → v.files ≡ Some folder → IsTableOf folder p types files (map (λ (m : MemtableView). m.partitions) ms) t
+-- the sources of a table were opened, or one of them couldn't be
+pub opened_within : {T : Type 0} (v w : View) (types : List ColumnType) (files : List ListedFile) (ms : List MemtableView) (sources : List Source) (folder : Folder) (p : Partitioner) (t : TableParts) (result : Result T ReadFault) → v.files ≡ Some folder → IsTableOf folder p types files (map (λ (m : MemtableView). m.partitions) ms) t
+    → ((q : Partitioner) (contents : List Content) → AreContents v.files q types files contents → OpensWithin v.files q (table_reads v.files files) [] sources v.reads w.reads result) → w.reads ≤ v.reads + table_reads v.files files
+opened_within v w types files ms sources folder p t result told is opens =
+    let scanned = table_scanned folder p types files ms t is in
+    let have = subst (λ (o : Option Folder). AreContents o p types files scanned.contents) (sym told) scanned.have in
+    always_within (OpensReading v.files p (table_reads v.files files) [] sources v.reads w.reads) w.reads (v.reads + table_reads v.files files) result (λ all. omega (arith, all.reads)) (opens p scanned.contents have)
+
+-- and then they went on, or one of them failed
+pub whole_reads : {T : Type 0} (v w u : View) (types : List ColumnType) (files : List ListedFile) (ms : List MemtableView) (sources all news : List Source) (folder : Folder) (p : Partitioner) (t : TableParts) (result : Result T ReadFault) → Changes Same v w → all ≡ sources ++ map_sources ms → v.files ≡ Some folder → IsTableOf folder p types files (map (λ (m : MemtableView). m.partitions) ms) t
     → ((q : Partitioner) (contents : List Content) → AreContents v.files q types files contents → OpensReading v.files q (table_reads v.files files) [] sources v.reads w.reads)
-    → ((q : Partitioner) → GoReading w.files q all news w.reads u.reads) → u.reads ≤ v.reads + table_reads v.files files
-whole_reads v w u types files ms sources all news folder p t change all_are told is opens goes =
+    → ((q : Partitioner) → GoWithin w.files q all news w.reads u.reads result) → u.reads ≤ v.reads + table_reads v.files files
+whole_reads v w u types files ms sources all news folder p t result change all_are told is opens goes =
     let scanned = table_scanned folder p types files ms t is in
     let have = subst (λ (o : Option Folder). AreContents o p types files scanned.contents) (sym told) scanned.have in
     let opened = opens p scanned.contents have in
-    let going = subst (λ (o : Option Folder). GoReading o p all news w.reads u.reads) (reads_same v w change) (goes p) in
-    let done = going (subst (AllByRecursion (IsPaged v.files p)) (sym all_are) (maps_paged v.files p sources ms opened.paged)) in
-    let pages = ap (all_pages_left v.files) all_are ∙ maps_pages v.files sources ms in
-    omega (arith, opened.reads, done.reads, pages)
+    let going = subst (λ (o : Option Folder). GoWithin o p all news w.reads u.reads result) (reads_same v w change) (goes p) in
+    let within = gone_within v.files p all news w.reads u.reads result going (subst (AllByRecursion (IsPaged v.files p)) (sym all_are) (maps_paged v.files p sources ms opened.paged)) in
+    omega (arith, opened.reads, within, ap (all_pages_left v.files) all_are ∙ maps_pages v.files sources ms)

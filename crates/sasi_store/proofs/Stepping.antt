@@ -122,7 +122,7 @@ module _ {T : Type 0} (a b : View) (old new : StoreInHand) (piece : Piece) (repl
     undamaged = λ w serves. makes.undamaged;
     reads_only = λ none. absurd (changing (sym is ∙ none));
     unread = λ other. makes.reads;
-    reads = tt;
+    reads = λ w serves. omega (arith, makes.reads);
     changes = makes.changes;
     causes = record { disk = makes.causes.disk; out = makes.causes.out; ok = tt; failed = makes.causes.failed; others = makes.causes.others };
   }
@@ -147,7 +147,7 @@ step_full v sound old piece reply = record {
   undamaged = λ w serves. tt;
   reads_only = λ none. stays v;
   unread = λ other. refl;
-  reads = tt;
+  reads = λ w serves. omega arith;
   changes = any_change Same v v (stays v);
   causes = none_made v (Err fault.OutOfMemory) (λ e is same. memory_only e is same);
 }
@@ -274,8 +274,10 @@ module _ (a b : View) (sound : IsSound a) (old : StoreInHand) (piece : Piece) (c
   }
 
   pub select_failed : {T : Type 0} (e : StepFault) (reply : List ℕ) → ((folder : Folder) → b.files ≡ Some folder → OnStepDamage (FolderShows folder) e) → ((l : Layout) → Serves a old l → OnStepDamage (λ _. ⊥) e) → OnSpent (λ _. ⊥) e
+      → (number : ℕ) → select_reads a.files old (read piece) ≡ table_reads a.files (files_of old.manifest.listing.tables number)
+      → ((l : Layout) → Serves a old l → b.reads ≤ a.reads + table_reads a.files (files_of old.manifest.listing.tables number))
       → StepCauses {T = T} a b (Err e) → Steps piece a b old old reply (Err e)
-  select_failed e reply damaged undamaged unspent causes = record {
+  select_failed e reply damaged undamaged unspent number cost costs causes = record {
     answers = tt;
     everywhere = tt;
     ready = tt;
@@ -285,7 +287,7 @@ module _ (a b : View) (sound : IsSound a) (old : StoreInHand) (piece : Piece) (c
     undamaged = λ w serves. undamaged w.layout serves;
     reads_only = λ none. change;
     unread = λ other. absurd (other query);
-    reads = tt;
+    reads = λ w serves. subst (λ (n : ℕ). b.reads ≤ a.reads + n) (sym cost) (costs w.layout serves);
     changes = any_change Same a b change;
     causes = record { disk = causes.disk; out = causes.out; ok = tt; failed = causes.failed; others = causes.others };
   }

@@ -1,9 +1,11 @@
 -- How often a SELECT reads: each page of a data file at most twice, once for the key tree and once for the partitions, and
 -- three pages at its opening.
-use Rattle.std.specs.Prelude.{ℕ, ◌+◌, ◌-◌, ◌*◌, ◌≤◌, List, [], ◌∷◌, Option, ⊤}
+use Rattle.std.specs.Prelude.{ℕ, ◌+◌, ◌-◌, ◌*◌, ◌≤◌, List, [], ◌∷◌, MatchResult, Option, ⊤}
+use Rattle.std.specs.declared.result.Result.{Result}
 use Rattle.std.specs.List.{AllByRecursion}
 use Rattle.std.specs.Option.{option_map_or}
 use Rattle.sasi_types.specs.declared.partitioner.Partitioner.{Partitioner}
+use Rattle.sasi_host.specs.declared.fault.ReadFault.{ReadFault}
 use Rattle.sasi_host.specs.declared.name.FileName.{FileName}
 use Rattle.sasi_host.specs.Names.{Folder, data_name}
 use Rattle.sasi_host.specs.View.{contents_in}
@@ -65,3 +67,17 @@ GoReading seen partitioner old new before now = AllByRecursion (IsPaged seen par
 pub record OpensReading (seen : Option Folder) (partitioner : Partitioner) (more : ℕ) (old new : List Source) (before now : ℕ) : Type 0 where
   pub paged : AllByRecursion (IsPaged seen partitioner) new
   pub reads : now + all_pages_left seen new ≤ before + more + all_pages_left seen old
+
+-- ---- where a call may fail
+
+-- a step that fails reads no more than the source may still come to
+abbrev pub StepsWithin : {T : Type 0} → Option Folder → Partitioner → Source → Source → ℕ → ℕ → Result T ReadFault → Type 0
+StepsWithin seen partitioner old new before now result = IsPaged seen partitioner old → MatchResult result (λ _. PagesRead seen partitioner old new before now) (λ _. now ≤ before + pages_left seen old)
+
+-- and steps of which one fails no more than all of them may
+abbrev pub GoWithin : {T : Type 0} → Option Folder → Partitioner → List Source → List Source → ℕ → ℕ → Result T ReadFault → Type 0
+GoWithin seen partitioner old new before now result = AllByRecursion (IsPaged seen partitioner) old → MatchResult result (λ _. AllPagesRead seen partitioner old new before now) (λ _. now ≤ before + all_pages_left seen old)
+
+-- an opening that fails takes no more than so many
+abbrev pub OpensWithin : {T : Type 0} → Option Folder → Partitioner → ℕ → List Source → List Source → ℕ → ℕ → Result T ReadFault → Type 0
+OpensWithin seen partitioner more old new before now result = MatchResult result (λ _. OpensReading seen partitioner more old new before now) (λ _. now ≤ before + more)

@@ -30,6 +30,6 @@ pub record Steps (piece : Piece) (a b : View) (old new : StoreInHand) (reply : L
   pub undamaged : (w : World) → ServesWorld a old w → IfErr result (OnStepDamage (λ _. ⊥))
   pub reads_only : asks old.definitions old.max_timestamp piece ≡ NoChange → Changes Same a b
   pub unread : (IsQuery (read piece) → ⊥) → b.reads ≡ a.reads
-  pub reads : OnOk result ((w : World) → ServesWorld a old w → b.reads ≤ a.reads + select_reads a.files old (read piece))
+  pub reads : (w : World) → ServesWorld a old w → b.reads ≤ a.reads + select_reads a.files old (read piece)
   pub changes : Changes AnyFolderChange a b
   pub causes : StepCauses a b result

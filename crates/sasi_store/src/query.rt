@@ -18,7 +18,7 @@ ghost use Rattle.sasi_merge.specs.Merging.{with_token};
 ghost use Rattle.sasi_merge.specs.Streams.{Entries, IsRising, merged_entries};
 ghost use Rattle.sasi_store.specs.Sources.{AreReady, IsListed, ShowsListed};
 ghost use Rattle.sasi_store.specs.Left.{AreLeft, ArePrinted, PrintsNext};
-ghost use Rattle.sasi_store.specs.Paging.{GoReading, table_reads};
+ghost use Rattle.sasi_store.specs.Paging.{GoWithin, table_reads};
 ghost use Rattle.sasi_store.specs.Scanning.{IsTableOf, ScanCauses};
 
 use crate::source::Source;
@@ -48,9 +48,9 @@ pub fn print_table<H: Host>(
     requires stored { AllByRecursion (λ (m : MemtableView). KeysStored picked.now.key m.partitions) maps.now }
     ensures ok { OnOk result ((folder : Folder) (partitioner : Partitioner) (t : TableParts) → (H.view host.old).files ≡ Some folder → IsTableOf folder partitioner types.now files.now (map_list (λ (m : MemtableView). m.partitions) maps.now) t
         → reply.new ≡ reply.old ++ rows_lines (rows_picked picked.now.key picked.now.columns (map_.entries (table_of t).partitions))) }
-    // It reads each page of the data files at most twice, and three pages more of each.
-    ensures reads { OnOk result ((folder : Folder) (partitioner : Partitioner) (t : TableParts) → (H.view host.old).files ≡ Some folder → IsTableOf folder partitioner types.now files.now (map_list (λ (m : MemtableView). m.partitions) maps.now) t
-        → (H.view host.new).reads ≤ (H.view host.old).reads + table_reads (H.view host.old).files files.now) }
+    // It reads each page of the data files at most twice, and three pages more of each, also where it fails.
+    ensures reads { (folder : Folder) (partitioner : Partitioner) (t : TableParts) → (H.view host.old).files ≡ Some folder → IsTableOf folder partitioner types.now files.now (map_list (λ (m : MemtableView). m.partitions) maps.now) t
+        → (H.view host.new).reads ≤ (H.view host.old).reads + table_reads (H.view host.old).files files.now }
     ensures damaged { IfErr result (OnDamage (ShowsListed (H.view host.old).files files.now types.now)) }
     ensures undamaged { IfErr result (OnDamage (λ _. (folder : Folder) (partitioner : Partitioner) (t : TableParts) → (H.view host.old).files ≡ Some folder → IsTableOf folder partitioner types.now files.now (map_list (λ (m : MemtableView). m.partitions) maps.now) t → ⊥)) }
     ensures changes { Changes Same (H.view host.old) (H.view host.new) }
@@ -77,7 +77,7 @@ fn print_merge<H: Host>(
     requires { AreReady (H.view host.old).files picked.now.key heads.old sources.old.items }
     ensures ok { IfOk result (λ rows. (partitioner : Partitioner) (lefts : List Entries) → AreLeft (H.view host.old).files partitioner heads.old sources.old.items lefts → AllByRecursion IsRising lefts
         → ArePrinted picked.now (merged_entries lefts) reply.old reply.new rows) }
-    ensures reads { OnOk result ((partitioner : Partitioner) → GoReading (H.view host.old).files partitioner sources.old.items sources.new.items (H.view host.old).reads (H.view host.new).reads) }
+    ensures reads { (partitioner : Partitioner) → GoWithin (H.view host.old).files partitioner sources.old.items sources.new.items (H.view host.old).reads (H.view host.new).reads result }
     ensures damaged { (files : List AListedFile) (types : List ColumnType) → AllByRecursion (IsListed (H.view host.old).files files types) sources.old.items → IfErr result (OnDamage (ShowsListed (H.view host.old).files files types)) }
     ensures undamaged { (partitioner : Partitioner) (lefts : List Entries) → AreLeft (H.view host.old).files partitioner heads.old sources.old.items lefts → AllByRecursion IsRising lefts → IfErr result (OnDamage (λ _. ⊥)) }
     ensures changes { Changes Same (H.view host.old) (H.view host.new) }
@@ -111,7 +111,7 @@ fn print_next<H: Host>(
     ensures few { IfOk result (λ printed. IfSome printed (λ rows. rows ≤ 1)) }
     ensures ready { OnOk result (AreReady (H.view host.old).files picked.now.key heads.new sources.new.items) }
     ensures listed { OnOk result ((files : List AListedFile) (types : List ColumnType) → AllByRecursion (IsListed (H.view host.old).files files types) sources.old.items → AllByRecursion (IsListed (H.view host.old).files files types) sources.new.items) }
-    ensures reads { OnOk result ((partitioner : Partitioner) → GoReading (H.view host.old).files partitioner sources.old.items sources.new.items (H.view host.old).reads (H.view host.new).reads) }
+    ensures reads { (partitioner : Partitioner) → GoWithin (H.view host.old).files partitioner sources.old.items sources.new.items (H.view host.old).reads (H.view host.new).reads result }
     ensures damaged { (files : List AListedFile) (types : List ColumnType) → AllByRecursion (IsListed (H.view host.old).files files types) sources.old.items → IfErr result (OnDamage (ShowsListed (H.view host.old).files files types)) }
     ensures undamaged { (partitioner : Partitioner) (lefts : List Entries) → AreLeft (H.view host.old).files partitioner heads.old sources.old.items lefts → IfErr result (OnDamage (λ _. ⊥)) }
     ensures changes { Changes Same (H.view host.old) (H.view host.new) }

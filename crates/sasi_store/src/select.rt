@@ -31,7 +31,7 @@ pub fn select<H: Host>(
     requires parts { IsOfParts parts.now }
     requires there { IsSelectable (hand_of parts.now) rows.now }
     ensures ok { OnOk result ((l : Layout) → Serves (H.view host.old) (hand_of parts.now) l → reply.new ≡ reply.old ++ answer_rows (state_of l) rows.now) }
-    ensures reads { OnOk result ((l : Layout) → Serves (H.view host.old) (hand_of parts.now) l → (H.view host.new).reads ≤ (H.view host.old).reads + table_reads (H.view host.old).files (files_of parts.now.manifest.listing.tables rows.now.table)) }
+    ensures reads { (l : Layout) → Serves (H.view host.old) (hand_of parts.now) l → (H.view host.new).reads ≤ (H.view host.old).reads + table_reads (H.view host.old).files (files_of parts.now.manifest.listing.tables rows.now.table) }
     ensures damaged { (folder : Folder) → (H.view host.new).files ≡ Some folder → IfErr result (OnStepDamage (FolderShows folder)) }
     ensures undamaged { (l : Layout) → Serves (H.view host.old) (hand_of parts.now) l → IfErr result (OnStepDamage (λ _. ⊥)) }
     ensures unspent { IfErr result (OnSpent (λ _. ⊥)) }

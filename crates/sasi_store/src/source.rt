@@ -4,7 +4,7 @@ ghost use Rattle.sasi_types.specs.declared.partitioner.Partitioner.{Partitioner}
 ghost use Rattle.sasi_host.specs.Disk.{Changes, Same};
 ghost use Rattle.sasi_host.specs.View.{ReadsAtMost};
 ghost use Rattle.sasi_dataread.specs.Damages.{ShowsData};
-ghost use Rattle.sasi_store.specs.Paging.{StepsReading};
+ghost use Rattle.sasi_store.specs.Paging.{StepsWithin};
 ghost use Rattle.sasi_store.specs.Sources.{CanScan, CanStep, NoFalseSourceDamage, ShowsSource, StepsInFile, StepsTo};
 ghost use Rattle.sasi_store.specs.declared.source.Source.TheVariants.{File as InFile};
 
@@ -28,7 +28,7 @@ impl<'a> Source<'a> {
         ensures steps { IfOk result (λ head. StepsTo (H.view host.old).files self.old head self.new) }
         ensures damaged { IfErr result (ShowsSource (H.view host.old).files self.old) }
         ensures undamaged { IfErr result (NoFalseSourceDamage (H.view host.old).files self.old) }
-        ensures reads { IfOk result (λ _. (partitioner : Partitioner) → StepsReading (H.view host.old).files partitioner self.old self.new (H.view host.old).reads (H.view host.new).reads) }
+        ensures reads { (partitioner : Partitioner) → StepsWithin (H.view host.old).files partitioner self.old self.new (H.view host.old).reads (H.view host.new).reads result }
         ensures changes { Changes Same (H.view host.old) (H.view host.new) }
         ensures causes { ReadsAtMost 2052 (H.view host.old) (H.view host.new) result }
     {
@@ -45,7 +45,7 @@ fn next_in_file<H: Host>(alloc: Global, host: &mut H, scan: &mut Walk) -> Result
     ensures steps { IfOk result (λ head. StepsInFile (H.view host.old).files scan.old head scan.new) }
     ensures damaged { IfErr result (ShowsSource (H.view host.old).files (InFile scan.old)) }
     ensures undamaged { IfErr result (NoFalseSourceDamage (H.view host.old).files (InFile scan.old)) }
-    ensures reads { IfOk result (λ _. (partitioner : Partitioner) → StepsReading (H.view host.old).files partitioner (InFile scan.old) (InFile scan.new) (H.view host.old).reads (H.view host.new).reads) }
+    ensures reads { (partitioner : Partitioner) → StepsWithin (H.view host.old).files partitioner (InFile scan.old) (InFile scan.new) (H.view host.old).reads (H.view host.new).reads result }
     ensures changes { Changes Same (H.view host.old) (H.view host.new) }
     ensures causes { ReadsAtMost 2052 (H.view host.old) (H.view host.new) result }
 {

@@ -17,7 +17,7 @@ ghost use Rattle.sasi_store.specs.declared.source.Source.{Source as ASource};
 ghost use Rattle.sasi_store.specs.declared.source.Source.TheVariants.{Map};
 ghost use Rattle.sasi_store.specs.Sources.{AreMoved, CanStep, IsListed, IsMovedAt, NoFalseSourceDamage, ShowsListed, ShowsSource};
 ghost use Rattle.sasi_store.specs.Left.{AreLeft};
-ghost use Rattle.sasi_store.specs.Paging.{GoReading, IsPaged, OpensReading, pages_in, table_reads};
+ghost use Rattle.sasi_store.specs.Paging.{GoWithin, IsPaged, OpensWithin, pages_in, table_reads};
 ghost use Rattle.sasi_store.specs.Scanning.{AreContents, AreOpened, HasContent, IsAdded, IsOpened, IsOpenedFile, ScanCauses};
 
 use crate::map_scan::MapScan;
@@ -43,7 +43,7 @@ pub fn open_files<H: Host>(
     requires no_heads { heads.old ≡ [] }
     requires no_sources { sources.old.items ≡ [] }
     ensures opened { OnOk result (AreOpened (H.view host.old).files types.now files.now heads.new sources.new.items) }
-    ensures reads { OnOk result ((partitioner : Partitioner) (contents : List Content) → AreContents (H.view host.old).files partitioner types.now files.now contents → OpensReading (H.view host.old).files partitioner (table_reads (H.view host.old).files files.now) [] sources.new.items (H.view host.old).reads (H.view host.new).reads) }
+    ensures reads { (partitioner : Partitioner) (contents : List Content) → AreContents (H.view host.old).files partitioner types.now files.now contents → OpensWithin (H.view host.old).files partitioner (table_reads (H.view host.old).files files.now) [] sources.new.items (H.view host.old).reads (H.view host.new).reads result }
     ensures damaged { IfErr result (OnDamage (ShowsListed (H.view host.old).files files.now types.now)) }
     ensures undamaged { IfErr result (OnDamage (λ _. (partitioner : Partitioner) (contents : List Content) → AreContents (H.view host.old).files partitioner types.now files.now contents → ⊥)) }
     ensures changes { Changes Same (H.view host.old) (H.view host.new) }
@@ -66,8 +66,8 @@ fn open_source<H: Host>(
 ) -> Result<(), ReadFault>
     requires { IsThere (H.view host.old) (data_name file.now.number) }
     ensures opened { OnOk result (IsAdded (IsOpened (H.view host.old).files types.now file.now) heads.old sources.old.items heads.new sources.new.items) }
-    ensures reads { OnOk result ((partitioner : Partitioner) (content : Content) → HasContent (H.view host.old).files partitioner types.now file.now content → AllByRecursion (IsPaged (H.view host.old).files partitioner) sources.old.items
-        → OpensReading (H.view host.old).files partitioner (3 + 2 * pages_in (H.view host.old).files (data_name file.now.number)) sources.old.items sources.new.items (H.view host.old).reads (H.view host.new).reads) }
+    ensures reads { (partitioner : Partitioner) (content : Content) → HasContent (H.view host.old).files partitioner types.now file.now content → AllByRecursion (IsPaged (H.view host.old).files partitioner) sources.old.items
+        → OpensWithin (H.view host.old).files partitioner (3 + 2 * pages_in (H.view host.old).files (data_name file.now.number)) sources.old.items sources.new.items (H.view host.old).reads (H.view host.new).reads result }
     ensures damaged { IfErr result (OnDamage (λ damage. (bytes : Bytes) → contents_in (H.view host.old).files (data_name file.now.number) ≡ Some bytes → ShowsDataFile types.now (data_name file.now.number) bytes damage)) }
     ensures undamaged { IfErr result (OnDamage (λ _. (partitioner : Partitioner) (content : Content) → HasContent (H.view host.old).files partitioner types.now file.now content → ⊥)) }
     ensures changes { Changes Same (H.view host.old) (H.view host.new) }
@@ -158,7 +158,7 @@ pub fn advance<H: Host>(
     requires can { AllByRecursion (CanStep (H.view host.old).files) sources.old.items }
     requires counted { length heads.old ≡ length sources.old.items }
     ensures moved { OnOk result (AreMoved (H.view host.old).files (with_token merge.now key.now) (length sources.old.items) heads.old sources.old.items heads.new sources.new.items) }
-    ensures reads { OnOk result ((partitioner : Partitioner) → GoReading (H.view host.old).files partitioner sources.old.items sources.new.items (H.view host.old).reads (H.view host.new).reads) }
+    ensures reads { (partitioner : Partitioner) → GoWithin (H.view host.old).files partitioner sources.old.items sources.new.items (H.view host.old).reads (H.view host.new).reads result }
     ensures damaged { (files : List AListedFile) (types : List ColumnType) → AllByRecursion (IsListed (H.view host.old).files files types) sources.old.items → IfErr result (OnDamage (ShowsListed (H.view host.old).files files types)) }
     ensures undamaged { (partitioner : Partitioner) (lefts : List Entries) → AreLeft (H.view host.old).files partitioner heads.old sources.old.items lefts → IfErr result (OnDamage (λ _. ⊥)) }
     ensures changes { Changes Same (H.view host.old) (H.view host.new) }
@@ -184,7 +184,7 @@ fn advance_at<H: Host>(
     requires in_heads { at < length heads.old }
     requires in_sources { at < length sources.old.items }
     ensures moved { OnOk result (IsMovedAt (H.view host.old).files (with_token merge.now key.now) at heads.old sources.old.items heads.new sources.new.items) }
-    ensures reads { OnOk result ((partitioner : Partitioner) → GoReading (H.view host.old).files partitioner sources.old.items sources.new.items (H.view host.old).reads (H.view host.new).reads) }
+    ensures reads { (partitioner : Partitioner) → GoWithin (H.view host.old).files partitioner sources.old.items sources.new.items (H.view host.old).reads (H.view host.new).reads result }
     ensures damaged { IfErr result (λ f. (source : ASource) → slice_get sources.old.items at ≡ Some source → ShowsSource (H.view host.old).files source f) }
     ensures undamaged { IfErr result (λ f. (source : ASource) → slice_get sources.old.items at ≡ Some source → NoFalseSourceDamage (H.view host.old).files source f) }
     ensures changes { Changes Same (H.view host.old) (H.view host.new) }

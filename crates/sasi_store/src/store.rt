@@ -105,7 +105,7 @@ impl Store {
         ensures spared { (s : State) → IsStateOf self.old.hand.definitions self.old.hand.max_timestamp s → NeedsNoFile s (piece_of end piece.now) → host.new ≡ host.old }
         ensures reads_only { asks self.old.hand.definitions self.old.hand.max_timestamp (piece_of end piece.now) ≡ NoChange → Changes Same (H.view host.old) (H.view host.new) }
         ensures unread { (IsQuery (read (piece_of end piece.now)) → ⊥) → (H.view host.new).reads ≡ (H.view host.old).reads }
-        ensures reads { OnOk result ((w : World) → ServesWorld (H.view host.old) self.old.hand w → (H.view host.new).reads ≤ (H.view host.old).reads + select_reads (H.view host.old).files self.old.hand (read (piece_of end piece.now))) }
+        ensures reads { (w : World) → ServesWorld (H.view host.old) self.old.hand w → (H.view host.new).reads ≤ (H.view host.old).reads + select_reads (H.view host.old).files self.old.hand (read (piece_of end piece.now)) }
         ensures changes { Changes AnyFolderChange (H.view host.old) (H.view host.new) }
         ensures usable { self.new.usable ≡ is_ok result }
         ensures steps { self.new.steps ≡ counted self.old.steps }

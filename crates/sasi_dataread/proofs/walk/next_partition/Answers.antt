@@ -9,7 +9,7 @@ use Rattle.sasi_tokentree.proofs.EntryPages.{entry_pages}
 use Rattle.sasi_dataread.proofs.Pairs.{none_left}
 use Rattle.sasi_dataread.proofs.Pages.{goes_nowhere}
 use Rattle.sasi_host.specs.CauseLaws.{ok_reads, fault_reads, reads_on, reads_within}
-use Rattle.sasi_dataread.proofs.DataScan.{all_pairs, walk_goes, entry_of, partition_shown, tree_shown, next_takes, tree_spares, took_partition, place_spares}
+use Rattle.sasi_dataread.proofs.DataScan.{IsShort, all_pairs, walk_goes, walk_stops, walk_stops_behind, entry_of, partition_shown, tree_shown, next_takes, tree_spares, took_partition, place_spares}
 use Rattle.sasi_dataread.proofs.walk.next_partition.Goals as goal
 
 pub returns-in_err-next-clause-damaged : goal.returns-in_err-next-clause-damaged
@@ -83,6 +83,25 @@ returns-in-None-clause-reads g c partitioner content is have sequential =
     let ended = c.next.ensures.ended (all_pairs c.args.opened.now partitioner content c.args.tree.now.tree c.args.tree.now.passed is.of c.requires.tree took.0) in
     goes_nowhere is.bytes content c.args.opened.now c.args.tree.now c.next.new.self c.args.buffered.now _ _ same (omega (arith, ended)) sequential
 
+pub returns-in_err-next-clause-reads : goal.returns-in_err-next-clause-reads
+returns-in_err-next-clause-reads g c partitioner content is have sequential =
+    let p = err_from_is_err_and c.from_residual.result c.from_residual.ensures.1 in
+    let v = g.H.Host.view c.args.host.now in
+    rw p.1 (walk_stops v (g.H.Host.view c.next.new.host) c.args.opened.now c.args.tree.now c.args.buffered.now partitioner content _ _ is have
+    (λ bytes reads. (g.met.H.Host.sound c.args.host.now).fits c.args.opened.now.file bytes reads) c.requires.tree sequential c.next.ensures.causes.reads c.next.ensures.ended)
+
+pub returns-in_err-key-clause-reads : goal.returns-in_err-key-clause-reads
+returns-in_err-key-clause-reads g c partitioner content is have sequential =
+    let p = err_from_is_err_and c.from_residual-in_err-key.result c.from_residual-in_err-key.ensures.1 in
+    let v = g.H.Host.view c.args.host.now in
+    let opened = c.args.opened.now in
+    let tree = c.args.tree.now in
+    let short : IsShort v opened.file = λ bytes reads. (g.met.H.Host.sound c.args.host.now).fits opened.file bytes reads in
+    let gives = subst (λ (o : Option Pair). ReadsNextPair v tree.buffered.file tree.tree tree.passed c.next.new.self.passed o) c.in-Some.is c.in_ok-next.ensures.ok in
+    let took = next_takes v opened tree.buffered.file tree.tree tree.passed c.next.new.self.passed (Some c.in-Some.pair) c.requires.file c.requires.tree short gives partitioner content is have in
+    rw p.1 (walk_stops_behind v (g.H.Host.view c.next.new.host) opened tree c.args.buffered.now partitioner content _ _ is have short c.requires.tree sequential c.next.ensures.causes.reads
+    c.next.new.self.passed c.in-Some.pair _ c.next.ensures.read.changes took c.partition_of_pair.ensures.reads)
+
 pub returns-in_err-key-clause-pairs_buffered : goal.returns-in_err-key-clause-pairs_buffered
 returns-in_err-key-clause-pairs_buffered g c = buffered_after c.next.new.self.buffered _ _ c.partition_of_pair.ensures.read.changes c.next.ensures.read.buffered
 
@@ -114,9 +133,7 @@ returns-clause-reads g c partitioner content is have sequential =
     (λ bytes reads. (g.met.H.Host.sound c.args.host.now).fits opened.file bytes reads) gives partitioner content is have in
     let entry_buffered = subst (λ (o : Option Pair). IsEntryBuffered c.next.new.self o) c.in-Some.is c.in_ok-next.ensures.entry_buffered in
     walk_goes v (g.H.Host.view c.next.new.host) opened tree c.next.new.self c.args.buffered.now c.partition_of_pair.new.buffered pair c.in_ok-key.key c.in_ok-key.part
-    partitioner content _ _ _ is c.next.ensures.read.changes took c.in_ok-key.ensures.ok c.requires.tree c.next.ensures.tree
-    (entry_of v opened tree.buffered.file tree.tree c.next.new.self.passed (Some pair) c.requires.file c.requires.tree
-    (subst (λ (o : Option Pair). ReadsEntry v tree.buffered.file tree.tree c.next.new.self.passed o) c.in-Some.is c.in_ok-next.ensures.stands)) sequential
+    partitioner content _ _ _ is have (λ bytes reads. (g.met.H.Host.sound c.args.host.now).fits opened.file bytes reads) c.next.ensures.read.changes took c.in_ok-key.ensures.ok c.requires.tree c.next.ensures.tree sequential
     c.next.ensures.causes.reads c.partition_of_pair.ensures.reads (subst (λ (o : Option Pair). IsSome o → c.next.new.self.passed ≡ tree.passed + 1) c.in-Some.is
     c.in_ok-next.ensures.some refl) entry_buffered c.in_ok-key.ensures.page
 

@@ -6,9 +6,9 @@ use Rattle.sasi_host.specs.Damages.{OnDamage}
 use Rattle.sasi_host.specs.Disk.{Same}
 use Rattle.sasi_host.specs.Names.{Folder}
 use Rattle.sasi_store.specs.Sources.{AreReady, IsListed, ShowsListed}
-use Rattle.sasi_store.specs.Paging.{GoReading}
+use Rattle.sasi_store.specs.Paging.{GoReading, GoWithin}
 use Rattle.sasi_store.specs.Left.{PrintsNext}
-use Rattle.sasi_store.proofs.Pages.{none_read, reads_go_on}
+use Rattle.sasi_store.proofs.Pages.{gone_by, none_read, reads_go_on, stops_on}
 use Rattle.sasi_store.proofs.Costs.{causes_behind, causes_memory, causes_of_fault, causes_ok, reads_same}
 use Rattle.sasi_store.proofs.Printing.{ends_on, goes_on, printing_begins, spares_on}
 use Rattle.sasi_store.proofs.query.print_merge.Goals as goal
@@ -118,3 +118,16 @@ returns-in-None-clause-reads g c p =
     let on = c.loop-turn.invariant in
     reads_go_on (view c.args.host.now).files p c.args.sources.now.items c.loop-turn.sources.items c.print_next.new.sources.items (view c.args.host.now).reads (view c.loop-turn.host).reads (view c.print_next.new.host).reads (on.reads p)
     (subst (λ (o : Option Folder). GoReading o p c.loop-turn.sources.items c.print_next.new.sources.items (view c.loop-turn.host).reads (view c.print_next.new.host).reads) (reads_same (view c.args.host.now) (view c.loop-turn.host) on.changes) (c.in_ok-print_next.ensures.reads p))
+
+pub returns-in_err-print_next-clause-reads : goal.returns-in_err-print_next-clause-reads
+returns-in_err-print_next-clause-reads g c p paged =
+    let view = g.H.Host.view in
+    let on = c.loop-turn.invariant in
+    let q = err_from_is_err_and c.from_residual.result c.from_residual.ensures.1 in
+    rw q.1 (stops_on (view c.args.host.now).files p c.args.sources.now.items c.loop-turn.sources.items c.print_next.new.sources.items (view c.args.host.now).reads (view c.loop-turn.host).reads (view c.print_next.new.host).reads c.print_next.result (on.reads p)
+    (subst (λ (o : Option Folder). GoWithin o p c.loop-turn.sources.items c.print_next.new.sources.items (view c.loop-turn.host).reads (view c.print_next.new.host).reads c.print_next.result) (reads_same (view c.args.host.now) (view c.loop-turn.host) on.changes) (c.print_next.ensures.reads p)) paged)
+
+pub returns-clause-reads : goal.returns-clause-reads
+returns-clause-reads g c p paged =
+    let view = g.H.Host.view in
+    gone_by (view c.args.host.now).files p c.args.sources.now.items c.loop-turn.sources.items (view c.args.host.now).reads (view c.loop-turn.host).reads (c.loop-turn.invariant.reads p) paged

@@ -1,4 +1,4 @@
-use Rattle.std.proofs.Common.{ℕ, List, Option, length, refl, subst}
+use Rattle.std.proofs.Common.{ℕ, List, Option, length, refl, subst, arith}
 use Rattle.std.proofs.lemmas.Result.{err_from_is_err_and}
 use Rattle.sasi_host.specs.ChangeLaws.{stays}
 use Rattle.sasi_model.specs.Cells.{Partition}
@@ -47,3 +47,18 @@ returns-in_err-advance-in-Some-clause-damaged g c files types listed =
 
 pub returns-in-None-clause-reads : goal.returns-in-None-clause-reads
 returns-in-None-clause-reads g c p = none_read (g.H.Host.view c.args.host.now).files p c.args.sources.now.items (g.H.Host.view c.args.host.now).reads
+
+pub returns-in_err-next-clause-reads : goal.returns-in_err-next-clause-reads
+returns-in_err-next-clause-reads g c p paged =
+    let q = err_from_is_err_and c.from_residual.result c.from_residual.ensures.1 in
+    rw q.1 (omega arith)
+
+pub returns-in_err-printed-in-Some-clause-reads : goal.returns-in_err-printed-in-Some-clause-reads
+returns-in_err-printed-in-Some-clause-reads g c p paged =
+    let q = err_from_is_err_and c.from_residual-in_err-printed-in-Some.result c.from_residual-in_err-printed-in-Some.ensures.1 in
+    rw q.1 (omega arith)
+
+pub returns-in_err-advance-in-Some-clause-reads : goal.returns-in_err-advance-in-Some-clause-reads
+returns-in_err-advance-in-Some-clause-reads g c p paged =
+    let q = err_from_is_err_and c.from_residual-in_err-advance-in-Some.result c.from_residual-in_err-advance-in-Some.ensures.1 in
+    rw q.1 (c.in_err-advance-in-Some.ensures.reads p paged)

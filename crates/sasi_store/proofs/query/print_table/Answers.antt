@@ -8,7 +8,7 @@ use Rattle.sasi_host.specs.Names.{Folder}
 use Rattle.sasi_memtable.specs.MemtableView.{MemtableView}
 use Rattle.sasi_layout.specs.Layout.{table_of}
 use Rattle.sasi_store.specs.Sources.{ShowsListed}
-use Rattle.sasi_store.proofs.Pages.{whole_reads}
+use Rattle.sasi_store.proofs.Pages.{opened_within, whole_reads}
 use Rattle.sasi_store.proofs.Costs.{causes_behind, causes_of_fault, causes_ok, reads_same}
 use Rattle.sasi_store.proofs.Printing.{answer_is}
 use Rattle.sasi_store.proofs.Tables.{opening_spares_table, table_listed, table_printed, table_ready, table_spares}
@@ -74,4 +74,26 @@ pub returns-clause-reads : goal.returns-clause-reads
 returns-clause-reads g c folder partitioner t told is =
     let view = g.H.Host.view in
     whole_reads (view c.args.host.now) (view c.open_files.new.host) (view c.print_merge.new.host) c.args.types.now c.args.files.now c.args.maps.now c.open_files.new.sources.items c.add_maps.new.sources.items c.print_merge.new.sources.items
-    folder partitioner t c.open_files.ensures.changes c.in_ok-add_maps.ensures.sources told is c.in_ok-open_files.ensures.reads c.in_ok-rows.ensures.reads
+    folder partitioner t c.print_merge.result c.open_files.ensures.changes c.in_ok-add_maps.ensures.sources told is c.in_ok-open_files.ensures.reads c.print_merge.ensures.reads
+
+pub returns-in_err-open_files-clause-reads : goal.returns-in_err-open_files-clause-reads
+returns-in_err-open_files-clause-reads g c folder partitioner t told is =
+    let view = g.H.Host.view in
+    opened_within (view c.args.host.now) (view c.open_files.new.host) c.args.types.now c.args.files.now c.args.maps.now c.open_files.new.sources.items folder partitioner t c.open_files.result told is c.open_files.ensures.reads
+
+pub returns-in_err-add_maps-clause-reads : goal.returns-in_err-add_maps-clause-reads
+returns-in_err-add_maps-clause-reads g c folder partitioner t told is =
+    let view = g.H.Host.view in
+    opened_within (view c.args.host.now) (view c.open_files.new.host) c.args.types.now c.args.files.now c.args.maps.now c.open_files.new.sources.items folder partitioner t c.open_files.result told is c.open_files.ensures.reads
+
+pub returns-in_err-rows-clause-reads : goal.returns-in_err-rows-clause-reads
+returns-in_err-rows-clause-reads g c folder partitioner t told is =
+    let view = g.H.Host.view in
+    whole_reads (view c.args.host.now) (view c.open_files.new.host) (view c.print_merge.new.host) c.args.types.now c.args.files.now c.args.maps.now c.open_files.new.sources.items c.add_maps.new.sources.items c.print_merge.new.sources.items
+    folder partitioner t c.print_merge.result c.open_files.ensures.changes c.in_ok-add_maps.ensures.sources told is c.in_ok-open_files.ensures.reads c.print_merge.ensures.reads
+
+pub returns-in_err-count-clause-reads : goal.returns-in_err-count-clause-reads
+returns-in_err-count-clause-reads g c folder partitioner t told is =
+    let view = g.H.Host.view in
+    whole_reads (view c.args.host.now) (view c.open_files.new.host) (view c.print_merge.new.host) c.args.types.now c.args.files.now c.args.maps.now c.open_files.new.sources.items c.add_maps.new.sources.items c.print_merge.new.sources.items
+    folder partitioner t c.print_merge.result c.open_files.ensures.changes c.in_ok-add_maps.ensures.sources told is c.in_ok-open_files.ensures.reads c.print_merge.ensures.reads

@@ -23,4 +23,4 @@ returns-clause-changes g c = c.next.ensures.read.changes
 pub returns-clause-reads : goal.returns-clause-reads
 returns-clause-reads g c =
     let view = g.H.Host.view in
-    scan_reads (view c.args.host.now) c.args.scan.now c.next.new.self (view c.args.host.now).reads (view c.next.new.host).reads c.next.result c.next.ensures.opened c.next.ensures.reads
+    scan_reads (view c.args.host.now) (view c.next.new.host) c.args.scan.now c.next.new.self c.next.result c.next.ensures.opened c.next.ensures.reads

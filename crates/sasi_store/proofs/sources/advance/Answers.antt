@@ -5,9 +5,9 @@ use Rattle.sasi_host.specs.ChangeLaws as changes
 use Rattle.sasi_host.specs.Disk.{Same}
 use Rattle.sasi_merge.specs.Merging.{with_token}
 use Rattle.sasi_host.specs.Names.{Folder}
-use Rattle.sasi_store.specs.Paging.{GoReading}
+use Rattle.sasi_store.specs.Paging.{GoReading, GoWithin}
 use Rattle.sasi_store.specs.Sources.{AreMoved}
-use Rattle.sasi_store.proofs.Pages.{none_read, reads_go_on}
+use Rattle.sasi_store.proofs.Pages.{none_read, reads_go_on, stops_on}
 use Rattle.sasi_store.proofs.Costs.{causes_behind, causes_of_fault, causes_ok, of_reads, reads_same}
 use Rattle.sasi_store.proofs.Advancing.{at_head, at_source, moving_shown, moving_spares, one_more, still_can}
 use Rattle.sasi_store.proofs.sources.advance.Goals as goal
@@ -86,3 +86,11 @@ returns-clause-causes g c = causes_ok _ _ _ c.loop-at.invariant.disk c.loop-at.i
 
 pub returns-clause-reads : goal.returns-clause-reads
 returns-clause-reads g c = c.loop-at.invariant.reads
+
+pub returns-in_err-advance_at-clause-reads : goal.returns-in_err-advance_at-clause-reads
+returns-in_err-advance_at-clause-reads g c p paged =
+    let view = g.H.Host.view in
+    let on = c.loop-at.invariant in
+    let q = err_from_is_err_and c.from_residual.result c.from_residual.ensures.1 in
+    rw q.1 (stops_on (view c.args.host.now).files p c.args.sources.now.items c.loop-at.sources.items c.advance_at.new.sources.items (view c.args.host.now).reads (view c.loop-at.host).reads (view c.advance_at.new.host).reads c.advance_at.result (on.reads p)
+    (subst (λ (o : Option Folder). GoWithin o p c.loop-at.sources.items c.advance_at.new.sources.items (view c.loop-at.host).reads (view c.advance_at.new.host).reads c.advance_at.result) (reads_same (view c.args.host.now) (view c.loop-at.host) on.changes) (c.advance_at.ensures.reads p)) paged)

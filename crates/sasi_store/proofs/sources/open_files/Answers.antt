@@ -2,7 +2,7 @@ use Rattle.std.proofs.Common.{Err, refl, ◌∙◌, arith}
 use Rattle.std.proofs.lemmas.Result.{err_from_is_err_and}
 use Rattle.sasi_host.specs.ChangeLaws.{stays, then_same}
 use Rattle.sasi_host.specs.Disk.{Same}
-use Rattle.sasi_store.proofs.Pages.{next_reads, opening_begins, opening_ends}
+use Rattle.sasi_store.proofs.Pages.{next_reads, next_stops, opening_begins, opening_ends}
 use Rattle.sasi_store.proofs.Costs.{causes_behind, causes_of_fault, causes_ok, of_reads}
 use Rattle.sasi_store.proofs.Openings.{added_next, next_shown, next_spares, opened_all, still_there}
 use Rattle.sasi_store.proofs.sources.open_files.Goals as goal
@@ -63,3 +63,10 @@ pub returns-clause-reads : goal.returns-clause-reads
 returns-clause-reads g c p contents have =
     let view = g.H.Host.view in
     opening_ends (view c.args.host.now) (view c.loop-file.host) p c.args.files.now c.loop-file.file-index c.loop-file.sources.items (omega (arith, c.loop-file-test.false)) (c.loop-file.invariant.reads p contents have)
+
+pub returns-in_err-open_source-clause-reads : goal.returns-in_err-open_source-clause-reads
+returns-in_err-open_source-clause-reads g c p contents have =
+    let view = g.H.Host.view in
+    let q = err_from_is_err_and c.from_residual.result c.from_residual.ensures.1 in
+    rw q.1 (next_stops (view c.args.host.now) (view c.loop-file.host) (view c.open_source.new.host) p c.args.types.now c.args.files.now contents c.loop-file.file-index c.file-item.result c.loop-file.sources.items
+    c.loop-file.invariant.changes c.loop-file-test.true c.file-item.is have (c.loop-file.invariant.reads p contents have) c.in_err-open_source.ensures.reads)

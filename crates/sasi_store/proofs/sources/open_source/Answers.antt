@@ -6,7 +6,7 @@ use Rattle.sasi_host.specs.Disk.{Same}
 use Rattle.sasi_host.specs.Names.{Folder}
 use Rattle.sasi_store.specs.Sources.{CanStep, NoFalseSourceDamage, ShowsSource}
 use Rattle.sasi_store.specs.declared.source.Source.TheVariants.{File}
-use Rattle.sasi_store.proofs.Pages.{open_reads}
+use Rattle.sasi_store.proofs.Pages.{open_reads, open_stops}
 use Rattle.sasi_store.proofs.Costs.{reads_same}
 use Rattle.sasi_store.proofs.Openings.{added_file}
 use Rattle.sasi_store.proofs.Steps.{first_shown, first_spares}
@@ -63,3 +63,22 @@ returns-clause-reads g c p content has paged =
     let view = g.H.Host.view in
     open_reads (view c.args.host.now) (view c.open_file.new.host) (view c.next.new.host) p c.args.types.now c.args.file.now content c.in_ok-scan.scan c.next.new.self c.args.sources.now.items _
     c.open_file.ensures.changes c.in_ok-scan.ensures.opened has c.in_ok-scan.ensures.causes.reads (c.in_ok-head.ensures.reads p) c.in_ok-push.ensures.sources paged
+
+pub returns-in_err-scan-clause-reads : goal.returns-in_err-scan-clause-reads
+returns-in_err-scan-clause-reads g c p content has paged =
+    let q = err_from_is_err_and c.from_residual.result c.from_residual.ensures.1 in
+    rw q.1 (omega (arith, c.in_err-scan.ensures.causes.reads))
+
+pub returns-in_err-head-clause-reads : goal.returns-in_err-head-clause-reads
+returns-in_err-head-clause-reads g c p content has paged =
+    let view = g.H.Host.view in
+    let q = err_from_is_err_and c.from_residual-in_err-head.result c.from_residual-in_err-head.ensures.1 in
+    rw q.1 (open_stops (view c.args.host.now) (view c.open_file.new.host) (view c.next.new.host) p c.args.types.now c.args.file.now content c.in_ok-scan.scan c.next.new.self c.next.result
+    c.open_file.ensures.changes c.in_ok-scan.ensures.opened has c.in_ok-scan.ensures.causes.reads (c.next.ensures.reads p))
+
+pub returns-in_err-push-clause-reads : goal.returns-in_err-push-clause-reads
+returns-in_err-push-clause-reads g c p content has paged =
+    let view = g.H.Host.view in
+    let q = err_from_is_err_and c.from_residual-in_err-push.result c.from_residual-in_err-push.ensures.1 in
+    rw q.1 (open_stops (view c.args.host.now) (view c.open_file.new.host) (view c.next.new.host) p c.args.types.now c.args.file.now content c.in_ok-scan.scan c.next.new.self c.next.result
+    c.open_file.ensures.changes c.in_ok-scan.ensures.opened has c.in_ok-scan.ensures.causes.reads (c.next.ensures.reads p))

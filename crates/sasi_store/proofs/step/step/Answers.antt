@@ -147,7 +147,9 @@ returns-in_err-select-in-Select-clause-steps g c =
     let has = subst (HasPrepared parts piece c.prepare.new.reply) c.in-Select.is all in
     let p = err_from_is_err_and c.from_residual-in_err-select-in-Select.result c.from_residual-in_err-select-in-Select.ensures.1 in
     let i = c.in_err-select-in-Select.ensures in
-    rw (p.1, p.2) (select_failed v (g.H.Host.view c.select.new.host) (g.met.H.Host.sound c.args.host.now) (hand_of parts) piece c.select.ensures.changes has.asked (has.selects tt) _ c.select.new.reply i.damaged i.undamaged i.unspent i.causes)
+    let prepared = has.timeless tt (blank v parts c.requires.ready) (blank_definitions v parts c.requires.ready) in
+    rw (p.1, p.2) (select_failed v (g.H.Host.view c.select.new.host) (g.met.H.Host.sound c.args.host.now) (hand_of parts) piece c.select.ensures.changes has.asked (has.selects tt) _ c.select.new.reply i.damaged i.undamaged i.unspent c.in-Select.rows.table
+    (select_costs v.files (hand_of parts) (blank v parts c.requires.ready) piece c.in-Select.rows (blank_definitions v parts c.requires.ready) prepared.3) c.select.ensures.reads i.causes)
 
 pub returns-in_ok-select-in-Select-clause-steps : goal.returns-in_ok-select-in-Select-clause-steps
 returns-in_ok-select-in-Select-clause-steps g c =
@@ -162,4 +164,4 @@ returns-in_ok-select-in-Select-clause-steps g c =
     select_answered v (g.H.Host.view c.select.new.host) (g.met.H.Host.sound c.args.host.now) (hand_of parts) piece c.select.ensures.changes has.asked (has.selects tt) _ c.select.new.reply c.requires.ready
     (λ w serves. (has.prepares (state_of w.layout) (state_is v (hand_of parts) w.layout serves)).0.reply_is ∙ sym (i.ok w.layout serves ∙ ap (λ (front : List ℕ). front ++ answer_rows (state_of w.layout) c.in-Select.rows) prepared.1))
     (λ s of. let to = (has.prepares s of).0 in (to.state_is, to.outcome_is)) c.in-Select.rows.table
-    (select_costs v.files (hand_of parts) (blank v parts c.requires.ready) piece c.in-Select.rows (blank_definitions v parts c.requires.ready) prepared.3) i.reads i.causes
+    (select_costs v.files (hand_of parts) (blank v parts c.requires.ready) piece c.in-Select.rows (blank_definitions v parts c.requires.ready) prepared.3) c.select.ensures.reads i.causes

@@ -1,9 +1,11 @@
-use Rattle.std.proofs.Common.{subst, sym}
+use Rattle.std.proofs.Common.{◌+◌, ◌≤◌, subst, sym}
 use Rattle.std.proofs.lemmas.Result.{err_from_is_err_and}
 use Rattle.sasi_host.specs.Disk.{Changes}
 use Rattle.sasi_layout.specs.Between.{Between}
 use Rattle.sasi_layout.specs.Worlds.{ServesWorld, World, steps}
 use Rattle.sasi_model.specs.Pieces.{piece_of}
+use Rattle.sasi_model.specs.Refusals.{read}
+use Rattle.sasi_store.specs.Selects.{select_reads}
 use Rattle.sasi_store.specs.StoreView.{StoreView}
 use Rattle.sasi_store.proofs.store.Store.step.Goals as goal
 
@@ -19,3 +21,10 @@ returns-in_err-outcome-clause-undamaged g c w serves =
     let p = err_from_is_err_and c.from_residual.result c.from_residual.ensures.1 in
     let a = g.H.Host.view c.args.host.now in
     rw (p.1, p.2) (c.in_err-outcome.ensures.steps.undamaged w (subst (λ (store : StoreView). ServesWorld a store.hand w) (sym c.self.view_is) serves))
+
+pub returns-in_err-outcome-clause-reads : goal.returns-in_err-outcome-clause-reads
+returns-in_err-outcome-clause-reads g c =
+    let a = g.H.Host.view c.args.host.now in
+    let b = g.H.Host.view c.step.new.host in
+    let piece = piece_of c.args.end c.args.piece.now in
+    subst (λ (store : StoreView). (w : World) → ServesWorld a store.hand w → b.reads ≤ a.reads + select_reads a.files store.hand (read piece)) c.self.view_is c.step.ensures.steps.reads
