@@ -34,6 +34,11 @@ abbrev pub IsEntryBuffered : PairScan → Option Pair → Type 0
 IsEntryBuffered w None = Unit {0}
 IsEntryBuffered w (Some pair) = w.buffered.page ≡ Some ((pair_place w.tree (w.passed - 1) + 15) / 4096)
 
+-- the scan passes one pair, and gives none exactly at the end, where it stays as it is
+abbrev pub PassesOne : PairScan → PairScan → Option Pair → Type 0
+PassesOne old new None = (old.tree.pairs ≤ old.passed) × (new ≡ old)
+PassesOne old new (Some pair) = (old.passed < old.tree.pairs) × (new.passed ≡ old.passed + 1)
+
 -- the file has this pair as the entry with this index, even where the tree is damaged
 pub record HasEntry (bytes : Bytes) (tree : TreeRef) (index : ℕ) (pair : Pair) : Type 0 where
   pub within : index < tree.pairs

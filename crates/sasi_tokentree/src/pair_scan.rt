@@ -8,7 +8,7 @@ ghost use Rattle.sasi_tokentree.specs.Format.{entry, node_header};
 ghost use Rattle.sasi_tokentree.specs.Damages.{BeginsLeaf, IsNodeFrom, ShowsEndOr, ShowsTreeBy, pair_place};
 ghost use Rattle.sasi_tokentree.specs.Heights.{height, bytes_below_root};
 ghost use Rattle.sasi_tokentree.specs.Reads.{NoFalseLevelDamage, NoFalseTreeDamage};
-ghost use Rattle.sasi_tokentree.specs.Scans.{HasPassed, ReadsEntry, ReadsFirstPair, ReadsHeader, ReadsNextPair, IsEntryBuffered, entry_cost, header_read};
+ghost use Rattle.sasi_tokentree.specs.Scans.{HasPassed, PassesOne, ReadsEntry, ReadsFirstPair, ReadsHeader, ReadsNextPair, IsEntryBuffered, entry_cost, header_read};
 
 use crate::node_decode::{ENTRY_BYTES, NODE_HEADER_BYTES, number_in};
 use crate::node_layout::{MAX_ENTRIES, MAX_NODE_BYTES};
@@ -164,9 +164,8 @@ pub fn pair_from<H: Host, P: PageReader>(
     ensures read { HasReadOn (P.agrees pages.new) (P.covers pages.old) (P.covers pages.new) (H.view host.old) (H.view host.new) buffered.old buffered.new }
     ensures entry_buffered { IfOk result (λ found. IsEntryBuffered (record { buffered = buffered.new; tree = tree; passed = found.passed }) found.pair) }
     ensures passed { IfOk result (λ found. IsSome found.pair → HasPassed tree found.passed) }
-    ensures none { IfOk result (λ found. found.pair ≡ None → (buffered.new ≡ buffered.old) × (found.passed ≡ passed)) }
     ensures causes { ReadsAtMost (entry_cost buffered.old.page tree passed) (H.view host.old) (H.view host.new) result }
-    ensures some { IfOk result (λ found. IsSome found.pair → found.passed ≡ passed + 1) }
+    ensures ends { IfOk result (λ found. PassesOne (record { buffered = buffered.old; tree = tree; passed = passed }) (record { buffered = buffered.new; tree = tree; passed = found.passed }) found.pair) }
     ensures ended { tree.pairs ≤ passed → (H.view host.new).reads ≡ (H.view host.old).reads }
 {
     if passed >= tree.pairs {
@@ -200,6 +199,7 @@ pub fn first_from<H: Host, P: PageReader>(
     ensures read { HasReadOn (P.agrees pages.new) (P.covers pages.old) (P.covers pages.new) (H.view host.old) (H.view host.new) buffered.old buffered.new }
     ensures entry_buffered { IfOk result (λ found. IsEntryBuffered (record { buffered = buffered.new; tree = tree; passed = found.passed }) found.pair) }
     ensures passed { IfOk result (λ found. IsSome found.pair → HasPassed tree found.passed) }
+    ensures ends { IfOk result (λ found. found.pair ≡ None → tree.pairs ≤ found.passed) }
     ensures causes { (most : ℕ) → tree.pairs ≤ most → ReadsAtMost (2 * height most tree.pairs + 2) (H.view host.old) (H.view host.new) result }
 {
     if tree.pairs == 0 {

@@ -7,7 +7,7 @@ ghost use Rattle.sasi_host.specs.PageReading.{CanReadOn, HasReadOn};
 ghost use Rattle.sasi_tokentree.specs.Heights.{height};
 ghost use Rattle.sasi_tokentree.specs.Damages.{BeginsLeaf, ShowsTreeBy, pair_place};
 ghost use Rattle.sasi_tokentree.specs.Reads.{NoFalseTreeDamage};
-ghost use Rattle.sasi_tokentree.specs.Scans.{HasPassed, ReadsEntry, ReadsFirstPair, ReadsHeader, ReadsNextPair, IsEntryBuffered, entry_cost};
+ghost use Rattle.sasi_tokentree.specs.Scans.{HasPassed, PassesOne, ReadsEntry, ReadsFirstPair, ReadsHeader, ReadsNextPair, IsEntryBuffered, entry_cost};
 
 use crate::pair_scan::{first_from, last_offset, pair_from};
 use sasi_host::{BufferedFile, FileName, Host, PageReader, ReadFault};
@@ -71,6 +71,8 @@ impl Tree {
         ensures read { HasReadOn (P.agrees pages.new) (P.covers pages.old) (P.covers pages.new) (H.view host.old) (H.view host.new) self.old.buffered self.new.buffered }
         ensures entry_buffered { IfOk result (IsEntryBuffered self.new) }
         ensures passed { IfOk result (λ found. IsSome found → HasPassed self.new.tree self.new.passed) }
+        // In any file there is none only where all pairs of the reference are passed.
+        ensures ends { IfOk result (λ found. found ≡ None → self.new.tree.pairs ≤ self.new.passed) }
         ensures causes { (most : ℕ) → self.old.tree.pairs ≤ most → ReadsAtMost (2 * height most self.old.tree.pairs + 2) (H.view host.old) (H.view host.new) result }
         ensures tree { self.new.tree ≡ self.old.tree }
         ensures err { OnErr result (self.new.passed ≡ self.old.passed) }
@@ -100,8 +102,8 @@ impl Tree {
         ensures causes { ReadsAtMost (entry_cost self.old.buffered.page self.old.tree self.old.passed) (H.view host.old) (H.view host.new) result }
         ensures tree { self.new.tree ≡ self.old.tree }
         ensures err { OnErr result (self.new.passed ≡ self.old.passed) }
-        ensures some { IfOk result (λ found. IsSome found → self.new.passed ≡ self.old.passed + 1) }
-        ensures none { IfOk result (λ found. found ≡ None → self.new ≡ self.old) }
+        // In any file it ends exactly where all pairs of the reference are passed.
+        ensures ends { IfOk result (PassesOne self.old self.new) }
         ensures ended { self.old.tree.pairs ≤ self.old.passed → (H.view host.new).reads ≡ (H.view host.old).reads }
     {
         let found = pair_from(host, pages, &mut self.buffered, self.tree, self.passed)?;

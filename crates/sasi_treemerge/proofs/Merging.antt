@@ -23,7 +23,7 @@ use Rattle.sasi_tokentree.proofs.AfterRead.{reads_still}
 use Rattle.sasi_treemerge.specs.MergeDamages.{NoFalseDamageOf, NoFalseSourceDamage, ShowsPairs, ShowsSources}
 use Rattle.std.proofs.lemmas.Bool.Decides.{leb_tells}
 use Rattle.sasi_tokentree.specs.Format.{HasTree}
-use Rattle.sasi_tokentree.specs.Scans.{HasPassed, PairScan, ReadsNextPair, StepsToPair}
+use Rattle.sasi_tokentree.specs.Scans.{HasPassed, PairScan, PassesOne, ReadsNextPair, StepsToPair}
 use Rattle.sasi_treemerge.specs.declared.merge.TreeMerge.{TreeMerge}
 use Rattle.sasi_treemerge.specs.declared.source.Source.{Source}
 use Rattle.sasi_treemerge.specs.Sources.{is_before, source_cmp}
@@ -111,7 +111,7 @@ module _ (v : View) (file : FileName) (bytes : Bytes) (lists : List (List Pair))
   -- a pair of the source, other than its head, is still given by the next one
   by_next : (pairs : List Pair) (pair : Pair) (next : Option Source) → IsSourceOf bytes pairs steps.source → GoesOn v steps.source.tree.value next → IsPermutation (option_to_list next ++ steps.others) new
       → Contains (drop steps.source.tree.value.passed pairs) pair → IsStillGiven bytes pairs new pair
-  by_next pairs pair None is goes put has = absurd (contains_none (drop steps.source.tree.value.passed pairs) pair (goes bytes pairs own_reads is.tree) has)
+  by_next pairs pair None is goes put has = absurd (contains_none (drop steps.source.tree.value.passed pairs) pair (goes.1 bytes pairs own_reads is.tree) has)
   by_next pairs pair (Some next) is goes put has = record {
     source = next;
     there = Contains-permutation (next ∷ steps.others) new next put (contains_first next steps.others);
@@ -161,7 +161,7 @@ adds_list v file bytes lists last floor list pairs old new adds reads tree gives
       each = All-permutation (IsSourceIn bytes (lists ++ pairs ∷ [])) old new put kept;
       all = λ these pair listed has left. ⊎_elim
           (λ before. let was = gives.all these pair before has left in record { source = was.source; there = Contains-permutation old new was.source put was.there; is = was.is; gives = was.gives })
-          (λ this. absurd (contains_none these pair (one_list pairs these this ∙ goes bytes pairs reads tree) has))
+          (λ this. absurd (contains_none these pair (one_list pairs these this ∙ goes.1 bytes pairs reads tree) has))
           (Contains-append_cases lists (pairs ∷ []) these listed);
     }
     from (Some next) goes put =
@@ -217,15 +217,16 @@ merge_still a b merge same can = record {
 
 -- ---- a scan goes on
 
-pub goes_none : (v : View) (scan : PairScan) (after : ℕ) (found : Option Pair) → found ≡ None → ReadsNextPair v scan.buffered.file scan.tree scan.passed after found → GoesOn v scan None
-goes_none v scan after found is reads = λ bytes pairs told has. (subst (λ (o : Option Pair). StepsToPair pairs scan.passed after o) is (reads bytes pairs told has)).0
+pub goes_none : (v : View) (scan after : PairScan) (found : Option Pair) → found ≡ None → ReadsNextPair v scan.buffered.file scan.tree scan.passed after.passed found → PassesOne scan after found → GoesOn v scan None
+goes_none v scan after found is reads ends =
+    ((subst (λ (o : Option Pair). PassesOne scan after o) is ends).0, λ bytes pairs told has. (subst (λ (o : Option Pair). StepsToPair pairs scan.passed after.passed o) is (reads bytes pairs told has)).0)
 
 pub goes_some : (v : View) (scan : PairScan) (next : Source) (found : Option Pair) → found ≡ Some next.head → ReadsNextPair v scan.buffered.file scan.tree scan.passed next.tree.value.passed found
-    → next.tree.value.tree ≡ scan.tree → (IsSome found → next.tree.value.passed ≡ scan.passed + 1) → (IsSome found → HasPassed next.tree.value.tree next.tree.value.passed) → GoesOn v scan (Some next)
-goes_some v scan next found is reads same one passed =
+    → next.tree.value.tree ≡ scan.tree → PassesOne scan next.tree.value found → (IsSome found → HasPassed next.tree.value.tree next.tree.value.passed) → GoesOn v scan (Some next)
+goes_some v scan next found is reads same ends passed =
     let there : IsSome found = subst (λ (o : Option Pair). IsSome o) (sym is) refl in
     let within = (passed there).within in
-    (same, one there, omega (arith, within, ap (λ (t : TreeRef). t.pairs) same), λ bytes pairs told has. subst (λ (o : Option Pair). StepsToPair pairs scan.passed next.tree.value.passed o) is (reads bytes pairs told has))
+    (same, (subst (λ (o : Option Pair). PassesOne scan next.tree.value o) is ends).1, omega (arith, within, ap (λ (t : TreeRef). t.pairs) same), λ bytes pairs told has. subst (λ (o : Option Pair). StepsToPair pairs scan.passed next.tree.value.passed o) is (reads bytes pairs told has))
 
 -- ---- one source more or less
 

@@ -111,9 +111,9 @@ pub record CanMerge (v : View) (merge : TreeMerge) : Type 0 where
 
 -- ---- one step
 
--- a scan went on to its next pair, if it has one
+-- a scan went on to its next pair, or in any file is at its end
 abbrev pub GoesOn : View → PairScan → Option Source → Type 0
-GoesOn v scan None = (bytes : Bytes) (pairs : List Pair) → contents v scan.buffered.file ≡ Some bytes → HasTree bytes scan.tree pairs → drop scan.passed pairs ≡ []
+GoesOn v scan None = (scan.tree.pairs ≤ scan.passed) × ((bytes : Bytes) (pairs : List Pair) → contents v scan.buffered.file ≡ Some bytes → HasTree bytes scan.tree pairs → drop scan.passed pairs ≡ [])
 GoesOn v scan (Some source) =
     (source.tree.value.tree ≡ scan.tree) × (source.tree.value.passed ≡ scan.passed + 1) × (source.tree.value.passed ≤ scan.tree.pairs)
     × ((bytes : Bytes) (pairs : List Pair) → contents v scan.buffered.file ≡ Some bytes → HasTree bytes scan.tree pairs → drop scan.passed pairs ≡ source.head ∷ drop source.tree.value.passed pairs)

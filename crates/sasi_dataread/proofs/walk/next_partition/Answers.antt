@@ -1,10 +1,10 @@
-use Rattle.std.proofs.Common.{◌≡◌, ◌+◌, refl, IsSome, Option, None, Some, Ok, Err, subst, arith}
+use Rattle.std.proofs.Common.{◌≡◌, Option, None, Some, Ok, Err, subst, arith}
 use Rattle.std.proofs.lemmas.Result.{err_from_is_err_and}
 use Rattle.sasi_host.specs.PageReading.{read_of, read_then}
 use Rattle.sasi_types.specs.declared.tree.Pair.{Pair}
 use Rattle.sasi_host.specs.Buffered.{buffered_after}
 use Rattle.sasi_host.proofs.DamageLaws.{shown_before}
-use Rattle.sasi_tokentree.specs.Scans.{ReadsEntry, ReadsNextPair, IsEntryBuffered}
+use Rattle.sasi_tokentree.specs.Scans.{PassesOne, ReadsEntry, ReadsNextPair, IsEntryBuffered}
 use Rattle.sasi_tokentree.proofs.EntryPages.{entry_pages}
 use Rattle.sasi_dataread.proofs.Pairs.{none_left}
 use Rattle.sasi_dataread.proofs.Pages.{goes_nowhere}
@@ -79,7 +79,7 @@ returns-in-None-clause-reads g c partitioner content is have sequential =
     let took = next_takes view c.args.opened.now c.args.tree.now.buffered.file c.args.tree.now.tree c.args.tree.now.passed c.next.new.self.passed None
     c.requires.file c.requires.tree (λ bytes reads. (g.met.H.Host.sound c.args.host.now).fits c.args.opened.now.file bytes reads) gives
     partitioner content is have in
-    let same = subst (λ (o : Option Pair). o ≡ None → c.next.new.self ≡ c.args.tree.now) c.in-None.is c.in_ok-next.ensures.none refl in
+    let same = (subst (λ (o : Option Pair). PassesOne c.args.tree.now c.next.new.self o) c.in-None.is c.in_ok-next.ensures.ends).1 in
     let ended = c.next.ensures.ended (all_pairs c.args.opened.now partitioner content c.args.tree.now.tree c.args.tree.now.passed is.of c.requires.tree took.0) in
     goes_nowhere is.bytes content c.args.opened.now c.args.tree.now c.next.new.self c.args.buffered.now _ _ same (omega (arith, ended)) sequential
 
@@ -134,8 +134,8 @@ returns-clause-reads g c partitioner content is have sequential =
     let entry_buffered = subst (λ (o : Option Pair). IsEntryBuffered c.next.new.self o) c.in-Some.is c.in_ok-next.ensures.entry_buffered in
     walk_goes v (g.H.Host.view c.next.new.host) opened tree c.next.new.self c.args.buffered.now c.partition_of_pair.new.buffered pair c.in_ok-key.key c.in_ok-key.part
     partitioner content _ _ _ is have (λ bytes reads. (g.met.H.Host.sound c.args.host.now).fits opened.file bytes reads) c.next.ensures.read.changes took c.in_ok-key.ensures.ok c.requires.tree c.next.ensures.tree sequential
-    c.next.ensures.causes.reads c.partition_of_pair.ensures.reads (subst (λ (o : Option Pair). IsSome o → c.next.new.self.passed ≡ tree.passed + 1) c.in-Some.is
-    c.in_ok-next.ensures.some refl) entry_buffered c.in_ok-key.ensures.page
+    c.next.ensures.causes.reads c.partition_of_pair.ensures.reads (subst (λ (o : Option Pair). PassesOne tree c.next.new.self o) c.in-Some.is
+    c.in_ok-next.ensures.ends).1 entry_buffered c.in_ok-key.ensures.page
 
 pub returns-clause-ok : goal.returns-clause-ok
 returns-clause-ok g c partitioner content is have =

@@ -64,3 +64,9 @@ returns-clause-causes g c = ok_reads _ _ _ c.in_ok-pair.pair _ (rw c.start_of-st
 
 pub returns-then-passed-tree-clause-read : goal.returns-then-passed-tree-clause-read
 returns-then-passed-tree-clause-read g c = reads_nothing _ _ _ _ c.requires.read.agrees c.requires.read.buffered
+
+pub returns-then-passed-tree-clause-ends : goal.returns-then-passed-tree-clause-ends
+returns-then-passed-tree-clause-ends g c = (omega arith, refl)
+
+pub returns-clause-ends : goal.returns-clause-ends
+returns-clause-ends g c = (omega arith, refl)

@@ -16,12 +16,13 @@ returns-in_err-next-clause-damaged g c =
     (λ bytes index is alone lt short. tt) (rw c.deref_mut.ensures.value at c.in_err-next.ensures.damaged))
 
 pub returns-in-None-clause-ok : goal.returns-in-None-clause-ok
-returns-in-None-clause-ok g c = goes_none (g.H.Host.view c.args.host.now) c.args.tree.value c.next.new.self.passed c.in_ok-next.field-0 c.in-None.is (rw c.deref_mut.ensures.value at c.in_ok-next.ensures.ok)
+returns-in-None-clause-ok g c = goes_none (g.H.Host.view c.args.host.now) c.args.tree.value c.next.new.self c.in_ok-next.field-0 c.in-None.is (rw c.deref_mut.ensures.value at c.in_ok-next.ensures.ok)
+    (rw c.deref_mut.ensures.value at c.in_ok-next.ensures.ends)
 
 pub returns-in-Some-clause-ok : goal.returns-in-Some-clause-ok
 returns-in-Some-clause-ok g c =
     goes_some (g.H.Host.view c.args.host.now) c.args.tree.value (record { head = c.in-Some.head; tree = with_value c.args.tree c.next.new.self }) c.in_ok-next.field-0 c.in-Some.is
-    (rw c.deref_mut.ensures.value at c.in_ok-next.ensures.ok) (rw c.deref_mut.ensures.value at c.next.ensures.tree) (rw c.deref_mut.ensures.value at c.in_ok-next.ensures.some) c.in_ok-next.ensures.passed
+    (rw c.deref_mut.ensures.value at c.in_ok-next.ensures.ok) (rw c.deref_mut.ensures.value at c.next.ensures.tree) (rw c.deref_mut.ensures.value at c.in_ok-next.ensures.ends) c.in_ok-next.ensures.passed
 
 pub returns-in-Some-clause-at_head : goal.returns-in-Some-clause-at_head
 returns-in-Some-clause-at_head g c =

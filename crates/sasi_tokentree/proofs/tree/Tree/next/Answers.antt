@@ -1,12 +1,11 @@
-use Rattle.std.proofs.Common.{◌≡◌, arith, Ok, ℕ, ◌∙◌, ap, subst, Err}
+use Rattle.std.proofs.Common.{◌≡◌, arith, Ok, subst, Err}
 use Rattle.std.proofs.lemmas.Result.{err_from_is_err_and}
 use Rattle.sasi_host.specs.View.{ReadsAtMost}
 use Rattle.sasi_host.specs.Damages.{DamageShown}
-use Rattle.sasi_host.specs.Buffered.{Buffered}
 use Rattle.sasi_tokentree.specs.declared.pair_scan.ScannedPair.{ScannedPair}
 use Rattle.sasi_tokentree.specs.Damages.{ShowsTreeBy}
 use Rattle.sasi_tokentree.specs.Reads.{NoFalseTreeDamage}
-use Rattle.sasi_tokentree.specs.Scans.{ReadsEntry, ReadsHeader, ReadsNextPair, PairScan, entry_cost}
+use Rattle.sasi_tokentree.specs.Scans.{PassesOne, ReadsEntry, ReadsHeader, ReadsNextPair, PairScan, entry_cost}
 use Rattle.sasi_host.specs.CauseLaws.{fault_reads, ok_reads}
 use Rattle.sasi_tokentree.proofs.tree.Tree.next.Goals as goal
 
@@ -32,11 +31,9 @@ returns-clause-causes g c =
     (subst (λ (h : PairScan). ReadsAtMost (entry_cost h.buffered.page h.tree h.passed) (g.H.Host.view c.args.host.now)
     (g.H.Host.view c.pair_from.new.host) (Ok c.in_ok-found.found)) c.self.view_is c.in_ok-found.ensures.causes)
 
-pub returns-clause-none : goal.returns-clause-none
-returns-clause-none g c is = let same = c.in_ok-found.ensures.none is in ap (λ (h : Buffered). made h c.in_ok-found.found.passed) same.0 ∙ ap (λ (n : ℕ). made c.self.inside.buffered n) same.1 ∙ c.self.view_is
-  where
-    made : Buffered → ℕ → PairScan
-    made buffered passed = record { buffered = buffered; tree = c.self.inside.tree; passed = passed }
+pub returns-clause-ends : goal.returns-clause-ends
+returns-clause-ends g c = subst (λ (h : PairScan). PassesOne h (record { buffered = c.pair_from.new.buffered; tree = c.self.inside.tree; passed = c.in_ok-found.found.passed })
+    c.in_ok-found.found.pair) c.self.view_is c.in_ok-found.ensures.ends
 
 pub returns-in_err-found-clause-damaged : goal.returns-in_err-found-clause-damaged
 returns-in_err-found-clause-damaged g c =

@@ -1,4 +1,4 @@
-use Rattle.std.proofs.Common.{ap, inl, refl, subst, Option}
+use Rattle.std.proofs.Common.{ap, inl, refl, subst, Option, Some}
 use Rattle.sasi_host.specs.ChangeLaws.{stays}
 use Rattle.sasi_tokentree.specs.Scans.{PairScan}
 use Rattle.sasi_treemerge.specs.declared.source.Source.{Source}
@@ -25,3 +25,12 @@ returns-in_ok-put-in-Some-clause-reads g c =
 
 pub returns-in-None-clause-merge : goal.returns-in-None-clause-merge
 returns-in-None-clause-merge g c = merge_still (g.H.Host.view c.args.host.now) (g.H.Host.view c.source_of.new.host) c.args.self.now c.source_of.ensures.read.changes c.requires.merge
+
+pub returns-in_ok-put-in-Some-clause-ok : goal.returns-in_ok-put-in-Some-clause-ok
+returns-in_ok-put-in-Some-clause-ok g c =
+    let v = g.H.Host.view c.args.host.now in
+    record {
+      next = Some c.in-Some.source;
+      goes = subst (λ (s : PairScan). GoesOn v s (Some c.in-Some.source)) c.in_ok-tree.ensures (subst (λ (o : Option Source). GoesOn v c.in_ok-tree.tree.value o) c.in-Some.is c.in_ok-source_of.ensures.ok);
+      put = c.in_ok-put-in-Some.ensures.put;
+    }
