@@ -1,9 +1,10 @@
 -- The corruption of a block is that of the file.
-use Rattle.std.proofs.Common.{◌≡◌, ℕ, ◌+◌, ◌*◌, ◌/◌, ◌<◌, ◌≤◌, ◌^◌, length, take, drop, [], ◌∷◌, true, Option, None, Some, ⊎_elim, sym, ap, ◌∙◌, subst, arith, inl, inr}
-use Rattle.std.specs.Prelude.{◌⊎◌}
+use Rattle.std.proofs.Common.{◌≡◌, ℕ, ◌+◌, ◌*◌, ◌/◌, ◌<◌, ◌≤◌, ◌^◌, length, take, drop, [], ◌∷◌, true, Option, None, Some, ⊎_elim, sym, ap, ◌∙◌, subst, arith, inl, inr, rules}
+use Rattle.std.specs.Prelude.{◌⊎◌, Bool, false, if◌then◌else◌, nat_lt}
+use Rattle.std.proofs.lemmas.Bool.Decides.{leb_tells}
 use Rattle.std.proofs.Common.{length-drop}
 use Rattle.std.proofs.lemmas.List.{length-take, take-take}
-use Rattle.sasi_host.proofs.Offsets.{window_at}
+use Rattle.sasi_host.proofs.Offsets.{same_at, window_at}
 use Rattle.sasi_host.specs.declared.name.FileName.{FileName}
 use Rattle.sasi_host.specs.declared.damage.Damage.{Damage}
 use Rattle.sasi_host.specs.declared.damage.FormatRule.{FormatRule}
@@ -26,7 +27,7 @@ use Rattle.sasi_termblocks.specs.Damages.ShowsBlock.{ends, breaks}
 use Rattle.sasi_termblocks.specs.Damages.ShowsBlocks.{in_terms, in_pointers, ends_early, behind_terms, led_too_far, led_too_near}
 use Rattle.sasi_termblocks.specs.declared.term_entry.TermEntry.{TermEntry}
 use Rattle.sasi_termblocks.specs.Descents.{high_page, low_page}
-use Rattle.sasi_termblocks.specs.Scans.{GivesEntry, ReadsHere}
+use Rattle.sasi_termblocks.specs.Scans.{EndsBelow, EndsPast, GivesEntry, IsPast, ReadsHere}
 use Rattle.sasi_termblocks.proofs.Faults.{entry_breaks, pointer_breaks}
 
 -- a fault of one kind is one of a wider kind
@@ -166,3 +167,39 @@ pub here_given : (v : View) (file : FileName) (page index new_page new_index : �
     → GivesEntry window page index new_page new_index found → ReadsHere v file page index new_page new_index found
 here_given v file page index new_page new_index window None stands gives = tt
 here_given v file page index new_page new_index window (Some entry) stands gives = λ bytes is. (window, stands bytes is, gives)
+
+-- ---- where a scan ends
+
+-- a block that has no further entry
+pub ends_within : (v : View) (file : FileName) (r : BlockRef) (page index new_page new_index : ℕ) (window : Bytes) (found : Option TermEntry) → page < r.first / 4096 + r.blocks → length window ≡ 4096
+    → ((bytes : Bytes) → contents v file ≡ Some bytes → HasAt bytes (4096 * page) window) → GivesEntry window page index new_page new_index found → EndsPast v file r page index new_page new_index found
+ends_within v file r page index new_page new_index window None lt long stands gives = (gives.1, gives.2, λ bytes is. inr (window, lt, stands bytes is, long, gives.3, gives.0))
+ends_within v file r page index new_page new_index window (Some entry) lt long stands gives = lt
+
+-- where the pointers lead within a block it has the entry
+not_within : (bytes : Bytes) (sought : Bytes) (page index : ℕ) (r : BlockRef) (block : Bytes) → LeadsTo bytes r sought page index → HasAt bytes (4096 * page) block → length block ≡ 4096 → 0 < count_in block → count_in block ≤ index → ⊥
+not_within bytes sought page index r block leads stands long some le = ⊎_elim
+    (λ last.
+    let test : nat_lt leads.below (count_in leads.block) ≡ false = search (rules, last.1) in
+    let index_same : index ≡ 0 = leads.index_is ∙ ap (λ (t : Bool). if t then leads.below else 0) test in
+    absurd (omega (arith, le, some, index_same)))
+    (λ inner.
+    let test : nat_lt leads.below (count_in leads.block) ≡ true = search (rules, inner.1) in
+    let page_same : page ≡ leads.from = leads.page_is ∙ ap (λ (t : Bool). if t then leads.from else leads.from + 1) test in
+    let index_same : index ≡ leads.below = leads.index_is ∙ ap (λ (t : Bool). if t then leads.below else 0) test in
+    let same : block ≡ leads.block = same_at bytes (4096 * leads.from) block leads.block (subst (λ (n : ℕ). HasAt bytes (4096 * n) block) page_same stands) leads.stands (long ∙ sym leads.long) in
+    let count_same : count_in block ≡ count_in leads.block = ap (λ (w : Bytes). count_in w) same in
+    absurd (omega (arith, le, index_same, count_same, inner.1)))
+    (leb_tells (count_in leads.block) leads.below)
+
+leads_past : (bytes : Bytes) (r : BlockRef) (sought : Bytes) (page index : ℕ) → LeadsTo bytes r sought page index → IsPast bytes r page index → r.first / 4096 + r.blocks ≤ page
+leads_past bytes r sought page index leads past = ⊎_elim (λ behind. behind.0) (λ within. absurd (not_within bytes sought page index r within.0 leads within.2 within.3 within.4 within.5)) past
+
+-- so a search ends behind the last block
+pub ends_below : (v w : View) (file now : FileName) (r : BlockRef) (sought : Bytes) (page index new_page new_index : ℕ) (found : Option TermEntry) → ((bytes : Bytes) → contents v file ≡ Some bytes → contents w now ≡ Some bytes)
+    → ((bytes : Bytes) → contents v file ≡ Some bytes → LeadsTo bytes r sought page index) → EndsPast w now r page index new_page new_index found → EndsBelow v file r sought new_page new_index found
+ends_below v w file now r sought page index new_page new_index None still leads gone = λ bytes is.
+    (let led = leads bytes is in
+    let past = leads_past bytes r sought page index led (gone.2 bytes (still bytes is)) in
+    inr (omega (arith, past, gone.0), subst (λ (n : ℕ). LeadsTo bytes r sought n new_index) (sym gone.0) (subst (λ (n : ℕ). LeadsTo bytes r sought page n) (sym gone.1) led)))
+ends_below v w file now r sought page index new_page new_index (Some entry) still leads gone = tt

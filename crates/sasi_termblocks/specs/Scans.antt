@@ -1,5 +1,5 @@
 -- Scans of the entries of blocks in a file.
-use Rattle.std.specs.Prelude.{◌≡◌, ℕ, ◌+◌, ◌*◌, ◌^◌, ◌<◌, ◌≤◌, nat_lt, if◌then◌else◌, true, false, List, [], ◌∷◌, length, map, take, drop, get_or, Option, Some, None}
+use Rattle.std.specs.Prelude.{◌≡◌, ◌⊎◌, ℕ, ◌+◌, ◌*◌, ◌/◌, ◌^◌, ◌<◌, ◌≤◌, nat_lt, if◌then◌else◌, true, false, List, [], ◌∷◌, length, map, take, drop, get_or, Option, Some, None}
 use Rattle.std.specs.List.{flat_map}
 use Rattle.sasi_host.specs.declared.name.FileName.{FileName}
 use Rattle.sasi_host.specs.Names.{Bytes}
@@ -13,6 +13,7 @@ use Rattle.sasi_termblocks.specs.declared.term_entry.TermEntry.{TermEntry}
 use Rattle.sasi_termblocks.specs.Entries.{is_below, term_entry}
 use Rattle.sasi_termblocks.specs.Windows.{EndsAtNext, HasEntry, StartsBehind, count_in}
 use Rattle.sasi_termblocks.specs.BlockFaults.{IsAboveLast}
+use Rattle.sasi_termblocks.specs.Damages.{EndsTerms, LeadsTo}
 use Rattle.sasi_termblocks.specs.Blocks.{Item, IsRefOf, blocks, items_of, levels_bytes}
 
 -- ---- terms in their order
@@ -88,7 +89,7 @@ ReadsFirst v file ref sought new_page new_index found =
 -- the entry, if any, is that of the block with this index, above the one before it; the position is then behind it. The block has as
 -- many entries as its first offset leaves room for, and the next one stands where this one ends.
 abbrev pub GivesEntry : Bytes → ℕ → ℕ → ℕ → ℕ → Option TermEntry → Type 0
-GivesEntry block page index new_page new_index None = (count_in block ≤ index) × (new_page ≡ page) × (new_index ≡ index)
+GivesEntry block page index new_page new_index None = (count_in block ≤ index) × (new_page ≡ page) × (new_index ≡ index) × (0 < count_in block)
 GivesEntry block page index new_page new_index (Some entry) =
     (index < count_in block) × HasEntry term_entry block index entry × IsAboveLast block index
     × (new_page ≡ (if nat_lt (index + 1) (count_in block) then page else page + 1)) × (new_index ≡ (if nat_lt (index + 1) (count_in block) then (index + 1) else 0))
@@ -105,6 +106,22 @@ abbrev pub ReadsSome : View → FileName → Option TermEntry → Type 0
 ReadsSome v file None = Unit {0}
 ReadsSome v file (Some entry) =
     (bytes : Bytes) → contents v file ≡ Some bytes → (page : ℕ) × (index : ℕ) × (block : Bytes) × HasAt bytes (4096 * page) block × (index < count_in block) × HasEntry term_entry block index entry
+
+-- the position is behind the term blocks, where the pointer blocks begin, or behind the last entry of its block
+abbrev pub IsPast : Bytes → BlockRef → ℕ → ℕ → Type 0
+IsPast bytes ref page index =
+    ((ref.first / 4096 + ref.blocks ≤ page) × EndsTerms bytes ref)
+    ⊎ ((block : Bytes) × (page < ref.first / 4096 + ref.blocks) × HasAt bytes (4096 * page) block × (length block ≡ 4096) × (0 < count_in block) × (count_in block ≤ index))
+
+-- there is no entry exactly where the position is behind the last one, even where other blocks are damaged; the scan stays there
+abbrev pub EndsPast : View → FileName → BlockRef → ℕ → ℕ → ℕ → ℕ → Option TermEntry → Type 0
+EndsPast v file ref page index new_page new_index None = (new_page ≡ page) × (new_index ≡ index) × ((bytes : Bytes) → contents v file ≡ Some bytes → IsPast bytes ref page index)
+EndsPast v file ref page index new_page new_index (Some entry) = page < ref.first / 4096 + ref.blocks
+
+-- there is no entry at or above a term only where there are no blocks, or where the pointers lead behind all entries of the last one
+abbrev pub EndsBelow : View → FileName → BlockRef → Bytes → ℕ → ℕ → Option TermEntry → Type 0
+EndsBelow v file ref sought page index None = (bytes : Bytes) → contents v file ≡ Some bytes → (ref.blocks ≡ 0) ⊎ ((ref.first / 4096 + ref.blocks ≤ page) × LeadsTo bytes ref sought page index)
+EndsBelow v file ref sought page index (Some entry) = Unit {0}
 
 -- the entry, if any, has a term that isn't below this one
 abbrev pub IsNotBelow : Bytes → Option TermEntry → Type 0

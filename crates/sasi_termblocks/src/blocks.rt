@@ -1,12 +1,10 @@
 // Readers of blocks.
-ghost use Rattle.std.specs.Prelude.{◌≡◌, ◌+◌, ◌/◌, ◌≤◌, [], IfErr, IfOk, OnErr, OnOk, None, Some};
+ghost use Rattle.std.specs.Prelude.{◌≡◌, ◌+◌, ◌/◌, ◌≤◌, [], IfErr, IfOk, OnErr, None};
 ghost use Rattle.sasi_host.specs.View.{ReadsAtMost};
 ghost use Rattle.sasi_host.specs.Damages.{DamageShown};
 ghost use Rattle.sasi_host.specs.PageReading.{CanReadOn, HasReadOn};
-ghost use Rattle.sasi_host.specs.Names.{Bytes};
-ghost use Rattle.sasi_host.specs.View.{contents};
-ghost use Rattle.sasi_termblocks.specs.Damages.{EndsTerms, ShowsBlocks};
-ghost use Rattle.sasi_termblocks.specs.Scans.{IsNotBelow, NoFalseDamage, ReadsFirst, ReadsHere, ReadsNext, ReadsSome};
+ghost use Rattle.sasi_termblocks.specs.Damages.{ShowsBlocks};
+ghost use Rattle.sasi_termblocks.specs.Scans.{EndsBelow, EndsPast, IsNotBelow, NoFalseDamage, ReadsFirst, ReadsHere, ReadsNext, ReadsSome};
 
 use crate::block_encode::BLOCK_BYTES;
 use crate::block_ref::BlockRef;
@@ -67,6 +65,8 @@ impl Blocks {
         // In any file it is an entry of a block, and not below the term.
         ensures stands { IfOk result (λ found. ReadsSome (H.view host.old) self.old.buffered.file found) }
         ensures least { IfOk result (IsNotBelow term.now) }
+        // In any file there is none only where the pointers lead behind the last entry of the term blocks.
+        ensures ends { IfOk result (λ found. EndsBelow (H.view host.old) self.old.buffered.file self.old.blocks term.now self.new.page self.new.index found) }
         ensures damaged { IfErr result (DamageShown (H.view host.old) self.old.buffered.file (ShowsBlocks self.old.buffered.file self.old.blocks)) }
         ensures undamaged { IfErr result (NoFalseDamage (H.view host.old) self.old.buffered.file self.old.blocks) }
         ensures read { HasReadOn (P.agrees pages.new) (P.covers pages.old) (P.covers pages.new) (H.view host.old) (H.view host.new) self.old.buffered self.new.buffered }
@@ -91,8 +91,8 @@ impl Blocks {
         ensures ok { IfOk result (λ found. ReadsNext (H.view host.old) self.old.buffered.file self.old.blocks self.old.page self.old.index self.new.page self.new.index found) }
         // In any file it is an entry of a term block whose first entry stands behind the offsets, and above the one before it there.
         ensures stands { IfOk result (λ found. ReadsHere (H.view host.old) self.old.buffered.file self.old.page self.old.index self.new.page self.new.index found) }
-        // It ends where the pointer blocks begin.
-        ensures ends { OnOk result (self.old.blocks.first / 4096 + self.old.blocks.blocks ≤ self.old.page → (bytes : Bytes) → contents (H.view host.old) self.old.buffered.file ≡ Some bytes → EndsTerms bytes self.old.blocks) }
+        // In any file it ends exactly behind the term blocks, where the pointer blocks begin, or where its block has no further entry.
+        ensures ends { IfOk result (λ found. EndsPast (H.view host.old) self.old.buffered.file self.old.blocks self.old.page self.old.index self.new.page self.new.index found) }
         ensures damaged { IfErr result (DamageShown (H.view host.old) self.old.buffered.file (ShowsBlocks self.old.buffered.file self.old.blocks)) }
         ensures undamaged { IfErr result (NoFalseDamage (H.view host.old) self.old.buffered.file self.old.blocks) }
         ensures read { HasReadOn (P.agrees pages.new) (P.covers pages.old) (P.covers pages.new) (H.view host.old) (H.view host.new) self.old.buffered self.new.buffered }

@@ -6,7 +6,7 @@ ghost use Rattle.sasi_host.specs.PageReading.{CanReadOn, HasReadOn};
 ghost use Rattle.sasi_termblocks.specs.Windows.{IsFault, count_in};
 ghost use Rattle.sasi_termblocks.specs.BlockFaults.{BreaksFirstPointer, HasPlace};
 ghost use Rattle.sasi_termblocks.specs.Damages.{BreaksGiven, EndsTerms, ShowsBlock, ShowsBlocks, ShowsGiven};
-ghost use Rattle.sasi_termblocks.specs.Scans.{GivesEntry, IsNotBelow, ReadsFirst, ReadsHere, ReadsNext, ReadsSome};
+ghost use Rattle.sasi_termblocks.specs.Scans.{EndsBelow, EndsPast, GivesEntry, IsNotBelow, ReadsFirst, ReadsHere, ReadsNext, ReadsSome};
 
 use crate::block::{check_entry, check_least, check_order, count_of, entry_at, first_place};
 use crate::block_encode::BLOCK_BYTES;
@@ -131,7 +131,7 @@ pub fn entry_from<H: Host, P: PageReader>(
     ensures ok { IfOk result (λ found. ReadsNext (H.view host.old) buffered.old.file blocks position.page position.index found.position.page found.position.index found.entry) }
     ensures stands { IfOk result (λ found. ReadsHere (H.view host.old) buffered.old.file position.page position.index found.position.page found.position.index found.entry) }
     ensures least { IfOk result (λ found. IsNotBelow least.now found.entry) }
-    ensures ends { IfOk result (λ found. blocks.first / 4096 + blocks.blocks ≤ position.page → (bytes : List ℕ) → contents (H.view host.old) buffered.old.file ≡ Some bytes → EndsTerms bytes blocks) }
+    ensures ends { IfOk result (λ found. EndsPast (H.view host.old) buffered.old.file blocks position.page position.index found.position.page found.position.index found.entry) }
     ensures low { IfOk result (λ found. blocks.first / 4096 ≤ found.position.page) }
     ensures damaged { IfErr result (DamageShown (H.view host.old) buffered.old.file (ShowsGiven buffered.old.file blocks position.page position.index least.now)) }
     ensures read { HasReadOn (P.agrees pages.new) (P.covers pages.old) (P.covers pages.new) (H.view host.old) (H.view host.new) buffered.old buffered.new }
@@ -167,6 +167,7 @@ pub fn first_from<H: Host, P: PageReader>(
     ensures ok { IfOk result (λ found. ReadsFirst (H.view host.old) buffered.old.file blocks sought.now found.position.page found.position.index found.entry) }
     ensures stands { IfOk result (λ found. ReadsSome (H.view host.old) buffered.old.file found.entry) }
     ensures least { IfOk result (λ found. IsNotBelow sought.now found.entry) }
+    ensures ends { IfOk result (λ found. EndsBelow (H.view host.old) buffered.old.file blocks sought.now found.position.page found.position.index found.entry) }
     ensures low { IfOk result (λ found. blocks.first / 4096 ≤ found.position.page) }
     ensures damaged { IfErr result (DamageShown (H.view host.old) buffered.old.file (ShowsBlocks buffered.old.file blocks)) }
     ensures read { HasReadOn (P.agrees pages.new) (P.covers pages.old) (P.covers pages.new) (H.view host.old) (H.view host.new) buffered.old buffered.new }

@@ -1,10 +1,10 @@
-use Rattle.std.proofs.Common.{◌*◌, ◌∙◌, arith, subst, sym}
+use Rattle.std.proofs.Common.{◌*◌, ◌∙◌, arith, inl, refl, subst, sym}
 use Rattle.sasi_host.specs.declared.name.FileName.{FileName}
 use Rattle.sasi_host.specs.Names.{Bytes}
 use Rattle.sasi_host.specs.Damages.{DamageShown, HasAt, TellsSize}
 use Rattle.std.proofs.lemmas.Result.{err_from_is_err_and}
 use Rattle.sasi_termblocks.specs.Damages.{BreaksGiven}
-use Rattle.sasi_termblocks.proofs.Shown.{end_of_block, given_all, given_shown, here_given, lifted_shown, too_long_shown}
+use Rattle.sasi_termblocks.proofs.Shown.{end_of_block, ends_within, given_all, given_shown, here_given, lifted_shown, too_long_shown}
 use Rattle.sasi_termblocks.proofs.Steps.{given_next, none_left}
 use Rattle.sasi_termblocks.proofs.scan.entry_from.Goals as goal
 
@@ -21,7 +21,7 @@ returns-in_err-check_end-clause-damaged g c =
     rw (p.1, p.2) (given_all (g.H.Host.view c.args.host.now) c.args.buffered.now.file c.args.blocks c.args.position.page c.args.position.index c.args.least.now c.in_err-check_end.field-0.0 c.in_err-check_end.ensures.damaged)
 
 pub returns-then-position-blocks-clause-ends : goal.returns-then-position-blocks-clause-ends
-returns-then-position-blocks-clause-ends g c past bytes is = c.in_ok-check_end.ensures.ok bytes is
+returns-then-position-blocks-clause-ends g c = (refl, refl, λ bytes is. inl (omega arith, c.in_ok-check_end.ensures.ok bytes is))
 
 pub returns-then-position-blocks-clause-ok : goal.returns-then-position-blocks-clause-ok
 returns-then-position-blocks-clause-ok g c bytes entries passed is has at = none_left bytes c.args.blocks entries c.args.position.page c.args.position.index passed has (omega arith) at
@@ -46,7 +46,10 @@ returns-in_err-load_block-clause-damaged g c =
     (end_of_block (BreaksGiven c.args.position.index c.args.least.now) v file c.args.position.page c.in_err-load_block.field-0.0 c.in_err-load_block.ensures.damaged))
 
 pub returns-in-Ok-clause-ends : goal.returns-in-Ok-clause-ends
-returns-in-Ok-clause-ends g c past = absurd (omega (arith, past))
+returns-in-Ok-clause-ends g c =
+    ends_within (g.H.Host.view c.args.host.now) c.args.buffered.now.file c.args.blocks c.args.position.page c.args.position.index c.in-Ok.found.position.page c.in-Ok.found.position.index c.loaded_block.result.now c.in-Ok.found.entry
+    (omega arith) c.loaded_block.ensures.whole
+    (λ bytes is. subst (λ (w : Bytes). HasAt bytes (4096 * c.args.position.page) w) (sym c.loaded_block.ensures.is) (c.in_ok-load_block.ensures.is bytes is)) c.in-Ok.ensures.ok
 
 pub returns-in-Err-clause-damaged : goal.returns-in-Err-clause-damaged
 returns-in-Err-clause-damaged g c =

@@ -1,11 +1,11 @@
-use Rattle.std.proofs.Common.{◌/◌, arith, subst}
+use Rattle.std.proofs.Common.{◌/◌, arith, inl, subst}
 use Rattle.std.proofs.lemmas.Result.{err_from_is_err_and}
 use Rattle.sasi_host.specs.declared.name.FileName.{FileName}
 use Rattle.sasi_host.specs.Damages.{DamageShown, TellsSize}
 use Rattle.sasi_host.specs.PageReading.{reads_nothing, reads_then}
 use Rattle.sasi_termblocks.specs.Damages.{BreaksSplit, ShowsBlock, ShowsGiven}
 use Rattle.sasi_termblocks.proofs.Descent.{still_reads}
-use Rattle.sasi_termblocks.proofs.Shown.{found_shown, shown_still, split_shown, too_long_shown}
+use Rattle.sasi_termblocks.proofs.Shown.{ends_below, found_shown, shown_still, split_shown, too_long_shown}
 use Rattle.sasi_termblocks.proofs.Steps.{here_some, no_entries}
 use Rattle.sasi_termblocks.proofs.scan.first_from.Goals as goal
 
@@ -76,3 +76,19 @@ returns-clause-stands g c =
 pub returns-clause-read : goal.returns-clause-read
 returns-clause-read g c =
     reads_then _ _ _ _ _ _ _ _ _ _ _ c.leaf_page.ensures.read (reads_then _ _ _ _ _ _ _ _ _ _ _ c.position_for.ensures.read c.entry_from.ensures.read)
+
+pub returns-then-blocks-eq0-clause-ends : goal.returns-then-blocks-eq0-clause-ends
+returns-then-blocks-eq0-clause-ends g c = λ bytes is. inl c.if-blocks-eq0.true
+
+pub returns-clause-ends : goal.returns-clause-ends
+returns-clause-ends g c =
+    let v = g.H.Host.view c.args.host.now in
+    let w = g.H.Host.view c.leaf_page.new.host in
+    let u = g.H.Host.view c.position_for.new.host in
+    let file = c.args.buffered.now.file in
+    let here = c.in_ok-position.position in
+    ends_below v u file c.position_for.new.buffered.file c.args.blocks c.args.sought.now here.page here.index c.in_ok-found.found.position.page c.in_ok-found.found.position.index c.in_ok-found.found.entry
+    (λ bytes is. still_reads w u c.leaf_page.new.buffered.file c.position_for.new.buffered.file bytes c.position_for.ensures.read.changes c.position_for.ensures.read.file
+    (still_reads v w file c.leaf_page.new.buffered.file bytes c.leaf_page.ensures.read.changes c.leaf_page.ensures.read.file is))
+    (λ bytes is. c.in_ok-position.ensures.led bytes c.args.blocks (still_reads v w file c.leaf_page.new.buffered.file bytes c.leaf_page.ensures.read.changes c.leaf_page.ensures.read.file is) (c.in_ok-page.ensures.led bytes is))
+    c.in_ok-found.ensures.ends

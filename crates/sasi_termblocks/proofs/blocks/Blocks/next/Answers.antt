@@ -1,10 +1,8 @@
-use Rattle.std.proofs.Common.{◌≡◌, ◌+◌, ◌/◌, ◌≤◌, Some, arith, subst}
-use Rattle.sasi_host.specs.Names.{Bytes}
-use Rattle.sasi_host.specs.View.{contents}
+use Rattle.std.proofs.Common.{arith, subst}
 use Rattle.std.proofs.lemmas.Result.{err_from_is_err_and}
 use Rattle.sasi_host.specs.Damages.{DamageShown}
-use Rattle.sasi_termblocks.specs.Damages.{EndsTerms, ShowsBlocks}
-use Rattle.sasi_termblocks.specs.Scans.{NoFalseDamage, ReadsHere, ReadsNext, Scan}
+use Rattle.sasi_termblocks.specs.Damages.{ShowsBlocks}
+use Rattle.sasi_termblocks.specs.Scans.{EndsPast, NoFalseDamage, ReadsHere, ReadsNext, Scan}
 use Rattle.sasi_termblocks.proofs.PointersSound.{no_false}
 use Rattle.sasi_termblocks.proofs.Shown.{next_shown}
 use Rattle.sasi_termblocks.proofs.blocks.Blocks.next.Goals as goal
@@ -33,5 +31,5 @@ returns-in_err-found-clause-undamaged g c =
     (no_false v c.self.inside.buffered.file c.self.inside.blocks c.in_err-found.field-0.0 shown))
 
 pub returns-clause-ends : goal.returns-clause-ends
-returns-clause-ends g c = subst (λ (h : Scan). h.blocks.first / 4096 + h.blocks.blocks ≤ h.page → (bytes : Bytes) → contents (g.H.Host.view c.args.host.now) h.buffered.file ≡ Some bytes → EndsTerms bytes h.blocks) c.self.view_is
-    c.in_ok-found.ensures.ends
+returns-clause-ends g c = subst (λ (h : Scan). EndsPast (g.H.Host.view c.args.host.now) h.buffered.file h.blocks h.page h.index c.in_ok-found.found.position.page c.in_ok-found.found.position.index
+    c.in_ok-found.found.entry) c.self.view_is c.in_ok-found.ensures.ends
