@@ -23,11 +23,11 @@ use Rattle.sasi_tokentree.proofs.AfterRead.{reads_still}
 use Rattle.sasi_treemerge.specs.MergeDamages.{NoFalseDamageOf, NoFalseSourceDamage, ShowsPairs, ShowsSources}
 use Rattle.std.proofs.lemmas.Bool.Decides.{leb_tells}
 use Rattle.sasi_tokentree.specs.Format.{HasTree}
-use Rattle.sasi_tokentree.specs.Scans.{HasPassed, PairScan, PassesOne, ReadsNextPair, StepsToPair}
+use Rattle.sasi_tokentree.specs.Scans.{HasEntry, HasPassed, PairScan, PassesOne, ReadsNextPair, StepsToPair}
 use Rattle.sasi_treemerge.specs.declared.merge.TreeMerge.{TreeMerge}
 use Rattle.sasi_treemerge.specs.declared.source.Source.{Source}
 use Rattle.sasi_treemerge.specs.Sources.{is_before, source_cmp}
-use Rattle.sasi_treemerge.specs.Merges.{Adds, CanMerge, Gives, GoesOn, IsAtHead, IsLeast, IsPairOf, IsReadable, IsSourceIn, IsSourceOf, IsStillGiven, StepsBy, TreesStay, is_left, left_in, left_of, sources_of, unread_in, unread_of}
+use Rattle.sasi_treemerge.specs.Merges.{Adds, CanMerge, Gives, GoesOn, IsAtHead, IsLeast, IsPairOf, IsRead, IsReadable, IsSourceIn, IsSourceOf, IsStillGiven, IsStillRead, ReadsEach, StepsBy, TreesStay, is_left, left_in, left_of, sources_of, unread_in, unread_of}
 use Rattle.sasi_treemerge.proofs.PairOrder.{first_least, not_before_on}
 
 -- ---- lists
@@ -352,3 +352,44 @@ pub spares_of : (a b : View) (file now : FileName) (old new : List Source) (f : 
 spares_of a b file now old new fault.Failed stay same named right = tt
 spares_of a b file now old new fault.OutOfMemory stay same named right = tt
 spares_of a b file now old new (fault.Damaged damage) stay same named right = λ bytes lists is each. right bytes lists (reads_still a b file now bytes same named is) (stay bytes lists is each)
+
+-- ---- no entry is lost
+
+pub each_none : (v : View) (file : FileName) (sources : List Source) → ReadsEach v file sources sources
+each_none v file sources source index there low high = inr (source, there, refl, low)
+
+module _ (v u w : View) (file : FileName) (head : Pair) (mid new : List Source) (merge : TreeMerge) (steps : StepsBy w head mid new) (can : CanMerge u merge) (are : sources_of merge ≡ new) (file_is : merge.file ≡ file) (same : Changes Same v u) where
+  -- the source with the least pair read its next entry, or is at its end
+  read_or_later : (index : ℕ) (next : Option Source) → GoesOn w steps.source.tree.value next → IsPermutation (option_to_list next ++ steps.others) new → steps.source.tree.value.passed ≤ index → index < steps.source.tree.value.tree.pairs
+      → IsRead v file steps.source.tree.value.tree index ⊎ IsStillRead new steps.source.tree.value.tree index
+  read_or_later index None goes put low high = absurd (omega (arith, goes.0, low, high))
+  read_or_later index (Some next) goes put low high = ⊎_elim
+      (λ later. inr (next, there, goes.0, omega (arith, goes.1, later.1)))
+      (λ early.
+      let at : IsAtHead u file next = subst (λ (n : FileName). IsAtHead u n next) file_is (All-contains (IsReadable u merge.file) (sources_of merge) next can.each (subst (λ (l : List Source). Contains l next) (sym are) there)).at_head in
+      let one : at.stands.0 ≡ index = omega (arith, at.stands.1, goes.1, low, early.1) in
+      inl (
+        next.head,
+        λ bytes is. subst (λ (n : ℕ). HasEntry bytes steps.source.tree.value.tree n next.head) one
+            (subst (λ (t : TreeRef). HasEntry bytes t at.stands.0 next.head) goes.0 (at.stands.2 bytes (contents_same v u file same ∙ is))),
+      ))
+      (leb_tells (steps.source.tree.value.passed + 1) index)
+    where
+      there : Contains new next
+      there = Contains-permutation (next ∷ steps.others) new next put (contains_first next steps.others)
+
+  pub each_step : (old : List Source) → ReadsEach v file old mid → ReadsEach v file old new
+  each_step old was source index there low high = ⊎_elim
+      (λ read. inl read)
+      (λ still.
+      let tree_is = still.2 in
+      let within : index < still.0.tree.value.tree.pairs = omega (arith, high, ap (λ (t : TreeRef). t.pairs) tree_is) in
+      ⊎_elim
+      (λ this.
+      let own_tree : steps.source.tree.value.tree ≡ source.tree.value.tree = ap (λ (s : Source). s.tree.value.tree) this ∙ tree_is in
+      let passed_is : steps.source.tree.value.passed ≡ still.0.tree.value.passed = ap (λ (s : Source). s.tree.value.passed) this in
+      subst (λ (t : TreeRef). IsRead v file t index ⊎ IsStillRead new t index) own_tree
+      (read_or_later index steps.next steps.goes steps.put (omega (arith, passed_is, still.3)) (omega (arith, high, ap (λ (t : TreeRef). t.pairs) own_tree))))
+      (λ other. inr (still.0, Contains-permutation (option_to_list steps.next ++ steps.others) new still.0 steps.put (Contains-append_right (option_to_list steps.next) steps.others still.0 other), tree_is, still.3))
+      (contains_cases steps.source still.0 steps.others (Contains-permutation mid (steps.source ∷ steps.others) still.0 steps.taken still.1)))
+      (was source index there low high)

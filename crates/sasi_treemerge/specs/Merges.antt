@@ -1,5 +1,5 @@
 -- A merge of the pairs of several trees of a file.
-use Rattle.std.specs.Prelude.{◌≡◌, ℕ, ◌+◌, ◌-◌, ◌≤◌, nat_le, Bool, true, false, ◌&&◌, List, [], ◌∷◌, ◌++◌, drop, All, Contains, Option, None, Some}
+use Rattle.std.specs.Prelude.{◌≡◌, ◌⊎◌, ℕ, ◌+◌, ◌-◌, ◌<◌, ◌≤◌, nat_le, Bool, true, false, ◌&&◌, List, [], ◌∷◌, ◌++◌, drop, All, Contains, Option, None, Some}
 use Rattle.std.specs.List.{sum_by}
 use Rattle.std.specs.List.Sorted.{IsPermutation}
 use Rattle.std.specs.Option.{option_to_list}
@@ -11,7 +11,7 @@ use Rattle.sasi_host.specs.Names.{Bytes}
 use Rattle.sasi_host.specs.View.{View, contents}
 use Rattle.sasi_host.specs.Buffered.{IsBuffered}
 use Rattle.sasi_tokentree.specs.Format.{HasTree}
-use Rattle.sasi_tokentree.specs.Scans.{HasPassed, PairScan, ReadsEntry}
+use Rattle.sasi_tokentree.specs.Scans.{HasEntry, HasPassed, PairScan, ReadsEntry}
 use Rattle.sasi_treemerge.specs.declared.source.Source.{Source}
 use Rattle.sasi_treemerge.specs.declared.merge.TreeMerge.{TreeMerge}
 use Rattle.sasi_treemerge.specs.Sources.{is_before, source_cmp}
@@ -98,6 +98,19 @@ unread_of sources = sum_by unread_in sources
 -- each tree of the one list is one of the other
 abbrev pub TreesStay : List Source → List Source → Type 0
 TreesStay old new = All (λ source. (was : Source) × Contains old was × (source.tree.value.tree ≡ was.tree.value.tree)) new
+
+-- the file has an entry with this index, even where the tree is damaged
+abbrev pub IsRead : View → FileName → TreeRef → ℕ → Type 0
+IsRead v file tree index = (pair : Pair) × ((bytes : Bytes) → contents v file ≡ Some bytes → HasEntry bytes tree index pair)
+
+-- a source of the tree that has the entry with this index still to read
+abbrev pub IsStillRead : List Source → TreeRef → ℕ → Type 0
+IsStillRead sources tree index = (source : Source) × Contains sources source × (source.tree.value.tree ≡ tree) × (source.tree.value.passed ≤ index)
+
+-- each entry that a source had still to read was read, or a source has it still to read, even where trees are damaged
+abbrev pub ReadsEach : View → FileName → List Source → List Source → Type 0
+ReadsEach v file old new = (source : Source) (index : ℕ) → Contains old source → source.tree.value.passed ≤ index → index < source.tree.value.tree.pairs
+    → IsRead v file source.tree.value.tree index ⊎ IsStillRead new source.tree.value.tree index
 
 -- ---- a merge
 

@@ -10,7 +10,7 @@ ghost use Rattle.sasi_host.specs.PageReading.{CanRead, HasRead};
 ghost use Rattle.sasi_tokentree.specs.Damages.{ShowsTree};
 ghost use Rattle.sasi_tokentree.specs.Reads.{NoFalseTreeDamage};
 ghost use Rattle.sasi_treemerge.specs.Sources.{source_cmp};
-ghost use Rattle.sasi_treemerge.specs.Merges.{Adds, CanMerge, Gives, IsLeast, Steps, TreesStay, is_left, last_after, sources_of, unread_of};
+ghost use Rattle.sasi_treemerge.specs.Merges.{Adds, CanMerge, Gives, IsLeast, ReadsEach, Steps, TreesStay, is_left, last_after, sources_of, unread_of};
 ghost use Rattle.sasi_treemerge.specs.MergeDamages.{NoFalseDamageOf, ShowsSources};
 
 use crate::source::{Source, next_of, source_of};
@@ -149,6 +149,9 @@ impl TreeMerge {
             → IsLeast lists self.old.last self.old.floor found × Gives bytes lists self.new.last self.new.floor (sources_of self.new)) }
         ensures merge { OnOk result (CanMerge (H.view host.new) self.new) }
         ensures trees { OnOk result (TreesStay (sources_of self.old) (sources_of self.new)) }
+        // In any file no source is dropped before its tree's end, and there is no pair only where no source is left.
+        ensures each { OnOk result (ReadsEach (H.view host.old) self.old.file (sources_of self.old) (sources_of self.new)) }
+        ensures ends { IfOk result (λ found. found ≡ None → sources_of self.new ≡ []) }
         ensures damaged { IfErr result (DamageShown (H.view host.old) self.old.file (ShowsSources (sources_of self.old) self.old.file)) }
         ensures undamaged { IfErr result (NoFalseDamageOf (H.view host.old) self.old.file (sources_of self.old)) }
         ensures read { HasRead (P.agrees pages.new) (P.covers pages.old) (P.covers pages.new) (H.view host.old) (H.view host.new) self.old.file }

@@ -2,12 +2,13 @@ use Rattle.std.proofs.Common.{◌≡◌, ◌∙◌, ap, refl, subst, sym, ℕ, O
 use Rattle.std.proofs.lemmas.Result.{err_from_is_err_and}
 use Rattle.sasi_types.specs.declared.tree.Pair.{Pair}
 use Rattle.sasi_host.specs.declared.name.FileName.{FileName}
-use Rattle.sasi_host.specs.ChangeLaws.{stays}
+use Rattle.sasi_host.specs.ChangeLaws.{stays, then_same}
+use Rattle.sasi_host.specs.Disk.{Same}
 use Rattle.sasi_host.specs.View.{IsThere}
 use Rattle.std.proofs.Common.{inl}
 use Rattle.sasi_tokentree.proofs.AfterRead.{reads_still}
-use Rattle.sasi_treemerge.specs.Merges.{Gives, Steps, is_left, sources_of}
-use Rattle.sasi_treemerge.proofs.Merging.{each_on, fewer_left, gives_none, gives_on, head_least, head_listed, left_same, named_all, shown_of, spares_of, trees_on, trees_same, trees_step, within_all}
+use Rattle.sasi_treemerge.specs.Merges.{Gives, ReadsEach, Steps, is_left, sources_of}
+use Rattle.sasi_treemerge.proofs.Merging.{each_none, each_on, each_step, fewer_left, gives_none, gives_on, head_least, head_listed, left_same, named_all, shown_of, spares_of, trees_on, trees_same, trees_step, within_all}
 use Rattle.sasi_treemerge.proofs.PairOrder.{last_gone, left_behind}
 use Rattle.sasi_treemerge.proofs.Stepping.{pays_none, pays_on, read_next, there_same}
 use Rattle.sasi_treemerge.proofs.merge.TreeMerge.next.Goals as goal
@@ -23,6 +24,7 @@ loop-pair-init g c =
       last = refl;
       floor = refl;
       trees = trees_same (sources_of c.args.self.now);
+      reads_each = each_none v c.args.self.now.file (sources_of c.args.self.now);
       pays = pays_none v _;
       each = λ bytes lists is each. each;
       gives = λ bytes lists is gives. gives;
@@ -122,6 +124,8 @@ loop-pair-preserved g c =
       last = same.1 ∙ here.last;
       floor = same.2 ∙ here.floor;
       trees = trees_on (sources_of c.args.self.now) (sources_of c.loop-pair.self) (sources_of c.take_head.new.self) here.trees (trees_step w pair _ _ steps);
+      reads_each = each_step v u w c.args.self.now.file pair (sources_of c.loop-pair.self) (sources_of c.take_head.new.self) c.take_head.new.self steps c.in_ok-pair.ensures.merge refl (same.0 ∙ here.file)
+          (then_same _ _ _ Same here.read.changes c.take_head.ensures.read.changes) (sources_of c.args.self.now) here.reads_each;
       pays = pays_on v w u _ _ _ _ c.in_ok-pair.field-0 here.pays c.in_ok-pair.ensures.causes c.in_ok-pair.ensures.reads;
       each = λ bytes lists is each.
           each_on w c.loop-pair.self.file bytes lists _ _ pair steps named (reads_still v w c.args.self.now.file c.loop-pair.self.file bytes here.read.changes here.file is) (here.each bytes lists is each);
@@ -129,3 +133,23 @@ loop-pair-preserved g c =
           (let gv = here.gives bytes lists is gives in
           gives_on w c.loop-pair.self.file bytes lists _ _ pair steps named (reads_still v w c.args.self.now.file c.loop-pair.self.file bytes here.read.changes here.file is) gv.each last floor last floor gv (λ p l. l) gone);
     }
+
+pub returns-in_default-clause-ends : goal.returns-in_default-clause-ends
+returns-in_default-clause-ends g c none =
+    (subst (λ (o : Option Pair). Steps (g.H.Host.view c.loop-pair.host) (sources_of c.loop-pair.self) (sources_of c.take_head.new.self) o) c.in_default.is c.in_ok-pair.ensures.ok).1
+
+pub returns-in_default-clause-each : goal.returns-in_default-clause-each
+returns-in_default-clause-each g c =
+    let steps = subst (λ (o : Option Pair). Steps (g.H.Host.view c.loop-pair.host) (sources_of c.loop-pair.self) (sources_of c.take_head.new.self) o) c.in_default.is c.in_ok-pair.ensures.ok in
+    subst (λ (l : _). ReadsEach (g.H.Host.view c.args.host.now) c.args.self.now.file (sources_of c.args.self.now) l) (steps.0 ∙ sym steps.1) c.loop-pair.invariant.reads_each
+
+pub returns-then-is_left-clause-each : goal.returns-then-is_left-clause-each
+returns-then-is_left-clause-each g c =
+    let w = g.H.Host.view c.loop-pair.host in
+    let here = c.loop-pair.invariant in
+    let steps = subst (λ (o : Option Pair). Steps w (sources_of c.loop-pair.self) (sources_of c.take_head.new.self) o) c.in-Some.is c.in_ok-pair.ensures.ok in
+    each_step (g.H.Host.view c.args.host.now) (g.H.Host.view c.take_head.new.host) w c.args.self.now.file c.in-Some.pair (sources_of c.loop-pair.self) (sources_of c.take_head.new.self) c.take_head.new.self steps c.in_ok-pair.ensures.merge refl
+    (c.take_head.ensures.same.0 ∙ here.file) (then_same _ _ _ Same here.read.changes c.take_head.ensures.read.changes) (sources_of c.args.self.now) here.reads_each
+
+pub returns-then-is_left-clause-ends : goal.returns-then-is_left-clause-ends
+returns-then-is_left-clause-ends g c none = absurd cc
