@@ -67,6 +67,47 @@ module _ (v : View) (opened : Opened) (op : Op) (body : Bytes) (short : IsShort 
       by false true run_is h = absurd (no_truth (sym (h.0 ∙ ap (λ (b : Bool). not b) run_is)))
       by false false run_is h = omega arith
 
+  -- its pairs alone cost no more, where they could not be added
+  pairs_cost : (entry : TermEntry) (one : TermPairs) → IsEntryOf on.bytes one entry → 2 * added_pairs opened.kind op body entry ≤ term_cost content op body one
+  pairs_cost entry one is =
+      subst (λ (b : Bool). 2 * added_pairs opened.kind op body entry ≤ cost_if b (is_run op) (length one.1)) (sym (asked_is one ∙ ap (λ (t : Bytes). is_match opened.kind op body t) (sym is.term)))
+      (by (is_match opened.kind op body entry.term) (is_run op))
+    where
+      by : (test run : Bool) → 2 * (if test then list_pairs entry.list else 0) ≤ cost_if test run (length one.1)
+      by true run =
+          let own : list_pairs entry.list ≡ is.tree.pairs = ap (λ (o : Option TreeRef). list_pairs o) is.list in
+          let long : is.tree.pairs ≡ length one.1 = ap (λ (t : TreeRef). t.pairs) is.has.referred in
+          omega (arith, own, long)
+      by false true = omega arith
+      by false false = omega arith
+
+  -- what an entry in hand costs is within what all terms cost, where its tree could not be added
+  pub entry_within : (turn page index low high : ℕ) (entry : TermEntry) → Costs content opened.blocks op body turn page index (Some entry) low high → high + 2 * added_pairs opened.kind op body entry ≤ low + terms_cost content op body
+  entry_within turn page index low high entry was =
+      let k = was.from + turn in
+      let here = in_hand v opened.file on.bytes content on.index_file (short on.bytes on.reads) on.reads op body (some_here v opened op body short some content on) opened.blocks None 0 turn page index k entry was.steps.0 in
+      omega (
+        arith,
+        was.spent,
+        pairs_cost entry (get_or content.terms k ([], [])) here.is_entry,
+        sum_by_more (term_cost content op body) content.terms k ([], []) here.within,
+        sum_by-take-le (term_cost content op body) content.terms (k + 1),
+      )
+
+  -- and where the next one could not be read
+  pub next_within : (w : View) (turn page index low high : ℕ) (entry : TermEntry) (old new : List Source) (added : FileName) → Costs content opened.blocks op body turn page index (Some entry) low high
+      → AddsEntry w added opened.kind op body entry true old new → high + 2 * added_pairs opened.kind op body entry + 1 ≤ low + terms_cost content op body
+  next_within w turn page index low high entry old new added was adds =
+      let k = was.from + turn in
+      let here = in_hand v opened.file on.bytes content on.index_file (short on.bytes on.reads) on.reads op body (some_here v opened op body short some content on) opened.blocks None 0 turn page index k entry was.steps.0 in
+      omega (
+        arith,
+        was.spent,
+        one_cost entry (get_or content.terms k ([], [])) w added old new here.is_entry adds,
+        sum_by_more (term_cost content op body) content.terms k ([], []) here.within,
+        sum_by-take-le (term_cost content op body) content.terms (k + 1),
+      )
+
   pub costs_begin : (page index low high : ℕ) (entry : Option TermEntry) (file : FileName) (ref : BlockRef) (sought : Bytes) → file ≡ opened.file → ref ≡ opened.blocks → ReadsFirst v file ref sought page index entry → high ≤ low
       → Costs content opened.blocks op body 0 page index entry low high
   costs_begin page index low high entry file ref sought named is first le =

@@ -10,7 +10,7 @@ ghost use Rattle.sasi_indexread.specs.Asked.{asked_lists, asks_none};
 ghost use Rattle.sasi_indexread.specs.Collects.{AddsEntry, NoFalseListDamage, ShowsList};
 ghost use Rattle.sasi_indexread.specs.Costs.{added_pairs, terms_cost, whole_cost};
 ghost use Rattle.sasi_indexread.specs.Damages.{ShowsIndex};
-ghost use Rattle.sasi_treemerge.specs.Merges.{CanMerge, Gives, sources_of, unread_of};
+ghost use Rattle.sasi_treemerge.specs.Merges.{CanMerge, Gives, SpendsReads, sources_of, unread_of};
 ghost use Rattle.sasi_indexread.specs.Opened.{IsOpenOn};
 ghost use Rattle.sasi_indexread.specs.Searches.{AreListed, NoFalseSearchDamage};
 
@@ -43,7 +43,7 @@ fn add_entry<H: Host, P: PageReader>(
     ensures undamaged { IfErr result (NoFalseListDamage (H.view host.old) merge.old.file entry.now) }
     ensures read { HasRead (P.agrees pages.new) (P.covers pages.old) (P.covers pages.new) (H.view host.old) (H.view host.new) merge.old.file }
     ensures causes { ReadsAtMost 2 (H.view host.old) (H.view host.new) result }
-    ensures reads { OnOk result ((H.view host.new).reads + 2 * unread_of (sources_of merge.new) ≤ (H.view host.old).reads + 2 * unread_of (sources_of merge.old) + 2 * added_pairs index.now.kind op.now body.now entry.now) }
+    ensures reads { SpendsReads (H.view host.old) (H.view host.new) (2 * unread_of (sources_of merge.old) + 2 * added_pairs index.now.kind op.now body.now entry.now) (2 * unread_of (sources_of merge.new)) result }
     ensures same { (merge.new.file ≡ merge.old.file) × (merge.new.last ≡ merge.old.last) × (merge.new.floor ≡ merge.old.floor) }
 {
     if !is_match(index.kind(), op, body, entry.term.bytes()) {
@@ -81,8 +81,8 @@ fn add_terms<H: Host, P: PageReader>(
     ensures undamaged { IfErr result (NoFalseSearchDamage (H.view host.old) index.now) }
     ensures read { HasRead (P.agrees pages.new) (P.covers pages.old) (P.covers pages.new) (H.view host.old) (H.view host.new) index.now.file }
     ensures causes { ReadsAtMost (index.now.blocks.levels + 2 + 3 * 2 ^ 62) (H.view host.old) (H.view host.new) result }
-    ensures reads { OnOk result ((content : IndexContent) → IsOpenOn (H.view host.old) index.now content
-        → (H.view host.new).reads + 2 * unread_of (sources_of merge.new) ≤ (H.view host.old).reads + 2 * unread_of (sources_of merge.old) + index.now.blocks.levels + 2 + terms_cost content op.now body.now) }
+    ensures reads { (content : IndexContent) → IsOpenOn (H.view host.old) index.now content
+        → SpendsReads (H.view host.old) (H.view host.new) (2 * unread_of (sources_of merge.old) + index.now.blocks.levels + 2 + terms_cost content op.now body.now) (2 * unread_of (sources_of merge.new)) result }
     ensures same { (merge.new.file ≡ merge.old.file) × (merge.new.last ≡ merge.old.last) × (merge.new.floor ≡ merge.old.floor) }
 {
     let mut blocks = Blocks::new(alloc, index.file(), index.blocks());
@@ -120,8 +120,8 @@ pub fn collect<H: Host, P: PageReader>(
     ensures undamaged { IfErr result (NoFalseSearchDamage (H.view host.old) index.now) }
     ensures read { HasRead (P.agrees pages.new) (P.covers pages.old) (P.covers pages.new) (H.view host.old) (H.view host.new) index.now.file }
     ensures causes { ReadsAtMost (index.now.blocks.levels + 4 + 3 * 2 ^ 62) (H.view host.old) (H.view host.new) result }
-    ensures reads { OnOk result ((content : IndexContent) → IsOpenOn (H.view host.old) index.now content
-        → (H.view host.new).reads + 2 * unread_of (sources_of merge.new) ≤ (H.view host.old).reads + whole_cost index.now.blocks.levels content op.now body.now) }
+    ensures reads { (content : IndexContent) → IsOpenOn (H.view host.old) index.now content
+        → SpendsReads (H.view host.old) (H.view host.new) (whole_cost index.now.blocks.levels content op.now body.now) (2 * unread_of (sources_of merge.new)) result }
     ensures same { (merge.new.file ≡ merge.old.file) × (merge.new.last ≡ merge.old.last) × (merge.new.floor ≡ merge.old.floor) }
 {
     merge.add(host, pages, index.spill())?;

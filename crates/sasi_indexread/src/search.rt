@@ -8,7 +8,7 @@ ghost use Rattle.sasi_indexwrite.specs.Content.{IndexContent};
 ghost use Rattle.sasi_indexread.specs.Asked.{AreNumberTerms, asked_lists, holding_lists};
 ghost use Rattle.sasi_indexread.specs.Costs.{cost_left};
 ghost use Rattle.sasi_indexread.specs.Damages.{ShowsIndex};
-ghost use Rattle.sasi_treemerge.specs.Merges.{IsLeast, last_after, sources_of};
+ghost use Rattle.sasi_treemerge.specs.Merges.{IsLeast, SpendsReads, last_after, sources_of};
 ghost use Rattle.sasi_indexread.specs.Searches.{CanSearch, FailsAsRead, IsSearching, NoFalseSearchDamage, NoFalseSearchingDamage, searching};
 ghost use Rattle.sasi_treemerge.specs.Sources.{source_cmp};
 
@@ -57,8 +57,8 @@ fn keep_collected<H: Host, P: PageReader>(
     ensures ok { OnOk result ((content : IndexContent) → IsSearching (H.view host.old) (searching index.now op.now body.now is_collected.old merge.old) content
         → IsSearching (H.view host.new) (searching index.now op.now body.now is_collected.new merge.new) content) }
     ensures collected { OnOk result (is_collected.new ≡ true) }
-    ensures reads { OnOk result ((content : IndexContent) → IsSearching (H.view host.old) (searching index.now op.now body.now is_collected.old merge.old) content
-        → (H.view host.new).reads + cost_left (searching index.now op.now body.now is_collected.new merge.new) content ≤ (H.view host.old).reads + cost_left (searching index.now op.now body.now is_collected.old merge.old) content) }
+    ensures reads { (content : IndexContent) → IsSearching (H.view host.old) (searching index.now op.now body.now is_collected.old merge.old) content
+        → SpendsReads (H.view host.old) (H.view host.new) (cost_left (searching index.now op.now body.now is_collected.old merge.old) content) (cost_left (searching index.now op.now body.now is_collected.new merge.new) content) result }
     ensures search { OnOk result (CanSearch (H.view host.new) (searching index.now op.now body.now is_collected.new merge.new)) }
     ensures damaged { IfErr result (DamageShown (H.view host.old) index.now.file (ShowsIndex index.now)) }
     ensures undamaged { IfErr result (NoFalseSearchDamage (H.view host.old) index.now) }
@@ -96,8 +96,8 @@ fn next_pair<H: Host, P: PageReader>(
     ensures undamaged { IfErr result (NoFalseSearchingDamage (H.view host.old) (searching index.now op.now body.now is_collected.old merge.old)) }
     ensures read { HasRead (P.agrees pages.new) (P.covers pages.old) (P.covers pages.new) (H.view host.old) (H.view host.new) index.now.file }
     ensures causes { FailsAsRead (H.view host.old) (H.view host.new) result }
-    ensures reads { OnOk result ((content : IndexContent) → IsSearching (H.view host.old) (searching index.now op.now body.now is_collected.old merge.old) content
-        → (H.view host.new).reads + cost_left (searching index.now op.now body.now is_collected.new merge.new) content ≤ (H.view host.old).reads + cost_left (searching index.now op.now body.now is_collected.old merge.old) content) }
+    ensures reads { (content : IndexContent) → IsSearching (H.view host.old) (searching index.now op.now body.now is_collected.old merge.old) content
+        → SpendsReads (H.view host.old) (H.view host.new) (cost_left (searching index.now op.now body.now is_collected.old merge.old) content) (cost_left (searching index.now op.now body.now is_collected.new merge.new) content) result }
 {
     keep_collected(alloc, host, pages, index, op, body, is_collected, merge)?;
     let found = merge.next(host, pages)?;
@@ -148,8 +148,9 @@ impl Search {
         ensures undamaged { IfErr result (NoFalseSearchingDamage (H.view host.old) self.old) }
         ensures read { HasRead (P.agrees pages.new) (P.covers pages.old) (P.covers pages.new) (H.view host.old) (H.view host.new) self.old.index.file }
         ensures causes { FailsAsRead (H.view host.old) (H.view host.new) result }
-        // Its reads are those that were left to it, of which a new search has one for each term that is read, and two for each pair.
-        ensures reads { OnOk result ((content : IndexContent) → IsSearching (H.view host.old) self.old content → (H.view host.new).reads + cost_left self.new content ≤ (H.view host.old).reads + cost_left self.old content) }
+        // Its reads are those that were left to it, also where it fails. A new search has one for each term that is read, and two for
+        // each pair.
+        ensures reads { (content : IndexContent) → IsSearching (H.view host.old) self.old content → SpendsReads (H.view host.old) (H.view host.new) (cost_left self.old content) (cost_left self.new content) result }
         ensures asked { (self.new.index ≡ self.old.index) × (self.new.op ≡ self.old.op) × (self.new.body ≡ self.old.body) }
     {
         let alloc = self.alloc;

@@ -1,5 +1,5 @@
 -- A merge of the pairs of several trees of a file.
-use Rattle.std.specs.Prelude.{◌≡◌, ◌⊎◌, ℕ, ◌+◌, ◌-◌, ◌<◌, ◌≤◌, nat_le, Bool, true, false, ◌&&◌, List, [], ◌∷◌, ◌++◌, drop, All, Contains, Option, None, Some}
+use Rattle.std.specs.Prelude.{◌≡◌, ◌⊎◌, ℕ, ◌+◌, ◌-◌, ◌<◌, ◌≤◌, nat_le, Bool, true, false, ◌&&◌, List, [], ◌∷◌, ◌++◌, drop, All, Contains, Option, None, Some, Result, Ok, Err}
 use Rattle.std.specs.List.{sum_by}
 use Rattle.std.specs.List.Sorted.{IsPermutation}
 use Rattle.std.specs.Option.{option_to_list}
@@ -10,6 +10,7 @@ use Rattle.sasi_host.specs.declared.name.FileName.{FileName}
 use Rattle.sasi_host.specs.Names.{Bytes}
 use Rattle.sasi_host.specs.View.{View, contents}
 use Rattle.sasi_host.specs.Buffered.{IsBuffered}
+use Rattle.sasi_host.specs.declared.fault.ReadFault.{ReadFault}
 use Rattle.sasi_tokentree.specs.Format.{HasTree}
 use Rattle.sasi_tokentree.specs.Scans.{HasEntry, HasPassed, PairScan, ReadsEntry}
 use Rattle.sasi_treemerge.specs.declared.source.Source.{Source}
@@ -94,6 +95,11 @@ unread_in source = source.tree.value.tree.pairs - source.tree.value.passed
 
 abbrev pub unread_of : List Source → ℕ
 unread_of sources = sum_by unread_in sources
+
+-- a call makes at most the reads that were left, and leaves so many after Ok
+abbrev pub SpendsReads : {T : Type 0} → View → View → ℕ → ℕ → Result T ReadFault → Type 0
+SpendsReads old new before after (Ok found) = new.reads + after ≤ old.reads + before
+SpendsReads old new before after (Err fault) = new.reads ≤ old.reads + before
 
 -- each tree of the one list is one of the other
 abbrev pub TreesStay : List Source → List Source → Type 0

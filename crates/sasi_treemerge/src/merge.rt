@@ -10,7 +10,7 @@ ghost use Rattle.sasi_host.specs.PageReading.{CanRead, HasRead};
 ghost use Rattle.sasi_tokentree.specs.Damages.{ShowsTree};
 ghost use Rattle.sasi_tokentree.specs.Reads.{NoFalseTreeDamage};
 ghost use Rattle.sasi_treemerge.specs.Sources.{source_cmp};
-ghost use Rattle.sasi_treemerge.specs.Merges.{Adds, CanMerge, Gives, IsLeast, ReadsEach, Steps, TreesStay, is_left, last_after, sources_of, unread_of};
+ghost use Rattle.sasi_treemerge.specs.Merges.{Adds, CanMerge, Gives, IsLeast, ReadsEach, SpendsReads, Steps, TreesStay, is_left, last_after, sources_of, unread_of};
 ghost use Rattle.sasi_treemerge.specs.MergeDamages.{NoFalseDamageOf, ShowsSources};
 
 use crate::source::{Source, next_of, source_of};
@@ -94,7 +94,7 @@ impl TreeMerge {
         ensures undamaged { IfErr result (NoFalseTreeDamage (H.view host.old) self.old.file list) }
         ensures read { HasRead (P.agrees pages.new) (P.covers pages.old) (P.covers pages.new) (H.view host.old) (H.view host.new) self.old.file }
         ensures causes { ReadsAtMost 2 (H.view host.old) (H.view host.new) result }
-        ensures reads { OnOk result ((H.view host.new).reads + 2 * unread_of (sources_of self.new) ≤ (H.view host.old).reads + 2 * unread_of (sources_of self.old) + 2 * list.pairs) }
+        ensures reads { SpendsReads (H.view host.old) (H.view host.new) (2 * unread_of (sources_of self.old) + 2 * list.pairs) (2 * unread_of (sources_of self.new)) result }
         ensures same { (self.new.file ≡ self.old.file) × (self.new.last ≡ self.old.last) × (self.new.floor ≡ self.old.floor) }
     {
         let tree = scan_of(self.alloc, self.file, list)?;

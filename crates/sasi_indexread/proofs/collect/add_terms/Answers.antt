@@ -16,7 +16,7 @@ use Rattle.sasi_termblocks.proofs.Steps.{here_some}
 use Rattle.sasi_indexread.specs.Asked.{asked_lists, lower}
 use Rattle.sasi_indexread.specs.Collects.{AddsEntry}
 use Rattle.sasi_indexread.proofs.Collecting.{Collects}
-use Rattle.sasi_indexread.proofs.Counting.{Costs, costs_begin, costs_end, costs_on, none_added}
+use Rattle.sasi_indexread.proofs.Counting.{Costs, costs_begin, costs_end, costs_on, entry_within, next_within, none_added}
 use Rattle.sasi_indexread.proofs.ReadChains.{spends_none, spends_on, there_same}
 use Rattle.sasi_indexread.proofs.Scanning.{blocks_shown, blocks_spare, comes_to_end, entry_listed, entry_there, gives_at, goes_further, list_shown, list_spares, passes_all, starts, stops_here}
 use Rattle.sasi_indexread.proofs.collect.add_terms.Goals as goal
@@ -204,8 +204,11 @@ returns-in_default-clause-reads g c content on =
     let w = g.H.Host.view c.loop-turn.host in
     let here = c.loop-turn.invariant in
     let index = c.args.index.now in
-    costs_end content index.blocks c.args.op.now c.args.body.now c.loop-turn._turn c.loop-turn.blocks.page c.loop-turn.blocks.index (v.reads + 2 * unread_of (sources_of c.args.merge.now) + index.blocks.levels + 2)
-    (w.reads + 2 * unread_of (sources_of c.loop-turn.merge)) c.loop-turn.entry (here.costs content on)
+    omega (
+      arith,
+      costs_end content index.blocks c.args.op.now c.args.body.now c.loop-turn._turn c.loop-turn.blocks.page c.loop-turn.blocks.index (v.reads + 2 * unread_of (sources_of c.args.merge.now) + index.blocks.levels + 2)
+          (w.reads + 2 * unread_of (sources_of c.loop-turn.merge)) c.loop-turn.entry (here.costs content on),
+    )
 
 pub returns-clause-reads : goal.returns-clause-reads
 returns-clause-reads g c content on =
@@ -213,8 +216,11 @@ returns-clause-reads g c content on =
     let w = g.H.Host.view c.loop-turn.host in
     let here = c.loop-turn.invariant in
     let index = c.args.index.now in
-    costs_end content index.blocks c.args.op.now c.args.body.now c.loop-turn._turn c.loop-turn.blocks.page c.loop-turn.blocks.index (v.reads + 2 * unread_of (sources_of c.args.merge.now) + index.blocks.levels + 2)
-    (w.reads + 2 * unread_of (sources_of c.loop-turn.merge)) c.loop-turn.entry (here.costs content on)
+    omega (
+      arith,
+      costs_end content index.blocks c.args.op.now c.args.body.now c.loop-turn._turn c.loop-turn.blocks.page c.loop-turn.blocks.index (v.reads + 2 * unread_of (sources_of c.args.merge.now) + index.blocks.levels + 2)
+          (w.reads + 2 * unread_of (sources_of c.loop-turn.merge)) c.loop-turn.entry (here.costs content on),
+    )
 
 pub returns-then-not-branch-clause-reads : goal.returns-then-not-branch-clause-reads
 returns-then-not-branch-clause-reads g c content on =
@@ -233,3 +239,46 @@ returns-then-not-branch-clause-reads g c content on =
       none_added w c.loop-turn.merge.file c.args.index.now.kind c.args.op.now c.args.body.now c.in-Some.found old new
           (subst (λ (b : Bool). AddsEntry w c.loop-turn.merge.file c.args.index.now.kind c.args.op.now c.args.body.now c.in-Some.found b old new) out c.in_ok-add_entry.ensures.ok),
     )
+
+pub returns-in_err-entry-clause-reads : goal.returns-in_err-entry-clause-reads
+returns-in_err-entry-clause-reads g c content on =
+    let p = err_from_is_err_and c.from_residual.result c.from_residual.ensures.1 in
+    rw p.1 (omega (arith, c.in_err-entry.ensures.causes.reads, ap (λ (r : BlockRef). r.levels) (ap (λ (s : Scan). s.blocks) c.new-blocks.ensures ∙ c.blocks-2.ensures)))
+
+pub returns-in_err-add_entry-clause-reads : goal.returns-in_err-add_entry-clause-reads
+returns-in_err-add_entry-clause-reads g c content on =
+    let p = err_from_is_err_and c.from_residual-in_err-add_entry.result c.from_residual-in_err-add_entry.ensures.1 in
+    let v = g.H.Host.view c.args.host.now in
+    let w = g.H.Host.view c.loop-turn.host in
+    let here = c.loop-turn.invariant in
+    let index = c.args.index.now in
+    let low = v.reads + 2 * unread_of (sources_of c.args.merge.now) + index.blocks.levels + 2 in
+    let high = w.reads + 2 * unread_of (sources_of c.loop-turn.merge) in
+    rw p.1 (omega (
+      arith,
+      c.in_err-add_entry.ensures.reads,
+      entry_within v index c.args.op.now c.args.body.now (λ bytes is. (g.met.H.Host.sound c.args.host.now).fits index.file bytes is) c.requires.some content on c.loop-turn._turn c.loop-turn.blocks.page c.loop-turn.blocks.index low high c.in-Some.found
+          (subst (λ (o : Option TermEntry). Costs content index.blocks c.args.op.now c.args.body.now c.loop-turn._turn c.loop-turn.blocks.page c.loop-turn.blocks.index o low high) c.in-Some.is (here.costs content on)),
+    ))
+
+pub returns-in_err-entry-2-clause-reads : goal.returns-in_err-entry-2-clause-reads
+returns-in_err-entry-2-clause-reads g c content on =
+    let p = err_from_is_err_and c.from_residual-in_err-entry-2.result c.from_residual-in_err-entry-2.ensures.1 in
+    let v = g.H.Host.view c.args.host.now in
+    let w = g.H.Host.view c.loop-turn.host in
+    let here = c.loop-turn.invariant in
+    let index = c.args.index.now in
+    let more : c.in_ok-add_entry.field-0 ≡ true = search (rules, c.if-not-branch.false) in
+    let old = sources_of c.loop-turn.merge in
+    let new = sources_of c.add_entry.new.merge in
+    let low = v.reads + 2 * unread_of (sources_of c.args.merge.now) + index.blocks.levels + 2 in
+    let high = w.reads + 2 * unread_of old in
+    rw p.1 (omega (
+      arith,
+      c.in_ok-add_entry.ensures.reads,
+      c.in_err-entry-2.ensures.causes.reads,
+      next_within v index c.args.op.now c.args.body.now (λ bytes is. (g.met.H.Host.sound c.args.host.now).fits index.file bytes is) c.requires.some content on w c.loop-turn._turn c.loop-turn.blocks.page c.loop-turn.blocks.index low high c.in-Some.found old new
+          c.loop-turn.merge.file
+          (subst (λ (o : Option TermEntry). Costs content index.blocks c.args.op.now c.args.body.now c.loop-turn._turn c.loop-turn.blocks.page c.loop-turn.blocks.index o low high) c.in-Some.is (here.costs content on))
+          (subst (λ (b : Bool). AddsEntry w c.loop-turn.merge.file c.args.index.now.kind c.args.op.now c.args.body.now c.in-Some.found b old new) more c.in_ok-add_entry.ensures.ok),
+    ))

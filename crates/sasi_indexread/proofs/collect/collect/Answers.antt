@@ -88,3 +88,24 @@ returns-clause-reads g c content on =
       spill_pairs (g.H.Host.view c.args.host.now) c.args.index.now c.spill.result (λ bytes is. (g.met.H.Host.sound c.args.host.now).fits c.args.index.now.file bytes is) c.spill.ensures content on,
       c.in_ok-add_terms.ensures.reads content (open_still (g.H.Host.view c.args.host.now) (g.H.Host.view c.add.new.host) c.args.index.now content c.add.ensures.read.changes on),
     )
+
+pub returns-in_err-add-clause-reads : goal.returns-in_err-add-clause-reads
+returns-in_err-add-clause-reads g c content on =
+    let p = err_from_is_err_and c.from_residual.result c.from_residual.ensures.1 in
+    rw p.1 (omega (
+      arith,
+      c.in_err-add.ensures.reads,
+      none_unread (sources_of c.args.merge.now) c.requires.empty,
+      spill_pairs (g.H.Host.view c.args.host.now) c.args.index.now c.spill.result (λ bytes is. (g.met.H.Host.sound c.args.host.now).fits c.args.index.now.file bytes is) c.spill.ensures content on,
+    ))
+
+pub returns-in_err-add_terms-clause-reads : goal.returns-in_err-add_terms-clause-reads
+returns-in_err-add_terms-clause-reads g c content on =
+    let p = err_from_is_err_and c.from_residual-in_err-add_terms.result c.from_residual-in_err-add_terms.ensures.1 in
+    rw p.1 (omega (
+      arith,
+      c.in_ok-add.ensures.reads,
+      none_unread (sources_of c.args.merge.now) c.requires.empty,
+      spill_pairs (g.H.Host.view c.args.host.now) c.args.index.now c.spill.result (λ bytes is. (g.met.H.Host.sound c.args.host.now).fits c.args.index.now.file bytes is) c.spill.ensures content on,
+      c.in_err-add_terms.ensures.reads content (open_still (g.H.Host.view c.args.host.now) (g.H.Host.view c.add.new.host) c.args.index.now content c.add.ensures.read.changes on),
+    ))

@@ -1,4 +1,5 @@
 use Rattle.std.proofs.Common.{◌≡◌, arith, false, inl, rules}
+use Rattle.std.proofs.lemmas.Result.{err_from_is_err_and}
 use Rattle.sasi_host.specs.ChangeLaws.{stays}
 use Rattle.sasi_indexread.proofs.Counting.{left_first}
 use Rattle.sasi_indexread.proofs.Searching.{now_collected}
@@ -18,3 +19,9 @@ pub returns-clause-reads : goal.returns-clause-reads
 returns-clause-reads g c content was =
     let first : c.args.is_collected.now ≡ false = search (rules, c.if-is_collected.false) in
     omega (arith, c.in_ok-collect.ensures.reads content was.is_open, left_first c.args.index.now c.args.op.now c.args.body.now c.args.is_collected.now c.args.merge.now content first)
+
+pub returns-in_err-collect-clause-reads : goal.returns-in_err-collect-clause-reads
+returns-in_err-collect-clause-reads g c content was =
+    let p = err_from_is_err_and c.from_residual.result c.from_residual.ensures.1 in
+    let first : c.args.is_collected.now ≡ false = search (rules, c.if-is_collected.false) in
+    rw p.1 (omega (arith, c.in_err-collect.ensures.reads content was.is_open, left_first c.args.index.now c.args.op.now c.args.body.now c.args.is_collected.now c.args.merge.now content first))

@@ -60,3 +60,15 @@ returns-clause-reads g c content was =
     let done = c.in_ok-keep_collected.ensures.collected in
     let left = left_then c.args.index.now c.args.op.now c.args.body.now c.keep_collected.new.is_collected in
     omega (arith, c.in_ok-keep_collected.ensures.reads content was, c.in_ok-found.ensures.reads, left c.keep_collected.new.merge content done, left c.next.new.self content done)
+
+pub returns-in_err-keep_collected-clause-reads : goal.returns-in_err-keep_collected-clause-reads
+returns-in_err-keep_collected-clause-reads g c content was =
+    let p = err_from_is_err_and c.from_residual.result c.from_residual.ensures.1 in
+    rw p.1 (c.in_err-keep_collected.ensures.reads content was)
+
+pub returns-in_err-found-clause-reads : goal.returns-in_err-found-clause-reads
+returns-in_err-found-clause-reads g c content was =
+    let p = err_from_is_err_and c.from_residual-in_err-found.result c.from_residual-in_err-found.ensures.1 in
+    let done = c.in_ok-keep_collected.ensures.collected in
+    let left = left_then c.args.index.now c.args.op.now c.args.body.now c.keep_collected.new.is_collected c.keep_collected.new.merge content done in
+    rw p.1 (omega (arith, c.in_ok-keep_collected.ensures.reads content was, c.in_err-found.ensures.causes.reads, left))

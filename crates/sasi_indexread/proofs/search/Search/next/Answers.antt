@@ -1,6 +1,6 @@
-use Rattle.std.proofs.Common.{List, ℕ, ◌+◌, ◌≤◌, subst}
-use Rattle.std.specs.Prelude.{IfOk, OnOk}
-use Rattle.sasi_treemerge.specs.Merges.{IsLeast}
+use Rattle.std.proofs.Common.{List, ℕ, subst}
+use Rattle.std.specs.Prelude.{IfOk}
+use Rattle.sasi_treemerge.specs.Merges.{IsLeast, SpendsReads}
 use Rattle.sasi_indexwrite.specs.Content.{IndexContent}
 use Rattle.sasi_indexread.specs.Asked.{asked_lists}
 use Rattle.sasi_indexread.specs.Costs.{cost_left}
@@ -32,6 +32,6 @@ returns-clause-reads g c =
     let w = g.H.Host.view c.next_pair.new.host in
     let here = c.self.inside in
     let now = searching here.index here.op here.body.items c.next_pair.new.is_collected c.next_pair.new.merge in
-    let own = subst (λ (b : List ℕ). OnOk c.next_pair.result ((content : IndexContent) → IsSearching v (searching here.index here.op b here.is_collected here.merge) content
-    → w.reads + cost_left (searching here.index here.op b c.next_pair.new.is_collected c.next_pair.new.merge) content ≤ v.reads + cost_left (searching here.index here.op b here.is_collected here.merge) content)) c.deref.ensures.value c.next_pair.ensures.reads in
-    subst (λ (s : Searching). OnOk c.next_pair.result ((content : IndexContent) → IsSearching v s content → w.reads + cost_left now content ≤ v.reads + cost_left s content)) c.self.view_is own
+    let own = subst (λ (b : List ℕ). (content : IndexContent) → IsSearching v (searching here.index here.op b here.is_collected here.merge) content
+    → SpendsReads v w (cost_left (searching here.index here.op b here.is_collected here.merge) content) (cost_left (searching here.index here.op b c.next_pair.new.is_collected c.next_pair.new.merge) content) c.next_pair.result) c.deref.ensures.value c.next_pair.ensures.reads in
+    subst (λ (s : Searching). (content : IndexContent) → IsSearching v s content → SpendsReads v w (cost_left s content) (cost_left now content) c.next_pair.result) c.self.view_is own

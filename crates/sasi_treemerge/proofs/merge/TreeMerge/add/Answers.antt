@@ -1,4 +1,4 @@
-use Rattle.std.proofs.Common.{ap, inl, refl, subst, Option, Some}
+use Rattle.std.proofs.Common.{ap, arith, inl, refl, subst, Option, Some}
 use Rattle.sasi_host.specs.ChangeLaws.{stays}
 use Rattle.sasi_tokentree.specs.Scans.{PairScan}
 use Rattle.sasi_treemerge.specs.declared.source.Source.{Source}
@@ -20,8 +20,11 @@ returns-in_ok-put-in-Some-clause-merge g c =
 pub returns-in_ok-put-in-Some-clause-reads : goal.returns-in_ok-put-in-Some-clause-reads
 returns-in_ok-put-in-Some-clause-reads g c =
     let v = g.H.Host.view c.args.host.now in
-    tree_pairs _ _ v c.in_ok-tree.tree.value c.args.list c.in-Some.source _ _ c.in_ok-tree.ensures (subst (λ (o : Option Source). GoesOn v c.in_ok-tree.tree.value o) c.in-Some.is c.in_ok-source_of.ensures.ok) c.in_ok-put-in-Some.ensures.put
-    c.source_of.ensures.causes.reads
+    omega (
+      arith,
+      tree_pairs v.reads (g.H.Host.view c.source_of.new.host).reads v c.in_ok-tree.tree.value c.args.list c.in-Some.source _ _ c.in_ok-tree.ensures (subst (λ (o : Option Source). GoesOn v c.in_ok-tree.tree.value o) c.in-Some.is c.in_ok-source_of.ensures.ok) c.in_ok-put-in-Some.ensures.put
+          c.source_of.ensures.causes.reads,
+    )
 
 pub returns-in-None-clause-merge : goal.returns-in-None-clause-merge
 returns-in-None-clause-merge g c = merge_still (g.H.Host.view c.args.host.now) (g.H.Host.view c.source_of.new.host) c.args.self.now c.source_of.ensures.read.changes c.requires.merge
