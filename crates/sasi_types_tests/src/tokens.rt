@@ -76,6 +76,13 @@ fn murmur_tokens_take_tail_bytes_as_signed(rt: HostRuntime) {
     }
 }
 
+// The longest tail, with a byte above 127 at each index of its second half.
+#[test]
+fn murmur_tokens_take_the_end_of_a_tail_as_signed(rt: HostRuntime) {
+    let key = b"abcdefgh\x80\x9b\xb6\xc1\xdc\xe7\xff";
+    assert!(rt; Partitioner::Murmur3.token(key) == 0x394c_f301_97cb_0672);
+}
+
 #[test]
 fn murmur_tokens_are_in_the_order_of_signed_hashes(rt: HostRuntime) {
     let tokens: [(&[u8], u64); 3] = [
