@@ -102,11 +102,12 @@ fn kit_finds_the_analyzer_of_a_rule(rt: HostRuntime) {
     check_both(&rt, alloc, &mut Kit::new(objects));
 }
 
-/// A kit without an analyzer of words says so.
+/// A kit without an analyzer of words says so, and gives no term.
 fn check_no_words(rt: &impl Abort, alloc: Global, kit: &mut Kit) {
     let mut terms = TermList::new(alloc);
     let answer = kit.terms(alloc, Rule::Words { fold: false }, "x", &mut terms);
     assert!(rt; answer == Err(KitFault::Missing(Class::Standard)));
+    assert!(rt; terms.as_slice().is_empty());
     assert!(rt; kit.has(Class::NonTokenizing) && !kit.has(Class::Standard));
 }
 
