@@ -17,7 +17,7 @@ use Rattle.sasi_body.specs.Body.{body, body_of, IsBodyOf}
 use Rattle.sasi_body.proofs.BodyBytes.{body_short, body_least}
 use Rattle.sasi_body.proofs.Bodies.{offset_within}
 use Rattle.sasi_host.specs.Disk.{Changes, Same}
-use Rattle.sasi_host.specs.Contents.{contents_same}
+use Rattle.sasi_host.proofs.ContentLaws.{contents_same}
 use Rattle.sasi_host.specs.Damages.{HasAt, DamageShown, ShowsEnd, TellsSize}
 use Rattle.sasi_host.specs.Buffered.{unbuffered_pages}
 use Rattle.sasi_host.proofs.Offsets.{at_ends, same_at, first_at, second_at, both_at, window_at}
@@ -27,7 +27,7 @@ use Rattle.sasi_dataread.specs.Damages.ShowsPartition.{no_length, no_body}
 use Rattle.sasi_dataread.specs.Bodies.{length_prefixed, partition_reads, IsLength, IsWithinBody, NoFalseLengthDamage, NoFalseBytesDamage, NoFalseBodyDamage}
 use Rattle.sasi_dataread.proofs.Numbers.{number_at}
 use Rattle.sasi_dataread.proofs.Pages.{few_pages, fresh_on}
-use Rattle.sasi_host.specs.CauseLaws.{reads_on}
+use Rattle.sasi_host.proofs.CauseLaws.{reads_on}
 
 -- ---- what is read
 

@@ -8,7 +8,7 @@ use Rattle.sasi_host.specs.Names.{Bytes}
 use Rattle.sasi_host.specs.View.{View, contents}
 use Rattle.sasi_host.specs.Disk.{Changes, Same}
 use Rattle.sasi_host.specs.Buffered.{Buffered}
-use Rattle.sasi_host.specs.Contents.{contents_same}
+use Rattle.sasi_host.proofs.ContentLaws.{contents_same}
 use Rattle.sasi_types.specs.declared.partitioner.Partitioner.{Partitioner}
 use Rattle.sasi_types.specs.declared.tree.Pair.{Pair}
 use Rattle.sasi_types.specs.declared.tree.TreeRef.{TreeRef}
@@ -28,7 +28,7 @@ use Rattle.sasi_body.specs.Body.{body}
 use Rattle.sasi_datawrite.specs.Format.{Content, front, header, key_pairs, partitions}
 use Rattle.sasi_dataread.specs.Opened.{Opened, IsOpenedAs, StandsAt}
 use Rattle.sasi_dataread.specs.Bodies.{length_prefixed, partition_reads}
-use Rattle.sasi_dataread.specs.Laws.{partition_stands}
+use Rattle.sasi_dataread.proofs.Laws.{partition_stands}
 use Rattle.sasi_dataread.specs.ReadCosts.{ReadsEachPageOnce, IsSequential, file_pages, progress, scan_of}
 use Rattle.sasi_dataread.proofs.Pages.{goes_on, stops_at_pair, stops_behind_pair}
 use Rattle.sasi_dataread.specs.Damages.{ShowsData, ShowsPair}

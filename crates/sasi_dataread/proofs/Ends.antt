@@ -18,7 +18,7 @@ use Rattle.sasi_datawrite.specs.declared.footer.Footer.{Footer}
 use Rattle.sasi_datawrite.specs.Format.{Content, end_mark, footer, footer_bytes}
 use Rattle.sasi_datawrite.specs.Files.{IsDataFile}
 use Rattle.sasi_datawrite.proofs.Footers.{footer_is}
-use Rattle.sasi_dataread.specs.Laws.{footer_length, footer_of, footer_stands, in_range}
+use Rattle.sasi_dataread.proofs.Laws.{footer_length, footer_of, footer_stands, in_range}
 use Rattle.sasi_dataread.specs.HeaderAndFooter.{EndsAsDataFile}
 
 -- a part that is shown as broken encodes no numbers

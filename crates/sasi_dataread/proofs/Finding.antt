@@ -35,7 +35,7 @@ use Rattle.sasi_dataread.specs.Bodies.{partition_pages}
 use Rattle.sasi_dataread.specs.Scans.{KeysAreBytes, NoFalseOpenedDamage}
 use Rattle.sasi_dataread.specs.Finds.{partition_of, token_reads, LeadsTo, ReadsPartitionOfKey}
 use Rattle.sasi_dataread.proofs.Pairs.{nth, nth_stands, as_many_left, left_behind, none_left, less_token}
-use Rattle.sasi_host.specs.CauseLaws.{reads_within}
+use Rattle.sasi_host.proofs.CauseLaws.{reads_within}
 use Rattle.sasi_dataread.proofs.ReadChains.{passes_none, passes_on}
 use Rattle.sasi_dataread.proofs.DataScan.{IsShort, open_same, tree_there}
 

@@ -21,7 +21,7 @@ use Rattle.sasi_datawrite.specs.Format.{Content, magic, header, end_mark}
 use Rattle.sasi_datawrite.specs.Files.{IsDataFile}
 use Rattle.sasi_datawrite.proofs.Footers.{header_encodes, mark_encodes, mark_of_size, footer_is, footer_of_size}
 use Rattle.sasi_dataread.specs.Reads.{NoFalseDataDamage}
-use Rattle.sasi_dataread.specs.Laws.{in_range, footer_of, header_stands, footer_stands, least_size}
+use Rattle.sasi_dataread.proofs.Laws.{in_range, footer_of, header_stands, footer_stands, least_size}
 use Rattle.sasi_dataread.specs.Damages.{ShowsHeaderOrFooter}
 use Rattle.sasi_dataread.specs.HeaderAndFooter.{HasHeaderAndFooter, data_framing}
 

@@ -11,7 +11,7 @@ use Rattle.sasi_body.specs.Body.{body, cell, cells_of}
 use Rattle.sasi_body.proofs.BodyBytes.{body_parts}
 use Rattle.sasi_datawrite.specs.Format.{Content, content_max_timestamp, front, header, key_pairs, partition_bytes, partitions, trailer}
 use Rattle.sasi_datawrite.specs.Files.{IsDataFile}
-use Rattle.sasi_dataread.specs.Laws.{file_is}
+use Rattle.sasi_dataread.proofs.Laws.{file_is}
 use Rattle.sasi_dataread.specs.Scans.{KeysAreBytes}
 
 first_are : (front rest : Bytes) → AreBytes (front ++ rest) → AreBytes front

@@ -1,3 +1,4 @@
+pub mod Laws
 pub mod KeyBytes
 pub mod Pairs
 pub mod ReadChains

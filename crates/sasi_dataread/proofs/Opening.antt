@@ -25,7 +25,7 @@ use Rattle.sasi_datawrite.proofs.Laws.{header_length}
 use Rattle.sasi_dataread.specs.Opened.{Opened, StandsAt}
 use Rattle.sasi_dataread.specs.Reads.{ReadsPartition, IsOpenOn, NoFalsePartitionDamage}
 use Rattle.sasi_dataread.specs.Bodies.{length_prefixed, partition_reads, IsPartitionPlace, NoFalseBodyDamage}
-use Rattle.sasi_dataread.specs.Laws.{partition_stands, partition_typed, partition_within}
+use Rattle.sasi_dataread.proofs.Laws.{partition_stands, partition_typed, partition_within}
 use Rattle.sasi_dataread.proofs.Bodies.{sized_same}
 
 -- ---- a partition

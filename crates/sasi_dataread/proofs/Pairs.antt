@@ -23,7 +23,7 @@ use Rattle.sasi_datawrite.specs.Format.{Content, header, footer_bytes, front, de
 use Rattle.sasi_datawrite.proofs.Laws.{partition_length, pairs_length}
 use Rattle.sasi_dataread.specs.Opened.{Opened, StandsAt}
 use Rattle.sasi_dataread.specs.Reads.{IsOpenOn}
-use Rattle.sasi_dataread.specs.Laws.{file_is, end_within, footer_of}
+use Rattle.sasi_dataread.proofs.Laws.{file_is, end_within, footer_of}
 use Rattle.sasi_dataread.specs.Scans.{KeysAreBytes}
 
 -- ---- they rise

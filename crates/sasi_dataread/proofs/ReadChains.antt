@@ -5,9 +5,9 @@ use Rattle.sasi_host.specs.declared.name.FileName.{FileName}
 use Rattle.sasi_host.specs.declared.fault.ReadFault.{ReadFault}
 use Rattle.sasi_host.specs.View.{View, IsThere, ReadsAtMost}
 use Rattle.sasi_host.specs.Disk.{Changes, Same}
-use Rattle.sasi_host.specs.Contents.{contents_same, there_where}
-use Rattle.sasi_host.specs.ChangeLaws.{stays, then_same}
-use Rattle.sasi_host.specs.CauseLaws.{fault_reads, reads_behind}
+use Rattle.sasi_host.proofs.ContentLaws.{contents_same, there_where}
+use Rattle.sasi_host.proofs.ChangeLaws.{stays, then_same}
+use Rattle.sasi_host.proofs.CauseLaws.{fault_reads, reads_behind}
 use Rattle.sasi_dataread.specs.Reads.{ReadsWithin}
 
 pub there_same : (a b : View) (file : FileName) → Changes Same a b → IsThere a file → IsThere b file

@@ -2,7 +2,6 @@ pub mod Opened
 pub mod Reads
 pub mod Bodies
 pub mod Damages
-pub mod Laws
 pub mod HeaderAndFooter
 pub mod Scans
 pub mod ReadCosts

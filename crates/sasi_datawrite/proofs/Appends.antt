@@ -7,8 +7,8 @@ use Rattle.sasi_host.specs.declared.name.FileName.{FileName}
 use Rattle.sasi_host.specs.Names.{Bytes}
 use Rattle.sasi_host.specs.View.{IsThere, Reaches, View, Holds}
 use Rattle.sasi_host.specs.Disk.{Relation, Same, Changes, FileChange, InPlace, AnyChange, Becomes, Torn, overlay}
-use Rattle.sasi_host.specs.Contents.{reaches_on, told_before}
-use Rattle.sasi_host.specs.ChangeLaws.{changes_as}
+use Rattle.sasi_host.proofs.ContentLaws.{reaches_on, told_before}
+use Rattle.sasi_host.proofs.ChangeLaws.{changes_as}
 use Rattle.sasi_types.specs.declared.tree.Pair.{Pair}
 use Rattle.sasi_types.specs.declared.tree.TreeRef.{TreeRef}
 use Rattle.sasi_tokentree.specs.Format.{tree_bytes, tree_ref}

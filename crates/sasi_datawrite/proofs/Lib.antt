@@ -1,3 +1,4 @@
+pub mod WritingLaws
 pub mod Laws
 pub mod Appends
 pub mod Pushes

@@ -3,9 +3,7 @@ use Rattle.std.specs.Prelude.{◌≡◌, ℕ, ◌-◌, ◌^◌, ◌<◌, ◌≤�
 use Rattle.sasi_types.specs.declared.partitioner.Partitioner.{Partitioner}
 use Rattle.sasi_types.specs.declared.tree.Pair.{Pair}
 use Rattle.sasi_host.specs.declared.name.FileName.{FileName}
-use Rattle.sasi_host.specs.View.{View, Holds, contents}
-use Rattle.sasi_host.specs.Disk.{Relation, Changes}
-use Rattle.sasi_host.specs.Contents.{holds_where}
+use Rattle.sasi_host.specs.View.{View, Holds}
 use Rattle.sasi_tokentree.specs.Format.{pair_at, IsRising}
 use Rattle.sasi_datawrite.specs.Format.{Content, front, content_max_timestamp, key_pairs}
 
@@ -38,13 +36,3 @@ pub record IsWriting (v : View) (writer : Writer) (content : Content) : Type 0 w
   pub offset_is : writer.offset ≡ length (front content)
   pub max_timestamp : writer.max_timestamp ≡ content_max_timestamp content
   pub holds : Holds v writer.file (front content)
-
--- a writer has written what it had, where its file reads as before
-pub writing_where : (a b : View) (S : Relation) (writer : Writer) (content : Content) → Changes S a b → contents b writer.file ≡ contents a
-    writer.file → IsWriting a writer content → IsWriting b writer content
-writing_where a b S writer content change same is = record {
-  pairs = is.pairs;
-  offset_is = is.offset_is;
-  max_timestamp = is.max_timestamp;
-  holds = holds_where a b S writer.file (front content) change same is.holds;
-}

@@ -3,7 +3,7 @@ use Rattle.std.proofs.Common.{◌≡◌, ◌≤◌, ◌-◌, ◌^◌, ◌∙◌,
 use Rattle.sasi_host.specs.declared.fault.HostFault.{HostFault}
 use Rattle.sasi_host.specs.declared.fault.HostFault.TheVariants as host_fault
 use Rattle.sasi_host.specs.Disk.{Changes, Relation}
-use Rattle.sasi_host.specs.Opaque.{opaque_changes, opaque_emits_untold}
+use Rattle.sasi_host.proofs.OpaqueLaws.{opaque_changes, opaque_emits_untold}
 use Rattle.sasi_host.specs.View.{DiskCauses, Emits, FailedAtLast, IsCall, IsEmit, ListCauses, OutCauses, ReadCauses, counted, has_failed}
 use Rattle.sasi_filehost.specs.HostCounts.{after_call, after_emit, counts_of, view_of}
 use Rattle.sasi_filehost.specs.declared.tally.Tally.{Tally}

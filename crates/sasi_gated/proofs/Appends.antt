@@ -4,9 +4,9 @@ use Rattle.sasi_host.specs.declared.name.FileName.{FileName}
 use Rattle.sasi_host.specs.Names.{Bytes}
 use Rattle.sasi_host.specs.View.{View, IsSound, Reaches}
 use Rattle.sasi_host.specs.Disk.{IsFileDurable, Changes, FileChange, InPlace, Torn, LeftWith, AnyChange, Becomes, overlay}
-use Rattle.sasi_host.specs.Contents.{reaches_on, reaches_written}
+use Rattle.sasi_host.proofs.ContentLaws.{reaches_on, reaches_written}
 use Rattle.sasi_host.proofs.Durability.{leaves, leaves_on}
-use Rattle.sasi_host.specs.ChangeLaws.{touches, touches_on}
+use Rattle.sasi_host.proofs.ChangeLaws.{touches, touches_on}
 use Rattle.sasi_gated.specs.Format.{header, frame, IsPayload, IsBeforeOrAfter}
 use Rattle.sasi_gated.specs.Gates.{IsAtGate}
 use Rattle.sasi_gated.specs.Handles.{IsAtEnd}

@@ -4,10 +4,11 @@ use Rattle.sasi_host.specs.declared.name.FileName.{FileName}
 use Rattle.std.proofs.lemmas.Bool.Decides.{eqb_tells}
 use Rattle.sasi_host.specs.View.{View, counted}
 use Rattle.sasi_host.specs.Disk.{Changes, Same}
-use Rattle.sasi_host.specs.Contents.{contents_same}
+use Rattle.sasi_host.proofs.ContentLaws.{contents_same}
 use Rattle.sasi_host.specs.Buffered.{reached, unbuffered_pages}
 use Rattle.sasi_host.proofs.Pages.{fresh_reaches}
-use Rattle.sasi_host.specs.Sequential.{BeginsBy, ReachesTo, ReadsEachOnce, begins_known, page_within, once_on}
+use Rattle.sasi_host.specs.Sequential.{BeginsBy, ReachesTo, ReadsEachOnce}
+use Rattle.sasi_host.proofs.SequentialLaws.{begins_known, page_within, once_on}
 
 -- a part on one page that ends at this offset
 pub part_once : (a b : View) (file : FileName) (before after : Option ℕ) (at end : ℕ) → after ≡ Some (at / 4096) → at ≤ end

@@ -6,7 +6,7 @@ use Rattle.sasi_host.specs.declared.name.FileName.{FileName}
 use Rattle.sasi_host.specs.Names.{Bytes, Folder}
 use Rattle.sasi_host.specs.View.{View, IsSound}
 use Rattle.sasi_host.specs.Disk.{Changes, LeftWith, Same, FileChange}
-use Rattle.sasi_host.specs.ChangeLaws.{changes_among, stays}
+use Rattle.sasi_host.proofs.ChangeLaws.{changes_among, stays}
 use Rattle.sasi_gated.specs.Format.{IsBeforeOrAfter}
 use Rattle.sasi_gated.proofs.Laws.{gated_end}
 use Rattle.sasi_gated.specs.Handles.{IsAtEnd}

@@ -1,3 +1,5 @@
+pub mod CauseLaws
+pub mod ReadCostLaws
 pub mod Laws
 pub mod HandleLaws
 pub mod Undamaged

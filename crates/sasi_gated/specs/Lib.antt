@@ -3,7 +3,6 @@ pub mod Records
 pub mod Gates
 pub mod Damages
 pub mod Causes
-pub mod CauseLaws
 pub mod AtGate
 pub mod Handles
 pub mod ReadCosts

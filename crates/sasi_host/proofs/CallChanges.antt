@@ -9,9 +9,10 @@ use Rattle.sasi_host.specs.Names.{Bytes, Folder}
 use Rattle.sasi_host.specs.View.{KeepsMoments, TellsPrefixes, Emits}
 use Rattle.sasi_host.specs.Disk.{Changes, FileChange}
 use Rattle.sasi_host.specs.Counts.{Counts}
-use Rattle.sasi_host.specs.FailingLaws.{told_none}
+use Rattle.sasi_host.proofs.FailingLaws.{told_none}
 use Rattle.sasi_host.specs.Calls.{Medium, apply, Effect, output, step, replay, opened, view_after, LeftSince}
-use Rattle.sasi_host.specs.CallLaws.{told_same, since_keeps, fronts_since, some_same, pushed, replay_push, since_push}
+use Rattle.sasi_host.proofs.PushedCalls.{told_same, since_keeps, fronts_since, pushed, replay_push, since_push}
+use Rattle.sasi_host.specs.CallLaws.{some_same}
 
 -- a clause on a result that is known to be Ok
 pub ok_from : {T E P : Type 0} (r : Result T E) → is_err r ≡ false → OnOk r P → P

@@ -8,7 +8,7 @@ use Rattle.sasi_host.specs.declared.fault.ReadFault.TheVariants as fault
 use Rattle.sasi_host.specs.Names.{Bytes}
 use Rattle.sasi_host.specs.View.{View, contents}
 use Rattle.sasi_host.specs.Disk.{Changes, Same}
-use Rattle.sasi_host.specs.Contents.{contents_same}
+use Rattle.sasi_host.proofs.ContentLaws.{contents_same}
 use Rattle.sasi_host.specs.Damages.{DamageShown, ShowsEnd, TellsSize}
 
 -- what a file shows, it showed before, if nothing was done

@@ -6,8 +6,8 @@ use Rattle.sasi_host.specs.declared.name.FileName.{FileName}
 use Rattle.sasi_host.specs.Names.{Bytes, Folder}
 use Rattle.sasi_host.specs.View.{View, IsTold, contents, contents_in, Holds, IsSound}
 use Rattle.sasi_host.specs.Disk.{Same, Changes, FileChange, InPlace, LeftWith, Becomes, IsFileDurable, IsSynced, IsFolderSynced}
-use Rattle.sasi_host.specs.ChangeLaws.{then_same, changes_on, changes_among, step_on}
-use Rattle.sasi_host.specs.Contents.{told_files, told_before, went, contents_same}
+use Rattle.sasi_host.proofs.ChangeLaws.{then_same, changes_on, changes_among, step_on}
+use Rattle.sasi_host.proofs.ContentLaws.{told_files, told_before, went, contents_same}
 
 -- a file that each image has is what reads give
 pub file_durable_contents : (v : View) (file : FileName) (bytes : Bytes) → IsSound v → IsTold v → IsFileDurable v file bytes → contents v file ≡ Some bytes

@@ -12,7 +12,8 @@ use Rattle.std.specs.Cmp.{eq_by_cmp_equiv}
 use Rattle.std.specs.FinMap.{get, insert, remove, empty, get-empty, get-insert, get-remove, get-from_entries, same_map, find}
 use Rattle.sasi_host.specs.declared.name.FileName.{FileName}
 use Rattle.sasi_host.specs.Names.{Bytes, Folder, name_cmp}
-use Rattle.sasi_host.specs.NameLaws.{names_total, names_exact, name_cases, same_name, test_here, insert_here, insert_apart, remove_here, remove_apart}
+use Rattle.sasi_host.specs.NameLaws.{names_total, names_exact, same_name, test_here, insert_here, insert_apart, remove_here, remove_apart}
+use Rattle.sasi_host.proofs.NameCases.{name_cases}
 use Rattle.sasi_host.specs.Disk.{overlay}
 use Rattle.sasi_host.specs.Files.{Entries, folder_of, look_up, FitsAll, overwritten, written}
 

@@ -9,7 +9,8 @@ use Rattle.sasi_host.specs.View.{KeepsMoments, TellsPrefixes, Emits, AllOut, Fai
 use Rattle.sasi_host.specs.Disk.{Relation, Changes, FileChange}
 use Rattle.sasi_host.specs.Calls.{replay, opened, apply, output, Effect, view_after}
 use Rattle.sasi_host.specs.Memory.{MemoryHost, counts_of, failing_of, host_view, begun_disk, begun_read, begun_emit, disk_failed, disk_refused, emit_failed, emit_refused, IsDiskToFail, IsEmitToFail}
-use Rattle.sasi_host.specs.CallLaws.{recounted, some_same}
+use Rattle.sasi_host.proofs.PushedCalls.{recounted}
+use Rattle.sasi_host.specs.CallLaws.{some_same}
 use Rattle.sasi_host.proofs.CallChanges.{ok_from, step_same, unmoved, noted, keeps, emits_all, tells_prefixes, folder_on, emitted_on, image_on}
 
 -- what the folder of a host reads

@@ -1,3 +1,13 @@
+pub mod FailingLaws
+pub mod CauseLaws
+pub mod ChangeLaws
+pub mod ContentLaws
+pub mod NameCases
+pub mod PushedCalls
+pub mod OpaqueLaws
+pub mod BufferedLaws
+pub mod SequentialLaws
+pub mod PageReadingLaws
 pub mod Durability
 pub mod Offsets
 pub mod DamageLaws

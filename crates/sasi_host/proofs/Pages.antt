@@ -11,7 +11,7 @@ use Rattle.sasi_host.specs.declared.fault.ReadFault.{ReadFault}
 use Rattle.sasi_host.specs.Names.{Bytes}
 use Rattle.sasi_host.specs.View.{View, IsThere, contents}
 use Rattle.sasi_host.specs.Disk.{Changes, Same, Fills}
-use Rattle.sasi_host.specs.Contents.{contents_same, there_where}
+use Rattle.sasi_host.proofs.ContentLaws.{contents_same, there_where}
 use Rattle.sasi_host.specs.Damages.{DamageShown, ShowsEnd}
 use Rattle.sasi_host.proofs.DamageLaws.{shown_before, end_later}
 use Rattle.sasi_host.specs.Buffered.{pages_of, buffered_at, reached, unbuffered_pages}

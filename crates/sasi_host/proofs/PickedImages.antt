@@ -10,7 +10,8 @@ use Rattle.sasi_host.specs.declared.pick.Pick.{Pick}
 use Rattle.sasi_host.specs.declared.pick.BytePick.{BytePick}
 use Rattle.sasi_host.specs.declared.pick.BytePick.TheVariants as bytes
 use Rattle.sasi_host.specs.Names.{Bytes, Folder, name_cmp}
-use Rattle.sasi_host.specs.NameLaws.{insert_here, insert_apart, remove_here, remove_apart, name_cases, test_here}
+use Rattle.sasi_host.specs.NameLaws.{insert_here, insert_apart, remove_here, remove_apart, test_here}
+use Rattle.sasi_host.proofs.NameCases.{name_cases}
 use Rattle.sasi_host.specs.Disk.{IsCrashOf, FileChange, InPlace, Torn, MaybeCreated, MaybeDeleted}
 use Rattle.sasi_host.specs.Counts.{Counts}
 use Rattle.sasi_host.specs.Calls.{opened, view_after, Medium, apply, Effect, step, replay}

@@ -1,11 +1,8 @@
 -- A buffered file.
 use Rattle.std.specs.Prelude.{◌≡◌, ℕ, suc, ◌+◌, ◌-◌, ◌*◌, ◌/◌, ◌%◌, nat_eq, if◌then◌else◌, take, drop, Option, Some, None}
-use Rattle.std.proofs.Common.{sym, ◌∙◌}
 use Rattle.sasi_host.specs.declared.name.FileName.{FileName}
 use Rattle.sasi_host.specs.Names.{Bytes, Folder}
-use Rattle.sasi_host.specs.View.{View, contents_in}
-use Rattle.sasi_host.specs.Disk.{Changes, Same}
-use Rattle.sasi_host.specs.Contents.{contents_same}
+use Rattle.sasi_host.specs.View.{contents_in}
 
 -- a buffered file
 pub record Buffered : Type 0 where
@@ -38,15 +35,3 @@ unbuffered_pages buffered at count = pages_of at count - buffered_at buffered at
 abbrev pub reached : Option ℕ → ℕ
 reached None = 0
 reached (Some page) = suc page
-
--- the buffer stays right while the file is unchanged
-pub buffered_same : (buffered : Buffered) (old new : Option Folder) → IsBuffered buffered old → contents_in new buffered.file ≡ contents_in old buffered.file → IsBuffered buffered new
-buffered_same buffered old new right same = λ page bytes this is. right page bytes this (sym same ∙ is)
-
--- an empty one is right
-pub nothing_buffered : (buffered : Buffered) (files : Option Folder) → buffered.page ≡ None → IsBuffered buffered files
-nothing_buffered buffered files none = λ page bytes this is. absurd (let no : None ≡ Some page = sym none ∙ this in cc)
-
--- and so where the folder is unchanged
-pub buffered_after : (buffered : Buffered) (a b : View) → Changes Same a b → IsBuffered buffered a.files → IsBuffered buffered b.files
-buffered_after buffered a b change right = buffered_same buffered a.files b.files right (contents_same a b buffered.file change)

@@ -23,6 +23,10 @@ pub record Changes (S : Relation) (old new : View) : Type 0 where
   pub emits : new.emits ≡ old.emits
   pub told : FailsOnlyAsTold old new
 
+-- each image has P
+abbrev pub Each : View → (Folder → Type 0) → Type 0
+Each v P = (c : Folder) → v.image c → P c
+
 -- the folder stays as it is
 abbrev pub Same : Relation
 Same was now = now ≡ was

@@ -4,10 +4,6 @@ pub mod View
 pub mod Counts
 pub mod Disk
 pub mod NameLaws
-pub mod FailingLaws
-pub mod CauseLaws
-pub mod ChangeLaws
-pub mod Contents
 pub mod Files
 pub mod Calls
 pub mod CallLaws

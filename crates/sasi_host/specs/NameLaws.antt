@@ -1,8 +1,6 @@
 -- Names that compare alike are one, and what a folder holds after a change at a name.
-use Rattle.std.proofs.Common.{◌⊎◌, inl, inr}
-use Rattle.std.specs.List.Sorted.{IsStrictlySortedBy}
-use Rattle.std.specs.Prelude.{◌≡◌, ◌≢◌, List, [], ℕ, zero, suc, Bool, true, false, Some, None, refl}
-use Rattle.std.proofs.Common.{sym, ◌∙◌, ap, subst}
+use Rattle.std.specs.Prelude.{◌≡◌, ◌≢◌, ℕ, zero, suc, Bool, true, false, Some, None, refl}
+use Rattle.std.proofs.Common.{sym, ◌∙◌, ap}
 use Rattle.std.specs.Ordering.{nat_cmp, eq_by_cmp, is_eq}
 use Rattle.std.specs.declared.cmp.Ordering.{Ordering}
 use Rattle.std.specs.declared.cmp.Ordering.TheVariants.{Less, Equal, Greater}
@@ -94,21 +92,3 @@ remove_here f file = rw (get-remove names_total f file file, test_here file) ref
 -- the others stay
 pub remove_apart : (f : Folder) (file name : FileName) → name ≢ file → get (remove f file) name ≡ get f name
 remove_apart f file name apart = rw (get-remove names_total f file name, test_apart name file apart) refl
-
-true_not_false : true ≡ false → ⊥
-true_not_false e = cc
-
--- two names are one or two
-pub name_cases : (a b : FileName) → (a ≡ b) ⊎ (a ≢ b)
-name_cases a b = from (eq_by_cmp name_cmp a b) refl
-  where
-    from : (t : Bool) → eq_by_cmp name_cmp a b ≡ t → (a ≡ b) ⊎ (a ≢ b)
-    from true e = inl (same_name a b e)
-    from false e = inr (λ same. true_not_false (sym (ap (λ (x : FileName). eq_by_cmp name_cmp a x) (sym same) ∙ test_here a) ∙ e))
-
--- a list of no names is sorted: what a host answers that keeps no files
-pub sorted_none : (names : List FileName) → names ≡ [] → IsStrictlySortedBy name_cmp names
-sorted_none names none = subst (λ (l : List FileName). IsStrictlySortedBy name_cmp l) (sym none) nothing
-  where
-    nothing : IsStrictlySortedBy name_cmp []
-    nothing = unfold IsStrictlySortedBy in tt

@@ -13,7 +13,7 @@ use Rattle.sasi_host.specs.Damages.{HasAt}
 use Rattle.sasi_host.proofs.Offsets.{first_at, second_at}
 use Rattle.sasi_formats.specs.Formats.{Fits}
 use Rattle.sasi_tokentree.specs.Format.{HasTree, above, level_bytes, levels, size, top, tree_bytes, tree_ref}
-use Rattle.sasi_tokentree.specs.Sizes.{level_length, more_levels, one_level}
+use Rattle.sasi_tokentree.proofs.Sizes.{level_length, more_levels, one_level}
 use Rattle.sasi_tokentree.proofs.Laws.{root_place}
 use Rattle.sasi_termblocks.specs.declared.term_entry.TermEntry.{TermEntry}
 use Rattle.sasi_termblocks.specs.Blocks.{IsRefOf, items_of, levels_bytes, term_item}

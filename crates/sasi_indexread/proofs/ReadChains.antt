@@ -5,10 +5,11 @@ use Rattle.sasi_host.specs.declared.name.FileName.{FileName}
 use Rattle.sasi_host.specs.declared.fault.ReadFault.{ReadFault}
 use Rattle.sasi_host.specs.View.{View, IsThere, ReadsAtMost}
 use Rattle.sasi_host.specs.Disk.{Changes, Same}
-use Rattle.sasi_host.specs.Contents.{contents_same, there_where}
-use Rattle.sasi_host.specs.CauseLaws.{fault_reads, reads_behind}
+use Rattle.sasi_host.proofs.ContentLaws.{contents_same, there_where}
+use Rattle.sasi_host.proofs.CauseLaws.{fault_reads, reads_behind}
 use Rattle.sasi_host.specs.Names.{Folder}
-use Rattle.sasi_host.specs.PageReading.{HasRead, read_then}
+use Rattle.sasi_host.specs.PageReading.{HasRead}
+use Rattle.sasi_host.proofs.PageReadingLaws.{read_then}
 
 pub there_same : (a b : View) (file : FileName) → Changes Same a b → IsThere a file → IsThere b file
 there_same a b file same there = there_where a b Same file same (contents_same a b file same) there

@@ -13,8 +13,8 @@ use Rattle.sasi_host.specs.Names.{Bytes}
 use Rattle.sasi_host.specs.Damages.{DamageShown}
 use Rattle.sasi_host.specs.View.{View, ReadsAtMost, contents}
 use Rattle.sasi_host.specs.Disk.{Changes, Same}
-use Rattle.sasi_host.specs.Contents.{contents_same}
-use Rattle.sasi_host.specs.CauseLaws.{fault_reads, reads_behind}
+use Rattle.sasi_host.proofs.ContentLaws.{contents_same}
+use Rattle.sasi_host.proofs.CauseLaws.{fault_reads, reads_behind}
 use Rattle.sasi_host.proofs.DamageLaws.{shown_as, shown_before}
 use Rattle.sasi_terms.specs.declared.op.Op.{Op}
 use Rattle.sasi_tokentree.specs.Format.{HasTree}

@@ -6,8 +6,8 @@ use Rattle.sasi_host.specs.declared.name.FileName.{FileName}
 use Rattle.sasi_host.specs.Names.{Bytes}
 use Rattle.sasi_host.specs.View.{View, Holds}
 use Rattle.sasi_host.specs.Disk.{Relation, Same, Changes, FileChange, InPlace, AnyChange, Becomes, overlay}
-use Rattle.sasi_host.specs.Contents.{told_before}
-use Rattle.sasi_host.specs.ChangeLaws.{changes_as}
+use Rattle.sasi_host.proofs.ContentLaws.{told_before}
+use Rattle.sasi_host.proofs.ChangeLaws.{changes_as}
 use Rattle.sasi_tokentree.specs.Writes.{Writes, KeepsBefore}
 
 -- bytes over no bytes are behind the others

@@ -8,7 +8,7 @@ use Rattle.sasi_types.specs.declared.tree.Pair.{Pair}
 use Rattle.sasi_host.specs.declared.name.FileName.{FileName}
 use Rattle.sasi_host.specs.Names.{Bytes}
 use Rattle.sasi_host.specs.View.{Holds, Reaches, View}
-use Rattle.sasi_host.specs.Contents.{reaches_held}
+use Rattle.sasi_host.proofs.ContentLaws.{reaches_held}
 use Rattle.sasi_segments.specs.declared.posting.Posting.{Posting}
 use Rattle.sasi_termblocks.specs.Writing.{HasPushed}
 use Rattle.sasi_indexwrite.specs.declared.term_writer.TermWriter.{TermWriter}

@@ -5,7 +5,7 @@ use Rattle.sasi_types.specs.declared.tree.Pair.{Pair}
 use Rattle.sasi_host.specs.Names.{Bytes}
 use Rattle.sasi_host.specs.View.{View, Reaches}
 use Rattle.sasi_host.specs.Disk.{AnyChange, Changes, FileChange}
-use Rattle.sasi_host.specs.ChangeLaws.{touches_on, untouched}
+use Rattle.sasi_host.proofs.ChangeLaws.{touches_on, untouched}
 use Rattle.sasi_segments.specs.declared.posting.Posting.{Posting}
 use Rattle.sasi_tokentree.specs.Writes.{KeepsCounts}
 use Rattle.sasi_indexwrite.specs.declared.term_writer.TermWriter.{TermWriter}

@@ -5,7 +5,7 @@ use Rattle.sasi_types.specs.declared.tree.TreeRef.{TreeRef}
 use Rattle.sasi_host.specs.Names.{Bytes}
 use Rattle.sasi_host.specs.View.{View, Holds}
 use Rattle.sasi_tokentree.specs.Format.{tree_bytes, tree_ref}
-use Rattle.sasi_tokentree.specs.Heights.{levels_least, tree_length}
+use Rattle.sasi_tokentree.proofs.HeightLaws.{levels_least, tree_length}
 use Rattle.sasi_tokentree.specs.Writes.{Writes}
 use Rattle.sasi_termblocks.specs.declared.term_entry.TermEntry.{TermEntry}
 use Rattle.sasi_termblocks.specs.Writing.{HasPushed}

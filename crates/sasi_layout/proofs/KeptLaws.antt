@@ -5,7 +5,7 @@ use Rattle.std.proofs.lemmas.Bool.Decides.{nat_tests}
 use Rattle.std.specs.FinMap.{get}
 use Rattle.std.specs.List.{AllByRecursion}
 use Rattle.sasi_host.specs.declared.name.FileName.{FileName}
-use Rattle.sasi_host.specs.Contents.{told_files}
+use Rattle.sasi_host.proofs.ContentLaws.{told_files}
 use Rattle.sasi_host.specs.NameLaws.{name_numbers, named, named_back}
 use Rattle.sasi_host.specs.Names.{Bytes, Folder, data_name, log_name, manifest_name, name_eq, rank, seal_name}
 use Rattle.sasi_host.specs.View.{IsAbsent, IsThere, View, contents, contents_in}

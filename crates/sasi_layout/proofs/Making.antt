@@ -4,8 +4,8 @@ use Rattle.std.specs.Prelude.{ℕ, List, ◌∷◌, ◌++◌, []}
 use Rattle.std.proofs.Common.{subst}
 use Rattle.std.proofs.lemmas.List.{append-nil}
 use Rattle.sasi_cells.specs.declared.mutation.Mutation.{Mutation}
-use Rattle.sasi_host.specs.ChangeLaws.{Each, touches, stays}
-use Rattle.sasi_host.specs.Disk.{FileChange, LeftWith, Changes, Relation, Same}
+use Rattle.sasi_host.proofs.ChangeLaws.{touches, stays}
+use Rattle.sasi_host.specs.Disk.{FileChange, LeftWith, Changes, Relation, Same, Each}
 use Rattle.sasi_host.specs.Names.{Folder, manifest_name}
 use Rattle.sasi_host.specs.View.{View, IsSound}
 use Rattle.sasi_manifest.specs.OpenManifest.{ManifestStands}

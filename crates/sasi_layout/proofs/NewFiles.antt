@@ -7,8 +7,7 @@ use Rattle.sasi_types.specs.declared.partitioner.Partitioner.{Partitioner}
 use Rattle.sasi_model.specs.Abbreviations.{types_of}
 use Rattle.sasi_model.specs.State.{Definition}
 use Rattle.sasi_cells.specs.Maps.{merged}
-use Rattle.sasi_host.specs.ChangeLaws.{Each}
-use Rattle.sasi_host.specs.Disk.{IsFileDurable}
+use Rattle.sasi_host.specs.Disk.{IsFileDurable, Each}
 use Rattle.sasi_host.specs.Names.{Bytes, Folder, data_name}
 use Rattle.sasi_host.specs.View.{View}
 use Rattle.sasi_manifest.proofs.Replacing.{At}

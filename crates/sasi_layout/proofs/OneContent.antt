@@ -20,7 +20,7 @@ use Rattle.sasi_datawrite.specs.declared.footer.Footer.{Footer}
 use Rattle.sasi_datawrite.specs.Files.{IsDataFile}
 use Rattle.sasi_datawrite.specs.Format.{Content, content_max_timestamp, end_mark, footer, footer_bytes, front, header, key_pairs, partition_bytes, partitions, trailer}
 use Rattle.sasi_datawrite.proofs.Footers.{footer_is}
-use Rattle.sasi_dataread.specs.Laws.{file_is, footer_length, footer_of, footer_stands, in_range}
+use Rattle.sasi_dataread.proofs.Laws.{file_is, footer_length, footer_of, footer_stands, in_range}
 
 -- ---- partitions
 

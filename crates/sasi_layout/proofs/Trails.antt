@@ -5,8 +5,8 @@ use Rattle.std.proofs.lemmas.List.{append-nil}
 use Rattle.std.specs.List.{AllByRecursion}
 use Rattle.sasi_model.specs.State.{Definition}
 use Rattle.sasi_cells.specs.declared.mutation.Mutation.{Mutation}
-use Rattle.sasi_host.specs.ChangeLaws.{Each, at_each_moment, changes_as, changes_on, stays}
-use Rattle.sasi_host.specs.Disk.{AnyChange, FileChange, LeftWith, Changes, IsFileDurable, Relation, Same}
+use Rattle.sasi_host.proofs.ChangeLaws.{at_each_moment, changes_as, changes_on, stays}
+use Rattle.sasi_host.specs.Disk.{AnyChange, FileChange, LeftWith, Changes, IsFileDurable, Relation, Same, Each}
 use Rattle.sasi_host.specs.Names.{Folder, log_name, manifest_name}
 use Rattle.sasi_host.specs.View.{View, IsSound}
 use Rattle.sasi_gated.proofs.Laws.{gated_end}

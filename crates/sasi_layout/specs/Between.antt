@@ -1,8 +1,7 @@
 -- What a crash leaves of moves that are made one after another.
 use Rattle.std.specs.Prelude.{◌≡◌, List, ◌++◌}
 use Rattle.sasi_cells.specs.declared.mutation.Mutation.{Mutation}
-use Rattle.sasi_host.specs.ChangeLaws.{Each}
-use Rattle.sasi_host.specs.Disk.{Changes}
+use Rattle.sasi_host.specs.Disk.{Changes, Each}
 use Rattle.sasi_host.specs.Names.{Folder}
 use Rattle.sasi_host.specs.View.{View}
 use Rattle.sasi_layout.specs.Layout.{Layout, bare}

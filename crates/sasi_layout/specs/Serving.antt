@@ -8,7 +8,7 @@ use Rattle.sasi_types.specs.declared.partitioner.Partitioner.{Partitioner}
 use Rattle.sasi_types.specs.Token.{AreBytes}
 use Rattle.sasi_host.specs.Names.{Folder, log_name, manifest_name}
 use Rattle.sasi_host.specs.View.{IsTold, Reaches, View}
-use Rattle.sasi_host.specs.ChangeLaws.{Each}
+use Rattle.sasi_host.specs.Disk.{Each}
 use Rattle.sasi_gated.specs.Handles.{Handle}
 use Rattle.sasi_model.specs.Abbreviations.{Partitions, TIME_LIMIT, types_of}
 use Rattle.sasi_model.specs.Cells.{Partition}

@@ -6,9 +6,9 @@ use Rattle.sasi_host.specs.declared.name.Kind.TheVariants.{Manifest, Seal}
 use Rattle.sasi_host.specs.Names.{Bytes, Folder, manifest_name, seal_name}
 use Rattle.sasi_host.specs.View.{View, IsSound, Reaches}
 use Rattle.sasi_host.specs.Disk.{Changes, FileChange, Same, AnyChange, LeftWith, MaybeCreated}
-use Rattle.sasi_host.specs.ChangeLaws.{changes_as, changes_on, changes_among, stays, step_as, each_on}
+use Rattle.sasi_host.proofs.ChangeLaws.{changes_as, changes_on, changes_among, stays, step_as, each_on}
 use Rattle.sasi_host.proofs.Durability.{file_durable_other}
-use Rattle.sasi_host.specs.Contents.{reaches_where, contents_other}
+use Rattle.sasi_host.proofs.ContentLaws.{reaches_where, contents_other}
 use Rattle.sasi_gated.specs.Format.{IsBeforeOrAfter, header, frame, new_file}
 use Rattle.sasi_gated.proofs.Laws.{gated_end, header_length, frame_length}
 use Rattle.sasi_gated.specs.Reads.{AppendsRecord}

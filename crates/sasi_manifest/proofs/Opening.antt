@@ -9,8 +9,8 @@ use Rattle.sasi_host.specs.declared.fault.ReadFault.TheVariants as fault
 use Rattle.sasi_host.specs.Names.{Bytes, manifest_name}
 use Rattle.sasi_host.specs.View.{View, IsSound, contents}
 use Rattle.sasi_host.specs.Disk.{Changes, Same}
-use Rattle.sasi_host.specs.ChangeLaws.{then_same}
-use Rattle.sasi_host.specs.Contents.{contents_same, there_where}
+use Rattle.sasi_host.proofs.ChangeLaws.{then_same}
+use Rattle.sasi_host.proofs.ContentLaws.{contents_same, there_where}
 use Rattle.sasi_host.proofs.Durability.{file_durable_contents, file_durable_same}
 use Rattle.sasi_gated.specs.Damages.{IsGatedDamage}
 use Rattle.sasi_host.specs.Damages.{seen_bytes}
@@ -22,7 +22,7 @@ use Rattle.sasi_host.specs.Damages.{OnDamage}
 use Rattle.sasi_gated.specs.Handles.{Handle}
 use Rattle.sasi_host.specs.Buffered.{IsBuffered}
 use Rattle.sasi_host.specs.Sequential.{ReadsEachOnce, ReadsNoFurther, ReadsWithinPages}
-use Rattle.sasi_gated.specs.ReadCosts.{fails_within, opens_on, opens_within}
+use Rattle.sasi_gated.proofs.ReadCostLaws.{fails_within, opens_on, opens_within}
 use Rattle.sasi_manifest.specs.declared.edit.Edit.{Edit}
 use Rattle.sasi_manifest.specs.declared.listing.Listing.{Listing}
 use Rattle.sasi_formats.specs.Formats.{Encodes}

@@ -4,7 +4,7 @@ use Rattle.std.specs.FinMap.{get}
 use Rattle.sasi_host.specs.declared.name.FileName.{FileName}
 use Rattle.sasi_host.specs.Names.{Bytes, Folder, manifest_name, seal_name}
 use Rattle.sasi_host.specs.View.{View}
-use Rattle.sasi_host.specs.ChangeLaws.{Each}
+use Rattle.sasi_host.specs.Disk.{Each}
 use Rattle.sasi_gated.specs.Handles.{Handle, IsAtEnd}
 use Rattle.sasi_manifest.specs.declared.listing.Listing.{Listing}
 use Rattle.sasi_manifest.specs.Consistent.{IsConsistent}

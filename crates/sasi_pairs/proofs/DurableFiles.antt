@@ -5,8 +5,8 @@ use Rattle.sasi_host.specs.declared.name.FileName.{FileName}
 use Rattle.sasi_host.specs.Names.{Bytes, data_name, manifest_name, rank}
 use Rattle.sasi_host.specs.View.{Holds, IsSound, View}
 use Rattle.sasi_host.specs.Disk.{Changes, FileChange, IsFileDurable, IsFolderSynced, IsSynced, LeftWith, Same}
-use Rattle.sasi_host.specs.ChangeLaws.{changes_among}
-use Rattle.sasi_host.specs.Contents.{holds_same}
+use Rattle.sasi_host.proofs.ChangeLaws.{changes_among}
+use Rattle.sasi_host.proofs.ContentLaws.{holds_same}
 use Rattle.sasi_host.proofs.Durability.{file_durable_new}
 use Rattle.sasi_manifest.specs.declared.listing.Listing.{Listing}
 use Rattle.sasi_manifest.specs.OpenManifest.{IsEither}

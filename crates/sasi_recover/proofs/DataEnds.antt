@@ -9,7 +9,7 @@ use Rattle.sasi_host.specs.Damages.{DamageShown}
 use Rattle.sasi_host.specs.Names.{data_name}
 use Rattle.sasi_host.specs.View.{View}
 use Rattle.sasi_host.specs.Disk.{Changes, Same}
-use Rattle.sasi_host.specs.Contents.{contents_same}
+use Rattle.sasi_host.proofs.ContentLaws.{contents_same}
 use Rattle.sasi_dataread.specs.Damages.{ShowsHeaderOrFooter}
 use Rattle.sasi_dataread.specs.HeaderAndFooter.{TellsMaxTimestamp}
 use Rattle.sasi_dataread.specs.Reads.{NoFalseDataDamage}

@@ -11,11 +11,12 @@ use Rattle.std.specs.FinMap.{get}
 use Rattle.sasi_host.specs.declared.name.FileName.{FileName}
 use Rattle.sasi_host.specs.Names.{Bytes, Folder, data_name, name_cmp, name_eq, log_name, manifest_name, seal_name}
 use Rattle.sasi_manifest.specs.ListedFiles.{is_among}
-use Rattle.sasi_host.specs.NameLaws.{name_cases, test_here}
+use Rattle.sasi_host.proofs.NameCases.{name_cases}
+use Rattle.sasi_host.specs.NameLaws.{test_here}
 use Rattle.sasi_host.specs.View.{View, IsAbsent, IsThere, contents, contents_in}
 use Rattle.sasi_host.specs.Disk.{Changes, IsFileDurable, Lists, MaybeDeleted, Relation, Same, FileChange}
-use Rattle.sasi_host.specs.Contents.{contents_other, there_where}
-use Rattle.sasi_host.specs.ChangeLaws.{changes_as, changes_on, stays}
+use Rattle.sasi_host.proofs.ContentLaws.{contents_other, there_where}
+use Rattle.sasi_host.proofs.ChangeLaws.{changes_as, changes_on, stays}
 use Rattle.sasi_folder.specs.Stands.{IsFresh}
 use Rattle.sasi_recover.specs.declared.unlisted_files.Keep.TheVariants.{Store}
 use Rattle.sasi_layout.specs.Kept.{has_segment}

@@ -11,7 +11,7 @@ use Rattle.sasi_host.specs.declared.fault.HostFault.{HostFault}
 use Rattle.sasi_host.specs.declared.fault.HostFault.TheVariants as host_fault
 use Rattle.sasi_host.specs.Faults.{read_fault_of}
 use Rattle.sasi_host.specs.View.{FailedAtLast, IsThere, ListCauses, View}
-use Rattle.sasi_host.specs.ChangeLaws.{then_same}
+use Rattle.sasi_host.proofs.ChangeLaws.{then_same}
 use Rattle.sasi_host.specs.Disk.{Changes, Same}
 use Rattle.sasi_gated.specs.Causes.{ReadingCauses}
 use Rattle.sasi_manifest.specs.Damages.{NoFalseManifestDamage}

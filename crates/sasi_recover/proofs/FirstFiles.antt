@@ -6,7 +6,7 @@ use Rattle.sasi_host.specs.declared.name.FileName.{FileName}
 use Rattle.sasi_host.specs.Names.{Bytes, Folder, log_name, manifest_name, seal_name}
 use Rattle.sasi_host.specs.View.{View, IsAbsent, IsSound, IsTold, Reaches, contents, contents_in}
 use Rattle.sasi_host.specs.Disk.{AnyChange, Changes, FileChange, IsFileDurable, IsFolderSynced}
-use Rattle.sasi_host.specs.Contents.{absent_where, contents_kept, contents_other}
+use Rattle.sasi_host.proofs.ContentLaws.{absent_where, contents_kept, contents_other}
 use Rattle.sasi_manifest.specs.OpenManifest.{ChangesOnlyManifest, IsUnsealed}
 use Rattle.sasi_folder.proofs.FolderLaws.{kinds_apart}
 use Rattle.sasi_layout.specs.Kept.{HasKept}

@@ -6,12 +6,12 @@ use Rattle.sasi_types.specs.declared.partitioner.Partitioner.{Partitioner}
 use Rattle.sasi_model.specs.State.{max_timestamp}
 use Rattle.sasi_host.specs.declared.fault.HostFault.{HostFault}
 use Rattle.sasi_host.specs.declared.name.FileName.{FileName}
-use Rattle.sasi_host.specs.NameLaws.{name_cases}
+use Rattle.sasi_host.proofs.NameCases.{name_cases}
 use Rattle.sasi_host.specs.Names.{Bytes, Folder, log_name, manifest_name, seal_name}
 use Rattle.sasi_host.specs.View.{View, IsSound, IsTold, Reaches}
-use Rattle.sasi_host.specs.Disk.{AnyChange, Changes, IsFileDurable, Relation, Same, FileChange}
-use Rattle.sasi_host.specs.Contents.{contents_kept, reaches_where}
-use Rattle.sasi_host.specs.ChangeLaws.{Each, at_each_moment, changes_as, changes_on, each_on, stays, then_each_moment}
+use Rattle.sasi_host.specs.Disk.{AnyChange, Changes, IsFileDurable, Relation, Same, FileChange, Each}
+use Rattle.sasi_host.proofs.ContentLaws.{contents_kept, reaches_where}
+use Rattle.sasi_host.proofs.ChangeLaws.{at_each_moment, changes_as, changes_on, each_on, stays, then_each_moment}
 use Rattle.sasi_gated.specs.Format.{IsGated}
 use Rattle.sasi_gated.proofs.Laws.{gated_end}
 use Rattle.sasi_commitlog.specs.LogPosition.{IsAtLogEnd}

@@ -13,9 +13,9 @@ use Rattle.sasi_host.specs.declared.name.FileName.{FileName}
 use Rattle.sasi_host.specs.Damages.{OnDamage}
 use Rattle.sasi_host.specs.Names.{Bytes, Folder, data_name, log_name, manifest_name, seal_name}
 use Rattle.sasi_host.specs.View.{View, IsSound, IsThere, IsTold, Reaches, contents, contents_in}
-use Rattle.sasi_host.specs.Disk.{Changes, IsFileDurable, Lists, Same}
-use Rattle.sasi_host.specs.Contents.{contents_same, reaches_where, there_where, told_after, told_before, told_files}
-use Rattle.sasi_host.specs.ChangeLaws.{Each, changes_as, changes_on}
+use Rattle.sasi_host.specs.Disk.{Changes, IsFileDurable, Lists, Same, Each}
+use Rattle.sasi_host.proofs.ContentLaws.{contents_same, reaches_where, there_where, told_after, told_before, told_files}
+use Rattle.sasi_host.proofs.ChangeLaws.{changes_as, changes_on}
 use Rattle.sasi_host.proofs.Durability.{file_durable_same}
 use Rattle.sasi_cells.specs.declared.mutation.Mutation.{Mutation}
 use Rattle.sasi_commitlog.specs.Format.{Tables}

@@ -8,8 +8,7 @@ use Rattle.sasi_types.specs.declared.partitioner.Partitioner.{Partitioner}
 use Rattle.sasi_host.specs.declared.name.FileName.{FileName}
 use Rattle.sasi_host.specs.Names.{Bytes, Folder, data_name}
 use Rattle.sasi_host.specs.View.{View, IsSound, contents, contents_in}
-use Rattle.sasi_host.specs.Disk.{IsFileDurable, IsSynced}
-use Rattle.sasi_host.specs.ChangeLaws.{Each}
+use Rattle.sasi_host.specs.Disk.{IsFileDurable, IsSynced, Each}
 use Rattle.sasi_model.specs.State.{Definition}
 use Rattle.sasi_cells.specs.declared.mutation.Mutation.{Mutation}
 use Rattle.sasi_manifest.specs.ListedFiles.{has_file}

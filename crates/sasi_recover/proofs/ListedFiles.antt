@@ -5,7 +5,7 @@ use Rattle.sasi_host.specs.declared.name.FileName.{FileName}
 use Rattle.sasi_host.specs.Names.{Bytes, Folder, manifest_name, seal_name}
 use Rattle.sasi_host.specs.View.{View, IsThere, contents_in}
 use Rattle.sasi_host.specs.Disk.{Changes, Lists, Same}
-use Rattle.sasi_host.specs.ChangeLaws.{changes_as, changes_on}
+use Rattle.sasi_host.proofs.ChangeLaws.{changes_as, changes_on}
 use Rattle.sasi_manifest.specs.OpenManifest.{ManifestState}
 use Rattle.sasi_manifest.specs.Reading.{ReadsListing}
 use Rattle.sasi_folder.specs.Stands.{IsSealed}

@@ -8,17 +8,18 @@ use Rattle.sasi_host.specs.declared.fault.ReadFault.TheVariants as fault
 use Rattle.sasi_host.specs.Names.{Bytes, log_name}
 use Rattle.sasi_host.specs.Buffered.{IsBuffered}
 use Rattle.sasi_host.specs.Sequential.{ReadsEachOnce, ReadsNoFurther, ReadsWithinPages}
-use Rattle.sasi_host.specs.Contents.{contents_same, there_where, told_after}
+use Rattle.sasi_host.proofs.ContentLaws.{contents_same, there_where, told_after}
 use Rattle.sasi_host.specs.Disk.{Changes, IsFileDurable, Same}
 use Rattle.sasi_host.proofs.Durability.{file_durable_contents}
-use Rattle.sasi_host.specs.ChangeLaws.{then_same}
+use Rattle.sasi_host.proofs.ChangeLaws.{then_same}
 use Rattle.sasi_host.specs.View.{View, IsSound, IsThere, IsTold, contents}
 use Rattle.sasi_gated.specs.Format.{IsGated}
 use Rattle.sasi_gated.specs.Gates.{IsAtGate}
 use Rattle.sasi_gated.proofs.Laws.{gated_at}
 use Rattle.sasi_gated.specs.Reads.{HasHeader, GatedDamageShown, NoFalseGatedDamage}
 use Rattle.sasi_gated.specs.Handles.{Handle}
-use Rattle.sasi_gated.specs.ReadCosts.{OpensSequential, fails_within, opens_on, opens_within}
+use Rattle.sasi_gated.specs.ReadCosts.{OpensSequential}
+use Rattle.sasi_gated.proofs.ReadCostLaws.{fails_within, opens_on, opens_within}
 use Rattle.sasi_cells.specs.declared.mutation.Mutation.{Mutation}
 use Rattle.sasi_commitlog.specs.Damages.{ShowsLog}
 use Rattle.sasi_commitlog.specs.Format.{IsLog, IsMutationOf, Tables, payload_of}

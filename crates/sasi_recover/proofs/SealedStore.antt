@@ -5,9 +5,9 @@ use Rattle.sasi_host.specs.declared.damage.Damage.{Damage}
 use Rattle.sasi_host.specs.declared.name.FileName.{FileName}
 use Rattle.sasi_host.specs.Names.{Bytes, Folder, log_name, manifest_name}
 use Rattle.sasi_host.specs.View.{View, IsSound, IsThere, Reaches, contents, contents_in}
-use Rattle.sasi_host.specs.Disk.{Changes, Lists, Same}
-use Rattle.sasi_host.specs.Contents.{contents_kept, reaches_where, there_where, told_files}
-use Rattle.sasi_host.specs.ChangeLaws.{Each, at_each_moment, changes_as, changes_on}
+use Rattle.sasi_host.specs.Disk.{Changes, Lists, Same, Each}
+use Rattle.sasi_host.proofs.ContentLaws.{contents_kept, reaches_where, there_where, told_files}
+use Rattle.sasi_host.proofs.ChangeLaws.{at_each_moment, changes_as, changes_on}
 use Rattle.sasi_cells.specs.declared.mutation.Mutation.{Mutation}
 use Rattle.sasi_commitlog.specs.Format.{Tables}
 use Rattle.sasi_manifest.specs.declared.listing.Listing.{Listing}

@@ -11,9 +11,9 @@ use Rattle.sasi_host.specs.declared.name.FileName.{FileName}
 use Rattle.sasi_host.specs.Damages.{OnDamage}
 use Rattle.sasi_host.specs.Names.{Bytes, Folder, data_name, log_name, manifest_name}
 use Rattle.sasi_host.specs.View.{View, IsAbsent, IsSound, IsThere}
-use Rattle.sasi_host.specs.Disk.{Changes, IsSynced, Lists, Same}
-use Rattle.sasi_host.specs.Contents.{contents_same}
-use Rattle.sasi_host.specs.ChangeLaws.{Each, at_each_moment, changes_as, changes_on}
+use Rattle.sasi_host.specs.Disk.{Changes, IsSynced, Lists, Same, Each}
+use Rattle.sasi_host.proofs.ContentLaws.{contents_same}
+use Rattle.sasi_host.proofs.ChangeLaws.{at_each_moment, changes_as, changes_on}
 use Rattle.sasi_cells.specs.declared.mutation.Mutation.{Mutation}
 use Rattle.sasi_manifest.specs.declared.listing.Listing.{Listing}
 use Rattle.sasi_manifest.specs.ListedFiles.{is_among}

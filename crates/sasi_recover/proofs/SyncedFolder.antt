@@ -5,9 +5,8 @@ use Rattle.std.specs.FinMap.{get}
 use Rattle.sasi_host.specs.declared.name.FileName.{FileName}
 use Rattle.sasi_host.specs.Names.{Bytes, Folder, log_name, manifest_name, seal_name}
 use Rattle.sasi_host.specs.View.{View, IsSound, IsThere, contents, contents_in}
-use Rattle.sasi_host.specs.Disk.{Changes, IsFolderSynced, IsFileDurable, IsSynced, Lists, Same}
-use Rattle.sasi_host.specs.Contents.{contents_same, there_where, told_before}
-use Rattle.sasi_host.specs.ChangeLaws.{Each}
+use Rattle.sasi_host.specs.Disk.{Changes, IsFolderSynced, IsFileDurable, IsSynced, Lists, Same, Each}
+use Rattle.sasi_host.proofs.ContentLaws.{contents_same, there_where, told_before}
 use Rattle.sasi_cells.specs.declared.mutation.Mutation.{Mutation}
 use Rattle.sasi_manifest.specs.declared.listing.Listing.{Listing}
 use Rattle.sasi_folder.proofs.FolderLaws.{segments_kept}

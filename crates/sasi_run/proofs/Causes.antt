@@ -4,7 +4,7 @@ use Rattle.std.specs.FinMap.{get}
 use Rattle.sasi_types.specs.declared.partitioner.Partitioner.{Partitioner}
 use Rattle.sasi_host.specs.Names.{Folder}
 use Rattle.sasi_host.specs.View.{SourceView, View}
-use Rattle.sasi_host.specs.ChangeLaws.{changes_as, stays}
+use Rattle.sasi_host.proofs.ChangeLaws.{changes_as, stays}
 use Rattle.sasi_host.specs.Disk.{Changes, Same}
 use Rattle.sasi_host.specs.declared.damage.Damage.{Damage}
 use Rattle.sasi_folder.specs.Damages.{FolderShows}

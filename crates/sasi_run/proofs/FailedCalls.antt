@@ -3,7 +3,7 @@ use Rattle.std.proofs.Common.{◌≢◌, ◌≡◌, ◌==◌, ℕ, Bool, true, f
 use Rattle.sasi_host.specs.declared.damage.Damage.{Damage}
 use Rattle.sasi_host.specs.Names.{Folder}
 use Rattle.sasi_host.specs.View.{DiskCauses, FailedAtLast, FailsOnlyAsTold, OutCauses, Rose, SourceCauses, SourceView, View}
-use Rattle.sasi_host.specs.FailingLaws.{failed_behind, read_told_none, read_told_on, told_none, told_on}
+use Rattle.sasi_host.proofs.FailingLaws.{failed_behind, read_told_none, read_told_on, told_none, told_on}
 use Rattle.sasi_folder.specs.Damages.{FolderShows}
 use Rattle.sasi_recover.specs.Faults.{OpenCauses}
 use Rattle.sasi_recover.specs.declared.fault.OpenFault.{OpenFault}

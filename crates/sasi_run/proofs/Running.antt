@@ -4,8 +4,8 @@ use Rattle.std.proofs.lemmas.List.{append-nil, take-append-drop}
 use Rattle.std.specs.Io.KnownBytes.{Appends}
 use Rattle.sasi_host.specs.Names.{Bytes, Folder}
 use Rattle.sasi_host.specs.View.{CrashLeaves, Emits, PartlyOut, View}
-use Rattle.sasi_host.specs.Disk.{Changes, FromImage}
-use Rattle.sasi_host.specs.ChangeLaws.{Each, crash_leaves_on}
+use Rattle.sasi_host.specs.Disk.{Changes, FromImage, Each}
+use Rattle.sasi_host.proofs.ChangeLaws.{crash_leaves_on}
 use Rattle.sasi_model.specs.Pieces.{Piece}
 use Rattle.sasi_layout.proofs.Fewer.{manifest_fewer, serves_fewer}
 use Rattle.sasi_layout.specs.Between.{Between}

@@ -5,7 +5,7 @@ use Rattle.std.proofs.lemmas.List.{append-nil, length-take-le, take-append-drop,
 use Rattle.std.proofs.Math.Seq.{take-append_seam}
 use Rattle.std.specs.Io.KnownBytes.{Appends, Consumes, IsAtEnd, Keeps}
 use Rattle.sasi_host.specs.View.{View, counted_by}
-use Rattle.sasi_host.specs.Contents.{told_after}
+use Rattle.sasi_host.proofs.ContentLaws.{told_after}
 use Rattle.sasi_host.specs.Disk.{Changes}
 use Rattle.sasi_layout.specs.Between.{Between}
 use Rattle.sasi_layout.specs.Layout.{state_of}

@@ -7,8 +7,8 @@ use Rattle.sasi_types.specs.declared.partitioner.Partitioner.TheVariants.{Lead8}
 use Rattle.sasi_host.specs.Names.{Folder}
 use Rattle.sasi_host.specs.View.{IsSound, IsTold, LeavesNow, SourceView, View}
 use Rattle.sasi_host.specs.Disk.{Changes, FromImage, Same}
-use Rattle.sasi_host.specs.Contents.{told_files}
-use Rattle.sasi_host.specs.ChangeLaws.{changes_as, crash_leaves_on, since_start, stays}
+use Rattle.sasi_host.proofs.ContentLaws.{told_files}
+use Rattle.sasi_host.proofs.ChangeLaws.{changes_as, crash_leaves_on, since_start, stays}
 use Rattle.sasi_layout.specs.Layout.{Layout, state_of}
 use Rattle.sasi_layout.specs.Running.{Crashed, after_pieces}
 use Rattle.sasi_layout.specs.Serving.{Ended, closed}

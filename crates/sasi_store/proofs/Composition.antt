@@ -5,7 +5,7 @@ use Rattle.std.proofs.lemmas.Bool.Decides.{nat_tests}
 use Rattle.std.specs.FinMap as map_
 use Rattle.std.specs.List.{sum_by}
 use Rattle.std.specs.Option.{option_map_or}
-use Rattle.sasi_host.specs.ChangeLaws.{changes_on, stays}
+use Rattle.sasi_host.proofs.ChangeLaws.{changes_on, stays}
 use Rattle.sasi_host.specs.Disk.{Changes, Same}
 use Rattle.sasi_host.specs.View.{FailedAtLast, IsSound, View}
 use Rattle.sasi_cells.specs.declared.mutation.Mutation.{Mutation}

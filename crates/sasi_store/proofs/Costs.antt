@@ -8,7 +8,7 @@ use Rattle.sasi_host.specs.Names.{Folder}
 use Rattle.sasi_host.specs.View.{ReadsAtMost, View}
 use Rattle.sasi_host.specs.Disk.{Changes, Same}
 use Rattle.sasi_host.specs.Damages.{OnDamage}
-use Rattle.sasi_host.specs.FailingLaws.{failed_behind}
+use Rattle.sasi_host.proofs.FailingLaws.{failed_behind}
 use Rattle.sasi_store.specs.Scanning.{ScanCauses}
 
 -- a folder that stays reads as before

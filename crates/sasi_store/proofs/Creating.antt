@@ -4,7 +4,7 @@ use Rattle.std.specs.Prelude.{IsTrue, Ok, Err}
 use Rattle.std.specs.FinMap as map_
 use Rattle.std.specs.List.{list_any}
 use Rattle.std.proofs.lemmas.List.{length-map, map-append}
-use Rattle.sasi_host.specs.Contents.{contents_other, reaches_where, told_after, told_before}
+use Rattle.sasi_host.proofs.ContentLaws.{contents_other, reaches_where, told_after, told_before}
 use Rattle.sasi_host.specs.Disk.{AnyChange, Changes, FileChange, LeftWith}
 use Rattle.sasi_host.specs.declared.name.FileName.{FileName}
 use Rattle.sasi_host.specs.Names.{Folder, data_name, log_name, manifest_name, name_eq, seal_name}

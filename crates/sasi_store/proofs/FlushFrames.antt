@@ -7,7 +7,7 @@ use Rattle.sasi_host.specs.declared.name.FileName.{FileName}
 use Rattle.sasi_host.specs.Names.{Bytes, Folder, data_name, log_name, manifest_name, seal_name}
 use Rattle.sasi_host.specs.View.{View}
 use Rattle.sasi_host.specs.Disk.{AnyChange, Changes, FileChange, Relation, Same}
-use Rattle.sasi_host.specs.ChangeLaws.{changes_as, changes_on, stays}
+use Rattle.sasi_host.proofs.ChangeLaws.{changes_as, changes_on, stays}
 use Rattle.sasi_gated.specs.Handles.{IsAtEnd}
 use Rattle.sasi_manifest.specs.declared.listing.Listing.{Listing}
 use Rattle.sasi_manifest.specs.OpenManifest.{ManifestState, ManifestStands}

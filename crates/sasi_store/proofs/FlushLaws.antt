@@ -5,8 +5,7 @@ use Rattle.std.specs.FinMap as map_
 use Rattle.sasi_types.specs.declared.partitioner.Partitioner.{Partitioner}
 use Rattle.sasi_host.specs.Names.{Bytes, data_name, log_name, manifest_name}
 use Rattle.sasi_host.specs.View.{IsSound, View}
-use Rattle.sasi_host.specs.Disk.{AnyChange, Changes, FileChange, IsFileDurable, LeftWith}
-use Rattle.sasi_host.specs.ChangeLaws.{Each}
+use Rattle.sasi_host.specs.Disk.{AnyChange, Changes, FileChange, IsFileDurable, LeftWith, Each}
 use Rattle.sasi_host.proofs.Durability.{file_durable_contents}
 use Rattle.sasi_model.specs.Abbreviations.{Partitions}
 use Rattle.sasi_cells.specs.Maps.{merged}

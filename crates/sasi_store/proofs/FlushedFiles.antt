@@ -4,8 +4,8 @@ use Rattle.std.proofs.Common.{sym, ap, subst, ◌∙◌, arith, append-nil}
 use Rattle.sasi_host.specs.Names.{Bytes, data_name, log_name, manifest_name}
 use Rattle.sasi_host.specs.View.{IsAbsent, IsSound, Reaches, View, contents}
 use Rattle.sasi_host.specs.Disk.{AnyChange, Changes, FileChange, IsFileDurable}
-use Rattle.sasi_host.specs.ChangeLaws.{changes_as, changes_on}
-use Rattle.sasi_host.specs.Contents.{absent_where, contents_kept, contents_other, reaches_where, there_where, told_before}
+use Rattle.sasi_host.proofs.ChangeLaws.{changes_as, changes_on}
+use Rattle.sasi_host.proofs.ContentLaws.{absent_where, contents_kept, contents_other, reaches_where, there_where, told_before}
 use Rattle.sasi_host.proofs.Durability.{file_durable_holds, file_durable_other}
 use Rattle.sasi_manifest.specs.declared.edit.Edit.{Edit}
 use Rattle.sasi_manifest.specs.declared.files.ListedFile.{ListedFile}

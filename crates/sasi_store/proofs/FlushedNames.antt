@@ -4,7 +4,7 @@ use Rattle.std.proofs.Common.{sym, ap, subst, ◌∙◌, ⊎_elim}
 use Rattle.std.specs.FinMap.{get}
 use Rattle.sasi_host.specs.declared.name.FileName.{FileName}
 use Rattle.sasi_host.specs.Names.{Folder, data_name, log_name, manifest_name}
-use Rattle.sasi_host.specs.NameLaws.{name_cases}
+use Rattle.sasi_host.proofs.NameCases.{name_cases}
 use Rattle.sasi_host.specs.View.{IsThere, IsTold, View, contents_in}
 use Rattle.sasi_host.specs.Disk.{Changes}
 use Rattle.sasi_layout.proofs.KeptLaws.{FlushesFiles}

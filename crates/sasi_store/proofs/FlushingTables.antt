@@ -8,7 +8,7 @@ use Rattle.std.specs.FinMap.{get}
 use Rattle.std.specs.List.{AllByRecursion}
 use Rattle.std.specs.Ordering.{eq_by_cmp}
 use Rattle.sasi_host.specs.declared.name.FileName.{FileName}
-use Rattle.sasi_host.specs.Contents.{told_after, told_before, told_files}
+use Rattle.sasi_host.proofs.ContentLaws.{told_after, told_before, told_files}
 use Rattle.sasi_host.specs.Disk.{Changes, Relation}
 use Rattle.sasi_host.specs.NameLaws.{same_name, test_here}
 use Rattle.sasi_host.specs.Names.{Bytes, Folder, data_name, log_name, manifest_name, name_cmp}

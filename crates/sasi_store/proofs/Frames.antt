@@ -3,7 +3,7 @@ use Rattle.std.proofs.Common.{◌≡◌, ◌≢◌, ℕ, Bool, true, false, is_s
 use Rattle.std.specs.FinMap.{get}
 use Rattle.std.specs.Ordering.{eq_by_cmp}
 use Rattle.sasi_host.specs.declared.name.FileName.{FileName}
-use Rattle.sasi_host.specs.Contents.{told_before, told_files}
+use Rattle.sasi_host.proofs.ContentLaws.{told_before, told_files}
 use Rattle.sasi_host.specs.Disk.{AnyChange, Changes, FileChange}
 use Rattle.sasi_host.specs.NameLaws.{same_name, test_here}
 use Rattle.sasi_host.specs.Names.{Bytes, Folder, manifest_name, name_cmp}

@@ -21,7 +21,7 @@ use Rattle.sasi_model.specs.State.{decorated}
 use Rattle.sasi_host.specs.declared.name.FileName.{FileName}
 use Rattle.sasi_host.specs.View.{Reaches, View}
 use Rattle.sasi_host.specs.Disk.{AnyChange, Changes, FileChange}
-use Rattle.sasi_host.specs.ChangeLaws.{touches_on, untouched}
+use Rattle.sasi_host.proofs.ChangeLaws.{touches_on, untouched}
 use Rattle.sasi_body.specs.Body.{HasBody}
 use Rattle.sasi_cells.proofs.Laws.Decorated.{entries_have}
 use Rattle.sasi_datawrite.proofs.Laws.{pairs_length}

@@ -2,7 +2,7 @@
 use Rattle.std.proofs.Common.{◌≡◌, ◌≢◌, Some, Result, Ok, Err, refl, arith}
 use Rattle.sasi_host.specs.declared.fault.HostFault.{HostFault}
 use Rattle.sasi_host.specs.declared.fault.HostFault.TheVariants as host
-use Rattle.sasi_host.specs.ChangeLaws.{changes_as, stays}
+use Rattle.sasi_host.proofs.ChangeLaws.{changes_as, stays}
 use Rattle.sasi_host.specs.Disk.{Changes, Relation, Same}
 use Rattle.sasi_host.specs.View.{IsSound, ListCauses, View}
 use Rattle.sasi_layout.proofs.Trails.{moves_none}

@@ -3,7 +3,7 @@ use Rattle.std.proofs.Common.{◌≡◌, ◌≢◌, ℕ, zero, suc, ◌+◌, ◌
 use Rattle.std.specs.Prelude.{IsTrue, max, Ok, Err}
 use Rattle.std.proofs.lemmas.List.{length-map}
 use Rattle.sasi_types.specs.Token.{AreBytes}
-use Rattle.sasi_host.specs.Contents.{contents_other, reaches_where, told_after, told_before}
+use Rattle.sasi_host.proofs.ContentLaws.{contents_other, reaches_where, told_after, told_before}
 use Rattle.sasi_host.specs.Disk.{AnyChange, Changes, FileChange, LeftWith}
 use Rattle.sasi_host.specs.Names.{log_name, manifest_name}
 use Rattle.sasi_host.specs.View.{IsSound, Reaches, View}

@@ -4,8 +4,8 @@ use Rattle.std.specs.FinMap.{get}
 use Rattle.sasi_host.specs.Names.{Folder, log_name}
 use Rattle.sasi_host.specs.View.{IsAbsent, View}
 use Rattle.sasi_host.specs.Disk.{Changes, FileChange, MaybeDeleted, Same}
-use Rattle.sasi_host.specs.ChangeLaws.{changes_as, changes_on, stays}
-use Rattle.sasi_host.specs.Contents.{absent_where, contents_other, there_where}
+use Rattle.sasi_host.proofs.ChangeLaws.{changes_as, changes_on, stays}
+use Rattle.sasi_host.proofs.ContentLaws.{absent_where, contents_other, there_where}
 use Rattle.sasi_folder.proofs.FolderLaws.{numbers_apart}
 use Rattle.sasi_store.specs.Flushing.{AreAbsent, AreThere, DeletesSegments}
 

@@ -17,7 +17,7 @@ use Rattle.sasi_host.specs.Damages.{OnDamage}
 use Rattle.sasi_host.specs.declared.damage.Damage.{Damage}
 use Rattle.sasi_host.specs.declared.fault.ReadFault.{ReadFault}
 use Rattle.sasi_host.specs.declared.fault.ReadFault.TheVariants as read
-use Rattle.sasi_host.specs.Contents.{told_files}
+use Rattle.sasi_host.proofs.ContentLaws.{told_files}
 use Rattle.sasi_host.specs.Names.{Bytes, Folder, data_name, seal_name}
 use Rattle.sasi_host.specs.View.{IsSound, IsThere, View, contents_in}
 use Rattle.sasi_layout.proofs.KeptLaws.{keeps_data, keeps_seal, kept_there}

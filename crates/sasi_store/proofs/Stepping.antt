@@ -2,8 +2,8 @@
 use Rattle.std.proofs.Common.{◌≡◌, ◌+◌, ◌≤◌, ◌++◌, ◌∷◌, ℕ, List, [], Option, None, Some, IsSome, Result, Ok, Err, refl, sym, ap, subst, ◌∙◌, inl, inr, arith}
 use Rattle.std.specs.Option.{option_map_or}
 use Rattle.sasi_folder.specs.Damages.{FolderShows}
-use Rattle.sasi_host.specs.ChangeLaws.{at_each_moment, stays}
-use Rattle.sasi_host.specs.Contents.{contents_same, reaches_where, told_after, told_before}
+use Rattle.sasi_host.proofs.ChangeLaws.{at_each_moment, stays}
+use Rattle.sasi_host.proofs.ContentLaws.{contents_same, reaches_where, told_after, told_before}
 use Rattle.sasi_host.specs.declared.damage.Damage.{Damage}
 use Rattle.sasi_host.specs.Disk.{Changes, Same}
 use Rattle.sasi_host.specs.Names.{Folder, manifest_name}

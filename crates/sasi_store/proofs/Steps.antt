@@ -12,7 +12,8 @@ use Rattle.sasi_host.specs.declared.fault.ReadFault.{ReadFault}
 use Rattle.sasi_host.specs.declared.fault.ReadFault.TheVariants as fault
 use Rattle.sasi_host.specs.declared.name.FileName.{FileName}
 use Rattle.sasi_host.specs.Names.{Bytes, Folder, data_name}
-use Rattle.sasi_host.specs.Buffered.{IsBuffered, nothing_buffered}
+use Rattle.sasi_host.specs.Buffered.{IsBuffered}
+use Rattle.sasi_host.proofs.BufferedLaws.{nothing_buffered}
 use Rattle.sasi_host.specs.Damages.{DamageShown, OnDamage}
 use Rattle.sasi_host.specs.Disk.{Changes, Same}
 use Rattle.sasi_host.specs.View.{IsThere, View, contents, contents_in}

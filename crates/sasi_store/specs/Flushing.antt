@@ -6,7 +6,7 @@ use Rattle.std.specs.List.{AllByRecursion}
 use Rattle.sasi_host.specs.declared.name.FileName.{FileName}
 use Rattle.sasi_host.specs.Names.{Folder, data_name, log_name, manifest_name}
 use Rattle.sasi_host.specs.View.{IsAbsent, IsThere, Reaches, View}
-use Rattle.sasi_host.specs.ChangeLaws.{Each}
+use Rattle.sasi_host.specs.Disk.{Each}
 use Rattle.sasi_model.specs.Abbreviations.{Partitions, types_of}
 use Rattle.sasi_body.specs.Body.{HasBody}
 use Rattle.sasi_cells.specs.Maps.{merged}

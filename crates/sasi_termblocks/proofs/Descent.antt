@@ -5,8 +5,8 @@ use Rattle.sasi_host.specs.declared.name.FileName.{FileName}
 use Rattle.sasi_host.specs.Names.{Bytes, Folder}
 use Rattle.sasi_host.specs.View.{View, IsThere, ReadsAtMost, contents}
 use Rattle.sasi_host.specs.Buffered.{Buffered}
-use Rattle.sasi_host.specs.CauseLaws.{ok_reads, reads_on}
-use Rattle.sasi_host.specs.Contents.{contents_same, there_where}
+use Rattle.sasi_host.proofs.CauseLaws.{ok_reads, reads_on}
+use Rattle.sasi_host.proofs.ContentLaws.{contents_same, there_where}
 use Rattle.sasi_host.specs.Disk.{Changes, Same}
 use Rattle.sasi_host.specs.PageReading.{CanReadOn, HasReadOn}
 use Rattle.sasi_termblocks.specs.declared.block_ref.BlockRef.{BlockRef}

@@ -5,7 +5,8 @@ use Rattle.std.specs.Prelude.{get_or, min, ◌^◌, ◌-◌, ◌==◌, Bool, if�
 use Rattle.sasi_host.specs.declared.name.FileName.{FileName}
 use Rattle.sasi_host.specs.Names.{Bytes}
 use Rattle.sasi_host.specs.View.{View, Reaches}
-use Rattle.sasi_tokentree.specs.Writes.{Writes, writes_on}
+use Rattle.sasi_tokentree.specs.Writes.{Writes}
+use Rattle.sasi_tokentree.proofs.WriteLaws.{writes_on}
 use Rattle.sasi_termblocks.specs.declared.packer.Packer.{Packer}
 use Rattle.sasi_termblocks.specs.declared.block_ref.BlockRef.{BlockRef}
 use Rattle.sasi_termblocks.specs.declared.term_entry.TermEntry.{TermEntry}

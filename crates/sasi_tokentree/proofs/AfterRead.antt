@@ -8,7 +8,7 @@ use Rattle.sasi_host.specs.Damages.{DamageShown}
 use Rattle.sasi_host.specs.Names.{Bytes}
 use Rattle.sasi_host.specs.View.{View, contents}
 use Rattle.sasi_host.specs.Disk.{Changes, Same}
-use Rattle.sasi_host.specs.Contents.{contents_same}
+use Rattle.sasi_host.proofs.ContentLaws.{contents_same}
 use Rattle.sasi_host.proofs.DamageLaws.{shown_as, shown_before}
 use Rattle.sasi_tokentree.specs.declared.node_read.Node.{Node}
 use Rattle.sasi_tokentree.specs.Damages.{ShownOf, ShowsOf, ShowsTreeBy, pair_place}

@@ -7,8 +7,8 @@ use Rattle.sasi_types.specs.declared.tree.Pair.{Pair}
 use Rattle.sasi_host.specs.Names.{Bytes}
 use Rattle.sasi_host.specs.Disk.{overlay}
 use Rattle.sasi_tokentree.specs.Format.{above, levels, level_bytes, nodes, size, top, tree_bytes, tree_ref, IsRising, AreFit, HasTree}
-use Rattle.sasi_tokentree.specs.Sizes.{first_above_length, level_length, more_levels, one_level, top_more, top_one}
-use Rattle.sasi_tokentree.specs.Heights.{top_is}
+use Rattle.sasi_tokentree.proofs.Sizes.{first_above_length, level_length, more_levels, one_level, top_more, top_one}
+use Rattle.sasi_tokentree.proofs.HeightLaws.{top_is}
 use Rattle.sasi_tokentree.specs.Damages.{is_node_place}
 
 -- a file in which the tree was written has it

@@ -15,8 +15,9 @@ use Rattle.sasi_host.specs.Damages.{HasAt, ShowsEnd, DamageShown, TellsSize}
 use Rattle.sasi_host.proofs.Offsets.{same_at}
 use Rattle.sasi_host.proofs.DamageLaws.{end_shown, shown_as}
 use Rattle.sasi_tokentree.specs.Format.{pair_at, entry, node, node_header, nodes, size, entries_of_node, above, level_bytes, levels, tree_bytes, HasTree}
-use Rattle.sasi_tokentree.specs.Sizes.{entry_length, node_length, part_length, level_length, one_level, more_levels, first_above_length}
-use Rattle.sasi_tokentree.specs.Heights.{bytes_below_root, none_below_root, more_below_root, top_is}
+use Rattle.sasi_tokentree.proofs.Sizes.{entry_length, node_length, part_length, level_length, one_level, more_levels, first_above_length}
+use Rattle.sasi_tokentree.specs.Heights.{bytes_below_root}
+use Rattle.sasi_tokentree.proofs.HeightLaws.{none_below_root, more_below_root, top_is}
 use Rattle.sasi_tokentree.specs.declared.node_read.Node.{Node}
 use Rattle.sasi_tokentree.specs.Damages.{BeginsLeaf, IsNodeFrom, IsNodeOf, ShowsEndOr, ShowsOf, ShownOf, ShowsTreeBy, start, pair_place}
 use Rattle.sasi_tokentree.specs.Damages.ShowsTreeBy.{in_node, in_entry}

@@ -6,8 +6,9 @@ use Rattle.sasi_host.specs.declared.name.FileName.{FileName}
 use Rattle.sasi_host.specs.Names.{Bytes}
 use Rattle.sasi_host.specs.View.{View, Reaches}
 use Rattle.sasi_tokentree.specs.Format.{pair_at, node, nodes, size, entries_of_node, first_nodes, level_bytes, first_above, above, levels, top, tree_bytes, tree_ref}
-use Rattle.sasi_tokentree.specs.Sizes.{first_nodes_length, first_nodes_more, first_nodes_none, first_above_more, level_length, first_above_length, one_level, more_levels, top_one, top_more}
-use Rattle.sasi_tokentree.specs.Writes.{ChangesFrom, Writes, changes_past_on, writes_on, writes_nothing}
+use Rattle.sasi_tokentree.proofs.Sizes.{first_nodes_length, first_nodes_more, first_nodes_none, first_above_more, level_length, first_above_length, one_level, more_levels, top_one, top_more}
+use Rattle.sasi_tokentree.specs.Writes.{ChangesFrom, Writes}
+use Rattle.sasi_tokentree.proofs.WriteLaws.{changes_past_on, writes_on, writes_nothing}
 
 -- an index of a node is within the entries
 pub node_within : (count index : ℕ) → index < nodes count → 255 * index < count

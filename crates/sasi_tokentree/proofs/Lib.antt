@@ -1,3 +1,6 @@
+pub mod Sizes
+pub mod HeightLaws
+pub mod WriteLaws
 pub mod Laws
 pub mod EntryPages
 pub mod LevelSteps

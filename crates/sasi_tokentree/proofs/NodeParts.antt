@@ -13,7 +13,7 @@ use Rattle.sasi_host.specs.declared.damage.FormatRule.TheVariants.{Short, Number
 use Rattle.sasi_host.specs.Names.{Bytes}
 use Rattle.sasi_host.proofs.Offsets.{window_at, at_window, first_at, both_at}
 use Rattle.sasi_tokentree.specs.Format.{pair_at, entry, node_header, node, IsBefore, IsRising, AreFit}
-use Rattle.sasi_tokentree.specs.Sizes.{entry_length, head_length, node_length}
+use Rattle.sasi_tokentree.proofs.Sizes.{entry_length, head_length, node_length}
 use Rattle.sasi_tokentree.specs.Damages.{IsHeaderPart, NodeBreaks}
 use Rattle.sasi_tokentree.specs.Reads.{IsInNode, IsLowerBound}
 use Rattle.sasi_host.specs.Damages.{seen_bytes, HasAt, IsOther}

@@ -20,7 +20,7 @@ use Rattle.sasi_tokentree.specs.declared.node_read.Node.{Node}
 use Rattle.sasi_tokentree.specs.Damages.{IsNodeFrom, EndsWithin, NodeBreaks, ShowsOf, ShownOf, ShowsEndOr}
 use Rattle.sasi_tokentree.specs.Damages.EndsWithin.{in_header, in_entries}
 use Rattle.sasi_tokentree.specs.Damages.IsNodeFrom.{of_level}
-use Rattle.sasi_tokentree.specs.Sizes.{head_length, node_length}
+use Rattle.sasi_tokentree.proofs.Sizes.{head_length, node_length}
 use Rattle.sasi_tokentree.specs.Reads.{HasNode, IsInNode, NoFalseNodeDamage}
 use Rattle.sasi_host.specs.Damages.{seen_bytes, HasAt, ShowsEnd, DamageShown}
 

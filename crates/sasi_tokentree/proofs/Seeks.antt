@@ -8,11 +8,12 @@ use Rattle.sasi_host.specs.declared.fault.ReadFault.{ReadFault}
 use Rattle.sasi_host.specs.declared.fault.ReadFault.TheVariants as fault
 use Rattle.sasi_host.specs.Names.{Bytes}
 use Rattle.sasi_host.specs.View.{View, ReadsAtMost}
-use Rattle.sasi_host.specs.CauseLaws.{reads_on, reads_within}
+use Rattle.sasi_host.proofs.CauseLaws.{reads_on, reads_within}
 use Rattle.sasi_host.specs.Disk.{Changes, Same}
 use Rattle.sasi_tokentree.specs.Format.{nodes, size, entries_of_node, above}
-use Rattle.sasi_tokentree.specs.Sizes.{part_length, first_above_length}
-use Rattle.sasi_tokentree.specs.Heights.{height, bytes_below_root, none_below_root, more_below_root, one_high, more_high}
+use Rattle.sasi_tokentree.proofs.Sizes.{part_length, first_above_length}
+use Rattle.sasi_tokentree.specs.Heights.{height, bytes_below_root}
+use Rattle.sasi_tokentree.proofs.HeightLaws.{none_below_root, more_below_root, one_high, more_high}
 use Rattle.sasi_tokentree.specs.Reads.{IsReached, NoFalseNodeDamage, NoFalseLevelDamage, HasLevels}
 use Rattle.sasi_tokentree.proofs.AfterRead.{reads_still}
 use Rattle.sasi_tokentree.proofs.StoredLevels.{stands_node, stands_above, stands_one}

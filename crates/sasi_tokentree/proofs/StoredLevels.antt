@@ -6,7 +6,7 @@ use Rattle.std.proofs.lemmas.List.{append-nil, get_or-take, get_or-drop, get_or_
 use Rattle.sasi_types.specs.declared.tree.Pair.{Pair}
 use Rattle.sasi_host.specs.Names.{Bytes}
 use Rattle.sasi_tokentree.specs.Format.{pair_at, node, nodes, size, entries_of_node, first_nodes, level_bytes, entry_for, first_above, above, levels, IsBefore, IsRising, AreFit}
-use Rattle.sasi_tokentree.specs.Sizes.{first_nodes_length, level_length, part_length, first_above_length, one_level, more_levels}
+use Rattle.sasi_tokentree.proofs.Sizes.{first_nodes_length, level_length, part_length, first_above_length, one_level, more_levels}
 use Rattle.sasi_tokentree.specs.Reads.{HasNode, HasLevels, IsLowerBound}
 use Rattle.sasi_tokentree.proofs.NodeParts.{do_not_fall}
 

@@ -2,7 +2,8 @@
 use Rattle.std.proofs.Common.{◌≡◌, ℕ, zero, suc, ◌+◌, ◌^◌, ◌<◌, ◌≤◌, List, [], length, sym, ap, ◌∙◌, subst, arith}
 use Rattle.sasi_types.specs.declared.tree.Pair.{Pair}
 use Rattle.sasi_tokentree.specs.Format.{nodes, size, tree_bytes}
-use Rattle.sasi_tokentree.specs.Heights.{levels_size, more_size, one_size, tree_length}
+use Rattle.sasi_tokentree.specs.Heights.{levels_size}
+use Rattle.sasi_tokentree.proofs.HeightLaws.{more_size, one_size, tree_length}
 
 -- of one node
 pub size_one : (most count result : ℕ) → count ≤ 255 → count ≤ most → result ≡ size count → result ≡ levels_size most count

@@ -1,5 +1,4 @@
 pub mod Format
-pub mod Sizes
 pub mod Heights
 pub mod Damages
 pub mod Writes

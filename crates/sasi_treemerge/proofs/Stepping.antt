@@ -6,15 +6,16 @@ use Rattle.sasi_host.specs.declared.fault.ReadFault.{ReadFault}
 use Rattle.sasi_host.specs.declared.fault.ReadFault.TheVariants as fault
 use Rattle.sasi_host.specs.View.{View, IsThere, ReadsAtMost}
 use Rattle.sasi_host.specs.Disk.{Changes, Same}
-use Rattle.sasi_host.specs.Contents.{contents_same, there_where}
+use Rattle.sasi_host.proofs.ContentLaws.{contents_same, there_where}
 use Rattle.std.specs.declared.result.Result.{Result}
 use Rattle.std.proofs.Common.{List, ⊎_elim, ◌∷◌, Option, subst}
 use Rattle.sasi_host.specs.Names.{Folder}
-use Rattle.sasi_host.specs.PageReading.{HasRead, read_then}
+use Rattle.sasi_host.specs.PageReading.{HasRead}
+use Rattle.sasi_host.proofs.PageReadingLaws.{read_then}
 use Rattle.std.proofs.lemmas.Bool.Decides.{leb_tells}
 use Rattle.std.proofs.lemmas.List.Sorted.{sum_by_popped}
 use Rattle.std.specs.List.Sorted.{IsPermutation}
-use Rattle.sasi_host.specs.CauseLaws.{fault_reads, ok_reads, reads_behind}
+use Rattle.sasi_host.proofs.CauseLaws.{fault_reads, ok_reads, reads_behind}
 use Rattle.sasi_treemerge.specs.declared.source.Source.{Source}
 use Rattle.sasi_treemerge.specs.Merges.{unread_in, unread_of}
 

@@ -2,7 +2,7 @@ use Rattle.std.proofs.Common.{◌≡◌, ◌++◌, map, length, ◌∙◌, ap, s
 use Rattle.std.specs.Int.{to_be_bytes, w32}
 use Rattle.sasi_host.specs.Names.{Bytes}
 use Rattle.sasi_host.specs.Disk.{Changes, LeftWith, FileChange}
-use Rattle.sasi_host.specs.ChangeLaws.{untouched}
+use Rattle.sasi_host.proofs.ChangeLaws.{untouched}
 use Rattle.sasi_gated.specs.Format.{IsBeforeOrAfter}
 use Rattle.sasi_gated.proofs.HandleLaws.{unmoved}
 use Rattle.sasi_body.specs.Body.{body}

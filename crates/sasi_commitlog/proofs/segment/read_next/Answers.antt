@@ -1,7 +1,7 @@
 use Rattle.std.proofs.Common.{None, Some, ◌≡◌, ◌^◌, map, length, sym, ap, ◌∙◌, subst, inl, arith}
 use Rattle.std.proofs.lemmas.Result.{err_from_is_err_and}
 use Rattle.sasi_host.specs.Names.{Bytes}
-use Rattle.sasi_gated.specs.ReadCosts.{once_fails, once_gives, once_handed}
+use Rattle.sasi_gated.proofs.ReadCostLaws.{once_fails, once_gives, once_handed}
 use Rattle.sasi_formats.specs.Whole.{IsShownBy}
 use Rattle.sasi_commitlog.specs.Format.{payload_of, mutation_of, Tables, IsMutationOf}
 use Rattle.sasi_commitlog.proofs.ReadMutations.{on_damage, spared, closed_gate, none_left, opened_gate, first_read, first_left, record_shown}

@@ -4,7 +4,7 @@ use Rattle.sasi_host.specs.Buffered.{Buffered}
 use Rattle.sasi_host.specs.Damages.{DamageShown, ShowsEnd}
 use Rattle.sasi_host.specs.View.{contents}
 use Rattle.sasi_host.specs.declared.name.FileName.{FileName}
-use Rattle.sasi_dataread.specs.Laws.{footer_of}
+use Rattle.sasi_dataread.proofs.Laws.{footer_of}
 use Rattle.sasi_dataread.proofs.Ends.{numbers_encoded}
 use Rattle.sasi_dataread.proofs.Footers.{data_undamaged, end_shown, shown_spares}
 use Rattle.sasi_dataread.proofs.end.read_max_timestamp.Goals as goal

@@ -1,4 +1,4 @@
-use Rattle.sasi_host.specs.PageReading.{reads_nothing}
+use Rattle.sasi_host.proofs.PageReadingLaws.{reads_nothing}
 use Rattle.sasi_dataread.proofs.file_bytes.read_bytes.Goals as goal
 
 pub returns-in_err-out-clause-read : goal.returns-in_err-out-clause-read

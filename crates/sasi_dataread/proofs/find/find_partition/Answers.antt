@@ -1,16 +1,17 @@
 use Rattle.std.proofs.Common.{◌≡◌, ◌+◌, ◌*◌, sym, ◌∙◌, ap, subst, arith, Option, Ok, Err}
 use Rattle.std.proofs.lemmas.Result.{err_from_is_err_and}
-use Rattle.sasi_host.specs.PageReading.{read_of, read_then}
+use Rattle.sasi_host.proofs.PageReadingLaws.{read_of, read_then}
 use Rattle.sasi_types.specs.declared.tree.Pair.{Pair}
 use Rattle.sasi_types.specs.declared.tree.TreeRef.{TreeRef}
 use Rattle.sasi_host.specs.Disk.{Same}
-use Rattle.sasi_host.specs.ChangeLaws.{then_same}
-use Rattle.sasi_host.specs.Buffered.{Buffered, IsBuffered, buffered_after}
+use Rattle.sasi_host.proofs.ChangeLaws.{then_same}
+use Rattle.sasi_host.specs.Buffered.{Buffered, IsBuffered}
+use Rattle.sasi_host.proofs.BufferedLaws.{buffered_after}
 use Rattle.sasi_tokentree.specs.Damages.{BeginsLeaf}
 use Rattle.sasi_tokentree.specs.Heights.{height}
 use Rattle.sasi_host.proofs.DamageLaws.{shown_before}
 use Rattle.sasi_tokentree.specs.Scans.{ReadsEntry, PairScan}
-use Rattle.sasi_dataread.specs.Laws.{pairs_are}
+use Rattle.sasi_dataread.proofs.Laws.{pairs_are}
 use Rattle.sasi_dataread.proofs.ReadChains.{causes_fault, causes_ok, passes_on, there_same}
 use Rattle.sasi_dataread.proofs.DataScan.{entry_before, entry_of, next_takes, open_same, partition_shown, tree_shown, tree_spares}
 use Rattle.sasi_dataread.proofs.Finding.{all_passed, first_causes, first_passes, found_here, here_costs, here_spares, none_here, one_more, searches_on, spares_before, stands_here, starts}

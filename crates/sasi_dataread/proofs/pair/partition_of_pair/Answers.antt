@@ -1,5 +1,5 @@
 use Rattle.std.proofs.Common.{◌⊎◌, ◌+◌, ◌-◌, ◌<◌, ℕ, ◌∙◌, ap, subst}
-use Rattle.sasi_host.specs.PageReading.{read_of, reads_nothing}
+use Rattle.sasi_host.proofs.PageReadingLaws.{read_of, reads_nothing}
 use Rattle.sasi_types.specs.declared.tree.TreeRef.{TreeRef}
 use Rattle.sasi_tokentree.specs.Damages.{pair_place}
 use Rattle.sasi_dataread.specs.Bodies.{IsPartitionPlace}

@@ -1,10 +1,10 @@
 use Rattle.std.proofs.Common.{ℕ, ◌+◌, ◌/◌, ◌∙◌, ap, subst, arith, Some, Ok, Err}
 use Rattle.std.proofs.lemmas.Result.{err_from_is_err_and}
-use Rattle.sasi_host.specs.PageReading.{reads_then}
+use Rattle.sasi_host.proofs.PageReadingLaws.{reads_then}
 use Rattle.sasi_host.specs.declared.name.FileName.{FileName}
 use Rattle.sasi_host.specs.View.{contents}
 use Rattle.sasi_host.specs.Damages.{DamageShown, ShowsEnd}
-use Rattle.sasi_host.specs.Contents.{contents_same}
+use Rattle.sasi_host.proofs.ContentLaws.{contents_same}
 use Rattle.sasi_host.proofs.DamageLaws.{shown_before}
 use Rattle.sasi_dataread.proofs.Bodies.{body_shown, sized_spares, cut_spares, sized_read, reads_cost, both_causes}
 use Rattle.sasi_dataread.proofs.partition.read_body_bytes.Goals as goal

@@ -1,14 +1,14 @@
 use Rattle.std.proofs.Common.{◌≡◌, Option, None, Some, Ok, Err, subst, arith}
 use Rattle.std.proofs.lemmas.Result.{err_from_is_err_and}
-use Rattle.sasi_host.specs.PageReading.{read_of, read_then}
+use Rattle.sasi_host.proofs.PageReadingLaws.{read_of, read_then}
 use Rattle.sasi_types.specs.declared.tree.Pair.{Pair}
-use Rattle.sasi_host.specs.Buffered.{buffered_after}
+use Rattle.sasi_host.proofs.BufferedLaws.{buffered_after}
 use Rattle.sasi_host.proofs.DamageLaws.{shown_before}
 use Rattle.sasi_tokentree.specs.Scans.{PassesOne, ReadsEntry, ReadsNextPair, IsEntryBuffered}
 use Rattle.sasi_tokentree.proofs.EntryPages.{entry_pages}
 use Rattle.sasi_dataread.proofs.Pairs.{none_left}
 use Rattle.sasi_dataread.proofs.Pages.{goes_nowhere}
-use Rattle.sasi_host.specs.CauseLaws.{ok_reads, fault_reads, reads_on, reads_within}
+use Rattle.sasi_host.proofs.CauseLaws.{ok_reads, fault_reads, reads_on, reads_within}
 use Rattle.sasi_dataread.proofs.DataScan.{IsShort, all_pairs, walk_goes, walk_stops, walk_stops_behind, entry_of, partition_shown, tree_shown, next_takes, tree_spares, took_partition, place_spares}
 use Rattle.sasi_dataread.proofs.walk.next_partition.Goals as goal
 

@@ -1,6 +1,6 @@
 use Rattle.std.proofs.Common.{length}
 use Rattle.sasi_host.specs.Disk.{InPlace, Torn}
-use Rattle.sasi_host.specs.ChangeLaws.{touches, untouched}
+use Rattle.sasi_host.proofs.ChangeLaws.{touches, untouched}
 use Rattle.sasi_datawrite.proofs.Appends.{there_reached, there_written}
 use Rattle.sasi_datawrite.proofs.partition.write_partition.Goals as goal
 

@@ -1,6 +1,6 @@
 use Rattle.std.proofs.Common.{length}
 use Rattle.sasi_host.specs.Disk.{InPlace, Torn}
-use Rattle.sasi_host.specs.ChangeLaws.{touches, touches_on}
+use Rattle.sasi_host.proofs.ChangeLaws.{touches, touches_on}
 use Rattle.sasi_datawrite.proofs.Appends.{touches_same}
 use Rattle.sasi_datawrite.proofs.trailer.append.Goals as goal
 

@@ -1,7 +1,7 @@
 use Rattle.std.proofs.Common.{◌∙◌}
 use Rattle.std.proofs.lemmas.Result.{on_ok_weaker}
 use Rattle.sasi_host.specs.Disk.{InPlace}
-use Rattle.sasi_host.specs.ChangeLaws.{touches, touches_on}
+use Rattle.sasi_host.proofs.ChangeLaws.{touches, touches_on}
 use Rattle.sasi_tokentree.specs.Writes.{KeepsBefore}
 use Rattle.sasi_datawrite.proofs.Appends.{trailer_written}
 use Rattle.sasi_datawrite.proofs.trailer.write_trailer.Goals as goal

@@ -1,6 +1,6 @@
 use Rattle.std.proofs.Common.{length}
 use Rattle.sasi_host.specs.Disk.{InPlace, Torn, MaybeCreated}
-use Rattle.sasi_host.specs.ChangeLaws.{touches, touches_on}
+use Rattle.sasi_host.proofs.ChangeLaws.{touches, touches_on}
 use Rattle.sasi_datawrite.proofs.writer.create_with.Goals as goal
 
 pub returns-in_err-create-clause-changes : goal.returns-in_err-create-clause-changes

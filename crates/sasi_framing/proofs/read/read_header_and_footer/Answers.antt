@@ -1,9 +1,9 @@
 use Rattle.std.proofs.Common.{◌+◌, length, ◌∙◌, ap, subst, arith}
 use Rattle.std.proofs.lemmas.Result.{err_from_is_err_and}
 use Rattle.sasi_host.specs.Buffered.{Buffered}
-use Rattle.sasi_host.specs.Contents.{contents_same}
+use Rattle.sasi_host.proofs.ContentLaws.{contents_same}
 use Rattle.sasi_host.specs.Damages.{DamageShown, ShowsEnd}
-use Rattle.sasi_host.specs.PageReading.{read_of, reads_then}
+use Rattle.sasi_host.proofs.PageReadingLaws.{read_of, reads_then}
 use Rattle.sasi_host.specs.View.{contents}
 use Rattle.sasi_host.specs.declared.name.FileName.{FileName}
 use Rattle.sasi_host.proofs.DamageLaws.{end_later, shown_before}

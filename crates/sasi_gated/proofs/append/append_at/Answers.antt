@@ -1,6 +1,6 @@
 use Rattle.std.proofs.Common.{◌+◌, length, ap}
 use Rattle.sasi_host.specs.Disk.{InPlace, Torn}
-use Rattle.sasi_host.specs.ChangeLaws.{touches}
+use Rattle.sasi_host.proofs.ChangeLaws.{touches}
 use Rattle.sasi_gated.proofs.Appends.{framed_length, staging, opening, appended, touched, reaches_end}
 use Rattle.sasi_gated.proofs.append.append_at.Goals as goal
 

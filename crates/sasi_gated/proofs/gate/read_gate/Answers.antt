@@ -1,5 +1,5 @@
 use Rattle.std.proofs.Common.{◌+◌, ◌-◌, ◌/◌, arith}
-use Rattle.sasi_host.specs.Sequential.{begins_known}
+use Rattle.sasi_host.proofs.SequentialLaws.{begins_known}
 use Rattle.sasi_gated.proofs.AtGates.{gate_seen}
 use Rattle.sasi_gated.proofs.Costs.{into_once}
 use Rattle.sasi_gated.proofs.gate.read_gate.Goals as goal

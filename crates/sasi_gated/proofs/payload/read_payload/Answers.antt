@@ -2,11 +2,11 @@ use Rattle.std.proofs.Common.{Err, refl, ◌≡◌, ◌∙◌, ◌+◌, ℕ, ap,
 use Rattle.std.proofs.lemmas.Result.{err_from_is_err_and}
 use Rattle.sasi_host.specs.declared.name.FileName.{FileName}
 use Rattle.sasi_host.specs.Disk.{Same}
-use Rattle.sasi_host.specs.Contents.{contents_same}
-use Rattle.sasi_host.specs.ChangeLaws.{stays, then_same}
-use Rattle.sasi_host.specs.Sequential.{no_further, no_further_on, once_on, reaches_told, reads_none}
+use Rattle.sasi_host.proofs.ContentLaws.{contents_same}
+use Rattle.sasi_host.proofs.ChangeLaws.{stays, then_same}
+use Rattle.sasi_host.proofs.SequentialLaws.{no_further, no_further_on, once_on, reaches_told, reads_none}
 use Rattle.sasi_host.proofs.Pages.{reads_on, there_on}
-use Rattle.sasi_gated.specs.CauseLaws.{reading_behind, reading_handed}
+use Rattle.sasi_gated.proofs.CauseLaws.{reading_behind, reading_handed}
 use Rattle.sasi_gated.specs.Damages.{TellsSize}
 use Rattle.sasi_gated.proofs.Costs.{once_to}
 use Rattle.sasi_gated.proofs.Opens.{on_damage_weaker}

@@ -2,13 +2,13 @@ use Rattle.std.proofs.Common.{Ok, Err, ◌≡◌, ◌∙◌, ◌+◌, length, su
 use Rattle.std.proofs.lemmas.Result.{err_from_is_err_and}
 use Rattle.sasi_host.specs.declared.name.FileName.{FileName}
 use Rattle.sasi_host.specs.Disk.{Same}
-use Rattle.sasi_host.specs.Contents.{contents_same}
-use Rattle.sasi_host.specs.ChangeLaws.{then_same}
-use Rattle.sasi_host.specs.Sequential.{no_further, no_further_on, once_on, reaches_still}
+use Rattle.sasi_host.proofs.ContentLaws.{contents_same}
+use Rattle.sasi_host.proofs.ChangeLaws.{then_same}
+use Rattle.sasi_host.proofs.SequentialLaws.{no_further, no_further_on, once_on, reaches_still}
 use Rattle.sasi_host.proofs.Pages.{reads_on}
 use Rattle.sasi_gated.specs.AtGate.{ShowsLength}
 use Rattle.sasi_gated.specs.Damages.{TellsSize}
-use Rattle.sasi_gated.specs.CauseLaws.{reading_behind, reading_handed, reading_gives}
+use Rattle.sasi_gated.proofs.CauseLaws.{reading_behind, reading_handed, reading_gives}
 use Rattle.sasi_gated.proofs.AtGates.{no_gate, closes, gate_within, no_length, payload_within, opens, ends_within}
 use Rattle.sasi_gated.proofs.Costs.{head_once, once_to, stays_once}
 use Rattle.sasi_gated.proofs.Opens.{on_damage_weaker}

@@ -1,8 +1,8 @@
 use Rattle.std.proofs.Common.{length}
 use Rattle.std.proofs.lemmas.Result.{on_ok_weaker}
 use Rattle.sasi_host.specs.Disk.{FileChange, InPlace, Torn, AnyChange, MaybeCreated}
-use Rattle.sasi_host.specs.ChangeLaws.{then_same, touches, touches_on}
-use Rattle.sasi_host.specs.Contents.{holds_first, holds_same}
+use Rattle.sasi_host.proofs.ChangeLaws.{then_same, touches, touches_on}
+use Rattle.sasi_host.proofs.ContentLaws.{holds_first, holds_same}
 use Rattle.sasi_host.proofs.Durability.{file_durable_new}
 use Rattle.sasi_host.proofs.durable.make_file.Goals as goal
 

@@ -2,8 +2,8 @@ use Rattle.std.proofs.Common.{length}
 use Rattle.std.proofs.lemmas.Result.{on_ok_weaker}
 use Rattle.sasi_host.specs.Names.{Bytes}
 use Rattle.sasi_host.specs.Disk.{FileChange, InPlace, Torn, overlay}
-use Rattle.sasi_host.specs.ChangeLaws.{then_same}
-use Rattle.sasi_host.specs.Contents.{becomes_on}
+use Rattle.sasi_host.proofs.ChangeLaws.{then_same}
+use Rattle.sasi_host.proofs.ContentLaws.{becomes_on}
 use Rattle.sasi_host.proofs.Durability.{durable}
 use Rattle.sasi_host.proofs.durable.write_durably.Goals as goal
 

@@ -1,6 +1,6 @@
 use Rattle.std.proofs.Common.{inl}
 use Rattle.std.proofs.lemmas.Result.{err_from_is_err_and}
-use Rattle.sasi_host.specs.ChangeLaws.{stays}
+use Rattle.sasi_host.proofs.ChangeLaws.{stays}
 use Rattle.sasi_host.proofs.DamageLaws.{shown_as}
 use Rattle.sasi_tokentree.specs.Damages.{ShowsTree}
 use Rattle.sasi_indexread.specs.Collects.{ShowsList}

@@ -1,6 +1,6 @@
 use Rattle.std.proofs.Common.{◌≡◌, arith, false, inl, rules}
 use Rattle.std.proofs.lemmas.Result.{err_from_is_err_and}
-use Rattle.sasi_host.specs.ChangeLaws.{stays}
+use Rattle.sasi_host.proofs.ChangeLaws.{stays}
 use Rattle.sasi_indexread.proofs.Counting.{left_first}
 use Rattle.sasi_indexread.proofs.Searching.{now_collected}
 use Rattle.sasi_indexread.proofs.search.keep_collected.Goals as goal

@@ -1,4 +1,4 @@
-use Rattle.sasi_host.specs.ChangeLaws.{untouched}
+use Rattle.sasi_host.proofs.ChangeLaws.{untouched}
 use Rattle.sasi_indexwrite.proofs.postings.add_posting.Goals as goal
 
 pub returns-in_err-push-in-Spill-clause-changes : goal.returns-in_err-push-in-Spill-clause-changes

@@ -1,7 +1,7 @@
 use Rattle.std.proofs.Common.{◌≡◌, ◌++◌, ◌∷◌, List, sym, ap, ◌∙◌, subst}
 use Rattle.std.specs.Option.{option_to_list}
 use Rattle.sasi_host.specs.View.{Reaches}
-use Rattle.sasi_host.specs.ChangeLaws.{touches_on}
+use Rattle.sasi_host.proofs.ChangeLaws.{touches_on}
 use Rattle.sasi_segments.specs.Gathering.{Gathering}
 use Rattle.sasi_segments.specs.declared.posting.Posting.{Posting}
 use Rattle.sasi_indexwrite.proofs.Appends.{of_file}

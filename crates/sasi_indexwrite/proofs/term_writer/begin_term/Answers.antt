@@ -1,4 +1,4 @@
-use Rattle.sasi_host.specs.ChangeLaws.{untouched}
+use Rattle.sasi_host.proofs.ChangeLaws.{untouched}
 use Rattle.sasi_indexwrite.proofs.term_writer.begin_term.Goals as goal
 
 pub returns-then-eq-clause-changes : goal.returns-then-eq-clause-changes

@@ -1,7 +1,7 @@
 use Rattle.std.proofs.Common.{◌+◌, ◌≤◌, length, refl, sym, ap, arith}
 use Rattle.std.proofs.lemmas.Bool.Decides.{nat_tests}
 use Rattle.sasi_host.specs.Disk.{InPlace}
-use Rattle.sasi_host.specs.ChangeLaws.{touches, untouched}
+use Rattle.sasi_host.proofs.ChangeLaws.{touches, untouched}
 use Rattle.sasi_tokentree.specs.Writes.{KeepsBefore}
 use Rattle.sasi_indexwrite.proofs.TermSteps.{few_pairs, term_written}
 use Rattle.sasi_indexwrite.proofs.term_writer.write_term.Goals as goal

@@ -1,6 +1,6 @@
 use Rattle.std.proofs.Common.{◌∙◌}
 use Rattle.sasi_host.specs.Disk.{InPlace}
-use Rattle.sasi_host.specs.ChangeLaws.{touches, touches_on}
+use Rattle.sasi_host.proofs.ChangeLaws.{touches, touches_on}
 use Rattle.sasi_tokentree.specs.Writes.{KeepsBefore}
 use Rattle.sasi_indexwrite.proofs.Endings.{blocks_end}
 use Rattle.sasi_indexwrite.proofs.trailer.write_blocks.Goals as goal

@@ -2,7 +2,7 @@ use Rattle.std.proofs.Common.{◌≡◌, ◌-◌, take, subst}
 use Rattle.std.specs.Prelude.{replicate}
 use Rattle.sasi_host.specs.Names.{Bytes}
 use Rattle.sasi_host.specs.Disk.{Becomes, overlay}
-use Rattle.sasi_host.specs.ChangeLaws.{touches}
+use Rattle.sasi_host.proofs.ChangeLaws.{touches}
 use Rattle.sasi_indexwrite.specs.Format.{padding}
 use Rattle.sasi_indexwrite.proofs.Appends.{holds_behind}
 use Rattle.sasi_indexwrite.proofs.Endings.{zeros_front}

@@ -1,5 +1,5 @@
 use Rattle.sasi_host.specs.Disk.{InPlace}
-use Rattle.sasi_host.specs.ChangeLaws.{touches, touches_on}
+use Rattle.sasi_host.proofs.ChangeLaws.{touches, touches_on}
 use Rattle.sasi_tokentree.specs.Writes.{KeepsBefore}
 use Rattle.sasi_indexwrite.proofs.TermSteps.{few_pairs}
 use Rattle.sasi_indexwrite.proofs.trailer.write_spill.Goals as goal

@@ -1,5 +1,5 @@
 use Rattle.sasi_host.specs.Disk.{MaybeCreated}
-use Rattle.sasi_host.specs.ChangeLaws.{touches, touches_on, untouched}
+use Rattle.sasi_host.proofs.ChangeLaws.{touches, touches_on, untouched}
 use Rattle.sasi_indexwrite.proofs.write.create.Goals as goal
 
 pub returns-in_err-put_header-clause-changes : goal.returns-in_err-put_header-clause-changes

@@ -1,6 +1,6 @@
 use Rattle.std.proofs.Common.{subst}
 use Rattle.sasi_host.specs.Disk.{IsSynced}
-use Rattle.sasi_host.specs.ChangeLaws.{touches_on}
+use Rattle.sasi_host.proofs.ChangeLaws.{touches_on}
 use Rattle.sasi_indexwrite.proofs.Appends.{of_file}
 use Rattle.sasi_indexwrite.proofs.Endings.{file_ends}
 use Rattle.sasi_indexwrite.proofs.write.end_file.Goals as goal

@@ -1,7 +1,7 @@
 use Rattle.std.proofs.Common.{List, ◌∙◌, sym, subst}
 use Rattle.sasi_types.specs.declared.tree.Pair.{Pair}
 use Rattle.sasi_host.specs.Disk.{IsSynced}
-use Rattle.sasi_host.specs.ChangeLaws.{touches_on}
+use Rattle.sasi_host.proofs.ChangeLaws.{touches_on}
 use Rattle.sasi_tokentree.specs.Format.{IsRising}
 use Rattle.sasi_indexwrite.specs.Format.{header_bytes}
 use Rattle.sasi_indexwrite.specs.Gathered.{gathered}

@@ -1,7 +1,7 @@
 use Rattle.std.proofs.Common.{◌≡◌, length, Some, arith, ap, sym, ◌∙◌, subst}
 use Rattle.sasi_host.specs.Names.{Bytes}
 use Rattle.sasi_host.specs.Disk.{Changes, LeftWith, FileChange}
-use Rattle.sasi_host.specs.ChangeLaws.{untouched}
+use Rattle.sasi_host.proofs.ChangeLaws.{untouched}
 use Rattle.sasi_gated.specs.Format.{IsBeforeOrAfter}
 use Rattle.sasi_gated.proofs.HandleLaws.{unmoved}
 use Rattle.sasi_manifest.specs.Edits.{encoded}

@@ -1,6 +1,6 @@
 use Rattle.std.proofs.Common.{sym}
 use Rattle.sasi_host.specs.Disk.{FileChange, MaybeCreated}
-use Rattle.sasi_host.specs.ChangeLaws.{then_same}
+use Rattle.sasi_host.proofs.ChangeLaws.{then_same}
 use Rattle.sasi_manifest.proofs.seal.make_seal.Goals as goal
 
 pub returns-clause-changes : goal.returns-clause-changes

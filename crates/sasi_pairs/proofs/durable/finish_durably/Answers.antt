@@ -1,5 +1,5 @@
 use Rattle.sasi_host.specs.Disk.{AnyChange, FileChange}
-use Rattle.sasi_host.specs.ChangeLaws.{then_same}
+use Rattle.sasi_host.proofs.ChangeLaws.{then_same}
 use Rattle.sasi_datawrite.specs.Format.{data_bytes}
 use Rattle.sasi_pairs.proofs.DurableFiles.{synced_durable}
 use Rattle.sasi_pairs.proofs.durable.finish_durably.Goals as goal

@@ -3,9 +3,9 @@ use Rattle.std.proofs.lemmas.List.{take_all}
 use Rattle.std.proofs.lemmas.List.Elements.{All-more, All-same, All-weaker}
 use Rattle.std.proofs.lemmas.Result.{err_from_is_err_and}
 use Rattle.sasi_host.specs.Disk.{IsSynced, Same}
-use Rattle.sasi_host.specs.ChangeLaws.{stays, then_same}
+use Rattle.sasi_host.proofs.ChangeLaws.{stays, then_same}
 use Rattle.sasi_host.specs.Names.{data_name}
-use Rattle.sasi_gated.specs.CauseLaws.{reading_behind, reading_handed}
+use Rattle.sasi_gated.proofs.CauseLaws.{reading_behind, reading_handed}
 use Rattle.sasi_recover.specs.DataFiles.{HasDataEnd}
 use Rattle.sasi_recover.proofs.DataEnds.{end_before, end_damage, largest_all, largest_next, largest_none, no_false_end, time_before}
 use Rattle.sasi_recover.proofs.SyncedFolder.{synced_same, there_same}

@@ -3,7 +3,7 @@ use Rattle.std.proofs.lemmas.List.Elements.{All-same}
 use Rattle.sasi_host.specs.declared.name.FileName.{FileName}
 use Rattle.sasi_host.specs.View.{View, IsThere}
 use Rattle.sasi_host.specs.Disk.{Changes, Lists, Same}
-use Rattle.sasi_host.specs.ChangeLaws.{then_same}
+use Rattle.sasi_host.proofs.ChangeLaws.{then_same}
 use Rattle.sasi_recover.specs.Opening.{IsRecordSynced}
 use Rattle.sasi_recover.proofs.SyncedFolder.{folder_same, lists_same, listed_settled, listed_there}
 use Rattle.sasi_recover.proofs.folder_sync.sync_all.Goals as goal

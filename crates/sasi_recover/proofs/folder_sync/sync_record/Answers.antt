@@ -1,4 +1,4 @@
-use Rattle.sasi_host.specs.ChangeLaws.{stays}
+use Rattle.sasi_host.proofs.ChangeLaws.{stays}
 use Rattle.sasi_recover.proofs.folder_sync.sync_record.Goals as goal
 
 pub returns-clause-changes : goal.returns-clause-changes

@@ -2,7 +2,7 @@ use Rattle.std.proofs.Common.{arith, rules, sym, take, ◌∙◌}
 use Rattle.std.proofs.lemmas.List.{take_all}
 use Rattle.std.proofs.lemmas.List.Elements.{All-same}
 use Rattle.sasi_host.specs.Disk.{Same}
-use Rattle.sasi_host.specs.ChangeLaws.{stays, then_same}
+use Rattle.sasi_host.proofs.ChangeLaws.{stays, then_same}
 use Rattle.sasi_recover.specs.Opening.{IsRecordSynced}
 use Rattle.sasi_recover.proofs.SyncedFolder.{synced_more, there_same}
 use Rattle.sasi_recover.proofs.folder_sync.sync_records.Goals as goal

@@ -1,11 +1,11 @@
 use Rattle.std.proofs.Common.{refl, []}
-use Rattle.sasi_host.specs.Contents.{absent_where, contents_same, told_after}
+use Rattle.sasi_host.proofs.ContentLaws.{absent_where, contents_same, told_after}
 use Rattle.sasi_recover.specs.Deletion.{Deletes, keeps}
 use Rattle.sasi_recover.specs.NewFolder.{IsFreshOrNew}
 use Rattle.sasi_recover.specs.OpenedFolder.{AnyFolderChange}
 use Rattle.sasi_recover.specs.declared.unlisted_files.Keep.TheVariants.{Nothing}
 use Rattle.sasi_host.specs.Disk.{Same}
-use Rattle.sasi_host.specs.ChangeLaws.{then_each_moment, then_same}
+use Rattle.sasi_host.proofs.ChangeLaws.{then_each_moment, then_same}
 use Rattle.sasi_recover.proofs.FirstStore.{deleted_moments, deletes_any_change, serves_later, any_change_on, synced_fresh, synced_moments}
 use Rattle.sasi_recover.proofs.new_folder.clear_and_create.Goals as goal
 

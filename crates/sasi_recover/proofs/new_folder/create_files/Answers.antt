@@ -1,6 +1,6 @@
 use Rattle.std.proofs.Common.{◌+◌, ◌≤◌, ◌^◌, None, length, refl, sym, subst, arith}
 use Rattle.sasi_host.specs.Disk.{AnyChange, FileChange}
-use Rattle.sasi_host.specs.Contents.{absent_where, contents_other, told_after}
+use Rattle.sasi_host.proofs.ContentLaws.{absent_where, contents_other, told_after}
 use Rattle.sasi_host.specs.Names.{log_name, manifest_name, seal_name}
 use Rattle.sasi_manifest.specs.declared.listing.Listing.{Listing}
 use Rattle.sasi_manifest.specs.Edits.{AllApply, encoded}

@@ -1,5 +1,5 @@
 use Rattle.std.proofs.lemmas.Result.{err_from_is_err_and}
-use Rattle.sasi_host.specs.ChangeLaws.{stays}
+use Rattle.sasi_host.proofs.ChangeLaws.{stays}
 use Rattle.sasi_recover.proofs.Foreign.{foreign_no_false_damage, not_foreign}
 use Rattle.sasi_recover.proofs.FirstStore.{no_moments, stays_any_change}
 use Rattle.sasi_recover.proofs.new_folder.create_store.Goals as goal

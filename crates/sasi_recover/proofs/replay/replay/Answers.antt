@@ -1,7 +1,7 @@
 use Rattle.std.proofs.Common.{arith, refl}
 use Rattle.std.proofs.lemmas.Result.{err_from_is_err_and}
 use Rattle.sasi_host.specs.Disk.{Same}
-use Rattle.sasi_host.specs.ChangeLaws.{stays, then_same}
+use Rattle.sasi_host.proofs.ChangeLaws.{stays, then_same}
 use Rattle.sasi_recover.proofs.ReplayingAll.{live_once, read_all, replayed_all, shown_among, no_false_damage_among}
 use Rattle.sasi_recover.specs.ReplayState.{seen}
 use Rattle.sasi_recover.proofs.replay.replay.Goals as goal

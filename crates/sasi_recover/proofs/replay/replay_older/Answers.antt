@@ -1,10 +1,10 @@
 use Rattle.std.proofs.Common.{Err, ◌≡◌, arith, subst}
 use Rattle.std.proofs.lemmas.Result.{err_from_is_err_and}
 use Rattle.sasi_host.specs.Disk.{Same}
-use Rattle.sasi_host.specs.ChangeLaws.{then_same}
+use Rattle.sasi_host.proofs.ChangeLaws.{then_same}
 use Rattle.sasi_recover.specs.Replaying.{HasReplayed}
 use Rattle.sasi_recover.proofs.ReplayingAll.{live_once, none_replayed, replayed_more, shown_among, no_false_damage_among, still_there}
-use Rattle.sasi_gated.specs.CauseLaws.{reading_behind, reading_handed}
+use Rattle.sasi_gated.proofs.CauseLaws.{reading_behind, reading_handed}
 use Rattle.sasi_recover.specs.ReplayState.{seen}
 use Rattle.sasi_recover.proofs.replay.replay_older.Goals as goal
 

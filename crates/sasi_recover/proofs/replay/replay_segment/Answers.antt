@@ -1,10 +1,10 @@
 use Rattle.std.proofs.Common.{Ok, Err, arith, subst, ◌∙◌, ◌+◌}
 use Rattle.std.proofs.lemmas.Result.{err_from_is_err_and}
 use Rattle.sasi_host.specs.Disk.{Same}
-use Rattle.sasi_host.specs.ChangeLaws.{then_same}
+use Rattle.sasi_host.proofs.ChangeLaws.{then_same}
 use Rattle.sasi_host.specs.View.{Reaches}
 use Rattle.sasi_host.specs.declared.name.FileName.{FileName}
-use Rattle.sasi_gated.specs.CauseLaws.{reading_behind, reading_gives, reading_handed}
+use Rattle.sasi_gated.proofs.CauseLaws.{reading_behind, reading_gives, reading_handed}
 use Rattle.sasi_recover.proofs.ReplayingSegment.{begins_replay, once_to_end, once_to_error, reads_next, replayed_next, replays_next, shown_on, no_false_damage_first, no_false_damage_on}
 use Rattle.sasi_recover.specs.ReplayState.{seen}
 use Rattle.sasi_recover.proofs.replay.replay_segment.Goals as goal

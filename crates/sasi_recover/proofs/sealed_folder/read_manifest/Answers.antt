@@ -1,7 +1,7 @@
 use Rattle.std.proofs.Common.{subst}
 use Rattle.std.proofs.lemmas.Result.{err_from_is_err_and}
 use Rattle.sasi_host.specs.declared.name.FileName.{FileName}
-use Rattle.sasi_host.specs.ChangeLaws.{stays}
+use Rattle.sasi_host.proofs.ChangeLaws.{stays}
 use Rattle.sasi_host.specs.Names.{manifest_name}
 use Rattle.sasi_host.specs.View.{IsThere}
 use Rattle.sasi_recover.specs.SealedFolder.{ReportsMissing}

@@ -1,6 +1,6 @@
 use Rattle.std.proofs.Common.{subst}
 use Rattle.std.proofs.lemmas.Result.{err_from_is_err_and}
-use Rattle.sasi_host.specs.ChangeLaws.{stays}
+use Rattle.sasi_host.proofs.ChangeLaws.{stays}
 use Rattle.sasi_manifest.specs.declared.listing.Listing.{Listing}
 use Rattle.sasi_recover.specs.SealedFolder.{AreNamed, ReportsMissingListed}
 use Rattle.sasi_recover.proofs.Settling.{all_there, data_there, deletes_as, ends_shown, ends_undamaged, gone_as, missing_shown, nothing_missing, same_any, same_moments, same_then_any, settled, shapes_kept}

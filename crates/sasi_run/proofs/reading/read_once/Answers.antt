@@ -3,7 +3,7 @@ use Rattle.std.proofs.lemmas.List.{length-take, take_min}
 use Rattle.sasi_run.specs.Crashing.{FeedsCrashSafe, StopsWith}
 use Rattle.sasi_run.proofs.RunsAtEnd.{stops_after_read}
 use Rattle.sasi_run.proofs.FailedCalls.{calls_behind, ended_calls, ended_reports, none_failed, nothing_read, script_calls}
-use Rattle.sasi_host.specs.FailingLaws.{told_none}
+use Rattle.sasi_host.proofs.FailingLaws.{told_none}
 use Rattle.sasi_run.proofs.reading.read_once.Goals as goal
 
 pub returns-in-Ok-feed_bytes-clause-ok : goal.returns-in-Ok-feed_bytes-clause-ok

@@ -1,5 +1,5 @@
 use Rattle.std.proofs.Common.{ap, subst, sym}
-use Rattle.sasi_host.specs.FailingLaws.{told_none}
+use Rattle.sasi_host.proofs.FailingLaws.{told_none}
 use Rattle.sasi_host.specs.View.{FailsOnlyAsTold}
 use Rattle.sasi_run.proofs.FailedCalls.{calls_behind, closed_nothing, count_reports, counted_calls, nothing_on, unclosed_calls}
 use Rattle.sasi_run.proofs.RunsAtEnd.{count_of_store, ends_closed, ends_unclosed}

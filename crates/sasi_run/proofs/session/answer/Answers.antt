@@ -1,7 +1,7 @@
 use Rattle.std.proofs.Common.{arith, ap, ◌∙◌, refl}
 use Rattle.std.proofs.lemmas.Result.{err_from_is_err_and}
 use Rattle.sasi_model.specs.Pieces.{piece_of}
-use Rattle.sasi_host.specs.FailingLaws.{told_on}
+use Rattle.sasi_host.proofs.FailingLaws.{told_on}
 use Rattle.sasi_run.proofs.Answering.{answers_on, fails_moving, fails_shown, state_served}
 use Rattle.sasi_run.proofs.FailedCalls.{output_stops, output_went, step_stops, step_went}
 use Rattle.sasi_run.proofs.session.answer.Goals as goal

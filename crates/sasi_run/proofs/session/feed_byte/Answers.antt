@@ -1,7 +1,7 @@
 use Rattle.std.proofs.Common.{refl, arith}
 use Rattle.std.proofs.lemmas.Result.{err_from_is_err_and, on_ok_weaker, IfErr-weaker}
 use Rattle.sasi_run.specs.declared.session.Session.{Session}
-use Rattle.sasi_host.specs.FailingLaws.{told_none}
+use Rattle.sasi_host.proofs.FailingLaws.{told_none}
 use Rattle.sasi_run.proofs.FailedCalls.{none_failed}
 use Rattle.sasi_run.proofs.Answering.{feeds_no_end, feeds_answer, stops_before, stops_at}
 use Rattle.sasi_run.proofs.session.feed_byte.Goals as goal

@@ -2,7 +2,7 @@ use Rattle.std.proofs.Common.{ap, arith, refl}
 use Rattle.std.proofs.lemmas.Result.{on_ok_weaker, IfErr-weaker}
 use Rattle.sasi_model.specs.Pieces.{Pieces}
 use Rattle.sasi_run.specs.declared.session.Session.{Session}
-use Rattle.sasi_host.specs.FailingLaws.{told_none}
+use Rattle.sasi_host.proofs.FailingLaws.{told_none}
 use Rattle.sasi_run.proofs.FailedCalls.{none_failed}
 use Rattle.sasi_run.proofs.Answering.{fails_last, finishes_answer, finishes_nothing}
 use Rattle.sasi_run.proofs.session.finish.Goals as goal

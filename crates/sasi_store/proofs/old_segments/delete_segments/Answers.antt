@@ -1,7 +1,7 @@
 use Rattle.std.proofs.Common.{arith, rules, sym, subst, ◌∙◌}
 use Rattle.sasi_host.specs.View.{IsAbsent, IsThere}
 use Rattle.sasi_host.specs.Disk.{Changes, FileChange, MaybeDeleted}
-use Rattle.sasi_host.specs.ChangeLaws.{then_same}
+use Rattle.sasi_host.proofs.ChangeLaws.{then_same}
 use Rattle.sasi_store.specs.Flushing.{DeletesSegments}
 use Rattle.sasi_store.proofs.SegmentDeletions.{gone_on, left_on, none_deleted, one_deleted}
 use Rattle.sasi_store.proofs.old_segments.delete_segments.Goals as goal

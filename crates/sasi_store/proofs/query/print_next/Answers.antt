@@ -1,6 +1,6 @@
 use Rattle.std.proofs.Common.{ℕ, List, Option, length, refl, subst, arith}
 use Rattle.std.proofs.lemmas.Result.{err_from_is_err_and}
-use Rattle.sasi_host.specs.ChangeLaws.{stays}
+use Rattle.sasi_host.proofs.ChangeLaws.{stays}
 use Rattle.sasi_model.specs.Cells.{Partition}
 use Rattle.sasi_merge.specs.Merging.{GivesLeast, with_token}
 use Rattle.sasi_store.proofs.Pages.{none_read}

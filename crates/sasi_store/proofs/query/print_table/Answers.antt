@@ -1,7 +1,7 @@
 use Rattle.std.proofs.Common.{Option, Err, map, refl, subst, ◌∙◌}
 use Rattle.std.proofs.lemmas.Result.{err_from_is_err_and}
 use Rattle.std.specs.FinMap as map_
-use Rattle.sasi_host.specs.ChangeLaws.{then_same}
+use Rattle.sasi_host.proofs.ChangeLaws.{then_same}
 use Rattle.sasi_host.specs.Damages.{OnDamage}
 use Rattle.sasi_host.specs.Disk.{Same}
 use Rattle.sasi_host.specs.Names.{Folder}

@@ -1,7 +1,7 @@
 use Rattle.std.proofs.Common.{Err, rules, ◌≡◌, Option, ℕ, length, refl, ◌∙◌, subst, arith}
 use Rattle.std.proofs.lemmas.Result.{err_from_is_err_and}
-use Rattle.sasi_host.specs.ChangeLaws.{then_same}
-use Rattle.sasi_host.specs.ChangeLaws as changes
+use Rattle.sasi_host.proofs.ChangeLaws.{then_same}
+use Rattle.sasi_host.proofs.ChangeLaws as changes
 use Rattle.sasi_host.specs.Disk.{Same}
 use Rattle.sasi_merge.specs.Merging.{with_token}
 use Rattle.sasi_host.specs.Names.{Folder}

@@ -1,6 +1,6 @@
 use Rattle.std.proofs.Common.{◌≡◌, List, get_or, rules, subst, sym, ◌∙◌}
 use Rattle.std.proofs.lemmas.Result.{err_from_is_err_and}
-use Rattle.sasi_host.specs.ChangeLaws.{stays}
+use Rattle.sasi_host.proofs.ChangeLaws.{stays}
 use Rattle.sasi_merge.specs.Merging.{Head, with_token}
 use Rattle.sasi_store.proofs.Moves.{got}
 use Rattle.sasi_store.proofs.Pages.{none_read, set_reads, set_stops}

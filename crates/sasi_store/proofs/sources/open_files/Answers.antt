@@ -1,6 +1,6 @@
 use Rattle.std.proofs.Common.{Err, refl, ◌∙◌, arith}
 use Rattle.std.proofs.lemmas.Result.{err_from_is_err_and}
-use Rattle.sasi_host.specs.ChangeLaws.{stays, then_same}
+use Rattle.sasi_host.proofs.ChangeLaws.{stays, then_same}
 use Rattle.sasi_host.specs.Disk.{Same}
 use Rattle.sasi_store.proofs.Pages.{next_reads, next_stops, opening_begins, opening_ends}
 use Rattle.sasi_store.proofs.Costs.{causes_behind, causes_of_fault, causes_ok, of_reads}

@@ -1,7 +1,7 @@
 use Rattle.std.proofs.Common.{Err, Option, subst, sym, arith}
 use Rattle.std.proofs.lemmas.Result.{err_from_is_err_and}
-use Rattle.sasi_host.specs.ChangeLaws.{then_same}
-use Rattle.sasi_host.specs.CauseLaws.{fault_reads, ok_reads, reads_on}
+use Rattle.sasi_host.proofs.ChangeLaws.{then_same}
+use Rattle.sasi_host.proofs.CauseLaws.{fault_reads, ok_reads, reads_on}
 use Rattle.sasi_host.specs.Disk.{Same}
 use Rattle.sasi_host.specs.Names.{Folder}
 use Rattle.sasi_store.specs.Sources.{CanStep, NoFalseSourceDamage, ShowsSource}

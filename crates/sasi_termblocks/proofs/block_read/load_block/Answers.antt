@@ -1,7 +1,7 @@
 use Rattle.std.proofs.Common.{◌+◌, ◌*◌, length, Option, ◌∙◌, ap, subst, sym, arith}
 use Rattle.sasi_host.specs.declared.name.FileName.{FileName}
-use Rattle.sasi_host.specs.Buffered.{buffered_after}
-use Rattle.sasi_host.specs.ChangeLaws.{then_same}
+use Rattle.sasi_host.proofs.BufferedLaws.{buffered_after}
+use Rattle.sasi_host.proofs.ChangeLaws.{then_same}
 use Rattle.sasi_host.specs.Disk.{Same}
 use Rattle.sasi_host.specs.Damages.{DamageShown, TellsSize}
 use Rattle.sasi_host.proofs.DamageLaws.{end_shown, shown_before}

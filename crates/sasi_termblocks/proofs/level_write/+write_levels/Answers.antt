@@ -1,6 +1,6 @@
 use Rattle.std.proofs.Common.{◌+◌, ◌∙◌, List, ap, arith, length, refl, subst, sym}
 use Rattle.sasi_host.specs.Names.{Bytes}
-use Rattle.sasi_tokentree.specs.Writes.{changes_past_on}
+use Rattle.sasi_tokentree.proofs.WriteLaws.{changes_past_on}
 use Rattle.sasi_termblocks.specs.Blocks.{pointers_to}
 use Rattle.sasi_termblocks.specs.Writing.{AreShort}
 use Rattle.sasi_termblocks.proofs.LevelLaws.{fewer_above, level_as, more_end, more_top, more_written, one_ends, one_top, one_written}

@@ -1,5 +1,5 @@
 use Rattle.std.proofs.Common.{refl}
-use Rattle.sasi_tokentree.specs.Writes.{changes_past_torn, writes_once}
+use Rattle.sasi_tokentree.proofs.WriteLaws.{changes_past_torn, writes_once}
 use Rattle.sasi_termblocks.proofs.level_write.write_bytes.Goals as goal
 
 pub returns-in_err-write-clause-changes : goal.returns-in_err-write-clause-changes

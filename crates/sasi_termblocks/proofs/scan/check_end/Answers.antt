@@ -1,6 +1,6 @@
 use Rattle.std.proofs.Common.{arith}
 use Rattle.std.proofs.lemmas.Result.{err_from_is_err_and}
-use Rattle.sasi_host.specs.PageReading.{reads_nothing}
+use Rattle.sasi_host.proofs.PageReadingLaws.{reads_nothing}
 use Rattle.sasi_termblocks.proofs.Shown.{behind_shown}
 use Rattle.sasi_termblocks.proofs.scan.check_end.Goals as goal
 

@@ -2,7 +2,7 @@ use Rattle.std.proofs.Common.{◌/◌, arith, inl, subst}
 use Rattle.std.proofs.lemmas.Result.{err_from_is_err_and}
 use Rattle.sasi_host.specs.declared.name.FileName.{FileName}
 use Rattle.sasi_host.specs.Damages.{DamageShown, TellsSize}
-use Rattle.sasi_host.specs.PageReading.{reads_nothing, reads_then}
+use Rattle.sasi_host.proofs.PageReadingLaws.{reads_nothing, reads_then}
 use Rattle.sasi_termblocks.specs.Damages.{BreaksSplit, ShowsBlock, ShowsGiven}
 use Rattle.sasi_termblocks.proofs.Descent.{still_reads}
 use Rattle.sasi_termblocks.proofs.Shown.{ends_below, found_shown, shown_still, split_shown, too_long_shown}

@@ -1,7 +1,7 @@
 use Rattle.std.proofs.Common.{◌≡◌, ◌+◌, ◌-◌, ◌<◌, ℕ, [], arith, refl, subst}
 use Rattle.std.proofs.lemmas.Result.{err_from_is_err_and}
 use Rattle.sasi_host.specs.declared.name.FileName.{FileName}
-use Rattle.sasi_host.specs.PageReading.{reads_nothing, reads_then}
+use Rattle.sasi_host.proofs.PageReadingLaws.{reads_nothing, reads_then}
 use Rattle.sasi_termblocks.specs.Damages.{BreaksPointers, Leads, LeadsFor, ShowsBlock}
 use Rattle.sasi_termblocks.specs.Damages.LeadsFor.{from_top}
 use Rattle.sasi_termblocks.specs.Descents.{IsPageFor, high_page, low_page}

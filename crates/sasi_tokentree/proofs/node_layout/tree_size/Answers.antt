@@ -1,6 +1,7 @@
 use Rattle.std.proofs.Common.{ℕ, arith, sym, ap, ◌∙◌}
 use Rattle.std.specs.Prelude.{length}
-use Rattle.sasi_tokentree.specs.Heights.{levels_size, tree_length}
+use Rattle.sasi_tokentree.specs.Heights.{levels_size}
+use Rattle.sasi_tokentree.proofs.HeightLaws.{tree_length}
 use Rattle.sasi_tokentree.proofs.node_layout.tree_size.Goals as goal
 
 pub returns : goal.returns

@@ -3,12 +3,12 @@ use Rattle.std.proofs.lemmas.Result.{err_from_is_err_and}
 use borrow.Rule.Slice.PartMut.{put_mid}
 use Rattle.sasi_host.specs.Names.{Bytes}
 use Rattle.sasi_host.specs.Damages.{HasAt}
-use Rattle.sasi_host.specs.PageReading.{reads_then}
+use Rattle.sasi_host.proofs.PageReadingLaws.{reads_then}
 use Rattle.sasi_host.proofs.Offsets.{at_ends}
 use Rattle.sasi_host.proofs.Pages.{end_before}
 use Rattle.sasi_tokentree.specs.Format.{node_header}
 use Rattle.sasi_tokentree.specs.declared.node_read.Node.{Node}
-use Rattle.sasi_tokentree.specs.Sizes.{head_length}
+use Rattle.sasi_tokentree.proofs.Sizes.{head_length}
 use Rattle.sasi_tokentree.proofs.AfterRead.{reads_still}
 use Rattle.sasi_tokentree.proofs.NodeReads.{node_is, early_spares, entries_end, filled_behind, both_read}
 use Rattle.sasi_tokentree.proofs.node_read.read_node.Goals as goal

@@ -1,13 +1,13 @@
 use Rattle.std.proofs.Common.{◌≡◌, Ok, ◌+◌, ◌*◌, subst, arith, Err}
 use Rattle.std.proofs.lemmas.Result.{err_from_is_err_and}
-use Rattle.sasi_host.specs.PageReading.{reads_nothing, reads_then}
+use Rattle.sasi_host.proofs.PageReadingLaws.{reads_nothing, reads_then}
 use Rattle.sasi_host.specs.declared.name.FileName.{FileName}
 use Rattle.sasi_host.specs.Damages.{DamageShown, TellsSize}
 use Rattle.sasi_tokentree.specs.Damages.{BeginsLeaf}
 use Rattle.sasi_tokentree.specs.Heights.{height}
 use Rattle.sasi_tokentree.proofs.EntryPages.{entry_pages}
 use Rattle.sasi_tokentree.proofs.AfterRead.{reads_still, tree_shown_more, tree_shown_still}
-use Rattle.sasi_host.specs.CauseLaws.{reads_on, ok_reads}
+use Rattle.sasi_host.proofs.CauseLaws.{reads_on, ok_reads}
 use Rattle.sasi_tokentree.proofs.LeafPairs.{begins_leaf, long_spares, long_shown, leaves_shown, gave_entry, gave_header, level_spares, tree_spares_before, tree_stands_at, count_is, no_pairs, takes_none}
 use Rattle.sasi_tokentree.proofs.pair_scan.first_from.Goals as goal
 

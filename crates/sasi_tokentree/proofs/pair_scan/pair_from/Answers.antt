@@ -1,9 +1,9 @@
 use Rattle.std.proofs.Common.{◌≡◌, refl, ◌<◌, length, subst, arith}
 use Rattle.std.proofs.lemmas.Result.{err_from_is_err_and}
-use Rattle.sasi_host.specs.PageReading.{reads_nothing}
+use Rattle.sasi_host.proofs.PageReadingLaws.{reads_nothing}
 use Rattle.sasi_host.specs.declared.name.FileName.{FileName}
 use Rattle.sasi_host.specs.Damages.{DamageShown, TellsSize}
-use Rattle.sasi_host.specs.CauseLaws.{fault_reads, ok_reads}
+use Rattle.sasi_host.proofs.CauseLaws.{fault_reads, ok_reads}
 use Rattle.sasi_tokentree.proofs.LeafPairs.{long_spares, long_shown, level_spares, pair_shown, pair_is, gives_entry, gives_header, near_entry, tree_stands_at, count_is, takes_pair, takes_none}
 use Rattle.sasi_tokentree.proofs.pair_scan.pair_from.Goals as goal
 

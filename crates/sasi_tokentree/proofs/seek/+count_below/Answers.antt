@@ -1,6 +1,6 @@
 use Rattle.std.proofs.Common.{◌≡◌, ℕ, ◌+◌, ◌-◌, ◌<◌, Ok, Err, subst, arith}
 use Rattle.std.proofs.lemmas.Result.{err_from_is_err_and}
-use Rattle.sasi_host.specs.PageReading.{reads_then}
+use Rattle.sasi_host.proofs.PageReadingLaws.{reads_then}
 use Rattle.sasi_tokentree.specs.Format.{above}
 use Rattle.sasi_tokentree.specs.Reads.{IsLowerBound}
 use Rattle.sasi_tokentree.specs.Damages.{IsNodeFrom}
@@ -8,7 +8,7 @@ use Rattle.sasi_tokentree.specs.Damages.IsNodeFrom.{of_above}
 use Rattle.sasi_tokentree.proofs.AfterRead.{reads_still, shown_still}
 use Rattle.sasi_tokentree.proofs.NodeReads.{shown_more, node_of_one}
 use Rattle.sasi_tokentree.proofs.StoredLevels.{stands_one, none_below, below_in}
-use Rattle.sasi_host.specs.CauseLaws.{ok_reads, reads_within}
+use Rattle.sasi_host.proofs.CauseLaws.{ok_reads, reads_within}
 use Rattle.sasi_tokentree.proofs.Seeks.{spares_one, spares_up, spares_before, up, up_length, one_level_reads, above_reads, more_level_reads, reached_in_one, reached_none}
 use Rattle.sasi_tokentree.proofs.seek.+count_below.Goals as goal
 

@@ -1,7 +1,7 @@
 use Rattle.std.proofs.Common.{ℕ, ◌+◌, ◌∙◌, arith, length, subst, sym}
 use Rattle.sasi_host.specs.View.{Reaches}
-use Rattle.sasi_tokentree.specs.Heights.{rises}
-use Rattle.sasi_tokentree.specs.Writes.{changes_past_on}
+use Rattle.sasi_tokentree.proofs.HeightLaws.{rises}
+use Rattle.sasi_tokentree.proofs.WriteLaws.{changes_past_on}
 use Rattle.sasi_tokentree.proofs.LevelSteps.{last_written, last_top, more_written, more_top, above_length, up_room}
 use Rattle.sasi_tokentree.proofs.TreeSizes.{last_fits, more_fits}
 use Rattle.sasi_tokentree.proofs.writing.+write_levels.Goals as goal

@@ -2,7 +2,7 @@ use Rattle.std.proofs.Common.{◌≡◌, ◌+◌, ◌^◌, ◌≤◌, List, leng
 use Rattle.std.proofs.lemmas.List.{nil_from_length}
 use Rattle.std.proofs.lemmas.Bool.Decides.{nat_tests}
 use Rattle.sasi_types.specs.declared.tree.Pair.{Pair}
-use Rattle.sasi_tokentree.specs.Writes.{changes_past_stays}
+use Rattle.sasi_tokentree.proofs.WriteLaws.{changes_past_stays}
 use Rattle.sasi_tokentree.specs.Format.{AreFit, tree_bytes}
 use Rattle.sasi_tokentree.proofs.Fitting.{all_fit, first_none}
 use Rattle.sasi_tokentree.proofs.LevelSteps.{empty_written, empty_tree}

@@ -1,6 +1,6 @@
 use Rattle.std.proofs.Common.{◌≡◌, ℕ, length, refl, sym, ◌∙◌, ap, arith}
 use Rattle.sasi_tokentree.specs.Format.{nodes, first_nodes}
-use Rattle.sasi_tokentree.specs.Sizes.{first_above_none, level_length}
+use Rattle.sasi_tokentree.proofs.Sizes.{first_above_none, level_length}
 use Rattle.sasi_tokentree.proofs.LevelSteps.{first_written, next_room, next_changes, next_written, next_fits, next_entry}
 use Rattle.sasi_tokentree.proofs.Fitting.{first_none, level_fits, node_more}
 use Rattle.sasi_tokentree.proofs.writing.write_level.Goals as goal

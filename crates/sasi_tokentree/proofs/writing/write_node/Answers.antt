@@ -1,5 +1,5 @@
 use Rattle.std.proofs.Common.{◌∙◌}
-use Rattle.sasi_tokentree.specs.Writes.{changes_past_stays, changes_past_torn, writes_once}
+use Rattle.sasi_tokentree.proofs.WriteLaws.{changes_past_stays, changes_past_torn, writes_once}
 use Rattle.sasi_tokentree.proofs.writing.write_node.Goals as goal
 
 pub returns-in_err-bytes-clause-changes : goal.returns-in_err-bytes-clause-changes

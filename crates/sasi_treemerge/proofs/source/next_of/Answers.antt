@@ -1,6 +1,6 @@
 use Rattle.std.proofs.Common.{arith}
 use Rattle.std.proofs.lemmas.Result.{err_from_is_err_and}
-use Rattle.sasi_host.specs.CauseLaws.{damage_reads}
+use Rattle.sasi_host.proofs.CauseLaws.{damage_reads}
 use Rattle.sasi_treemerge.proofs.Disorder.{disorder_shown, disorder_spares, pairs_shown, pairs_spare}
 use Rattle.sasi_treemerge.proofs.source.next_of.Goals as goal
 

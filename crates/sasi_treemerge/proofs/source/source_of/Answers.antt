@@ -1,7 +1,7 @@
 use Rattle.std.proofs.Common.{◌≡◌, None, Ok}
 use Rattle.std.proofs.lemmas.Result.{err_from_is_err_and}
 use Rattle.std.specs.Box.{with_value}
-use Rattle.sasi_host.specs.CauseLaws.{fault_reads, ok_reads, reads_within}
+use Rattle.sasi_host.proofs.CauseLaws.{fault_reads, ok_reads, reads_within}
 use Rattle.sasi_tokentree.proofs.AfterRead.{tree_shown_more}
 use Rattle.sasi_tokentree.proofs.EntryPages.{entry_pages}
 use Rattle.sasi_treemerge.proofs.Disorder.{at_head_of}

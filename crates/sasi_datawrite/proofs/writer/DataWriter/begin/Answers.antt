@@ -1,11 +1,11 @@
 use Rattle.std.proofs.Common.{◌≡◌, ◌++◌, length, true, refl, ◌∙◌, ap, arith}
 use Rattle.sasi_host.specs.Names.{Bytes, data_name}
-use Rattle.sasi_host.specs.Contents.{reaches_held}
+use Rattle.sasi_host.proofs.ContentLaws.{reaches_held}
 use Rattle.sasi_datawrite.specs.Format.{header}
 use Rattle.sasi_formats.specs.Formats.{encoded}
 use Rattle.sasi_formats.specs.Headers.{file_header}
 use Rattle.sasi_datawrite.proofs.Laws.{header_length, header_put}
-use Rattle.sasi_host.specs.ChangeLaws.{untouched}
+use Rattle.sasi_host.proofs.ChangeLaws.{untouched}
 use Rattle.sasi_datawrite.proofs.Pushes.{writing_none}
 use Rattle.sasi_datawrite.proofs.writer.DataWriter.begin.Goals as goal
 

@@ -1,6 +1,6 @@
 use Rattle.std.proofs.Common.{◌∙◌, sym}
 use Rattle.std.specs.Option.{option_copied}
-use Rattle.sasi_host.specs.ChangeLaws.{untouched}
+use Rattle.sasi_host.proofs.ChangeLaws.{untouched}
 use Rattle.sasi_gated.proofs.Creates.{new_file_end}
 use Rattle.sasi_gated.proofs.gated.Gated.create.Goals as goal
 

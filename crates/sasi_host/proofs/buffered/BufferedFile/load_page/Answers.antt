@@ -1,6 +1,6 @@
 use Rattle.std.proofs.Common.{◌≡◌, ◌*◌, ℕ, take, drop, sym, ◌∙◌, ap}
-use Rattle.sasi_host.specs.Contents.{contents_same}
-use Rattle.sasi_host.specs.ChangeLaws.{stays}
+use Rattle.sasi_host.proofs.ContentLaws.{contents_same}
+use Rattle.sasi_host.proofs.ChangeLaws.{stays}
 use Rattle.sasi_host.proofs.Pages.{page_read}
 use Rattle.sasi_host.proofs.buffered.BufferedFile.load_page.Goals as goal
 

@@ -2,10 +2,10 @@ use Rattle.std.proofs.Common.{Err, suc, ◌≡◌, ◌+◌, ◌-◌, ◌/◌, �
 use Rattle.std.proofs.lemmas.List.{take_all}
 use Rattle.std.proofs.lemmas.Result.{err_from_is_err_and}
 use Rattle.sasi_host.specs.Disk.{Same}
-use Rattle.sasi_host.specs.ChangeLaws.{stays, then_same}
-use Rattle.sasi_host.specs.CauseLaws.{reads_behind}
+use Rattle.sasi_host.proofs.ChangeLaws.{stays, then_same}
+use Rattle.sasi_host.proofs.CauseLaws.{reads_behind}
 use Rattle.sasi_host.specs.Buffered.{reached}
-use Rattle.sasi_host.specs.Sequential.{begins_known, begins_later, page_within}
+use Rattle.sasi_host.proofs.SequentialLaws.{begins_known, begins_later, page_within}
 use Rattle.sasi_host.proofs.Pages.{ends_within, no_further_here, part_reaches, part_long, part_more, spend_on, spend_first, spend_none, reads_on, there_on, end_before}
 use Rattle.sasi_host.proofs.buffered.BufferedFile.read_into.Goals as goal
 

@@ -3,8 +3,8 @@ use Rattle.sasi_host.specs.declared.name.FileName.{FileName}
 use Rattle.sasi_host.specs.Disk.{Same}
 use Rattle.sasi_host.specs.Damages.{DamageShown, ShowsEnd, TellsSize}
 use Rattle.sasi_host.specs.Buffered.{Buffered}
-use Rattle.sasi_host.specs.ChangeLaws.{then_same}
-use Rattle.sasi_host.specs.FailingLaws.{failed_behind}
+use Rattle.sasi_host.proofs.ChangeLaws.{then_same}
+use Rattle.sasi_host.proofs.FailingLaws.{failed_behind}
 use Rattle.sasi_host.proofs.DamageLaws.{shown_before, end_shown}
 use Rattle.sasi_host.proofs.Pages.{page_gives, page_long, reads_on}
 use Rattle.sasi_host.proofs.buffered.BufferedFile.read_part.Goals as goal

@@ -3,7 +3,7 @@ use Rattle.std.specs.FinMap.{get}
 use Rattle.sasi_host.specs.declared.call.Call.TheVariants.{Synced}
 use Rattle.sasi_host.specs.Names.{Folder}
 use Rattle.sasi_host.specs.Disk.{Same}
-use Rattle.sasi_host.specs.ChangeLaws.{changes_as}
+use Rattle.sasi_host.proofs.ChangeLaws.{changes_as}
 use Rattle.sasi_host.specs.Calls.{Effect}
 use Rattle.sasi_host.specs.Memory.{seen}
 use Rattle.sasi_host.proofs.CallChanges.{err_from}

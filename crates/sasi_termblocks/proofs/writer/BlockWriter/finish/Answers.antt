@@ -1,5 +1,5 @@
 use Rattle.std.proofs.Common.{rules, subst, sym}
-use Rattle.sasi_tokentree.specs.Writes.{changes_past_stays}
+use Rattle.sasi_tokentree.proofs.WriteLaws.{changes_past_stays}
 use Rattle.sasi_termblocks.specs.Blocks.{items_of}
 use Rattle.sasi_termblocks.specs.Writing.{HasPushed, Writer}
 use Rattle.sasi_termblocks.proofs.LevelLaws.{level_as, refers}

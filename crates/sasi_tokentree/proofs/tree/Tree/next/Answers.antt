@@ -6,7 +6,7 @@ use Rattle.sasi_tokentree.specs.declared.pair_scan.ScannedPair.{ScannedPair}
 use Rattle.sasi_tokentree.specs.Damages.{ShowsTreeBy}
 use Rattle.sasi_tokentree.specs.Reads.{NoFalseTreeDamage}
 use Rattle.sasi_tokentree.specs.Scans.{PassesOne, ReadsEntry, ReadsHeader, ReadsNextPair, PairScan, entry_cost}
-use Rattle.sasi_host.specs.CauseLaws.{fault_reads, ok_reads}
+use Rattle.sasi_host.proofs.CauseLaws.{fault_reads, ok_reads}
 use Rattle.sasi_tokentree.proofs.tree.Tree.next.Goals as goal
 
 pub returns-in_err-found-clause-undamaged : goal.returns-in_err-found-clause-undamaged

@@ -1,5 +1,5 @@
 use Rattle.std.proofs.Common.{ap, arith, inl, refl, subst, Option, Some}
-use Rattle.sasi_host.specs.ChangeLaws.{stays}
+use Rattle.sasi_host.proofs.ChangeLaws.{stays}
 use Rattle.sasi_tokentree.specs.Scans.{PairScan}
 use Rattle.sasi_treemerge.specs.declared.source.Source.{Source}
 use Rattle.sasi_treemerge.specs.Merges.{GoesOn}

@@ -2,7 +2,7 @@ use Rattle.std.proofs.Common.{◌≡◌, ◌∙◌, ap, refl, subst, sym, ℕ, O
 use Rattle.std.proofs.lemmas.Result.{err_from_is_err_and}
 use Rattle.sasi_types.specs.declared.tree.Pair.{Pair}
 use Rattle.sasi_host.specs.declared.name.FileName.{FileName}
-use Rattle.sasi_host.specs.ChangeLaws.{stays, then_same}
+use Rattle.sasi_host.proofs.ChangeLaws.{stays, then_same}
 use Rattle.sasi_host.specs.Disk.{Same}
 use Rattle.sasi_host.specs.View.{IsThere}
 use Rattle.std.proofs.Common.{inl}

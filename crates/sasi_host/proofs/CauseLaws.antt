@@ -6,7 +6,7 @@ use Rattle.sasi_host.specs.declared.damage.Damage.{Damage}
 use Rattle.sasi_host.specs.declared.fault.ReadFault.{ReadFault}
 use Rattle.sasi_host.specs.declared.fault.ReadFault.TheVariants as fault
 use Rattle.sasi_host.specs.View.{View, ReadsAtMost}
-use Rattle.sasi_host.specs.FailingLaws.{failed_behind}
+use Rattle.sasi_host.proofs.FailingLaws.{failed_behind}
 
 -- reads behind calls of which none failed
 pub reads_behind : {T : Type 0} (a b c : View) (n most : ℕ) (result : Result T ReadFault) → b.disk_faults ≡ a.disk_faults → b.out_faults ≡ a.out_faults

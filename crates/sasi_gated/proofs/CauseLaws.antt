@@ -5,7 +5,7 @@ use Rattle.std.specs.declared.result.Result.{Result}
 use Rattle.sasi_host.specs.declared.fault.ReadFault.{ReadFault}
 use Rattle.sasi_host.specs.declared.fault.ReadFault.TheVariants as fault
 use Rattle.sasi_host.specs.View.{View}
-use Rattle.sasi_host.specs.FailingLaws.{failed_behind}
+use Rattle.sasi_host.proofs.FailingLaws.{failed_behind}
 use Rattle.sasi_gated.specs.Causes.{ReadingCauses}
 
 -- a read behind calls of which none failed

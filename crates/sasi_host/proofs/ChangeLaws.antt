@@ -5,8 +5,8 @@ use Rattle.std.specs.FinMap.{get}
 use Rattle.sasi_host.specs.declared.name.FileName.{FileName}
 use Rattle.sasi_host.specs.Names.{Bytes, Folder}
 use Rattle.sasi_host.specs.View.{View, LeavesNow, CrashLeaves, IsSound}
-use Rattle.sasi_host.specs.FailingLaws.{told_none, told_on}
-use Rattle.sasi_host.specs.Disk.{Relation, Same, FromImage, Changes, FileChange, Within, AnyChange}
+use Rattle.sasi_host.proofs.FailingLaws.{told_none, told_on}
+use Rattle.sasi_host.specs.Disk.{Relation, Same, FromImage, Changes, FileChange, Within, AnyChange, Each}
 
 -- one stretch of moments after another
 pub crash_leaves_on : (a b c : View) (P Q U : Folder → Bytes → Type 0) → CrashLeaves a b P → CrashLeaves b c Q
@@ -145,10 +145,6 @@ within_on mine a b c first second =
     (λ x y z s t name not_mine. t name not_mine ∙ s name not_mine)
 
 -- ---- what each image has
-
--- each image has P
-abbrev pub Each : View → (Folder → Type 0) → Type 0
-Each v P = (c : Folder) → v.image c → P c
 
 -- what each image has stays, where the change keeps it
 pub each_on : (a b : View) (S : Relation) (P : Folder → Type 0) → Changes S a b → ((x y : Folder) → S x y → P x → P y) → Each a P → Each b P
