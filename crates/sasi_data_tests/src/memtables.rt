@@ -24,15 +24,14 @@ fn int_at(rt: &impl Abort, alloc: Global, time: u64) -> Partition
     part
 }
 
-/// Keys k2 and k1 with an int each.
+/// Keys k2 and k1 with an int each, which were written at 5 and 4.
 fn filled(rt: &impl Abort, alloc: Global) -> Memtable {
     let mut memtable = Memtable::new(alloc, Partitioner::Lead8);
-    let part = int_at(rt, alloc, 5);
     memtable
-        .put(&key_of(rt, alloc, b"k2"), &part)
+        .put(&key_of(rt, alloc, b"k2"), &int_at(rt, alloc, 5))
         .expect(rt, "memory for a change");
     memtable
-        .put_from(key_of(rt, alloc, b"k1"), part)
+        .put_from(key_of(rt, alloc, b"k1"), int_at(rt, alloc, 4))
         .expect(rt, "memory for a change");
     memtable
 }
@@ -62,11 +61,22 @@ fn cells_and_bytes_are_counted(rt: HostRuntime) {
     assert!(rt; (memtable.cells(), memtable.bytes(), memtable.is_empty()) == (2, 12, false));
 }
 
+/// Whether the partition has the int of column 1 alone, which was written then.
+fn is_int_at(part: &Partition, time: u64) -> bool {
+    match part.cells() {
+        [cell] => {
+            cell.column() == 1 && cell.time() == time && matches!(cell.value(), Some(Value::Int(7)))
+        }
+        _ => false,
+    }
+}
+
 #[test]
 fn key_is_found(rt: HostRuntime) {
     let memtable = filled(&rt, rt.alloc());
     let key = decorated(Partitioner::Lead8, key_of(&rt, rt.alloc(), b"k2"));
-    assert!(rt; memtable.get(&key).is_some());
+    let part = memtable.get(&key).expect(&rt, "a partition");
+    assert!(rt; is_int_at(part, 5));
 }
 
 // The deletion shadows the int, and counts as a cell.

@@ -14,16 +14,16 @@ fn head_of(rt: &impl Abort, alloc: Global, bytes: &[u8], deleted: u64) -> Head {
     Some((token, key, Partition::deletion(alloc, deleted)))
 }
 
-/// Two sources, whose heads have these keys and were deleted at 5 and 6.
-fn heads_of(rt: &impl Abort, alloc: Global, first: &[u8], second: &[u8]) -> Heads
+/// Two sources, whose heads have these keys and were deleted then.
+fn heads_of(rt: &impl Abort, alloc: Global, first: (&[u8], u64), second: (&[u8], u64)) -> Heads
     ensures { length result ≡ 2 }
 {
     let mut heads = Heads::new(alloc);
     heads
-        .push(head_of(rt, alloc, first, 5))
+        .push(head_of(rt, alloc, first.0, first.1))
         .expect(rt, "memory for a head");
     heads
-        .push(head_of(rt, alloc, second, 6))
+        .push(head_of(rt, alloc, second.0, second.1))
         .expect(rt, "memory for a head");
     heads
 }
@@ -50,21 +50,26 @@ fn check_next(
 #[test]
 fn least_key_is_given(rt: HostRuntime) {
     let alloc = rt.alloc();
-    let heads = heads_of(&rt, alloc, b"k2", b"k1");
+    let heads = heads_of(&rt, alloc, (b"k2", 5), (b"k1", 6));
     check_next(&rt, alloc, &mut Merge::new(), &heads, b"k1", 6);
+}
+
+/// Of two deletions of a key the merge has the one at 6.
+fn check_merged(rt: &impl Abort, alloc: Global, first: u64, second: u64) {
+    let heads = heads_of(rt, alloc, (b"k1", first), (b"k1", second));
+    check_next(rt, alloc, &mut Merge::new(), &heads, b"k1", 6);
 }
 
 #[test]
 fn partitions_of_a_key_are_merged(rt: HostRuntime) {
-    let alloc = rt.alloc();
-    let heads = heads_of(&rt, alloc, b"k1", b"k1");
-    check_next(&rt, alloc, &mut Merge::new(), &heads, b"k1", 6);
+    check_merged(&rt, rt.alloc(), 5, 6);
+    check_merged(&rt, rt.alloc(), 6, 5);
 }
 
 #[test]
 fn merge_goes_on_behind_an_ended_source(rt: HostRuntime) {
     let alloc = rt.alloc();
-    let mut heads = heads_of(&rt, alloc, b"k1", b"k2");
+    let mut heads = heads_of(&rt, alloc, (b"k1", 5), (b"k2", 6));
     let mut merge = Merge::new();
     check_next(&rt, alloc, &mut merge, &heads, b"k1", 5);
     heads.replace(0, None);
@@ -93,7 +98,7 @@ fn is_given(merge: &Merge, heads: &Heads, position: usize, key: &Key) -> bool {
 #[test]
 fn sources_with_the_key_move(rt: HostRuntime) {
     let alloc = rt.alloc();
-    let heads = heads_of(&rt, alloc, b"k2", b"k1");
+    let heads = heads_of(&rt, alloc, (b"k2", 5), (b"k1", 6));
     let mut merge = Merge::new();
     check_next(&rt, alloc, &mut merge, &heads, b"k1", 6);
     let key = Key::new(alloc, b"k1").expect(&rt, "a key");

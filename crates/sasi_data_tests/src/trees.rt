@@ -192,53 +192,55 @@ fn check_changed(rt: &impl Abort, alloc: Global, offset: usize, byte: u8, damage
     );
 }
 
+// Bytes of the tree that are changed: the offset, the new byte, and the damage that is seen.
+const CHANGES: [(usize, u8, u64, FormatRule, [u8; 8], u8); 7] = [
+    (
+        4112,
+        2,
+        4112,
+        FormatRule::Number,
+        [2, 0, 0, 0, 0, 0, 0, 0],
+        1,
+    ),
+    (
+        4113,
+        1,
+        4113,
+        FormatRule::Number,
+        [1, 0, 0, 0, 0, 0, 0, 0],
+        1,
+    ),
+    (
+        4115,
+        3,
+        4114,
+        FormatRule::Number,
+        [0, 3, 0, 0, 0, 0, 0, 0],
+        2,
+    ),
+    (
+        4119,
+        9,
+        4116,
+        FormatRule::Number,
+        [0, 0, 0, 9, 0, 0, 0, 0],
+        4,
+    ),
+    (0, 1, 0, FormatRule::Number, [1, 0, 0, 0, 0, 0, 0, 0], 1),
+    (
+        4142,
+        0,
+        4136,
+        FormatRule::Order,
+        [0, 0, 0, 0, 0, 0, 0, 5],
+        8,
+    ),
+    (31, 200, 40, FormatRule::Order, [0, 0, 0, 0, 0, 0, 0, 11], 8),
+];
+
 #[test]
 fn damage_is_reported(rt: HostRuntime) {
-    let expected: [(usize, u8, u64, FormatRule, [u8; 8], u8); 7] = [
-        (
-            4112,
-            2,
-            4112,
-            FormatRule::Number,
-            [2, 0, 0, 0, 0, 0, 0, 0],
-            1,
-        ),
-        (
-            4113,
-            1,
-            4113,
-            FormatRule::Number,
-            [1, 0, 0, 0, 0, 0, 0, 0],
-            1,
-        ),
-        (
-            4115,
-            3,
-            4114,
-            FormatRule::Number,
-            [0, 3, 0, 0, 0, 0, 0, 0],
-            2,
-        ),
-        (
-            4119,
-            9,
-            4116,
-            FormatRule::Number,
-            [0, 0, 0, 9, 0, 0, 0, 0],
-            4,
-        ),
-        (0, 1, 0, FormatRule::Number, [1, 0, 0, 0, 0, 0, 0, 0], 1),
-        (
-            4142,
-            0,
-            4136,
-            FormatRule::Order,
-            [0, 0, 0, 0, 0, 0, 0, 5],
-            8,
-        ),
-        (31, 200, 40, FormatRule::Order, [0, 0, 0, 0, 0, 0, 0, 11], 8),
-    ];
-    for (offset, byte, at, rule, seen, len) in expected {
+    for (offset, byte, at, rule, seen, len) in CHANGES {
         check_changed(&rt, rt.alloc(), offset, byte, damage(at, rule, seen, len));
     }
 }
