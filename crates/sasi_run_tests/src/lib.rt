@@ -1,5 +1,5 @@
-//! Tests of `sasi_run`: what crashes and faults of whole runs in memory leave. Cases that are text or bytes alone are the data
-//! of `sasi_scripts`.
+//! Tests of `sasi_run` and of what it stands on: what crashes and faults of whole runs in memory leave, the tables in memory alone,
+//! and what stores and manifests say of their calls. Cases that are text or bytes alone are the data of `sasi_scripts`.
 #![tactic(auto)]
 
 #[cfg(test)]
@@ -7,4 +7,10 @@ mod cases;
 #[cfg(test)]
 mod crashes;
 #[cfg(test)]
+mod machine;
+#[cfg(test)]
+mod manifests;
+#[cfg(test)]
 mod runs;
+#[cfg(test)]
+mod stores;

@@ -1,0 +1,46 @@
+// The tables in memory alone.
+use sasi_machine::{Machine, Outcome, Reply};
+use sasi_types::{Partitioner, PieceEnd};
+use std::process::Abort;
+
+/// The machine answers a piece with this outcome and this reply.
+fn check_step(
+    rt: &impl Abort,
+    machine: &mut Machine,
+    reply: &mut Reply,
+    piece: &str,
+    outcome: Outcome,
+    want: &str,
+) {
+    let found = machine
+        .step(piece.as_bytes(), PieceEnd::Whole, reply)
+        .expect(rt, "memory");
+    assert!(rt;
+        found == outcome && reply.bytes() == want.as_bytes(),
+        "{piece}"
+    );
+}
+
+/// A table, a row, a change of the row, a statement that is refused, and what is there then.
+fn check_steps(rt: &impl Abort, machine: &mut Machine, reply: &mut Reply) {
+    let create = "CREATE TABLE t (k text PRIMARY KEY, a text);";
+    check_step(rt, machine, reply, create, Outcome::Done, "ok\n");
+    let insert = "INSERT INTO t (k, a) VALUES ('k1', 'x');";
+    check_step(rt, machine, reply, insert, Outcome::Done, "ok\n");
+    let update = "UPDATE t SET a = 'y' WHERE k = 'k1';";
+    check_step(rt, machine, reply, update, Outcome::Done, "ok\n");
+    let refused = "INSERT INTO u (k) VALUES ('k1');";
+    let no_table = "error 4 NoTable u\n";
+    check_step(rt, machine, reply, refused, Outcome::Refused(4), no_table);
+    let select = "SELECT * FROM t;";
+    let row = "'k1' | 'y'\n(1 rows)\n";
+    check_step(rt, machine, reply, select, Outcome::Done, row);
+}
+
+#[test]
+fn tables_in_memory_answer_statements(rt: HostRuntime) {
+    let mut machine = Machine::new(rt.alloc(), Partitioner::Murmur3);
+    assert!(rt; machine.partitioner() == Partitioner::Murmur3);
+    let mut reply = Reply::new(rt.alloc());
+    check_steps(&rt, &mut machine, &mut reply);
+}

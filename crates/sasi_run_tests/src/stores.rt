@@ -1,0 +1,46 @@
+// What a store says of its steps.
+ghost use Rattle.sasi_host.specs.Memory.{host_view, seen};
+ghost use Rattle.sasi_store.specs.StoreView.{IsReady};
+
+use sasi_host::MemHost;
+use sasi_machine::{Outcome, Reply};
+use sasi_store::{StepFault, Store};
+use sasi_types::PieceEnd;
+use std::alloc::Global;
+use std::process::Abort;
+
+/// Opens the store of a new folder, whose host fails from the second statement on: thirteen calls make the folder, and a
+/// table is recorded by four.
+fn opened(rt: &impl Abort, alloc: Global, host: &mut MemHost) -> Store
+    ensures { IsReady (host_view (seen host.new)) result }
+{
+    host.stop_after(17);
+    match Store::open(alloc, host, None) {
+        Ok(store) => store,
+        Err(_) => panic!(rt; "the store can't be opened"),
+    }
+}
+
+/// A store counts a step that succeeds, and one that fails, and is then unusable.
+fn check_steps(rt: &impl Abort, host: &mut MemHost, store: &mut Store, reply: &mut Reply)
+    requires { IsReady (host_view (seen host.old)) store.old }
+{
+    assert!(rt; store.steps() == 0 && store.is_usable());
+    let create = b"CREATE TABLE t (k int PRIMARY KEY);";
+    let outcome = store
+        .step(host, create, PieceEnd::Whole, reply)
+        .expect(rt, "created");
+    assert!(rt; (outcome, store.steps(), store.is_usable()) == (Outcome::Done, 1, true));
+    let insert = b"INSERT INTO t (k) VALUES (1);";
+    let failed = store.step(host, insert, PieceEnd::Whole, reply);
+    assert!(rt; failed == Err(StepFault::Failed));
+    assert!(rt; store.steps() == 2 && !store.is_usable());
+}
+
+#[test]
+fn steps_of_a_store_are_counted(rt: HostRuntime) {
+    let mut host = MemHost::new(rt.alloc());
+    let mut store = opened(&rt, rt.alloc(), &mut host);
+    let mut reply = Reply::new(rt.alloc());
+    check_steps(&rt, &mut host, &mut store, &mut reply);
+}
