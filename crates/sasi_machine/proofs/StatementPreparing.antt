@@ -9,17 +9,17 @@ use Rattle.sasi_types.specs.declared.partitioner.Partitioner.TheVariants.{Lead8}
 use Rattle.sasi_types.specs.declared.statement.Select.{Select}
 use Rattle.sasi_types.specs.declared.statement.Statement.{Statement}
 use Rattle.sasi_types.specs.declared.statement.Statement.TheVariants.{CreateTable, Flush, Query}
+use Rattle.sasi_cells.proofs.Laws.Times.{body_limit}
 use Rattle.sasi_cells.specs.Rows.{IsStored}
 use Rattle.sasi_cells.specs.declared.picked.PickedColumn.{PickedColumn}
 use Rattle.sasi_model.specs.Asked as ask
 use Rattle.sasi_model.specs.Asked.{Asked, asks, parsed_asks}
 use Rattle.sasi_model.specs.Cells.{Partition, max_timestamp_of}
-use Rattle.sasi_model.specs.Abbreviations.{key_position, max_timestamp_in, max_timestamp_of_tables, definitions, ok_line, selected_lines, TIME_LIMIT, NoTable, TableExists, first_of, new_definition, key_type, types_of}
-use Rattle.sasi_model.specs.Stored.{Entry, IsBodyOf, IsCell, IsValueOf, cells_of, column_types}
+use Rattle.sasi_model.specs.Abbreviations.{key_position, max_timestamp_of_tables, definitions, ok_line, selected_lines, TIME_LIMIT, NoTable, TableExists, first_of, new_definition, key_type, types_of}
+use Rattle.sasi_model.specs.Stored.{IsBodyOf, IsValueOf, column_types}
 use Rattle.sasi_model.specs.WellFormed.{IsWellFormed}
 use Rattle.sasi_types.specs.declared.column.ColumnType.{ColumnType}
 use Rattle.sasi_types.specs.declared.column.ColumnType.TheVariants as types
-use Rattle.std.specs.List.{AllByRecursion}
 use Rattle.sasi_machine.proofs.StatementBodies.{change_fits}
 use Rattle.sasi_model.specs.Changes.{changed_tables, empty_table, with_new_table}
 use Rattle.sasi_model.specs.Lines.{rows_lines}
@@ -208,14 +208,6 @@ body_stored d key change body =
     by types.Int value = value
     by types.BigInt value = value
     by types.Uuid value = value
-
--- and its times are those of writes
-cells_limit : (deleted : ℕ) (es : List Entry) → AllByRecursion (IsCell deleted) es → max_timestamp_in (map (λ (e : Entry). e.1) es) ≤ TIME_LIMIT
-cells_limit deleted [] all = omega arith
-cells_limit deleted (e ∷ es) all = omega (arith, all.0.time, cells_limit deleted es all.1)
-
-pub body_limit : (types : List ColumnType) (key : List ℕ) (change : Partition) → IsBodyOf types key change → max_timestamp_of change ≤ TIME_LIMIT
-body_limit types key change body = omega (arith, body.has.deleted, cells_limit change.deleted (cells_of change) body.has.cells)
 
 -- a mutation that was prepared can be applied
 writes_fit : (s : State) (statement : Statement) (w : Mutation) → IsWellFormed statement → WritesTo s statement w → IsApplicable s w

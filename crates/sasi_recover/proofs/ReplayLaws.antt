@@ -26,7 +26,7 @@ use Rattle.sasi_model.specs.Cells.{max_timestamp_of}
 use Rattle.sasi_layout.specs.Moves.{or_else}
 use Rattle.sasi_layout.specs.Serving.{AreStorable, IsLive, IsTyped}
 use Rattle.sasi_layout.proofs.TimeLaws.{empty_timestamp, map_timestamp, put_timestamp}
-use Rattle.sasi_recover.proofs.Timestamps.{body_limit}
+use Rattle.sasi_cells.proofs.Laws.Times.{body_limit}
 use Rattle.sasi_recover.specs.declared.opened.TableMap.{TableMap}
 use Rattle.sasi_recover.specs.ReplayState.{AreMaps, AreMapsFrom, HasTableFor, IsLiveSegment, IsMapOf, IsPutAt, IsReplayOf, ReplayState, after_mutation, after_replayed, after_segment, after_segments, empty_maps, empty_state, tables_time, with_mutation}
 

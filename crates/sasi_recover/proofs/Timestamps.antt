@@ -1,4 +1,4 @@
--- The largest timestamps of data files, and of what can be stored.
+-- The largest timestamps of data files.
 use Rattle.std.proofs.Common.{◌≡◌, ℕ, ◌≤◌, List, [], ◌∷◌, map, refl, ap, subst, ◌∙◌, arith}
 use Rattle.std.specs.Prelude.{max}
 use Rattle.std.specs.List.{AllByRecursion}
@@ -8,25 +8,18 @@ use Rattle.sasi_types.specs.declared.decorated_key.DecoratedKey.{DecoratedKey}
 use Rattle.sasi_types.specs.declared.partitioner.Partitioner.{Partitioner}
 use Rattle.sasi_types.specs.DecoratedKey.{decorated_cmp}
 use Rattle.sasi_host.specs.Names.{Bytes}
-use Rattle.sasi_cells.specs.Entries.{Entry}
+use Rattle.sasi_cells.proofs.Laws.Times.{body_limit}
 use Rattle.sasi_model.specs.Cells.{Partition, max_timestamp_of}
 use Rattle.sasi_model.specs.State.{decorated}
-use Rattle.sasi_model.specs.Stored.{IsBodyOf, IsCell, cells_of}
-use Rattle.sasi_model.specs.Abbreviations.{TIME_LIMIT, max_timestamp_in, max_timestamp_of_partitions}
+use Rattle.sasi_model.specs.Stored.{IsBodyOf}
+use Rattle.sasi_model.specs.Abbreviations.{TIME_LIMIT, max_timestamp_of_partitions}
 use Rattle.sasi_memtable.proofs.Ordered.{entries-from_ordered}
 use Rattle.sasi_datawrite.specs.Files.{IsDataFile}
 use Rattle.sasi_datawrite.specs.Format.{Content, content_max_timestamp, decorated_key}
 use Rattle.sasi_layout.proofs.TimeLaws.{map_timestamp}
 use Rattle.sasi_layout.specs.Shape.{map_of}
 
--- ---- what can be stored
-
-cells_limit : (deleted : ℕ) (es : List Entry) → AllByRecursion (IsCell deleted) es → max_timestamp_in (map (λ (e : Entry). e.1) es) ≤ TIME_LIMIT
-cells_limit deleted [] all = omega arith
-cells_limit deleted (e ∷ es) all = omega (arith, all.0.time, cells_limit deleted es all.1)
-
-pub body_limit : (types : List ColumnType) (key : List ℕ) (change : Partition) → IsBodyOf types key change → max_timestamp_of change ≤ TIME_LIMIT
-body_limit types key change body = omega (arith, body.has.deleted, cells_limit change.deleted (cells_of change) body.has.cells)
+-- ---- what a data file has
 
 all_limit : (types : List ColumnType) (content : Content) → AllByRecursion (λ one. IsBodyOf types one.0 one.1) content → content_max_timestamp content ≤ TIME_LIMIT
 all_limit types [] all = omega arith

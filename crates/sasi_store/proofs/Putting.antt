@@ -30,7 +30,8 @@ use Rattle.sasi_manifest.specs.declared.listing.Listing.{Listing}
 use Rattle.sasi_manifest.specs.Listings.{at_number}
 use Rattle.sasi_manifest.specs.OpenManifest.{ManifestStands}
 use Rattle.sasi_manifest.specs.Types.{numbered_types}
-use Rattle.sasi_machine.proofs.StatementPreparing.{body_limit, empty_definitions}
+use Rattle.sasi_cells.proofs.Laws.Times.{body_limit}
+use Rattle.sasi_machine.proofs.StatementPreparing.{empty_definitions}
 use Rattle.sasi_model.specs.Abbreviations.{definitions, types_of}
 use Rattle.sasi_model.specs.Cells.{max_timestamp_of}
 use Rattle.sasi_model.specs.Changes.{empty_table}

@@ -1,12 +1,15 @@
--- The maximum timestamp of a merge is the larger one of the two partitions'.
+-- The maximum timestamp of a merge is the larger one of the two partitions', and that of what can be stored is that of a write.
 use Rattle.std.specs.Prelude.{◌≡◌, ℕ, ◌≤◌, true, false, cond, nat_le, if◌then◌else◌, max, T, List, [], ◌∷◌, map, Option, None, Some, ◌⊎◌}
+use Rattle.std.specs.List.{AllByRecursion}
 use Rattle.std.specs.Ordering.{nat_cmp, eq_by_cmp}
 use Rattle.std.specs.FinMap as map_
 use Rattle.std.proofs.Common.{refl, sym, ap, ◌∙◌, inl, inr, arith}
 use Rattle.std.proofs.lemmas.Bool.Decides.{nat_tests}
 use Rattle.sasi_types.specs.declared.cell.Cell.{Cell}
+use Rattle.sasi_types.specs.declared.column.ColumnType.{ColumnType}
 use Rattle.sasi_model.specs.Cells.{Cells, Partition, newest, newest_of, unshadowed, merge, max_timestamp_of}
-use Rattle.sasi_model.specs.Abbreviations.{max_timestamp_in}
+use Rattle.sasi_model.specs.Abbreviations.{TIME_LIMIT, max_timestamp_in}
+use Rattle.sasi_model.specs.Stored.{IsBodyOf, IsCell, cells_of}
 use Rattle.sasi_cells.proofs.Laws.Newest.{newest_time}
 use Rattle.sasi_cells.proofs.Laws.Sorted.{first, second, find_first, find_behind}
 use Rattle.sasi_cells.proofs.Laws.Merged.{get_merge, deleted_merge}
@@ -101,3 +104,13 @@ second_below p q =
 -- the maximum timestamp of a merge, whether or not the two are normal
 pub max_timestamp_merge : (p q : Partition) → max_timestamp_of (merge p q) ≡ max (max_timestamp_of p) (max_timestamp_of q)
 max_timestamp_merge p q = omega (arith, deleted_merge p q, cells_below p q, first_below p q, second_below p q)
+
+-- ---- of what can be stored
+
+cells_limit : (deleted : ℕ) (es : List (ℕ × Cell)) → AllByRecursion (IsCell deleted) es → times es ≤ TIME_LIMIT
+cells_limit deleted [] all = omega arith
+cells_limit deleted (e ∷ es) all = omega (arith, all.0.time, cells_limit deleted es all.1)
+
+-- its times are those of writes
+pub body_limit : (types : List ColumnType) (key : List ℕ) (part : Partition) → IsBodyOf types key part → max_timestamp_of part ≤ TIME_LIMIT
+body_limit types key part body = omega (arith, body.has.deleted, cells_limit part.deleted (cells_of part) body.has.cells)
