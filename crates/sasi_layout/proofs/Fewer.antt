@@ -4,18 +4,20 @@ use Rattle.sasi_host.specs.declared.name.FileName.{FileName}
 use Rattle.sasi_host.specs.Names.{Bytes, Folder, log_name, manifest_name}
 use Rattle.sasi_host.specs.View.{IsTold, View}
 use Rattle.sasi_gated.specs.Handles.{IsAtEnd}
+use Rattle.sasi_gated.proofs.HandleLaws.{end_stays}
 use Rattle.sasi_manifest.specs.declared.listing.Listing.{Listing}
 use Rattle.sasi_manifest.specs.OpenManifest.{ManifestStands}
+use Rattle.sasi_manifest.proofs.Laws.{manifest_stays}
 use Rattle.sasi_layout.specs.Layout.{Layout, listing_of}
 use Rattle.sasi_layout.specs.Serving.{Serves, StoreInHand}
 
 module _ (a b : View) (fewer : (x : Folder) → b.image x → a.image x) where
   -- a gated file ends where it did
   end_fewer : (file : FileName) (at : ℕ) (records : List Bytes) → IsAtEnd a file at records → IsAtEnd b file at records
-  end_fewer file at records end = record { bytes = end.bytes; rest = end.rest; kept = λ x now. end.kept x (fewer x now); at_gate = end.at_gate; closed = end.closed }
+  end_fewer file at records = end_stays a b file at records (λ bytes kept x now. kept x (fewer x now))
 
   pub manifest_fewer : (number at : ℕ) (listing : Listing) → ManifestStands a number at listing → ManifestStands b number at listing
-  manifest_fewer number at listing stands = record { records = stands.records; at_end = end_fewer (manifest_name number) at stands.records stands.at_end; builds = stands.builds }
+  manifest_fewer number at listing = manifest_stays a b number at listing (λ bytes kept x now. kept x (fewer x now))
 
   pub serves_fewer : (store : StoreInHand) (l : Layout) → IsTold b → Serves a store l → Serves b store l
   serves_fewer store l told serves = record {

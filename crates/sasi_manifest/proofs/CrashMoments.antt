@@ -11,6 +11,7 @@ use Rattle.sasi_host.proofs.Durability.{file_durable_other}
 use Rattle.sasi_host.proofs.ContentLaws.{reaches_where, contents_other}
 use Rattle.sasi_gated.specs.Format.{IsBeforeOrAfter, header, frame, new_file}
 use Rattle.sasi_gated.proofs.Laws.{gated_end, header_length, frame_length}
+use Rattle.sasi_gated.proofs.HandleLaws.{end_stays}
 use Rattle.sasi_gated.specs.Reads.{AppendsRecord}
 use Rattle.sasi_gated.specs.Handles.{Handle, IsAtEnd}
 use Rattle.sasi_manifest.specs.declared.edit.Edit.{Edit}
@@ -148,14 +149,7 @@ pub stands_made : (b c : View) (n at : ℕ) (listing : Listing) (records : List 
     → Builds records listing → Changes (FileChange (seal_name n) MaybeCreated) b c → ManifestStands c n at listing
 stands_made b c n at listing records end builds change = record {
   records = records;
-  at_end = record {
-    bytes = end.bytes;
-    rest = end.rest;
-    kept = file_durable_other b c (seal_name n) (manifest_name n) MaybeCreated end.bytes
-        (manifest_apart n) change end.kept;
-    at_gate = end.at_gate;
-    closed = end.closed;
-  };
+  at_end = end_stays b c (manifest_name n) at records (λ bytes. file_durable_other b c (seal_name n) (manifest_name n) MaybeCreated bytes (manifest_apart n) change) end;
   builds = builds;
 }
 

@@ -1,11 +1,14 @@
--- Laws of manifests: a manifest has one listing, and no damage.
+-- Laws of manifests: a manifest has one listing, and no damage, and stands while its file stays.
 use Rattle.std.specs.Prelude.{◌≡◌, ℕ, List, [], ◌∷◌, ◌++◌, Option, Some, None, refl}
 use Rattle.std.proofs.Common.{sym, ◌∙◌, ap, subst, ⊎_elim}
 use Rattle.sasi_host.specs.Names.{Bytes, manifest_name}
 use Rattle.sasi_host.specs.declared.damage.Damage.{Damage}
+use Rattle.sasi_host.specs.View.{View}
+use Rattle.sasi_host.specs.Disk.{IsFileDurable}
 use Rattle.sasi_gated.specs.Format.{Opens, Closes, FromGate}
 use Rattle.sasi_gated.proofs.Laws.{records_same, left_at, opens_same, opens_not_closes}
 use Rattle.sasi_gated.proofs.Undamaged.{gated_undamaged}
+use Rattle.sasi_gated.proofs.HandleLaws.{end_stays}
 use Rattle.sasi_formats.specs.Formats.{Encodes}
 use Rattle.sasi_formats.specs.Encodings.{IsEncoded}
 use Rattle.sasi_formats.specs.Reader.{Corruption}
@@ -19,6 +22,7 @@ use Rattle.sasi_manifest.specs.Listings.{after_all, with_record_counted}
 use Rattle.sasi_manifest.specs.Format.{RecordsLeadTo, IsManifest}
 use Rattle.sasi_manifest.specs.Abbreviations.{Builds}
 use Rattle.sasi_manifest.specs.Damages.{ShowsDamage}
+use Rattle.sasi_manifest.specs.OpenManifest.{ManifestStands}
 
 -- ---- records
 
@@ -81,3 +85,10 @@ manifest_undamaged n bytes damage listing (records, gated, builds) shows =
     (subst (λ (l : List Bytes). Builds l listing) left.1 builds) left.2 misfit.leads misfit.opens misfit.fails)
     inside.1)
     shows
+
+-- ---- a folder that changes
+
+-- a manifest stands where it did, where each image has its bytes as before
+pub manifest_stays : (a b : View) (number at : ℕ) (listing : Listing) → ((bytes : Bytes) → IsFileDurable a (manifest_name number) bytes → IsFileDurable b (manifest_name number) bytes)
+    → ManifestStands a number at listing → ManifestStands b number at listing
+manifest_stays a b number at listing still stands = record { records = stands.records; at_end = end_stays a b (manifest_name number) at stands.records still stands.at_end; builds = stands.builds }

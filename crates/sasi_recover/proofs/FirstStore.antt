@@ -14,6 +14,7 @@ use Rattle.sasi_host.proofs.ContentLaws.{contents_kept, reaches_where}
 use Rattle.sasi_host.proofs.ChangeLaws.{at_each_moment, changes_as, changes_on, each_on, stays, then_each_moment}
 use Rattle.sasi_gated.specs.Format.{IsGated}
 use Rattle.sasi_gated.proofs.Laws.{gated_end}
+use Rattle.sasi_gated.proofs.HandleLaws.{end_stays}
 use Rattle.sasi_commitlog.specs.LogPosition.{IsAtLogEnd}
 use Rattle.sasi_manifest.specs.declared.listing.Listing.{Listing}
 use Rattle.sasi_manifest.specs.Consistent.{IsConsistent}
@@ -166,13 +167,7 @@ log_room b c at change reaches = reaches_where b c (ChangesOnlyManifest 1) (log_
     (contents_kept b c (ChangesOnlyManifest 1) (log_name 1) log_kept change) reaches
 
 log_end : (b c : View) (at : ℕ) → Changes (ChangesOnlyManifest 1) b c → IsAtLogEnd b (log_name 1) at [] → IsAtLogEnd c (log_name 1) at []
-log_end b c at change end = record {
-  bytes = end.bytes;
-  rest = end.rest;
-  kept = λ x now. (let was = change.image x now in log_kept was.0 x was.2 ∙ end.kept was.0 was.1);
-  at_gate = end.at_gate;
-  closed = end.closed;
-}
+log_end b c at change = end_stays b c (log_name 1) at [] (λ bytes kept x now. let was = change.image x now in log_kept was.0 x was.2 ∙ kept was.0 was.1)
 
 -- what is made
 abbrev pub IsFirst : Partitioner → Opened → Type 0

@@ -24,6 +24,7 @@ use Rattle.sasi_manifest.specs.Consistent.{IsConsistent}
 use Rattle.sasi_manifest.specs.declared.listing.Listing.{Listing}
 use Rattle.sasi_manifest.specs.OpenManifest.{ManifestState, ManifestStands}
 use Rattle.sasi_manifest.specs.Reading.{ReadsListing, StandsWhereKept}
+use Rattle.sasi_manifest.proofs.Laws.{manifest_stays}
 use Rattle.sasi_folder.proofs.FolderLaws.{kinds_apart, segments_kept}
 use Rattle.sasi_folder.specs.Opens.{CanOpen, KeepsPartitioner, KeepsUnder, Opens}
 use Rattle.sasi_folder.specs.Stands.{HasSegments, IsFresh, IsSealed, types_listed}
@@ -188,17 +189,8 @@ module _ (a c : View) (m : ManifestState) (numbers : List ℕ) (time : ℕ) (nam
           older = ends.0;
           current = ends.1;
           log_end = subst (λ (listing : Listing). IsAtLogEnd e (log_name listing.last) opened.log.at ends.1) lists_l ends.3;
-          manifest_end = rw manifest_is (rw number (subst (λ (listing : Listing). ManifestStands e m.number m.at listing) lists_l (record {
-            records = at_c.records;
-            at_end = record {
-              bytes = at_c.at_end.bytes;
-              rest = at_c.at_end.rest;
-              kept = file_durable_same c e (manifest_name m.number) at_c.at_end.bytes same at_c.at_end.kept;
-              at_gate = at_c.at_end.at_gate;
-              closed = at_c.at_end.closed;
-            };
-            builds = at_c.builds;
-          })));
+          manifest_end = rw manifest_is (rw number (subst (λ (listing : Listing). ManifestStands e m.number m.at listing) lists_l
+              (manifest_stays c e m.number m.at m.listing (λ bytes. file_durable_same c e (manifest_name m.number) bytes same) at_c)));
           shape = λ x now. (
               let from = same.image x now in
               subst (λ (k : Layout). HasShape x k (ends.0 ++ ends.1 ∷ [])) (sym bare_is)
@@ -238,18 +230,8 @@ module _ (a c : View) (m : ManifestState) (numbers : List ℕ) (time : ℕ) (nam
           let told_a = told_before (Deletes (kept_with m numbers)) a c settled.deletes (told_before Same c e same told) in
           let folder = told_files a told_a in
           let bytes = bytes_there a folder.0 (manifest_name m.number) folder.1 read.there in
-          let at_c = manifest_stands a c m.number m.listing numbers settled.deletes m.at (read.stands bytes.0 told_a (settled_kept a sound durable (manifest_name m.number) bytes.0 refl (reads_of a folder.0 (manifest_name m.number) bytes.0 folder.1 bytes.1))) in
-          record {
-            records = at_c.records;
-            at_end = record {
-              bytes = at_c.at_end.bytes;
-              rest = at_c.at_end.rest;
-              kept = file_durable_same c e (manifest_name m.number) at_c.at_end.bytes same at_c.at_end.kept;
-              at_gate = at_c.at_end.at_gate;
-              closed = at_c.at_end.closed;
-            };
-            builds = at_c.builds;
-          }
+          manifest_stays c e m.number m.at m.listing (λ bytes. file_durable_same c e (manifest_name m.number) bytes same)
+          (manifest_stands a c m.number m.listing numbers settled.deletes m.at (read.stands bytes.0 told_a (settled_kept a sound durable (manifest_name m.number) bytes.0 refl (reads_of a folder.0 (manifest_name m.number) bytes.0 folder.1 bytes.1))))
 
       kept_now : (e : View) → Changes Same c e → (folder : Folder) → e.files ≡ Some folder → HasKept (record { manifest = m.number; listing = m.listing }) folder
       kept_now e same folder files = has_kept (record { manifest = m.number; listing = m.listing }) folder

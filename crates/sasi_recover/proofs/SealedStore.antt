@@ -12,7 +12,7 @@ use Rattle.sasi_cells.specs.declared.mutation.Mutation.{Mutation}
 use Rattle.sasi_commitlog.specs.Format.{Tables}
 use Rattle.sasi_manifest.specs.declared.listing.Listing.{Listing}
 use Rattle.sasi_manifest.specs.Format.{IsManifest}
-use Rattle.sasi_manifest.proofs.Laws.{manifest_same}
+use Rattle.sasi_manifest.proofs.Laws.{manifest_same, manifest_stays}
 use Rattle.sasi_manifest.specs.Reading.{ReadsListing}
 use Rattle.sasi_manifest.specs.OpenManifest.{ManifestStands}
 use Rattle.sasi_folder.specs.Stands.{HasSegments, Holds, types_listed}
@@ -136,18 +136,8 @@ module _ (a b : View) (number : ℕ) (listing : Listing) (numbers : List ℕ) (c
       (keeps_manifest number listing.floor listing.last numbers) change) reaches
 
   pub manifest_stands : (at : ℕ) → ManifestStands a number at listing → ManifestStands b number at listing
-  manifest_stands at stands = record {
-    records = stands.records;
-    at_end = record {
-      bytes = stands.at_end.bytes;
-      rest = stands.at_end.rest;
-      kept = deletes_kept a b (keeps (Store number listing.floor listing.last) numbers) (manifest_name number) stands.at_end.bytes
-          (keeps_manifest number listing.floor listing.last numbers) change stands.at_end.kept;
-      at_gate = stands.at_end.at_gate;
-      closed = stands.at_end.closed;
-    };
-    builds = stands.builds;
-  }
+  manifest_stands at = manifest_stays a b number at listing
+      (λ bytes. deletes_kept a b (keeps (Store number listing.floor listing.last) numbers) (manifest_name number) bytes (keeps_manifest number listing.floor listing.last numbers) change)
 
   pub segments_live : LiveSegmentsExist a listing → LiveSegmentsExist b listing
   segments_live live segment above below =

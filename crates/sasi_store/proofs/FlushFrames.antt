@@ -6,11 +6,13 @@ use Rattle.std.specs.List.{AllByRecursion}
 use Rattle.sasi_host.specs.declared.name.FileName.{FileName}
 use Rattle.sasi_host.specs.Names.{Bytes, Folder, data_name, log_name, manifest_name, seal_name}
 use Rattle.sasi_host.specs.View.{View}
-use Rattle.sasi_host.specs.Disk.{AnyChange, Changes, FileChange, Relation, Same}
+use Rattle.sasi_host.specs.Disk.{AnyChange, Changes, FileChange, IsFileDurable, Relation, Same}
 use Rattle.sasi_host.proofs.ChangeLaws.{changes_as, changes_on, stays}
 use Rattle.sasi_gated.specs.Handles.{IsAtEnd}
+use Rattle.sasi_gated.proofs.HandleLaws.{end_stays}
 use Rattle.sasi_manifest.specs.declared.listing.Listing.{Listing}
 use Rattle.sasi_manifest.specs.OpenManifest.{ManifestState, ManifestStands}
+use Rattle.sasi_manifest.proofs.Laws.{manifest_stays}
 use Rattle.sasi_folder.proofs.FolderLaws.{kinds_apart, numbers_apart}
 use Rattle.sasi_layout.specs.Layout.{File, Layout, TableParts, bare, bare_table, listed_of}
 use Rattle.sasi_layout.specs.Frames.{AgreeOn}
@@ -22,24 +24,17 @@ use Rattle.sasi_store.specs.Flushing.{ChangesInFlush, DeletesSegments, MakesFile
 
 -- ---- what each image has of a file
 
+durable_kept : (a b : View) (S : Relation) (file : FileName) (bytes : Bytes) → ((x y : Folder) → S x y → get y file ≡ get x file) → Changes S a b → IsFileDurable a file bytes → IsFileDurable b file bytes
+durable_kept a b S file bytes keeps change kept y now = let was = change.image y now in keeps was.0 y was.2 ∙ kept was.0 was.1
+
 -- the end of a gated file stays, where its bytes do
 pub end_kept : (a b : View) (S : Relation) (file : FileName) (at : ℕ) (records : List Bytes) → ((x y : Folder) → S x y → get y file ≡ get x file) → Changes S a b
     → IsAtEnd a file at records → IsAtEnd b file at records
-end_kept a b S file at records keeps change end = record {
-  bytes = end.bytes;
-  rest = end.rest;
-  kept = λ y now. let was = change.image y now in keeps was.0 y was.2 ∙ end.kept was.0 was.1;
-  at_gate = end.at_gate;
-  closed = end.closed;
-}
+end_kept a b S file at records keeps change = end_stays a b file at records (λ bytes. durable_kept a b S file bytes keeps change)
 
 pub stands_kept : (a b : View) (S : Relation) (number at : ℕ) (listing : Listing) → ((x y : Folder) → S x y → get y (manifest_name number) ≡ get x (manifest_name number)) → Changes S a b
     → ManifestStands a number at listing → ManifestStands b number at listing
-stands_kept a b S number at listing keeps change stands = record {
-  records = stands.records;
-  at_end = end_kept a b S (manifest_name number) at stands.records keeps change stands.at_end;
-  builds = stands.builds;
-}
+stands_kept a b S number at listing keeps change = manifest_stays a b number at listing (λ bytes. durable_kept a b S (manifest_name number) bytes keeps change)
 
 -- ---- the new files
 

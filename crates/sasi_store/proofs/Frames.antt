@@ -10,28 +10,20 @@ use Rattle.sasi_host.specs.Names.{Bytes, Folder, manifest_name, name_cmp}
 use Rattle.sasi_host.specs.View.{Reaches, View, contents_in}
 use Rattle.sasi_host.proofs.Durability.{file_durable_other}
 use Rattle.sasi_gated.specs.Handles.{IsAtEnd}
+use Rattle.sasi_gated.proofs.HandleLaws.{end_stays}
 use Rattle.sasi_manifest.specs.declared.listing.Listing.{Listing}
 use Rattle.sasi_manifest.specs.OpenManifest.{ManifestStands}
+use Rattle.sasi_manifest.proofs.Laws.{manifest_stays}
 use Rattle.sasi_layout.specs.Kept.{HasKept, Kept, is_kept}
 
 -- ---- gated files
 
 -- a gated file ends where it did, where another file changes
 pub end_other : (a b : View) (file name : FileName) (at : ℕ) (records : List Bytes) → name ≢ file → Changes (FileChange file AnyChange) a b → IsAtEnd a name at records → IsAtEnd b name at records
-end_other a b file name at records apart change end = record {
-  bytes = end.bytes;
-  rest = end.rest;
-  kept = file_durable_other a b file name AnyChange end.bytes apart change end.kept;
-  at_gate = end.at_gate;
-  closed = end.closed;
-}
+end_other a b file name at records apart change = end_stays a b name at records (λ bytes. file_durable_other a b file name AnyChange bytes apart change)
 
 pub manifest_other : (a b : View) (file : FileName) (number at : ℕ) (listing : Listing) → manifest_name number ≢ file → Changes (FileChange file AnyChange) a b → ManifestStands a number at listing → ManifestStands b number at listing
-manifest_other a b file number at listing apart change stands = record {
-  records = stands.records;
-  at_end = end_other a b file (manifest_name number) at stands.records apart change stands.at_end;
-  builds = stands.builds;
-}
+manifest_other a b file number at listing apart change = manifest_stays a b number at listing (λ bytes. file_durable_other a b file (manifest_name number) AnyChange bytes apart change)
 
 -- ---- which files are there
 

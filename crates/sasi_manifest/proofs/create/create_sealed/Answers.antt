@@ -5,11 +5,30 @@ use Rattle.sasi_host.specs.View.{Reaches}
 use Rattle.sasi_host.specs.Disk.{AnyChange, Changes, FileChange}
 use Rattle.sasi_gated.specs.Handles.{IsAtEnd}
 use Rattle.sasi_manifest.specs.declared.edit.Edit.{Edit}
+use Rattle.sasi_manifest.specs.declared.listing.Listing.{Listing}
 use Rattle.sasi_manifest.specs.Edits.{encoded}
+use Rattle.sasi_manifest.specs.Format.{IsRewritten}
+use Rattle.sasi_manifest.specs.OpenManifest.{Creates, IsUnsealed}
 use Rattle.sasi_manifest.specs.Listings.{IsWritable, after_all, edits_of, with_record_counted}
 use Rattle.sasi_manifest.proofs.CrashMoments.{unmade, unmade_touches, made_file, made_file_touches, made_both, made_both_touches, stands_made, room_made, new_builds, new_is_open}
 use Rattle.sasi_manifest.proofs.Records.{all_writable}
+use Rattle.sasi_manifest.proofs.create.create_sealed.Given.{Over}
+use Rattle.sasi_manifest.proofs.create.create_sealed.Goals.{After-make_seal}
 use Rattle.sasi_manifest.proofs.create.create_sealed.Goals as goal
+
+-- the manifest at each moment, once the making of its seal was tried
+moments : (g : Over) (c : After-make_seal g) (made : Listing) → IsRewritten c.args.listing.now made → IsUnsealed (g.H.Host.view c.args.host.now) c.args.number
+    → Changes (Creates c.args.number made) (g.H.Host.view c.args.host.now) (g.H.Host.view c.make_seal.new.host)
+moments g c made is unsealed =
+    let first = subst (λ (f : FileName). Changes (FileChange f AnyChange) (g.H.Host.view c.args.host.now) (g.H.Host.view c.create.new.host)) c.manifest.ensures c.create.ensures.changes in
+    let payload = c.in_ok-record.record in
+    let end = subst (λ (f : FileName). IsAtEnd (g.H.Host.view c.create.new.host) f c.in_ok-gated.gated.at (payload ∷ [])) c.manifest.ensures c.in_ok-gated.ensures.ok in
+    let items = c.deref.ensures.value ∙ c.in_ok-edits.ensures in
+    let is_payload = c.in_ok-record.ensures ∙ ap encoded items in
+    made_both (g.H.Host.view c.args.host.now) (g.H.Host.view c.create.new.host)
+    (g.H.Host.view c.make_seal.new.host) c.args.number c.in_ok-gated.gated.at made (payload ∷ []) (g.met.H.Host.sound c.args.host.now)
+    (g.met.H.Host.sound c.create.new.host) unsealed first end
+    (new_builds c.args.listing.now made payload c.requires.apply c.requires.short is_payload is) c.make_seal.ensures.changes
 
 pub encode-requires-clause-writable : goal.encode-requires-clause-writable
 encode-requires-clause-writable g c =
@@ -44,16 +63,7 @@ returns-in_err-gated-clause-changes g c =
     (subst (λ (f : FileName). Changes (FileChange f AnyChange) (g.H.Host.view c.args.host.now) (g.H.Host.view c.create.new.host)) c.manifest.ensures c.create.ensures.changes)
 
 pub returns-in_err-make_seal-clause-any_moment : goal.returns-in_err-make_seal-clause-any_moment
-returns-in_err-make_seal-clause-any_moment g c made is unsealed =
-    let first = subst (λ (f : FileName). Changes (FileChange f AnyChange) (g.H.Host.view c.args.host.now) (g.H.Host.view c.create.new.host)) c.manifest.ensures c.create.ensures.changes in
-    let payload = c.in_ok-record.record in
-    let end = subst (λ (f : FileName). IsAtEnd (g.H.Host.view c.create.new.host) f c.in_ok-gated.gated.at (payload ∷ [])) c.manifest.ensures c.in_ok-gated.ensures.ok in
-    let items = c.deref.ensures.value ∙ c.in_ok-edits.ensures in
-    let is_payload = c.in_ok-record.ensures ∙ ap encoded items in
-    made_both (g.H.Host.view c.args.host.now) (g.H.Host.view c.create.new.host)
-    (g.H.Host.view c.make_seal.new.host) c.args.number c.in_ok-gated.gated.at made (payload ∷ []) (g.met.H.Host.sound c.args.host.now)
-    (g.met.H.Host.sound c.create.new.host) unsealed first end
-    (new_builds c.args.listing.now made payload c.requires.apply c.requires.short is_payload is) c.make_seal.ensures.changes
+returns-in_err-make_seal-clause-any_moment g c = moments g (goal.at.returns-in_err-make_seal-clause-any_moment g c).After-make_seal
 
 pub returns-in_err-make_seal-clause-changes : goal.returns-in_err-make_seal-clause-changes
 returns-in_err-make_seal-clause-changes g c =
@@ -61,16 +71,7 @@ returns-in_err-make_seal-clause-changes g c =
     (subst (λ (f : FileName). Changes (FileChange f AnyChange) (g.H.Host.view c.args.host.now) (g.H.Host.view c.create.new.host)) c.manifest.ensures c.create.ensures.changes) c.make_seal.ensures.changes
 
 pub returns-clause-any_moment : goal.returns-clause-any_moment
-returns-clause-any_moment g c made is unsealed =
-    let first = subst (λ (f : FileName). Changes (FileChange f AnyChange) (g.H.Host.view c.args.host.now) (g.H.Host.view c.create.new.host)) c.manifest.ensures c.create.ensures.changes in
-    let payload = c.in_ok-record.record in
-    let end = subst (λ (f : FileName). IsAtEnd (g.H.Host.view c.create.new.host) f c.in_ok-gated.gated.at (payload ∷ [])) c.manifest.ensures c.in_ok-gated.ensures.ok in
-    let items = c.deref.ensures.value ∙ c.in_ok-edits.ensures in
-    let is_payload = c.in_ok-record.ensures ∙ ap encoded items in
-    made_both (g.H.Host.view c.args.host.now) (g.H.Host.view c.create.new.host)
-    (g.H.Host.view c.make_seal.new.host) c.args.number c.in_ok-gated.gated.at made (payload ∷ []) (g.met.H.Host.sound c.args.host.now)
-    (g.met.H.Host.sound c.create.new.host) unsealed first end
-    (new_builds c.args.listing.now made payload c.requires.apply c.requires.short is_payload is) c.make_seal.ensures.changes
+returns-clause-any_moment g c = moments g (goal.at.returns-clause-any_moment g c).After-make_seal
 
 pub returns-clause-changes : goal.returns-clause-changes
 returns-clause-changes g c =
