@@ -44,6 +44,37 @@ fn crash_leaves_a_sealed_file(rt: HostRuntime) {
     assert!(rt; left.bytes(DATA) == Some(ONE.as_slice()));
 }
 
+// Creates, fills and seals a data file of one partition. Tells whether each call succeeded.
+fn is_sealed(rt: &impl Abort, alloc: Global, host: &mut MemHost) -> bool {
+    assert!(rt; host.bytes(DATA).is_none());
+    let (key, part) = partition_of(rt, alloc, &INSERTED);
+    let Ok(mut writer) = PairWriter::begin(alloc, host, 7, Partitioner::Lead8) else {
+        return false;
+    };
+    if writer.push(host, &key, &part).is_err() {
+        return false;
+    }
+    writer.seal(host, &PartNumbers::new(alloc)).is_ok()
+}
+
+// Where the call of this number on the disk fails, the file is sealed only if it takes fewer.
+fn check_failing(rt: &impl Abort, alloc: Global, failing: u64) {
+    let mut host = MemHost::new(alloc);
+    host.fail_disk(vec![in alloc; failing].expect(rt, "memory for a number"));
+    assert!(rt; is_sealed(rt, alloc, &mut host) == (failing > CALLS));
+}
+
+// The calls that make a durable data file of one partition: it is created, its header, the partition and the key tree are
+// written, its size is asked, the footer is written, and the file and the folder are synced.
+const CALLS: u64 = 8;
+
+#[test]
+fn file_with_a_failed_call_is_not_sealed(rt: HostRuntime) {
+    for failing in 1..=CALLS + 1 {
+        check_failing(&rt, rt.alloc(), failing);
+    }
+}
+
 #[test]
 fn file_that_is_given_up_is_gone(rt: HostRuntime) {
     let mut host = MemHost::new(rt.alloc());
