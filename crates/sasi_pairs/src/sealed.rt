@@ -32,8 +32,8 @@ impl Model for Sealed {
 impl Sealed {
     ghost use Rattle.sasi_pairs.specs.SealedFiles.{without_parts};
 
-    /// The data file that was written, without index files.
-    pub fn of(written: DataRef) -> Sealed
+    // The data file that was written, without index files.
+    pub(crate) fn of(written: DataRef) -> Sealed
         ensures { result ≡ without_parts written.number }
     {
         Sealed { written }

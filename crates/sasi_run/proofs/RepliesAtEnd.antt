@@ -16,7 +16,7 @@ use Rattle.sasi_cql.specs.SplitterState.{resume, behind}
 use Rattle.sasi_cql.proofs.Resumed.{resume_nothing}
 use Rattle.sasi_run.specs.Crashing.{CrashLeavesPieces, RunsWorld, StoppedPieces}
 use Rattle.sasi_run.specs.EmitCounts.{MakesEmits, emits_for, emits_in}
-use Rattle.sasi_run.specs.Headline.{EmitsFirstReplies, IsFirstPart, SCRIPT_MOST, READ_MOST, exact, script_of, status_of_stop}
+use Rattle.sasi_run.specs.Headline.{EmitsCutReply, EmitsFirstReplies, IsFirstPart, SCRIPT_MOST, READ_MOST, exact, script_of, status_of_stop}
 use Rattle.sasi_run.specs.Session.{Feeds, IsAtScriptStart}
 use Rattle.sasi_run.specs.declared.session.Session.{Session}
 use Rattle.sasi_run.specs.declared.session.Stop.{Stop}
@@ -150,6 +150,17 @@ module _ (w : World) (well : IsWell w.layout) (read : List ℕ) (done next : Lis
       let at = stopped.shown in
       let here : IsFirstPart (script_of l read) read done (at.0 ∷ []) = subst (λ (ps : List Piece). IsFirstPart (script_of l read) read done ps) at.3 first in
       let reply = subst (λ (t : State). (step t at.0).reply ≡ at.1 ++ at.2) (state_is done w well) at.4 in
+      let cut : EmitsCutReply grammar_parser (exact grammar_parser) (state_of w.layout) (script_of l read) read (replies_of steps w done ++ at.1) = record {
+        done = done;
+        piece = at.0;
+        first = here;
+        whole = replies_of steps w done;
+        front = at.1;
+        back = at.2;
+        replied = replies_are done w well;
+        reply = sym reply;
+        parts = refl;
+      } in
       record {
         runs = record {
           read = read;
@@ -157,40 +168,13 @@ module _ (w : World) (well : IsWell w.layout) (read : List ℕ) (done next : Lis
           consumed = consumed;
           emitted = at.5;
           at_end = tt;
-          shows = record {
-            done = done;
-            piece = at.0;
-            first = here;
-            whole = replies_of steps w done;
-            front = at.1;
-            back = at.2;
-            replied = replies_are done w well;
-            reply = sym reply;
-            parts = refl;
-          };
+          shows = cut;
           bounded = bounded;
         };
         crashes = crashes stopped.crashes;
         told = λ is. absurd is;
         ends = λ is. absurd is;
-        emits = record {
-          answered = done;
-          by_status = (
-            record {
-              done = done;
-              piece = at.0;
-              first = here;
-              whole = replies_of steps w done;
-              front = at.1;
-              back = at.2;
-              replied = replies_are done w well;
-              reply = sym reply;
-              parts = refl;
-            },
-            refl,
-          );
-          emits = makes 1 stopped.emits;
-        };
+        emits = record { answered = done; by_status = (cut, refl); emits = makes 1 stopped.emits };
         spends = tt;
         undamaged = λ damage is. cc;
       }
