@@ -93,11 +93,7 @@ pub returns-in_err-print_table-clause-reads : goal.returns-in_err-print_table-cl
 returns-in_err-print_table-clause-reads g c l serves =
     let v = g.H.Host.view c.args.host.now in
     let sound = g.met.H.Host.sound c.args.host.now in
-    let has = looked_up v sound c.args.parts.now c.requires.ready c.args.rows.now c.requires.there c.as_slice.result.now
-    (c.as_slice.ensures.tables ∙ ap (λ (l : Listing). l.tables) c.listing.ensures.listing) c.index-as_slice-index.result c.index-as_slice-index.is
-    c.in_ok-types.types (c.in_ok-types.ensures ∙ ap (λ (t : ListedTable). types_of (definition t.table)) (sym c.index-as_slice-index.is))
-    c.files_of-files.result.now (c.files_of-files.ensures ∙ ap (λ (l : Listing). files_of l.tables c.args.rows.now.table) c.listing.ensures.listing)
-    c.index.result.now c.index.ensures c.from_ref-maps.result.now c.from_ref-maps.ensures.value in
+    let has = found g (goal.at.returns-in_err-print_table-clause-reads g c).After-files_of-files in
     let table = is_printed v sound c.args.parts.now c.requires.ready c.args.rows.now c.requires.there c.in_ok-types.types c.files_of-files.result.now c.from_ref-maps.result.now has l serves in
     subst (λ (fs : List ListedFile). (g.H.Host.view c.print_table.new.host).reads ≤ v.reads + table_reads v.files fs) has.files_are (c.print_table.ensures.reads table.0 l.partitioner table.2 table.1 table.3)
 
