@@ -17,10 +17,9 @@ mod terms;
 use crate::statements::add_statement;
 use crate::terms::add_terms;
 use sasi_cql::{ParseFault, parse};
-use sasi_types::Rule;
+use sasi_types::{Rule, Statement};
 use std::alloc::{AllocError, Global};
-use std::io::{self, BufRead, BufReader};
-use std::str;
+use std::{io, str};
 
 fn add_fault(line: &mut String, fault: ParseFault) -> Result<(), AllocError> {
     match fault {
@@ -29,12 +28,30 @@ fn add_fault(line: &mut String, fault: ParseFault) -> Result<(), AllocError> {
     }
 }
 
+// Adds each statement.
+fn add_each(line: &mut String, alloc: Global, statements: &[Statement]) -> Result<(), AllocError> {
+    for statement in statements {
+        add_statement(line, alloc, statement)?;
+    }
+    Ok(())
+}
+
+// Adds a statement. A list owns it: to borrow and then drop a statement is proved variant by variant.
+fn add_owned(line: &mut String, alloc: Global, statement: Statement) -> Result<(), AllocError> {
+    add_each(line, alloc, &vec![in alloc; statement]?)
+}
+
 // What the parser makes of a text: a statement, or a fault.
 fn add_piece(line: &mut String, alloc: Global, text: &str) -> Result<(), AllocError> {
     match parse(alloc, text) {
-        Ok(statement) => add_statement(line, alloc, &statement),
+        Ok(statement) => add_owned(line, alloc, statement),
         Err(fault) => add_fault(line, fault),
     }
+}
+
+// The same of a text in which `\n` stands for the end of a line.
+fn add_escaped(line: &mut String, alloc: Global, text: &str) -> Result<(), AllocError> {
+    add_piece(line, alloc, &text.replace(alloc, "\\n", "\n")?)
 }
 
 // The fault of a text that has no statement.
@@ -90,20 +107,24 @@ fn add_answer(line: &mut String, alloc: Global, asked: &str) -> Result<(), Alloc
         "whole" => add_terms(line, alloc, Rule::Whole { fold: false }, rest),
         "words" => add_terms(line, alloc, Rule::Words { fold: false }, rest),
         "fold" => add_folded(line, alloc, rest),
-        _ => add_piece(line, alloc, &asked.replace(alloc, "\\n", "\n")?),
+        _ => add_escaped(line, alloc, asked),
     }
 }
 
-fn print_answer(rt: &impl Print, alloc: Global, asked: io::Result<String>) -> io::Result<()> {
+fn print_answer(rt: &impl Print, alloc: Global, asked: &str) -> io::Result<()> {
     let mut line = String::new(alloc);
-    add_answer(&mut line, alloc, &asked?)?;
+    add_answer(&mut line, alloc, asked)?;
     println!(rt; "{line}")
+}
+
+fn print_answers(rt: &impl Print, alloc: Global, text: &str) -> io::Result<()> {
+    for asked in text.lines() {
+        print_answer(rt, alloc, asked)?;
+    }
+    Ok(())
 }
 
 fn main(rt: HostRuntime) -> io::Result<()> {
     let alloc = rt.alloc();
-    for asked in BufReader::new(alloc, rt.reader())?.lines(alloc) {
-        print_answer(&rt, alloc, asked)?;
-    }
-    Ok(())
+    print_answers(&rt, alloc, &io::read_to_string(alloc, rt.reader())?)
 }
