@@ -5,7 +5,7 @@ use Rattle.std.proofs.lemmas.List.{take-set-le, drop-set-lt}
 use Rattle.std.specs.List.{slice_get}
 use Rattle.sasi_types.specs.declared.class.Class.{Class}
 use Rattle.sasi_types.specs.declared.class.Class.TheVariants.{NonTokenizing, Standard}
-use Rattle.sasi_analyzers.specs.Kits.{same_class, has_class, first_of, FindsFirst, KeepsOthers}
+use Rattle.sasi_analyzers.specs.Kits.{same_class, has_class, first_position, FindsFirst, KeepsOthers}
 
 same_itself : (class : Class) → same_class class class ≡ true
 same_itself NonTokenizing = refl
@@ -31,14 +31,14 @@ neither true rest h = absurd cc
 neither false rest h = (refl, h)
 
 -- the object that is found is the first one
-pub first_is : (class : Class) (classes : List Class) (at : ℕ) → slice_get classes at ≡ Some class → has_class class (take at classes) ≡ false → first_of class classes ≡ at
+pub first_is : (class : Class) (classes : List Class) (at : ℕ) → slice_get classes at ≡ Some class → has_class class (take at classes) ≡ false → first_position class classes ≡ at
 first_is class [] at h before = absurd cc
 first_is class (c ∷ classes) zero h before =
     let is : c ≡ class = cc in
     rw (is, same_itself class) refl
 first_is class (c ∷ classes) (suc at) h before =
     let apart = neither (same_class class c) (has_class class (take at classes)) before in
-    let rest : first_of class classes ≡ at = first_is class classes at h apart.1 in
+    let rest : first_position class classes ≡ at = first_is class classes at h apart.1 in
     rw apart.0 (omega arith)
 
 same_means : (c d : Class) → (same_class c d || false) ≡ true → d ≡ c
@@ -67,5 +67,5 @@ kept kind items at new other same = map-set_same kind items at new other same
 -- an object in place of the first one of its class
 pub others_kept : {A : Type 0} (class : Class) (classes : List Class) (items : List A) (at : ℕ) (new : A) → FindsFirst class classes (Some at) → KeepsOthers class classes items (slice_set items at new)
 others_kept class classes items at new found =
-    let first : first_of class classes ≡ at = first_is class classes at found.0 found.1 in
+    let first : first_position class classes ≡ at = first_is class classes at found.0 found.1 in
     rw first (take-set-le at items at new (omega arith), drop-set-lt (at + 1) items at new (omega arith))

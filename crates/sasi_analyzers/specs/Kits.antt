@@ -19,13 +19,13 @@ abbrev pub has_class : Class → List Class → Bool
 has_class class classes = list_any (same_class class) classes
 
 -- the position of the first one of the class, or how many there are
-abbrev pub first_of : Class → List Class → ℕ
-first_of class classes = position_or_len (same_class class) classes
+abbrev pub first_position : Class → List Class → ℕ
+first_position class classes = position_or_len (same_class class) classes
 
 -- every object but the first one of the class is as it was
 abbrev pub KeepsOthers : {A : Type 0} → Class → List Class → List A → List A → Type 0
 KeepsOthers class classes old new =
-    (take (first_of class classes) new ≡ take (first_of class classes) old) × (drop (first_of class classes + 1) new ≡ drop (first_of class classes + 1) old)
+    (take (first_position class classes) new ≡ take (first_position class classes) old) × (drop (first_position class classes + 1) new ≡ drop (first_position class classes + 1) old)
 
 -- the position of the first one of the class is found, or there is none
 abbrev pub FindsFirst : Class → List Class → Option ℕ → Type 0

@@ -15,7 +15,7 @@ use Rattle.sasi_cells.specs.declared.mutation.Mutation.{Mutation}
 use Rattle.sasi_commitlog.specs.Format.{payload_of, Tables, IsMutationOf}
 use Rattle.sasi_commitlog.specs.LogPosition.{IsReadingLog}
 use Rattle.sasi_commitlog.specs.Damages.{RecordBreaks, ShowsLog}
-use Rattle.sasi_commitlog.specs.Faults.{IsRecordDamage}
+use Rattle.sasi_commitlog.specs.Faults.{IsMutationDamage}
 use Rattle.sasi_commitlog.specs.Reads.{ReadsNext}
 use Rattle.sasi_commitlog.proofs.Laws.{payloads_same}
 
@@ -25,11 +25,11 @@ on_damage P Q fault.OutOfMemory weaker p = tt
 on_damage P Q (fault.Damaged damage) weaker p = weaker damage p
 
 -- where a segment is read, its only fault is to be out of memory, so no damage is reported
-pub spared : {v : View} {file : FileName} {at : ℕ} {tables : Tables} (f : ReadFault) → ((done left : List Mutation) → IsTold v → IsReadingLog v file at tables done left → f ≡ fault.OutOfMemory)
+pub no_false_read : {v : View} {file : FileName} {at : ℕ} {tables : Tables} (f : ReadFault) → ((done left : List Mutation) → IsTold v → IsReadingLog v file at tables done left → f ≡ fault.OutOfMemory)
     → OnDamage (λ _. (done left : List Mutation) → IsTold v → IsReadingLog v file at tables done left → ⊥) f
-spared fault.Failed memory = tt
-spared fault.OutOfMemory memory = tt
-spared (fault.Damaged damage) memory = λ done left told reading. let is = memory done left told reading in cc
+no_false_read fault.Failed memory = tt
+no_false_read fault.OutOfMemory memory = tt
+no_false_read (fault.Damaged damage) memory = λ done left told reading. let is = memory done left told reading in cc
 
 -- ---- a closed gate
 
@@ -74,7 +74,7 @@ first_left v w file at after tables done (first ∷ others) more out is reading 
 -- damage of the record that was read is damage of the file
 pub record_shown : (tables : Tables) (file named : FileName) (at gate after : ℕ) (bytes : Bytes) (done : List Bytes)
     (rest out payload : Bytes) (more : Bool) (damage : Damage) → named ≡ file → gate ≡ at → payload ≡ out → more ≡ true
-    → IsRecordDamage tables named gate payload damage → ReadsAt more file bytes after done rest out → IsAtGate file bytes at done rest → ShowsLog tables file bytes damage
+    → IsMutationDamage tables named gate payload damage → ReadsAt more file bytes after done rest out → IsAtGate file bytes at done rest → ShowsLog tables file bytes damage
 record_shown tables file named at gate after bytes done rest out payload more damage named_is gate_is payload_is is record_damage reads stands =
     let r = subst (λ (m : Bool). ReadsAt m file bytes after done rest out) is reads in
     inr (record {

@@ -18,9 +18,9 @@ IsWithin limit fault.Long = Unit {0}
 IsWithin limit (fault.Broken broken) = broken.at ≤ limit
 
 -- damage is that of the record after a gate
-pub record IsRecordDamage (tables : Tables) (file : FileName) (gate : ℕ) (payload : Bytes) (damage : Damage) : Type 0 where
+pub record IsMutationDamage (tables : Tables) (file : FileName) (gate : ℕ) (payload : Bytes) (damage : Damage) : Type 0 where
   pub named : damage.file ≡ file
   pub breaks : RecordBreaks tables gate payload damage.rule damage.at (seen_bytes damage.seen)
 
 abbrev pub IsRecordFault : Tables → FileName → ℕ → Bytes → ReadFault → Type 0
-IsRecordFault tables file gate payload = OnDamage (IsRecordDamage tables file gate payload)
+IsRecordFault tables file gate payload = OnDamage (IsMutationDamage tables file gate payload)

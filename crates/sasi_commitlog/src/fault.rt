@@ -7,7 +7,7 @@ ghost use Rattle.sasi_formats.specs.Whole.{IsShownBy};
 ghost use Rattle.sasi_commitlog.specs.Format.{Tables, mutation_of};
 ghost use Rattle.sasi_commitlog.specs.Faults.{IsWithin, IsRecordFault};
 
-use sasi_formats::{Broken, FormatFault, found};
+use sasi_formats::{Broken, FormatFault, broken_at};
 use sasi_host::{Damage, FileName, FormatRule, ReadFault};
 
 /// The fault of the payload after the gate at this offset, with its offset in the file.
@@ -37,7 +37,7 @@ fn other_length(file: FileName, gate: u64, payload: &[u8]) -> ReadFault
     ensures cause { result ≢ read_fault.Failed }
 {
     let bytes = (payload.len() as u32).to_be_bytes();
-    ReadFault::Damaged(damage_at(file, gate + 1, found(FormatRule::Number, 0, &bytes)))
+    ReadFault::Damaged(damage_at(file, gate + 1, broken_at(FormatRule::Number, 0, &bytes)))
 }
 
 // The damage of a file that breaks the rule at this offset.

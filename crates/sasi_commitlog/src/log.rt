@@ -112,7 +112,7 @@ impl Log {
         ensures gate { IfOk result (ReadsLogGate (H.view host.old) self.old.file tables.now self.old.at self.new.at) }
         ensures mutations { IfOk result (ReadsMutations (H.view host.old) (H.view host.new) self.old.file tables.now self.old.at self.new.at) }
         ensures of_tables { IfOk result (IsReadOf tables.now) }
-        ensures goes_on { IfOk result (λ read. IsSome read → self.old.at < self.new.at) }
+        ensures advances { IfOk result (λ read. IsSome read → self.old.at < self.new.at) }
         ensures fits { OnOk result (self.new.at ≤ 2 ^ 62) }
         ensures room { IfOk result (λ read. read ≡ None → Reaches (H.view host.new) self.new.file (self.new.at + 1)) }
         ensures damaged { IfErr result (IsLogDamageAt (H.view host.old) self.old.file tables.now self.old.at) }

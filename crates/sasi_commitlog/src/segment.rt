@@ -32,7 +32,7 @@ pub fn read_next<H: Host>(
     ensures gate { IfOk result (ReadsLogGate (H.view host.old) gated.old.file tables.now gated.old.at gated.new.at) }
     ensures mutations { IfOk result (ReadsMutations (H.view host.old) (H.view host.new) gated.old.file tables.now gated.old.at gated.new.at) }
     ensures of_tables { IfOk result (IsReadOf tables.now) }
-    ensures goes_on { IfOk result (λ read. IsSome read → gated.old.at < gated.new.at) }
+    ensures advances { IfOk result (λ read. IsSome read → gated.old.at < gated.new.at) }
     ensures fits { OnOk result (gated.new.at ≤ 2 ^ 62) }
     ensures room { IfOk result (λ read. read ≡ None → Reaches (H.view host.new) gated.new.file (gated.new.at + 1)) }
     ensures damaged { IfErr result (IsLogDamageAt (H.view host.old) gated.old.file tables.now gated.old.at) }

@@ -3,9 +3,9 @@ use Rattle.std.proofs.Common.{◌≡◌, ℕ, zero, suc, ◌+◌, ◌-◌, ◌*�
 use Rattle.std.proofs.lemmas.List.{drop_all}
 use Rattle.uuid.specs.Text.{parsed, parsed_hyphenated}
 use Rattle.sasi_model.specs.Pieces.{starts}
-use Rattle.sasi_model.specs.Abbreviations.{starts_word, decimal_on}
+use Rattle.sasi_model.specs.Abbreviations.{starts_word, digits_value_on}
 use Rattle.sasi_model.specs.Tokens as model
-use Rattle.sasi_model.specs.Tokens.{QuotedText, quoted_text, string_lexeme, uuid_in_front, decimal}
+use Rattle.sasi_model.specs.Tokens.{QuotedText, quoted_text, string_lexeme, uuid_in_front, digits_value}
 use Rattle.sasi_cql.specs.ModelTokens.{at_most, quoted_size, undoubled}
 use Rattle.sasi_cql.proofs.Strings.{closed}
 
@@ -76,21 +76,21 @@ starts_some c (suc n) (b ∷ bs) h = let some = starts_some c n bs h in omega ar
 
 -- ---- integers
 
-grows : (n : ℕ) (digits : List ℕ) → n ≤ decimal_on n digits
+grows : (n : ℕ) (digits : List ℕ) → n ≤ digits_value_on n digits
 grows n [] = omega arith
 grows n (b ∷ bs) = let more = grows (10 * n + (b - 48)) bs in omega arith
 
 -- the digits so far have a value above the limit
-pub too_many_digits : (limit : ℕ) (digits : List ℕ) (i value : ℕ) → i < length digits → decimal digits ≡ decimal_on value (drop i digits) → None ≡ at_most limit (10 * value + (get_or digits i 0 - 48))
-    → None ≡ at_most limit (decimal digits)
+pub too_many_digits : (limit : ℕ) (digits : List ℕ) (i value : ℕ) → i < length digits → digits_value digits ≡ digits_value_on value (drop i digits) → None ≡ at_most limit (10 * value + (get_or digits i 0 - 48))
+    → None ≡ at_most limit (digits_value digits)
 too_many_digits limit digits i value some so_far above =
     let more = grows (10 * value + (get_or digits i 0 - 48)) (drop (suc i) digits) in
-    let all : decimal digits ≡ decimal_on (10 * value + (get_or digits i 0 - 48)) (drop (suc i) digits) = so_far ∙ rw (drop-cons digits i 0 some) refl in
-    by_tests (leb (10 * value + (get_or digits i 0 - 48)) limit) (leb (decimal digits) limit) refl refl above all more where
-      by_tests : (a b : Bool) → leb (10 * value + (get_or digits i 0 - 48)) limit ≡ a → leb (decimal digits) limit ≡ b → None ≡ cond a (Some (10 * value + (get_or digits i 0 - 48))) None
-          → decimal digits ≡ decimal_on (10 * value + (get_or digits i 0 - 48)) (drop (suc i) digits)
-          → 10 * value + (get_or digits i 0 - 48) ≤ decimal_on (10 * value + (get_or digits i 0 - 48)) (drop (suc i) digits)
-          → None ≡ cond b (Some (decimal digits)) None
+    let all : digits_value digits ≡ digits_value_on (10 * value + (get_or digits i 0 - 48)) (drop (suc i) digits) = so_far ∙ rw (drop-cons digits i 0 some) refl in
+    by_tests (leb (10 * value + (get_or digits i 0 - 48)) limit) (leb (digits_value digits) limit) refl refl above all more where
+      by_tests : (a b : Bool) → leb (10 * value + (get_or digits i 0 - 48)) limit ≡ a → leb (digits_value digits) limit ≡ b → None ≡ cond a (Some (10 * value + (get_or digits i 0 - 48))) None
+          → digits_value digits ≡ digits_value_on (10 * value + (get_or digits i 0 - 48)) (drop (suc i) digits)
+          → 10 * value + (get_or digits i 0 - 48) ≤ digits_value_on (10 * value + (get_or digits i 0 - 48)) (drop (suc i) digits)
+          → None ≡ cond b (Some (digits_value digits)) None
       by_tests true b p q above all more = absurd cc
       by_tests false false p q above all more = refl
       by_tests false true p q above all more = absurd (grind arith)

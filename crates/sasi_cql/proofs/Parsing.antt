@@ -30,15 +30,15 @@ is_parser text = is_parsed text (ended (read piece (tokens text))) refl
 pub one_statement : (tokens : List Token) (one other : Statement) → Spells piece one tokens → Spells piece other tokens → one ≡ other
 one_statement tokens one other s t = one_value piece piece_decides tokens one other s t
 
-pub one_place : (text : List ℕ) (one other : ℕ) → IsSyntaxAt text one → IsSyntaxAt text other → one ≡ other
-one_place text one other f g =
+pub one_offset : (text : List ℕ) (one other : ℕ) → IsSyntaxAt text one → IsSyntaxAt text other → one ≡ other
+one_offset text one other f g =
     f.offset ∙ ap (λ (n : ℕ). offset_of text (length (tokens text) - n)) (one_fault piece (tokens text) f.size g.size f.fault g.fault) ∙ sym g.offset
 
 one_parsed : (text : List ℕ) (p q : Parsed) → IsParsed text p → IsParsed text q → p ≡ q
 one_parsed text (Parses one) (Parses other) s t = ap (λ (a : Statement). Parses a) (one_statement (tokens text) one other s t)
 one_parsed text (Parses one) (FailsAt at) s f = absurd (f.0 one s)
 one_parsed text (FailsAt at) (Parses other) f t = absurd (f.0 other t)
-one_parsed text (FailsAt one) (FailsAt other) f g = ap (λ (at : ℕ). FailsAt at) (one_place text one other f.1 g.1)
+one_parsed text (FailsAt one) (FailsAt other) f g = ap (λ (at : ℕ). FailsAt at) (one_offset text one other f.1 g.1)
 
 pub one_parser : (parser : Parser) → IsParser parser → (text : List ℕ) → parser text ≡ grammar_parser text
 one_parser parser is text = one_parsed text (parser text) (grammar_parser text) (is text) (is_parser text)
@@ -78,5 +78,5 @@ module _ (text : List ℕ) (result : Result Statement ParseFault) (is : IsResult
   pub gives_none : (at : ℕ) → result ≡ Err (Syntax at) → (s : Statement) → ¬ (Spells piece s (tokens text))
   gives_none at fails = (parsed_as text (FailsAt at) (gives_failure at fails)).0
 
-  pub gives_place : (at : ℕ) → result ≡ Err (Syntax at) → IsSyntaxAt text at
-  gives_place at fails = (parsed_as text (FailsAt at) (gives_failure at fails)).1
+  pub gives_offset : (at : ℕ) → result ≡ Err (Syntax at) → IsSyntaxAt text at
+  gives_offset at fails = (parsed_as text (FailsAt at) (gives_failure at fails)).1

@@ -11,7 +11,7 @@ ghost use Rattle.sasi_cql.specs.declared.halt.Halt.TheVariants.{Stuck};
 use crate::halt::Halt;
 use crate::lexer::next_token;
 use crate::literal::{literal_of, name_of, number_of, string_of, test_of, type_of};
-use crate::place::count_tokens;
+use crate::offset::count_tokens;
 use crate::token::Token;
 use crate::word::spells;
 use sasi_types::{ColumnType, Literal, Name, Number, Test, Text};

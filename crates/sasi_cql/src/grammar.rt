@@ -12,5 +12,5 @@ pub fn grammar_is_parsed()
     ensures parser { IsParser grammar_parser }
     ensures alone { (parser : Parser) → IsParser parser → (text : List ℕ) → parser text ≡ grammar_parser text }
     ensures one_statement { (ts : List Token) (one other : Statement) → Spells piece one ts → Spells piece other ts → one ≡ other }
-    ensures one_place { (text : List ℕ) (one other : ℕ) → IsSyntaxAt text one → IsSyntaxAt text other → one ≡ other }
+    ensures one_offset { (text : List ℕ) (one other : ℕ) → IsSyntaxAt text one → IsSyntaxAt text other → one ≡ other }
 {}

@@ -1,6 +1,6 @@
 // Integers: the value of their digits, as far as it has 128 bits.
 ghost use Rattle.std.specs.Prelude.{◌≡◌, ◌+◌, ◌-◌, ◌*◌, ◌≤◌, ◌∷◌, length};
-ghost use Rattle.sasi_model.specs.Tokens.{decimal, digits_on, negative, negative_lexeme, positive, positive_lexeme};
+ghost use Rattle.sasi_model.specs.Tokens.{digits_on, digits_value, negative, negative_lexeme, positive, positive_lexeme};
 ghost use Rattle.sasi_model.specs.Abbreviations.{NUMBER_LIMIT};
 ghost use Rattle.sasi_cql.specs.ModelTokens.{at_most, IsLexeme};
 
@@ -24,7 +24,7 @@ fn with_digit(value: u128, digit: u8) -> Option<u128>
 
 // The value of digits, if it is not above the limit.
 fn magnitude(digits: &[u8]) -> Option<u128>
-    ensures { result ≡ at_most NUMBER_LIMIT (decimal digits.now) }
+    ensures { result ≡ at_most NUMBER_LIMIT (digits_value digits.now) }
 {
     let mut value = 0u128;
     'digits: for digit in digits {
@@ -37,7 +37,7 @@ fn magnitude(digits: &[u8]) -> Option<u128>
 }
 
 fn positive(digits: &[u8]) -> Number
-    ensures { result ≡ positive (decimal digits.now) }
+    ensures { result ≡ positive (digits_value digits.now) }
 {
     match magnitude(digits) {
         Some(value) if value < LIMIT => Number::Fits(value as i128),
@@ -46,7 +46,7 @@ fn positive(digits: &[u8]) -> Number
 }
 
 fn negative(digits: &[u8]) -> Number
-    ensures { result ≡ negative (decimal digits.now) }
+    ensures { result ≡ negative (digits_value digits.now) }
 {
     match magnitude(digits) {
         Some(value) if value < LIMIT => Number::Fits(-(value as i128)),

@@ -13,7 +13,7 @@ ghost use Rattle.sasi_cql.specs.Finds.{Finds, FindsAll, IsResult};
 use crate::fault::ParseFault;
 use crate::front::{expect, has_token, stuck};
 use crate::halt::Halt;
-use crate::place::offset_of_last;
+use crate::offset::offset_of_last;
 use crate::statement::read_statement;
 use crate::token::Token;
 use sasi_types::Statement;
@@ -66,7 +66,7 @@ pub fn parse(alloc: Global, text: &str) -> Result<Statement, ParseFault>
     ensures written { IfOk result (λ s. IsWellFormed s) }
     ensures fails { (at : ℕ) → result ≡ Err (ParseFault.Syntax at) → grammar_parser text.now ≡ FailsAt at }
     ensures refuses { (at : ℕ) → result ≡ Err (ParseFault.Syntax at) → (s : Statement) → ¬ (Spells piece s (tokens text.now)) }
-    ensures place { (at : ℕ) → result ≡ Err (ParseFault.Syntax at) → IsSyntaxAt text.now at }
+    ensures syntax_offset { (at : ℕ) → result ≡ Err (ParseFault.Syntax at) → IsSyntaxAt text.now at }
 {
     parse_bytes(alloc, text.as_bytes())
 }

@@ -14,7 +14,7 @@ use sasi_types::{Literal, Literals, Name, Names, Sets, Statement};
 use std::alloc::Global;
 
 // As many literals as names.
-fn are_even(columns: &Names, values: &Literals) -> bool
+fn same_length(columns: &Names, values: &Literals) -> bool
     ensures { result ≡ (length values.now == length columns.now) }
 {
     values.len() == columns.len()
@@ -37,7 +37,7 @@ pub fn read_insert<'a>(alloc: Global, text: &'a [u8]) -> Result<(Statement, &'a 
     let (columns, behind) = read_names(alloc, behind)?;
     let behind = expect(&[Token::Close, Token::Word(b"values"), Token::Open], behind)?;
     let (values, behind) = read_literals(alloc, behind)?;
-    if !are_even(&columns, &values) {
+    if !same_length(&columns, &values) {
         return Err(stuck(behind));
     }
     let behind = expect(&[Token::Close], behind)?;

@@ -1,8 +1,8 @@
 // Data files in memory.
 ghost use Rattle.std.specs.Prelude.{◌≤◌, length};
 ghost use Rattle.sasi_body.specs.Body.{HasBody};
-ghost use Rattle.sasi_host.specs.Memory.{host_view, seen};
-ghost use Rattle.sasi_data_tests.specs.Ready.{IsReady};
+ghost use Rattle.sasi_host.specs.Memory.{host_view, memory_host};
+ghost use Rattle.sasi_data_tests.specs.Ready.{CanPush};
 
 use sasi_body::{put_body, read_body};
 use sasi_cells::Partition;
@@ -98,8 +98,8 @@ fn push<O: FlushObserver>(
     last: Token,
     body: &[u8],
 ) -> Token
-    requires ready { IsReady (host_view (seen host.old)) writer.old last }
-    ensures ready { IsReady (host_view (seen host.new)) writer.new result }
+    requires ready { CanPush (host_view (memory_host host.old)) writer.old last }
+    ensures ready { CanPush (host_view (memory_host host.new)) writer.new result }
     ensures some { 1 ≤ length writer.new.pairs }
 {
     let (key, part) = partition_of(rt, alloc, body);

@@ -1,13 +1,13 @@
 // Fixed bytes that a format expects.
 use sasi_fields::FieldReader;
-use sasi_formats::{FormatFault, expect, found};
+use sasi_formats::{FormatFault, broken_at, expect};
 use sasi_host::FormatRule;
 
 #[test]
 fn wanted_text_is_read(rt: HostRuntime) {
     let mut reader = FieldReader::new(b"SFSES");
     assert!(rt; expect(&mut reader, FormatRule::Magic, b"SF").is_ok());
-    let other = FormatFault::Broken(found(FormatRule::Magic, 2, b"SE"));
+    let other = FormatFault::Broken(broken_at(FormatRule::Magic, 2, b"SE"));
     assert!(rt; expect(&mut reader, FormatRule::Magic, b"SF") == Err(other));
 }
 

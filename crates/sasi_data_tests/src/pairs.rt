@@ -1,6 +1,6 @@
 // Data files that are durable before a manifest lists them, or given up.
 ghost use Rattle.std.specs.Prelude.{◌≤◌, length, IsTrue};
-ghost use Rattle.sasi_host.specs.Memory.{host_view, seen};
+ghost use Rattle.sasi_host.specs.Memory.{host_view, memory_host};
 ghost use Rattle.sasi_host.specs.View.{IsThere, Reaches};
 
 use crate::fixture::{DATA, INSERTED, ONE, partition_of};
@@ -13,7 +13,7 @@ use std::process::Abort;
 
 // A writer of a data file, with one partition.
 fn pushed(rt: &impl Abort, alloc: Global, host: &mut MemHost) -> PairWriter
-    ensures room { Reaches (host_view (seen host.new)) result.file result.offset }
+    ensures room { Reaches (host_view (memory_host host.new)) result.file result.offset }
     ensures some { 1 ≤ length result.pairs }
     ensures usable { IsTrue result.usable }
 {
@@ -85,7 +85,7 @@ fn file_that_is_given_up_is_gone(rt: HostRuntime) {
 
 // A writer whose first push failed.
 fn failed(rt: &impl Abort, alloc: Global, host: &mut MemHost) -> PairWriter
-    ensures { IsThere (host_view (seen host.new)) result.file }
+    ensures { IsThere (host_view (memory_host host.new)) result.file }
 {
     host.fail_disk(vec![in alloc; 3].expect(rt, "memory for a call"));
     assert!(rt; host.bytes(DATA).is_none());

@@ -117,7 +117,7 @@ fn changed_byte_is_damage_or_read(rt: HostRuntime) {
 
 // Offsets that can't be right in the file of one partition, and where they stand: those of the key tree's root, which can
 // only be 61, and those of a partition, which ends by 61.
-const WRONG_PLACES: [(usize, u64); 8] = [
+const WRONG_OFFSETS: [(usize, u64); 8] = [
     (85, 0),
     (85, 60),
     (85, 62),
@@ -154,7 +154,7 @@ fn check_place(rt: &impl Abort, alloc: Global, at: usize, place: u64) {
 
 #[test]
 fn wrong_place_is_damage_where_it_stands(rt: HostRuntime) {
-    for (at, place) in WRONG_PLACES {
+    for (at, place) in WRONG_OFFSETS {
         check_place(&rt, rt.alloc(), at, place);
     }
 }

@@ -1,6 +1,6 @@
 // A data file of many partitions, seven of a token, that is scanned and searched.
 ghost use Rattle.std.specs.Prelude.{◌≡◌};
-ghost use Rattle.sasi_host.specs.Memory.{host_view, seen};
+ghost use Rattle.sasi_host.specs.Memory.{host_view, memory_host};
 ghost use Rattle.sasi_data_tests.specs.Scan.{IsScanOf};
 ghost use Rattle.sasi_data_tests.specs.declared.fixture.TheConstants.{DATA};
 
@@ -64,8 +64,8 @@ fn next(
     host: &mut MemHost,
     scan: &mut Walk,
 ) -> Option<(Token, Key, Partition)>
-    requires { IsScanOf (host_view (seen host.old)) scan.old DATA }
-    ensures { IsScanOf (host_view (seen host.new)) scan.new DATA }
+    requires { IsScanOf (host_view (memory_host host.old)) scan.old DATA }
+    ensures { IsScanOf (host_view (memory_host host.new)) scan.new DATA }
 {
     assert!(rt; host.bytes(DATA).is_some());
     scan.next(alloc, host, &mut Direct).expect(rt, "read")
@@ -79,8 +79,8 @@ fn check_nth(rt: &impl Abort, token: Token, key: &Key, part: &Partition, k: u16)
 
 /// The next partition of a scan is this one.
 fn check_next(rt: &impl Abort, alloc: Global, host: &mut MemHost, scan: &mut Walk, k: u16)
-    requires { IsScanOf (host_view (seen host.old)) scan.old DATA }
-    ensures { IsScanOf (host_view (seen host.new)) scan.new DATA }
+    requires { IsScanOf (host_view (memory_host host.old)) scan.old DATA }
+    ensures { IsScanOf (host_view (memory_host host.new)) scan.new DATA }
 {
     let (token, key, part) = next(rt, alloc, host, scan).expect(rt, "a partition");
     check_nth(rt, token, &key, &part, k);

@@ -1,7 +1,7 @@
 // Trees of many sizes: their bytes, which another writer of the format gave, what is read of them, and damaged ones.
 ghost use Rattle.std.specs.Prelude.{◌≡◌};
 ghost use Rattle.sasi_host.specs.Buffered.{IsBuffered};
-ghost use Rattle.sasi_host.specs.Memory.{host_view, seen as seen_of};
+ghost use Rattle.sasi_host.specs.Memory.{host_view, memory_host};
 ghost use Rattle.sasi_data_tests.specs.declared.tree_fixture.TheConstants.{FILE};
 
 use crate::fixture::changed;
@@ -45,9 +45,9 @@ fn two_leaves_lie_below_a_root(rt: HostRuntime) {
 /// The next pair of a reader.
 fn next(rt: &impl Abort, host: &mut MemHost, reader: &mut Tree) -> Option<Pair>
     requires file { reader.old.buffered.file ≡ FILE }
-    requires buffered { IsBuffered reader.old.buffered (host_view (seen_of host.old)).files }
+    requires buffered { IsBuffered reader.old.buffered (host_view (memory_host host.old)).files }
     ensures file { reader.new.buffered.file ≡ FILE }
-    ensures buffered { IsBuffered reader.new.buffered (host_view (seen_of host.new)).files }
+    ensures buffered { IsBuffered reader.new.buffered (host_view (memory_host host.new)).files }
 {
     assert!(rt; host.bytes(FILE).is_some());
     reader.next(host, &mut Direct).expect(rt, "read")

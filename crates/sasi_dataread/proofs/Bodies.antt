@@ -6,7 +6,7 @@ use Rattle.sasi_host.specs.declared.fault.ReadFault.{ReadFault}
 use Rattle.sasi_host.specs.declared.fault.ReadFault.TheVariants as fault
 use Rattle.sasi_host.specs.Names.{Bytes}
 use Rattle.std.specs.declared.result.Result.{Result}
-use Rattle.sasi_host.specs.View.{View, ReadsAtMost, contents}
+use Rattle.sasi_host.specs.View.{View, ReadCost, contents}
 use Rattle.sasi_types.specs.declared.column.ColumnType.{ColumnType}
 use Rattle.sasi_model.specs.Cells.{Partition}
 use Rattle.sasi_host.specs.Damages.{seen_bytes, OnDamage}
@@ -57,7 +57,7 @@ reads_cost bytes body buffered after place count r0 r1 r2 count_fits body_fits h
 -- a length and its body, one read after the other
 pub both_causes : {S T : Type 0} (a b c : View) (buffered after : Option ℕ) (place count : ℕ) (first : S) (second : Result T ReadFault) →
     count < 2 ^ 23 → after ≡ Some ((place + 3) / 4096)
-    → ReadsAtMost (unbuffered_pages buffered place 4) a b (Ok first) → ReadsAtMost (unbuffered_pages after (place + 4) count) b c second → ReadsAtMost 2050 a c second
+    → ReadCost (unbuffered_pages buffered place 4) a b (Ok first) → ReadCost (unbuffered_pages after (place + 4) count) b c second → ReadCost 2050 a c second
 both_causes a b c buffered after place count first second short after_is one two =
     let more : unbuffered_pages after (place + 4) count ≡ unbuffered_pages (Some ((place + 4 - 1) / 4096)) (place + 4) count =
     ap (λ (o : Option ℕ). unbuffered_pages o (place + 4) count) (after_is ∙ ap (λ (n : ℕ). Some (n / 4096)) (omega arith))
@@ -67,29 +67,29 @@ both_causes a b c buffered after place count first second short after_is one two
 
 -- ---- what shows damage
 
-pub length_spares : (v : View) (file : FileName) (end place : ℕ) (f : ReadFault) → DamageShown v file (ShowsEnd (place + 4) file) f → NoFalseLengthDamage v file end place f
-length_spares v file end place fault.Failed short = tt
-length_spares v file end place fault.OutOfMemory short = tt
-length_spares v file end place (fault.Damaged damage) short = λ bytes count is has wanted. let less = (short bytes is).short in omega (arith, less, at_ends bytes place (to_be_bytes w32 count) has)
+pub no_false_length : (v : View) (file : FileName) (end place : ℕ) (f : ReadFault) → DamageShown v file (ShowsEnd (place + 4) file) f → NoFalseLengthDamage v file end place f
+no_false_length v file end place fault.Failed short = tt
+no_false_length v file end place fault.OutOfMemory short = tt
+no_false_length v file end place (fault.Damaged damage) short = λ bytes count is has wanted. let less = (short bytes is).short in omega (arith, less, at_ends bytes place (to_be_bytes w32 count) has)
 
-pub far_spares : (v : View) (file : FileName) (end place : ℕ) (f : ReadFault) → 2 ^ 62 < place →
+pub no_false_far : (v : View) (file : FileName) (end place : ℕ) (f : ReadFault) → 2 ^ 62 < place →
     ((bytes : Bytes) → contents v file ≡ Some bytes → length bytes ≤ 2 ^ 62) → NoFalseLengthDamage v file end place f
-far_spares v file end place fault.Failed far fits = tt
-far_spares v file end place fault.OutOfMemory far fits = tt
-far_spares v file end place (fault.Damaged damage) far fits = λ bytes count is has wanted. let le = fits bytes is in omega (arith, far, le, at_ends bytes place (to_be_bytes w32 count) has)
+no_false_far v file end place fault.Failed far fits = tt
+no_false_far v file end place fault.OutOfMemory far fits = tt
+no_false_far v file end place (fault.Damaged damage) far fits = λ bytes count is has wanted. let le = fits bytes is in omega (arith, far, le, at_ends bytes place (to_be_bytes w32 count) has)
 
-pub sized_spares : (v : View) (file : FileName) (end place : ℕ) (f : ReadFault) → NoFalseLengthDamage v file end place f → NoFalseBytesDamage v file end place f
-sized_spares v file end place fault.Failed no_false_damage = tt
-sized_spares v file end place fault.OutOfMemory no_false_damage = tt
-sized_spares v file end place (fault.Damaged damage) no_false_damage = λ bytes body is has wanted. no_false_damage bytes (length body) is (first_at bytes place (to_be_bytes w32 (length body)) body has) wanted
+pub no_false_sized : (v : View) (file : FileName) (end place : ℕ) (f : ReadFault) → NoFalseLengthDamage v file end place f → NoFalseBytesDamage v file end place f
+no_false_sized v file end place fault.Failed no_false_damage = tt
+no_false_sized v file end place fault.OutOfMemory no_false_damage = tt
+no_false_sized v file end place (fault.Damaged damage) no_false_damage = λ bytes body is has wanted. no_false_damage bytes (length body) is (first_at bytes place (to_be_bytes w32 (length body)) body has) wanted
 
-pub cut_spares : (a b : View) (file : FileName) (end place count : ℕ) (f : ReadFault) → count < 2 ^ 23 →
+pub no_false_cut : (a b : View) (file : FileName) (end place count : ℕ) (f : ReadFault) → count < 2 ^ 23 →
     ((bytes : Bytes) → contents a file ≡ Some bytes → HasAt bytes place (to_be_bytes w32 count)) → Changes Same a b → DamageShown b file
     (ShowsEnd (place + 4 + count) file) f
     → NoFalseBytesDamage a file end place f
-cut_spares a b file end place count fault.Failed fits has same short = tt
-cut_spares a b file end place count fault.OutOfMemory fits has same short = tt
-cut_spares a b file end place count (fault.Damaged damage) fits has same short = λ bytes body is stands wanted.
+no_false_cut a b file end place count fault.Failed fits has same short = tt
+no_false_cut a b file end place count fault.OutOfMemory fits has same short = tt
+no_false_cut a b file end place count (fault.Damaged damage) fits has same short = λ bytes body is stands wanted.
     let less = (short bytes (contents_same a b file same ∙ is)).short in
     let long : count ≡ length body = number_at bytes place count (length body) (omega (arith, fits)) (omega (arith, wanted.short)) (has bytes is)
     (first_at bytes place (to_be_bytes w32 (length body)) body stands) in
@@ -132,19 +132,19 @@ length_of_body types key part end place of within = record {
   within = within;
 }
 
-pub body_spares : (v : View) (file : FileName) (types : List ColumnType) (end place : ℕ) (f : ReadFault) → NoFalseBytesDamage v file end place f → NoFalseBodyDamage v file types end place f
-body_spares v file types end place fault.Failed no_false_damage = tt
-body_spares v file types end place fault.OutOfMemory no_false_damage = tt
-body_spares v file types end place (fault.Damaged damage) no_false_damage = λ bytes key part is has of within. no_false_damage bytes (body key part) is has (length_of_body types key part end place of within)
+pub no_false_body : (v : View) (file : FileName) (types : List ColumnType) (end place : ℕ) (f : ReadFault) → NoFalseBytesDamage v file end place f → NoFalseBodyDamage v file types end place f
+no_false_body v file types end place fault.Failed no_false_damage = tt
+no_false_body v file types end place fault.OutOfMemory no_false_damage = tt
+no_false_body v file types end place (fault.Damaged damage) no_false_damage = λ bytes key part is has of within. no_false_damage bytes (body key part) is has (length_of_body types key part end place of within)
 
 -- what isn't read as a body of the table is none
-pub fault_spares : (v : View) (file : FileName) (types : List ColumnType) (end place : ℕ) (read : Bytes) (inner : FormatFault) (f : ReadFault) → length
+pub no_false_fault : (v : View) (file : FileName) (types : List ColumnType) (end place : ℕ) (read : Bytes) (inner : FormatFault) (f : ReadFault) → length
     read < 2 ^ 23 → ((bytes : Bytes) → contents v file ≡ Some bytes → HasAt bytes place (length_prefixed read))
     → ((key : Bytes) (part : Partition) → IsBodyOf types key part → read ≡ body key part → inner ≡ format_fault.OutOfMemory) →
     (inner ≡ format_fault.OutOfMemory → f ≡ fault.OutOfMemory) → NoFalseBodyDamage v file types end place f
-fault_spares v file types end place read inner fault.Failed short stands no_false_damage memory = tt
-fault_spares v file types end place read inner fault.OutOfMemory short stands no_false_damage memory = tt
-fault_spares v file types end place read inner (fault.Damaged damage) short stands no_false_damage memory = λ bytes key part is has of within.
+no_false_fault v file types end place read inner fault.Failed short stands no_false_damage memory = tt
+no_false_fault v file types end place read inner fault.OutOfMemory short stands no_false_damage memory = tt
+no_false_fault v file types end place read inner (fault.Damaged damage) short stands no_false_damage memory = λ bytes key part is has of within.
     let same : read ≡ body key part = sized_same bytes place read (body key part) (omega (arith, short)) (omega (arith, body_short key part of.has)) (stands bytes is) has in
     let no = memory (no_false_damage key part of same) in
     cc

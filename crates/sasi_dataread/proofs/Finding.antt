@@ -12,7 +12,7 @@ use Rattle.sasi_host.specs.declared.name.FileName.{FileName}
 use Rattle.sasi_host.specs.declared.fault.ReadFault.{ReadFault}
 use Rattle.sasi_host.specs.declared.fault.ReadFault.TheVariants as fault
 use Rattle.sasi_host.specs.Names.{Bytes}
-use Rattle.sasi_host.specs.View.{View, ReadsAtMost, contents}
+use Rattle.sasi_host.specs.View.{View, ReadCost, contents}
 use Rattle.sasi_host.specs.Disk.{Changes, Same}
 use Rattle.sasi_types.specs.declared.partitioner.Partitioner.{Partitioner}
 use Rattle.sasi_types.specs.declared.tree.Pair.{Pair}
@@ -29,7 +29,7 @@ use Rattle.sasi_tokentree.specs.Scans.{ReadsEntry, ReadsFirstPair, IsEntryBuffer
 use Rattle.sasi_tokentree.proofs.EntryPages.{next_entry_cost}
 use Rattle.sasi_datawrite.specs.Format.{Content, header, key_pairs, pairs_from, partition_bytes, partitions, decorated_key}
 use Rattle.sasi_datawrite.proofs.Laws.{pairs_length}
-use Rattle.sasi_dataread.specs.Opened.{Opened, StandsAt}
+use Rattle.sasi_dataread.specs.Opened.{OpenDataFile, StandsAt}
 use Rattle.sasi_dataread.specs.Reads.{IsOpenOn, ReadsWithin, NoFalsePartitionDamage}
 use Rattle.sasi_dataread.specs.Bodies.{partition_pages}
 use Rattle.sasi_dataread.specs.Scans.{KeysAreBytes, NoFalseOpenedDamage}
@@ -170,19 +170,19 @@ begins partitioner content token key passed next reads most count counts takes c
 }
 
 -- the tree before its first pair
-abbrev pub begun : Opened → PairScan
+abbrev pub begun : OpenDataFile → PairScan
 begun opened = record { buffered = record { file = opened.file; page = None; bytes = [] }; tree = opened.tree; passed = 0 }
 
-pub first_causes : {T : Type 0} (v w : View) (opened : Opened) (tree : PairScan) (result : Result T ReadFault) → tree ≡ begun opened →
-    ((most : ℕ) → tree.tree.pairs ≤ most → ReadsAtMost (2 * height most tree.tree.pairs + 2) v w result)
-    → (most : ℕ) → opened.tree.pairs ≤ most → ReadsAtMost (2 * height most opened.tree.pairs + 2) v w result
-first_causes v w opened tree result tree_is causes = subst (λ (t : TreeRef). (most : ℕ) → t.pairs ≤ most → ReadsAtMost (2 * height most t.pairs + 2) v
+pub first_causes : {T : Type 0} (v w : View) (opened : OpenDataFile) (tree : PairScan) (result : Result T ReadFault) → tree ≡ begun opened →
+    ((most : ℕ) → tree.tree.pairs ≤ most → ReadCost (2 * height most tree.tree.pairs + 2) v w result)
+    → (most : ℕ) → opened.tree.pairs ≤ most → ReadCost (2 * height most opened.tree.pairs + 2) v w result
+first_causes v w opened tree result tree_is causes = subst (λ (t : TreeRef). (most : ℕ) → t.pairs ≤ most → ReadCost (2 * height most t.pairs + 2) v
     w result) (ap (λ (t : PairScan). t.tree) tree_is) causes
 
 -- where it stands after the first pair at or after the token
-pub starts : {T : Type 0} (v w : View) (opened : Opened) (tree : PairScan) (token : ℕ) (key : Bytes) (passed : ℕ) (next : Option Pair)
+pub starts : {T : Type 0} (v w : View) (opened : OpenDataFile) (tree : PairScan) (token : ℕ) (key : Bytes) (passed : ℕ) (next : Option Pair)
     (result : Result T ReadFault) → tree ≡ begun opened → IsShort v opened.file → ReadsFirstPair v tree.buffered.file tree.tree token passed next
-    → ((most : ℕ) → tree.tree.pairs ≤ most → ReadsAtMost (2 * height most tree.tree.pairs + 2) v w result)
+    → ((most : ℕ) → tree.tree.pairs ≤ most → ReadCost (2 * height most tree.tree.pairs + 2) v w result)
     → (most : ℕ) (partitioner : Partitioner) (content : Content) → opened.tree.pairs ≤ most → IsOpenOn v opened partitioner content → KeysAreBytes content
     → Searches partitioner content token key 0 passed next w.reads (v.reads + (2 * height most opened.tree.pairs + 2 + token_reads partitioner token (length header) content))
 starts v w opened tree token key passed next result tree_is short gives causes most partitioner content le is have =
@@ -193,7 +193,7 @@ starts v w opened tree token key passed next result tree_is short gives causes m
     begins partitioner content token key passed next w.reads (v.reads +
     (2 * height most opened.tree.pairs + 2 + token_reads partitioner token (length header) content)) from.0 from.1 from.2 (omega (arith, first))
 
-pub first_passes : {T : Type 0} (v w : View) (n m : ℕ) (x : T) → Changes Same v w → ReadsAtMost n v w (Ok x) → n ≤ m → ReadsWithin m v w
+pub first_passes : {T : Type 0} (v w : View) (n m : ℕ) (x : T) → Changes Same v w → ReadCost n v w (Ok x) → n ≤ m → ReadsWithin m v w
 first_passes v w n m x change causes le = passes_on v v w 0 n m x (passes_none v) causes change (omega (arith, le))
 
 -- ---- the partition to which the pair leads
@@ -224,10 +224,10 @@ is_here partitioner content token place index passed takes =
       on = omega (arith, left.0, left.1);
     }
 
-takes_it : (partitioner : Partitioner) (content : Content) (token place index passed : ℕ) (next : Option Pair) → LeadsTo token next (Some place) →
+steps_to_it : (partitioner : Partitioner) (content : Content) (token place index passed : ℕ) (next : Option Pair) → LeadsTo token next (Some place) →
     StepsToPair (key_pairs partitioner content) index passed next → StepsToPair (key_pairs partitioner content) index passed
     (Some (record { token = token; place = place }))
-takes_it partitioner content token place index passed next leads takes = subst (λ (o : Option Pair). StepsToPair (key_pairs partitioner content) index passed o) leads takes
+steps_to_it partitioner content token place index passed next leads takes = subst (λ (o : Option Pair). StepsToPair (key_pairs partitioner content) index passed o) leads takes
 
 is_none : (found : Option Partition) → is_some found ≡ false → None ≡ found
 is_none None none = refl
@@ -238,30 +238,30 @@ pub stands_here : (partitioner : Partitioner) (content : Content) (token : ℕ) 
     Searches partitioner content token key turns passed next reads most → LeadsTo token next (Some place) → (one : Bytes × Partition) × StandsAt
     content place one.0 one.1
 stands_here partitioner content token key turns passed place reads most next s leads =
-    let here = is_here partitioner content token place s.index passed (takes_it partitioner content token place s.index passed next leads s.takes) in
+    let here = is_here partitioner content token place s.index passed (steps_to_it partitioner content token place s.index passed next leads s.takes) in
     (here.one, here.stands)
 
 -- what reading it costs
-pub here_costs : (v w : View) (opened : Opened) (partitioner : Partitioner) (content : Content) (token : ℕ) (key : Bytes)
+pub here_costs : (v w : View) (opened : OpenDataFile) (partitioner : Partitioner) (content : Content) (token : ℕ) (key : Bytes)
     (turns passed place reads most now : ℕ) (next : Option Pair) → IsOpenOn v opened partitioner content → Changes Same v w
     → Searches partitioner content token key turns passed next reads most → LeadsTo token next (Some place)
     → ((key : Bytes) (part : Partition) → IsOpenOn w opened partitioner content → StandsAt content place key part → now ≤ reads + partition_pages place (length (body key part))) → now + 1 ≤ most
 here_costs v w opened partitioner content token key turns passed place reads most now next is change s leads bound =
-    let here = is_here partitioner content token place s.index passed (takes_it partitioner content token place s.index passed next leads s.takes) in
+    let here = is_here partitioner content token place s.index passed (steps_to_it partitioner content token place s.index passed next leads s.takes) in
     omega (arith, s.costs, here.cost_is, bound here.one.0 here.one.1 (open_same v w opened partitioner content change is) here.stands)
 
 -- it has the key
-pub found_here : (v w : View) (opened : Opened) (partitioner : Partitioner) (content : Content) (token : ℕ) (key : Bytes)
+pub found_here : (v w : View) (opened : OpenDataFile) (partitioner : Partitioner) (content : Content) (token : ℕ) (key : Bytes)
     (turns passed place reads most : ℕ) (next : Option Pair) (found : Option Partition) → IsOpenOn v opened partitioner content → Changes Same v w
     → Searches partitioner content token key turns passed next reads most → LeadsTo token next (Some place) → ReadsPartitionOfKey w opened place key found →
     is_some found ≡ true → token ≡ token_of partitioner key → found ≡ partition_of content key
 found_here v w opened partitioner content token key turns passed place reads most next found is change s leads gives some same =
-    let here = is_here partitioner content token place s.index passed (takes_it partitioner content token place s.index passed next leads s.takes) in
+    let here = is_here partitioner content token place s.index passed (steps_to_it partitioner content token place s.index passed next leads s.takes) in
     let given = gives partitioner content here.one.0 here.one.1 (open_same v w opened partitioner content change is) here.stands in
     sym (s.same same ∙ ap (λ (l : Content). partition_of l key) here.left ∙ on_first key here.one (drop passed content) found some given)
 
 -- it hasn't
-pub searches_on : (v w : View) (opened : Opened) (partitioner : Partitioner) (content : Content) (token : ℕ) (key : Bytes)
+pub searches_on : (v w : View) (opened : OpenDataFile) (partitioner : Partitioner) (content : Content) (token : ℕ) (key : Bytes)
     (turns passed place reads most after now : ℕ) (last next : Option Pair) (found : Option Partition) → IsOpenOn v opened partitioner content →
     Changes Same v w
     → Searches partitioner content token key turns passed last reads most → LeadsTo token last (Some place) → ReadsPartitionOfKey w opened place key found → is_some found ≡ false
@@ -269,7 +269,7 @@ pub searches_on : (v w : View) (opened : Opened) (partitioner : Partitioner) (co
     (partition_pages place (length (body key part)) + 1)) → StepsToPair (key_pairs partitioner content) passed after next
     → Searches partitioner content token key (turns + 1) after next now most
 searches_on v w opened partitioner content token key turns passed place reads most after now last next found is change s leads gives none bound takes =
-    let here = is_here partitioner content token place s.index passed (takes_it partitioner content token place s.index passed last leads s.takes) in
+    let here = is_here partitioner content token place s.index passed (steps_to_it partitioner content token place s.index passed last leads s.takes) in
     let now_open = open_same v w opened partitioner content change is in
     record {
       index = passed;
@@ -284,7 +284,7 @@ searches_on v w opened partitioner content token key turns passed place reads mo
 -- the pair behind one that was found takes at most one page more
 pub one_more : {T : Type 0} (view a b : View) (file : FileName) (ref : TreeRef) (tree : PairScan) (token place : ℕ) (next : Option Pair)
     (result : Result T ReadFault) → LeadsTo token next (Some place) → ReadsEntry view file ref tree.passed next → IsEntryBuffered tree next
-    → ReadsAtMost (entry_cost tree.buffered.page tree.tree tree.passed) a b result → ReadsAtMost 1 a b result
+    → ReadCost (entry_cost tree.buffered.page tree.tree tree.passed) a b result → ReadCost 1 a b result
 one_more view a b file ref tree token place next result leads gives entry_buffered causes =
     let pair : Pair = record { token = token; place = place } in
     let entry = subst (λ (o : Option Pair). ReadsEntry view file ref tree.passed o) leads gives in
@@ -293,7 +293,7 @@ one_more view a b file ref tree token place next result leads gives entry_buffer
 
 -- ---- none is left
 
-pub none_here : (v : View) (opened : Opened) (partitioner : Partitioner) (content : Content) (token : ℕ) (key : Bytes) (turns passed : ℕ)
+pub none_here : (v : View) (opened : OpenDataFile) (partitioner : Partitioner) (content : Content) (token : ℕ) (key : Bytes) (turns passed : ℕ)
     (next : Option Pair) (reads most : ℕ) → IsOpenOn v opened partitioner content → Searches partitioner content token key turns passed next reads
     most
     → LeadsTo token next None → token ≡ token_of partitioner key → None ≡ partition_of content key
@@ -325,17 +325,17 @@ all_passed partitioner content token key turns passed next reads most s le same 
 
 -- ---- damage
 
-pub here_spares : (v w : View) (opened : Opened) (place : ℕ) (f : ReadFault) →
+pub no_false_here : (v w : View) (opened : OpenDataFile) (place : ℕ) (f : ReadFault) →
     ((partitioner : Partitioner) (content : Content) → IsOpenOn v opened partitioner content → KeysAreBytes content →
     (one : Bytes × Partition) × StandsAt content place one.0 one.1)
     → Changes Same v w → NoFalsePartitionDamage w opened place f → NoFalseOpenedDamage v opened f
-here_spares v w opened place fault.Failed stands change no_false_damage = tt
-here_spares v w opened place fault.OutOfMemory stands change no_false_damage = tt
-here_spares v w opened place (fault.Damaged damage) stands change no_false_damage = λ partitioner content is have.
+no_false_here v w opened place fault.Failed stands change no_false_damage = tt
+no_false_here v w opened place fault.OutOfMemory stands change no_false_damage = tt
+no_false_here v w opened place (fault.Damaged damage) stands change no_false_damage = λ partitioner content is have.
     let at = stands partitioner content is have in
     no_false_damage partitioner content at.0.0 at.0.1 (open_same v w opened partitioner content change is) at.1
 
-pub spares_before : (v w : View) (opened : Opened) (f : ReadFault) → Changes Same v w → NoFalseOpenedDamage w opened f → NoFalseOpenedDamage v opened f
-spares_before v w opened fault.Failed change no_false_damage = tt
-spares_before v w opened fault.OutOfMemory change no_false_damage = tt
-spares_before v w opened (fault.Damaged damage) change no_false_damage = λ partitioner content is. no_false_damage partitioner content (open_same v w opened partitioner content change is)
+pub no_false_before : (v w : View) (opened : OpenDataFile) (f : ReadFault) → Changes Same v w → NoFalseOpenedDamage w opened f → NoFalseOpenedDamage v opened f
+no_false_before v w opened fault.Failed change no_false_damage = tt
+no_false_before v w opened fault.OutOfMemory change no_false_damage = tt
+no_false_before v w opened (fault.Damaged damage) change no_false_damage = λ partitioner content is. no_false_damage partitioner content (open_same v w opened partitioner content change is)

@@ -51,7 +51,7 @@ pub end_shown : (v : View) (file : FileName) (f : ReadFault) → DamageShown v f
 end_shown v file f shown = shown_as (ShowsEnd 97 file) (ShowsHeaderOrFooter file) v file f (λ bytes damage is ends. too_short ends) shown
 
 -- damage that is shown is none of a data file
-pub shown_spares : (v : View) (file : FileName) (f : ReadFault) → ((bytes : Bytes) → contents v file ≡ Some bytes → length bytes ≤ 2 ^ 62) → DamageShown v file (ShowsHeaderOrFooter file) f → NoFalseDataDamage v file f
-shown_spares v file fault.Failed short shown = tt
-shown_spares v file fault.OutOfMemory short shown = tt
-shown_spares v file (fault.Damaged damage) short shown = λ bytes partitioner types content is of. data_undamaged partitioner types bytes content of (short bytes is) file damage (shown bytes is)
+pub no_false_shown : (v : View) (file : FileName) (f : ReadFault) → ((bytes : Bytes) → contents v file ≡ Some bytes → length bytes ≤ 2 ^ 62) → DamageShown v file (ShowsHeaderOrFooter file) f → NoFalseDataDamage v file f
+no_false_shown v file fault.Failed short shown = tt
+no_false_shown v file fault.OutOfMemory short shown = tt
+no_false_shown v file (fault.Damaged damage) short shown = λ bytes partitioner types content is of. data_undamaged partitioner types bytes content of (short bytes is) file damage (shown bytes is)

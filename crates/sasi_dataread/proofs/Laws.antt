@@ -14,7 +14,7 @@ use Rattle.sasi_body.specs.Body.{body, HasBody, IsBodyOf}
 use Rattle.sasi_body.proofs.BodyBytes.{body_least}
 use Rattle.sasi_cells.specs.Entries.{Entry}
 use Rattle.sasi_tokentree.specs.Format.{tree_bytes, tree_ref}
-use Rattle.sasi_tokentree.proofs.Laws.{RootStands, root_place, is_root_place}
+use Rattle.sasi_tokentree.proofs.Laws.{RootStands, root_offset, is_root_offset}
 use Rattle.sasi_host.specs.Damages.{HasAt}
 use Rattle.sasi_formats.specs.Formats.{Fits}
 use Rattle.sasi_datawrite.specs.declared.footer.Footer.{Footer}
@@ -143,11 +143,11 @@ count_is : (partitioner : Partitioner) (content : Content) → length (key_pairs
 count_is partitioner content = pairs_length partitioner (length header) content
 
 -- the root of the key tree stands within the tree
-tree_place : (partitioner : Partitioner) (content : Content) → IsContent partitioner content → RootStands (length (front content)) (key_pairs partitioner content)
-tree_place partitioner content is = root_place (length (front content)) (key_pairs partitioner content) (omega (arith, is.some, count_is partitioner content))
+tree_offset : (partitioner : Partitioner) (content : Content) → IsContent partitioner content → RootStands (length (front content)) (key_pairs partitioner content)
+tree_offset partitioner content is = root_offset (length (front content)) (key_pairs partitioner content) (omega (arith, is.some, count_is partitioner content))
 
 tree_least : (partitioner : Partitioner) (content : Content) → IsContent partitioner content → 24 ≤ length (tree_part partitioner content)
-tree_least partitioner content is = let place = tree_place partitioner content is in omega (arith, place.behind, place.within)
+tree_least partitioner content is = let place = tree_offset partitioner content is in omega (arith, place.behind, place.within)
 
 -- a data file has 97 bytes or more
 pub least_size : (partitioner : Partitioner) (types : List ColumnType) (bytes : Bytes) (content : Content) → IsDataFile partitioner types bytes content → 97 ≤ length bytes
@@ -181,8 +181,8 @@ in_range partitioner types bytes content is short =
     let some = is.content_is.some in
     let first = front_least partitioner content is.content_is in
     let end = end_within partitioner types bytes content is in
-    let place = tree_place partitioner content is.content_is in
+    let place = tree_offset partitioner content is.content_is in
     let whole = whole_length partitioner types bytes content is in
     footer_fits (length bytes - 40) (footer_of partitioner content) (omega (arith, place.within, whole, short)) (omega (arith, count, some)) (omega (arith, count, first, end, short))
     (omega (arith, greatest_fits content is.content_is.bodies)) (omega (arith, end, short)) (omega (arith, first, some)) end
-    (is_root_place (length (front content)) (length bytes - 40) (key_pairs partitioner content) (omega (arith, count, some)) (omega (arith, whole)))
+    (is_root_offset (length (front content)) (length bytes - 40) (key_pairs partitioner content) (omega (arith, count, some)) (omega (arith, whole)))

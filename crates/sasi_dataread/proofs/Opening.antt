@@ -17,21 +17,21 @@ use Rattle.sasi_host.specs.declared.damage.Damage.{Damage}
 use Rattle.sasi_host.specs.declared.damage.FormatRule.TheVariants.{Place}
 use Rattle.sasi_host.specs.Damages.{HasAt, DamageShown, seen_bytes}
 use Rattle.sasi_host.proofs.DamageLaws.{shown_as}
-use Rattle.sasi_tokentree.specs.Damages.{pair_place}
+use Rattle.sasi_tokentree.specs.Damages.{pair_offset}
 use Rattle.sasi_dataread.specs.Damages.{ShowsPair, ShowsPartition}
 use Rattle.sasi_dataread.specs.Damages.ShowsPair.{leads_nowhere, in_partition}
 use Rattle.sasi_datawrite.specs.Format.{Content, header, partitions}
 use Rattle.sasi_datawrite.proofs.Laws.{header_length}
-use Rattle.sasi_dataread.specs.Opened.{Opened, StandsAt}
+use Rattle.sasi_dataread.specs.Opened.{OpenDataFile, StandsAt}
 use Rattle.sasi_dataread.specs.Reads.{ReadsPartition, IsOpenOn, NoFalsePartitionDamage}
-use Rattle.sasi_dataread.specs.Bodies.{length_prefixed, partition_reads, IsPartitionPlace, NoFalseBodyDamage}
+use Rattle.sasi_dataread.specs.Bodies.{length_prefixed, partition_reads, IsPartitionOffset, NoFalseBodyDamage}
 use Rattle.sasi_dataread.proofs.Laws.{partition_stands, partition_typed, partition_within}
 use Rattle.sasi_dataread.proofs.Bodies.{sized_same}
 
 -- ---- a partition
 
 -- what was read is what stands there
-pub gives_at : (v : View) (opened : Opened) (place : ℕ) (key : Bytes) (part : Partition) → IsBodyOf opened.types key part →
+pub gives_at : (v : View) (opened : OpenDataFile) (place : ℕ) (key : Bytes) (part : Partition) → IsBodyOf opened.types key part →
     ((bytes : Bytes) → contents v opened.file ≡ Some bytes → HasAt bytes place (length_prefixed (body key part))) → ReadsPartition v opened place key part
 gives_at v opened place key part of stands partitioner content k p is at =
     let typed = partition_typed partitioner opened.types is.bytes content place k p is.data_file at in
@@ -42,17 +42,17 @@ gives_at v opened place key part of stands partitioner content k p is at =
     let both = bodies_same opened.types key k part p [] [] of typed (ap (λ (l : Bytes). l ++ []) same) in
     (both.0, both.1)
 
-pub spares_at : (v : View) (opened : Opened) (place : ℕ) (f : ReadFault) → NoFalseBodyDamage v opened.file opened.types opened.end place f → NoFalsePartitionDamage v opened place f
-spares_at v opened place fault.Failed no_false_damage = tt
-spares_at v opened place fault.OutOfMemory no_false_damage = tt
-spares_at v opened place (fault.Damaged damage) no_false_damage = λ partitioner content key part is at.
+pub no_false_at : (v : View) (opened : OpenDataFile) (place : ℕ) (f : ReadFault) → NoFalseBodyDamage v opened.file opened.types opened.end place f → NoFalsePartitionDamage v opened place f
+no_false_at v opened place fault.Failed no_false_damage = tt
+no_false_at v opened place fault.OutOfMemory no_false_damage = tt
+no_false_at v opened place (fault.Damaged damage) no_false_damage = λ partitioner content key part is at.
     no_false_damage is.bytes key part is.reads (partition_stands partitioner opened.types is.bytes content place key part is.data_file at)
     (partition_typed partitioner opened.types is.bytes content place key part is.data_file at)
     (omega (arith, partition_within content place key part at, is.of.end))
 
 -- no partition of a data file is at an offset where none can begin
-pub can_begin : (v : View) (opened : Opened) (partitioner : Partitioner) (content : Content) (place : ℕ) (key : Bytes) (part : Partition) → IsOpenOn v opened
-    partitioner content → StandsAt content place key part → IsPartitionPlace opened.end place
+pub can_begin : (v : View) (opened : OpenDataFile) (partitioner : Partitioner) (content : Content) (place : ℕ) (key : Bytes) (part : Partition) → IsOpenOn v opened
+    partitioner content → StandsAt content place key part → IsPartitionOffset opened.end place
 can_begin v opened partitioner content place key part is at =
     let typed = partition_typed partitioner opened.types is.bytes content place key part is.data_file at in
     record {
@@ -60,15 +60,15 @@ can_begin v opened partitioner content place key part is at =
       within = omega (arith, partition_within content place key part at, body_least key part typed.has, is.of.end);
     }
 
-pub nowhere_spares : (v : View) (opened : Opened) (place : ℕ) (damage : Damage) → (place < 16) ⊎ (opened.end < place + 17) → NoFalsePartitionDamage v
+pub no_false_nowhere : (v : View) (opened : OpenDataFile) (place : ℕ) (damage : Damage) → (place < 16) ⊎ (opened.end < place + 17) → NoFalsePartitionDamage v
     opened place (fault.Damaged damage)
-nowhere_spares v opened place damage wrong partitioner content key part is at =
+no_false_nowhere v opened place damage wrong partitioner content key part is at =
     let can = can_begin v opened partitioner content place key part is at in
     ⊎_elim (λ low. omega (arith, low, can.behind)) (λ high. omega (arith, high, can.within)) wrong
 
 -- such an offset is blamed at its pair
-pub nowhere_shown : (opened : Opened) (index place : ℕ) (bytes : Bytes) (damage : Damage) → damage.file ≡ opened.file → damage.rule ≡ Place
-    → damage.at ≡ pair_place opened.tree index + 8 → seen_bytes damage.seen ≡ to_be_bytes w64 place → (place < 16) ⊎ (opened.end < place + 17)
+pub nowhere_shown : (opened : OpenDataFile) (index place : ℕ) (bytes : Bytes) (damage : Damage) → damage.file ≡ opened.file → damage.rule ≡ Place
+    → damage.at ≡ pair_offset opened.tree index + 8 → seen_bytes damage.seen ≡ to_be_bytes w64 place → (place < 16) ⊎ (opened.end < place + 17)
     → ShowsPair opened index place bytes damage
 nowhere_shown opened index place bytes damage named rule at told wrong = leads_nowhere (record {
   named = named;
@@ -79,13 +79,13 @@ nowhere_shown opened index place bytes damage named rule at told wrong = leads_n
 })
 
 -- what is at one where one can begin is damage of its partition
-pub there_shown : {T : Type 0} (v : View) (opened : Opened) (index place : ℕ) (result : Result T ReadFault) → IsPartitionPlace opened.end place → IfErr result
+pub there_shown : {T : Type 0} (v : View) (opened : OpenDataFile) (index place : ℕ) (result : Result T ReadFault) → IsPartitionOffset opened.end place → IfErr result
     (DamageShown v opened.file (ShowsPartition opened.types opened.end place opened.file)) → IfErr result (DamageShown v opened.file (ShowsPair opened index place))
 there_shown v opened index place (Ok read) can shown = tt
 there_shown v opened index place (Err f) can shown = shown_as (ShowsPartition opened.types opened.end place opened.file) (ShowsPair opened index place) v
     opened.file f (λ bytes damage is shows. in_partition can shows) shown
 
-reads_at : (v : View) (opened : Opened) (page : Option ℕ) (place reads : ℕ) →
+reads_at : (v : View) (opened : OpenDataFile) (page : Option ℕ) (place reads : ℕ) →
     ((bytes part : Bytes) → contents v opened.file ≡ Some bytes → HasAt bytes place (length_prefixed part) → length part < 2 ^ 32 → reads ≤ v.reads + partition_reads
     page place (length part))
     → (partitioner : Partitioner) (content : Content) (key : Bytes) (part : Partition) → IsOpenOn v opened partitioner content → StandsAt content
@@ -96,23 +96,23 @@ reads_at v opened page place reads bound partitioner content key part is at =
 
 -- ---- the same of a call's whole result, which speaks of a file by another name
 
-pub at_ok : (v : View) (opened : Opened) (other : FileName) (place : ℕ) (result : Result (Bytes × Partition) ReadFault) → other ≡ opened.file → IfOk
+pub at_ok : (v : View) (opened : OpenDataFile) (other : FileName) (place : ℕ) (result : Result (Bytes × Partition) ReadFault) → other ≡ opened.file → IfOk
     result (λ read. IsBodyOf opened.types read.0 read.1)
     → IfOk result (λ read. (bytes : Bytes) → contents v other ≡ Some bytes → HasAt bytes place (length_prefixed (body read.0 read.1))) → IfOk result (λ read. ReadsPartition v opened place read.0 read.1)
 at_ok v opened other place (Ok read) same of stands = gives_at v opened place read.0 read.1 of (λ bytes is. stands bytes (ap (λ (n : FileName). contents v n) same ∙ is))
 at_ok v opened other place (Err f) same of stands = tt
 
-pub at_undamaged : (v : View) (opened : Opened) (other : FileName) (place : ℕ) (result : Result (Bytes × Partition) ReadFault) → other ≡ opened.file →
+pub at_undamaged : (v : View) (opened : OpenDataFile) (other : FileName) (place : ℕ) (result : Result (Bytes × Partition) ReadFault) → other ≡ opened.file →
     IfErr result (NoFalseBodyDamage v other opened.types opened.end place) → IfErr result (NoFalsePartitionDamage v opened place)
 at_undamaged v opened other place (Ok read) same no_false_damage = tt
-at_undamaged v opened other place (Err f) same no_false_damage = spares_at v opened place f (subst (λ (n : FileName). NoFalseBodyDamage v n opened.types opened.end place f) same no_false_damage)
+at_undamaged v opened other place (Err f) same no_false_damage = no_false_at v opened place f (subst (λ (n : FileName). NoFalseBodyDamage v n opened.types opened.end place f) same no_false_damage)
 
-pub at_damaged : (v : View) (opened : Opened) (other : FileName) (place : ℕ) (result : Result (Bytes × Partition) ReadFault) → other ≡ opened.file →
+pub at_damaged : (v : View) (opened : OpenDataFile) (other : FileName) (place : ℕ) (result : Result (Bytes × Partition) ReadFault) → other ≡ opened.file →
     IfErr result (DamageShown v other (ShowsPartition opened.types opened.end place other)) → IfErr result
     (DamageShown v opened.file (ShowsPartition opened.types opened.end place opened.file))
 at_damaged v opened other place result same shown = subst (λ (n : FileName). IfErr result (DamageShown v n (ShowsPartition opened.types opened.end place n))) same shown
 
-pub at_reads : (v : View) (opened : Opened) (other : FileName) (page : Option ℕ) (place reads : ℕ) → other ≡ opened.file →
+pub at_reads : (v : View) (opened : OpenDataFile) (other : FileName) (page : Option ℕ) (place reads : ℕ) → other ≡ opened.file →
     ((bytes part : Bytes) → contents v other ≡ Some bytes → HasAt bytes place (length_prefixed part) → length part < 2 ^ 32 → reads ≤ v.reads + partition_reads page
     place (length part))
     → (partitioner : Partitioner) (content : Content) (key : Bytes) (part : Partition) → IsOpenOn v opened partitioner content → StandsAt content

@@ -8,29 +8,29 @@ use Rattle.sasi_types.specs.declared.tree.TreeRef.{TreeRef}
 use Rattle.sasi_model.specs.Cells.{Partition}
 use Rattle.sasi_host.specs.Names.{Bytes}
 use Rattle.sasi_body.specs.Body.{body}
-use Rattle.sasi_tokentree.specs.Damages.{pair_place}
-use Rattle.sasi_tokentree.specs.Scans.{PairScan, entry_cost, header_read, read_place}
+use Rattle.sasi_tokentree.specs.Damages.{pair_offset}
+use Rattle.sasi_tokentree.specs.Scans.{PairScan, entry_cost, header_read, read_from}
 use Rattle.sasi_tokentree.proofs.EntryPages.{header_short, read_behind}
 use Rattle.sasi_datawrite.specs.Format.{Content, front, header, partition_bytes, partitions}
 use Rattle.sasi_datawrite.proofs.Laws.{partition_length}
-use Rattle.sasi_dataread.specs.Opened.{Opened}
+use Rattle.sasi_dataread.specs.Opened.{OpenDataFile}
 use Rattle.sasi_dataread.specs.Bodies.{partition_reads}
 use Rattle.sasi_dataread.specs.ReadCosts.{scan_of, IsSequential, ReadsEachPageOnce, file_pages, progress}
 
 -- a page is that of an offset, or another
-hand : (page at : ℕ) → ((page ≡ at / 4096) × (buffered_at (Some page) at ≡ 1)) ⊎ ((page ≢ at / 4096) × (buffered_at (Some page) at ≡ 0))
-hand page at = ⊎_elim (λ yes. inl (yes.1, ap (λ (b : Bool). if b then 1 else 0) yes.0)) (λ no. inr (no.1, ap (λ (b : Bool). if b then 1 else 0) no.0)) (eqb_tells page (at / 4096))
+buffered_or_not : (page at : ℕ) → ((page ≡ at / 4096) × (buffered_at (Some page) at ≡ 1)) ⊎ ((page ≢ at / 4096) × (buffered_at (Some page) at ≡ 0))
+buffered_or_not page at = ⊎_elim (λ yes. inl (yes.1, ap (λ (b : Bool). if b then 1 else 0) yes.0)) (λ no. inr (no.1, ap (λ (b : Bool). if b then 1 else 0) no.0)) (eqb_tells page (at / 4096))
 
 at_most_one : (buffered : Option ℕ) (at : ℕ) → buffered_at buffered at ≤ 1
 at_most_one None at = omega arith
-at_most_one (Some page) at = ⊎_elim (λ yes. omega (arith, yes.1)) (λ no. omega (arith, no.1)) (hand page at)
+at_most_one (Some page) at = ⊎_elim (λ yes. omega (arith, yes.1)) (λ no. omega (arith, no.1)) (buffered_or_not page at)
 
 -- some bytes, and then those behind them, cost no more than all at once
 pub fresh_on : (buffered : Option ℕ) (at n m : ℕ) → 0 < n → unbuffered_pages buffered at n + unbuffered_pages (Some ((at + n - 1) / 4096)) (at + n) m ≤ unbuffered_pages buffered at (n + m)
 fresh_on buffered at n m some = ⊎_elim
     (λ yes. omega (arith, yes.0, yes.1, at_most_one buffered at))
     (λ no. omega (arith, no.0, no.1, at_most_one buffered at))
-    (hand ((at + n - 1) / 4096) (at + n))
+    (buffered_or_not ((at + n - 1) / 4096) (at + n))
 
 pub few_pages : (buffered : Option ℕ) (at n : ℕ) → n ≤ 2 ^ 23 + 4 → unbuffered_pages buffered at n ≤ 2050
 few_pages buffered at n le = omega (arith, le)
@@ -38,13 +38,13 @@ few_pages buffered at n le = omega (arith, le)
 -- ---- a scan
 
 -- the next pair is read from behind the one before it on
-pair_behind : (tree : TreeRef) (index : ℕ) → pair_place tree index + 16 ≡ read_place tree (index + 1)
+pair_behind : (tree : TreeRef) (index : ℕ) → pair_offset tree index + 16 ≡ read_from tree (index + 1)
 pair_behind tree index =
-    let same : pair_place tree (index + 1 - 1) ≡ pair_place tree index = ap (λ (n : ℕ). pair_place tree n) (omega arith) in
+    let same : pair_offset tree (index + 1 - 1) ≡ pair_offset tree index = ap (λ (n : ℕ). pair_offset tree n) (omega arith) in
     ap (λ (n : ℕ). n + 16) (sym same) ∙ sym (read_behind tree (index + 1) (omega arith))
 
 -- what is read for it ends where it does
-pair_ends : (tree : TreeRef) (index : ℕ) → read_place tree index + (16 + header_read index) ≡ pair_place tree index + 16
+pair_ends : (tree : TreeRef) (index : ℕ) → read_from tree index + (16 + header_read index) ≡ pair_offset tree index + 16
 pair_ends tree index = omega (arith, header_short index)
 
 -- behind one more partition the next one begins
@@ -81,18 +81,18 @@ front_more content rest passed key part left = rw add-one (from content passed l
         )
 
 -- a partition further
-pub goes_on : (bytes : Bytes) (content rest : Content) (opened : Opened) (tree after : PairScan) (buffered now : Buffered) (place : ℕ) (key : Bytes)
+pub reads_next_once : (bytes : Bytes) (content rest : Content) (opened : OpenDataFile) (tree after : PairScan) (buffered now : Buffered) (place : ℕ) (key : Bytes)
     (part : Partition) (r0 r1 r2 : ℕ) → tree.tree ≡ opened.tree → after.passed ≡ tree.passed + 1 → drop tree.passed content ≡ (key, part) ∷ rest
-    → place ≡ length (front (take tree.passed content)) → pair_place tree.tree tree.passed + 16 ≤ length bytes → place + (4 + length (body key part))
+    → place ≡ length (front (take tree.passed content)) → pair_offset tree.tree tree.passed + 16 ≤ length bytes → place + (4 + length (body key part))
     ≤ length bytes → IsSequential bytes content (scan_of opened tree buffered)
     → r1 ≤ r0 + entry_cost tree.buffered.page tree.tree tree.passed → r2 ≤ r1 + partition_reads buffered.page place (length (body key part))
-    → after.buffered.page ≡ Some ((pair_place tree.tree tree.passed + 15) / 4096) → now.page ≡ Some ((place + 3 + length (body key part)) / 4096)
+    → after.buffered.page ≡ Some ((pair_offset tree.tree tree.passed + 15) / 4096) → now.page ≡ Some ((place + 3 + length (body key part)) / 4096)
     → ReadsEachPageOnce bytes content r0 r2 (scan_of opened tree buffered) (scan_of opened after now)
-goes_on bytes content rest opened tree after buffered now place key part r0 r1 r2 tree_is passed left place_is pair_within part_within sequential first second pairs_page page =
-    let pp = pair_place opened.tree tree.passed in
+reads_next_once bytes content rest opened tree after buffered now place key part r0 r1 r2 tree_is passed left place_is pair_within part_within sequential first second pairs_page page =
+    let pp = pair_offset opened.tree tree.passed in
     let size = length (body key part) in
-    let same : pair_place tree.tree tree.passed ≡ pp = ap (λ (t : TreeRef). pair_place t tree.passed) tree_is in
-    let from = read_place opened.tree tree.passed in
+    let same : pair_offset tree.tree tree.passed ≡ pp = ap (λ (t : TreeRef). pair_offset t tree.passed) tree_is in
+    let from = read_from opened.tree tree.passed in
     let long = 16 + header_read tree.passed in
     let one = fresh_reaches tree.buffered.page from long (omega arith) (λ p is. omega (arith, sequential.pairs p is)) in
     let ends = pair_ends opened.tree tree.passed in
@@ -103,8 +103,8 @@ goes_on bytes content rest opened tree after buffered now place key part r0 r1 r
     record {
       sequential = record {
         pairs = λ p is.
-            let this : p ≡ (pair_place tree.tree tree.passed + 15) / 4096 = some_same p ((pair_place tree.tree tree.passed + 15) / 4096) (sym is ∙ pairs_page) in
-            let next : read_place opened.tree after.passed ≡ read_place opened.tree (tree.passed + 1) = ap (λ (n : ℕ). read_place opened.tree n) passed in
+            let this : p ≡ (pair_offset tree.tree tree.passed + 15) / 4096 = some_same p ((pair_offset tree.tree tree.passed + 15) / 4096) (sym is ∙ pairs_page) in
+            let next : read_from opened.tree after.passed ≡ read_from opened.tree (tree.passed + 1) = ap (λ (n : ℕ). read_from opened.tree n) passed in
             omega (arith, this, same, next, pair_behind opened.tree tree.passed);
         partitions = λ p is.
             let this : p ≡ (place + 3 + size) / 4096 = some_same p ((place + 3 + size) / 4096) (sym is ∙ page) in
@@ -120,19 +120,19 @@ goes_on bytes content rest opened tree after buffered now place key part r0 r1 r
     some_same a b is = cc
 
 -- nothing further
-pub goes_nowhere : (bytes : Bytes) (content : Content) (opened : Opened) (tree after : PairScan) (buffered : Buffered) (r0 r1 : ℕ) → after ≡ tree → r1 ≤ r0 →
+pub reads_none : (bytes : Bytes) (content : Content) (opened : OpenDataFile) (tree after : PairScan) (buffered : Buffered) (r0 r1 : ℕ) → after ≡ tree → r1 ≤ r0 →
     IsSequential bytes content (scan_of opened tree buffered) → ReadsEachPageOnce bytes content r0 r1 (scan_of opened tree buffered) (scan_of opened after buffered)
-goes_nowhere bytes content opened tree after buffered r0 r1 same few sequential = subst
+reads_none bytes content opened tree after buffered r0 r1 same few sequential = subst
     (λ (w : PairScan). ReadsEachPageOnce bytes content r0 r1 (scan_of opened tree buffered) (scan_of opened w buffered)) (sym same)
     (record { sequential = sequential; pages = omega (arith, few) })
 
 -- ---- a scan that stops
 
-module _ (bytes : Bytes) (content : Content) (opened : Opened) (tree : PairScan) (buffered : Buffered) (r0 r1 : ℕ) (sequential : IsSequential bytes content (scan_of opened tree buffered)) (first : r1 ≤ r0 + entry_cost tree.buffered.page tree.tree tree.passed) (tree_is : tree.tree ≡ opened.tree) (pair_within : pair_place tree.tree tree.passed + 16 ≤ length bytes) where
+module _ (bytes : Bytes) (content : Content) (opened : OpenDataFile) (tree : PairScan) (buffered : Buffered) (r0 r1 : ℕ) (sequential : IsSequential bytes content (scan_of opened tree buffered)) (first : r1 ≤ r0 + entry_cost tree.buffered.page tree.tree tree.passed) (tree_is : tree.tree ≡ opened.tree) (pair_within : pair_offset tree.tree tree.passed + 16 ≤ length bytes) where
   pair_reaches : r1 + reached tree.buffered.page ≤ r0 + file_pages bytes
   pair_reaches =
-      let same : pair_place tree.tree tree.passed ≡ pair_place opened.tree tree.passed = ap (λ (t : TreeRef). pair_place t tree.passed) tree_is in
-      let from = read_place opened.tree tree.passed in
+      let same : pair_offset tree.tree tree.passed ≡ pair_offset opened.tree tree.passed = ap (λ (t : TreeRef). pair_offset t tree.passed) tree_is in
+      let from = read_from opened.tree tree.passed in
       let long = 16 + header_read tree.passed in
       let one = fresh_reaches tree.buffered.page from long (omega arith) (λ p is. omega (arith, sequential.pairs p is)) in
       let fresh_same : entry_cost tree.buffered.page tree.tree tree.passed ≡ unbuffered_pages tree.buffered.page from long = ap (λ (t : TreeRef). entry_cost tree.buffered.page t tree.passed) tree_is in

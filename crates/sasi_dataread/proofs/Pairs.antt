@@ -21,7 +21,7 @@ use Rattle.sasi_host.specs.View.{View}
 use Rattle.sasi_tokentree.specs.Format.{pair_at, IsBefore, HasTree, tree_bytes}
 use Rattle.sasi_datawrite.specs.Format.{Content, header, footer_bytes, front, decorated_key, key_pairs, pairs_from, partition_bytes, partitions}
 use Rattle.sasi_datawrite.proofs.Laws.{partition_length, pairs_length}
-use Rattle.sasi_dataread.specs.Opened.{Opened, StandsAt}
+use Rattle.sasi_dataread.specs.Opened.{OpenDataFile, StandsAt}
 use Rattle.sasi_dataread.specs.Reads.{IsOpenOn}
 use Rattle.sasi_dataread.proofs.Laws.{file_is, end_within, footer_of}
 use Rattle.sasi_dataread.specs.Scans.{KeysAreBytes}
@@ -69,7 +69,7 @@ fits_from partitioner at (one ∷ others) have lt (suc index) =
     fits_from partitioner (at + length (partition_bytes one.0 one.1)) others have.1 (omega (arith, lt, length-append (partition_bytes one.0 one.1) (partitions others))) index
 
 -- the file has the key tree
-pub has_tree : (v : View) (opened : Opened) (partitioner : Partitioner) (content : Content) (is : IsOpenOn v opened partitioner content) → KeysAreBytes content → length is.bytes ≤ 2 ^ 62 → HasTree is.bytes opened.tree (key_pairs partitioner content)
+pub has_tree : (v : View) (opened : OpenDataFile) (partitioner : Partitioner) (content : Content) (is : IsOpenOn v opened partitioner content) → KeysAreBytes content → length is.bytes ≤ 2 ^ 62 → HasTree is.bytes opened.tree (key_pairs partitioner content)
 has_tree v opened partitioner content is have short = record {
   front = front content;
   rest = footer_bytes (footer_of partitioner content);

@@ -18,7 +18,7 @@ abbrev pub length_prefixed : Bytes → Bytes
 length_prefixed body = to_be_bytes w32 (length body) ++ body
 
 -- a partition can begin at this offset, where the partitions end at `end`: the smallest one has 17 bytes
-pub record IsPartitionPlace (end place : ℕ) : Type 0 where
+pub record IsPartitionOffset (end place : ℕ) : Type 0 where
   pub behind : 16 ≤ place
   pub within : place + 17 ≤ end
 

@@ -12,11 +12,11 @@ use Rattle.sasi_body.specs.Body.{body_of}
 use Rattle.sasi_formats.specs.Failures.{HasOtherLength}
 use Rattle.sasi_formats.specs.Parts.{ShowsBrokenPart}
 use Rattle.sasi_framing.specs.Damages.{ShowsFraming}
-use Rattle.sasi_tokentree.specs.Damages.{ShowsTree, pair_place}
+use Rattle.sasi_tokentree.specs.Damages.{ShowsTree, pair_offset}
 use Rattle.sasi_tokentree.specs.Scans.{HasEntry}
 use Rattle.sasi_datawrite.specs.declared.footer.Footer.{Footer}
-use Rattle.sasi_dataread.specs.Opened.{Opened}
-use Rattle.sasi_dataread.specs.Bodies.{length_prefixed, IsLength, IsPartitionPlace}
+use Rattle.sasi_dataread.specs.Opened.{OpenDataFile}
+use Rattle.sasi_dataread.specs.Bodies.{length_prefixed, IsLength, IsPartitionOffset}
 use Rattle.sasi_dataread.specs.HeaderAndFooter.{HasHeaderAndFooter, data_framing}
 
 -- ---- the header and the footer
@@ -63,27 +63,27 @@ pub data ShowsPartition (types : List ColumnType) (end place : ℕ) (file : File
 -- ---- an open file
 
 -- no partition can begin at the offset to which the pair with this index leads
-pub record LeadsNowhere (opened : Opened) (index place : ℕ) (damage : Damage) : Type 0 where
+pub record LeadsNowhere (opened : OpenDataFile) (index place : ℕ) (damage : Damage) : Type 0 where
   pub named : damage.file ≡ opened.file
   pub rule : damage.rule ≡ Place
-  pub at : damage.at ≡ pair_place opened.tree index + 8
+  pub at : damage.at ≡ pair_offset opened.tree index + 8
   pub told : seen_bytes damage.seen ≡ to_be_bytes w64 place
-  pub wrong : ¬ IsPartitionPlace opened.end place
+  pub wrong : ¬ IsPartitionOffset opened.end place
 
 -- the damage is that of the pair with this index, which leads to this offset, or of the partition there
-pub data ShowsPair (opened : Opened) (index place : ℕ) (bytes : Bytes) (damage : Damage) : Type 0 where
+pub data ShowsPair (opened : OpenDataFile) (index place : ℕ) (bytes : Bytes) (damage : Damage) : Type 0 where
   leads_nowhere : LeadsNowhere opened index place damage → ShowsPair opened index place bytes damage
-  in_partition : IsPartitionPlace opened.end place → ShowsPartition opened.types opened.end place opened.file bytes damage → ShowsPair opened index place bytes damage
+  in_partition : IsPartitionOffset opened.end place → ShowsPartition opened.types opened.end place opened.file bytes damage → ShowsPair opened index place bytes damage
 
 -- the damage is that of the key tree, or of one of its pairs and the partition to which it leads
-pub data ShowsData (opened : Opened) (bytes : Bytes) (damage : Damage) : Type 0 where
+pub data ShowsData (opened : OpenDataFile) (bytes : Bytes) (damage : Damage) : Type 0 where
   in_tree : ShowsTree opened.file opened.tree bytes damage → ShowsData opened bytes damage
   at_pair : (index : ℕ) (pair : Pair) → HasEntry bytes opened.tree index pair → ShowsPair opened index pair.place bytes damage → ShowsData opened bytes damage
 
 -- ---- a data file
 
 -- the view of a file of a table with these types, opened by these numbers of its footer
-abbrev pub opened_by : FileName → List ColumnType → Footer → Opened
+abbrev pub opened_by : FileName → List ColumnType → Footer → OpenDataFile
 opened_by file types numbers = record { file = file; types = types; tree = numbers.tree; max_timestamp = numbers.max_timestamp; end = numbers.end }
 
 -- the damage is that of this data file of a table with these types: of its header or its footer, or of a part to which the footer leads

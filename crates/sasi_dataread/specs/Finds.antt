@@ -10,7 +10,7 @@ use Rattle.sasi_host.specs.Names.{Bytes}
 use Rattle.sasi_host.specs.View.{View}
 use Rattle.sasi_body.specs.Body.{body}
 use Rattle.sasi_datawrite.specs.Format.{Content, partition_bytes}
-use Rattle.sasi_dataread.specs.Opened.{Opened, StandsAt}
+use Rattle.sasi_dataread.specs.Opened.{OpenDataFile, StandsAt}
 use Rattle.sasi_dataread.specs.Reads.{IsOpenOn}
 use Rattle.sasi_dataread.specs.Bodies.{partition_pages}
 use Rattle.sasi_dataread.specs.Scans.{KeysAreBytes}
@@ -20,7 +20,7 @@ abbrev pub partition_of : Content → Bytes → Option Partition
 partition_of content key = lookup (key_eq key) content
 
 -- where the file is the data file of a content, and this the token of the key, it is the partition of the key
-abbrev pub FindsKey : View → Opened → ℕ → Bytes → Option Partition → Type 0
+abbrev pub FindsKey : View → OpenDataFile → ℕ → Bytes → Option Partition → Type 0
 FindsKey v opened token key found =
     (partitioner : Partitioner) (content : Content) → IsOpenOn v opened partitioner content → KeysAreBytes content → token ≡ token_of partitioner key → found ≡ partition_of content key
 
@@ -38,6 +38,6 @@ LeadsTo token next None = (pair : Pair) → next ≡ Some pair → pair.token �
 LeadsTo token next (Some place) = next ≡ Some (record { token = token; place = place })
 
 -- the partition read is the one at an offset, where it has the key
-abbrev pub ReadsPartitionOfKey : View → Opened → ℕ → Bytes → Option Partition → Type 0
+abbrev pub ReadsPartitionOfKey : View → OpenDataFile → ℕ → Bytes → Option Partition → Type 0
 ReadsPartitionOfKey v opened place key found = (partitioner : Partitioner) (content : Content) (k : Bytes) (p : Partition) → IsOpenOn v opened partitioner
     content → StandsAt content place k p → found ≡ partition_of ((k, p) ∷ []) key

@@ -10,7 +10,7 @@ use Rattle.sasi_tokentree.specs.Format.{tree_ref}
 use Rattle.sasi_datawrite.specs.Format.{Content, front, content_max_timestamp, key_pairs}
 
 -- the view of an open data file
-pub record Opened : Type 0 where
+pub record OpenDataFile : Type 0 where
   pub file : FileName
   -- the types of its table's columns
   pub types : List ColumnType
@@ -22,7 +22,7 @@ pub record Opened : Type 0 where
   pub end : ℕ
 
 -- it was opened as the data file of this content
-pub record IsOpenedAs (opened : Opened) (partitioner : Partitioner) (content : Content) : Type 0 where
+pub record IsOpenedAs (opened : OpenDataFile) (partitioner : Partitioner) (content : Content) : Type 0 where
   pub tree : opened.tree ≡ tree_ref (length (front content)) (key_pairs partitioner content)
   pub max_timestamp : opened.max_timestamp ≡ content_max_timestamp content
   pub end : opened.end ≡ length (front content)

@@ -7,9 +7,9 @@ use Rattle.sasi_host.specs.declared.fault.ReadFault.{ReadFault}
 use Rattle.sasi_host.specs.Names.{Bytes}
 use Rattle.sasi_host.specs.Buffered.{Buffered, reached}
 use Rattle.sasi_host.specs.View.{View}
-use Rattle.sasi_tokentree.specs.Scans.{PairScan, read_place}
+use Rattle.sasi_tokentree.specs.Scans.{PairScan, read_from}
 use Rattle.sasi_datawrite.specs.Format.{Content, front}
-use Rattle.sasi_dataread.specs.Opened.{Opened}
+use Rattle.sasi_dataread.specs.Opened.{OpenDataFile}
 use Rattle.sasi_dataread.specs.Reads.{IsOpenOn}
 use Rattle.sasi_dataread.specs.Scans.{DataScan, KeysAreBytes}
 
@@ -23,7 +23,7 @@ progress walk = reached walk.pairs_buffered.page + reached walk.buffered.page
 
 -- A sequential scan: its buffered pages begin before what is read for the next pair and before the next partition, and are pages of the file.
 pub record IsSequential (bytes : Bytes) (content : Content) (walk : DataScan) : Type 0 where
-  pub pairs : (page : ℕ) → walk.pairs_buffered.page ≡ Some page → 4096 * page < read_place walk.opened.tree walk.passed
+  pub pairs : (page : ℕ) → walk.pairs_buffered.page ≡ Some page → 4096 * page < read_from walk.opened.tree walk.passed
   pub partitions : (page : ℕ) → walk.buffered.page ≡ Some page → 4096 * page < length (front (take walk.passed content))
   pub pairs_within : reached walk.pairs_buffered.page ≤ file_pages bytes
   pub within : reached walk.buffered.page ≤ file_pages bytes
@@ -39,7 +39,7 @@ ScansPagesOnce a b old new result = (partitioner : Partitioner) (content : Conte
     → MatchResult result (λ _. ReadsEachPageOnce is.bytes content a.reads b.reads old new) (λ _. b.reads + progress old ≤ a.reads + 2 * file_pages is.bytes)
 
 -- a scan by its parts
-abbrev pub scan_of : Opened → PairScan → Buffered → DataScan
+abbrev pub scan_of : OpenDataFile → PairScan → Buffered → DataScan
 scan_of opened tree buffered = record { opened = opened; passed = tree.passed; pairs_buffered = tree.buffered; buffered = buffered }
 
 -- ---- laws

@@ -10,7 +10,7 @@ use Rattle.sasi_host.specs.Damages.{OnDamage}
 use Rattle.sasi_host.specs.View.{View, contents}
 use Rattle.sasi_datawrite.specs.Format.{Content}
 use Rattle.sasi_datawrite.specs.Files.{IsDataFile}
-use Rattle.sasi_dataread.specs.Opened.{Opened, IsOpenedAs, StandsAt}
+use Rattle.sasi_dataread.specs.Opened.{OpenDataFile, IsOpenedAs, StandsAt}
 use Rattle.sasi_host.specs.Disk.{Changes, Same}
 
 -- the folder is unchanged, no call failed, and at most so many reads were made
@@ -23,7 +23,7 @@ pub record ReadsWithin (most : ℕ) (old new : View) : Type 0 where
 -- ---- data files
 
 -- the file reads as the data file of a content, and was opened as that
-pub record IsOpenOn (v : View) (opened : Opened) (partitioner : Partitioner) (content : Content) : Type 0 where
+pub record IsOpenOn (v : View) (opened : OpenDataFile) (partitioner : Partitioner) (content : Content) : Type 0 where
   pub bytes : Bytes
   pub reads : contents v opened.file ≡ Some bytes
   pub data_file : IsDataFile partitioner opened.types bytes content
@@ -35,15 +35,15 @@ NoFalseDataDamage v file = OnDamage (λ _. (bytes : Bytes) (partitioner : Partit
     bytes → IsDataFile partitioner types bytes content → ⊥)
 
 -- the partition read is the one at the offset
-abbrev pub ReadsPartition : View → Opened → ℕ → Bytes → Partition → Type 0
+abbrev pub ReadsPartition : View → OpenDataFile → ℕ → Bytes → Partition → Type 0
 ReadsPartition v opened place key part = (partitioner : Partitioner) (content : Content) (k : Bytes) (p : Partition) → IsOpenOn v opened partitioner content →
     StandsAt content place k p → (key ≡ k) × (part ≡ p)
 
 -- damage is reported only where no partition of a data file is at the offset
-abbrev pub NoFalsePartitionDamage : View → Opened → ℕ → ReadFault → Type 0
+abbrev pub NoFalsePartitionDamage : View → OpenDataFile → ℕ → ReadFault → Type 0
 NoFalsePartitionDamage v opened place = OnDamage (λ _. (partitioner : Partitioner) (content : Content) (key : Bytes) (part : Partition) → IsOpenOn v opened
     partitioner content → StandsAt content place key part → ⊥)
 
 -- the key read is that of the one at the offset
-abbrev pub ReadsKey : View → Opened → ℕ → Bytes → Type 0
+abbrev pub ReadsKey : View → OpenDataFile → ℕ → Bytes → Type 0
 ReadsKey v opened place key = (partitioner : Partitioner) (content : Content) (k : Bytes) (p : Partition) → IsOpenOn v opened partitioner content → StandsAt content place k p → key ≡ k

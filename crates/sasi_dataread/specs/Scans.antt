@@ -10,13 +10,13 @@ use Rattle.sasi_host.specs.Buffered.{Buffered}
 use Rattle.sasi_host.specs.Damages.{OnDamage}
 use Rattle.sasi_host.specs.View.{View}
 use Rattle.sasi_datawrite.specs.Format.{Content}
-use Rattle.sasi_dataread.specs.Opened.{Opened}
+use Rattle.sasi_dataread.specs.Opened.{OpenDataFile}
 use Rattle.sasi_dataread.specs.Reads.{IsOpenOn}
 
 -- the view of a scan: the file, how many of its partitions it has passed, and the buffered pages of the key tree and of the
 -- partitions
 pub record DataScan : Type 0 where
-  pub opened : Opened
+  pub opened : OpenDataFile
   pub passed : ℕ
   pub pairs_buffered : Buffered
   pub buffered : Buffered
@@ -31,9 +31,9 @@ StepsToPartition partitioner content before after None = (drop before content �
 StepsToPartition partitioner content before after (Some found) = (drop before content ≡ (found.1, found.2) ∷ drop after content) × (found.0 ≡ token_of partitioner found.1)
 
 -- where the file is the data file of a content, this is the next of its partitions
-abbrev pub ReadsNextPartition : View → Opened → ℕ → ℕ → Option (ℕ × Bytes × Partition) → Type 0
+abbrev pub ReadsNextPartition : View → OpenDataFile → ℕ → ℕ → Option (ℕ × Bytes × Partition) → Type 0
 ReadsNextPartition v opened before after found = (partitioner : Partitioner) (content : Content) → IsOpenOn v opened partitioner content → KeysAreBytes content → StepsToPartition partitioner content before after found
 
 -- damage is reported only where the file isn't the data file that was opened
-abbrev pub NoFalseOpenedDamage : View → Opened → ReadFault → Type 0
+abbrev pub NoFalseOpenedDamage : View → OpenDataFile → ReadFault → Type 0
 NoFalseOpenedDamage v opened = OnDamage (λ _. (partitioner : Partitioner) (content : Content) → IsOpenOn v opened partitioner content → KeysAreBytes content → ⊥)

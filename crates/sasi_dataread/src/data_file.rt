@@ -4,7 +4,7 @@ ghost use Rattle.sasi_types.specs.declared.partitioner.Partitioner.{Partitioner}
 ghost use Rattle.sasi_model.specs.Cells.{Partition as Part};
 ghost use Rattle.sasi_host.specs.declared.name.FileName.{FileName};
 ghost use Rattle.sasi_host.specs.Names.{Bytes};
-ghost use Rattle.sasi_host.specs.View.{ReadsAtMost, contents};
+ghost use Rattle.sasi_host.specs.View.{ReadCost, contents};
 ghost use Rattle.sasi_body.specs.Body.{body, IsBodyOf};
 ghost use Rattle.sasi_tokentree.specs.Heights.{height};
 ghost use Rattle.sasi_host.specs.Damages.{DamageShown};
@@ -43,9 +43,9 @@ pub struct DataFile {
 }
 
 impl Model for DataFile {
-    ghost use Rattle.sasi_dataread.specs.Opened.{Opened};
+    ghost use Rattle.sasi_dataread.specs.Opened.{OpenDataFile};
 
-    ghost Value = { Opened };
+    ghost Value = { OpenDataFile };
 
     ghost view = { λ a. record { file = a.file; types = a.types; tree = a.tree; max_timestamp = a.max_timestamp; end = a.end } };
 }
@@ -67,7 +67,7 @@ impl DataFile {
         ensures damaged { IfErr result (DamageShown (H.view host.old) file (ShowsHeaderOrFooter file)) }
         ensures undamaged { IfErr result (NoFalseDataDamage (H.view host.old) file) }
         ensures read { HasRead (P.agrees pages.new) (P.covers pages.old) (P.covers pages.new) (H.view host.old) (H.view host.new) file }
-        ensures causes { ReadsAtMost 3 (H.view host.old) (H.view host.new) result }
+        ensures causes { ReadCost 3 (H.view host.old) (H.view host.new) result }
     {
         let footer = read_footer(host, pages, file)?;
         let types = copy_types(alloc, types)?;
@@ -156,7 +156,7 @@ impl DataFile {
         ensures buffered { IsBuffered buffered.new (H.view host.new).files }
         ensures page { IfOk result (λ read. buffered.new.page ≡ Some ((place + 3 + length (body read.0 read.1)) / 4096)) }
         ensures read { HasRead (P.agrees pages.new) (P.covers pages.old) (P.covers pages.new) (H.view host.old) (H.view host.new) self.now.file }
-        ensures causes { ReadsAtMost 2050 (H.view host.old) (H.view host.new) result }
+        ensures causes { ReadCost 2050 (H.view host.old) (H.view host.new) result }
         ensures reads { (partitioner : Partitioner) (content : Content) (key : Bytes) (part : Part) → IsOpenOn (H.view host.old) self.now partitioner content → StandsAt content place key part → (H.view host.new).reads ≤ (H.view host.old).reads + partition_reads buffered.old.page place (length (body key part)) }
     {
         partition_at(alloc, host, pages, buffered, &self.types, self.end, place)
@@ -176,7 +176,7 @@ impl DataFile {
         ensures damaged { IfErr result (DamageShown (H.view host.old) self.now.file (ShowsPartition self.now.types self.now.end place self.now.file)) }
         ensures undamaged { IfErr result (NoFalsePartitionDamage (H.view host.old) self.now place) }
         ensures read { HasRead (P.agrees pages.new) (P.covers pages.old) (P.covers pages.new) (H.view host.old) (H.view host.new) self.now.file }
-        ensures causes { ReadsAtMost 2050 (H.view host.old) (H.view host.new) result }
+        ensures causes { ReadCost 2050 (H.view host.old) (H.view host.new) result }
         // It reads only the pages on which the partition lies, where the file is a data file.
         ensures reads { (partitioner : Partitioner) (content : Content) (key : Bytes) (part : Part) → IsOpenOn (H.view host.old) self.now partitioner content → StandsAt content place key part → (H.view host.new).reads ≤ (H.view host.old).reads + partition_pages place (length (body key part)) }
     {
@@ -197,7 +197,7 @@ impl DataFile {
         ensures damaged { IfErr result (DamageShown (H.view host.old) self.now.file (ShowsPartition self.now.types self.now.end place self.now.file)) }
         ensures undamaged { IfErr result (NoFalsePartitionDamage (H.view host.old) self.now place) }
         ensures read { HasRead (P.agrees pages.new) (P.covers pages.old) (P.covers pages.new) (H.view host.old) (H.view host.new) self.now.file }
-        ensures causes { ReadsAtMost 2050 (H.view host.old) (H.view host.new) result }
+        ensures causes { ReadCost 2050 (H.view host.old) (H.view host.new) result }
         ensures reads { (partitioner : Partitioner) (content : Content) (key : Bytes) (part : Part) → IsOpenOn (H.view host.old) self.now partitioner content → StandsAt content place key part → (H.view host.new).reads ≤ (H.view host.old).reads + partition_pages place (length (body key part)) }
     {
         let (key, _part) = self.at(alloc, host, pages, place)?;
@@ -219,7 +219,7 @@ impl DataFile {
         ensures damaged { IfErr result (DamageShown (H.view host.old) self.now.file (ShowsData self.now)) }
         ensures undamaged { IfErr result (NoFalseOpenedDamage (H.view host.old) self.now) }
         ensures read { HasRead (P.agrees pages.new) (P.covers pages.old) (P.covers pages.new) (H.view host.old) (H.view host.new) self.now.file }
-        ensures causes { (most : ℕ) → self.now.tree.pairs ≤ most → ReadsAtMost (2 * height most self.now.tree.pairs + 2 + 2051 * self.now.tree.pairs) (H.view host.old) (H.view host.new) result }
+        ensures causes { (most : ℕ) → self.now.tree.pairs ≤ most → ReadCost (2 * height most self.now.tree.pairs + 2 + 2051 * self.now.tree.pairs) (H.view host.old) (H.view host.new) result }
         // It reads at most two pages a level and two more, and the pages of the partitions with the token and one for each,
         // where the file is a data file.
         ensures reads { (most : ℕ) (partitioner : Partitioner) (content : Content) → self.now.tree.pairs ≤ most → IsOpenOn (H.view host.old) self.now partitioner content → KeysAreBytes content

@@ -2,7 +2,7 @@
 ghost use Rattle.std.specs.Prelude.{◌≡◌, ◌-◌, ◌≤◌, length, take, IfErr, IfOk, OnOk, Some};
 ghost use Rattle.sasi_host.specs.Disk.{Changes, Same};
 ghost use Rattle.sasi_host.specs.Names.{Bytes};
-ghost use Rattle.sasi_host.specs.View.{IsThere, ReadsAtMost, contents};
+ghost use Rattle.sasi_host.specs.View.{IsThere, ReadCost, contents};
 ghost use Rattle.sasi_host.specs.Damages.{DamageShown};
 ghost use Rattle.sasi_formats.specs.Formats.{Encodes};
 ghost use Rattle.sasi_framing.specs.Framing.{EndsWith};
@@ -26,7 +26,7 @@ pub fn read_max_timestamp<H: Host>(host: &mut H, file: FileName) -> Result<u64, 
     ensures damaged { IfErr result (DamageShown (H.view host.old) file (ShowsHeaderOrFooter file)) }
     ensures undamaged { IfErr result (NoFalseDataDamage (H.view host.old) file) }
     ensures changes { Changes Same (H.view host.old) (H.view host.new) }
-    ensures causes { ReadsAtMost 2 (H.view host.old) (H.view host.new) result }
+    ensures causes { ReadCost 2 (H.view host.old) (H.view host.new) result }
 {
     let mut buffered = BufferedFile::new(file);
     let mut bytes = [0; FOOTER];

@@ -1,6 +1,6 @@
 // Reads bytes of a file.
 ghost use Rattle.std.specs.Prelude.{◌≡◌, ◌+◌, ◌-◌, ◌/◌, ◌^◌, ◌<◌, ◌≤◌, List, ℕ, length, take, drop, IfErr, IfOk, OnOk, Some};
-ghost use Rattle.sasi_host.specs.View.{ReadsAtMost, contents};
+ghost use Rattle.sasi_host.specs.View.{ReadCost, contents};
 ghost use Rattle.sasi_host.specs.Damages.{DamageShown, ShowsEnd};
 ghost use Rattle.sasi_host.specs.Buffered.{unbuffered_pages};
 ghost use Rattle.sasi_host.specs.PageReading.{CanReadOn, HasReadOn};
@@ -26,7 +26,7 @@ pub fn read_bytes<H: Host, P: PageReader>(
     ensures damaged { IfErr result (DamageShown (H.view host.old) buffered.old.file (ShowsEnd (at + count) buffered.old.file)) }
     ensures read { HasReadOn (P.agrees pages.new) (P.covers pages.old) (P.covers pages.new) (H.view host.old) (H.view host.new) buffered.old buffered.new }
     ensures page { OnOk result (buffered.new.page ≡ Some ((at + count - 1) / 4096)) }
-    ensures causes { ReadsAtMost (unbuffered_pages buffered.old.page at count) (H.view host.old) (H.view host.new) result }
+    ensures causes { ReadCost (unbuffered_pages buffered.old.page at count) (H.view host.old) (H.view host.new) result }
 {
     let mut out = vec![in alloc; 0; count]?;
     buffered.read_into(host, pages, at, &mut out)?;

@@ -3,7 +3,7 @@ ghost use Rattle.std.specs.Prelude.{◌≡◌, ◌⊎◌, ◌+◌, ◌-◌, ◌/
 ghost use Rattle.sasi_types.specs.declared.partitioner.Partitioner.{Partitioner};
 ghost use Rattle.sasi_model.specs.Cells.{Partition as Part};
 ghost use Rattle.sasi_host.specs.Names.{Bytes};
-ghost use Rattle.sasi_host.specs.View.{ReadsAtMost};
+ghost use Rattle.sasi_host.specs.View.{ReadCost};
 ghost use Rattle.sasi_host.specs.Damages.{DamageShown};
 ghost use Rattle.sasi_host.specs.Buffered.{IsBuffered};
 ghost use Rattle.sasi_host.specs.PageReading.{CanRead, HasRead};
@@ -12,7 +12,7 @@ ghost use Rattle.sasi_tokentree.specs.Scans.{HasPassed};
 ghost use Rattle.sasi_datawrite.specs.Format.{Content};
 ghost use Rattle.sasi_dataread.specs.Opened.{StandsAt};
 ghost use Rattle.sasi_dataread.specs.Reads.{ReadsPartition, IsOpenOn, NoFalsePartitionDamage};
-ghost use Rattle.sasi_dataread.specs.Bodies.{partition_reads, IsPartitionPlace};
+ghost use Rattle.sasi_dataread.specs.Bodies.{partition_reads, IsPartitionOffset};
 ghost use Rattle.sasi_dataread.specs.Damages.{ShowsPair};
 
 use crate::DataFile;
@@ -29,11 +29,11 @@ const PARTITIONS_START: u64 = 16;
 const MIN_PARTITION_BYTES: u64 = 17;
 
 // Where the offset stands in a pair.
-const PLACE: u64 = 8;
+const OFFSET_FIELD: u64 = 8;
 
 // Whether no partition can begin at this offset. `end` is where the partitions end.
-fn is_wrong_place(place: u64, end: u64) -> bool
-    ensures place { result ≡ false → IsPartitionPlace end place }
+fn is_wrong_offset(place: u64, end: u64) -> bool
+    ensures place { result ≡ false → IsPartitionOffset end place }
     ensures wrong { IsTrue result → (place < 16) ⊎ (end < place + 17) }
 {
     place < PARTITIONS_START || place > end.saturating_sub(MIN_PARTITION_BYTES)
@@ -62,11 +62,11 @@ pub fn partition_of_pair<H: Host, P: PageReader>(
     ensures buffered { IsBuffered buffered.new (H.view host.new).files }
     ensures page { IfOk result (λ read. buffered.new.page ≡ Some ((place + 3 + length (body read.0 read.1)) / 4096)) }
     ensures read { HasRead (P.agrees pages.new) (P.covers pages.old) (P.covers pages.new) (H.view host.old) (H.view host.new) opened.now.file }
-    ensures causes { ReadsAtMost 2050 (H.view host.old) (H.view host.new) result }
+    ensures causes { ReadCost 2050 (H.view host.old) (H.view host.new) result }
     ensures reads { (partitioner : Partitioner) (content : Content) (key : Bytes) (part : Part) → IsOpenOn (H.view host.old) opened.now partitioner content → StandsAt content place key part → (H.view host.new).reads ≤ (H.view host.old).reads + partition_reads buffered.old.page place (length (body key part)) }
 {
-    if is_wrong_place(place, opened.end()) {
-        let at = tree.last_offset() + PLACE;
+    if is_wrong_offset(place, opened.end()) {
+        let at = tree.last_offset() + OFFSET_FIELD;
         let damage = found(buffered.file(), at, FormatRule::Place, &place.to_be_bytes());
         return Err(ReadFault::Damaged(damage));
     }

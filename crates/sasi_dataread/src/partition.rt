@@ -6,7 +6,7 @@ ghost use Rattle.sasi_model.specs.Cells.{Partition as Part};
 ghost use Rattle.sasi_host.specs.declared.name.FileName.{FileName};
 ghost use Rattle.sasi_host.specs.declared.fault.ReadFault.TheVariants as read_fault;
 ghost use Rattle.sasi_host.specs.Names.{Bytes};
-ghost use Rattle.sasi_host.specs.View.{ReadsAtMost, contents};
+ghost use Rattle.sasi_host.specs.View.{ReadCost, contents};
 ghost use Rattle.sasi_host.specs.Damages.{HasAt, OnDamage, DamageShown};
 ghost use Rattle.sasi_host.specs.Buffered.{unbuffered_pages};
 ghost use Rattle.sasi_host.specs.PageReading.{CanReadOn, HasReadOn};
@@ -70,7 +70,7 @@ fn read_length<H: Host, P: PageReader>(
     ensures undamaged { IfErr result (NoFalseLengthDamage (H.view host.old) buffered.old.file end place) }
     ensures read { HasReadOn (P.agrees pages.new) (P.covers pages.old) (P.covers pages.new) (H.view host.old) (H.view host.new) buffered.old buffered.new }
     ensures page { OnOk result (buffered.new.page ≡ Some ((place + 3) / 4096)) }
-    ensures causes { ReadsAtMost (unbuffered_pages buffered.old.page place 4) (H.view host.old) (H.view host.new) result }
+    ensures causes { ReadCost (unbuffered_pages buffered.old.page place 4) (H.view host.old) (H.view host.new) result }
 {
     let file = buffered.file();
     if place > MAX_FILE_SIZE {
@@ -102,7 +102,7 @@ fn read_body_bytes<H: Host, P: PageReader>(
     ensures undamaged { IfErr result (NoFalseBytesDamage (H.view host.old) buffered.old.file end place) }
     ensures read { HasReadOn (P.agrees pages.new) (P.covers pages.old) (P.covers pages.new) (H.view host.old) (H.view host.new) buffered.old buffered.new }
     ensures page { IfOk result (λ read. buffered.new.page ≡ Some ((place + 3 + length read.items) / 4096)) }
-    ensures causes { ReadsAtMost 2050 (H.view host.old) (H.view host.new) result }
+    ensures causes { ReadCost 2050 (H.view host.old) (H.view host.new) result }
     ensures reads { (bytes body : Bytes) → contents (H.view host.old) buffered.old.file ≡ Some bytes → HasAt bytes place (length_prefixed body) → length body < 2 ^ 32 → (H.view host.new).reads ≤ (H.view host.old).reads + partition_reads buffered.old.page place (length body) }
 {
     let count = read_length(host, pages, buffered, end, place)?;
@@ -160,7 +160,7 @@ pub fn partition_at<H: Host, P: PageReader>(
     ensures undamaged { IfErr result (NoFalseBodyDamage (H.view host.old) buffered.old.file types.now end place) }
     ensures read { HasReadOn (P.agrees pages.new) (P.covers pages.old) (P.covers pages.new) (H.view host.old) (H.view host.new) buffered.old buffered.new }
     ensures page { IfOk result (λ read. buffered.new.page ≡ Some ((place + 3 + length (body read.0 read.1)) / 4096)) }
-    ensures causes { ReadsAtMost 2050 (H.view host.old) (H.view host.new) result }
+    ensures causes { ReadCost 2050 (H.view host.old) (H.view host.new) result }
     ensures reads { (bytes part : Bytes) → contents (H.view host.old) buffered.old.file ≡ Some bytes → HasAt bytes place (length_prefixed part) → length part < 2 ^ 32 → (H.view host.new).reads ≤ (H.view host.old).reads + partition_reads buffered.old.page place (length part) }
 {
     let file = buffered.file();

@@ -9,7 +9,7 @@ use sasi_datawrite::Footer;
 use sasi_fields::FieldReader;
 use sasi_formats::{FieldStart, FormatFault, damage_in, read_u64, read_u64_in_range};
 use sasi_host::{Damage, FileName, FormatRule};
-use sasi_tokentree::is_node_place;
+use sasi_tokentree::is_node_offset;
 use sasi_types::TreeRef;
 
 // The least offset where partitions can end.
@@ -38,7 +38,7 @@ fn read_numbers(reader: &mut FieldReader, at: u64) -> Result<Footer, FormatFault
     let pairs = read_u64_in_range(reader, 1, u64::MAX)?;
     let max_timestamp = read_u64(reader)?;
     let end = read_end(reader, at)?;
-    if !is_node_place(end, at, root) {
+    if !is_node_offset(end, at, root) {
         return Err(start.broken(FormatRule::Place, 8));
     }
     Ok(Footer {

@@ -1,7 +1,7 @@
 // Scans a data file, partition by partition.
 ghost use Rattle.std.specs.Prelude.{◌≡◌, [], IfErr, IfOk, IfSome, None};
 ghost use Rattle.sasi_host.specs.declared.name.FileName.{FileName};
-ghost use Rattle.sasi_host.specs.View.{ReadsAtMost};
+ghost use Rattle.sasi_host.specs.View.{ReadCost};
 ghost use Rattle.sasi_host.specs.Damages.{DamageShown};
 ghost use Rattle.sasi_host.specs.Buffered.{IsBuffered};
 ghost use Rattle.sasi_host.specs.PageReading.{CanRead, HasRead};
@@ -72,7 +72,7 @@ impl Walk {
         ensures read { HasRead (P.agrees pages.new) (P.covers pages.old) (P.covers pages.new) (H.view host.old) (H.view host.new) self.old.opened.file }
         ensures pairs_buffered { IsBuffered self.new.pairs_buffered (H.view host.new).files }
         ensures buffered { IsBuffered self.new.buffered (H.view host.new).files }
-        ensures causes { ReadsAtMost 2052 (H.view host.old) (H.view host.new) result }
+        ensures causes { ReadCost 2052 (H.view host.old) (H.view host.new) result }
         // A sequential scan reads each page once, also where it fails.
         ensures reads { ScansPagesOnce (H.view host.old) (H.view host.new) self.old self.new result }
         ensures opened { self.new.opened ≡ self.old.opened }
@@ -110,7 +110,7 @@ fn next_partition<H: Host, P: PageReader>(
     ensures read { HasRead (P.agrees pages.new) (P.covers pages.old) (P.covers pages.new) (H.view host.old) (H.view host.new) opened.now.file }
     ensures pairs_buffered { IsBuffered tree.new.buffered (H.view host.new).files }
     ensures buffered { IsBuffered buffered.new (H.view host.new).files }
-    ensures causes { ReadsAtMost 2052 (H.view host.old) (H.view host.new) result }
+    ensures causes { ReadCost 2052 (H.view host.old) (H.view host.new) result }
     ensures reads { ScansPagesOnce (H.view host.old) (H.view host.new) (scan_of opened.now tree.old buffered.old) (scan_of opened.now tree.new buffered.new) result }
     ensures file { tree.new.buffered.file ≡ tree.old.buffered.file }
     ensures named { buffered.new.file ≡ buffered.old.file }

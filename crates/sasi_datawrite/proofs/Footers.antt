@@ -13,7 +13,7 @@ use Rattle.sasi_formats.proofs.Fitting.{checked_fits, number_fits, range_fits}
 use Rattle.sasi_formats.proofs.Headers.{fixed_of_size, header_encodes as encodes_header}
 use Rattle.sasi_formats.proofs.OfSize.{IsOfSize, field_of_size, decoded_of_size, both_of_size}
 use Rattle.sasi_formats.proofs.Prefixes.{fixed_fits}
-use Rattle.sasi_tokentree.specs.Damages.{is_node_place}
+use Rattle.sasi_tokentree.specs.Damages.{is_node_offset}
 use Rattle.sasi_datawrite.specs.declared.footer.Footer.{Footer}
 use Rattle.sasi_datawrite.specs.Format.{magic, header, end_before, footer_fields, footer, end_mark, footer_bytes}
 
@@ -46,13 +46,13 @@ end_fits at end fits behind within =
 
 -- numbers in their ranges have bytes
 pub footer_fits : (at : ℕ) (f : Footer) → f.tree.root < 2 ^ 64 → 1 ≤ f.tree.pairs → f.tree.pairs < 2 ^ 64 → f.max_timestamp < 2 ^ 64 → f.end < 2 ^ 64 → 33 ≤ f.end → f.end ≤ at
-    → is_node_place f.end at f.tree.root ≡ true → Fits (footer at) f
+    → is_node_offset f.end at f.tree.root ≡ true → Fits (footer at) f
 footer_fits at f root some pairs time end behind within place =
     let most : f.tree.pairs ≤ 2 ^ 64 - 1 = omega (arith, pairs) in
     let numbers : Fits (number w64 & in_range w64 1 (2 ^ 64 - 1) & number w64 & end_before at) (f.tree.root, (f.tree.pairs, (f.max_timestamp, f.end))) =
     (number_fits w64 f.tree.root root, (range_fits w64 1 (2 ^ 64 - 1) f.tree.pairs pairs some most, (number_fits w64 f.max_timestamp time, end_fits at f.end end behind within))) in
     let fields : Fits (footer_fields at) f = (numbers, refl) in
-    checked_fits rule.Place 8 (λ (g : Footer). is_node_place g.end at g.tree.root) (footer_fields at) f fields place
+    checked_fits rule.Place 8 (λ (g : Footer). is_node_offset g.end at g.tree.root) (footer_fields at) f fields place
 
 number_of_size : IsOfSize (number w64) 8
 number_of_size = field_of_size 8 rule.Number (number_of w64)
@@ -65,4 +65,4 @@ footer_of_size at =
     let two = both_of_size (number w64) (end_before at) 8 8 number_of_size last in
     let three = both_of_size (in_range w64 1 (2 ^ 64 - 1)) (number w64 & end_before at) 8 16 count two in
     let four = both_of_size (number w64) (in_range w64 1 (2 ^ 64 - 1) & number w64 & end_before at) 8 24 number_of_size three in
-    decoded_of_size rule.Place 8 (passing (λ (f : Footer). is_node_place f.end at f.tree.root)) (footer_fields at) 32 (decoded_of_size rule.Number 0 _ (number w64 & in_range w64 1 (2 ^ 64 - 1) & number w64 & end_before at) 32 four)
+    decoded_of_size rule.Place 8 (passing (λ (f : Footer). is_node_offset f.end at f.tree.root)) (footer_fields at) 32 (decoded_of_size rule.Number 0 _ (number w64 & in_range w64 1 (2 ^ 64 - 1) & number w64 & end_before at) 32 four)

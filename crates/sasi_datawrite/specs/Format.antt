@@ -16,7 +16,7 @@ use Rattle.sasi_formats.specs.Fields.{◌&◌, checked, mapped, number, in_range
 use Rattle.sasi_formats.specs.Headers.{file_header}
 use Rattle.sasi_body.specs.Body.{body, HasBody}
 use Rattle.sasi_tokentree.specs.Format.{tree_bytes, tree_ref}
-use Rattle.sasi_tokentree.specs.Damages.{is_node_place}
+use Rattle.sasi_tokentree.specs.Damages.{is_node_offset}
 use Rattle.sasi_datawrite.specs.declared.footer.Footer.{Footer}
 
 -- ---- what a file holds
@@ -83,7 +83,7 @@ footer_fields at =
 
 -- the numbers of a footer at this offset; the root stands between where the partitions end and the footer
 abbrev pub footer : ℕ → Format Footer
-footer at = checked rule.Place 8 (λ f. is_node_place f.end at f.tree.root) (footer_fields at)
+footer at = checked rule.Place 8 (λ f. is_node_offset f.end at f.tree.root) (footer_fields at)
 
 -- "SASIDEND", which follows them
 abbrev pub end_mark : Format (Unit {0})

@@ -7,8 +7,8 @@ use Rattle.std.specs.List.{AllByRecursion, list_any}
 use Rattle.sasi_types.specs.declared.statement.Statement.TheVariants.{CreateTable}
 use Rattle.sasi_model.specs.Statements.{same}
 use Rattle.sasi_model.specs.State.{Column, Definition, State, definition_of, position_in}
-use Rattle.sasi_model.specs.Abbreviations.{definitions, key_position, one_more, NoColumn, first_of}
-use Rattle.sasi_model.specs.Refusals.{Rule, create_rules, names_in, refusal, repeat_rules}
+use Rattle.sasi_model.specs.Abbreviations.{definitions, key_position, one_more, NoColumn, first_refusal}
+use Rattle.sasi_model.specs.Refusals.{RefusalRule, create_rules, names_in, refusal, repeat_rules}
 use Rattle.sasi_model.specs.WellFormed.{IsWellFormed, IsWellFormedColumn}
 use Rattle.sasi_manifest.specs.declared.listing.Listing.{Listing}
 use Rattle.sasi_manifest.specs.Consistent.{IsConsistent}
@@ -22,13 +22,13 @@ use Rattle.sasi_manifest.specs.Naming.{AreApart, AreNames}
 
 -- ---- rules that don't apply
 
-abbrev IsOut : Rule → Type 0
+abbrev IsOut : RefusalRule → Type 0
 IsOut rule = rule.0 ≡ false
 
-none_applies : (rules : List Rule) → first_of rules ≡ None → AllByRecursion IsOut rules
+none_applies : (rules : List RefusalRule) → first_refusal rules ≡ None → AllByRecursion IsOut rules
 none_applies [] is = tt
 none_applies (rule ∷ rules) is =
-    elim rule.0 as (λ b. rule.0 ≡ b → (if b then Some rule.1 else first_of rules) ≡ None → IsOut rule × AllByRecursion IsOut rules) [
+    elim rule.0 as (λ b. rule.0 ≡ b → (if b then Some rule.1 else first_refusal rules) ≡ None → IsOut rule × AllByRecursion IsOut rules) [
       | true ↦ λ e none. cc
       | false ↦ λ e none. (e, none_applies rules none)
     ] refl is

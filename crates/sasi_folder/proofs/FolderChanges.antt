@@ -13,7 +13,7 @@ use Rattle.sasi_commitlog.proofs.Payloads.{listed_mutation, opened_mutation}
 use Rattle.sasi_manifest.specs.declared.listing.Listing.{Listing}
 use Rattle.sasi_manifest.specs.ListedDefinition.{ListedDefinition}
 use Rattle.sasi_manifest.specs.Types.{numbered_types}
-use Rattle.sasi_folder.specs.Stands.{HasSegment, HasSegments, types_listed}
+use Rattle.sasi_folder.specs.FolderContents.{HasSegment, HasSegments, types_listed}
 
 -- ---- lists
 

@@ -7,7 +7,7 @@ use Rattle.sasi_host.specs.Names.{Bytes, Folder, rank, log_name, seal_name}
 use Rattle.sasi_cells.specs.declared.mutation.Mutation.{Mutation}
 use Rattle.sasi_commitlog.specs.Format.{IsLog, Tables}
 use Rattle.sasi_commitlog.proofs.Laws.{logs_same}
-use Rattle.sasi_folder.specs.Stands.{HasSegments, IsFresh, IsSealed}
+use Rattle.sasi_folder.specs.FolderContents.{HasSegments, IsFresh, IsSealed}
 
 -- ---- names
 

@@ -15,7 +15,7 @@ use Rattle.sasi_manifest.specs.declared.listing.Listing.{Listing}
 use Rattle.sasi_manifest.specs.ListedDefinition.{ListedDefinition}
 use Rattle.sasi_manifest.specs.Listings.{listed_definitions}
 use Rattle.sasi_manifest.specs.Types.{numbered_types}
-use Rattle.sasi_folder.specs.Stands.{types_listed}
+use Rattle.sasi_folder.specs.FolderContents.{types_listed}
 
 -- ---- mutations
 

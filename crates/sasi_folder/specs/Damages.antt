@@ -10,14 +10,14 @@ use Rattle.sasi_host.specs.Names.{Bytes, Folder, data_name, log_name, manifest_n
 use Rattle.sasi_model.specs.Abbreviations.{types_of}
 use Rattle.sasi_dataread.specs.Damages.{ShowsData, ShowsHeaderOrFooter}
 use Rattle.sasi_dataread.specs.HeaderAndFooter.{HasHeaderAndFooter}
-use Rattle.sasi_dataread.specs.Opened.{Opened}
+use Rattle.sasi_dataread.specs.Opened.{OpenDataFile}
 use Rattle.sasi_commitlog.specs.Damages.{ShowsLog}
 use Rattle.sasi_manifest.specs.declared.listing.Listing.{Listing}
 use Rattle.sasi_manifest.specs.Damages.{ShowsDamage}
 use Rattle.sasi_manifest.specs.Format.{IsManifest}
 use Rattle.sasi_manifest.specs.ListedDefinition.{ListedDefinition}
 use Rattle.sasi_manifest.specs.ListedFiles.{has_file}
-use Rattle.sasi_folder.specs.Stands.{IsSealed, types_listed}
+use Rattle.sasi_folder.specs.FolderContents.{IsSealed, types_listed}
 
 -- there is no seal, and this file is none that an unfinished creation of a store leaves
 pub record ShowsNoSeal (folder : Folder) (damage : Damage) : Type 0 where
@@ -45,11 +45,11 @@ pub record ShowsSegment (folder : Folder) (listing : Listing) (damage : Damage) 
   pub shows : ShowsMissing folder (log_name segment) damage ⊎ ((bytes : Bytes) × (get folder (log_name segment) ≡ Some bytes) × ShowsLog (types_listed listing) (log_name segment) bytes damage)
 
 -- one of the tables has the data file of this number
-abbrev pub IsListed : List ListedDefinition → ℕ → Type 0
-IsListed tables number = list_any (λ t. has_file t.files number) tables ≡ true
+abbrev pub IsListedNumber : List ListedDefinition → ℕ → Type 0
+IsListedNumber tables number = list_any (λ t. has_file t.files number) tables ≡ true
 
 -- a listed data file was opened, for the types of its table, by the header and the footer that it has
-pub record IsOpenedFrom (tables : List ListedDefinition) (number : ℕ) (bytes : Bytes) (opened : Opened) : Type 0 where
+pub record IsOpenedFrom (tables : List ListedDefinition) (number : ℕ) (bytes : Bytes) (opened : OpenDataFile) : Type 0 where
   pub table : ListedDefinition
   pub listed : Contains tables table
   pub has : has_file table.files number ≡ true
@@ -58,23 +58,23 @@ pub record IsOpenedFrom (tables : List ListedDefinition) (number : ℕ) (bytes :
   pub parts : HasHeaderAndFooter bytes (record { tree = opened.tree; max_timestamp = opened.max_timestamp; end = opened.end })
 
 -- A listed data file isn't there, or breaks its format: its end, its header or the numbers of its footer, which an opening of the folder and a reader look at, or what these lead to.
-pub data ShowsDataFile (folder : Folder) (tables : List ListedDefinition) (damage : Damage) : Type 0 where
-  missing_data : (number : ℕ) → IsListed tables number → ShowsMissing folder (data_name number) damage → ShowsDataFile folder tables damage
-  broken_ends : (number : ℕ) (bytes : Bytes) → IsListed tables number → get folder (data_name number) ≡ Some bytes → ShowsHeaderOrFooter (data_name number) bytes damage → ShowsDataFile folder tables damage
-  broken_content : (number : ℕ) (bytes : Bytes) (opened : Opened) → get folder (data_name number) ≡ Some bytes → IsOpenedFrom tables number bytes opened → ShowsData opened bytes damage → ShowsDataFile folder tables damage
+pub data ShowsListedDataFile (folder : Folder) (tables : List ListedDefinition) (damage : Damage) : Type 0 where
+  missing_data : (number : ℕ) → IsListedNumber tables number → ShowsMissing folder (data_name number) damage → ShowsListedDataFile folder tables damage
+  broken_ends : (number : ℕ) (bytes : Bytes) → IsListedNumber tables number → get folder (data_name number) ≡ Some bytes → ShowsHeaderOrFooter (data_name number) bytes damage → ShowsListedDataFile folder tables damage
+  broken_content : (number : ℕ) (bytes : Bytes) (opened : OpenDataFile) → get folder (data_name number) ≡ Some bytes → IsOpenedFrom tables number bytes opened → ShowsData opened bytes damage → ShowsListedDataFile folder tables damage
 
 -- the manifest of this number isn't there, breaks its format, or lists a segment or a data file that does
-pub data ShowsListed (folder : Folder) (number : ℕ) (damage : Damage) : Type 0 where
-  no_manifest : ShowsMissing folder (manifest_name number) damage → ShowsListed folder number damage
-  broken_manifest : (bytes : Bytes) → get folder (manifest_name number) ≡ Some bytes → ShowsDamage number bytes damage → ShowsListed folder number damage
-  broken_log : (bytes : Bytes) (listing : Listing) → get folder (manifest_name number) ≡ Some bytes → IsManifest number bytes listing → ShowsSegment folder listing damage → ShowsListed folder number damage
-  broken_data : (bytes : Bytes) (listing : Listing) → get folder (manifest_name number) ≡ Some bytes → IsManifest number bytes listing → ShowsDataFile folder listing.tables damage → ShowsListed folder number damage
+pub data ShowsManifestOrListed (folder : Folder) (number : ℕ) (damage : Damage) : Type 0 where
+  no_manifest : ShowsMissing folder (manifest_name number) damage → ShowsManifestOrListed folder number damage
+  broken_manifest : (bytes : Bytes) → get folder (manifest_name number) ≡ Some bytes → ShowsDamage number bytes damage → ShowsManifestOrListed folder number damage
+  broken_log : (bytes : Bytes) (listing : Listing) → get folder (manifest_name number) ≡ Some bytes → IsManifest number bytes listing → ShowsSegment folder listing damage → ShowsManifestOrListed folder number damage
+  broken_data : (bytes : Bytes) (listing : Listing) → get folder (manifest_name number) ≡ Some bytes → IsManifest number bytes listing → ShowsListedDataFile folder listing.tables damage → ShowsManifestOrListed folder number damage
 
 -- the same of the manifest of the highest seal
 pub record ShowsSealed (folder : Folder) (damage : Damage) : Type 0 where
   pub number : ℕ
   pub sealed : IsSealed folder number
-  pub shows : ShowsListed folder number damage
+  pub shows : ShowsManifestOrListed folder number damage
 
 -- **The folder shows the damage.**
 abbrev pub FolderShows : Folder → Damage → Type 0

@@ -1,4 +1,4 @@
 pub mod Replay
-pub mod Stands
+pub mod FolderContents
 pub mod Damages
 pub mod Opens

@@ -7,16 +7,16 @@ use Rattle.sasi_cells.specs.declared.mutation.Mutation.{Mutation}
 use Rattle.sasi_dataread.specs.HeaderAndFooter.{EndsAsDataFile}
 use Rattle.sasi_manifest.specs.declared.listing.Listing.{Listing}
 use Rattle.sasi_manifest.specs.Format.{IsManifest}
-use Rattle.sasi_folder.specs.Damages.{IsListed}
-use Rattle.sasi_folder.specs.Stands.{Holds, IsFresh, IsSealed}
+use Rattle.sasi_folder.specs.Damages.{IsListedNumber}
+use Rattle.sasi_folder.specs.FolderContents.{FolderHolds, IsFresh, IsSealed}
 
 -- The folder is opened: the manifest of the highest seal lists tables, live segments and data files. The segments have mutations of the tables. Of a data file only the end is looked at.
 pub record Opens (folder : Folder) : Type 0 where
   pub number : ℕ
   pub listing : Listing
   pub logs : List (List Mutation)
-  pub holds : Holds folder number listing logs
-  pub files : (file : ℕ) → IsListed listing.tables file → (bytes : Bytes) × (get folder (data_name file) ≡ Some bytes) × EndsAsDataFile bytes
+  pub holds : FolderHolds folder number listing logs
+  pub files : (file : ℕ) → IsListedNumber listing.tables file → (bytes : Bytes) × (get folder (data_name file) ≡ Some bytes) × EndsAsDataFile bytes
 
 -- **Which folders are opened**: those, and new ones.
 abbrev pub CanOpen : Folder → Type 0

@@ -28,7 +28,7 @@ pub enum FormatFault {
 }
 
 /// The bytes at this offset break the rule. The first eight of them are reported.
-pub fn found(rule: FormatRule, at: usize, bytes: &[u8]) -> Broken
+pub fn broken_at(rule: FormatRule, at: usize, bytes: &[u8]) -> Broken
     ensures rule { result.rule ≡ rule }
     ensures at { result.at ≡ at }
     ensures seen { seen_bytes result.seen ≡ take 8 bytes.now }

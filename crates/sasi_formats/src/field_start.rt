@@ -3,7 +3,7 @@ ghost use Rattle.std.specs.Prelude.{◌≡◌, ◌≢◌, ◌≤◌, length, tak
 ghost use Rattle.sasi_formats.specs.Gives.{IsBrokenRule};
 ghost use Rattle.sasi_formats.specs.declared.fault.FormatFault.TheVariants as fault;
 
-use crate::fault::{FormatFault, found};
+use crate::fault::{FormatFault, broken_at};
 use sasi_fields::FieldReader;
 use sasi_host::FormatRule;
 
@@ -41,7 +41,7 @@ pub fn broken(rule: FormatRule, at: usize, bytes: &[u8]) -> FormatFault
     ensures rule { IsBrokenRule rule at (take 8 bytes.now) result }
     ensures memory { result ≢ fault.OutOfMemory }
 {
-    FormatFault::Broken(found(rule, at, bytes))
+    FormatFault::Broken(broken_at(rule, at, bytes))
 }
 
 // The first bytes, so many of them, or all that there are.

@@ -12,7 +12,7 @@ mod part;
 mod ranged;
 
 pub use bytes::{expect, take};
-pub use fault::{Broken, FormatFault, found};
+pub use fault::{Broken, FormatFault, broken_at};
 pub use field_start::{FieldStart, broken};
 pub use header::{check_header, put_front, put_header, read_front};
 pub use items::{Items, ReadItem, read_items};

@@ -1,7 +1,7 @@
 // Reads the first and the last bytes of a file.
 ghost use Rattle.std.specs.Prelude.{◌≡◌, ◌≤◌, length, IfErr, IfOk, Some};
 ghost use Rattle.sasi_host.specs.Names.{Bytes};
-ghost use Rattle.sasi_host.specs.View.{ReadsAtMost, contents};
+ghost use Rattle.sasi_host.specs.View.{ReadCost, contents};
 ghost use Rattle.sasi_host.specs.Damages.{DamageShown, ShowsEnd};
 ghost use Rattle.sasi_host.specs.PageReading.{CanRead, HasRead, CanReadOn, HasReadOn};
 ghost use Rattle.sasi_framing.specs.Framing.{EndsWith, BeginsAndEndsWith};
@@ -23,7 +23,7 @@ pub fn read_footer<H: Host, P: PageReader>(
     ensures ok { IfOk result (λ size. (bytes : Bytes) → contents (H.view host.old) buffered.old.file ≡ Some bytes → EndsWith size footer.new bytes) }
     ensures damaged { IfErr result (DamageShown (H.view host.old) buffered.old.file (ShowsEnd least buffered.old.file)) }
     ensures read { HasReadOn (P.agrees pages.new) (P.covers pages.old) (P.covers pages.new) (H.view host.old) (H.view host.new) buffered.old buffered.new }
-    ensures causes { ReadsAtMost 2 (H.view host.old) (H.view host.new) result }
+    ensures causes { ReadCost 2 (H.view host.old) (H.view host.new) result }
 {
     let file = buffered.file();
     let size = host.size(file)?;
@@ -54,7 +54,7 @@ pub fn read_header_and_footer<H: Host, P: PageReader>(
     ensures ok { IfOk result (λ size. (bytes : Bytes) → contents (H.view host.old) file ≡ Some bytes → BeginsAndEndsWith size header.new footer.new bytes) }
     ensures damaged { IfErr result (DamageShown (H.view host.old) file (ShowsEnd least file)) }
     ensures read { HasRead (P.agrees pages.new) (P.covers pages.old) (P.covers pages.new) (H.view host.old) (H.view host.new) file }
-    ensures causes { ReadsAtMost 3 (H.view host.old) (H.view host.new) result }
+    ensures causes { ReadCost 3 (H.view host.old) (H.view host.new) result }
 {
     let mut buffered = BufferedFile::new(file);
     let size = read_footer(host, pages, &mut buffered, least, footer)?;

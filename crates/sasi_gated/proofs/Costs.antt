@@ -57,10 +57,10 @@ once_to a b file before after end other same once = subst (λ (n : ℕ). ReadsEa
 -- a page that was loaded
 pub load_pages : (before : Option ℕ) (at reads after : ℕ) → BeginsBy before at → (after ≡ reads) ⊎ (after ≡ counted reads)
     → (before ≡ Some (at / 4096) → after ≡ reads) → after + reached before ≤ reads + (at / 4096 + 1)
-load_pages None at reads after begins once spared = ⊎_elim (λ none. omega (arith, none)) (λ one. omega (arith, one)) once
-load_pages (Some page) at reads after begins once spared =
+load_pages None at reads after begins once same_page = ⊎_elim (λ none. omega (arith, none)) (λ one. omega (arith, one)) once
+load_pages (Some page) at reads after begins once same_page =
     let before = begins page refl in
-    ⊎_elim (λ here. omega (arith, here.1, spared (ap (λ (n : ℕ). Some n) here.1)))
+    ⊎_elim (λ here. omega (arith, here.1, same_page (ap (λ (n : ℕ). Some n) here.1)))
     (λ other. ⊎_elim (λ none. omega (arith, before, none)) (λ one. omega (arith, before, other.1, one)) once) (eqb_tells page (at / 4096))
 
 -- the header was read

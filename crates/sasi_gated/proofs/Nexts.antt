@@ -47,10 +47,10 @@ module _ (a b : View) (file : FileName) (at : ℕ) (done left : List Bytes) (sou
       (shows reading.bytes done reading.rest reads reading.at_gate)
 
   -- what is read is the first of the records that are left
-  pub goes_on : (same : Changes Same a b) (more : Bool) (after : ℕ) (out : Bytes)
+  pub reads_next : (same : Changes Same a b) (more : Bool) (after : ℕ) (out : Bytes)
       → ((bytes : Bytes) (before : List Bytes) (rest : Bytes) → contents a file ≡ Some bytes → IsAtGate file bytes at before rest → ReadsAt more file bytes after before rest out)
       → ReadsOn more b file after done left out
-  goes_on same more after out read = from more left reading.records_left (read reading.bytes done reading.rest reads reading.at_gate)
+  reads_next same more after out read = from more left reading.records_left (read reading.bytes done reading.rest reads reading.at_gate)
     where
       kept : IsFileDurable b file reading.bytes
       kept = file_durable_same a b file reading.bytes same reading.kept

@@ -62,9 +62,9 @@ Closes bytes = FromGate bytes []
 -- ---- what is written
 
 -- a new file: its header, one record behind an open gate if there is one, and a closed gate
-abbrev pub new_file : FileName → Option Bytes → Bytes
-new_file file None = header file ++ 0 ∷ []
-new_file file (Some payload) = header file ++ 1 ∷ (frame payload ++ 0 ∷ [])
+abbrev pub new_gated_file : FileName → Option Bytes → Bytes
+new_gated_file file None = header file ++ 0 ∷ []
+new_gated_file file (Some payload) = header file ++ 1 ∷ (frame payload ++ 0 ∷ [])
 
 -- the records from before, with one more or without it
 abbrev pub IsBeforeOrAfter : FileName → List Bytes → Bytes → Bytes → Type 0

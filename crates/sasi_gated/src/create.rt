@@ -1,7 +1,7 @@
 // The bytes that a new gated file begins with.
 ghost use Rattle.std.specs.Prelude.{◌≡◌, ◌∷◌, ◌++◌, [], IfOk, OnOk, IfSome};
 ghost use Rattle.std.specs.Option.{option_copied};
-ghost use Rattle.sasi_gated.specs.Format.{frame, new_file, IsPayload};
+ghost use Rattle.sasi_gated.specs.Format.{frame, new_gated_file, IsPayload};
 
 use crate::Record;
 use crate::header::magic_of;
@@ -17,7 +17,7 @@ pub fn new_file_bytes(
     file: FileName,
     first: Option<&Record>,
 ) -> Result<Vec<u8>, AllocError>
-    ensures bytes { IfOk result (λ out. out.items ≡ new_file file (option_copied first.entry)) }
+    ensures bytes { IfOk result (λ out. out.items ≡ new_gated_file file (option_copied first.entry)) }
     ensures fits { OnOk result (IfSome (option_copied first.entry) IsPayload) }
 {
     let mut out = Vec::new(alloc);

@@ -3,7 +3,7 @@ ghost use Rattle.std.specs.Prelude.{◌≡◌, ◌+◌, ◌≤◌, ◌^◌, ◌�
 ghost use Rattle.std.specs.Option.{option_copied, option_to_list};
 ghost use Rattle.sasi_host.specs.View.{MakesCalls, DiskCauses, ListCauses, Reaches, IsAbsent, IsThere, IsTold, contents};
 ghost use Rattle.sasi_host.specs.Disk.{AnyChange, Changes, IsFileDurable, LeftWith, Same, FileChange};
-ghost use Rattle.sasi_gated.specs.Format.{IsBeforeOrAfter, IsGated, new_file};
+ghost use Rattle.sasi_gated.specs.Format.{IsBeforeOrAfter, IsGated, new_gated_file};
 ghost use Rattle.sasi_gated.specs.Gates.{IsAtGate, ReadsAt};
 ghost use Rattle.sasi_gated.specs.Damages.{IsGatedDamage};
 ghost use Rattle.sasi_gated.specs.Causes.{ReadingCauses};
@@ -77,7 +77,7 @@ impl Gated {
         ensures ok { IfOk result (λ gated. IsAtEnd (H.view host.new) file gated.at (option_to_list (option_copied first.entry))) }
         ensures changes { Changes (FileChange file AnyChange) (H.view host.old) (H.view host.new) }
         ensures room { IfOk result (λ gated. Reaches (H.view host.new) gated.file (gated.at + 1)) }
-        ensures offset { IfOk result (λ gated. gated.at + 1 ≡ length (new_file file (option_copied first.entry))) }
+        ensures offset { IfOk result (λ gated. gated.at + 1 ≡ length (new_gated_file file (option_copied first.entry))) }
         ensures fits { IfOk result (λ gated. gated.at ≤ 2 ^ 62) }
         ensures usable { IfOk result (λ gated. IsTrue gated.usable) }
         ensures file { IfOk result (λ gated. gated.file ≡ file) }

@@ -5,12 +5,12 @@ use Rattle.std.specs.declared.result.Result.{Result}
 use Rattle.sasi_host.specs.declared.damage.Damage.{Damage}
 use Rattle.sasi_host.specs.declared.fault.ReadFault.{ReadFault}
 use Rattle.sasi_host.specs.declared.fault.ReadFault.TheVariants as fault
-use Rattle.sasi_host.specs.View.{View, ReadsAtMost}
+use Rattle.sasi_host.specs.View.{View, ReadCost}
 use Rattle.sasi_host.proofs.FailingLaws.{failed_behind}
 
 -- reads behind calls of which none failed
 pub reads_behind : {T : Type 0} (a b c : View) (n most : ℕ) (result : Result T ReadFault) → b.disk_faults ≡ a.disk_faults → b.out_faults ≡ a.out_faults
-    → b.reads + n ≤ a.reads + most → ReadsAtMost n b c result → ReadsAtMost most a c result
+    → b.reads + n ≤ a.reads + most → ReadCost n b c result → ReadCost most a c result
 reads_behind a b c n most (Ok x) disk out credit two = record {
   disk = omega (arith, disk, two.disk);
   out = two.out ∙ out;
@@ -31,12 +31,12 @@ reads_behind a b c n most (Err f) disk out credit two = record {
 }
 
 -- reads after reads
-pub reads_on : {S T : Type 0} (a b c : View) (n m most : ℕ) (first : S) (second : Result T ReadFault) → n + m ≤ most → ReadsAtMost n a b (Ok first)
-    → ReadsAtMost m b c second → ReadsAtMost most a c second
+pub reads_on : {S T : Type 0} (a b c : View) (n m most : ℕ) (first : S) (second : Result T ReadFault) → n + m ≤ most → ReadCost n a b (Ok first)
+    → ReadCost m b c second → ReadCost most a c second
 reads_on a b c n m most first second le one two = reads_behind a b c m most second one.ok one.out (omega (arith, le, one.reads)) two
 
 -- fewer reads are at most more
-pub reads_within : {T : Type 0} (a b : View) (n most : ℕ) (result : Result T ReadFault) → n ≤ most → ReadsAtMost n a b result → ReadsAtMost most a b result
+pub reads_within : {T : Type 0} (a b : View) (n most : ℕ) (result : Result T ReadFault) → n ≤ most → ReadCost n a b result → ReadCost most a b result
 reads_within a b n most result le one = record {
   disk = one.disk;
   out = one.out;
@@ -48,7 +48,7 @@ reads_within a b n most result le one = record {
 }
 
 -- a fault that is handed on is the same one
-pub fault_reads : {S T : Type 0} (a b : View) (n most : ℕ) (f : ReadFault) → n ≤ most → ReadsAtMost {T = S} n a b (Err f) → ReadsAtMost {T = T} most a b (Err f)
+pub fault_reads : {S T : Type 0} (a b : View) (n most : ℕ) (f : ReadFault) → n ≤ most → ReadCost {T = S} n a b (Err f) → ReadCost {T = T} most a b (Err f)
 fault_reads a b n most f le one = record {
   disk = one.disk;
   out = one.out;
@@ -60,8 +60,8 @@ fault_reads a b n most f le one = record {
 }
 
 -- damage that is told after them isn't a failure of the host
-pub damage_reads : {S T : Type 0} (a b : View) (n most : ℕ) (first : S) (damage : Damage) → n ≤ most → ReadsAtMost n a b (Ok first)
-    → ReadsAtMost {T = T} most a b (Err (fault.Damaged damage))
+pub damage_reads : {S T : Type 0} (a b : View) (n most : ℕ) (first : S) (damage : Damage) → n ≤ most → ReadCost n a b (Ok first)
+    → ReadCost {T = T} most a b (Err (fault.Damaged damage))
 damage_reads a b n most first damage le one = record {
   disk = one.disk;
   out = one.out;
@@ -73,7 +73,7 @@ damage_reads a b n most first damage le one = record {
 }
 
 -- an answer after them isn't one either
-pub ok_reads : {S T : Type 0} (a b : View) (n : ℕ) (first : S) (x : T) → ReadsAtMost n a b (Ok first) → ReadsAtMost n a b (Ok x)
+pub ok_reads : {S T : Type 0} (a b : View) (n : ℕ) (first : S) (x : T) → ReadCost n a b (Ok first) → ReadCost n a b (Ok x)
 ok_reads a b n first x one = record {
   disk = one.disk;
   out = one.out;

@@ -61,8 +61,8 @@ pub record MemoryHost : Type 0 where
   pub refused : ℕ
 
 -- what is seen of a host
-abbrev pub seen : MemHost → MemoryHost
-seen h = record {
+abbrev pub memory_host : MemHost → MemoryHost
+memory_host h = record {
   start = h.disk.start;
   calls = h.disk.calls.items;
   failing_disk = h.failing_disk.items;

@@ -262,7 +262,7 @@ pub record PageCauses {T : Type 0} (old new : View) (result : Result T HostFault
   pub memory : IfErr result (λ f. f ≡ fault.OutOfMemory → new.disk_faults ≡ old.disk_faults)
 
 -- the same of a read of a format, which takes at most so many reads of the host
-pub record ReadsAtMost {T : Type 0} (most : ℕ) (old new : View) (result : Result T ReadFault) : Type 0 where
+pub record ReadCost {T : Type 0} (most : ℕ) (old new : View) (result : Result T ReadFault) : Type 0 where
   pub disk : old.disk_faults ≤ new.disk_faults
   pub out : new.out_faults ≡ old.out_faults
   pub reads : new.reads ≤ old.reads + most

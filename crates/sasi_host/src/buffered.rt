@@ -1,7 +1,7 @@
 // A file read through a buffer of one page.
 ghost use Rattle.std.specs.Prelude.{◌≡◌, ◌⊎◌, ◌+◌, ◌-◌, ◌*◌, ◌/◌, ◌%◌, ◌^◌, ◌<◌, ◌≤◌, List, ℕ, [], length, take, drop, IfErr, IfSome, IfNone, OnOk, Some, None};
 ghost use Rattle.sasi_host.specs.declared.name.FileName.{FileName};
-ghost use Rattle.sasi_host.specs.View.{IsThere, contents, PageCauses, ReadsAtMost};
+ghost use Rattle.sasi_host.specs.View.{IsThere, contents, PageCauses, ReadCost};
 ghost use Rattle.sasi_host.specs.Disk.{Changes, Same};
 ghost use Rattle.sasi_host.specs.Damages.{DamageShown, ShowsEnd};
 ghost use Rattle.sasi_host.specs.Buffered.{IsBuffered, unbuffered_pages};
@@ -81,7 +81,7 @@ impl BufferedFile {
         ensures agrees { P.agrees pages.new (H.view host.new).files }
         ensures covers { (name : FileName) → P.covers pages.new name → P.covers pages.old name ⊎ (name ≡ self.old.file) }
         ensures changes { Changes Same (H.view host.old) (H.view host.new) }
-        ensures causes { ReadsAtMost (unbuffered_pages self.old.page at (length out.old)) (H.view host.old) (H.view host.new) result }
+        ensures causes { ReadCost (unbuffered_pages self.old.page at (length out.old)) (H.view host.old) (H.view host.new) result }
         // A sequential reader reads no page beyond the end of the file.
         ensures no_further { BeginsBy self.old.page at → ReadsNoFurther (H.view host.old) (H.view host.new) self.old.file self.old.page at }
     {
@@ -118,7 +118,7 @@ impl BufferedFile {
         ensures agrees { P.agrees pages.new (H.view host.new).files }
         ensures covers { (name : FileName) → P.covers pages.new name → P.covers pages.old name ⊎ (name ≡ self.old.file) }
         ensures changes { Changes Same (H.view host.old) (H.view host.new) }
-        ensures causes { ReadsAtMost (unbuffered_pages self.old.page at (length out.old)) (H.view host.old) (H.view host.new) result }
+        ensures causes { ReadCost (unbuffered_pages self.old.page at (length out.old)) (H.view host.old) (H.view host.new) result }
     {
         self.load_page(host, pages, at / PAGE)?;
         let Some(part) = self.part((at % PAGE) as usize, out.len()) else {
@@ -146,7 +146,7 @@ impl BufferedFile {
         ensures covers { (name : FileName) → P.covers pages.new name → P.covers pages.old name ⊎ (name ≡ self.old.file) }
         ensures changes { Changes Same (H.view host.old) (H.view host.new) }
         ensures causes { PageCauses (H.view host.old) (H.view host.new) result }
-        ensures spared { self.old.page ≡ Some page → (H.view host.new).reads ≡ (H.view host.old).reads }
+        ensures same_page { self.old.page ≡ Some page → (H.view host.new).reads ≡ (H.view host.old).reads }
     {
         if self.page == Some(page) {
             return Ok(());

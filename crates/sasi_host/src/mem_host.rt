@@ -6,7 +6,7 @@ ghost use Rattle.sasi_host.specs.Disk.{IsCrashOf};
 ghost use Rattle.sasi_host.specs.Picks.{picked};
 ghost use Rattle.sasi_host.specs.Calls.{replay, opened};
 ghost use Rattle.sasi_host.specs.declared.call.Call.{Call};
-ghost use Rattle.sasi_host.specs.Memory.{seen, host_view, host_with, done, begun_disk, IsDiskToFail, disk_failed, disk_refused, begun_emit, IsEmitToFail, emit_failed, emit_refused};
+ghost use Rattle.sasi_host.specs.Memory.{memory_host, host_view, host_with, done, begun_disk, IsDiskToFail, disk_failed, disk_refused, begun_emit, IsEmitToFail, emit_failed, emit_refused};
 
 use crate::mem_disk::MemDisk;
 use crate::mem_folder::MemFolder;
@@ -32,8 +32,8 @@ pub struct MemHost {
 impl MemHost {
     /// A host with an empty folder, which doesn't fail.
     pub fn new(alloc: Global) -> MemHost
-        ensures is { seen result ≡ host_with map.empty }
-        ensures no_file { (name : _) → contents (host_view (seen result)) name ≡ None }
+        ensures is { memory_host result ≡ host_with map.empty }
+        ensures no_file { (name : _) → contents (host_view (memory_host result)) name ≡ None }
     {
         MemHost::on(
             MemDisk::new(alloc, MemFolder::new(alloc), MemFolder::new(alloc)),
@@ -43,7 +43,7 @@ impl MemHost {
 
     // A host on this folder, which doesn't fail.
     pub(crate) fn on(disk: MemDisk, alloc: Global) -> MemHost
-        ensures { seen result ≡ record (host_with disk.start) { calls = disk.calls.items } }
+        ensures { memory_host result ≡ record (host_with disk.start) { calls = disk.calls.items } }
     {
         MemHost {
             disk,
@@ -62,76 +62,76 @@ impl MemHost {
 
     /// From now on the file calls listed fail, counted from 1 and from the making of the host.
     pub fn fail_disk(&mut self, calls: Vec<u64>)
-        ensures { seen self.new ≡ record (seen self.old) { failing_disk = calls.items } }
+        ensures { memory_host self.new ≡ record (memory_host self.old) { failing_disk = calls.items } }
     {
         self.failing_disk = calls;
     }
 
     /// From now on the emits listed fail, counted from 1 and from the making of the host.
     pub fn fail_emits(&mut self, calls: Vec<u64>)
-        ensures { seen self.new ≡ record (seen self.old) { failing_emits = calls.items } }
+        ensures { memory_host self.new ≡ record (memory_host self.old) { failing_emits = calls.items } }
     {
         self.failing_emits = calls;
     }
 
     /// Each call after the first so many fails. File calls and emits are counted together, from the making of the host.
     pub fn stop_after(&mut self, calls: u64)
-        ensures { seen self.new ≡ record (seen self.old) { stop = calls } }
+        ensures { memory_host self.new ≡ record (memory_host self.old) { stop = calls } }
     {
         self.stop = calls;
     }
 
     /// Puts a file. Its name and its bytes are durable at once.
     pub fn put(&mut self, file: FileName, bytes: &[u8]) -> Result<(), AllocError>
-        ensures ok { OnOk result (seen self.new ≡ done (Call.Put file bytes.now) (seen self.old)) }
-        ensures reads { OnOk result (contents (host_view (seen self.new)) file ≡ Some bytes.now) }
-        ensures err { OnErr result (seen self.new ≡ seen self.old) }
+        ensures ok { OnOk result (memory_host self.new ≡ done (Call.Put file bytes.now) (memory_host self.old)) }
+        ensures reads { OnOk result (contents (host_view (memory_host self.new)) file ≡ Some bytes.now) }
+        ensures err { OnErr result (memory_host self.new ≡ memory_host self.old) }
     {
         self.disk.put(file, bytes)
     }
 
     /// The bytes of the file; None exactly where it isn't there.
     pub fn bytes(&self, file: FileName) -> Option<&[u8]>
-        ensures some { IfSome result (λ bytes. contents (host_view (seen self.now)) file ≡ Some bytes.now) }
-        ensures none { IfNone result (contents (host_view (seen self.now)) file ≡ None) }
+        ensures some { IfSome result (λ bytes. contents (host_view (memory_host self.now)) file ≡ Some bytes.now) }
+        ensures none { IfNone result (contents (host_view (memory_host self.now)) file ≡ None) }
     {
         self.disk.bytes(file)
     }
 
     /// The bytes that were emitted.
     pub fn emitted(&self) -> &[u8]
-        ensures { (host_view (seen self.now)).emitted ≡ Some result.now }
+        ensures { (host_view (memory_host self.now)).emitted ≡ Some result.now }
     {
         &self.disk.emitted
     }
 
     /// How often a file was read.
     pub fn reads(&self) -> u64
-        ensures { result ≡ (seen self.now).reads }
+        ensures { result ≡ (memory_host self.now).reads }
     {
         self.reads
     }
 
     /// How often its memory couldn't grow.
     pub fn refused(&self) -> u64
-        ensures { result ≡ (seen self.now).refused }
+        ensures { result ≡ (memory_host self.now).refused }
     {
         self.refused
     }
 
     /// The image of a crash now that the pick names. It has nothing pending, no replies, and doesn't fail.
     pub fn crash(&self, pick: Pick) -> Result<MemHost, AllocError>
-        ensures image { IfOk result (λ h. IsCrashOf (host_view (seen self.now)) (host_view (seen h))) }
-        ensures picked { IfOk result (λ h. seen h ≡ host_with (picked pick (seen self.now).calls (seen self.now).start)) }
+        ensures image { IfOk result (λ h. IsCrashOf (host_view (memory_host self.now)) (host_view (memory_host h))) }
+        ensures picked { IfOk result (λ h. memory_host h ≡ host_with (picked pick (memory_host self.now).calls (memory_host self.now).start)) }
     {
         Ok(MemHost::on(self.disk.crash(pick)?, self.disk.alloc))
     }
 
     // Counts a file call, which fails where it is to.
     pub(crate) fn begin_disk(&mut self) -> Result<(), Failed>
-        ensures to_fail { IsErr result ↔ IsDiskToFail (seen self.old) }
-        ensures ok { OnOk result (seen self.new ≡ begun_disk (seen self.old)) }
-        ensures err { OnErr result (seen self.new ≡ disk_failed (begun_disk (seen self.old))) }
+        ensures to_fail { IsErr result ↔ IsDiskToFail (memory_host self.old) }
+        ensures ok { OnOk result (memory_host self.new ≡ begun_disk (memory_host self.old)) }
+        ensures err { OnErr result (memory_host self.new ≡ disk_failed (begun_disk (memory_host self.old))) }
         ensures later { self.old.disk_faults ≤ self.new.disk_faults }
         ensures few { self.old.disk_calls ≤ 2 ^ 64 - 1 }
     {
@@ -143,7 +143,7 @@ impl MemHost {
 
     // Counts a file call that is out of memory.
     pub(crate) fn refuse_disk(&mut self) -> Failed
-        ensures counts { seen self.new ≡ disk_refused (seen self.old) }
+        ensures counts { memory_host self.new ≡ disk_refused (memory_host self.old) }
         ensures later { self.old.disk_faults ≤ self.new.disk_faults }
         ensures few { self.old.refused ≤ 2 ^ 64 - 1 }
     {
@@ -155,9 +155,9 @@ impl MemHost {
 
     // Counts an emit, which fails where it is to.
     pub(crate) fn begin_emit(&mut self) -> Result<(), Failed>
-        ensures to_fail { IsErr result ↔ IsEmitToFail (seen self.old) }
-        ensures ok { OnOk result (seen self.new ≡ begun_emit (seen self.old)) }
-        ensures err { OnErr result (seen self.new ≡ emit_failed (begun_emit (seen self.old))) }
+        ensures to_fail { IsErr result ↔ IsEmitToFail (memory_host self.old) }
+        ensures ok { OnOk result (memory_host self.new ≡ begun_emit (memory_host self.old)) }
+        ensures err { OnErr result (memory_host self.new ≡ emit_failed (begun_emit (memory_host self.old))) }
         ensures later { self.old.out_faults ≤ self.new.out_faults }
         ensures few { self.old.emits ≤ 2 ^ 64 - 1 }
     {
@@ -169,7 +169,7 @@ impl MemHost {
 
     // Counts an emit that is out of memory.
     pub(crate) fn refuse_emit(&mut self) -> Failed
-        ensures counts { seen self.new ≡ emit_refused (seen self.old) }
+        ensures counts { memory_host self.new ≡ emit_refused (memory_host self.old) }
         ensures later { self.old.out_faults ≤ self.new.out_faults }
         ensures few { self.old.refused ≤ 2 ^ 64 - 1 }
     {

@@ -1,7 +1,7 @@
 // A buffered file: a page that was read is not read again.
 ghost use Rattle.std.specs.Prelude.{◌≡◌};
 ghost use Rattle.sasi_host.specs.Buffered.{IsBuffered};
-ghost use Rattle.sasi_host.specs.Memory.{host_view, seen};
+ghost use Rattle.sasi_host.specs.Memory.{host_view, memory_host};
 ghost use Rattle.sasi_host_tests.specs.declared.buffered.TheConstants.{DATA};
 
 use sasi_host::{BufferedFile, Direct, FileName, FormatRule, Kind, MemHost, ReadFault, found};
@@ -40,9 +40,9 @@ fn read(
     out: &mut [u8; 5000],
 ) -> Result<(), ReadFault>
     requires file { file.old.file ≡ DATA }
-    requires buffered { IsBuffered file.old (host_view (seen host.old)).files }
+    requires buffered { IsBuffered file.old (host_view (memory_host host.old)).files }
     ensures file { file.new.file ≡ DATA }
-    ensures buffered { IsBuffered file.new (host_view (seen host.new)).files }
+    ensures buffered { IsBuffered file.new (host_view (memory_host host.new)).files }
 {
     assert!(rt; host.bytes(DATA).is_some());
     file.read_into(host, &mut Direct, u64::from(at), out)
@@ -58,9 +58,9 @@ fn check_read(
     reads: u64,
 )
     requires file { file.old.file ≡ DATA }
-    requires buffered { IsBuffered file.old (host_view (seen host.old)).files }
+    requires buffered { IsBuffered file.old (host_view (memory_host host.old)).files }
     ensures file { file.new.file ≡ DATA }
-    ensures buffered { IsBuffered file.new (host_view (seen host.new)).files }
+    ensures buffered { IsBuffered file.new (host_view (memory_host host.new)).files }
 {
     let mut out = [0; 5000];
     assert!(rt; read(rt, host, file, at, &mut out) == Ok(()));

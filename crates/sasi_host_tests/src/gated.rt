@@ -1,7 +1,7 @@
 // A log of records, read by pages: how often the host is read, and what a read that fails leaves.
 ghost use Rattle.std.specs.Prelude.{IfOk};
 ghost use Rattle.sasi_host.specs.Buffered.{IsBuffered};
-ghost use Rattle.sasi_host.specs.Memory.{host_view, seen};
+ghost use Rattle.sasi_host.specs.Memory.{host_view, memory_host};
 
 use sasi_gated::Gated;
 use sasi_host::{FileName, Kind, MemHost, ReadFault};
@@ -33,7 +33,7 @@ fn log_of(rt: &impl Abort, alloc: Global, count: usize) -> Vec<u8> {
 
 /// Opens the log.
 fn open(rt: &impl Abort, host: &mut MemHost) -> Gated
-    ensures buffered { IsBuffered result.buffered (host_view (seen host.new)).files }
+    ensures buffered { IsBuffered result.buffered (host_view (memory_host host.new)).files }
 {
     assert!(rt; host.bytes(LOG).is_some());
     Gated::open(host, LOG).expect(rt, "a log")
@@ -41,8 +41,8 @@ fn open(rt: &impl Abort, host: &mut MemHost) -> Gated
 
 /// Whether a record was read.
 fn next(rt: &impl Abort, host: &mut MemHost, gated: &mut Gated, out: &mut Vec<u8>) -> bool
-    requires buffered { IsBuffered gated.old.buffered (host_view (seen host.old)).files }
-    ensures buffered { IsBuffered gated.new.buffered (host_view (seen host.new)).files }
+    requires buffered { IsBuffered gated.old.buffered (host_view (memory_host host.old)).files }
+    ensures buffered { IsBuffered gated.new.buffered (host_view (memory_host host.new)).files }
 {
     assert!(rt; gated.is_usable() && host.bytes(gated.file()).is_some());
     match gated.next(host, out) {
@@ -98,7 +98,7 @@ fn each_page_is_read_once(rt: HostRuntime) {
 
 /// The next read of the log fails, and makes it unusable.
 fn check_fault(rt: &impl Abort, host: &mut MemHost, gated: &mut Gated, out: &mut Vec<u8>)
-    requires buffered { IsBuffered gated.old.buffered (host_view (seen host.old)).files }
+    requires buffered { IsBuffered gated.old.buffered (host_view (memory_host host.old)).files }
 {
     assert!(rt; gated.is_usable() && host.bytes(gated.file()).is_some());
     assert!(rt; matches!(gated.next(host, out), Err(ReadFault::Failed)));

@@ -1,5 +1,5 @@
 // The bytes of index files.
-ghost use Rattle.sasi_indexwrite.specs.Gathered.{AreUpTo};
+ghost use Rattle.sasi_indexwrite.specs.TermsSoFar.{AreUpTo};
 
 use crate::fixture::{FILE, add, lowest, write};
 use crate::searches::{add_bigints, add_long_terms, add_numbers, check_all, edges};

@@ -5,7 +5,7 @@ ghost use Rattle.sasi_types.specs.declared.column.ColumnType.TheVariants.{Uuid};
 ghost use Rattle.sasi_types.specs.declared.mode.Mode.TheVariants.{Prefix};
 ghost use Rattle.sasi_segments.specs.Postings.{posting_cmp};
 ghost use Rattle.sasi_segments.specs.Sorting.{inserted};
-ghost use Rattle.sasi_indexwrite.specs.Gathered.{AreGathered, AreUpTo, IsPosting};
+ghost use Rattle.sasi_indexwrite.specs.TermsSoFar.{AreSortedPostings, AreUpTo, IsPosting};
 
 use sasi_host::{FileName, Kind, MemHost};
 use sasi_indexwrite::write_index;
@@ -91,7 +91,7 @@ fn definition(rt: &impl Abort, alloc: Global, kind: ColumnType) -> IndexDef
 
 /// Writes the file of a gathering to a new folder.
 pub fn write(rt: &impl Abort, alloc: Global, kind: ColumnType, gather: Gather) -> MemHost
-    requires gathered { AreGathered gather.postings }
+    requires gathered { AreSortedPostings gather.postings }
     requires terms { kind ≢ Uuid }
 {
     let mut host = MemHost::new(alloc);

@@ -1,5 +1,5 @@
 // Searches of indexes of numbers for ranges.
-ghost use Rattle.sasi_indexwrite.specs.Gathered.{AreUpTo};
+ghost use Rattle.sasi_indexwrite.specs.TermsSoFar.{AreUpTo};
 
 use crate::fixture::{lowest, write};
 use crate::searches::{add_bigints, add_numbers, next, put, search};

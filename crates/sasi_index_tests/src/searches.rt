@@ -1,6 +1,6 @@
 // Searches of written files.
-ghost use Rattle.sasi_host.specs.Memory.{host_view, seen};
-ghost use Rattle.sasi_indexwrite.specs.Gathered.{AreUpTo};
+ghost use Rattle.sasi_host.specs.Memory.{host_view, memory_host};
+ghost use Rattle.sasi_indexwrite.specs.TermsSoFar.{AreUpTo};
 ghost use Rattle.sasi_index_tests.specs.Searching.{IsSearchOf};
 
 use crate::fixture::{FILE, add, lowest, write};
@@ -14,7 +14,7 @@ use std::process::Abort;
 
 /// A search of the file.
 pub fn search(rt: &impl Abort, alloc: Global, host: &mut MemHost, op: Op, body: &[u8]) -> Search
-    ensures { IsSearchOf FILE (host_view (seen host.new)) result }
+    ensures { IsSearchOf FILE (host_view (memory_host host.new)) result }
 {
     assert!(rt; host.bytes(FILE).is_some());
     let index = IndexFile::open(host, &mut Direct, FILE).expect(rt, "opened");
@@ -23,8 +23,8 @@ pub fn search(rt: &impl Abort, alloc: Global, host: &mut MemHost, op: Op, body: 
 
 /// The next pair of a search.
 fn next_pair(rt: &impl Abort, host: &mut MemHost, found: &mut Search) -> Option<Pair>
-    requires { IsSearchOf FILE (host_view (seen host.old)) found.old }
-    ensures { IsSearchOf FILE (host_view (seen host.new)) found.new }
+    requires { IsSearchOf FILE (host_view (memory_host host.old)) found.old }
+    ensures { IsSearchOf FILE (host_view (memory_host host.new)) found.new }
 {
     assert!(rt; host.bytes(FILE).is_some());
     found.next(host, &mut Direct).expect(rt, "read")
@@ -32,8 +32,8 @@ fn next_pair(rt: &impl Abort, host: &mut MemHost, found: &mut Search) -> Option<
 
 /// The token of the next pair of a search.
 pub fn next(rt: &impl Abort, host: &mut MemHost, found: &mut Search) -> Option<Token>
-    requires { IsSearchOf FILE (host_view (seen host.old)) found.old }
-    ensures { IsSearchOf FILE (host_view (seen host.new)) found.new }
+    requires { IsSearchOf FILE (host_view (memory_host host.old)) found.old }
+    ensures { IsSearchOf FILE (host_view (memory_host host.new)) found.new }
 {
     let pair = next_pair(rt, host, found)?;
     assert!(rt; pair.place == pair.token.wrapping_add(16));
@@ -42,8 +42,8 @@ pub fn next(rt: &impl Abort, host: &mut MemHost, found: &mut Search) -> Option<T
 
 /// Drops the pairs below the token.
 fn skip(rt: &impl Abort, host: &mut MemHost, found: &mut Search, token: Token)
-    requires { IsSearchOf FILE (host_view (seen host.old)) found.old }
-    ensures { IsSearchOf FILE (host_view (seen host.new)) found.new }
+    requires { IsSearchOf FILE (host_view (memory_host host.old)) found.old }
+    ensures { IsSearchOf FILE (host_view (memory_host host.new)) found.new }
 {
     found
         .skip_to(host, &mut Direct, token)

@@ -3,7 +3,7 @@ ghost use Rattle.std.specs.Prelude.{◌≡◌, OnOk, []};
 ghost use Rattle.std.specs.declared.cmp.Ordering.TheVariants.{Less};
 ghost use Rattle.sasi_segments.specs.Postings.{posting_cmp};
 ghost use Rattle.sasi_segments.specs.Sorting.{inserted};
-ghost use Rattle.sasi_indexwrite.specs.Gathered.{AreUpTo, IsPosting};
+ghost use Rattle.sasi_indexwrite.specs.TermsSoFar.{AreUpTo, IsPosting};
 
 use sasi_host::ReadFault;
 use sasi_segments::{Gather, Posting};

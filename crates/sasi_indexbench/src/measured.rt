@@ -1,6 +1,6 @@
 // Writes an index file of bigints, and searches it for terms, prefixes, ranges and infixes.
 ghost use Rattle.std.specs.Prelude.{OnOk};
-ghost use Rattle.sasi_indexwrite.specs.Gathered.{AreGathered, AreUpTo};
+ghost use Rattle.sasi_indexwrite.specs.TermsSoFar.{AreSortedPostings, AreUpTo};
 
 use crate::filled::{add, lowest};
 use sasi_bench::CountingReader;
@@ -71,7 +71,7 @@ fn fill(
 }
 
 fn write(alloc: Global, host: &mut FileHost, gather: Gather) -> Result<(), ReadFault>
-    requires { AreGathered gather.postings }
+    requires { AreSortedPostings gather.postings }
 {
     let name = Name::new(b"i".to_vec(alloc)?);
     let def = IndexDef {

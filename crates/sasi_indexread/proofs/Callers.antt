@@ -7,14 +7,14 @@ use Rattle.sasi_host.specs.View.{View}
 use Rattle.sasi_host.specs.Disk.{Changes, Same}
 use Rattle.sasi_host.proofs.ContentLaws.{contents_same}
 use Rattle.sasi_indexwrite.specs.Content.{IndexContent}
-use Rattle.sasi_treemerge.specs.declared.source.Source.{Source}
-use Rattle.sasi_indexread.specs.Damages.{IsListed}
+use Rattle.sasi_treemerge.specs.declared.tree_source.TreeSource.{TreeSource}
+use Rattle.sasi_indexread.specs.Damages.{IsListedTree}
 use Rattle.sasi_types.specs.declared.tree.Pair.{Pair}
 use Rattle.sasi_terms.specs.declared.op.Op.{Op}
 use Rattle.sasi_treemerge.specs.declared.merge.TreeMerge.{TreeMerge}
 use Rattle.sasi_treemerge.specs.Merges.{Gives, IsReadable, is_behind, is_left, sources_of}
 use Rattle.sasi_indexread.specs.Asked.{asked_lists}
-use Rattle.sasi_indexread.specs.Opened.{IsOpenOn, Opened}
+use Rattle.sasi_indexread.specs.Opened.{IsOpenOn, OpenIndexFile}
 use Rattle.sasi_indexread.specs.Searches.{AreListed, CanSearch, IsFresh, IsSearching, Searching, searching}
 use Rattle.sasi_treemerge.proofs.Merging.{merge_still}
 
@@ -22,8 +22,8 @@ use Rattle.sasi_treemerge.proofs.Merging.{merge_still}
 pub fresh_can : (v : View) (asked : Searching) → IsFresh asked → CanSearch v asked
 fresh_can v asked fresh = record {
   named = fresh.named;
-  merge = record { heap = fresh.heap; each = subst (λ (l : List Source). All (IsReadable v asked.merge.file) l) (sym fresh.empty) (All-nil (IsReadable v asked.merge.file)) };
-  listed = λ bytes is. subst (λ (l : List Source). All (λ (s : Source). IsListed asked.index bytes s.tree.value.tree) l) (sym fresh.empty) (All-nil (λ (s : Source). IsListed asked.index bytes s.tree.value.tree));
+  merge = record { heap = fresh.heap; each = subst (λ (l : List TreeSource). All (IsReadable v asked.merge.file) l) (sym fresh.empty) (All-nil (IsReadable v asked.merge.file)) };
+  listed = λ bytes is. subst (λ (l : List TreeSource). All (λ (s : TreeSource). IsListedTree asked.index bytes s.tree.value.tree) l) (sym fresh.empty) (All-nil (λ (s : TreeSource). IsListedTree asked.index bytes s.tree.value.tree));
   fresh = λ _. fresh.empty;
 }
 
@@ -34,7 +34,7 @@ fresh_searches v asked content fresh opened = record { is_open = opened; gives =
     differ : true ≡ false → ⊥
     differ e = cc
 
-unfoldable pub open_still : (a b : View) (opened : Opened) (content : IndexContent) → Changes Same a b → IsOpenOn a opened content → IsOpenOn b opened content
+unfoldable pub open_still : (a b : View) (opened : OpenIndexFile) (content : IndexContent) → Changes Same a b → IsOpenOn a opened content → IsOpenOn b opened content
 open_still a b opened content same is = record {
   bytes = is.bytes;
   reads = contents_same a b opened.file same ∙ is.reads;
@@ -44,7 +44,7 @@ open_still a b opened content same is = record {
   spill = is.spill;
 }
 
-pub listed_still : (a b : View) (opened : Opened) (sources : List Source) → Changes Same a b → AreListed b opened sources → AreListed a opened sources
+pub listed_still : (a b : View) (opened : OpenIndexFile) (sources : List TreeSource) → Changes Same a b → AreListed b opened sources → AreListed a opened sources
 listed_still a b opened sources same listed = λ bytes is. listed bytes (contents_same a b opened.file same ∙ is)
 
 -- where the folder stays, it can go on as before
@@ -74,13 +74,13 @@ low_left last low high pair le left = from (is_behind last pair) (nat_le high pa
     from true false one two h = absurd cc
     from false above one two h = absurd cc
 
-pub skip_searches : (v : View) (index : Opened) (op : Op) (body : Bytes) (is_collected : Bool) (old new : TreeMerge) (content : IndexContent) → new.last ≡ old.last → old.floor ≤ new.floor → sources_of new ≡ sources_of old
+pub skip_searches : (v : View) (index : OpenIndexFile) (op : Op) (body : Bytes) (is_collected : Bool) (old new : TreeMerge) (content : IndexContent) → new.last ≡ old.last → old.floor ≤ new.floor → sources_of new ≡ sources_of old
     → IsSearching v (searching index op body is_collected old) content → IsSearching v (searching index op body is_collected new) content
 skip_searches v index op body is_collected old new content last floor same was = record {
   is_open = was.is_open;
   gives = λ done.
       (let gives = was.gives done in
-      subst (λ (l : List Source). Gives was.is_open.bytes (asked_lists content op body) new.last new.floor l) (sym same) (record {
+      subst (λ (l : List TreeSource). Gives was.is_open.bytes (asked_lists content op body) new.last new.floor l) (sym same) (record {
         each = gives.each;
         all = λ pairs pair listed has left.
             gives.all pairs pair listed has
@@ -88,7 +88,7 @@ skip_searches v index op body is_collected old new content last floor same was =
       }));
 }
 
-unfoldable pub open_back : (a b : View) (opened : Opened) (content : IndexContent) → Changes Same a b → IsOpenOn b opened content → IsOpenOn a opened content
+unfoldable pub open_back : (a b : View) (opened : OpenIndexFile) (content : IndexContent) → Changes Same a b → IsOpenOn b opened content → IsOpenOn a opened content
 open_back a b opened content same is = record {
   bytes = is.bytes;
   reads = sym (contents_same a b opened.file same) ∙ is.reads;

@@ -18,7 +18,7 @@ use Rattle.sasi_termblocks.specs.Scans.{CountsBelow, HasPassed, StepsTo, terms_o
 use Rattle.sasi_indexwrite.specs.Content.{IndexContent, TermPairs, terms_in}
 use Rattle.sasi_indexwrite.specs.Files.{IsIndexFile}
 use Rattle.sasi_indexwrite.specs.Format.{entries}
-use Rattle.sasi_treemerge.specs.declared.source.Source.{Source}
+use Rattle.sasi_treemerge.specs.declared.tree_source.TreeSource.{TreeSource}
 use Rattle.sasi_indexread.specs.Asked.{asked_lists, asks_none, is_asked_term, is_match, is_run, lists_of, lower}
 use Rattle.sasi_indexread.specs.Collects.{AddsEntry, AddsIf, AddsList}
 use Rattle.sasi_treemerge.specs.Merges.{Adds, Gives}
@@ -45,7 +45,7 @@ none_behind test (suc n) (one ∷ others) none = none_behind test n others (λ k
 
 -- the scan began at an entry, and is so many further on; it read this entry last, and the sources are those of the lists that
 -- were asked for so far
-pub record Collects (bytes : Bytes) (content : IndexContent) (ref : BlockRef) (op : Op) (body : Bytes) (last : Option Pair) (floor turn page index : ℕ) (entry : Option TermEntry) (sources : List Source) : Type 0 where
+pub record Collects (bytes : Bytes) (content : IndexContent) (ref : BlockRef) (op : Op) (body : Bytes) (last : Option Pair) (floor turn page index : ℕ) (entry : Option TermEntry) (sources : List TreeSource) : Type 0 where
   pub from : ℕ
   pub above : (k : ℕ) → from ≤ k → k < length content.terms → is_below (get_or content.terms k ([], [])).0 (lower content.kind op body) ≡ false
   pub steps : StepsTo ref (entries content) (from + turn) page index entry
@@ -97,7 +97,7 @@ module _ (v : View) (file : FileName) (bytes : Bytes) (content : IndexContent) (
       (sym (none_front (is_asked_term content op body) n content.terms (λ k lt within. asked_is (get_or content.terms k ([], [])) ∙ out k lt within)))
 
   -- where it begins, no term before is asked for
-  pub begins : (last : Option Pair) (floor passed page index : ℕ) (entry : Option TermEntry) (sources : List Source) → CountsBelow (terms_of (entries content)) (lower content.kind op body) passed → StepsTo ref (entries content) passed page index entry
+  pub begins : (last : Option Pair) (floor passed page index : ℕ) (entry : Option TermEntry) (sources : List TreeSource) → CountsBelow (terms_of (entries content)) (lower content.kind op body) passed → StepsTo ref (entries content) passed page index entry
       → Gives bytes (content.spill ∷ []) last floor sources → Collects bytes content ref op body last floor 0 page index entry sources
   begins last floor passed page index entry sources counts steps gives =
       let base : passed ≡ passed + 0 = omega arith in
@@ -115,8 +115,8 @@ module _ (v : View) (file : FileName) (bytes : Bytes) (content : IndexContent) (
     pub within : k < length content.terms
     pub is_entry : IsEntryOf bytes (get_or content.terms k ([], [])) entry
 
-  pub in_hand : (last : Option Pair) (floor turn page index k : ℕ) (entry : TermEntry) → drop k (entries content) ≡ entry ∷ drop (k + 1) (entries content) → IsHere last floor turn page index entry k
-  in_hand last floor turn page index k entry left =
+  pub entry_here : (last : Option Pair) (floor turn page index k : ℕ) (entry : TermEntry) → drop k (entries content) ≡ entry ∷ drop (k + 1) (entries content) → IsHere last floor turn page index entry k
+  entry_here last floor turn page index k entry left =
       let within : k < length content.terms = omega (arith, entries_long, length-drop k (entries content), ap (λ (l : List TermEntry). length l) left) in
       let same : get_or (entries content) k none ≡ entry =
       ap (λ (n : ℕ). get_or (entries content) n none) (omega arith) ∙ sym (get_or-drop k (entries content) 0 none) ∙ ap (λ (l : List TermEntry). get_or l 0 none) left in
@@ -141,12 +141,12 @@ module _ (v : View) (file : FileName) (bytes : Bytes) (content : IndexContent) (
       ∙ append-nil (lists_of content op body (take k content.terms)))
 
   -- an entry more
-  pub goes_on : (last : Option Pair) (floor turn page index new_page new_index : ℕ) (entry : TermEntry) (next : Option TermEntry) (old new : List Source) → Collects bytes content ref op body last floor turn page index (Some entry) old
+  pub collects_next : (last : Option Pair) (floor turn page index new_page new_index : ℕ) (entry : TermEntry) (next : Option TermEntry) (old new : List TreeSource) → Collects bytes content ref op body last floor turn page index (Some entry) old
       → AddsEntry v file content.kind op body entry true old new → ((passed : ℕ) → HasPassed ref (entries content) page index passed → StepsTo ref (entries content) passed new_page new_index next)
       → Collects bytes content ref op body last floor (turn + 1) new_page new_index next new
-  goes_on last floor turn page index new_page new_index entry next old new was adds steps =
+  collects_next last floor turn page index new_page new_index entry next old new was adds steps =
       let k = was.from + turn in
-      let here = in_hand last floor turn page index k entry was.steps.0 in
+      let here = entry_here last floor turn page index k entry was.steps.0 in
       let up : was.from + turn + 1 ≡ was.from + (turn + 1) = omega arith in
       record {
         from = was.from;
@@ -160,7 +160,7 @@ module _ (v : View) (file : FileName) (bytes : Bytes) (content : IndexContent) (
           → Gives bytes (lists_of content op body (take (was.from + turn + 1) content.terms)) last floor new
       by false out added list list_is here =
           subst (λ (l : List (List Pair)). Gives bytes l last floor new) (lists_not (was.from + turn) here.within (ap (λ (t : Bytes). is_match content.kind op body t) (sym here.is_entry.term) ∙ out))
-          (subst (λ (l : List Source). Gives bytes (lists_of content op body (take (was.from + turn) content.terms)) last floor l) (sym added.1) was.gives)
+          (subst (λ (l : List TreeSource). Gives bytes (lists_of content op body (take (was.from + turn) content.terms)) last floor l) (sym added.1) was.gives)
       by true holds_so added None list_is here = absurd (no_list here.is_entry.tree (sym here.is_entry.list ∙ list_is))
       by true holds_so added (Some list) list_is here =
           let same : list ≡ here.is_entry.tree = some_same list here.is_entry.tree (sym list_is ∙ here.is_entry.list) in
@@ -178,13 +178,13 @@ module _ (v : View) (file : FileName) (bytes : Bytes) (content : IndexContent) (
       ∙ ap (λ (l : List TermPairs). filter test l) (take-append-drop n content.terms))
 
   -- at the end all are collected
-  pub all_passed : (last : Option Pair) (floor turn page index : ℕ) (entry : Option TermEntry) (sources : List Source) → Collects bytes content ref op body last floor turn page index entry sources → drop turn (entries content) ≡ []
+  pub all_passed : (last : Option Pair) (floor turn page index : ℕ) (entry : Option TermEntry) (sources : List TreeSource) → Collects bytes content ref op body last floor turn page index entry sources → drop turn (entries content) ≡ []
       → Gives bytes (asked_lists content op body) last floor sources
   all_passed last floor turn page index entry sources was none =
       let few : length content.terms ≤ turn = omega (arith, entries_long, length-drop turn (entries content), ap (λ (l : List TermEntry). length l) none) in
       subst (λ (l : List (List Pair)). Gives bytes l last floor sources) (whole_lists (was.from + turn) (λ k le lt. absurd (omega (arith, le, lt, few)))) was.gives
 
-  pub none_left : (last : Option Pair) (floor turn page index : ℕ) (sources : List Source) → Collects bytes content ref op body last floor turn page index None sources → Gives bytes (asked_lists content op body) last floor sources
+  pub none_left : (last : Option Pair) (floor turn page index : ℕ) (sources : List TreeSource) → Collects bytes content ref op body last floor turn page index None sources → Gives bytes (asked_lists content op body) last floor sources
   none_left last floor turn page index sources was =
       let few : length content.terms ≤ was.from + turn = omega (arith, entries_long, length-drop (was.from + turn) (entries content), ap (λ (l : List TermEntry). length l) was.steps.0) in
       subst (λ (l : List (List Pair)). Gives bytes l last floor sources) (whole_lists (was.from + turn) (λ k le lt. absurd (omega (arith, le, lt, few)))) was.gives
@@ -204,9 +204,9 @@ module _ (v : View) (file : FileName) (bytes : Bytes) (content : IndexContent) (
       ap (λ (n : ℕ). is_match content.kind op body (get_or content.terms n ([], [])).0) (omega arith)
       ∙ past_run content.kind op body (get_or content.terms (from + more) ([], [])).0 (get_or content.terms (from + more + 1) ([], [])).0 run (above (from + more) (omega arith) (omega (arith, lt))) before rise
 
-  pub stops : (last : Option Pair) (floor turn page index : ℕ) (entry : TermEntry) (old new : List Source) → Collects bytes content ref op body last floor turn page index (Some entry) old → AddsEntry v file content.kind op body entry false old new
+  pub stops : (last : Option Pair) (floor turn page index : ℕ) (entry : TermEntry) (old new : List TreeSource) → Collects bytes content ref op body last floor turn page index (Some entry) old → AddsEntry v file content.kind op body entry false old new
       → Gives bytes (asked_lists content op body) last floor new
-  stops last floor turn page index entry old new was adds = by (is_match content.kind op body entry.term) refl adds (in_hand last floor turn page index (was.from + turn) entry was.steps.0)
+  stops last floor turn page index entry old new was adds = by (is_match content.kind op body entry.term) refl adds (entry_here last floor turn page index (was.from + turn) entry was.steps.0)
     where
       by : (test : Bool) → is_match content.kind op body entry.term ≡ test → AddsIf v file op entry test false old new → IsHere last floor turn page index entry (was.from + turn) → Gives bytes (asked_lists content op body) last floor new
       by true holds_so added here = absurd (no_truth added.0)
@@ -216,5 +216,5 @@ module _ (v : View) (file : FileName) (bytes : Bytes) (content : IndexContent) (
           let first = ap (λ (t : Bytes). is_match content.kind op body t) (sym here.is_entry.term) ∙ out in
           let behind = λ (n : ℕ) (le : was.from + turn ≤ n) (lt : n < length content.terms).
           ap (λ (m : ℕ). is_match content.kind op body (get_or content.terms m ([], [])).0) (omega (arith, le)) ∙ out_behind (was.from + turn) (n - (was.from + turn)) run (λ m low within. was.above m (omega (arith, low)) within) (omega (arith, le, lt)) first in
-          subst (λ (l : List Source). Gives bytes (asked_lists content op body) last floor l) (sym added.1)
+          subst (λ (l : List TreeSource). Gives bytes (asked_lists content op body) last floor l) (sym added.1)
           (subst (λ (l : List (List Pair)). Gives bytes l last floor old) (whole_lists (was.from + turn) behind) was.gives)

@@ -57,7 +57,7 @@ pub end_shown : (v : View) (file : FileName) (f : ReadFault) → DamageShown v f
 end_shown v file f shown = shown_as (ShowsEnd 4168 file) (ShowsHeaderOrFooter file) v file f (λ bytes damage is ends. too_short ends) shown
 
 -- damage that is shown is none of an index file
-pub shown_spares : (v : View) (file : FileName) (f : ReadFault) → ((bytes : Bytes) → contents v file ≡ Some bytes → length bytes ≤ 2 ^ 62) → DamageShown v file (ShowsHeaderOrFooter file) f → NoFalseIndexDamage v file f
-shown_spares v file fault.Failed short shown = tt
-shown_spares v file fault.OutOfMemory short shown = tt
-shown_spares v file (fault.Damaged damage) short shown = λ bytes content is of. index_undamaged bytes content of (short bytes is) file damage (shown bytes is)
+pub no_false_shown : (v : View) (file : FileName) (f : ReadFault) → ((bytes : Bytes) → contents v file ≡ Some bytes → length bytes ≤ 2 ^ 62) → DamageShown v file (ShowsHeaderOrFooter file) f → NoFalseIndexDamage v file f
+no_false_shown v file fault.Failed short shown = tt
+no_false_shown v file fault.OutOfMemory short shown = tt
+no_false_shown v file (fault.Damaged damage) short shown = λ bytes content is of. index_undamaged bytes content of (short bytes is) file damage (shown bytes is)

@@ -14,7 +14,7 @@ use Rattle.sasi_host.proofs.Offsets.{first_at, second_at}
 use Rattle.sasi_formats.specs.Formats.{Fits}
 use Rattle.sasi_tokentree.specs.Format.{HasTree, above, level_bytes, levels, size, top, tree_bytes, tree_ref}
 use Rattle.sasi_tokentree.proofs.Sizes.{level_length, more_levels, one_level}
-use Rattle.sasi_tokentree.proofs.Laws.{root_place}
+use Rattle.sasi_tokentree.proofs.Laws.{root_offset}
 use Rattle.sasi_termblocks.specs.declared.term_entry.TermEntry.{TermEntry}
 use Rattle.sasi_termblocks.specs.Blocks.{IsRefOf, items_of, levels_bytes, term_item}
 use Rattle.sasi_termblocks.specs.Scans.{HasBlocks, HaveBytes, terms_of, IsRising as AreRisingTerms}
@@ -41,14 +41,14 @@ header_length mode kind = refl
 pub root_small : (at : ℕ) (pairs : List Pair) → (tree_ref at pairs).root ≤ at + length (tree_bytes at pairs)
 unfolding top
 root_small at [] = omega arith
-root_small at (first ∷ others) = let place = root_place at (first ∷ others) (omega arith) in omega (arith, place.within)
+root_small at (first ∷ others) = let place = root_offset at (first ∷ others) (omega arith) in omega (arith, place.within)
 
 -- each tree has at least 24 bytes
 pub trees_least : (at : ℕ) (terms : List TermPairs) → AllByRecursion IsTerm terms → 24 * length terms ≤ length (trees_bytes at terms)
 trees_least at [] all = omega arith
 trees_least at (one ∷ others) all =
     let next = at + length (tree_bytes at one.1) in
-    let place = root_place at one.1 (omega (arith, all.0.some)) in
+    let place = root_offset at one.1 (omega (arith, all.0.some)) in
     omega (arith, place.behind, place.within, length-append (tree_bytes at one.1) (trees_bytes next others), trees_least next others all.1)
 
 pairs_few : (at : ℕ) (pairs : List Pair) → length pairs ≤ length (tree_bytes at pairs)

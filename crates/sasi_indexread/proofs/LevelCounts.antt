@@ -5,7 +5,7 @@ use Rattle.std.proofs.lemmas.Bool.Decides.{leb_tells}
 use Rattle.std.proofs.lemmas.List.{length-map}
 use Rattle.sasi_host.specs.Names.{Bytes}
 use Rattle.sasi_terms.specs.declared.op.Op.{Op}
-use Rattle.sasi_termblocks.specs.Blocks.{EndsAfter, Item, above, blocks, items_of, least, leasts, next_at}
+use Rattle.sasi_termblocks.specs.Blocks.{EndsAfter, Item, above, blocks, first_term, first_terms, items_of, next_at}
 use Rattle.sasi_termblocks.proofs.Groups.{AreItems, are_small, items_are, leasts_short, pointers_are}
 use Rattle.sasi_termblocks.proofs.LevelLaws.{pointers_length}
 use Rattle.sasi_indexwrite.specs.Content.{IndexContent}
@@ -24,9 +24,9 @@ unfolding EndsAfter
 levels_wide zero at items are ends = omega (arith, ends.0)
 levels_wide (suc more) at items are ends =
     let up = above at items in
-    let up_are : AreItems up = pointers_are at (leasts items) (leasts_short items are) in
+    let up_are : AreItems up = pointers_are at (first_terms items) (leasts_short items are) in
     let higher : 3 ^ more < length (blocks up) = levels_wide more (next_at at items) up up_are ends.1 in
-    let same : length up ≡ length (blocks items) = omega (arith, pointers_length at (leasts items), length-map (blocks items) least) in
+    let same : length up ≡ length (blocks items) = omega (arith, pointers_length at (first_terms items), length-map (blocks items) first_term) in
     let wide = blocks_wide up (are_small up up_are) (omega (arith, higher)) in
     omega (arith, higher, same, wide)
 

@@ -1,7 +1,7 @@
 -- How many bytes the levels of blocks take, and where the top block stands.
 use Rattle.std.proofs.Common.{◌≡◌, ℕ, zero, suc, ◌+◌, ◌*◌, ◌<◌, ◌≤◌, List, length, length-append, refl, arith}
 use Rattle.std.proofs.lemmas.List.{length-map}
-use Rattle.sasi_termblocks.specs.Blocks.{Item, EndsAfter, above, blocks, least, leasts, level_bytes, levels_bytes, next_at, top_of}
+use Rattle.sasi_termblocks.specs.Blocks.{Item, EndsAfter, above, blocks, first_term, first_terms, level_bytes, levels_bytes, next_at, top_of}
 use Rattle.sasi_termblocks.proofs.CutLaws.{all_blocks}
 use Rattle.sasi_termblocks.proofs.Groups.{AreItems, are_small, blocks_length, leasts_short, pointers_are}
 use Rattle.sasi_termblocks.proofs.LevelLaws.{pointers_length}
@@ -49,9 +49,9 @@ levels_are zero at items are ends = record {
 }
 levels_are (suc more) at items are ends =
     let up = above at items in
-    let up_are : AreItems up = pointers_are at (leasts items) (leasts_short items are) in
+    let up_are : AreItems up = pointers_are at (first_terms items) (leasts_short items are) in
     let rest = levels_are more (next_at at items) up up_are ends.1 in
-    let same : length up ≡ length (blocks items) = omega (arith, pointers_length at (leasts items), length-map (blocks items) least) in
+    let same : length up ≡ length (blocks items) = omega (arith, pointers_length at (first_terms items), length-map (blocks items) first_term) in
     let some : 0 < length (blocks up) = some_blocks up (omega (arith, same, ends.0)) in
     record {
       total = length (blocks items) + rest.total;

@@ -5,8 +5,8 @@ use Rattle.std.proofs.lemmas.Bool.{le-leb, lt-leb}
 use Rattle.std.proofs.lemmas.Bool.Decides.{leb_tells}
 use Rattle.sasi_types.specs.declared.tree.Pair.{Pair}
 use Rattle.sasi_tokentree.specs.Format.{top, tree_bytes, tree_ref}
-use Rattle.sasi_tokentree.specs.Damages.{is_node_place}
-use Rattle.sasi_tokentree.proofs.Laws.{root_place}
+use Rattle.sasi_tokentree.specs.Damages.{is_node_offset}
+use Rattle.sasi_tokentree.proofs.Laws.{root_offset}
 use Rattle.sasi_termblocks.specs.Blocks.{Item, EndsAfter, blocks, top_pointer}
 use Rattle.sasi_termblocks.specs.Writing.{AreSmall}
 use Rattle.sasi_termblocks.proofs.Levels.{some_blocks}
@@ -98,12 +98,12 @@ unfolding top
 spill_passes first at [] behind within = refl
 spill_passes first at (one ∷ others) behind within =
     let pairs = one ∷ others in
-    let place = root_place at pairs (omega arith) in
+    let place = root_offset at pairs (omega arith) in
     let root = (tree_ref at pairs).root in
     let test : (length pairs == 0) ≡ false = search rules in
     let low : 16 ≤ root = omega (arith, behind, place.behind) in
     let high : root + 24 ≤ first = omega (arith, within, place.within) in
-    ap (λ (t : Bool). if t then (root == 0) else is_node_place 16 first root) test ∙ both (nat_le 16 root) (nat_le (root + 24) first) (search (rules, low)) (search (rules, high))
+    ap (λ (t : Bool). if t then (root == 0) else is_node_offset 16 first root) test ∙ both (nat_le 16 root) (nat_le (root + 24) first) (search (rules, low)) (search (rules, high))
 
 pub term_count_passes : (count terms : ℕ) (items : List Item) → AreSmall items → count ≡ length (blocks items) → terms ≡ length items → is_term_count count terms ≡ true
 term_count_passes count terms items small same long = ⊎_elim

@@ -3,7 +3,7 @@ use Rattle.std.proofs.Common.{◌≡◌, ℕ, ◌+◌, ◌≤◌, refl, ◌∙�
 use Rattle.std.specs.declared.result.Result.TheVariants.{Ok, Err}
 use Rattle.sasi_host.specs.declared.name.FileName.{FileName}
 use Rattle.sasi_host.specs.declared.fault.ReadFault.{ReadFault}
-use Rattle.sasi_host.specs.View.{View, IsThere, ReadsAtMost}
+use Rattle.sasi_host.specs.View.{View, IsThere, ReadCost}
 use Rattle.sasi_host.specs.Disk.{Changes, Same}
 use Rattle.sasi_host.proofs.ContentLaws.{contents_same, there_where}
 use Rattle.sasi_host.proofs.CauseLaws.{fault_reads, reads_behind}
@@ -23,13 +23,13 @@ pub record Spends (most : ℕ) (old new : View) : Type 0 where
 pub spends_none : (v : View) → Spends 0 v v
 spends_none v = record { disk = refl; out = refl; reads = omega arith }
 
-pub spends_on : {T : Type 0} (a b c : View) (n m k : ℕ) (x : T) → Spends n a b → ReadsAtMost m b c (Ok x) → n + m ≤ k → Spends k a c
+pub spends_on : {T : Type 0} (a b c : View) (n m k : ℕ) (x : T) → Spends n a b → ReadCost m b c (Ok x) → n + m ≤ k → Spends k a c
 spends_on a b c n m k x first second le = record { disk = second.ok ∙ first.disk; out = second.out ∙ first.out; reads = omega (arith, first.reads, second.reads, le) }
 
-pub spends_fault : {S T : Type 0} (a b c : View) (n m k : ℕ) (f : ReadFault) → Spends n a b → ReadsAtMost {T = S} m b c (Err f) → n + m ≤ k → ReadsAtMost {T = T} k a c (Err f)
+pub spends_fault : {S T : Type 0} (a b c : View) (n m k : ℕ) (f : ReadFault) → Spends n a b → ReadCost {T = S} m b c (Err f) → n + m ≤ k → ReadCost {T = T} k a c (Err f)
 spends_fault a b c n m k f first second le = fault_reads a c k k f (omega arith) (reads_behind a b c m k (Err f) first.disk first.out (omega (arith, le, first.reads)) second)
 
-pub spends_ok : {T : Type 0} (a b : View) (n k : ℕ) (x : T) → Spends n a b → n ≤ k → ReadsAtMost k a b (Ok x)
+pub spends_ok : {T : Type 0} (a b : View) (n k : ℕ) (x : T) → Spends n a b → n ≤ k → ReadCost k a b (Ok x)
 spends_ok a b n k x spends le = record {
   disk = omega (arith, spends.disk);
   out = spends.out;

@@ -11,7 +11,7 @@ use Rattle.sasi_host.specs.declared.fault.ReadFault.{ReadFault}
 use Rattle.sasi_host.specs.declared.fault.ReadFault.TheVariants as fault
 use Rattle.sasi_host.specs.Names.{Bytes}
 use Rattle.sasi_host.specs.Damages.{DamageShown}
-use Rattle.sasi_host.specs.View.{View, ReadsAtMost, contents}
+use Rattle.sasi_host.specs.View.{View, ReadCost, contents}
 use Rattle.sasi_host.specs.Disk.{Changes, Same}
 use Rattle.sasi_host.proofs.ContentLaws.{contents_same}
 use Rattle.sasi_host.proofs.CauseLaws.{fault_reads, reads_behind}
@@ -19,16 +19,16 @@ use Rattle.sasi_host.proofs.DamageLaws.{shown_as, shown_before}
 use Rattle.sasi_terms.specs.declared.op.Op.{Op}
 use Rattle.sasi_tokentree.specs.Format.{HasTree}
 use Rattle.sasi_treemerge.specs.declared.merge.TreeMerge.{TreeMerge}
-use Rattle.sasi_treemerge.specs.declared.source.Source.{Source}
+use Rattle.sasi_treemerge.specs.declared.tree_source.TreeSource.{TreeSource}
 use Rattle.sasi_treemerge.specs.MergeDamages.{NoFalseDamageOf, ShowsSources}
 use Rattle.sasi_treemerge.specs.Merges.{Adds, CanMerge, Gives, IsLeast, IsSourceIn, TreesStay, sources_of}
 use Rattle.sasi_treemerge.proofs.Merging.{adds_list}
 use Rattle.sasi_indexwrite.specs.Content.{IndexContent, TermPairs}
 use Rattle.sasi_indexread.specs.Asked.{asked_lists, asks_none, is_asked_term, is_match}
-use Rattle.sasi_indexread.specs.Damages.{IsListed, ShowsIndex}
-use Rattle.sasi_indexread.specs.Damages.IsListed.{of_spill}
+use Rattle.sasi_indexread.specs.Damages.{IsListedTree, ShowsIndex}
+use Rattle.sasi_indexread.specs.Damages.IsListedTree.{of_spill}
 use Rattle.sasi_indexread.specs.Damages.ShowsIndex.{in_tree}
-use Rattle.sasi_indexread.specs.Opened.{IsOpenOn, Opened}
+use Rattle.sasi_indexread.specs.Opened.{IsOpenOn, OpenIndexFile}
 use Rattle.sasi_indexread.specs.Searches.{AreListed, CanSearch, FailsAsRead, IsSearching, NoFalseSearchDamage, NoFalseSearchingDamage, Searching, searching}
 use Rattle.sasi_indexread.proofs.Callers.{open_back, open_still}
 use Rattle.sasi_indexread.proofs.Scanning.{IsShort, adds_listed, spill_there}
@@ -38,43 +38,43 @@ differ e = cc
 
 -- ---- the spill
 
-no_lists : (bytes : Bytes) (last : Option Pair) (floor : ℕ) (sources : List Source) → sources ≡ [] → Gives bytes [] last floor sources
+no_lists : (bytes : Bytes) (last : Option Pair) (floor : ℕ) (sources : List TreeSource) → sources ≡ [] → Gives bytes [] last floor sources
 no_lists bytes last floor sources none = record {
-  each = subst (λ (l : List Source). All (IsSourceIn bytes []) l) (sym none) (All-nil (IsSourceIn bytes []));
+  each = subst (λ (l : List TreeSource). All (IsSourceIn bytes []) l) (sym none) (All-nil (IsSourceIn bytes []));
   all = λ pairs pair listed has left. absurd (omega (arith, listed.1));
 }
 
-pub spill_gives : (v : View) (opened : Opened) (file : FileName) (list : TreeRef) (last : Option Pair) (floor : ℕ) (old new : List Source) → IsShort v opened.file → file ≡ opened.file → list ≡ opened.spill → old ≡ [] → Adds v file list old new
+pub spill_gives : (v : View) (opened : OpenIndexFile) (file : FileName) (list : TreeRef) (last : Option Pair) (floor : ℕ) (old new : List TreeSource) → IsShort v opened.file → file ≡ opened.file → list ≡ opened.spill → old ≡ [] → Adds v file list old new
     → (content : IndexContent) (on : IsOpenOn v opened content) → Gives on.bytes (content.spill ∷ []) last floor new
 spill_gives v opened file list last floor old new short named is none adds content on =
     adds_list v file on.bytes [] last floor list content.spill old new adds (ap (λ (n : FileName). contents v n) named ∙ on.reads)
     (subst (λ (t : TreeRef). HasTree on.bytes t content.spill) (sym is) (spill_there v opened content on short)) (no_lists on.bytes last floor old none)
 
-pub spill_listed : (v : View) (opened : Opened) (file : FileName) (list : TreeRef) (old new : List Source) → list ≡ opened.spill → old ≡ [] → Adds v file list old new → AreListed v opened new
+pub spill_listed : (v : View) (opened : OpenIndexFile) (file : FileName) (list : TreeRef) (old new : List TreeSource) → list ≡ opened.spill → old ≡ [] → Adds v file list old new → AreListed v opened new
 spill_listed v opened file list old new is none adds =
-    adds_listed v v opened file list old new adds (λ bytes told. of_spill is) (λ bytes told. subst (λ (l : List Source). All (λ (s : Source). IsListed opened bytes s.tree.value.tree) l) (sym none) (All-nil (λ (s : Source). IsListed opened bytes s.tree.value.tree)))
+    adds_listed v v opened file list old new adds (λ bytes told. of_spill is) (λ bytes told. subst (λ (l : List TreeSource). All (λ (s : TreeSource). IsListedTree opened bytes s.tree.value.tree) l) (sym none) (All-nil (λ (s : TreeSource). IsListedTree opened bytes s.tree.value.tree)))
 
 none_kept : (test : TermPairs → Bool) (terms : List TermPairs) → ((one : TermPairs) → test one ≡ false) → filter test terms ≡ []
 none_kept test [] none = refl
 none_kept test (one ∷ others) none = ap (λ (b : Bool). cond b (one ∷ filter test others) (filter test others)) (none one) ∙ none_kept test others none
 
-pub spill_gives_now : (v w : View) (opened : Opened) (file : FileName) (list : TreeRef) (last : Option Pair) (floor : ℕ) (old new : List Source) → Changes Same v w → IsShort v opened.file → file ≡ opened.file → list ≡ opened.spill → old ≡ [] → Adds v file list old new
+pub spill_gives_now : (v w : View) (opened : OpenIndexFile) (file : FileName) (list : TreeRef) (last : Option Pair) (floor : ℕ) (old new : List TreeSource) → Changes Same v w → IsShort v opened.file → file ≡ opened.file → list ≡ opened.spill → old ≡ [] → Adds v file list old new
     → (content : IndexContent) (on : IsOpenOn w opened content) → Gives on.bytes (content.spill ∷ []) last floor new
 unfolding open_back
 spill_gives_now v w opened file list last floor old new same short named is none adds content on = spill_gives v opened file list last floor old new short named is none adds content (open_back v w opened content same on)
 
-pub gives_before : (v w : View) (opened : Opened) (op : Op) (body : Bytes) (last : Option Pair) (floor : ℕ) (sources : List Source) → Changes Same v w → ((content : IndexContent) (on : IsOpenOn w opened content) → Gives on.bytes (asked_lists content op body) last floor sources)
+pub gives_before : (v w : View) (opened : OpenIndexFile) (op : Op) (body : Bytes) (last : Option Pair) (floor : ℕ) (sources : List TreeSource) → Changes Same v w → ((content : IndexContent) (on : IsOpenOn w opened content) → Gives on.bytes (asked_lists content op body) last floor sources)
     → (content : IndexContent) (on : IsOpenOn v opened content) → Gives on.bytes (asked_lists content op body) last floor sources
 unfolding open_still
 gives_before v w opened op body last floor sources same gives content on = gives content (open_still v w opened content same on)
 
-pub spares_before : (v w : View) (opened : Opened) (f : ReadFault) → Changes Same v w → NoFalseSearchDamage w opened f → NoFalseSearchDamage v opened f
-spares_before v w opened fault.Failed same right = tt
-spares_before v w opened fault.OutOfMemory same right = tt
-spares_before v w opened (fault.Damaged damage) same right = λ content on. right content (open_still v w opened content same on)
+pub no_false_before : (v w : View) (opened : OpenIndexFile) (f : ReadFault) → Changes Same v w → NoFalseSearchDamage w opened f → NoFalseSearchDamage v opened f
+no_false_before v w opened fault.Failed same right = tt
+no_false_before v w opened fault.OutOfMemory same right = tt
+no_false_before v w opened (fault.Damaged damage) same right = λ content on. right content (open_still v w opened content same on)
 
 -- where no term is asked for, the spill is all
-pub spill_alone : (content : IndexContent) (opened : Opened) (op : Op) (body : Bytes) (bytes : Bytes) (last : Option Pair) (floor : ℕ) (sources : List Source) → opened.kind ≡ content.kind → asks_none opened.kind op ≡ true → Gives bytes (content.spill ∷ []) last floor sources
+pub spill_alone : (content : IndexContent) (opened : OpenIndexFile) (op : Op) (body : Bytes) (bytes : Bytes) (last : Option Pair) (floor : ℕ) (sources : List TreeSource) → opened.kind ≡ content.kind → asks_none opened.kind op ≡ true → Gives bytes (content.spill ∷ []) last floor sources
     → Gives bytes (asked_lists content op body) last floor sources
 spill_alone content opened op body bytes last floor sources kind asks gives =
     let none : filter (is_asked_term content op body) content.terms ≡ [] =
@@ -83,21 +83,21 @@ spill_alone content opened op body bytes last floor sources kind asks gives =
 
 -- ---- one search
 
-pub listed_now : (a b : View) (opened : Opened) (sources : List Source) → Changes Same a b → AreListed a opened sources → AreListed b opened sources
+pub listed_now : (a b : View) (opened : OpenIndexFile) (sources : List TreeSource) → Changes Same a b → AreListed a opened sources → AreListed b opened sources
 listed_now a b opened sources same listed = λ bytes is. listed bytes (sym (contents_same a b opened.file same) ∙ is)
 
-pub listed_stay : (v : View) (opened : Opened) (old new : List Source) → TreesStay old new → AreListed v opened old → AreListed v opened new
+pub listed_stay : (v : View) (opened : OpenIndexFile) (old new : List TreeSource) → TreesStay old new → AreListed v opened old → AreListed v opened new
 listed_stay v opened old new stay listed = λ bytes is.
-    All-weaker (λ (s : Source). (was : Source) × Contains old was × (s.tree.value.tree ≡ was.tree.value.tree)) (λ (s : Source). IsListed opened bytes s.tree.value.tree)
-    (λ s was. subst (λ (t : TreeRef). IsListed opened bytes t) (sym was.2) (All-contains (λ (t : Source). IsListed opened bytes t.tree.value.tree) old was.0 (listed bytes is) was.1)) new stay
+    All-weaker (λ (s : TreeSource). (was : TreeSource) × Contains old was × (s.tree.value.tree ≡ was.tree.value.tree)) (λ (s : TreeSource). IsListedTree opened bytes s.tree.value.tree)
+    (λ s was. subst (λ (t : TreeRef). IsListedTree opened bytes t) (sym was.2) (All-contains (λ (t : TreeSource). IsListedTree opened bytes t.tree.value.tree) old was.0 (listed bytes is) was.1)) new stay
 
-pub now_collected : (a b : View) (index : Opened) (op : Op) (body : Bytes) (was : Bool) (old new : TreeMerge) (content : IndexContent) → Changes Same a b
+pub now_collected : (a b : View) (index : OpenIndexFile) (op : Op) (body : Bytes) (was : Bool) (old new : TreeMerge) (content : IndexContent) → Changes Same a b
     → ((content : IndexContent) (on : IsOpenOn a index content) → Gives on.bytes (asked_lists content op body) new.last new.floor (sources_of new))
     → IsSearching a (searching index op body was old) content → IsSearching b (searching index op body true new) content
 unfolding open_still
 now_collected a b index op body was old new content same collects is = record { is_open = open_still a b index content same is.is_open; gives = λ _. collects content is.is_open }
 
-pub collected_can : (a b : View) (index : Opened) (op : Op) (body : Bytes) (was : Bool) (old new : TreeMerge) → Changes Same a b → CanSearch a (searching index op body was old) → new.file ≡ old.file → CanMerge b new → AreListed a index (sources_of new)
+pub collected_can : (a b : View) (index : OpenIndexFile) (op : Op) (body : Bytes) (was : Bool) (old new : TreeMerge) → Changes Same a b → CanSearch a (searching index op body was old) → new.file ≡ old.file → CanMerge b new → AreListed a index (sources_of new)
     → CanSearch b (searching index op body true new)
 collected_can a b index op body was old new same can file merge listed = record {
   named = file ∙ can.named;
@@ -106,7 +106,7 @@ collected_can a b index op body was old new same can file merge listed = record 
   fresh = λ no_more. absurd (differ no_more);
 }
 
-pub next_can : (a b : View) (index : Opened) (op : Op) (body : Bytes) (done : Bool) (old new : TreeMerge) → done ≡ true → Changes Same a b → CanSearch a (searching index op body done old) → new.file ≡ old.file → CanMerge b new
+pub next_can : (a b : View) (index : OpenIndexFile) (op : Op) (body : Bytes) (done : Bool) (old new : TreeMerge) → done ≡ true → Changes Same a b → CanSearch a (searching index op body done old) → new.file ≡ old.file → CanMerge b new
     → TreesStay (sources_of old) (sources_of new) → CanSearch b (searching index op body done new)
 next_can a b index op body done old new is same can file merge stay = record {
   named = file ∙ can.named;
@@ -116,7 +116,7 @@ next_can a b index op body done old new is same can file merge stay = record {
 }
 
 -- the merge's pair is that of the search
-pub next_gives : (a b c : View) (index : Opened) (op : Op) (body : Bytes) (was done : Bool) (first old new : TreeMerge) (found : Option Pair) (content : IndexContent) → done ≡ true → Changes Same b c → old.file ≡ index.file → old.last ≡ first.last → old.floor ≡ first.floor
+pub next_gives : (a b c : View) (index : OpenIndexFile) (op : Op) (body : Bytes) (was done : Bool) (first old new : TreeMerge) (found : Option Pair) (content : IndexContent) → done ≡ true → Changes Same b c → old.file ≡ index.file → old.last ≡ first.last → old.floor ≡ first.floor
     → (IsSearching a (searching index op body was first) content → IsSearching b (searching index op body done old) content)
     → ((bytes : Bytes) (lists : List (List Pair)) → contents b old.file ≡ Some bytes → Gives bytes lists old.last old.floor (sources_of old) → IsLeast lists old.last old.floor found × Gives bytes lists new.last new.floor (sources_of new))
     → IsSearching a (searching index op body was first) content
@@ -131,38 +131,38 @@ next_gives a b c index op body was done first old new found content is same name
 
 -- ---- damage
 
-pub merge_shown : (a b : View) (index : Opened) (file : FileName) (sources : List Source) (f : ReadFault) → Changes Same a b → file ≡ index.file → AreListed b index sources → DamageShown b file (ShowsSources sources file) f
+pub merge_shown : (a b : View) (index : OpenIndexFile) (file : FileName) (sources : List TreeSource) (f : ReadFault) → Changes Same a b → file ≡ index.file → AreListed b index sources → DamageShown b file (ShowsSources sources file) f
     → DamageShown a index.file (ShowsIndex index) f
 merge_shown a b index file sources f same named listed shown =
     shown_before (ShowsIndex index) a b index.file f same
     (shown_as (ShowsSources sources index.file) (ShowsIndex index) b index.file f
-    (λ bytes damage is shows. in_tree shows.source.tree.value.tree (All-contains (λ (s : Source). IsListed index bytes s.tree.value.tree) sources shows.source (listed bytes is) shows.there) shows.shows)
+    (λ bytes damage is shows. in_tree shows.source.tree.value.tree (All-contains (λ (s : TreeSource). IsListedTree index bytes s.tree.value.tree) sources shows.source (listed bytes is) shows.there) shows.shows)
     (subst (λ (n : FileName). DamageShown b n (ShowsSources sources n) f) named shown))
 
-pub merge_spares : (a b : View) (index : Opened) (op : Op) (body : Bytes) (was done : Bool) (first old : TreeMerge) (f : ReadFault) → done ≡ true → old.file ≡ index.file
+pub no_false_merge : (a b : View) (index : OpenIndexFile) (op : Op) (body : Bytes) (was done : Bool) (first old : TreeMerge) (f : ReadFault) → done ≡ true → old.file ≡ index.file
     → ((content : IndexContent) → IsSearching a (searching index op body was first) content → IsSearching b (searching index op body done old) content) → NoFalseDamageOf b old.file (sources_of old) f
     → NoFalseSearchingDamage a (searching index op body was first) f
-merge_spares a b index op body was done first old fault.Failed is named before right = tt
-merge_spares a b index op body was done first old fault.OutOfMemory is named before right = tt
-merge_spares a b index op body was done first old (fault.Damaged damage) is named before right = λ content searches.
+no_false_merge a b index op body was done first old fault.Failed is named before right = tt
+no_false_merge a b index op body was done first old fault.OutOfMemory is named before right = tt
+no_false_merge a b index op body was done first old (fault.Damaged damage) is named before right = λ content searches.
     (let now = before content searches in
     right now.is_open.bytes (asked_lists content op body) (ap (λ (n : FileName). contents b n) named ∙ now.is_open.reads) (now.gives is).each)
 
-pub open_spares : (a : View) (asked : Searching) (f : ReadFault) → NoFalseSearchDamage a asked.index f → NoFalseSearchingDamage a asked f
-open_spares a asked fault.Failed right = tt
-open_spares a asked fault.OutOfMemory right = tt
-open_spares a asked (fault.Damaged damage) right = λ content is. right content is.is_open
+pub no_false_open : (a : View) (asked : Searching) (f : ReadFault) → NoFalseSearchDamage a asked.index f → NoFalseSearchingDamage a asked f
+no_false_open a asked fault.Failed right = tt
+no_false_open a asked fault.OutOfMemory right = tt
+no_false_open a asked (fault.Damaged damage) right = λ content is. right content is.is_open
 
 -- ---- causes
 
-pub reads_as_told : {T : Type 0} (a b : View) (most : ℕ) (f : ReadFault) → ReadsAtMost {T = T} most a b (Err f) → ReadsAtMost {T = T} (b.reads - a.reads) a b (Err f)
+pub reads_as_told : {T : Type 0} (a b : View) (most : ℕ) (f : ReadFault) → ReadCost {T = T} most a b (Err f) → ReadCost {T = T} (b.reads - a.reads) a b (Err f)
 reads_as_told a b most f causes = record { disk = causes.disk; out = causes.out; reads = omega arith; ok = tt; failed = causes.failed; memory = causes.memory; damaged = causes.damaged }
 
-pub first_fails : {S T : Type 0} (a b : View) (most : ℕ) (f : ReadFault) → ReadsAtMost {T = S} most a b (Err f) → FailsAsRead {T = T} a b (Err f)
+pub first_fails : {S T : Type 0} (a b : View) (most : ℕ) (f : ReadFault) → ReadCost {T = S} most a b (Err f) → FailsAsRead {T = T} a b (Err f)
 first_fails {T = T} a b most f causes = reads_as_told {T = T} a b most f (fault_reads a b most most f (omega arith) causes)
 
-pub then_fails : {R S T : Type 0} (a b c : View) (n m : ℕ) (x : R) (f : ReadFault) → ReadsAtMost n a b (Ok x) → ReadsAtMost {T = S} m b c (Err f) → FailsAsRead {T = T} a c (Err f)
+pub then_fails : {R S T : Type 0} (a b c : View) (n m : ℕ) (x : R) (f : ReadFault) → ReadCost n a b (Ok x) → ReadCost {T = S} m b c (Err f) → FailsAsRead {T = T} a c (Err f)
 then_fails {S = S} {T = T} a b c n m x f one two = first_fails {S = S} {T = T} a c (n + m) f (reads_behind a b c m (n + m) (Err f) one.ok one.out (omega (arith, one.reads)) two)
 
-pub then_goes : {R S T : Type 0} (a b c : View) (n m : ℕ) (x : R) (y : S) (z : T) → ReadsAtMost n a b (Ok x) → ReadsAtMost m b c (Ok y) → FailsAsRead a c (Ok z)
-then_goes a b c n m x y z one two = record { disk = omega (arith, one.disk, two.disk); out = two.out ∙ one.out; reads = omega arith; ok = two.ok ∙ one.ok; failed = tt; memory = tt; damaged = tt }
+pub then_succeeds : {R S T : Type 0} (a b c : View) (n m : ℕ) (x : R) (y : S) (z : T) → ReadCost n a b (Ok x) → ReadCost m b c (Ok y) → FailsAsRead a c (Ok z)
+then_succeeds a b c n m x y z one two = record { disk = omega (arith, one.disk, two.disk); out = two.out ∙ one.out; reads = omega arith; ok = two.ok ∙ one.ok; failed = tt; memory = tt; damaged = tt }

@@ -13,21 +13,21 @@ use Rattle.sasi_terms.specs.declared.op.Op.{Op}
 use Rattle.sasi_tokentree.specs.Damages.{ShowsTree}
 use Rattle.sasi_tokentree.specs.Format.{HasTree}
 use Rattle.sasi_termblocks.specs.declared.term_entry.TermEntry.{TermEntry}
-use Rattle.sasi_treemerge.specs.declared.source.Source.{Source}
+use Rattle.sasi_treemerge.specs.declared.tree_source.TreeSource.{TreeSource}
 use Rattle.sasi_indexread.specs.Asked.{is_match, is_run}
 use Rattle.sasi_treemerge.specs.Merges.{Adds}
 
 -- the tree of an entry is added, if it has one
-abbrev pub AddsList : View → FileName → Option TreeRef → List Source → List Source → Type 0
+abbrev pub AddsList : View → FileName → Option TreeRef → List TreeSource → List TreeSource → Type 0
 AddsList v file None old new = new ≡ old
 AddsList v file (Some list) old new = Adds v file list old new
 
-abbrev pub AddsIf : View → FileName → Op → TermEntry → Bool → Bool → List Source → List Source → Type 0
+abbrev pub AddsIf : View → FileName → Op → TermEntry → Bool → Bool → List TreeSource → List TreeSource → Type 0
 AddsIf v file op entry false more old new = (more ≡ not (is_run op)) × (new ≡ old)
 AddsIf v file op entry true more old new = (more ≡ true) × AddsList v file entry.list old new
 
 -- the entry's tree is added where its term is asked for; others may follow then, and else where those that are asked for aren't in a row
-abbrev pub AddsEntry : View → FileName → ColumnType → Op → Bytes → TermEntry → Bool → List Source → List Source → Type 0
+abbrev pub AddsEntry : View → FileName → ColumnType → Op → Bytes → TermEntry → Bool → List TreeSource → List TreeSource → Type 0
 AddsEntry v file kind op body entry more old new = AddsIf v file op entry (is_match kind op body entry.term) more old new
 
 -- the damage is that of the entry's tree

@@ -9,7 +9,7 @@ use Rattle.sasi_termblocks.specs.Damages.{ShowsBlocks}
 use Rattle.sasi_termblocks.specs.Entries.{term_entry}
 use Rattle.sasi_termblocks.specs.Windows.{HasEntry}
 use Rattle.sasi_treemerge.specs.MergeDamages.{ShowsPairs}
-use Rattle.sasi_indexread.specs.Opened.{Opened}
+use Rattle.sasi_indexread.specs.Opened.{OpenIndexFile}
 
 -- an entry of a block leads to the tree with this reference
 pub record LeadsToTree (bytes : Bytes) (tree : TreeRef) : Type 0 where
@@ -22,11 +22,11 @@ pub record LeadsToTree (bytes : Bytes) (tree : TreeRef) : Type 0 where
   pub list : entry.list ≡ Some tree
 
 -- the tree is that of the spill, or one to which an entry leads
-pub data IsListed (opened : Opened) (bytes : Bytes) (tree : TreeRef) : Type 0 where
-  of_spill : tree ≡ opened.spill → IsListed opened bytes tree
-  of_term : LeadsToTree bytes tree → IsListed opened bytes tree
+pub data IsListedTree (opened : OpenIndexFile) (bytes : Bytes) (tree : TreeRef) : Type 0 where
+  of_spill : tree ≡ opened.spill → IsListedTree opened bytes tree
+  of_term : LeadsToTree bytes tree → IsListedTree opened bytes tree
 
 -- the damage is that of the blocks, or of a tree to which the file leads
-pub data ShowsIndex (opened : Opened) (bytes : Bytes) (damage : Damage) : Type 0 where
+pub data ShowsIndex (opened : OpenIndexFile) (bytes : Bytes) (damage : Damage) : Type 0 where
   in_blocks : ShowsBlocks opened.file opened.blocks bytes damage → ShowsIndex opened bytes damage
-  in_tree : (tree : TreeRef) → IsListed opened bytes tree → ShowsPairs opened.file tree bytes damage → ShowsIndex opened bytes damage
+  in_tree : (tree : TreeRef) → IsListedTree opened bytes tree → ShowsPairs opened.file tree bytes damage → ShowsIndex opened bytes damage

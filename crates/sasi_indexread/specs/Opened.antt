@@ -13,7 +13,7 @@ use Rattle.sasi_indexwrite.specs.Files.{IsIndexFile}
 use Rattle.sasi_indexwrite.specs.Format.{spill_ref}
 
 -- the view of an open index file
-pub record Opened : Type 0 where
+pub record OpenIndexFile : Type 0 where
   pub file : FileName
   -- the type of the indexed column
   pub kind : ColumnType
@@ -23,7 +23,7 @@ pub record Opened : Type 0 where
   pub spill : TreeRef
 
 -- the file reads as the index file of a content, and was opened as that
-pub record IsOpenOn (v : View) (opened : Opened) (content : IndexContent) : Type 0 where
+pub record IsOpenOn (v : View) (opened : OpenIndexFile) (content : IndexContent) : Type 0 where
   pub bytes : Bytes
   pub reads : contents v opened.file ≡ Some bytes
   pub index_file : IsIndexFile bytes content

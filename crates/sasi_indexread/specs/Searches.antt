@@ -3,32 +3,32 @@ use Rattle.std.specs.Prelude.{◌≡◌, ◌-◌, Result, Bool, true, false, Lis
 use Rattle.sasi_host.specs.declared.fault.ReadFault.{ReadFault}
 use Rattle.sasi_host.specs.Names.{Bytes}
 use Rattle.sasi_host.specs.Damages.{OnDamage}
-use Rattle.sasi_host.specs.View.{ReadsAtMost, View, contents}
+use Rattle.sasi_host.specs.View.{ReadCost, View, contents}
 use Rattle.sasi_terms.specs.declared.op.Op.{Op}
 use Rattle.sasi_indexwrite.specs.Content.{IndexContent}
 use Rattle.std.specs.BinaryHeap.{IsHeap}
 use Rattle.sasi_treemerge.specs.declared.merge.TreeMerge.{TreeMerge}
-use Rattle.sasi_treemerge.specs.declared.source.Source.{Source}
+use Rattle.sasi_treemerge.specs.declared.tree_source.TreeSource.{TreeSource}
 use Rattle.sasi_treemerge.specs.Sources.{source_cmp}
 use Rattle.sasi_indexread.specs.Asked.{asked_lists}
-use Rattle.sasi_indexread.specs.Damages.{IsListed}
+use Rattle.sasi_indexread.specs.Damages.{IsListedTree}
 use Rattle.sasi_treemerge.specs.Merges.{CanMerge, Gives, sources_of}
-use Rattle.sasi_indexread.specs.Opened.{Opened, IsOpenOn}
+use Rattle.sasi_indexread.specs.Opened.{OpenIndexFile, IsOpenOn}
 
 -- the view of a search: the file, what is asked, and the merge of the trees once they were collected
 pub record Searching : Type 0 where
-  pub index : Opened
+  pub index : OpenIndexFile
   pub op : Op
   pub body : Bytes
   pub is_collected : Bool
   pub merge : TreeMerge
 
-abbrev pub searching : Opened → Op → Bytes → Bool → TreeMerge → Searching
+abbrev pub searching : OpenIndexFile → Op → Bytes → Bool → TreeMerge → Searching
 searching index op body is_collected merge = record { index = index; op = op; body = body; is_collected = is_collected; merge = merge }
 
 -- each source's tree is one to which the file leads
-abbrev pub AreListed : View → Opened → List Source → Type 0
-AreListed v opened sources = (bytes : Bytes) → contents v opened.file ≡ Some bytes → All (λ source. IsListed opened bytes source.tree.value.tree) sources
+abbrev pub AreListed : View → OpenIndexFile → List TreeSource → Type 0
+AreListed v opened sources = (bytes : Bytes) → contents v opened.file ≡ Some bytes → All (λ source. IsListedTree opened bytes source.tree.value.tree) sources
 
 -- the search can go on
 pub record CanSearch (v : View) (search : Searching) : Type 0 where
@@ -57,8 +57,8 @@ NoFalseSearchingDamage v search = OnDamage (λ _. (content : IndexContent) → I
 
 -- a fault has its cause, however many reads were made
 abbrev pub FailsAsRead : {T : Type 0} → View → View → Result T ReadFault → Type 0
-FailsAsRead old new result = ReadsAtMost (new.reads - old.reads) old new result
+FailsAsRead old new result = ReadCost (new.reads - old.reads) old new result
 
 -- damage is reported only where the file isn't the index file that was opened
-abbrev pub NoFalseSearchDamage : View → Opened → ReadFault → Type 0
+abbrev pub NoFalseSearchDamage : View → OpenIndexFile → ReadFault → Type 0
 NoFalseSearchDamage v opened = OnDamage (λ _. (content : IndexContent) → IsOpenOn v opened content → ⊥)

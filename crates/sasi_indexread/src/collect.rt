@@ -1,7 +1,7 @@
 // Collects the trees of the terms that are asked for.
 ghost use Rattle.std.specs.Prelude.{◌≡◌, ◌+◌, ◌*◌, ◌^◌, ◌≤◌, ◌∷◌, [], IfErr, IfOk, OnOk, false};
 ghost use Rattle.sasi_host.specs.Names.{Bytes};
-ghost use Rattle.sasi_host.specs.View.{ReadsAtMost, contents};
+ghost use Rattle.sasi_host.specs.View.{ReadCost, contents};
 ghost use Rattle.sasi_host.specs.Damages.{DamageShown};
 ghost use Rattle.sasi_host.specs.PageReading.{CanRead, HasRead};
 ghost use Rattle.sasi_tokentree.specs.Damages.{ShowsTree};
@@ -42,7 +42,7 @@ fn add_entry<H: Host, P: PageReader>(
     ensures damaged { IfErr result (DamageShown (H.view host.old) merge.old.file (ShowsList merge.old.file entry.now)) }
     ensures undamaged { IfErr result (NoFalseListDamage (H.view host.old) merge.old.file entry.now) }
     ensures read { HasRead (P.agrees pages.new) (P.covers pages.old) (P.covers pages.new) (H.view host.old) (H.view host.new) merge.old.file }
-    ensures causes { ReadsAtMost 2 (H.view host.old) (H.view host.new) result }
+    ensures causes { ReadCost 2 (H.view host.old) (H.view host.new) result }
     ensures reads { SpendsReads (H.view host.old) (H.view host.new) (2 * unread_of (sources_of merge.old) + 2 * added_pairs index.now.kind op.now body.now entry.now) (2 * unread_of (sources_of merge.new)) result }
     ensures same { (merge.new.file ≡ merge.old.file) × (merge.new.last ≡ merge.old.last) × (merge.new.floor ≡ merge.old.floor) }
 {
@@ -80,7 +80,7 @@ fn add_terms<H: Host, P: PageReader>(
     ensures damaged { IfErr result (DamageShown (H.view host.old) index.now.file (ShowsIndex index.now)) }
     ensures undamaged { IfErr result (NoFalseSearchDamage (H.view host.old) index.now) }
     ensures read { HasRead (P.agrees pages.new) (P.covers pages.old) (P.covers pages.new) (H.view host.old) (H.view host.new) index.now.file }
-    ensures causes { ReadsAtMost (index.now.blocks.levels + 2 + 3 * 2 ^ 62) (H.view host.old) (H.view host.new) result }
+    ensures causes { ReadCost (index.now.blocks.levels + 2 + 3 * 2 ^ 62) (H.view host.old) (H.view host.new) result }
     ensures reads { (content : IndexContent) → IsOpenOn (H.view host.old) index.now content
         → SpendsReads (H.view host.old) (H.view host.new) (2 * unread_of (sources_of merge.old) + index.now.blocks.levels + 2 + terms_cost content op.now body.now) (2 * unread_of (sources_of merge.new)) result }
     ensures same { (merge.new.file ≡ merge.old.file) × (merge.new.last ≡ merge.old.last) × (merge.new.floor ≡ merge.old.floor) }
@@ -119,7 +119,7 @@ pub fn collect<H: Host, P: PageReader>(
     ensures damaged { IfErr result (DamageShown (H.view host.old) index.now.file (ShowsIndex index.now)) }
     ensures undamaged { IfErr result (NoFalseSearchDamage (H.view host.old) index.now) }
     ensures read { HasRead (P.agrees pages.new) (P.covers pages.old) (P.covers pages.new) (H.view host.old) (H.view host.new) index.now.file }
-    ensures causes { ReadsAtMost (index.now.blocks.levels + 4 + 3 * 2 ^ 62) (H.view host.old) (H.view host.new) result }
+    ensures causes { ReadCost (index.now.blocks.levels + 4 + 3 * 2 ^ 62) (H.view host.old) (H.view host.new) result }
     ensures reads { (content : IndexContent) → IsOpenOn (H.view host.old) index.now content
         → SpendsReads (H.view host.old) (H.view host.new) (whole_cost index.now.blocks.levels content op.now body.now) (2 * unread_of (sources_of merge.new)) result }
     ensures same { (merge.new.file ≡ merge.old.file) × (merge.new.last ≡ merge.old.last) × (merge.new.floor ≡ merge.old.floor) }

@@ -2,7 +2,7 @@
 ghost use Rattle.std.specs.Prelude.{◌≡◌, ◌≤◌, length, IfErr, IfOk, Some};
 ghost use Rattle.sasi_host.specs.declared.name.FileName.{FileName};
 ghost use Rattle.sasi_host.specs.Names.{Bytes};
-ghost use Rattle.sasi_host.specs.View.{ReadsAtMost, contents};
+ghost use Rattle.sasi_host.specs.View.{ReadCost, contents};
 ghost use Rattle.sasi_host.specs.Damages.{DamageShown};
 ghost use Rattle.sasi_host.specs.PageReading.{CanRead, HasRead};
 ghost use Rattle.sasi_framing.specs.Framing.{BeginsAndEndsWith};
@@ -59,7 +59,7 @@ pub fn read_footer<H: Host, P: PageReader>(
     ensures damaged { IfErr result (DamageShown (H.view host.old) file (ShowsHeaderOrFooter file)) }
     ensures undamaged { IfErr result (NoFalseIndexDamage (H.view host.old) file) }
     ensures read { HasRead (P.agrees pages.new) (P.covers pages.old) (P.covers pages.new) (H.view host.old) (H.view host.new) file }
-    ensures causes { ReadsAtMost 3 (H.view host.old) (H.view host.new) result }
+    ensures causes { ReadCost 3 (H.view host.old) (H.view host.new) result }
 {
     let mut header = [0; HEADER];
     let mut footer = [0; FOOTER];

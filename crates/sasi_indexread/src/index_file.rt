@@ -2,7 +2,7 @@
 ghost use Rattle.std.specs.Prelude.{◌≡◌, IfErr, IfOk, Some};
 ghost use Rattle.sasi_host.specs.declared.name.FileName.{FileName};
 ghost use Rattle.sasi_host.specs.Names.{Bytes};
-ghost use Rattle.sasi_host.specs.View.{ReadsAtMost, contents};
+ghost use Rattle.sasi_host.specs.View.{ReadCost, contents};
 ghost use Rattle.sasi_host.specs.Damages.{DamageShown};
 ghost use Rattle.sasi_host.specs.PageReading.{CanRead, HasRead};
 ghost use Rattle.sasi_indexwrite.specs.Content.{IndexContent};
@@ -30,9 +30,9 @@ pub struct IndexFile {
 }
 
 impl Model for IndexFile {
-    ghost use Rattle.sasi_indexread.specs.Opened.{Opened};
+    ghost use Rattle.sasi_indexread.specs.Opened.{OpenIndexFile};
 
-    ghost Value = { Opened };
+    ghost Value = { OpenIndexFile };
 
     ghost view = { λ a. record { file = a.file; kind = a.kind; blocks = a.blocks; spill = a.spill } };
 }
@@ -51,7 +51,7 @@ impl IndexFile {
         ensures damaged { IfErr result (DamageShown (H.view host.old) file (ShowsHeaderOrFooter file)) }
         ensures undamaged { IfErr result (NoFalseIndexDamage (H.view host.old) file) }
         ensures read { HasRead (P.agrees pages.new) (P.covers pages.old) (P.covers pages.new) (H.view host.old) (H.view host.new) file }
-        ensures causes { ReadsAtMost 3 (H.view host.old) (H.view host.new) result }
+        ensures causes { ReadCost 3 (H.view host.old) (H.view host.new) result }
     {
         let (kind, footer) = read_footer(host, pages, file)?;
         Ok(IndexFile {

@@ -11,7 +11,7 @@ use Rattle.sasi_segments.specs.declared.posting.Posting.{Posting}
 use Rattle.sasi_segments.specs.Postings.{posting_cmp}
 use Rattle.sasi_segments.specs.Sorting.{inserted}
 use Rattle.sasi_segments.proofs.Order.{posting_exact, posting_total}
-use Rattle.sasi_indexwrite.specs.Gathered.{AreGathered, IsPosting}
+use Rattle.sasi_indexwrite.specs.TermsSoFar.{AreSortedPostings, IsPosting}
 
 module _ {X : Type 0} (cmp : X → X → Ordering) where
   abbrev place : Ordering → X → X → List X → List X
@@ -50,12 +50,12 @@ untied posting [] apart = tt
 untied posting (q ∷ postings) apart = (λ tie. apart.0 (sym (posting_exact posting q tie)), untied posting postings apart.1)
 
 -- an empty gathering is one
-pub none_gathered : AreGathered []
+pub none_gathered : AreSortedPostings []
 unfolding IsStrictlySortedBy
 none_gathered = record { rising = tt; each = tt }
 
 -- and it stays one
-pub still_gathered : (posting : Posting) (postings : List Posting) → AreGathered postings → IsPosting posting → AllByRecursion (λ q. q ≢ posting) postings → AreGathered (inserted posting_cmp posting postings)
+pub still_gathered : (posting : Posting) (postings : List Posting) → AreSortedPostings postings → IsPosting posting → AllByRecursion (λ q. q ≢ posting) postings → AreSortedPostings (inserted posting_cmp posting postings)
 still_gathered posting postings valid one apart = record {
   rising = sorted_inserted posting_cmp posting_total posting postings valid.rising (untied posting postings apart);
   each = all_inserted posting_cmp IsPosting posting postings one valid.each;

@@ -9,7 +9,7 @@ use Rattle.sasi_segments.specs.declared.posting.Posting.{Posting}
 use Rattle.sasi_segments.specs.Postings.{posting_cmp}
 use Rattle.sasi_segments.specs.Sorting.{inserted}
 use Rattle.sasi_segments.proofs.Order.{posting_total}
-use Rattle.sasi_indexwrite.specs.Gathered.{AreUpTo, IsPosting}
+use Rattle.sasi_indexwrite.specs.TermsSoFar.{AreUpTo, IsPosting}
 use Rattle.sasi_indexwrite.proofs.Callers.{all_inserted, none_gathered, still_gathered}
 
 pub none_up_to : (last : Posting) → AreUpTo [] last

@@ -22,7 +22,7 @@ use Rattle.sasi_tokentree.specs.Format.{IsBefore, IsRising}
 use Rattle.sasi_termblocks.specs.Entries.{is_below}
 use Rattle.sasi_termblocks.specs.Scans.{IsRising as AreRisingTerms}
 use Rattle.sasi_indexwrite.specs.Content.{TermPairs, postings_of, spill_postings, term_postings, terms_in}
-use Rattle.sasi_indexwrite.specs.Gathered.{AreGathered, CanFollow, Gathered, IsPosting, add, add_as, all_terms, gathered, nothing, with_pairs}
+use Rattle.sasi_indexwrite.specs.TermsSoFar.{AreSortedPostings, CanFollow, IsPosting, TermsSoFar, add, add_as, all_terms, gathered, nothing, with_pairs}
 use Rattle.sasi_indexwrite.proofs.Lists.{all_at, all_first, all_second, rises_push}
 
 -- ---- two postings in their order
@@ -144,7 +144,7 @@ terms_postings : (closed : List TermPairs) (term : Bytes) (pairs : List Pair) �
 terms_postings closed term pairs = flat_map-append term_postings closed (with_pairs term pairs) ∙ ap (λ (l : List Posting). flat_map term_postings closed ++ l) (with_pairs_postings term pairs)
 
 -- it is what postings give
-pub record IsGathered (all : Gathered) (done : List Posting) : Type 0 where
+pub record IsGathered (all : TermsSoFar) (done : List Posting) : Type 0 where
   pub postings_are : postings_of (all_terms all) all.spill ≡ done
   pub rising : AreRisingTerms (terms_in (all_terms all))
   pub begun : all.pairs ≡ [] → all.closed ≡ []
@@ -167,7 +167,7 @@ nothing_gathered = record {
 }
 
 -- one of the spill
-add_spill : (all : Gathered) (done : List Posting) (pair : Pair) → IsGathered all done → AreBefore done (posting_of [] Spill pair) → IsGathered (add_as Spill all [] pair) (done ++ posting_of [] Spill pair ∷ [])
+add_spill : (all : TermsSoFar) (done : List Posting) (pair : Pair) → IsGathered all done → AreBefore done (posting_of [] Spill pair) → IsGathered (add_as Spill all [] pair) (done ++ posting_of [] Spill pair ∷ [])
 add_spill all done pair is before =
     let terms = flat_map term_postings (all_terms all) in
     let own : AreBefore (spill_postings all.spill) (posting_of [] Spill pair) =
@@ -183,7 +183,7 @@ add_spill all done pair is before =
       spill = spill_push all.spill pair is.spill own;
     }
 
-module _ (all : Gathered) (done : List Posting) (term : Bytes) (pair : Pair) (is : IsGathered all done) (before : AreBefore done (posting_of term Stored pair)) where
+module _ (all : TermsSoFar) (done : List Posting) (term : Bytes) (pair : Pair) (is : IsGathered all done) (before : AreBefore done (posting_of term Stored pair)) where
   abbrev posting : Posting
   posting = posting_of term Stored pair
 
@@ -263,7 +263,7 @@ module _ (all : Gathered) (done : List Posting) (term : Bytes) (pair : Pair) (is
   pub add_stored : IsGathered (add_as Stored all term pair) (done ++ posting ∷ [])
   add_stored = add_by (term_eq all.term term) refl
 
-add_kind : (list : ListKind) (all : Gathered) (done : List Posting) (term : Bytes) (pair : Pair) → IsGathered all done → (list ≡ Spill → term ≡ []) → AreBefore done (posting_of term list pair)
+add_kind : (list : ListKind) (all : TermsSoFar) (done : List Posting) (term : Bytes) (pair : Pair) → IsGathered all done → (list ≡ Spill → term ≡ []) → AreBefore done (posting_of term list pair)
     → IsGathered (add_as list all term pair) (done ++ posting_of term list pair ∷ [])
 add_kind Stored all done term pair is none before = add_stored all done term pair is before
 add_kind Spill all done term pair is none before =
@@ -272,7 +272,7 @@ add_kind Spill all done term pair is none before =
     (add_spill all done pair is (subst (λ (t : Bytes). AreBefore done (posting_of t Spill pair)) empty before))
 
 -- one posting more
-pub add_one : (all : Gathered) (done : List Posting) (posting : Posting) → IsGathered all done → IsPosting posting → AreBefore done posting → IsGathered (add all posting) (done ++ posting ∷ [])
+pub add_one : (all : TermsSoFar) (done : List Posting) (posting : Posting) → IsGathered all done → IsPosting posting → AreBefore done posting → IsGathered (add all posting) (done ++ posting ∷ [])
 add_one all done posting is valid before = add_kind posting.list all done posting.term posting.pair is valid.spill before
 
 -- ---- all postings
@@ -282,7 +282,7 @@ unfolding IsStrictlySortedBy
 sorted_first [] rest sorted = tt
 sorted_first (q ∷ done) rest sorted = (all_first (λ y. posting_cmp q y ≡ Less) done rest sorted.0, sorted_first done rest sorted.1)
 
-gathered_on : (all : Gathered) (before done : List Posting) → IsGathered all before → AreGathered (before ++ done) → IsGathered (fold add all done) (before ++ done)
+gathered_on : (all : TermsSoFar) (before done : List Posting) → IsGathered all before → AreSortedPostings (before ++ done) → IsGathered (fold add all done) (before ++ done)
 gathered_on all before [] is valid = subst (λ (l : List Posting). IsGathered all l) (sym (append-nil before)) is
 gathered_on all before (posting ∷ done) is valid =
     let same : (before ++ posting ∷ []) ++ done ≡ before ++ posting ∷ done = append_assoc before (posting ∷ []) done in
@@ -290,24 +290,24 @@ gathered_on all before (posting ∷ done) is valid =
     add_one all before posting is (at_middle IsPosting before posting done valid.each) (sorted_before before posting done valid.rising)
     in
     subst (λ (l : List Posting). IsGathered (fold add (add all posting) done) l) same
-    (gathered_on (add all posting) (before ++ posting ∷ []) done one (subst (λ (l : List Posting). AreGathered l) (sym same) valid))
+    (gathered_on (add all posting) (before ++ posting ∷ []) done one (subst (λ (l : List Posting). AreSortedPostings l) (sym same) valid))
 
 -- what is gathered of postings in their order has these postings
-pub gathered_is : (postings : List Posting) → AreGathered postings → IsGathered (gathered postings) postings
+pub gathered_is : (postings : List Posting) → AreSortedPostings postings → IsGathered (gathered postings) postings
 gathered_is postings valid = gathered_on nothing [] postings nothing_gathered valid
 
-pub first_gathered : (done rest : List Posting) → AreGathered (done ++ rest) → AreGathered done
+pub first_gathered : (done rest : List Posting) → AreSortedPostings (done ++ rest) → AreSortedPostings done
 first_gathered done rest valid = record {
   rising = sorted_first done rest valid.rising;
   each = all_first IsPosting done rest valid.each;
 }
 
-can_follow : (list : ListKind) (all : Gathered) (done : List Posting) (term : Bytes) (pair : Pair) → length term ≤ 1024 → IsGathered (add_as list all term pair) done → CanFollow all.term all.pairs (posting_of term list pair)
+can_follow : (list : ListKind) (all : TermsSoFar) (done : List Posting) (term : Bytes) (pair : Pair) → length term ≤ 1024 → IsGathered (add_as list all term pair) done → CanFollow all.term all.pairs (posting_of term list pair)
 can_follow Stored all done term pair short is = (short, is.pairs)
 can_follow Spill all done term pair short is = tt
 
 -- the next posting can follow
-pub next_follows : (done : List Posting) (posting : Posting) (rest : List Posting) → AreGathered (done ++ posting ∷ rest) → CanFollow (gathered done).term (gathered done).pairs posting
+pub next_follows : (done : List Posting) (posting : Posting) (rest : List Posting) → AreSortedPostings (done ++ posting ∷ rest) → CanFollow (gathered done).term (gathered done).pairs posting
 next_follows done posting rest valid =
     let one : IsPosting posting = at_middle IsPosting done posting rest valid.each in
     can_follow posting.list (gathered done) (done ++ posting ∷ []) posting.term posting.pair one.short

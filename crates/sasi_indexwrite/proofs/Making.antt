@@ -14,7 +14,7 @@ use Rattle.sasi_termblocks.specs.Writing.{HasPushed}
 use Rattle.sasi_indexwrite.specs.declared.term_writer.TermWriter.{TermWriter}
 use Rattle.sasi_indexwrite.specs.Files.{HoldsIndex}
 use Rattle.sasi_indexwrite.specs.Format.{header_bytes}
-use Rattle.sasi_indexwrite.specs.Gathered.{AreGathered, all_terms, gathered, with_pairs}
+use Rattle.sasi_indexwrite.specs.TermsSoFar.{AreSortedPostings, all_terms, gathered, with_pairs}
 use Rattle.sasi_indexwrite.specs.Writing.{EndsFile, HasWritten, KeepsGathered}
 use Rattle.sasi_indexwrite.proofs.Endings.{header_length, index_ends}
 use Rattle.sasi_indexwrite.proofs.Grouping.{gathered_is}
@@ -38,7 +38,7 @@ begin_written v writer file mode kind same at pushed holds = record {
 -- ---- the whole
 
 -- what was gathered of all postings is in the file
-pub index_made : (v : View) (file : FileName) (mode : Mode) (kind : ColumnType) (postings : List Posting) (writer : TermWriter) (spill : List Pair) → mode ≢ Sparse → kind ≢ Uuid → AreGathered postings → writer.file ≡ file
+pub index_made : (v : View) (file : FileName) (mode : Mode) (kind : ColumnType) (postings : List Posting) (writer : TermWriter) (spill : List Pair) → mode ≢ Sparse → kind ≢ Uuid → AreSortedPostings postings → writer.file ≡ file
     → KeepsGathered writer spill (gathered postings) → EndsFile v writer.file (header_bytes mode kind) ((gathered postings).closed ++ with_pairs writer.term writer.pairs) spill → HoldsIndex v file mode kind postings
 index_made v file mode kind postings writer spill built has_terms valid same keeps ends =
     let all = gathered postings in

@@ -9,8 +9,8 @@ use Rattle.sasi_host.proofs.ChangeLaws.{touches_on, untouched}
 use Rattle.sasi_segments.specs.declared.posting.Posting.{Posting}
 use Rattle.sasi_tokentree.specs.Writes.{KeepsCounts}
 use Rattle.sasi_indexwrite.specs.declared.term_writer.TermWriter.{TermWriter}
-use Rattle.sasi_indexwrite.specs.Gathered.{AreGathered, CanFollow, Gathered, add, gathered, nothing}
-use Rattle.sasi_indexwrite.specs.Writing.{HasWritten, IsReady, KeepsGathered}
+use Rattle.sasi_indexwrite.specs.TermsSoFar.{AreSortedPostings, CanFollow, TermsSoFar, add, gathered, nothing}
+use Rattle.sasi_indexwrite.specs.Writing.{CanStoreTerm, HasWritten, KeepsGathered}
 use Rattle.sasi_indexwrite.proofs.Grouping.{next_follows}
 
 -- the first of all postings were taken, and the others are left
@@ -19,14 +19,14 @@ pub record HasTaken (old new : View) (all left : List Posting) (was now : TermWr
   pub all_is : all ≡ done ++ left
   pub keeps : KeepsGathered now spill (gathered done)
   pub ok : (header : Bytes) → HasWritten old was header [] → HasWritten new now header (gathered done).closed
-  pub ready : IsReady now
+  pub ready : CanStoreTerm now
   pub room : Reaches new now.file now.offset
   pub file : now.file ≡ was.file
   pub changes : Changes (FileChange was.file AnyChange) old new
   pub counts : KeepsCounts old new
 
 -- none yet
-pub none_taken : (v : View) (all : List Posting) (writer : TermWriter) (spill : List Pair) → KeepsGathered writer spill (gathered []) → IsReady writer → Reaches v writer.file writer.offset → HasTaken v v all all writer writer spill
+pub none_taken : (v : View) (all : List Posting) (writer : TermWriter) (spill : List Pair) → KeepsGathered writer spill (gathered []) → CanStoreTerm writer → Reaches v writer.file writer.offset → HasTaken v v all all writer writer spill
 none_taken v all writer spill keeps ready room = record {
   done = [];
   all_is = refl;
@@ -40,21 +40,21 @@ none_taken v all writer spill keeps ready room = record {
 }
 
 -- the next one can follow
-pub follows_taken : (old new : View) (all left : List Posting) (posting : Posting) (was now : TermWriter) (spill : List Pair) → AreGathered all → HasTaken old new all (posting ∷ left) was now spill → CanFollow now.term now.pairs posting
+pub follows_taken : (old new : View) (all left : List Posting) (posting : Posting) (was now : TermWriter) (spill : List Pair) → AreSortedPostings all → HasTaken old new all (posting ∷ left) was now spill → CanFollow now.term now.pairs posting
 follows_taken old new all left posting was now spill valid taken =
-    let follows = next_follows taken.done posting left (subst (λ (l : List Posting). AreGathered l) taken.all_is valid) in
+    let follows = next_follows taken.done posting left (subst (λ (l : List Posting). AreSortedPostings l) taken.all_is valid) in
     subst (λ (t : Bytes). CanFollow t now.pairs posting) (sym taken.keeps.term) (subst (λ (l : List Pair). CanFollow (gathered taken.done).term l posting) (sym taken.keeps.pairs) follows)
 
 -- and then it was taken too
 pub one_more : (old mid new : View) (all left : List Posting) (posting : Posting) (was before now : TermWriter) (spill more : List Pair) → HasTaken old mid all (posting ∷ left) was before spill
-    → ((so_far : Gathered) → KeepsGathered before spill so_far → KeepsGathered now more (add so_far posting))
-    → ((header : Bytes) (so_far : Gathered) → KeepsGathered before spill so_far → HasWritten mid before header so_far.closed → HasWritten new now header (add so_far posting).closed)
-    → IsReady now → Reaches new now.file now.offset → now.file ≡ before.file → Changes (FileChange before.file AnyChange) mid new → KeepsCounts mid new → HasTaken old new all left was now more
+    → ((so_far : TermsSoFar) → KeepsGathered before spill so_far → KeepsGathered now more (add so_far posting))
+    → ((header : Bytes) (so_far : TermsSoFar) → KeepsGathered before spill so_far → HasWritten mid before header so_far.closed → HasWritten new now header (add so_far posting).closed)
+    → CanStoreTerm now → Reaches new now.file now.offset → now.file ≡ before.file → Changes (FileChange before.file AnyChange) mid new → KeepsCounts mid new → HasTaken old new all left was now more
 one_more old mid new all left posting was before now spill more taken keeps ok ready room file changes counts = record {
   done = taken.done ++ posting ∷ [];
   all_is = taken.all_is ∙ sym (append_assoc taken.done (posting ∷ []) left);
-  keeps = subst (λ (s : Gathered). KeepsGathered now more s) added (keeps (gathered taken.done) taken.keeps);
-  ok = λ header first. subst (λ (s : Gathered). HasWritten new now header s.closed) added (ok header (gathered taken.done) taken.keeps (taken.ok header first));
+  keeps = subst (λ (s : TermsSoFar). KeepsGathered now more s) added (keeps (gathered taken.done) taken.keeps);
+  ok = λ header first. subst (λ (s : TermsSoFar). HasWritten new now header s.closed) added (ok header (gathered taken.done) taken.keeps (taken.ok header first));
   ready = ready;
   room = room;
   file = file ∙ taken.file;

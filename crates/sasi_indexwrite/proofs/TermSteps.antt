@@ -12,7 +12,7 @@ use Rattle.sasi_termblocks.specs.Writing.{HasPushed}
 use Rattle.sasi_indexwrite.specs.declared.term_writer.TermWriter.{TermWriter}
 use Rattle.sasi_indexwrite.specs.Content.{IsTerm, TermPairs}
 use Rattle.sasi_indexwrite.specs.Format.{entries_from, trees_bytes}
-use Rattle.sasi_indexwrite.specs.Gathered.{with_pairs}
+use Rattle.sasi_indexwrite.specs.TermsSoFar.{with_pairs}
 use Rattle.sasi_indexwrite.specs.Writing.{HasWritten}
 use Rattle.sasi_indexwrite.proofs.Appends.{written_behind}
 use Rattle.sasi_indexwrite.proofs.Lists.{all_join}

@@ -21,7 +21,7 @@ use Rattle.sasi_termblocks.specs.Scans.{IsRising as AreRisingTerms}
 use Rattle.sasi_indexwrite.specs.Content.{IndexContent, IsContent, IsTerm, TermPairs, postings_of, spill_postings, term_postings, terms_in}
 use Rattle.sasi_indexwrite.specs.Files.{IsIndexFile}
 use Rattle.sasi_indexwrite.specs.Format.{blocks_at, entries, index_bytes}
-use Rattle.sasi_indexwrite.specs.Gathered.{Gathered, add, all_terms, gathered, nothing, with_pairs}
+use Rattle.sasi_indexwrite.specs.TermsSoFar.{TermsSoFar, add, all_terms, gathered, nothing, with_pairs}
 
 -- ---- the reference of the blocks
 
@@ -54,14 +54,14 @@ one_spelling a b content first second =
 
 -- ---- the content of postings
 
-abbrev so_far : List TermPairs → Bytes → List Pair → List Pair → Gathered
+abbrev so_far : List TermPairs → Bytes → List Pair → List Pair → TermsSoFar
 so_far closed term pairs spill = record { closed = closed; term = term; pairs = pairs; spill = spill }
 
 -- the pairs of a term are gathered behind others of it
 same_term : (closed : List TermPairs) (term : Bytes) (pairs more spill : List Pair) → fold add (so_far closed term pairs spill) (map (posting_of term Stored) more) ≡ so_far closed term (pairs ++ more) spill
 same_term closed term pairs [] spill = ap (λ (l : List Pair). so_far closed term l spill) (sym (append-nil pairs))
 same_term closed term pairs (pair ∷ more) spill =
-    ap (λ (s : Gathered). fold add s (map (posting_of term Stored) more)) (by_test (term_eq term term) (itself term)) ∙ same_term closed term (pairs ++ pair ∷ []) more spill
+    ap (λ (s : TermsSoFar). fold add s (map (posting_of term Stored) more)) (by_test (term_eq term term) (itself term)) ∙ same_term closed term (pairs ++ pair ∷ []) more spill
     ∙ ap (λ (l : List Pair). so_far closed term l spill) (append_assoc pairs (pair ∷ []) more)
   where
     itself : (t : Bytes) → term_eq t t ≡ true
@@ -72,14 +72,14 @@ same_term closed term pairs (pair ∷ more) spill =
     by_test true is = refl
     by_test false is = absurd cc
 
-abbrev state : List TermPairs → Bytes → List Pair → Gathered
+abbrev state : List TermPairs → Bytes → List Pair → TermsSoFar
 state closed term pairs = so_far closed term pairs []
 
 -- another term closes the last one
 other_term : (closed : List TermPairs) (term : Bytes) (pairs : List Pair) (next : Bytes) (pair : Pair) (more : List Pair) → term_eq term next ≡ false
     → fold add (state closed term pairs) (map (posting_of next Stored) (pair ∷ more)) ≡ state (closed ++ with_pairs term pairs) next (pair ∷ more)
 other_term closed term pairs next pair more differ =
-    ap (λ (s : Gathered). fold add s (map (posting_of next Stored) more)) (by_test (term_eq term next) differ) ∙ same_term (closed ++ with_pairs term pairs) next (pair ∷ []) more []
+    ap (λ (s : TermsSoFar). fold add s (map (posting_of next Stored) more)) (by_test (term_eq term next) differ) ∙ same_term (closed ++ with_pairs term pairs) next (pair ∷ []) more []
   where
     by_test : (b : Bool) → b ≡ false → so_far (if b then closed else (closed ++ with_pairs term pairs)) next ((if b then pairs else []) ++ pair ∷ []) [] ≡ state (closed ++ with_pairs term pairs) next (pair ∷ [])
     by_test true is = absurd cc
@@ -102,7 +102,7 @@ rising_tail term terms rising index lt =
 
 -- the terms are gathered one after another
 terms_back : (closed : List TermPairs) (term : Bytes) (pairs : List Pair) (terms : List TermPairs) → AllByRecursion IsTerm terms → AreRisingTerms (term ∷ terms_in terms)
-    → (last : Gathered) × (fold add (state closed term pairs) (flat_map term_postings terms) ≡ last) × (all_terms last ≡ (closed ++ with_pairs term pairs) ++ terms) × (last.spill ≡ [])
+    → (last : TermsSoFar) × (fold add (state closed term pairs) (flat_map term_postings terms) ≡ last) × (all_terms last ≡ (closed ++ with_pairs term pairs) ++ terms) × (last.spill ≡ [])
 terms_back closed term pairs [] each rising = (state closed term pairs, refl, sym (append-nil (closed ++ with_pairs term pairs)), refl)
 terms_back closed term pairs ((next, []) ∷ others) each rising = absurd (omega (arith, each.0.some))
 terms_back closed term pairs ((next, pair ∷ more) ∷ others) each rising =
@@ -112,32 +112,32 @@ terms_back closed term pairs ((next, pair ∷ more) ∷ others) each rising =
     in
     let rest = terms_back begun next (pair ∷ more) others each.1 (rising_tail term (next ∷ terms_in others) rising) in (
       rest.0,
-      fold-append add (state closed term pairs) (map (posting_of next Stored) (pair ∷ more)) (flat_map term_postings others) ∙ ap (λ (s : Gathered). fold add s (flat_map term_postings others)) first ∙ rest.1,
+      fold-append add (state closed term pairs) (map (posting_of next Stored) (pair ∷ more)) (flat_map term_postings others) ∙ ap (λ (s : TermsSoFar). fold add s (flat_map term_postings others)) first ∙ rest.1,
       rest.2 ∙ append_assoc begun ((next, pair ∷ more) ∷ []) others,
       rest.3,
     )
 
 -- from nothing on
 first_term : (next : Bytes) (pair : Pair) (more : List Pair) → fold add nothing (map (posting_of next Stored) (pair ∷ more)) ≡ state [] next (pair ∷ more)
-first_term next pair more = ap (λ (s : Gathered). fold add s (map (posting_of next Stored) more)) (by_test (term_eq [] next)) ∙ same_term [] next (pair ∷ []) more []
+first_term next pair more = ap (λ (s : TermsSoFar). fold add s (map (posting_of next Stored) more)) (by_test (term_eq [] next)) ∙ same_term [] next (pair ∷ []) more []
   where
     by_test : (b : Bool) → so_far (if b then [] else ([] ++ with_pairs [] [])) next ((if b then [] else []) ++ pair ∷ []) [] ≡ state [] next (pair ∷ [])
     by_test true = refl
     by_test false = refl
 
-all_back : (terms : List TermPairs) → AllByRecursion IsTerm terms → AreRisingTerms (terms_in terms) → (last : Gathered) × (fold add nothing (flat_map term_postings terms) ≡ last) × (all_terms last ≡ terms) × (last.spill ≡ [])
+all_back : (terms : List TermPairs) → AllByRecursion IsTerm terms → AreRisingTerms (terms_in terms) → (last : TermsSoFar) × (fold add nothing (flat_map term_postings terms) ≡ last) × (all_terms last ≡ terms) × (last.spill ≡ [])
 all_back [] each rising = (nothing, refl, refl, refl)
 all_back ((next, []) ∷ others) each rising = absurd (omega (arith, each.0.some))
 all_back ((next, pair ∷ more) ∷ others) each rising =
     let rest = terms_back [] next (pair ∷ more) others each.1 rising in (
       rest.0,
-      fold-append add nothing (map (posting_of next Stored) (pair ∷ more)) (flat_map term_postings others) ∙ ap (λ (s : Gathered). fold add s (flat_map term_postings others)) (first_term next pair more) ∙ rest.1,
+      fold-append add nothing (map (posting_of next Stored) (pair ∷ more)) (flat_map term_postings others) ∙ ap (λ (s : TermsSoFar). fold add s (flat_map term_postings others)) (first_term next pair more) ∙ rest.1,
       rest.2,
       rest.3,
     )
 
 -- and then the spill
-spill_back : (all : Gathered) (spill : List Pair) → fold add all (spill_postings spill) ≡ so_far all.closed all.term all.pairs (all.spill ++ spill)
+spill_back : (all : TermsSoFar) (spill : List Pair) → fold add all (spill_postings spill) ≡ so_far all.closed all.term all.pairs (all.spill ++ spill)
 spill_back all [] = ap (λ (l : List Pair). so_far all.closed all.term all.pairs l) (sym (append-nil all.spill))
 spill_back all (pair ∷ spill) =
     spill_back (so_far all.closed all.term all.pairs (all.spill ++ pair ∷ [])) spill
@@ -148,9 +148,9 @@ content_back : (content : IndexContent) → IsContent content → (all_terms (ga
 content_back content is =
     let terms = all_back content.terms is.each is.rising in
     let whole : gathered (postings_of content.terms content.spill) ≡ so_far terms.0.closed terms.0.term terms.0.pairs (terms.0.spill ++ content.spill) =
-    fold-append add nothing (flat_map term_postings content.terms) (spill_postings content.spill) ∙ ap (λ (s : Gathered). fold add s (spill_postings content.spill)) terms.1 ∙ spill_back terms.0 content.spill
+    fold-append add nothing (flat_map term_postings content.terms) (spill_postings content.spill) ∙ ap (λ (s : TermsSoFar). fold add s (spill_postings content.spill)) terms.1 ∙ spill_back terms.0 content.spill
     in
-    (ap (λ (s : Gathered). all_terms s) whole ∙ terms.2, ap (λ (s : Gathered). s.spill) whole ∙ ap (λ (l : List Pair). l ++ content.spill) terms.3)
+    (ap (λ (s : TermsSoFar). all_terms s) whole ∙ terms.2, ap (λ (s : TermsSoFar). s.spill) whole ∙ ap (λ (l : List Pair). l ++ content.spill) terms.3)
 
 -- postings are those of one content
 pub one_content : (a b : IndexContent) → IsContent a → IsContent b → postings_of a.terms a.spill ≡ postings_of b.terms b.spill → (a.terms ≡ b.terms) × (a.spill ≡ b.spill)

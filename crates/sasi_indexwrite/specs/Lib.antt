@@ -1,6 +1,6 @@
 pub mod Content
 pub mod Format
 pub mod Files
-pub mod Gathered
+pub mod TermsSoFar
 pub mod Writing
 pub mod Causes

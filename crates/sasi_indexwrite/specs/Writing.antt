@@ -14,10 +14,10 @@ use Rattle.sasi_termblocks.specs.Writing.{HasPushed}
 use Rattle.sasi_indexwrite.specs.declared.term_writer.TermWriter.{TermWriter}
 use Rattle.sasi_indexwrite.specs.Content.{IsTerm, TermPairs}
 use Rattle.sasi_indexwrite.specs.Format.{entries_from, footer_bytes, padding, trees_bytes}
-use Rattle.sasi_indexwrite.specs.Gathered.{Gathered}
+use Rattle.sasi_indexwrite.specs.TermsSoFar.{TermsSoFar}
 
 -- the term can be stored, its pairs rise, and no file is longer than 2^62 bytes
-pub record IsReady (writer : TermWriter) : Type 0 where
+pub record CanStoreTerm (writer : TermWriter) : Type 0 where
   pub short : length writer.term ≤ 1024
   pub rising : IsRising writer.pairs
   pub fits : writer.offset ≤ 2 ^ 62
@@ -31,7 +31,7 @@ pub record HasWritten (v : View) (writer : TermWriter) (header : Bytes) (closed 
   pub each : AllByRecursion IsTerm closed
 
 -- and what else was gathered
-pub record KeepsGathered (writer : TermWriter) (spill : List Pair) (all : Gathered) : Type 0 where
+pub record KeepsGathered (writer : TermWriter) (spill : List Pair) (all : TermsSoFar) : Type 0 where
   pub term : writer.term ≡ all.term
   pub pairs : writer.pairs ≡ all.pairs
   pub spill_is : spill ≡ all.spill

@@ -4,8 +4,8 @@ ghost use Rattle.sasi_host.specs.Names.{Bytes};
 ghost use Rattle.sasi_host.specs.View.{ListCauses, Reaches};
 ghost use Rattle.sasi_host.specs.Disk.{AnyChange, Changes, FileChange};
 ghost use Rattle.sasi_indexwrite.specs.Causes.{WriteCauses};
-ghost use Rattle.sasi_indexwrite.specs.Gathered.{AreGathered, CanFollow, Gathered, add, gathered};
-ghost use Rattle.sasi_indexwrite.specs.Writing.{HasWritten, IsReady, KeepsGathered};
+ghost use Rattle.sasi_indexwrite.specs.TermsSoFar.{AreSortedPostings, CanFollow, TermsSoFar, add, gathered};
+ghost use Rattle.sasi_indexwrite.specs.Writing.{CanStoreTerm, HasWritten, KeepsGathered};
 
 use crate::term_writer::{TermWriter, add_pair};
 use sasi_host::{Host, HostFault, ReadFault};
@@ -22,11 +22,11 @@ fn add_posting<H: Host>(
     posting: Posting,
 ) -> Result<(), HostFault>
     requires follows { CanFollow writer.old.term writer.old.pairs posting }
-    requires ready { IsReady writer.old }
+    requires ready { CanStoreTerm writer.old }
     requires room { Reaches (H.view host.old) writer.old.file writer.old.offset }
-    ensures keeps { OnOk result ((all : Gathered) → KeepsGathered writer.old spill.old all → KeepsGathered writer.new spill.new (add all posting)) }
-    ensures ok { OnOk result ((header : Bytes) (all : Gathered) → KeepsGathered writer.old spill.old all → HasWritten (H.view host.old) writer.old header all.closed → HasWritten (H.view host.new) writer.new header (add all posting).closed) }
-    ensures ready { OnOk result (IsReady writer.new) }
+    ensures keeps { OnOk result ((all : TermsSoFar) → KeepsGathered writer.old spill.old all → KeepsGathered writer.new spill.new (add all posting)) }
+    ensures ok { OnOk result ((header : Bytes) (all : TermsSoFar) → KeepsGathered writer.old spill.old all → HasWritten (H.view host.old) writer.old header all.closed → HasWritten (H.view host.new) writer.new header (add all posting).closed) }
+    ensures ready { OnOk result (CanStoreTerm writer.new) }
     ensures room { OnOk result (Reaches (H.view host.new) writer.new.file writer.new.offset) }
     ensures file { writer.new.file ≡ writer.old.file }
     ensures changes { Changes (FileChange writer.old.file AnyChange) (H.view host.old) (H.view host.new) }
@@ -47,13 +47,13 @@ pub fn add_postings<H: Host>(
     writer: &mut TermWriter,
     spill: &mut PairList,
 ) -> Result<(), ReadFault>
-    requires gathered { AreGathered gather.old.postings }
+    requires gathered { AreSortedPostings gather.old.postings }
     requires none { KeepsGathered writer.old spill.old (gathered []) }
-    requires ready { IsReady writer.old }
+    requires ready { CanStoreTerm writer.old }
     requires room { Reaches (H.view host.old) writer.old.file writer.old.offset }
     ensures keeps { OnOk result (KeepsGathered writer.new spill.new (gathered gather.old.postings)) }
     ensures ok { OnOk result ((header : Bytes) → HasWritten (H.view host.old) writer.old header [] → HasWritten (H.view host.new) writer.new header (gathered gather.old.postings).closed) }
-    ensures ready { OnOk result (IsReady writer.new) }
+    ensures ready { OnOk result (CanStoreTerm writer.new) }
     ensures room { OnOk result (Reaches (H.view host.new) writer.new.file writer.new.offset) }
     ensures file { writer.new.file ≡ writer.old.file }
     ensures changes { Changes (FileChange writer.old.file AnyChange) (H.view host.old) (H.view host.new) }

@@ -6,8 +6,8 @@ ghost use Rattle.sasi_host.specs.Disk.{AnyChange, Changes, FileChange};
 ghost use Rattle.sasi_tokentree.specs.Format.{IsRising};
 ghost use Rattle.sasi_termblocks.specs.Writing.{HasPushed};
 ghost use Rattle.sasi_indexwrite.specs.Content.{TermPairs};
-ghost use Rattle.sasi_indexwrite.specs.Gathered.{closed_for, kept_for, with_pair, with_pairs};
-ghost use Rattle.sasi_indexwrite.specs.Writing.{HasWritten, IsReady};
+ghost use Rattle.sasi_indexwrite.specs.TermsSoFar.{closed_for, kept_for, with_pair, with_pairs};
+ghost use Rattle.sasi_indexwrite.specs.Writing.{CanStoreTerm, HasWritten};
 
 use crate::header::HEADER_LENGTH;
 use sasi_host::{FileName, Host, HostFault};
@@ -34,7 +34,7 @@ impl TermWriter {
         ensures file { result.file ≡ file }
         ensures term { result.term ≡ [] }
         ensures pairs { result.pairs ≡ [] }
-        ensures ready { IsReady result }
+        ensures ready { CanStoreTerm result }
         ensures offset { result.offset ≡ 16 }
         ensures blocks { HasPushed result.blocks [] }
     {
@@ -56,7 +56,7 @@ fn write_term<H: Host>(
     term: Term,
 ) -> Result<(), HostFault>
     requires short { length term ≤ 1024 }
-    requires ready { IsReady writer.old }
+    requires ready { CanStoreTerm writer.old }
     requires room { Reaches (H.view host.old) writer.old.file writer.old.offset }
     ensures ok { OnOk result ((header : Bytes) (closed : List TermPairs) → HasWritten (H.view host.old) writer.old header closed → HasWritten (H.view host.new) writer.new header (closed ++ with_pairs term writer.old.pairs)) }
     ensures pairs { OnOk result (writer.new.pairs ≡ []) }
@@ -91,7 +91,7 @@ fn begin_term<H: Host>(
     term: Term,
 ) -> Result<(), HostFault>
     requires short { length term ≤ 1024 }
-    requires ready { IsReady writer.old }
+    requires ready { CanStoreTerm writer.old }
     requires room { Reaches (H.view host.old) writer.old.file writer.old.offset }
     ensures ok { OnOk result ((header : Bytes) (closed : List TermPairs) → HasWritten (H.view host.old) writer.old header closed → HasWritten (H.view host.new) writer.new header (closed_for closed writer.old.term writer.old.pairs term)) }
     ensures term { OnOk result (writer.new.term ≡ term) }
@@ -119,12 +119,12 @@ pub fn add_pair<H: Host>(
 ) -> Result<(), HostFault>
     requires short { length term ≤ 1024 }
     requires rises { IsRising (with_pair writer.old.term writer.old.pairs term pair) }
-    requires ready { IsReady writer.old }
+    requires ready { CanStoreTerm writer.old }
     requires room { Reaches (H.view host.old) writer.old.file writer.old.offset }
     ensures ok { OnOk result ((header : Bytes) (closed : List TermPairs) → HasWritten (H.view host.old) writer.old header closed → HasWritten (H.view host.new) writer.new header (closed_for closed writer.old.term writer.old.pairs term)) }
     ensures term { OnOk result (writer.new.term ≡ term) }
     ensures pairs { OnOk result (writer.new.pairs ≡ with_pair writer.old.term writer.old.pairs term pair) }
-    ensures ready { OnOk result (IsReady writer.new) }
+    ensures ready { OnOk result (CanStoreTerm writer.new) }
     ensures room { OnOk result (Reaches (H.view host.new) writer.new.file writer.new.offset) }
     ensures file { writer.new.file ≡ writer.old.file }
     ensures changes { Changes (FileChange writer.old.file AnyChange) (H.view host.old) (H.view host.new) }
@@ -141,7 +141,7 @@ pub fn end_terms<H: Host>(
     host: &mut H,
     writer: &mut TermWriter,
 ) -> Result<(), HostFault>
-    requires ready { IsReady writer.old }
+    requires ready { CanStoreTerm writer.old }
     requires room { Reaches (H.view host.old) writer.old.file writer.old.offset }
     ensures ok { OnOk result ((header : Bytes) (closed : List TermPairs) → HasWritten (H.view host.old) writer.old header closed → HasWritten (H.view host.new) writer.new header (closed ++ with_pairs writer.old.term writer.old.pairs)) }
     ensures fits { OnOk result (writer.new.offset ≤ 2 ^ 62) }

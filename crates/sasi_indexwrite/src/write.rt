@@ -10,8 +10,8 @@ ghost use Rattle.sasi_indexwrite.specs.Causes.{WriteCauses};
 ghost use Rattle.sasi_indexwrite.specs.Content.{TermPairs};
 ghost use Rattle.sasi_indexwrite.specs.Files.{HoldsIndex};
 ghost use Rattle.sasi_indexwrite.specs.Format.{header_bytes};
-ghost use Rattle.sasi_indexwrite.specs.Gathered.{AreGathered, with_pairs};
-ghost use Rattle.sasi_indexwrite.specs.Writing.{EndsFile, HasWritten, IsReady};
+ghost use Rattle.sasi_indexwrite.specs.TermsSoFar.{AreSortedPostings, with_pairs};
+ghost use Rattle.sasi_indexwrite.specs.Writing.{CanStoreTerm, EndsFile, HasWritten};
 
 use crate::header::put_header;
 use crate::postings::add_postings;
@@ -49,7 +49,7 @@ fn end_file<H: Host>(
     writer: TermWriter,
     spill: &PairList,
 ) -> Result<(), HostFault>
-    requires ready { IsReady writer }
+    requires ready { CanStoreTerm writer }
     requires rising { IsRising spill.now }
     requires room { Reaches (H.view host.old) writer.file writer.offset }
     ensures ok { OnOk result ((header : Bytes) (closed : List TermPairs) → HasWritten (H.view host.old) writer header closed → EndsFile (H.view host.new) writer.file header (closed ++ with_pairs writer.term writer.pairs) spill.now) }
@@ -77,7 +77,7 @@ pub fn write_index<H: Host>(
 ) -> Result<(), ReadFault>
     requires mode { def.now.mode ≢ Sparse }
     requires kind { def.now.kind ≢ Uuid }
-    requires gathered { AreGathered gather.postings }
+    requires gathered { AreSortedPostings gather.postings }
     requires absent { IsAbsent (H.view host.old) file }
     ensures ok { OnOk result (HoldsIndex (H.view host.new) file def.now.mode def.now.kind gather.postings) }
     ensures synced { OnOk result (IsSynced (H.view host.new) file) }

@@ -11,7 +11,7 @@ use Rattle.sasi_layout.proofs.ListingLaws.{rising_bound}
 use Rattle.sasi_layout.proofs.ShapeLaws.{tables_agree}
 use Rattle.sasi_layout.specs.Frames.{AgreeOn, DeletesOld}
 use Rattle.sasi_layout.specs.Layout.{File, Layout, TableParts, bare, bare_table, listed_of}
-use Rattle.sasi_layout.specs.Wells.{IsWellTable, Rising}
+use Rattle.sasi_layout.specs.NumbersInOrder.{HasFilesInOrder, Rising}
 
 -- the files of the tables have lower numbers
 abbrev pub AreBelow : ℕ → List TableParts → Type 0
@@ -21,9 +21,9 @@ rising_below : (low high : ℕ) (fs : List File) → Rising low high (map (λ (f
 rising_below low high [] rise = tt
 rising_below low high (f ∷ fs) rise = (omega (arith, rising_bound f.listed.number high (map (λ (f : File). f.listed) fs) rise.1), rising_below f.listed.number high fs rise.1)
 
-all_below : (high last : ℕ) (ts : List TableParts) → AllByRecursion (IsWellTable high last) (map listed_of ts) → AreBelow (suc high) ts
-all_below high last [] well = tt
-all_below high last (t ∷ ts) well = (rising_below 0 high t.files well.0.rise, all_below high last ts well.1)
+all_below : (high last : ℕ) (ts : List TableParts) → AllByRecursion (HasFilesInOrder high last) (map listed_of ts) → AreBelow (suc high) ts
+all_below high last [] in_order = tt
+all_below high last (t ∷ ts) in_order = (rising_below 0 high t.files in_order.0.rise, all_below high last ts in_order.1)
 
 files_alike : (x y : Folder) (number : ℕ) → ((name : FileName) → name ≢ data_name number → get y name ≡ get x name) → (fs : List File) → AllByRecursion (λ (f : File). f.listed.number < number) fs → AllByRecursion (λ (f : File). get y (data_name f.listed.number) ≡ get x (data_name f.listed.number)) fs
 files_alike x y number others [] below = tt

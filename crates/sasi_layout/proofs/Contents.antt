@@ -35,7 +35,7 @@ abbrev pub contents_in : Entries → Content
 contents_in es = map (λ (e : DecoratedKey × Partition). (e.0.key, e.1)) es
 
 -- a map that can be written
-pub record IsWritable (p : Partitioner) (types : List ColumnType) (m : Partitions) : Type 0 where
+pub record IsWritableMap (p : Partitioner) (types : List ColumnType) (m : Partitions) : Type 0 where
   pub some : 1 ≤ length (map_.entries m)
   pub storable : AllByRecursion (IsStorable p types) (map_.entries m)
 
@@ -92,7 +92,7 @@ map_back p types m right = same_maps _ _ (λ q.
     ∙ map_.get-from_entries decorated_total (map_.entries m) q
     ∙ sym (map_.get-entries m q))
 
-pub written_file : (p : Partitioner) (types : List ColumnType) (m : Partitions) → IsWritable p types m → IsDataFile p types (data_bytes p (contents_of m)) (contents_of m)
+pub written_file : (p : Partitioner) (types : List ColumnType) (m : Partitions) → IsWritableMap p types m → IsDataFile p types (data_bytes p (contents_of m)) (contents_of m)
 written_file p types m is = record {
   content_is = record {
     some = omega (arith, is.some, as_many (map_.entries m));
@@ -104,7 +104,7 @@ written_file p types m is = record {
 }
 
 -- The file that is written of a map is there in a folder that has its bytes.
-pub has_written : (folder : Folder) (p : Partitioner) (d : Definition) (file : File) → IsWritable p (types_of d) file.holds → get folder (data_name file.listed.number) ≡ Some (data_bytes p (contents_of file.holds)) → length (data_bytes p (contents_of file.holds)) ≤ 2 ^ 62 → HasFile folder p d file
+pub has_written : (folder : Folder) (p : Partitioner) (d : Definition) (file : File) → IsWritableMap p (types_of d) file.holds → get folder (data_name file.listed.number) ≡ Some (data_bytes p (contents_of file.holds)) → length (data_bytes p (contents_of file.holds)) ≤ 2 ^ 62 → HasFile folder p d file
 has_written folder p d file is there fits = record {
   bytes = data_bytes p (contents_of file.holds);
   content = contents_of file.holds;

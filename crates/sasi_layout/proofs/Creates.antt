@@ -21,7 +21,7 @@ use Rattle.sasi_manifest.specs.Types.{numbered_types}
 use Rattle.sasi_manifest.specs.declared.listing.Listing.{Listing}
 use Rattle.sasi_folder.proofs.FolderChanges.{mutation_listed, segments_of_more, types_push}
 use Rattle.sasi_folder.proofs.FolderLaws.{kinds_apart, sealed_kept, segments_kept}
-use Rattle.sasi_folder.specs.Stands.{HasSegments}
+use Rattle.sasi_folder.specs.FolderContents.{HasSegments}
 use Rattle.sasi_layout.proofs.Flushes.{flush_kept}
 use Rattle.sasi_layout.proofs.LayoutLaws.{bare_listing}
 use Rattle.sasi_layout.proofs.Replaying.{no_mutation}

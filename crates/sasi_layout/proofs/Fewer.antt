@@ -9,7 +9,7 @@ use Rattle.sasi_manifest.specs.declared.listing.Listing.{Listing}
 use Rattle.sasi_manifest.specs.OpenManifest.{ManifestStands}
 use Rattle.sasi_manifest.proofs.Laws.{manifest_stays}
 use Rattle.sasi_layout.specs.Layout.{Layout, listing_of}
-use Rattle.sasi_layout.specs.Serving.{Serves, StoreInHand}
+use Rattle.sasi_layout.specs.Serving.{Serves, StoreInMemory}
 
 module _ (a b : View) (fewer : (x : Folder) → b.image x → a.image x) where
   -- a gated file ends where it did
@@ -19,10 +19,10 @@ module _ (a b : View) (fewer : (x : Folder) → b.image x → a.image x) where
   pub manifest_fewer : (number at : ℕ) (listing : Listing) → ManifestStands a number at listing → ManifestStands b number at listing
   manifest_fewer number at listing = manifest_stays a b number at listing (λ bytes kept x now. kept x (fewer x now))
 
-  pub serves_fewer : (store : StoreInHand) (l : Layout) → IsTold b → Serves a store l → Serves b store l
+  pub serves_fewer : (store : StoreInMemory) (l : Layout) → IsTold b → Serves a store l → Serves b store l
   serves_fewer store l told serves = record {
     told = told;
-    well = serves.well;
+    in_order = serves.in_order;
     definitions = serves.definitions;
     tables = serves.tables;
     used = serves.used;

@@ -21,7 +21,7 @@ use Rattle.sasi_manifest.specs.Types.{numbered_types}
 use Rattle.sasi_manifest.specs.declared.listing.Listing.{Listing}
 use Rattle.sasi_folder.proofs.FolderChanges.{segments_join, all_both}
 use Rattle.sasi_folder.proofs.FolderLaws.{kinds_apart, sealed_kept, segments_kept}
-use Rattle.sasi_folder.specs.Stands.{HasSegment, HasSegments, IsSealed}
+use Rattle.sasi_folder.specs.FolderContents.{HasSegment, HasSegments, IsSealed}
 use Rattle.sasi_layout.proofs.Floors.{need_floor, floor_below, floor_above, NeedFrom}
 use Rattle.sasi_layout.proofs.LayoutLaws.{bare_listing}
 use Rattle.sasi_layout.proofs.Replaying.{IsFrom, replay_dropped, replay_late, replay_with_none}
@@ -118,10 +118,10 @@ module _ (x y : Folder) (l : Layout) (table : ℕ) (logs : List (List Mutation))
       let left : next + length (drop k logs) ≡ suc l.last = omega (arith, live, raised, below, length-drop k logs) in
       bare_shape y (after_flush table l) (listing_of (after_flush table l)) (logs_after table l logs) refl flush_sealed (bytes, there, later)
       (omega (arith, left, length-append (drop k logs) ([] ∷ [])))
-      (subst (λ (ts : Tables). HasSegments y ts next (drop k logs ++ [] ∷ [])) (sym (types_flushed (suc l.used.file) (suc l.last) 1 table 1 l.tables))
+      (subst (λ (ts : Tables). HasSegments y ts next (drop k logs ++ [] ∷ [])) (sym (types_flushed (suc l.used.«data») (suc l.last) 1 table 1 l.tables))
       (segments_join y types next (drop k logs) [] (subst (λ i. HasSegments y types i (drop k logs)) (sym raised) (segments_dropped y types l.floor k logs flush_segments))
       (subst (λ n. HasSegment y types n []) (sym left) (new.bytes, flush_logs (suc l.last) ∙ new.segment, record { gated = new.empty; of_tables = tt }))))
-      (flushed_shaped x y l.partitioner l.floor next k table (suc l.used.file) (suc l.last) logs raised (omega (arith, left)) flush_data 1 l.tables (need_floor 1 table (suc l.last) l.tables) new.file has.tables)
+      (flushed_shaped x y l.partitioner l.floor next k table (suc l.used.«data») (suc l.last) logs raised (omega (arith, left)) flush_data 1 l.tables (need_floor 1 table (suc l.last) l.tables) new.file has.tables)
 
 -- At each moment of the append to the manifest the folder has the shape from before, or that after the flush.
 pub flush_appended : (x y : Folder) (l : Layout) (table : ℕ) (logs : List (List Mutation)) → HasShape x (bare l) logs → HasNew table l x → FileChange (manifest_name l.used.manifest) (LeftWith (ListsEither l (after_flush table l))) x y

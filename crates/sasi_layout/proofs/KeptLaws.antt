@@ -15,8 +15,8 @@ use Rattle.sasi_manifest.specs.ListedFiles.{has_file, with_files, without}
 use Rattle.sasi_manifest.specs.Listings.{at_number, replaced}
 use Rattle.sasi_manifest.proofs.Replacing.{has_with_files, has_without, unchanged}
 use Rattle.sasi_layout.specs.Kept.{HasKept, Kept, has_data, has_segment, is_kept, is_listed}
-use Rattle.sasi_layout.specs.Moves.{new_file}
-use Rattle.sasi_layout.specs.Wells.{IsWellTable, Rising}
+use Rattle.sasi_layout.specs.Moves.{new_listed_file}
+use Rattle.sasi_layout.specs.NumbersInOrder.{HasFilesInOrder, Rising}
 use Rattle.sasi_layout.proofs.ListingLaws.{rising_bound}
 
 -- ---- names
@@ -75,10 +75,10 @@ none_above low high number (f ∷ fs) rise above =
     ap (λ b. b || has_file fs number) other ∙ none_above f.number high number fs rise.1 above
 
 -- a number above the last used one is listed nowhere
-pub unlisted_above : (high last number : ℕ) (ts : List ListedDefinition) → AllByRecursion (IsWellTable high last) ts → high < number → is_listed ts number ≡ false
-unlisted_above high last number [] well above = refl
-unlisted_above high last number (t ∷ ts) well above =
-    ap (λ b. b || is_listed ts number) (none_above 0 high number t.files well.0.rise above) ∙ unlisted_above high last number ts well.1 above
+pub unlisted_above : (high last number : ℕ) (ts : List ListedDefinition) → AllByRecursion (HasFilesInOrder high last) ts → high < number → is_listed ts number ≡ false
+unlisted_above high last number [] in_order above = refl
+unlisted_above high last number (t ∷ ts) in_order above =
+    ap (λ b. b || is_listed ts number) (none_above 0 high number t.files in_order.0.rise above) ∙ unlisted_above high last number ts in_order.1 above
 
 -- ---- the folder as it reads
 
@@ -102,9 +102,9 @@ kept_there v k name has kept told =
 
 -- ---- after a flush
 
-has_new : (number file : ℕ) (fs : List ListedFile) → has_file (with_files (new_file file ∷ []) (without [] fs)) number ≡ (nat_eq number file || has_file fs number)
+has_new : (number file : ℕ) (fs : List ListedFile) → has_file (with_files (new_listed_file file ∷ []) (without [] fs)) number ≡ (nat_eq number file || has_file fs number)
 has_new number file fs =
-    has_with_files (new_file file ∷ []) (without [] fs) number ∙ ap (λ b. (nat_eq number file || false) || b) (has_without [] fs number) ∙ by (nat_eq number file) (has_file fs number)
+    has_with_files (new_listed_file file ∷ []) (without [] fs) number ∙ ap (λ b. (nat_eq number file || false) || b) (has_without [] fs number) ∙ by (nat_eq number file) (has_file fs number)
   where
     by : (a b : Bool) → ((a || false) || (b && true)) ≡ (a || b)
     by true b = refl
@@ -113,12 +113,12 @@ has_new number file fs =
 
 -- the tables list one file more, where the table of this number is one of them
 pub listed_flushed : (number file table since n : ℕ) (ts : List ListedDefinition) → n ≤ table → table < n + length ts
-    → is_listed (at_number n table (replaced [] (new_file file ∷ []) since) ts) number ≡ (nat_eq number file || is_listed ts number)
+    → is_listed (at_number n table (replaced [] (new_listed_file file ∷ []) since) ts) number ≡ (nat_eq number file || is_listed ts number)
 listed_flushed number file table since n [] above below = absurd (omega (arith, above, below))
 listed_flushed number file table since n (t ∷ ts) above below = by (nat_eq n table) refl (λ apart. listed_flushed number file table since (suc n) ts (omega (arith, above, apart)) (omega (arith, below)))
   where
     f : ListedDefinition → ListedDefinition
-    f = replaced [] (new_file file ∷ []) since
+    f = replaced [] (new_listed_file file ∷ []) since
 
     swap : (a b c : Bool) → (a || (b || c)) ≡ (b || (a || c))
     swap true true c = refl

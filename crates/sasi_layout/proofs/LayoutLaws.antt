@@ -77,7 +77,7 @@ flush_seen number last t =
 
 -- A flush leaves the state.
 pub flush_state : (table : ℕ) (l : Layout) → state_of (after_flush table l) ≡ state_of l
-flush_state table l = ap (λ (ts : List Table). record { partitioner = l.partitioner; tables = ts }) (unseen_at table_of (flush_table (suc l.used.file) (suc l.last)) (flush_seen (suc l.used.file) (suc l.last)) 1 table l.tables)
+flush_state table l = ap (λ (ts : List Table). record { partitioner = l.partitioner; tables = ts }) (unseen_at table_of (flush_table (suc l.used.«data») (suc l.last)) (flush_seen (suc l.used.«data») (suc l.last)) 1 table l.tables)
 
 -- ---- a new table
 

@@ -1,7 +1,7 @@
 pub mod Numbered
 pub mod LayoutLaws
 pub mod ListingLaws
-pub mod WellMoves
+pub mod MovesInOrder
 pub mod Replaying
 pub mod ShapeLaws
 pub mod Puts

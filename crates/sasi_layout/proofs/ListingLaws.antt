@@ -12,8 +12,8 @@ use Rattle.sasi_manifest.specs.ListedFiles.{with_file, without}
 use Rattle.sasi_manifest.specs.Format.{IsNext}
 use Rattle.sasi_manifest.specs.Listings.{at_number, replaced}
 use Rattle.sasi_layout.specs.Layout.{File, Layout, TableParts, listed_of, listing_of}
-use Rattle.sasi_layout.specs.Moves.{after_create, after_flush, after_freeze, after_put, create_edits, flush_edits, flush_table, flushed_file, freeze_table, new_file, new_parts, put_table}
-use Rattle.sasi_layout.specs.Wells.{IsWell, IsWellTable, Rising}
+use Rattle.sasi_layout.specs.Moves.{after_create, after_flush, after_freeze, after_put, create_edits, flush_edits, flush_table, flushed_file, freeze_table, new_listed_file, new_parts, put_table}
+use Rattle.sasi_layout.specs.NumbersInOrder.{HasFilesInOrder, HasNumbersInOrder, Rising}
 use Rattle.sasi_layout.proofs.Numbered.{seen_where, unseen_at}
 
 -- the listing of a layout with other tables
@@ -47,21 +47,21 @@ put_last f low high (g ∷ gs) rise above =
     let other : nat_le f.number g.number ≡ false = grind (arith, nat_tests, less) in
     ap (λ b. cond b (f ∷ g ∷ gs) (g ∷ with_file f gs)) other ∙ ap (λ (l : List ListedFile). g ∷ l) (put_last f g.number high gs rise.1 above)
 
-flush_listed : (high last : ℕ) (t : TableParts) → IsWellTable high last (listed_of t) → listed_of (flush_table (suc high) (suc last) t) ≡ replaced [] (new_file (suc high) ∷ []) (suc last) (listed_of t)
-flush_listed high last t well =
+flush_listed : (high last : ℕ) (t : TableParts) → HasFilesInOrder high last (listed_of t) → listed_of (flush_table (suc high) (suc last) t) ≡ replaced [] (new_listed_file (suc high) ∷ []) (suc last) (listed_of t)
+flush_listed high last t in_order =
     let files : List ListedFile = map (λ (f : File). f.listed) t.files in
     ap (λ (fs : List ListedFile). record (listed_of t) { since = suc last; files = fs }) (
     map-append (λ (f : File). f.listed) t.files (flushed_file (suc high) t ∷ [])
-    ∙ sym (put_last (new_file (suc high)) 0 high files well.rise (omega arith))
-    ∙ ap (with_file (new_file (suc high))) (sym (none_away files)))
+    ∙ sym (put_last (new_listed_file (suc high)) 0 high files in_order.rise (omega arith))
+    ∙ ap (with_file (new_listed_file (suc high))) (sym (none_away files)))
 
 -- what is listed of the tables after a flush
-pub flushed_tables : (table : ℕ) (l : Layout) → IsWell l → (listing_of (after_flush table l)).tables ≡ at_number 1 table (replaced [] (new_file (suc l.used.file) ∷ []) (suc l.last)) (listing_of l).tables
-flushed_tables table l well = seen_where listed_of (flush_table (suc l.used.file) (suc l.last)) (IsWellTable l.used.file l.last) (replaced [] (new_file (suc l.used.file) ∷ []) (suc l.last)) (flush_listed l.used.file l.last) 1 table l.tables well
+pub flushed_tables : (table : ℕ) (l : Layout) → HasNumbersInOrder l → (listing_of (after_flush table l)).tables ≡ at_number 1 table (replaced [] (new_listed_file (suc l.used.«data») ∷ []) (suc l.last)) (listing_of l).tables
+flushed_tables table l in_order = seen_where listed_of (flush_table (suc l.used.«data») (suc l.last)) (HasFilesInOrder l.used.«data» l.last) (replaced [] (new_listed_file (suc l.used.«data») ∷ []) (suc l.last)) (flush_listed l.used.«data» l.last) 1 table l.tables in_order
 
 -- A flush is one record of the manifest.
-pub flush_is_next : (table : ℕ) (l : Layout) → IsWell l → IsNext (listing_of l) (flush_edits table l) (listing_of (after_flush table l))
-flush_is_next table l well = ap (λ (ts : List ListedDefinition). Some (record (listing_of (after_flush table l)) { tables = ts })) (flushed_tables table l well)
+pub flush_is_next : (table : ℕ) (l : Layout) → HasNumbersInOrder l → IsNext (listing_of l) (flush_edits table l) (listing_of (after_flush table l))
+flush_is_next table l in_order = ap (λ (ts : List ListedDefinition). Some (record (listing_of (after_flush table l)) { tables = ts })) (flushed_tables table l in_order)
 
 -- ---- a new table
 

@@ -18,7 +18,7 @@ use Rattle.sasi_layout.proofs.Storable.{merged_storable, entries_storable}
 use Rattle.sasi_layout.specs.Flushed.{IsWritten, HasFlushed}
 use Rattle.sasi_layout.specs.Layout.{Layout, TableParts, unflushed}
 use Rattle.sasi_layout.specs.Moves.{flushed_file}
-use Rattle.sasi_layout.specs.Serving.{AreStorable, AreTablesReady, TableInHand, StoreInHand, IsReady, Serves, table_in_hand}
+use Rattle.sasi_layout.specs.Serving.{AreStorable, AreTablesReady, TableInMemory, StoreInMemory, CanChange, Serves, table_in_memory}
 use Rattle.sasi_layout.specs.Shape.{HasFile}
 
 -- what isn't flushed of the table can be stored in it
@@ -37,12 +37,12 @@ flushed_there x p file table n bytes (t ∷ ts) there fits can is = (
 )
 
 -- Once each image has the bytes that are written of what isn't flushed, each has the file of the flush.
-pub flushed_each : (l : Layout) (table : ℕ) (bytes : Bytes) (v : View) → At 1 table (CanFlush l.partitioner) l.tables → At 1 table (IsWritten l.partitioner bytes) l.tables → IsFileDurable v (data_name (suc l.used.file)) bytes → length bytes ≤ 2 ^ 62 → Each v (HasFlushed table l)
-flushed_each l table bytes v can is kept fits x now = flushed_there x l.partitioner (suc l.used.file) table 1 bytes l.tables (kept x now) fits can is
+pub flushed_each : (l : Layout) (table : ℕ) (bytes : Bytes) (v : View) → At 1 table (CanFlush l.partitioner) l.tables → At 1 table (IsWritten l.partitioner bytes) l.tables → IsFileDurable v (data_name (suc l.used.«data»)) bytes → length bytes ≤ 2 ^ 62 → Each v (HasFlushed table l)
+flushed_each l table bytes v can is kept fits x now = flushed_there x l.partitioner (suc l.used.«data») table 1 bytes l.tables (kept x now) fits can is
 
 -- ---- what a store in memory can flush
 
-can_flush : (p : Partitioner) (floor last n table : ℕ) (ds : List Definition) (hs : List TableInHand) (ts : List TableParts) → AreTablesReady p floor last ds hs → ds ≡ map (λ (t : TableParts). t.definition) ts → hs ≡ map table_in_hand ts → At n table (CanFlush p) ts
+can_flush : (p : Partitioner) (floor last n table : ℕ) (ds : List Definition) (hs : List TableInMemory) (ts : List TableParts) → AreTablesReady p floor last ds hs → ds ≡ map (λ (t : TableParts). t.definition) ts → hs ≡ map table_in_memory ts → At n table (CanFlush p) ts
 can_flush p floor last n table [] hs [] ready definitions tables = tt
 can_flush p floor last n table [] hs (t ∷ ts) ready definitions tables = cc
 can_flush p floor last n table (d ∷ ds) hs [] ready definitions tables = cc
@@ -50,18 +50,18 @@ can_flush p floor last n table (d ∷ ds) [] (t ∷ ts) ready definitions tables
 can_flush p floor last n table (d ∷ ds) (h ∷ hs) (t ∷ ts) ready definitions tables =
     let definition : d ≡ t.definition = cc in
     let more : ds ≡ map (λ (t : TableParts). t.definition) ts = cc in
-    let hand : h ≡ table_in_hand t = cc in
-    let others : hs ≡ map table_in_hand ts = cc in (
+    let in_memory : h ≡ table_in_memory t = cc in
+    let others : hs ≡ map table_in_memory ts = cc in (
       (λ own.
-          let frozen : AllByRecursion (AreStorable p (types_of d)) t.frozen = subst (λ (k : TableInHand). AllByRecursion (AreStorable p (types_of d)) k.frozen) hand ready.0.frozen in
-          let memtable : AreStorable p (types_of d) t.memtable = subst (λ (k : TableInHand). AreStorable p (types_of d) k.memtable) hand ready.0.memtable in
+          let frozen : AllByRecursion (AreStorable p (types_of d)) t.frozen = subst (λ (k : TableInMemory). AllByRecursion (AreStorable p (types_of d)) k.frozen) in_memory ready.0.frozen in
+          let memtable : AreStorable p (types_of d) t.memtable = subst (λ (k : TableInMemory). AreStorable p (types_of d) k.memtable) in_memory ready.0.memtable in
           subst (λ (k : Definition). AreStorable p (types_of k) (merged (unflushed t))) definition
           (merged_storable p (types_of d) ready.0.typed.few (unflushed t) (all_both (AreStorable p (types_of d)) t.frozen (t.memtable ∷ []) frozen (memtable, tt)))),
       can_flush p floor last (suc n) table ds hs ts ready.1 more others,
     )
 
 -- A store that is ready can flush each table.
-pub ready_flush : (v : View) (store : StoreInHand) (l : Layout) (table : ℕ) → IsReady v store → Serves v store l → At 1 table (CanFlush l.partitioner) l.tables
+pub ready_flush : (v : View) (store : StoreInMemory) (l : Layout) (table : ℕ) → CanChange v store → Serves v store l → At 1 table (CanFlush l.partitioner) l.tables
 ready_flush v store l table ready serves =
     let partitioner : store.manifest.listing.partitioner ≡ l.partitioner = ap (λ (e : Listing). e.partitioner) serves.listing in
     subst (λ p. At 1 table (CanFlush p) l.tables) partitioner

@@ -18,7 +18,7 @@ use Rattle.sasi_manifest.specs.Types.{numbered_types}
 use Rattle.sasi_manifest.specs.declared.files.ListedFile.{ListedFile}
 use Rattle.sasi_manifest.specs.declared.listing.Listing.{Listing}
 use Rattle.sasi_folder.proofs.FolderLaws.{sealed_not_fresh, highest_same, segments_same}
-use Rattle.sasi_folder.specs.Stands.{HasSegments}
+use Rattle.sasi_folder.specs.FolderContents.{HasSegments}
 use Rattle.sasi_layout.proofs.OneContent.{one_content}
 use Rattle.sasi_layout.specs.Layout.{File, Layout, TableParts, listed_of, listing_of, state_of, used_in}
 use Rattle.sasi_layout.specs.Shape.{HasFile, map_of, replay, first_in, IsShaped, AreShaped, HasShape, ShapeOf, Stands}

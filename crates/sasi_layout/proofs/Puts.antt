@@ -24,7 +24,7 @@ use Rattle.sasi_manifest.specs.Types.{numbered_types}
 use Rattle.sasi_manifest.specs.declared.listing.Listing.{Listing}
 use Rattle.sasi_folder.proofs.FolderChanges.{segments_join, all_both, segments_apart}
 use Rattle.sasi_folder.proofs.FolderLaws.{kinds_apart, numbers_apart, sealed_kept, segments_kept}
-use Rattle.sasi_folder.specs.Stands.{HasSegment, HasSegments, IsSealed}
+use Rattle.sasi_folder.specs.FolderContents.{HasSegment, HasSegments, IsSealed}
 use Rattle.sasi_layout.proofs.LayoutLaws.{bare_listing}
 use Rattle.sasi_layout.proofs.ListingLaws.{put_listing}
 use Rattle.sasi_layout.proofs.Replaying.{first_other, first_own, replay_other, replay_own}

@@ -11,7 +11,7 @@ use Rattle.sasi_manifest.specs.Format.{IsManifest}
 use Rattle.sasi_manifest.specs.Types.{numbered_types}
 use Rattle.sasi_manifest.specs.declared.listing.Listing.{Listing}
 use Rattle.sasi_folder.proofs.FolderLaws.{sealed_kept, segments_kept}
-use Rattle.sasi_folder.specs.Stands.{HasSegments, IsSealed}
+use Rattle.sasi_folder.specs.FolderContents.{HasSegments, IsSealed}
 use Rattle.sasi_layout.proofs.LayoutLaws.{bare_listing}
 use Rattle.sasi_layout.specs.Frames.{AgreeOn}
 use Rattle.sasi_layout.specs.Layout.{File, IsIdle, Layout, TableParts, bare, bare_table, listing_of, used_in}

@@ -27,11 +27,11 @@ use Rattle.sasi_manifest.proofs.Replacing.{unchanged}
 use Rattle.sasi_layout.specs.Layout.{Layout, TableParts, state_of, table_of}
 use Rattle.sasi_layout.specs.Moves as moves
 use Rattle.sasi_layout.specs.Moves.{Move, after_moves, states}
-use Rattle.sasi_layout.specs.Statements.{are_full, definitions_of, flush_where, hold_any, moves_asked, moves_by}
-use Rattle.sasi_layout.specs.Wells.{IsWell}
+use Rattle.sasi_layout.specs.Statements.{any_partition, are_full, definitions_of, flush_where, moves_asked, moves_by}
+use Rattle.sasi_layout.specs.NumbersInOrder.{HasNumbersInOrder}
 use Rattle.sasi_layout.specs.Worlds.{World, steps}
 use Rattle.sasi_layout.proofs.LayoutLaws.{changed_is, moves_state}
-use Rattle.sasi_layout.proofs.WellMoves.{moves_well}
+use Rattle.sasi_layout.proofs.MovesInOrder.{moves_in_order}
 
 -- ---- a write
 
@@ -175,7 +175,7 @@ pub asked_moves : (l : Layout) (a : Asked) (s : State) → states (moves_asked l
 asked_moves l NoChange s = refl
 asked_moves l (Creates d) s = refl
 asked_moves l (Writes table key change) s = flush_states are_full table (moves.after_put (record { table = table; key = key; change = change }) l) (state_asked (Writes table key change) s)
-asked_moves l (Flushes table) s = flush_states hold_any table l s
+asked_moves l (Flushes table) s = flush_states any_partition table l s
 
 -- the definitions of a layout's tables are those of its state
 pub definitions_are : (l : Layout) → definitions_of l ≡ definitions (state_of l).tables
@@ -196,8 +196,8 @@ step_state_by parser l piece =
     ∙ asked_moves l (parsed_asks (definitions s.tables) (max_timestamp s) parsed) s
     ∙ parsed_state s parsed
 
-pub step_state : (w : World) (piece : Piece) → IsWell w.layout → state_of (steps.after w piece).layout ≡ (step_by grammar_parser (state_of w.layout) piece).state
-step_state w piece well = step_state_by grammar_parser w.layout piece
+pub step_state : (w : World) (piece : Piece) → HasNumbersInOrder w.layout → state_of (steps.after w piece).layout ≡ (step_by grammar_parser (state_of w.layout) piece).state
+step_state w piece in_order = step_state_by grammar_parser w.layout piece
 
-pub step_well : (w : World) (piece : Piece) → IsWell w.layout → IsWell (steps.after w piece).layout
-step_well w piece well = moves_well (moves_by grammar_parser w.layout piece) w.layout well
+pub step_in_order : (w : World) (piece : Piece) → HasNumbersInOrder w.layout → HasNumbersInOrder (steps.after w piece).layout
+step_in_order w piece in_order = moves_in_order (moves_by grammar_parser w.layout piece) w.layout in_order

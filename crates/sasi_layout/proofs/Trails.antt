@@ -28,17 +28,17 @@ use Rattle.sasi_layout.specs.Frames.{AgreeOn}
 use Rattle.sasi_layout.specs.Layout.{Layout, TableParts, bare, listed_of, listing_of, state_of}
 use Rattle.sasi_layout.specs.Moves.{after_put, after_flush, after_create, Move, Put, Flush, Freeze, Create, moved, after_moves, states}
 use Rattle.sasi_layout.specs.Shape.{HasShape, IsOfShape, StandsSealed}
-use Rattle.sasi_layout.specs.Wells.{IsWell, IsWellTable}
+use Rattle.sasi_layout.specs.NumbersInOrder.{HasFilesInOrder, HasNumbersInOrder}
 
 -- ---- layouts
 
-sinces : (high last : ℕ) (ts : List TableParts) → AllByRecursion (IsWellTable high last) (map listed_of ts) → AllByRecursion (λ (t : TableParts). t.since ≤ last) ts
-sinces high last [] well = tt
-sinces high last (t ∷ ts) well = (well.0.since, sinces high last ts well.1)
+sinces : (high last : ℕ) (ts : List TableParts) → AllByRecursion (HasFilesInOrder high last) (map listed_of ts) → AllByRecursion (λ (t : TableParts). t.since ≤ last) ts
+sinces high last [] in_order = tt
+sinces high last (t ∷ ts) in_order = (in_order.0.since, sinces high last ts in_order.1)
 
 -- no table begins after the log
-pub since_last : (l : Layout) → IsWell l → AllByRecursion (λ (t : TableParts). t.since ≤ l.last) l.tables
-since_last l well = sinces l.used.file l.last l.tables well
+pub since_last : (l : Layout) → HasNumbersInOrder l → AllByRecursion (λ (t : TableParts). t.since ≤ l.last) l.tables
+since_last l in_order = sinces l.used.«data» l.last l.tables in_order
 
 -- a folder between moves stands for the state after some first part of them
 pub between_stands : (l : Layout) (moves : List Move) (folder : Folder) → (b : Between l moves folder) → StandsSealed folder (states b.done (state_of l))
@@ -88,11 +88,11 @@ module _ (l : Layout) where
 
   -- ---- one law a move
 
-  pub put_moves : (a b : View) (older : List (List Mutation)) (current : List Mutation) (m : Mutation) → IsSound a → Each a (λ x. HasShape x (bare l) (older ++ current ∷ [])) → IsWell l → IsMutationOf (numbered_types 1 (listing_of l).tables) m
+  pub put_moves : (a b : View) (older : List (List Mutation)) (current : List Mutation) (m : Mutation) → IsSound a → Each a (λ x. HasShape x (bare l) (older ++ current ∷ [])) → HasNumbersInOrder l → IsMutationOf (numbered_types 1 (listing_of l).tables) m
       → Changes (FileChange (log_name l.last) (LeftWith (IsLogBeforeOrAfter (log_name l.last) current m))) a b → Changes (λ x y. Between l (Put m ∷ []) y) a b
-  put_moves a b older current m sound each well fits change =
+  put_moves a b older current m sound each in_order fits change =
       at_each_moment a b _ (λ x. HasShape x (bare l) (older ++ current ∷ [])) (λ y. Between l (Put m ∷ []) y) sound change each (λ x y has step.
-      ⊎_elim (λ former. none_done (Put m ∷ []) y (older ++ current ∷ [], former)) (λ later. all_done (Put m ∷ []) y (older ++ (current ++ m ∷ []) ∷ [], later)) (put_appended x y l older current m has (since_last l well) fits step))
+      ⊎_elim (λ former. none_done (Put m ∷ []) y (older ++ current ∷ [], former)) (λ later. all_done (Put m ∷ []) y (older ++ (current ++ m ∷ []) ∷ [], later)) (put_appended x y l older current m has (since_last l in_order) fits step))
 
   pub flush_moves : (a b : View) (table : ℕ) (logs : List (List Mutation)) → IsSound a → Each a (λ x. HasShape x (bare l) logs × HasNew table l x) → Changes (FileChange (manifest_name l.used.manifest) (LeftWith (ListsEither l (after_flush table l)))) a b
       → Changes (λ x y. Between l (Flush table ∷ []) y) a b
@@ -139,14 +139,14 @@ create_each l d at a b logs each change end y now =
     create_gained from.0 y l d logs (each from.0 from.1) from.2.others end.at_end.bytes (lists.0 y now) lists.1
 
 -- after a mutation at the end of the log
-pub put_each : (l : Layout) (m : Mutation) (at : ℕ) (a b : View) (older : List (List Mutation)) (current : List Mutation) → Each a (λ x. HasShape x (bare l) (older ++ current ∷ [])) → IsWell l → IsMutationOf (numbered_types 1 (listing_of l).tables) m
+pub put_each : (l : Layout) (m : Mutation) (at : ℕ) (a b : View) (older : List (List Mutation)) (current : List Mutation) → Each a (λ x. HasShape x (bare l) (older ++ current ∷ [])) → HasNumbersInOrder l → IsMutationOf (numbered_types 1 (listing_of l).tables) m
     → Changes (FileChange (log_name l.last) AnyChange) a b → IsAtLogEnd b (log_name l.last) at (current ++ m ∷ []) → Each b (λ x. HasShape x (bare (after_put m l)) (older ++ (current ++ m ∷ []) ∷ []))
-put_each l m at a b older current each well fits change end y now =
+put_each l m at a b older current each in_order fits change end y now =
     let from = change.image y now in
     let was = each from.0 from.1 in
     let types = numbered_types 1 (listing_of l).tables in
     let records = gated_end b (log_name l.last) at (map payload_of (current ++ m ∷ [])) end in
-    put_gained from.0 y l older current m was from.2.others (since_last l well) (gained from.0 y types l.floor l.last older current m (last_is from.0 y l older current m was from.2.others) (put_segments from.0 y l older current m was from.2.others) fits from.2.others end.bytes (end.kept y now) records)
+    put_gained from.0 y l older current m was from.2.others (since_last l in_order) (gained from.0 y types l.floor l.last older current m (last_is from.0 y l older current m was from.2.others) (put_segments from.0 y l older current m was from.2.others) fits from.2.others end.bytes (end.kept y now) records)
 
 -- What a flush needs of the folder: the data file and the segment, once each image has them.
 pub new_each : (l : Layout) (table at : ℕ) (v : View) → Each v (HasFlushed table l) → IsAtLogEnd v (log_name (suc l.last)) at [] → Each v (HasNew table l)

@@ -26,7 +26,7 @@ pub record IsWritten (partitioner : Partitioner) (bytes : Bytes) (t : TableParts
 
 -- the folder has the file of what isn't flushed of the table, under the next number
 abbrev pub HasFlushed : ℕ → Layout → Folder → Type 0
-HasFlushed table l folder = At 1 table (λ t. HasFile folder l.partitioner t.definition (flushed_file (suc l.used.file) t)) l.tables
+HasFlushed table l folder = At 1 table (λ t. HasFile folder l.partitioner t.definition (flushed_file (suc l.used.«data») t)) l.tables
 
 -- and the next segment of the log, which is empty
 pub record HasNew (table : ℕ) (l : Layout) (folder : Folder) : Type 0 where

@@ -33,7 +33,7 @@ pub record Used : Type 0 where
   -- that of the sealed manifest
   pub manifest : ℕ
   pub log : ℕ
-  pub file : ℕ
+  pub «data» : ℕ
   pub index : ℕ
   pub part : ℕ
 
@@ -75,17 +75,17 @@ state_of l = record { partitioner = l.partitioner; tables = map table_of l.table
 
 -- ---- what a crash leaves of it
 
-abbrev pub greatest_file : List ListedFile → ℕ
-greatest_file [] = 0
-greatest_file (f ∷ fs) = max f.number (greatest_file fs)
+abbrev pub largest_file : List ListedFile → ℕ
+largest_file [] = 0
+largest_file (f ∷ fs) = max f.number (largest_file fs)
 
-abbrev pub greatest_data : List ListedDefinition → ℕ
-greatest_data [] = 0
-greatest_data (t ∷ ts) = max (greatest_file t.files) (greatest_data ts)
+abbrev pub largest_data : List ListedDefinition → ℕ
+largest_data [] = 0
+largest_data (t ∷ ts) = max (largest_file t.files) (largest_data ts)
 
 -- the largest numbers that are listed, under the manifest of this number
 abbrev pub used_in : ℕ → Listing → Used
-used_in manifest listing = record { manifest = manifest; log = listing.last; file = greatest_data listing.tables; index = 0; part = 0 }
+used_in manifest listing = record { manifest = manifest; log = listing.last; «data» = largest_data listing.tables; index = 0; part = 0 }
 
 -- no map is frozen
 abbrev pub IsIdle : TableParts → Type 0

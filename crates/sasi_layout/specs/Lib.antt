@@ -1,6 +1,6 @@
 pub mod Layout
 pub mod Moves
-pub mod Wells
+pub mod NumbersInOrder
 pub mod Statements
 pub mod Spent
 pub mod Kept

@@ -40,12 +40,12 @@ after_freeze table l = record l { tables = at_number 1 table freeze_table l.tabl
 -- ---- flush
 
 -- the file of a flush, as the manifest lists it
-abbrev pub new_file : ℕ → ListedFile
-new_file number = record { number = number; parts = [] }
+abbrev pub new_listed_file : ℕ → ListedFile
+new_listed_file number = record { number = number; parts = [] }
 
 -- the file of what isn't flushed
 abbrev pub flushed_file : ℕ → TableParts → File
-flushed_file number t = record { listed = new_file number; holds = merged (unflushed t) }
+flushed_file number t = record { listed = new_listed_file number; holds = merged (unflushed t) }
 
 abbrev pub flush_table : ℕ → ℕ → TableParts → TableParts
 flush_table number last t = record t { since = last; first = None; files = t.files ++ flushed_file number t ∷ []; frozen = []; memtable = map_.empty }
@@ -66,7 +66,7 @@ next_floor table l = floor_without 1 table (suc l.last) l.tables
 
 -- the manifest's record of it
 abbrev pub flush_edits : ℕ → Layout → List Edit
-flush_edits table l = Replace table [] (new_file (suc l.used.file) ∷ []) (suc l.last) (next_floor table l) (suc l.last) ∷ []
+flush_edits table l = Replace table [] (new_listed_file (suc l.used.«data») ∷ []) (suc l.last) (next_floor table l) (suc l.last) ∷ []
 
 -- All that isn't flushed of the table becomes a file of the next data number, and the log goes on in its next segment.
 abbrev pub after_flush : ℕ → Layout → Layout
@@ -75,8 +75,8 @@ after_flush table l = record l {
   last = suc l.last;
   records = l.records + 1;
   length = l.length + (5 + length (encoded (flush_edits table l)));
-  tables = at_number 1 table (flush_table (suc l.used.file) (suc l.last)) l.tables;
-  used = record l.used { log = suc l.last; file = suc l.used.file };
+  tables = at_number 1 table (flush_table (suc l.used.«data») (suc l.last)) l.tables;
+  used = record l.used { log = suc l.last; «data» = suc l.used.«data» };
 }
 
 -- ---- create
@@ -125,8 +125,8 @@ states [] s = s
 states (m ∷ ms) s = states ms (moved_state m s)
 
 -- the edits of the manifest's record of a move; none where it lists nothing
-abbrev pub edits_of : Layout → Move → List Edit
-edits_of l (Put m) = []
-edits_of l (Freeze table) = []
-edits_of l (Flush table) = flush_edits table l
-edits_of l (Create d) = create_edits d l
+abbrev pub move_edits : Layout → Move → List Edit
+move_edits l (Put m) = []
+move_edits l (Freeze table) = []
+move_edits l (Flush table) = flush_edits table l
+move_edits l (Create d) = create_edits d l

@@ -8,15 +8,15 @@ use Rattle.sasi_layout.specs.Between.{Between}
 use Rattle.sasi_layout.specs.Layout.{Layout, bare}
 use Rattle.sasi_layout.specs.Moves.{Move}
 use Rattle.sasi_layout.specs.Shape.{IsOfShape}
-use Rattle.sasi_layout.specs.Worlds.{Steps}
+use Rattle.sasi_layout.specs.Worlds.{Transitions}
 
 -- the world after pieces
-abbrev pub after_pieces : {W : Type 0} → Steps W → W → List Piece → W
+abbrev pub after_pieces : {W : Type 0} → Transitions W → W → List Piece → W
 after_pieces s w [] = w
 after_pieces s w (p ∷ ps) = after_pieces s (s.after w p) ps
 
 -- their replies, joined
-abbrev pub replies_of : {W : Type 0} → Steps W → W → List Piece → List ℕ
+abbrev pub replies_of : {W : Type 0} → Transitions W → W → List Piece → List ℕ
 replies_of s w [] = []
 replies_of s w (p ∷ ps) = s.reply w p ++ replies_of s (s.after w p) ps
 
@@ -41,14 +41,14 @@ pub record IsAnswering (after : Layout) (reply shown : List ℕ) (folder : Folde
   pub shape : IsOfShape (bare after) folder
 
 -- the next piece is being run
-pub record IsBusy {W : Type 0} (s : Steps W) (w : W) (shown : List ℕ) (rest : List Piece) (folder : Folder) (out : List ℕ) : Type 0 where
+pub record IsBusy {W : Type 0} (s : Transitions W) (w : W) (shown : List ℕ) (rest : List Piece) (folder : Folder) (out : List ℕ) : Type 0 where
   pub piece : Piece
   pub others : List Piece
   pub next : rest ≡ piece ∷ others
   pub stands : IsMoving (s.moves w piece) (s.layout w) shown folder out ⊎ IsAnswering (s.layout (s.after w piece)) (s.reply w piece) shown folder out
 
 -- What a crash leaves while these pieces are run from a world, where this was emitted before.
-pub record Crashed {W : Type 0} (s : Steps W) (w : W) (before : List ℕ) (pieces : List Piece) (folder : Folder) (out : List ℕ) : Type 0 where
+pub record Crashed {W : Type 0} (s : Transitions W) (w : W) (before : List ℕ) (pieces : List Piece) (folder : Folder) (out : List ℕ) : Type 0 where
   pub done : List Piece
   pub rest : List Piece
   pub parts : pieces ≡ done ++ rest
@@ -61,9 +61,9 @@ abbrev pub Serving : Type 0 → Type 0 → Type 1
 Serving W S = View → S → W → List ℕ → Type 0
 
 -- whichever world it serves before, it serves the world after the pieces, with their replies emitted
-pub record ServesOn {W S : Type 0} (s : Steps W) (IsServing : Serving W S) (a b : View) (old new : S) (pieces : List Piece) : Type 0 where
+pub record ServesOn {W S : Type 0} (s : Transitions W) (IsServing : Serving W S) (a b : View) (old new : S) (pieces : List Piece) : Type 0 where
   pub on : (w : W) (out : List ℕ) → IsServing a old w out → IsServing b new (after_pieces s w pieces) (out ++ replies_of s w pieces)
 
 -- and a crash meanwhile leaves no more than the pieces do
-pub record LeavesPieces {W S : Type 0} (s : Steps W) (IsServing : Serving W S) (a b : View) (store : S) (pieces : List Piece) : Type 0 where
+pub record LeavesPieces {W S : Type 0} (s : Transitions W) (IsServing : Serving W S) (a b : View) (store : S) (pieces : List Piece) : Type 0 where
   pub leaves : (w : W) (out : List ℕ) → IsServing a store w out → CrashLeaves a b (Crashed s w out pieces)

@@ -23,30 +23,30 @@ use Rattle.sasi_layout.specs.Kept.{HasExactly, HasKept, Kept}
 use Rattle.sasi_layout.specs.Layout.{Layout, TableParts, Used, bare, listing_of, state_of}
 use Rattle.sasi_layout.specs.Shape.{HasShape, IsOfShape}
 use Rattle.sasi_layout.specs.Statements.{definitions_of}
-use Rattle.sasi_layout.specs.Wells.{IsWell, IsWellTable}
+use Rattle.sasi_layout.specs.NumbersInOrder.{HasFilesInOrder, HasNumbersInOrder}
 
 -- ---- a store in memory
 
 -- what is in memory of a table
-pub record TableInHand : Type 0 where
+pub record TableInMemory : Type 0 where
   pub first : Option ℕ
   pub frozen : List Partitions
   pub memtable : Partitions
 
-pub record StoreInHand : Type 0 where
+pub record StoreInMemory : Type 0 where
   pub definitions : List Definition
   pub manifest : ManifestState
   -- the last segment of the log
   pub log : Handle
-  pub tables : List TableInHand
+  pub tables : List TableInMemory
   pub used : Used
   -- the largest timestamp of the state
   pub max_timestamp : ℕ
 
-abbrev pub table_in_hand : TableParts → TableInHand
-table_in_hand t = record { first = t.first; frozen = t.frozen; memtable = t.memtable }
+abbrev pub table_in_memory : TableParts → TableInMemory
+table_in_memory t = record { first = t.first; frozen = t.frozen; memtable = t.memtable }
 
-abbrev pub kept_by : StoreInHand → Kept
+abbrev pub kept_by : StoreInMemory → Kept
 kept_by store = record { manifest = store.manifest.number; listing = store.manifest.listing }
 
 -- ---- what it needs to make a change
@@ -72,14 +72,14 @@ IsLive floor last None = ⊤
 IsLive floor last (Some segment) = (floor ≤ segment) × (segment ≤ last)
 
 -- what isn't flushed can be stored, and the table's first segment is live
-pub record IsTableReady (partitioner : Partitioner) (floor last : ℕ) (d : Definition) (t : TableInHand) : Type 0 where
+pub record IsTableReady (partitioner : Partitioner) (floor last : ℕ) (d : Definition) (t : TableInMemory) : Type 0 where
   pub typed : IsTyped d
   pub first : IsLive floor last t.first
   pub frozen : AllByRecursion (AreStorable partitioner (types_of d)) t.frozen
   pub memtable : AreStorable partitioner (types_of d) t.memtable
 
 -- a table in memory for each definition
-abbrev pub AreTablesReady : Partitioner → ℕ → ℕ → List Definition → List TableInHand → Type 0
+abbrev pub AreTablesReady : Partitioner → ℕ → ℕ → List Definition → List TableInMemory → Type 0
 AreTablesReady partitioner floor last [] [] = ⊤
 AreTablesReady partitioner floor last [] (t ∷ ts) = ⊥
 AreTablesReady partitioner floor last (d ∷ ds) [] = ⊥
@@ -89,11 +89,11 @@ AreTablesReady partitioner floor last (d ∷ ds) (t ∷ ts) = IsTableReady parti
 pub record AreNumbered (manifest : ManifestState) (used : Used) : Type 0 where
   pub manifest_is : used.manifest ≡ manifest.number
   pub log_is : used.log ≡ manifest.listing.last
-  pub files : AllByRecursion (IsWellTable used.file manifest.listing.last) manifest.listing.tables
-  pub fits : used.file < 2 ^ 32
+  pub files : AllByRecursion (HasFilesInOrder used.«data» manifest.listing.last) manifest.listing.tables
+  pub fits : used.«data» < 2 ^ 32
 
 -- The store can make a change, whatever is known of the folder's contents: calls on the host find the names that they need, and no other file is there.
-pub record IsReady (v : View) (store : StoreInHand) : Type 0 where
+pub record CanChange (v : View) (store : StoreInMemory) : Type 0 where
   pub consistent : IsConsistent store.manifest.listing
   pub definitions : store.definitions ≡ listed_definitions store.manifest.listing.tables
   pub tables : AreTablesReady store.manifest.listing.partitioner store.manifest.listing.floor store.manifest.listing.last store.definitions store.tables
@@ -110,11 +110,11 @@ pub record IsReady (v : View) (store : StoreInHand) : Type 0 where
 -- ---- the layout that it serves
 
 -- The store serves the layout: it has in memory what the layout has there, the manifest and the log end where it goes on, and each image has the layout's shape.
-pub record Serves (v : View) (store : StoreInHand) (l : Layout) : Type 0 where
+pub record Serves (v : View) (store : StoreInMemory) (l : Layout) : Type 0 where
   pub told : IsTold v
-  pub well : IsWell l
+  pub in_order : HasNumbersInOrder l
   pub definitions : store.definitions ≡ definitions_of l
-  pub tables : store.tables ≡ map table_in_hand l.tables
+  pub tables : store.tables ≡ map table_in_memory l.tables
   pub used : store.used ≡ l.used
   pub timestamp : store.max_timestamp ≡ max_timestamp (state_of l)
   pub listing : store.manifest.listing ≡ listing_of l

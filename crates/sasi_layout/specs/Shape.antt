@@ -15,7 +15,7 @@ use Rattle.sasi_datawrite.specs.Files.{IsDataFile}
 use Rattle.sasi_datawrite.specs.Format.{Content}
 use Rattle.sasi_manifest.specs.Format.{IsManifest}
 use Rattle.sasi_manifest.specs.Types.{numbered_types}
-use Rattle.sasi_folder.specs.Stands.{HasSegments, IsFresh, IsSealed}
+use Rattle.sasi_folder.specs.FolderContents.{HasSegments, IsFresh, IsSealed}
 use Rattle.sasi_layout.specs.Layout.{File, IsIdle, Layout, TableParts, listing_of, state_of, used_in}
 
 -- ---- data files
@@ -90,7 +90,7 @@ IsOfShape l folder = (logs : List (List Mutation)) × HasShape folder l logs
 
 -- the layout of a new store: one empty segment of the log, and a manifest of one record, the start
 abbrev pub new_layout : Partitioner → Layout
-new_layout partitioner = record { partitioner = partitioner; floor = 1; last = 1; records = 1; length = 36; tables = []; used = record { manifest = 1; log = 1; file = 0; index = 0; part = 0 } }
+new_layout partitioner = record { partitioner = partitioner; floor = 1; last = 1; records = 1; length = 36; tables = []; used = record { manifest = 1; log = 1; «data» = 0; index = 0; part = 0 } }
 
 -- The folder's shape. A new folder has that of the store that will be created in it, under the partitioner that is asked, or lead8.
 abbrev pub ShapeOf : Option Partitioner → Folder → Layout → Type 0

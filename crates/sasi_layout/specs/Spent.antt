@@ -9,7 +9,7 @@ use Rattle.sasi_layout.specs.Moves.{Create, Flush, Freeze, Move, Put, moved}
 abbrev pub draws : Layout → Move → List (NumberKind × ℕ)
 draws l (Put m) = []
 draws l (Freeze table) = []
-draws l (Flush table) = (kinds.Data, l.used.file) ∷ (kinds.Log, l.used.log) ∷ []
+draws l (Flush table) = (kinds.Data, l.used.«data») ∷ (kinds.Log, l.used.log) ∷ []
 draws l (Create d) = []
 
 -- the first kind of which no number is left, and else another

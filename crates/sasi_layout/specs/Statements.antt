@@ -19,8 +19,8 @@ numbered n number [] = None
 numbered n number (x ∷ xs) = if nat_eq n number then Some x else numbered (suc n) number xs
 
 -- there is a partition in one of the maps
-abbrev pub hold_any : List Partitions → Bool
-hold_any maps = list_any (λ m. not (length (map_.entries m) == 0)) maps
+abbrev pub any_partition : List Partitions → Bool
+any_partition maps = list_any (λ m. not (length (map_.entries m) == 0)) maps
 
 -- the maps have 65,536 cells or 2^26 bytes
 abbrev pub are_full : List Partitions → Bool
@@ -40,7 +40,7 @@ moves_asked l NoChange = []
 moves_asked l (Creates d) = Create d ∷ []
 moves_asked l (Writes table key change) =
     Put (record { table = table; key = key; change = change }) ∷ flush_where are_full table (after_put (record { table = table; key = key; change = change }) l)
-moves_asked l (Flushes table) = flush_where hold_any table l
+moves_asked l (Flushes table) = flush_where any_partition table l
 
 -- the definitions of the tables
 abbrev pub definitions_of : Layout → List Definition

@@ -7,8 +7,8 @@ use Rattle.sasi_types.specs.declared.literal.Literal.{Literal}
 use Rattle.sasi_types.specs.declared.literal.Literal.TheVariants.{Null}
 use Rattle.sasi_types.specs.declared.literal.Number.{Number}
 use Rattle.sasi_model.specs.State.{Definition}
-use Rattle.sasi_model.specs.Refusals.{Rule, delete_rules, each, is_column, is_key, is_key_value, is_null, is_of, key_empty, no_column, no_regular_column, number_range, repeat_rules, tests, time_rules, type_of_column, update_rules, value_too_long, wrong_type, wrong_where}
-use Rattle.sasi_model.specs.Abbreviations.{first_of, gives_key, is_empty_text, key_literal, key_name, key_type}
+use Rattle.sasi_model.specs.Refusals.{RefusalRule, delete_rules, each, is_column, is_key, is_key_value, is_null, is_of, key_empty, no_column, no_regular_column, number_range, repeat_rules, tests, time_rules, type_of_column, update_rules, value_too_long, wrong_type, wrong_where}
+use Rattle.sasi_model.specs.Abbreviations.{first_refusal, gives_key, is_empty_text, key_literal, key_name, key_type}
 use Rattle.sasi_schema.proofs.Keys.{is_key_by_name}
 use Rattle.sasi_schema.proofs.RuleLaws.{none_first, none_parts}
 use Rattle.sasi_schema.specs.Numbers.{IsKeyAt}
@@ -66,9 +66,9 @@ key_passes d name literal at is there wrong range empty long =
     }
 
 -- that which is given the key
-pub key_accepted : (d : Definition) (given : List (List ℕ × Literal)) → IsKeyAt d.key d.columns → gives_key d given ≡ true → first_of
-    (each (wrong_type d) given) ≡ None → first_of (each (number_range d) given) ≡ None
-    → first_of (each (key_empty d) given) ≡ None → first_of (each (value_too_long d) given) ≡ None → IsKeyLiteral (key_type d) (key_literal d given)
+pub key_accepted : (d : Definition) (given : List (List ℕ × Literal)) → IsKeyAt d.key d.columns → gives_key d given ≡ true → first_refusal
+    (each (wrong_type d) given) ≡ None → first_refusal (each (number_range d) given) ≡ None
+    → first_refusal (each (key_empty d) given) ≡ None → first_refusal (each (value_too_long d) given) ≡ None → IsKeyLiteral (key_type d) (key_literal d given)
 key_accepted d [] at gives wrong range empty long = cc
 key_accepted d (g ∷ given) at gives wrong range empty long =
     let wrongs = none_first (wrong_type d g.0 g.1) (each (wrong_type d) given) wrong in
@@ -85,11 +85,11 @@ key_accepted d (g ∷ given) at gives wrong range empty long =
 -- ---- INSERT
 
 pub record IsAccepted (d : Definition) (sets : List (List ℕ × Literal)) (literal : Literal) : Type 0 where
-  pub ranges : first_of (each (number_range d) sets) ≡ None
+  pub ranges : first_refusal (each (number_range d) sets) ≡ None
   pub key : IsKeyLiteral (key_type d) literal
 
 pub insert_accepted : (d : Definition) (max_timestamp : ℕ) (given : List (List ℕ × Literal)) (time : Option Number) → IsKeyAt d.key d.columns
-    → first_of (given_rules d max_timestamp given time) ≡ None → IsAccepted d given (key_literal d given)
+    → first_refusal (given_rules d max_timestamp given time) ≡ None → IsAccepted d given (key_literal d given)
 insert_accepted d max_timestamp given time at none =
     let wrong = none_parts (each (wrong_type d) given) (each (number_range d) given ++ given_key_rules d max_timestamp given time) none in
     let range = none_parts (each (number_range d) given) (given_key_rules d max_timestamp given time) wrong.1 in
@@ -108,7 +108,7 @@ where_tests d name literal at is wrong =
     (rw typed parts.0, parts.1)
 
 pub where_accepted : (d : Definition) (max_timestamp : ℕ) (sets : List (List ℕ × Literal)) (relation : KeyRelation) (time : Option Number)
-    → IsKeyAt d.key d.columns → is_column d relation.column ≡ true → first_of (kind_rules d max_timestamp sets relation time) ≡ None
+    → IsKeyAt d.key d.columns → is_column d relation.column ≡ true → first_refusal (kind_rules d max_timestamp sets relation time) ≡ None
     → IsAccepted d sets relation.value
 where_accepted d max_timestamp sets relation time at column none =
     let wrong = none_parts (each (wrong_type d) sets) (wrong_where d relation.column relation.value ∷ range_rules d max_timestamp sets relation time) none in
@@ -124,10 +124,10 @@ where_accepted d max_timestamp sets relation time at column none =
     record { ranges = range.0; key = key_passes d relation.column relation.value at is tested.1 tested.0 range_key.0 empty.0 long_key.0 }
 
 pub update_accepted : (d : Definition) (max_timestamp : ℕ) (table : List ℕ) (sets : List (List ℕ × Literal)) (relation : KeyRelation)
-    (time : Option Number) → IsKeyAt d.key d.columns → first_of
+    (time : Option Number) → IsKeyAt d.key d.columns → first_refusal
     (update_rules max_timestamp table sets relation.column relation.value time (Some d)) ≡ None → IsAccepted d sets relation.value
 update_accepted d max_timestamp table sets relation time at none =
-    let known = subst (λ (rules : List Rule). first_of rules ≡ None) (update_rules_are d max_timestamp table sets relation time at) none in
+    let known = subst (λ (rules : List RefusalRule). first_refusal rules ≡ None) (update_rules_are d max_timestamp table sets relation time at) none in
     let kinds = kind_rules d max_timestamp sets relation time in
     let repeats = repeat_rules [] (map (λ set. set.0) sets) in
     let regular = none_parts (map (λ set. no_regular_column d set.0) sets) (no_column d relation.column ∷ (repeats ++ kinds)) known in
@@ -136,10 +136,10 @@ update_accepted d max_timestamp table sets relation time at none =
     where_accepted d max_timestamp sets relation time at (not_false (is_column d relation.column) column.0) once.1
 
 pub delete_accepted : (d : Definition) (max_timestamp : ℕ) (table : List ℕ) (columns : List (List ℕ)) (relation : KeyRelation) (time : Option Number)
-    → IsKeyAt d.key d.columns → first_of (delete_rules max_timestamp table columns relation.column relation.value time (Some d)) ≡ None
+    → IsKeyAt d.key d.columns → first_refusal (delete_rules max_timestamp table columns relation.column relation.value time (Some d)) ≡ None
     → IsAccepted d [] relation.value
 delete_accepted d max_timestamp table columns relation time at none =
-    let known = subst (λ (rules : List Rule). first_of rules ≡ None) (delete_rules_are d max_timestamp table columns relation time at) none in
+    let known = subst (λ (rules : List RefusalRule). first_refusal rules ≡ None) (delete_rules_are d max_timestamp table columns relation time at) none in
     let kinds = kind_rules d max_timestamp [] relation time in
     let repeats = repeat_rules [] columns in
     let regular = none_parts (map (no_regular_column d) columns) (no_column d relation.column ∷ (repeats ++ kinds)) known in

@@ -11,8 +11,8 @@ use Rattle.sasi_types.specs.declared.literal.Literal.{Literal}
 use Rattle.sasi_types.specs.declared.literal.Literal.TheVariants.{Null}
 use Rattle.sasi_model.specs.Cells.{Cells, Partition}
 use Rattle.sasi_model.specs.State.{Definition, number_of_column}
-use Rattle.sasi_model.specs.Refusals.{Rule, each, is_key, is_key_value, is_out_of_range, number_range, tests, type_of_column}
-use Rattle.sasi_model.specs.Abbreviations.{first_of, key_literal, key_name}
+use Rattle.sasi_model.specs.Refusals.{RefusalRule, each, is_key, is_key_value, is_out_of_range, number_range, tests, type_of_column}
+use Rattle.sasi_model.specs.Abbreviations.{first_refusal, key_literal, key_name}
 use Rattle.sasi_model.specs.Step.{cells_set}
 use Rattle.sasi_schema.proofs.Keys.{is_key_by_name}
 use Rattle.sasi_schema.proofs.RuleLaws.{none_first}
@@ -42,8 +42,8 @@ key_first d (set ∷ sets) =
     ]
 
 -- none of the rules applies: nor does one of those in front, nor the last
-pub none_pop : (rule : List ℕ → Literal → Rule) (sets : List (List ℕ × Literal)) (s : List ℕ × Literal) → first_of
-    (each rule (sets ++ s ∷ [])) ≡ None → (first_of (each rule sets) ≡ None) × ((rule s.0 s.1).0 ≡ false)
+pub none_pop : (rule : List ℕ → Literal → RefusalRule) (sets : List (List ℕ × Literal)) (s : List ℕ × Literal) → first_refusal
+    (each rule (sets ++ s ∷ [])) ≡ None → (first_refusal (each rule sets) ≡ None) × ((rule s.0 s.1).0 ≡ false)
 none_pop rule [] s none = (refl, (none_first (rule s.0 s.1) [] none).0)
 none_pop rule (set ∷ sets) s none =
     let parts = none_first (rule set.0 set.1) (each rule (sets ++ s ∷ [])) none in
@@ -78,6 +78,6 @@ tests_nothing (Some types.Int) = refl
 tests_nothing (Some types.BigInt) = refl
 tests_nothing (Some types.Uuid) = refl
 
-pub nulls_in_range : (d : Definition) (names : List (List ℕ)) → first_of (each (number_range d) (map (λ name. (name, Null)) names)) ≡ None
+pub nulls_in_range : (d : Definition) (names : List (List ℕ)) → first_refusal (each (number_range d) (map (λ name. (name, Null)) names)) ≡ None
 nulls_in_range d [] = refl
 nulls_in_range d (name ∷ names) = rw (tests_nothing (type_of_column d name)) (nulls_in_range d names)

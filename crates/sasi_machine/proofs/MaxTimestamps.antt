@@ -44,9 +44,9 @@ times_put decorated_key p (e ∷ es) later =
     ] later
 
 -- the largest timestamp of the partitions after a mutation
-pub greatest_put : (ps : Partitions) (decorated_key : DecoratedKey) (change : Partition)
+pub max_timestamp_put : (ps : Partitions) (decorated_key : DecoratedKey) (change : Partition)
     → max_timestamp_of_partitions (fin.values (fin.insert ps decorated_key (merge (unwrap_or (fin.get ps decorated_key) empty_partition) change))) ≡ max (max_timestamp_of_partitions (fin.values ps)) (max_timestamp_of change)
-greatest_put ps decorated_key change =
+max_timestamp_put ps decorated_key change =
     let merged : Option Partition → Partition = λ old. merge (unwrap_or old empty_partition) change in
     let p = merged (fin.get ps decorated_key) in
     ap times (fin.entries-insert decorated_total ps decorated_key p)
@@ -63,22 +63,22 @@ greatest_put ps decorated_key change =
     total (Some x) within = omega (arith, within x refl, max_timestamp_merge x change)
 
 -- the largest timestamp of the tables after a mutation of one
-pub greatest_set : (ds : List Definition) (cs : List MemtableView) (at : ℕ) (c new : MemtableView) (t : ℕ) → AreMemtables ds cs
+pub max_timestamp_set : (ds : List Definition) (cs : List MemtableView) (at : ℕ) (c new : MemtableView) (t : ℕ) → AreMemtables ds cs
     → slice_get cs at ≡ Some c → max_timestamp_of_partitions (fin.values new.partitions) ≡ max (max_timestamp_of_partitions (fin.values c.partitions)) t
     → max_timestamp_of_tables (tables_of ds (set cs at new)) ≡ max (max_timestamp_of_tables (tables_of ds cs)) t
-greatest_set [] [] at c new t held got is = cc
-greatest_set [] (x ∷ cs) at c new t held got is = absurd held
-greatest_set (d ∷ ds) [] at c new t held got is = absurd held
-greatest_set (d ∷ ds) (x ∷ cs) zero c new t held got is =
+max_timestamp_set [] [] at c new t held got is = cc
+max_timestamp_set [] (x ∷ cs) at c new t held got is = absurd held
+max_timestamp_set (d ∷ ds) [] at c new t held got is = absurd held
+max_timestamp_set (d ∷ ds) (x ∷ cs) zero c new t held got is =
     let same : x ≡ c = (let e : Some x ≡ Some c = got in cc) in
     omega (arith, is, ap (λ (c : MemtableView). max_timestamp_of_partitions (fin.values c.partitions)) same)
-greatest_set (d ∷ ds) (x ∷ cs) (suc at) c new t held got is = omega (arith, greatest_set ds cs at c new t held.1 got is)
+max_timestamp_set (d ∷ ds) (x ∷ cs) (suc at) c new t held got is = omega (arith, max_timestamp_set ds cs at c new t held.1 got is)
 
 -- the largest timestamp of no partitions is 0
 pub nothing_held : max_timestamp_of_partitions (fin.values (fin.empty {R = decorated_cmp})) ≡ 0
 nothing_held = ap times (no_entries (fin.entries (fin.empty {R = decorated_cmp})) (sym (fin.len-entries (fin.empty {R = decorated_cmp})) ∙ fin.len-empty decorated_cmp Partition))
 
 -- one more table, with nothing in it
-pub greatest_push : (ts : List Table) (t : Table) → max_timestamp_of_partitions (fin.values t.partitions) ≡ 0 → max_timestamp_of_tables (ts ++ t ∷ []) ≡ max_timestamp_of_tables ts
-greatest_push [] t none = omega arith
-greatest_push (x ∷ ts) t none = omega (arith, greatest_push ts t none)
+pub max_timestamp_push : (ts : List Table) (t : Table) → max_timestamp_of_partitions (fin.values t.partitions) ≡ 0 → max_timestamp_of_tables (ts ++ t ∷ []) ≡ max_timestamp_of_tables ts
+max_timestamp_push [] t none = omega arith
+max_timestamp_push (x ∷ ts) t none = omega (arith, max_timestamp_push ts t none)

@@ -8,10 +8,10 @@ use Rattle.sasi_types.specs.declared.column.ColumnType.{ColumnType}
 use Rattle.sasi_types.specs.declared.statement.Select.{Select}
 use Rattle.sasi_types.specs.declared.statement.Statement.TheVariants.{Query}
 use Rattle.sasi_memtable.specs.MemtableView.{MemtableView}
-use Rattle.sasi_model.specs.Abbreviations.{first_of, key_type}
+use Rattle.sasi_model.specs.Abbreviations.{first_refusal, key_type}
 use Rattle.sasi_model.specs.Lines.{refusal_line, rows_lines}
 use Rattle.sasi_model.specs.Pieces.{Piece}
-use Rattle.sasi_model.specs.Refusals.{Bad, Nothing, Refusal, Rule, read}
+use Rattle.sasi_model.specs.Refusals.{Bad, Nothing, Refusal, RefusalRule, read}
 use Rattle.sasi_model.specs.State as model
 use Rattle.sasi_model.specs.State.{Definition, State, definition_of}
 use Rattle.sasi_model.specs.Step.{StepResult, step, step_as, step_by}
@@ -36,15 +36,15 @@ use Rattle.sasi_machine.proofs.TablesOfMemtables.{memtable_at, memtable_inside}
 -- ---- refusals
 
 -- a refusal that is the first
-pub refused_first : (refused : Option Refusal) (rules : List Rule) (reply_old reply_new : List ℕ) (outcome : Outcome) → IsFirstRefusal refused rules → IsRefused refused reply_old reply_new outcome → IsRefused (first_of rules) reply_old reply_new outcome
+pub refused_first : (refused : Option Refusal) (rules : List RefusalRule) (reply_old reply_new : List ℕ) (outcome : Outcome) → IsFirstRefusal refused rules → IsRefused refused reply_old reply_new outcome → IsRefused (first_refusal rules) reply_old reply_new outcome
 refused_first None rules reply_old reply_new outcome first refused = absurd refused
 refused_first (Some r) rules reply_old reply_new outcome first refused = subst (λ (o : Option Refusal). IsRefused o reply_old reply_new outcome) (sym first) refused
 
 -- ---- SELECT
 
 pub rows_any : {E : Type 0} (ds : List Definition) (select : Select) (found : Option Table) (reply_old reply_new : List ℕ) (result : Result Prepared E) → option_map definition found ≡ definition_of select.table ds → option_map (λ (t : Table). t.number) found ≡ number_of_table select.table ds
-    → IfOk result (λ prepared. PreparesRows found select.table select.columns reply_old reply_new prepared) → IfOk result (λ prepared. (newest : ℕ) → IsPrepared ds newest (Query select) reply_old reply_new prepared)
-rows_any ds select found reply_old reply_new (Ok prepared) defined numbered prepares = λ newest. select_asks ds newest select found reply_old reply_new prepared defined numbered prepares
+    → IfOk result (λ prepared. PreparesRows found select.table select.columns reply_old reply_new prepared) → IfOk result (λ prepared. (max_time : ℕ) → IsPrepared ds max_time (Query select) reply_old reply_new prepared)
+rows_any ds select found reply_old reply_new (Ok prepared) defined numbered prepares = λ max_time. select_asks ds max_time select found reply_old reply_new prepared defined numbered prepares
 rows_any ds select found reply_old reply_new (Err e) defined numbered prepares = tt
 
 -- ---- pieces without a statement

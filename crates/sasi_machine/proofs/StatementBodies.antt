@@ -17,8 +17,8 @@ use Rattle.sasi_types.specs.declared.column.ColumnType.TheVariants as types
 use Rattle.sasi_types.specs.declared.literal.Literal.{Literal}
 use Rattle.sasi_types.specs.declared.literal.Literal.TheVariants as literals
 use Rattle.sasi_model.specs.State.{Definition}
-use Rattle.sasi_model.specs.Refusals.{Rule, delete_rules, each, insert_rules, is_key_value, is_of, is_out_of_range, key_empty, no_column, no_regular_column, number_range, repeat_rules, time_rules, type_of_column, update_rules, value_too_long, wrong_type, wrong_where}
-use Rattle.sasi_model.specs.Abbreviations.{first_of, TIME_LIMIT, is_long_text, key_literal, marker, stored_of, update_change, key_type, types_of}
+use Rattle.sasi_model.specs.Refusals.{RefusalRule, delete_rules, each, insert_rules, is_key_value, is_of, is_out_of_range, key_empty, no_column, no_regular_column, number_range, repeat_rules, time_rules, type_of_column, update_rules, value_too_long, wrong_type, wrong_where}
+use Rattle.sasi_model.specs.Abbreviations.{first_refusal, TIME_LIMIT, is_long_text, key_literal, marker, stored_of, update_change, key_type, types_of}
 use Rattle.sasi_model.specs.Step.{cells_set, delete_change, insert_change, value_given}
 use Rattle.sasi_model.specs.Stored.{IsBodyOf}
 use Rattle.sasi_model.specs.WellFormed.{IsWellFormed, IsWellFormedLiteral, IsWellFormedSet}
@@ -48,12 +48,12 @@ key_literal_written d (g ∷ given) all =
 -- what an INSERT writes
 pub insert_fits : (d : Definition) (g : ℕ) (table : List ℕ) (columns : List (List ℕ)) (values : List Literal) (time : Option Number) (t : ℕ)
     → IsKeyAt d.key d.columns → length d.columns ≤ 64 → 0 < t → t ≤ TIME_LIMIT → AllByRecursion IsWellFormedLiteral values
-    → first_of (insert_rules g table columns (zip columns values) time (Some d)) ≡ None → IsBodyOf (types_of d)
+    → first_refusal (insert_rules g table columns (zip columns values) time (Some d)) ≡ None → IsBodyOf (types_of d)
     (stored_of (value_given (key_type d) (key_literal d (zip columns values)))) (insert_change d t (zip columns values))
 insert_fits d g table columns values time t at few above limit written none =
     let given = zip columns values in
     let all = zip_written columns values written in
-    let known = subst (λ (rules : List Rule). first_of rules ≡ None) (insert_rules_are d g table columns given time at) none in
+    let known = subst (λ (rules : List RefusalRule). first_refusal rules ≡ None) (insert_rules_are d g table columns given time at) none in
     let named = none_parts (map (no_column d) columns) (repeat_rules [] columns ++ given_rules d g given time) known in
     let once = none_parts (repeat_rules [] columns) (given_rules d g given time) named.1 in
     let wrong = none_parts (each (wrong_type d) given) (each (number_range d) given ++ given_key_rules d g given time) once.1 in
@@ -72,13 +72,13 @@ insert_fits d g table columns values time t at few above limit written none =
 pub update_fits : (d : Definition) (g : ℕ) (table : List ℕ) (sets : List (List ℕ × Literal)) (relation : KeyRelation) (time : Option Number)
     (t : ℕ) → IsKeyAt d.key d.columns → length d.columns ≤ 64 → 0 < t → t ≤ TIME_LIMIT → AllByRecursion IsWellFormedSet sets
     → IsWellFormedLiteral relation.value → 1 ≤ length sets
-    → first_of (update_rules g table sets relation.column relation.value time (Some d)) ≡ None → IsBodyOf (types_of d) (stored_of (value_given (key_type d) relation.value)) (update_change d t sets)
+    → first_refusal (update_rules g table sets relation.column relation.value time (Some d)) ≡ None → IsBodyOf (types_of d) (stored_of (value_given (key_type d) relation.value)) (update_change d t sets)
 update_fits d g table [] relation time t at few above limit written key_written some none = absurd (omega arith)
 update_fits d g table (set ∷ others) relation time t at few above limit written key_written some none =
     let sets = set ∷ others in
     let kinds = kind_rules d g sets relation time in
     let repeats = repeat_rules [] (map (λ set. set.0) sets) in
-    let known = subst (λ (rules : List Rule). first_of rules ≡ None) (update_rules_are d g table sets relation time at) none in
+    let known = subst (λ (rules : List RefusalRule). first_refusal rules ≡ None) (update_rules_are d g table sets relation time at) none in
     let named = none_parts (map (λ set. no_regular_column d set.0) sets) (no_column d relation.column ∷ (repeats ++ kinds)) known in
     let column = none_first (no_column d relation.column) (repeats ++ kinds) named.1 in
     let once = none_parts repeats kinds column.1 in
@@ -116,7 +116,7 @@ nulls_good d (name ∷ names) = (null_good d name, nulls_good d names)
 -- what a DELETE writes
 pub delete_fits : (d : Definition) (g : ℕ) (table : List ℕ) (columns : List (List ℕ)) (relation : KeyRelation) (time : Option Number) (t : ℕ)
     → IsKeyAt d.key d.columns → length d.columns ≤ 64 → 0 < t → t ≤ TIME_LIMIT → IsWellFormedLiteral relation.value
-    → first_of (delete_rules g table columns relation.column relation.value time (Some d)) ≡ None → IsBodyOf (types_of d) (stored_of (value_given (key_type d) relation.value)) (delete_change d t columns)
+    → first_refusal (delete_rules g table columns relation.column relation.value time (Some d)) ≡ None → IsBodyOf (types_of d) (stored_of (value_given (key_type d) relation.value)) (delete_change d t columns)
 delete_fits d g table [] relation time t at few above limit key_written none =
     let key = key_fits d relation.value (delete_accepted d g table [] relation time at none).key key_written in
     deletion_fits d _ t key.typed key.some key.short above limit
@@ -131,7 +131,7 @@ delete_fits d g table (column ∷ others) relation time t at few above limit key
     (set_cells d t sets s above limit (nulls_good d columns))
 
 -- the rules of a write of this table
-abbrev pub write_rules : ℕ → Statement → Definition → List Rule
+abbrev pub write_rules : ℕ → Statement → Definition → List RefusalRule
 write_rules g (Insert table columns values time) d = insert_rules g table columns (zip columns values) time (Some d)
 write_rules g (Update table time sets key value) d = update_rules g table sets key value time (Some d)
 write_rules g (Delete table columns time key value) d = delete_rules g table columns key value time (Some d)
@@ -139,7 +139,7 @@ write_rules g statement d = []
 
 -- what a write holds
 pub change_fits : (d : Definition) (g : ℕ) (statement : Statement) (t : ℕ) → IsWriting statement → IsWellFormed statement
-    → IsKeyAt d.key d.columns → length d.columns ≤ 64 → 0 < t → t ≤ TIME_LIMIT → first_of (write_rules g statement d) ≡ None
+    → IsKeyAt d.key d.columns → length d.columns ≤ 64 → 0 < t → t ≤ TIME_LIMIT → first_refusal (write_rules g statement d) ≡ None
     → IsBodyOf (types_of d) (stored_of (value_given (key_type d) (key_in d statement))) (change_in d t statement)
 change_fits d g (Insert table columns values time) t writing written at few above limit none = insert_fits d g table columns values time t at few above limit written.2 none
 change_fits d g (Update table time sets key value) t writing written at few above limit none =

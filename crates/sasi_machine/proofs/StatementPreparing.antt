@@ -15,7 +15,7 @@ use Rattle.sasi_cells.specs.declared.picked.PickedColumn.{PickedColumn}
 use Rattle.sasi_model.specs.Asked as ask
 use Rattle.sasi_model.specs.Asked.{Asked, asks, parsed_asks}
 use Rattle.sasi_model.specs.Cells.{Partition, max_timestamp_of}
-use Rattle.sasi_model.specs.Abbreviations.{key_position, max_timestamp_of_tables, definitions, ok_line, selected_lines, TIME_LIMIT, NoTable, TableExists, first_of, new_definition, key_type, types_of}
+use Rattle.sasi_model.specs.Abbreviations.{key_position, max_timestamp_of_tables, definitions, ok_line, selected_lines, TIME_LIMIT, NoTable, TableExists, first_refusal, new_definition, key_type, types_of}
 use Rattle.sasi_model.specs.Stored.{IsBodyOf, IsValueOf, column_types}
 use Rattle.sasi_model.specs.WellFormed.{IsWellFormed}
 use Rattle.sasi_types.specs.declared.column.ColumnType.{ColumnType}
@@ -24,7 +24,7 @@ use Rattle.sasi_machine.proofs.StatementBodies.{change_fits}
 use Rattle.sasi_model.specs.Changes.{changed_tables, empty_table, with_new_table}
 use Rattle.sasi_model.specs.Lines.{rows_lines}
 use Rattle.sasi_model.specs.Pieces.{Piece}
-use Rattle.sasi_model.specs.Refusals.{Refusal, Rule, Says, create_rules, flush_rules, read, refusal, rules, select_rules}
+use Rattle.sasi_model.specs.Refusals.{Refusal, RefusalRule, Says, create_rules, flush_rules, read, refusal, rules, select_rules}
 use Rattle.sasi_model.specs.State as model
 use Rattle.sasi_model.specs.State.{Column, Definition, State, definition_of, max_timestamp, decorated}
 use Rattle.sasi_model.specs.Step.{StepResult, answer_of, live_rows, primary_key, selected_columns, step, step_as, step_by, tables_after}
@@ -47,7 +47,7 @@ use Rattle.sasi_machine.specs.TableRows.{KeysStored, rows_picked}
 use Rattle.sasi_machine.specs.Tables.{AreMemtables, IsMachineState, HasMemtableFor, IsWrittenAt, state_of, table_with, tables_of, written}
 use Rattle.sasi_machine.specs.StatementSteps.{IsRefused, StatementStepsTo}
 use Rattle.sasi_machine.specs.Writes.{IsWrite, IsWriting, table_named}
-use Rattle.sasi_machine.proofs.MaxTimestamps.{greatest_put, greatest_set}
+use Rattle.sasi_machine.proofs.MaxTimestamps.{max_timestamp_put, max_timestamp_set}
 use Rattle.sasi_machine.proofs.NumberedTables.{number_some, table_numbered}
 use Rattle.sasi_machine.proofs.Picked.{rows_by_numbers}
 use Rattle.sasi_machine.proofs.Stored.{put_stored}
@@ -67,7 +67,7 @@ create_asked : (ds : List Definition) (g : ℕ) (table : List ℕ) (columns : Li
     → option_map_or (λ key. ask.Creates (record { name = table; columns = columns; key = key })) (primary_key columns keys) ask.NoChange ≡ ask.Creates (definition t)
 create_asked ds g table columns keys t found is = ap (λ (o : Option ℕ). option_map_or (λ key. ask.Creates (record { name = table; columns = columns; key = key })) o ask.NoChange) found ∙ ap ask.Creates (sym is)
 
-pub create_asks : (ds : List Definition) (g : ℕ) (table : List ℕ) (columns : List Column) (keys : List (List ℕ)) (t : Table) (reply_old reply_new : List ℕ) → first_of (create_rules ds table columns keys) ≡ None
+pub create_asks : (ds : List Definition) (g : ℕ) (table : List ℕ) (columns : List Column) (keys : List (List ℕ)) (t : Table) (reply_old reply_new : List ℕ) → first_refusal (create_rules ds table columns keys) ≡ None
     → definition t ≡ new_definition table columns keys → t.number ≡ length ds + 1 → reply_new ≡ reply_old ++ ok_line → IsPrepared ds g (CreateTable table columns keys) reply_old reply_new (Create t)
 create_asks ds g table columns keys t reply_old reply_new none is number reply_is =
     let found = (allowed ds table columns keys none).key_found in
@@ -96,7 +96,7 @@ written_tables p ds cs w c held some got = by w.table (omega arith) some
         let same : at ≡ w.table - 1 = omega arith in
         rw same (changed_at ds cs (w.table - 1) (decorated p w.key) w.change c held got (written p w c) refl)
 
-pub write_asks : (ds : List Definition) (g : ℕ) (statement : Statement) (w : Mutation) (reply_old reply_new : List ℕ) → IsWriting statement → IsWrite ds g statement w → first_of (rules ds g statement) ≡ None
+pub write_asks : (ds : List Definition) (g : ℕ) (statement : Statement) (w : Mutation) (reply_old reply_new : List ℕ) → IsWriting statement → IsWrite ds g statement w → first_refusal (rules ds g statement) ≡ None
     → reply_new ≡ reply_old ++ ok_line → IsPrepared ds g statement reply_old reply_new (Writes w)
 write_asks ds g statement w reply_old reply_new writing write none reply_is = record {
   asked_is = taken_asks ds g statement none ∙ write_asked ds g statement w writing write none;
@@ -108,15 +108,15 @@ write_asks ds g statement w reply_old reply_new writing write none reply_is = re
     record {
       writing = writing;
       taken = not_refused s ds g statement of none;
-      write = subst (λ (tables : List Definition). IsWrite tables (max_timestamp s) statement w) (sym of.definitions_are) (subst (λ (time : ℕ). IsWrite ds time statement w) (sym of.newest_is) write);
+      write = subst (λ (tables : List Definition). IsWrite tables (max_timestamp s) statement w) (sym of.definitions_are) (subst (λ (time : ℕ). IsWrite ds time statement w) (sym of.max_time_is) write);
     },
   );
 }
 
 -- ---- FLUSH
 
-found_flush : (ds : List Definition) (table : List ℕ) (d : Definition) → definition_of table ds ≡ Some d → first_of (flush_rules table (definition_of table ds)) ≡ None
-found_flush ds table d found = ap (λ (o : Option Definition). first_of (flush_rules table o)) found
+found_flush : (ds : List Definition) (table : List ℕ) (d : Definition) → definition_of table ds ≡ Some d → first_refusal (flush_rules table (definition_of table ds)) ≡ None
+found_flush ds table d found = ap (λ (o : Option Definition). first_refusal (flush_rules table o)) found
 
 pub flush_asks : (ds : List Definition) (g : ℕ) (table : List ℕ) (number : ℕ) (d : Definition) (reply_old reply_new : List ℕ) → number_of_table table ds ≡ Some number → definition_of table ds ≡ Some d
     → reply_new ≡ reply_old ++ ok_line → IsPrepared ds g (Flush table) reply_old reply_new (Flushes number)
@@ -135,14 +135,14 @@ flush_asks ds g table number d reply_old reply_new numbered found reply_is =
 -- no table of the name
 pub flush_refused : (ds : List Definition) (g : ℕ) (table : List ℕ) (reply_old reply_new : List ℕ) (outcome : Outcome) → definition_of table ds ≡ None → IsRefused (Some (NoTable table)) reply_old reply_new outcome → IsPrepared ds g (Flush table) reply_old reply_new (Answered outcome)
 flush_refused ds g table reply_old reply_new outcome absent refused =
-    refuses ds g (Flush table) (Some (NoTable table)) reply_old reply_new outcome (ap (λ (o : Option Definition). first_of (flush_rules table o)) absent) refused
+    refuses ds g (Flush table) (Some (NoTable table)) reply_old reply_new outcome (ap (λ (o : Option Definition). first_refusal (flush_rules table o)) absent) refused
 
 -- ---- SELECT
 
-first_is : (rules : List Rule) → IsFirstRefusal (first_of rules) rules
-first_is rules = by (first_of rules) refl
+first_is : (rules : List RefusalRule) → IsFirstRefusal (first_refusal rules) rules
+first_is rules = by (first_refusal rules) refl
   where
-    by : (o : Option Refusal) → first_of rules ≡ o → IsFirstRefusal o rules
+    by : (o : Option Refusal) → first_refusal rules ≡ o → IsFirstRefusal o rules
     by None is = tt
     by (Some r) is = is
 
@@ -161,11 +161,11 @@ answer_is s d select rows t found named there is selection =
 pub select_asks : (ds : List Definition) (g : ℕ) (select : Select) (found : Option Table) (reply_old reply_new : List ℕ) (prepared : Prepared) → option_map definition found ≡ definition_of select.table ds → option_map (λ (t : Table). t.number) found ≡ number_of_table select.table ds
     → PreparesRows found select.table select.columns reply_old reply_new prepared → IsPrepared ds g (Query select) reply_old reply_new prepared
 select_asks ds g select found reply_old reply_new (Answered outcome) defined numbered prepares =
-    let refused = first_of (select_rules select.table select.columns (option_map definition found)) in
+    let refused = first_refusal (select_rules select.table select.columns (option_map definition found)) in
     refuses ds g (Query select) refused reply_old reply_new outcome (subst (λ (o : Option Definition). IsFirstRefusal refused (select_rules select.table select.columns o)) defined (first_is (select_rules select.table select.columns (option_map definition found)))) prepares
 select_asks ds g select None reply_old reply_new (Selects rows) defined numbered prepares = absurd prepares.2
 select_asks ds g select (Some t) reply_old reply_new (Selects rows) defined numbered prepares =
-    let none : first_of (rules ds g (Query select)) ≡ None = subst (λ (o : Option Definition). first_of (select_rules select.table select.columns o) ≡ None) defined prepares.0 in
+    let none : first_refusal (rules ds g (Query select)) ≡ None = subst (λ (o : Option Definition). first_refusal (select_rules select.table select.columns o) ≡ None) defined prepares.0 in
     record {
       asked_is = taken_asks ds g (Query select) none;
       of_state = λ s of.
@@ -190,7 +190,7 @@ select_asks ds g select found reply_old reply_new (Writes w) defined numbered pr
 select_asks ds g select found reply_old reply_new (Flushes table) defined numbered prepares = absurd prepares
 
 -- whatever the largest timestamp
-pub for_any : {E : Type 0} (ds : List Definition) (g : ℕ) (statement : Statement) (reply_old reply_new : List ℕ) (result : Result Prepared E) → IfOk result (λ prepared. (newest : ℕ) → IsPrepared ds newest statement reply_old reply_new prepared) → IfOk result (IsPreparedFor ds g statement reply_old reply_new)
+pub for_any : {E : Type 0} (ds : List Definition) (g : ℕ) (statement : Statement) (reply_old reply_new : List ℕ) (result : Result Prepared E) → IfOk result (λ prepared. (max_time : ℕ) → IsPrepared ds max_time statement reply_old reply_new prepared) → IfOk result (IsPreparedFor ds g statement reply_old reply_new)
 for_any ds g statement reply_old reply_new (Ok prepared) of = record { now = of g; timeless = λ timeless other. of other }
 for_any ds g statement reply_old reply_new (Err e) of = tt
 
@@ -215,7 +215,7 @@ writes_fit s statement w well writes =
     let ds = definitions s.tables in
     let write = writes.write in
     let d = write.definition in
-    let none = no_rule s ds (max_timestamp s) statement (record { definitions_are = refl; newest_is = refl }) writes.taken in
+    let none = no_rule s ds (max_timestamp s) statement (record { definitions_are = refl; max_time_is = refl }) writes.taken in
     let change = write.written.change in
     let fits = change_fits d (max_timestamp s) statement write.written.time writes.writing well write.key_is_there write.few write.written.time_is.above
     write.written.time_is.limit (found_rules ds (max_timestamp s) statement d writes.writing write.found none) in
@@ -246,7 +246,7 @@ fit_kept p ds cs new g w kept fit is =
     let held = memtable_at ds cs at fit.table kept.held fit.there in
     let changed : MemtableView = written p w held.0 in
     let new_is : new ≡ set cs at changed = is held.0 held.1 in
-    let times = greatest_set ds cs at held.0 changed (max_timestamp_of w.change) kept.held held.1 (greatest_put held.0.partitions (decorated p w.key) w.change) in
+    let times = max_timestamp_set ds cs at held.0 changed (max_timestamp_of w.change) kept.held held.1 (max_timestamp_put held.0.partitions (decorated p w.key) w.change) in
     let stored : KeysStored (key_type fit.table.definition) changed.partitions = put_stored (key_type fit.table.definition) held.0.partitions (decorated p w.key) w.change (fit_stored (state_of p ds cs) w fit) held.2 in
     record {
       held = rw new_is (memtables_set ds cs at fit.table changed kept.held fit.there stored);
@@ -264,10 +264,10 @@ fit_state p ds cs new g w kept fit is =
     (ap (tables_of ds) (is held.0 held.1) ∙ sym (written_tables p ds cs w held.0 kept.held fit.some held.1))
 
 -- a table that was prepared is the next
-create_free : (ds : List Definition) (table : List ℕ) (columns : List Column) (keys : List (List ℕ)) → first_of (create_rules ds table columns keys) ≡ None → definition_of table ds ≡ None
+create_free : (ds : List Definition) (table : List ℕ) (columns : List Column) (keys : List (List ℕ)) → first_refusal (create_rules ds table columns keys) ≡ None → definition_of table ds ≡ None
 create_free ds table columns keys none = by (definition_of table ds) (drop 1 (create_rules ds table columns keys)) none
   where
-    by : (o : Option Definition) (others : List Rule) → first_of ((is_some o, TableExists table) ∷ others) ≡ None → o ≡ None
+    by : (o : Option Definition) (others : List RefusalRule) → first_refusal ((is_some o, TableExists table) ∷ others) ≡ None → o ≡ None
     by None others e = refl
     by (Some d) others e = cc
 
@@ -344,7 +344,7 @@ created_state p ds cs g d kept = ap (λ (tables : List model.Table). record { pa
 pub piece_timeless : {E : Type 0} (ds : List Definition) (g : ℕ) (piece : Piece) (statement : Statement) (reply_old reply : List ℕ) (result : Result Prepared E) → read piece ≡ Says statement → IsWellFormed statement → reply_old ≡ []
     → IfOk result (IsPreparedFor ds g statement reply_old reply) → IfOk result (λ prepared. IsTimeless prepared → (s : State) → definitions s.tables ≡ ds → Prepares s piece reply prepared)
 piece_timeless ds g piece statement reply_old reply (Ok prepared) says well empty asks =
-    λ timeless s are. prepares s piece statement reply_old reply prepared says well empty ((asks.timeless timeless (max_timestamp s)).of_state s (record { definitions_are = are; newest_is = refl }))
+    λ timeless s are. prepares s piece statement reply_old reply prepared says well empty ((asks.timeless timeless (max_timestamp s)).of_state s (record { definitions_are = are; max_time_is = refl }))
 piece_timeless ds g piece statement reply_old reply (Err e) says well empty asks = tt
 
 -- definitions, as empty tables
@@ -359,7 +359,7 @@ rows_query s statement rows selects = absurd selects
 query_of : (ds : List Definition) (g : ℕ) (statement : Statement) (reply_old reply : List ℕ) (prepared : Prepared) → IsPreparedFor ds g statement reply_old reply prepared → IsSelect prepared → IsQuery (Says statement)
 query_of ds g statement reply_old reply (Selects rows) asks select =
     let s : State = record { partitioner = Lead8; tables = map empty_table ds } in
-    rows_query s statement rows ((asks.timeless tt (max_timestamp s)).of_state s (record { definitions_are = empty_definitions ds; newest_is = refl })).1
+    rows_query s statement rows ((asks.timeless tt (max_timestamp s)).of_state s (record { definitions_are = empty_definitions ds; max_time_is = refl })).1
 query_of ds g statement reply_old reply (Answered outcome) asks select = absurd select
 query_of ds g statement reply_old reply (Create t) asks select = absurd select
 query_of ds g statement reply_old reply (Writes w) asks select = absurd select

@@ -17,8 +17,8 @@ use Rattle.sasi_model.specs.Statements.{same}
 use Rattle.sasi_types.specs.declared.decorated_key.DecoratedKey.{DecoratedKey}
 use Rattle.sasi_types.specs.DecoratedKey.{decorated_cmp}
 use Rattle.sasi_model.specs.State.{Column, Definition, State, Table, apply, definition_of, max_timestamp, decorated, table_of, with_table}
-use Rattle.sasi_model.specs.Abbreviations.{definitions, key_position, max_timestamp_of_tables, stored_of, ok_line, first_of, new_definition, key_type}
-use Rattle.sasi_model.specs.Refusals.{Refusal, Rule, Says, refusal, rules}
+use Rattle.sasi_model.specs.Abbreviations.{definitions, key_position, max_timestamp_of_tables, stored_of, ok_line, first_refusal, new_definition, key_type}
+use Rattle.sasi_model.specs.Refusals.{Refusal, RefusalRule, Says, refusal, rules}
 use Rattle.sasi_model.specs.Lines.{refusal_line}
 use Rattle.sasi_model.specs.Step.{answer_of, applied, execute, decorated_given, primary_key, tables_after, timestamp, value_given}
 use Rattle.sasi_schema.specs.Answers.{IsFirstRefusal}
@@ -34,7 +34,7 @@ use Rattle.sasi_machine.specs.TableRows.{KeysStored}
 use Rattle.sasi_machine.specs.Tables.{IsMachineState, state_of, table_with, tables_of}
 use Rattle.sasi_machine.specs.StatementSteps.{IsRefused, StatementStepsTo}
 use Rattle.sasi_machine.specs.Writes.{IsWrite, IsWriting, change_in, key_in, table_named, time_in}
-use Rattle.sasi_machine.proofs.MaxTimestamps.{greatest_push, nothing_held}
+use Rattle.sasi_machine.proofs.MaxTimestamps.{max_timestamp_push, nothing_held}
 use Rattle.sasi_machine.proofs.NumberedTables.{first_or_later, number_some, table_numbered}
 use Rattle.sasi_machine.proofs.TablesOfMemtables.{definitions_of, memtables_push, tables_push, under_push}
 use Rattle.sasi_machine.proofs.WrittenKeys.{decorated_in, found_rules, given_in, key_asked, key_in_accepted}
@@ -44,24 +44,24 @@ use Rattle.sasi_machine.proofs.WrittenKeys.{decorated_in, found_rules, given_in,
 -- the machine's state is one of its definitions and its largest timestamp
 pub is_state_of : (p : Partitioner) (ds : List Definition) (cs : List MemtableView) (g : ℕ) → IsMachineState p ds cs g → IsStateOf ds g (state_of p ds cs)
 unfolding max_timestamp
-is_state_of p ds cs g kept = record { definitions_are = definitions_of ds cs kept.held; newest_is = sym kept.max_timestamp_is }
+is_state_of p ds cs g kept = record { definitions_are = definitions_of ds cs kept.held; max_time_is = sym kept.max_timestamp_is }
 
 -- the rules are tried on the definitions and the largest timestamp
 pub rules_are : (s : State) (ds : List Definition) (g : ℕ) (statement : Statement) → IsStateOf ds g s → rules (definitions s.tables) (max_timestamp s) statement ≡ rules ds g statement
 rules_are s ds g statement is =
-    ap (λ (tables : List Definition). rules tables (max_timestamp s) statement) is.definitions_are ∙ ap (λ (time : ℕ). rules ds time statement) is.newest_is
+    ap (λ (tables : List Definition). rules tables (max_timestamp s) statement) is.definitions_are ∙ ap (λ (time : ℕ). rules ds time statement) is.max_time_is
 
-pub not_refused : (s : State) (ds : List Definition) (g : ℕ) (statement : Statement) → IsStateOf ds g s → first_of (rules ds g statement) ≡ None → refusal s statement ≡ None
+pub not_refused : (s : State) (ds : List Definition) (g : ℕ) (statement : Statement) → IsStateOf ds g s → first_refusal (rules ds g statement) ≡ None → refusal s statement ≡ None
 unfolding refusal
-not_refused s ds g statement is none = ap first_of (rules_are s ds g statement is) ∙ none
+not_refused s ds g statement is none = ap first_refusal (rules_are s ds g statement is) ∙ none
 
-is_refusal : (s : State) (ds : List Definition) (g : ℕ) (statement : Statement) (r : Refusal) → IsStateOf ds g s → first_of (rules ds g statement) ≡ Some r → refusal s statement ≡ Some r
+is_refusal : (s : State) (ds : List Definition) (g : ℕ) (statement : Statement) (r : Refusal) → IsStateOf ds g s → first_refusal (rules ds g statement) ≡ Some r → refusal s statement ≡ Some r
 unfolding refusal
-is_refusal s ds g statement r is first = ap first_of (rules_are s ds g statement is) ∙ first
+is_refusal s ds g statement r is first = ap first_refusal (rules_are s ds g statement is) ∙ first
 
-pub no_rule : (s : State) (ds : List Definition) (g : ℕ) (statement : Statement) → IsStateOf ds g s → refusal s statement ≡ None → first_of (rules ds g statement) ≡ None
+pub no_rule : (s : State) (ds : List Definition) (g : ℕ) (statement : Statement) → IsStateOf ds g s → refusal s statement ≡ None → first_refusal (rules ds g statement) ≡ None
 unfolding refusal
-no_rule s ds g statement is none = sym (ap first_of (rules_are s ds g statement is)) ∙ none
+no_rule s ds g statement is none = sym (ap first_refusal (rules_are s ds g statement is)) ∙ none
 
 -- a statement that is refused
 pub refuses : (ds : List Definition) (g : ℕ) (statement : Statement) (refused : Option Refusal) (reply_old reply_new : List ℕ) (outcome : Outcome)
@@ -79,7 +79,7 @@ pub takes : (s : State) (statement : Statement) (new : State) (reply_old reply_n
 takes s statement new reply_old reply_new outcome none new_is reply_is outcome_is = rw none (record { state_is = new_is; reply_is = reply_is; outcome_is = outcome_is })
 
 -- what it asks
-pub taken_asks : (ds : List Definition) (g : ℕ) (statement : Statement) → first_of (rules ds g statement) ≡ None → parsed_asks ds g (Says statement) ≡ statement_asks ds g statement
+pub taken_asks : (ds : List Definition) (g : ℕ) (statement : Statement) → first_refusal (rules ds g statement) ≡ None → parsed_asks ds g (Says statement) ≡ statement_asks ds g statement
 taken_asks ds g statement none = ap (λ (o : Option Refusal). option_map_or (λ _. ask.NoChange) o (statement_asks ds g statement)) none
 
 -- ---- what is asked of a named table
@@ -121,7 +121,7 @@ record IsWriteFor (g : ℕ) (statement : Statement) (w : Mutation) (d : Definiti
   key_is : w.key ≡ stored_of (value_given (key_type d) (key_in d statement))
   change_is : w.change ≡ change_in d time statement
 
-write_for : (ds : List Definition) (g : ℕ) (statement : Statement) (w : Mutation) → IsWriting statement → (write : IsWrite ds g statement w) → first_of (rules ds g statement) ≡ None → IsWriteFor g statement w write.definition
+write_for : (ds : List Definition) (g : ℕ) (statement : Statement) (w : Mutation) → IsWriting statement → (write : IsWrite ds g statement w) → first_refusal (rules ds g statement) ≡ None → IsWriteFor g statement w write.definition
 write_for ds g statement w writing write none = record {
   at = write.key_is_there;
   accepted = key_in_accepted write.definition g statement writing write.key_is_there (found_rules ds g statement write.definition writing write.found none);
@@ -161,7 +161,7 @@ behind_is : (number : ℕ) (key : DecoratedKey) (change : Partition) (ts : List 
 behind_is zero key change ts some = absurd (omega (arith, some))
 behind_is (suc before) key change ts some = let e : before ≡ suc before - 1 = omega arith in ap (λ (k : ℕ). changed_behind k key change ts) e
 
-pub write_tables : (s : State) (ds : List Definition) (g : ℕ) (statement : Statement) (w : Mutation) → IsStateOf ds g s → IsWriting statement → IsWrite ds g statement w → first_of (rules ds g statement) ≡ None
+pub write_tables : (s : State) (ds : List Definition) (g : ℕ) (statement : Statement) (w : Mutation) → IsStateOf ds g s → IsWriting statement → IsWrite ds g statement w → first_refusal (rules ds g statement) ≡ None
     → changed_tables w.table (decorated s.partitioner w.key) w.change s.tables ≡ tables_after s statement
 write_tables s ds g statement w is writing write none =
     let name = table_named statement in
@@ -170,7 +170,7 @@ write_tables s ds g statement w is writing write none =
     let found : definition_of name (definitions s.tables) ≡ Some write.definition = ap (definition_of name) is.definitions_are ∙ write.found in
     let t = table_numbered name s.tables w.table write.definition number found in
     let f : IsWriteFor (max_timestamp s) statement w t.table.definition = subst (IsWriteFor (max_timestamp s) statement w) (sym t.definition_is)
-    (subst (λ (time : ℕ). IsWriteFor time statement w write.definition) (sym is.newest_is) (write_for ds g statement w writing write none)) in
+    (subst (λ (time : ℕ). IsWriteFor time statement w write.definition) (sym is.max_time_is) (write_for ds g statement w writing write none)) in
     behind_is w.table key w.change s.tables (number_some name ds w.table write.number)
     ∙ sym (writes_table s statement writing ∙ t.changed (change_of s.partitioner (max_timestamp s) statement) key w.change (written_table s.partitioner (max_timestamp s) statement w t.table writing f))
 
@@ -181,7 +181,7 @@ asks_write ds g (Update table time sets key value) is = refl
 asks_write ds g (Delete table columns time key value) is = refl
 asks_write ds g statement is = absurd is
 
-pub write_asked : (ds : List Definition) (g : ℕ) (statement : Statement) (w : Mutation) → IsWriting statement → IsWrite ds g statement w → first_of (rules ds g statement) ≡ None → statement_asks ds g statement ≡ ask.Writes w.table w.key w.change
+pub write_asked : (ds : List Definition) (g : ℕ) (statement : Statement) (w : Mutation) → IsWriting statement → IsWrite ds g statement w → first_refusal (rules ds g statement) ≡ None → statement_asks ds g statement ≡ ask.Writes w.table w.key w.change
 write_asked ds g statement w writing write none =
     let d = write.definition in
     let f = write_for ds g statement w writing write none in
@@ -202,7 +202,7 @@ create_kept p ds cs g d kept =
       held = memtables_push ds cs d (empty_memtable p) kept.held (none_stored p d);
       under = under_push p cs (empty_memtable p) kept.under refl;
       max_timestamp_is = kept.max_timestamp_is
-          ∙ sym (ap max_timestamp_of_tables (tables_push ds cs d (empty_memtable p) kept.held) ∙ greatest_push (tables_of ds cs) (table_with d (empty_memtable p)) nothing_held);
+          ∙ sym (ap max_timestamp_of_tables (tables_push ds cs d (empty_memtable p) kept.held) ∙ max_timestamp_push (tables_of ds cs) (table_with d (empty_memtable p)) nothing_held);
       limit = kept.limit;
     }
 

@@ -13,7 +13,7 @@ use Rattle.sasi_cells.proofs.Laws.Sorted.{equal_columns}
 use Rattle.sasi_model.specs.Cells.{Cells}
 use Rattle.sasi_model.specs.State.{Definition, number_of_column}
 use Rattle.sasi_model.specs.Refusals.{each, is_of, number_range, type_of_column, value_too_long, wrong_type}
-use Rattle.sasi_model.specs.Abbreviations.{first_of, value_set, types_of}
+use Rattle.sasi_model.specs.Abbreviations.{first_refusal, value_set, types_of}
 use Rattle.sasi_model.specs.Step.{cells_set, with_column_cell}
 use Rattle.sasi_model.specs.Stored.{HasBytes}
 use Rattle.sasi_model.specs.WellFormed.{IsWellFormedLiteral}
@@ -75,8 +75,8 @@ cells_good d t [] goods = λ column cell got. let none : None ≡ Some cell = sy
 cells_good d t (set ∷ sets) goods = with_good d t set (number_of_column d set.0) (cells_set d t sets) refl goods.0 (cells_good d t sets goods.1)
 
 -- the sets of which no rule refuses one
-pub goods : (d : Definition) (sets : List (List ℕ × Literal)) → first_of (each (wrong_type d) sets) ≡ None → first_of
-    (each (number_range d) sets) ≡ None → first_of (each (value_too_long d) sets) ≡ None → AllByRecursion
+pub goods : (d : Definition) (sets : List (List ℕ × Literal)) → first_refusal (each (wrong_type d) sets) ≡ None → first_refusal
+    (each (number_range d) sets) ≡ None → first_refusal (each (value_too_long d) sets) ≡ None → AllByRecursion
     (λ (s : List ℕ × Literal). IsWellFormedLiteral s.1) sets
     → AllByRecursion (IsGood d) sets
 goods d [] wrong range long written = tt

@@ -12,8 +12,8 @@ use Rattle.sasi_types.specs.declared.value.Value.{Value}
 use Rattle.sasi_types.specs.Value.{stored}
 use Rattle.sasi_model.specs.Asked as asked
 use Rattle.sasi_model.specs.State.{Column, Definition, decorated, definition_of}
-use Rattle.sasi_model.specs.Refusals.{Rule, no_column, repeat_rules, rules}
-use Rattle.sasi_model.specs.Abbreviations.{first_of, stored_of, key_type}
+use Rattle.sasi_model.specs.Refusals.{RefusalRule, no_column, repeat_rules, rules}
+use Rattle.sasi_model.specs.Abbreviations.{first_refusal, stored_of, key_type}
 use Rattle.sasi_model.specs.Step.{decorated_given, given_key, value_given}
 use Rattle.sasi_schema.specs.Numbers.{IsKeyAt}
 use Rattle.sasi_schema.proofs.Keys.{key_is}
@@ -28,17 +28,17 @@ use Rattle.sasi_machine.proofs.StatementBodies.{write_rules}
 
 -- the rules of the write are those of its table
 pub found_rules : (ds : List Definition) (g : ℕ) (statement : Statement) (d : Definition) → IsWriting statement → definition_of
-    (table_named statement) ds ≡ Some d → first_of (rules ds g statement) ≡ None → first_of (write_rules g statement d) ≡ None
+    (table_named statement) ds ≡ Some d → first_refusal (rules ds g statement) ≡ None → first_refusal (write_rules g statement d) ≡ None
 found_rules ds g (Insert table columns values time) d writing found none = rw found at none
 found_rules ds g (Update table time sets key value) d writing found none = rw found at none
 found_rules ds g (Delete table columns time key value) d writing found none = rw found at none
 found_rules ds g statement d writing found none = absurd writing
 
-pub key_in_accepted : (d : Definition) (g : ℕ) (statement : Statement) → IsWriting statement → IsKeyAt d.key d.columns → first_of
+pub key_in_accepted : (d : Definition) (g : ℕ) (statement : Statement) → IsWriting statement → IsKeyAt d.key d.columns → first_refusal
     (write_rules g statement d) ≡ None → IsKeyLiteral (key_type d) (key_in d statement)
 key_in_accepted d g (Insert table columns values time) writing at none =
     let given = zip columns values in
-    let known = subst (λ (rules : List Rule). first_of rules ≡ None) (insert_rules_are d g table columns given time at) none in
+    let known = subst (λ (rules : List RefusalRule). first_refusal rules ≡ None) (insert_rules_are d g table columns given time at) none in
     let named = none_parts (map (no_column d) columns) (repeat_rules [] columns ++ given_rules d g given time) known in
     (insert_accepted d g given time at (none_parts (repeat_rules [] columns) (given_rules d g given time) named.1).1).key
 key_in_accepted d g (Update table time sets key value) writing at none = (update_accepted d g table sets (record { column = key; value = value }) time at none).key

@@ -33,9 +33,9 @@ use Rattle.sasi_machine.specs.declared.prepared.Prepared.TheVariants.{Answered, 
 use Rattle.sasi_machine.specs.declared.prepared.Selection.{Selection}
 
 -- what is prepared depends on no more of a state than its definitions and its largest timestamp
-pub record IsStateOf (tables : List Definition) (newest : ℕ) (s : State) : Type 0 where
+pub record IsStateOf (tables : List Definition) (max_time : ℕ) (s : State) : Type 0 where
   pub definitions_are : definitions s.tables ≡ tables
-  pub newest_is : max_timestamp s ≡ newest
+  pub max_time_is : max_timestamp s ≡ max_time
 
 -- ---- what can be done to a state
 
@@ -113,9 +113,9 @@ asked_by (Flushes table) = ask.Flushes table
 asked_by (Selects rows) = ask.NoChange
 
 -- what a statement prepares over tables of these definitions, where this is the largest timestamp of their state
-pub record IsPrepared (tables : List Definition) (newest : ℕ) (statement : Statement) (reply_old reply_new : List ℕ) (prepared : Prepared) : Type 0 where
-  pub asked_is : parsed_asks tables newest (Says statement) ≡ asked_by prepared
-  pub of_state : (s : State) → IsStateOf tables newest s → StatementPrepares s statement reply_old reply_new prepared
+pub record IsPrepared (tables : List Definition) (max_time : ℕ) (statement : Statement) (reply_old reply_new : List ℕ) (prepared : Prepared) : Type 0 where
+  pub asked_is : parsed_asks tables max_time (Says statement) ≡ asked_by prepared
+  pub of_state : (s : State) → IsStateOf tables max_time s → StatementPrepares s statement reply_old reply_new prepared
 
 -- a new table, a flush and rows don't depend on the time
 abbrev pub IsTimeless : Prepared → Type 0
@@ -126,8 +126,8 @@ IsTimeless (Flushes table) = ⊤
 IsTimeless (Selects rows) = ⊤
 
 -- the same, where what doesn't depend on the time is prepared whatever the largest timestamp
-pub record IsPreparedFor (tables : List Definition) (newest : ℕ) (statement : Statement) (reply_old reply_new : List ℕ) (prepared : Prepared) : Type 0 where
-  pub now : IsPrepared tables newest statement reply_old reply_new prepared
+pub record IsPreparedFor (tables : List Definition) (max_time : ℕ) (statement : Statement) (reply_old reply_new : List ℕ) (prepared : Prepared) : Type 0 where
+  pub now : IsPrepared tables max_time statement reply_old reply_new prepared
   pub timeless : IsTimeless prepared → (other : ℕ) → IsPrepared tables other statement reply_old reply_new prepared
 
 -- ---- what a piece asks for

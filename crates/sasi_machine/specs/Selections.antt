@@ -1,7 +1,7 @@
 -- What a SELECT prepares, by the table that it names.
 use Rattle.std.specs.Prelude.{◌≡◌, ℕ, List, Option, None, Some, map}
 use Rattle.std.specs.Option.{option_map}
-use Rattle.sasi_model.specs.Abbreviations.{first_of, key_type}
+use Rattle.sasi_model.specs.Abbreviations.{first_refusal, key_type}
 use Rattle.sasi_model.specs.Refusals.{select_rules}
 use Rattle.sasi_model.specs.Step.{selected_columns}
 use Rattle.sasi_schema.specs.Defined.{definition}
@@ -24,6 +24,6 @@ Selected (Some t) columns rows = IsSelection t columns rows
 
 -- a refusal, or the columns of the table with the reply as it was
 abbrev pub PreparesRows : Option Table → List ℕ → Option (List (List ℕ)) → List ℕ → List ℕ → Prepared → Type 0
-PreparesRows found name columns reply_old reply_new (Answered outcome) = IsRefused (first_of (select_rules name columns (option_map definition found))) reply_old reply_new outcome
-PreparesRows found name columns reply_old reply_new (Selects rows) = (first_of (select_rules name columns (option_map definition found)) ≡ None) × (reply_new ≡ reply_old) × Selected found columns rows
+PreparesRows found name columns reply_old reply_new (Answered outcome) = IsRefused (first_refusal (select_rules name columns (option_map definition found))) reply_old reply_new outcome
+PreparesRows found name columns reply_old reply_new (Selects rows) = (first_refusal (select_rules name columns (option_map definition found)) ≡ None) × (reply_new ≡ reply_old) × Selected found columns rows
 PreparesRows found name columns reply_old reply_new prepared = ⊥

@@ -2,7 +2,7 @@
 ghost use Rattle.std.specs.Prelude.{◌≡◌, ◌<◌, None, false, if◌then◌else◌, IfOk, OnOk, map};
 ghost use Rattle.sasi_types.specs.declared.literal.Literal.TheVariants.{Null};
 ghost use Rattle.sasi_model.specs.Refusals.{each, is_key_value, is_out_of_range, number_range, tests, type_of_column};
-ghost use Rattle.sasi_model.specs.Abbreviations.{first_of, key_literal, update_change};
+ghost use Rattle.sasi_model.specs.Abbreviations.{first_refusal, key_literal, update_change};
 ghost use Rattle.sasi_schema.specs.Defined.{definition};
 ghost use Rattle.sasi_machine.specs.Assignment.{with_set};
 
@@ -28,7 +28,7 @@ pub fn assign(
     given: ColumnValues,
 ) -> Result<Assignment, AllocError>
     requires above { 0 < time }
-    requires ranges { first_of (each (number_range (definition table.now)) given) ≡ None }
+    requires ranges { first_refusal (each (number_range (definition table.now)) given) ≡ None }
     ensures key { IfOk result (λ c. c.key ≡ key_literal (definition table.now) given) }
     ensures change { IfOk result (λ c. c.change ≡ update_change (definition table.now) time given) }
 {

@@ -1,7 +1,7 @@
 // The mutations of writes that no rule refuses.
 ghost use Rattle.std.specs.Prelude.{◌≡◌, ◌<◌, None, IfOk};
 ghost use Rattle.sasi_model.specs.Refusals.{each, number_range};
-ghost use Rattle.sasi_model.specs.Abbreviations.{first_of, key_literal, marker, update_change, key_type};
+ghost use Rattle.sasi_model.specs.Abbreviations.{first_refusal, key_literal, marker, update_change, key_type};
 ghost use Rattle.sasi_model.specs.Step.{delete_change, insert_change};
 ghost use Rattle.sasi_cells.specs.Changes.{with_column};
 ghost use Rattle.sasi_schema.specs.Defined.{definition};
@@ -42,7 +42,7 @@ pub fn mutation_of_insert(
     given: ColumnValues,
 ) -> Result<Mutation, AllocError>
     requires above { 0 < time }
-    requires ranges { first_of (each (number_range (definition table.now)) given) ≡ None }
+    requires ranges { first_refusal (each (number_range (definition table.now)) given) ≡ None }
     requires key { IsKeyLiteral (key_type (definition table.now)) (key_literal (definition table.now) given) }
     ensures change { IfOk result (IsChange (definition table.now) (key_literal (definition table.now) given) (insert_change (definition table.now) time given)) }
     ensures table { IfOk result (λ mutation. mutation.table ≡ table.now.number) }
@@ -72,7 +72,7 @@ pub fn mutation_of_update(
     key: Literal,
 ) -> Result<Mutation, AllocError>
     requires above { 0 < time }
-    requires ranges { first_of (each (number_range (definition table.now)) sets) ≡ None }
+    requires ranges { first_refusal (each (number_range (definition table.now)) sets) ≡ None }
     requires key { IsKeyLiteral (key_type (definition table.now)) key }
     ensures change { IfOk result (IsChange (definition table.now) key (update_change (definition table.now) time sets)) }
     ensures table { IfOk result (λ mutation. mutation.table ≡ table.now.number) }

@@ -87,7 +87,7 @@ fn prepare_table(
     keys: &Names,
     reply: &mut Reply,
 ) -> Result<Prepared, AllocError>
-    ensures { IfOk result (λ prepared. (newest : ℕ) → IsPrepared schema.now newest (CreateTable table.now columns.now keys.now) reply.old reply.new prepared) }
+    ensures { IfOk result (λ prepared. (max_time : ℕ) → IsPrepared schema.now max_time (CreateTable table.now columns.now keys.now) reply.old reply.new prepared) }
 {
     let columns = columns.unpack(alloc)?;
     let keys = keys.unpack(alloc)?;
@@ -102,7 +102,7 @@ fn prepare_definition(
     keys: &[Name],
     reply: &mut Reply,
 ) -> Result<Prepared, AllocError>
-    ensures { IfOk result (λ prepared. (newest : ℕ) → IsPrepared schema.now newest (CreateTable table.now columns.now keys.now) reply.old reply.new prepared) }
+    ensures { IfOk result (λ prepared. (max_time : ℕ) → IsPrepared schema.now max_time (CreateTable table.now columns.now keys.now) reply.old reply.new prepared) }
 {
     match schema.prepare_table(table, columns, keys) {
         Ok(table) => {
@@ -117,7 +117,7 @@ fn prepare_definition(
 }
 
 fn prepare_flush(schema: &Schema, table: Name, reply: &mut Reply) -> Result<Prepared, AllocError>
-    ensures { IfOk result (λ prepared. (newest : ℕ) → IsPrepared schema.now newest (Flush table) reply.old reply.new prepared) }
+    ensures { IfOk result (λ prepared. (max_time : ℕ) → IsPrepared schema.now max_time (Flush table) reply.old reply.new prepared) }
 {
     match schema.table(&table) {
         Some(table) => {

@@ -25,7 +25,7 @@ pub fn prepare_select(
     select: &Select,
     reply: &mut Reply,
 ) -> Result<Prepared, AllocError>
-    ensures { IfOk result (λ prepared. (newest : ℕ) → IsPrepared schema.now newest (Query select.now) reply.old reply.new prepared) }
+    ensures { IfOk result (λ prepared. (max_time : ℕ) → IsPrepared schema.now max_time (Query select.now) reply.old reply.new prepared) }
 {
     match schema.table(&select.table) {
         None => refuse_table(alloc, select, reply),

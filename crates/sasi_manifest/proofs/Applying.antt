@@ -24,10 +24,10 @@ use Rattle.sasi_manifest.specs.declared.edit.Edit.TheVariants.{Start, CreateTabl
 use Rattle.sasi_manifest.specs.declared.files.ListedFile.{ListedFile}
 use Rattle.sasi_manifest.specs.declared.files.PartNumber.{PartNumber}
 use Rattle.sasi_manifest.specs.declared.listing.Listing.{Listing}
-use Rattle.sasi_manifest.specs.Edits.{name, type, partitioner, shape, edit, replace, Applies, are_within, files_of, is_current, is_last, is_new, last_segment, later_tag, live_segments, new_file, new_files, parts, removed_number, removed_numbers}
+use Rattle.sasi_manifest.specs.Edits.{name, type, partitioner, shape, edit, replace, Applies, are_within, files_of, is_current, is_last, is_new, last_segment, later_tag, live_segments, new_file_format, new_files, parts, removed_number, removed_numbers}
 use Rattle.sasi_manifest.specs.ListedDefinition.{ListedDefinition}
 use Rattle.sasi_manifest.specs.Abbreviations.{column, is_open_name, listed_names}
-use Rattle.sasi_manifest.specs.Listings.{CanStart, IsWritable}
+use Rattle.sasi_manifest.specs.Listings.{CanStart, FitsWidths}
 use Rattle.sasi_manifest.specs.Naming.{IsName, IsFree, AreNames, AreApart}
 
 -- ---- names and types
@@ -200,22 +200,22 @@ abbrev pub AreNewFiles : List ListedDefinition → List ℕ → List ListedFile 
 AreNewFiles tables removed before [] = Unit {0}
 AreNewFiles tables removed before (f ∷ fs) = IsNewFile tables removed before f × AreNewFiles tables removed (before ++ f ∷ []) fs
 
-file_fits : (tables : List ListedDefinition) (removed : List ℕ) (before : List ListedFile) (f : ListedFile) → IsNewFile tables removed before f → Fits (new_file tables removed before) f
+file_fits : (tables : List ListedDefinition) (removed : List ℕ) (before : List ListedFile) (f : ListedFile) → IsNewFile tables removed before f → Fits (new_file_format tables removed before) f
 file_fits tables removed before f is =
     let segment = range_fits w32 1 (2 ^ 32 - 1) f.number is.number_fits is.some (omega (arith, is.number_fits)) in
     ((checked_fits rule.Number 4 (is_new tables removed before) (in_range w32 1 (2 ^ 32 - 1)) f.number segment is.free, subst (λ (ps : List PartNumber). Fits parts ps) (sym is.no_parts) none_fit), refl)
 
-fits_file : (tables : List ListedDefinition) (removed : List ℕ) (before : List ListedFile) (f : ListedFile) → Fits (new_file tables removed before) f → IsNewFile tables removed before f
+fits_file : (tables : List ListedDefinition) (removed : List ℕ) (before : List ListedFile) (f : ListedFile) → Fits (new_file_format tables removed before) f → IsNewFile tables removed before f
 fits_file tables removed before f h =
     let named = fits_checked rule.Number 4 (is_new tables removed before) (in_range w32 1 (2 ^ 32 - 1)) f.number h.0.0 in
     let range = fits_range w32 1 (2 ^ 32 - 1) f.number named.0 in
     record { some = range.above; number_fits = range.fits; free = named.1; no_parts = parts_none f.parts h.0.1 }
 
-files_fit : (tables : List ListedDefinition) (removed : List ℕ) (before fs : List ListedFile) → AreNewFiles tables removed before fs → fit_items (λ before. Fits (new_file tables removed before)) before fs
+files_fit : (tables : List ListedDefinition) (removed : List ℕ) (before fs : List ListedFile) → AreNewFiles tables removed before fs → fit_items (λ before. Fits (new_file_format tables removed before)) before fs
 files_fit tables removed before [] all = tt
 files_fit tables removed before (f ∷ fs) all = (file_fits tables removed before f all.0, files_fit tables removed (before ++ f ∷ []) fs all.1)
 
-fit_files : (tables : List ListedDefinition) (removed : List ℕ) (before fs : List ListedFile) → fit_items (λ before. Fits (new_file tables removed before)) before fs → AreNewFiles tables removed before fs
+fit_files : (tables : List ListedDefinition) (removed : List ℕ) (before fs : List ListedFile) → fit_items (λ before. Fits (new_file_format tables removed before)) before fs → AreNewFiles tables removed before fs
 fit_files tables removed before [] h = tt
 fit_files tables removed before (f ∷ fs) h = (fits_file tables removed before f h.0, fit_files tables removed (before ++ f ∷ []) fs h.1)
 
@@ -322,7 +322,7 @@ no_parts_few tables removed before [] all = tt
 no_parts_few tables removed before (f ∷ fs) all = (omega (arith, ap length all.0.no_parts), no_parts_few tables removed (before ++ f ∷ []) fs all.1)
 
 -- an edit that applies can be written
-pub writable : (from : Option Listing) (e : Edit) → Applies from e → IsWritable e
+pub writable : (from : Option Listing) (e : Edit) → Applies from e → FitsWidths e
 writable from (Start p floor last) h = tt
 writable None (CreateTable number title columns position since) h = absurd (no_create number title columns position since h)
 writable (Some listing) (CreateTable number title columns position since) h =

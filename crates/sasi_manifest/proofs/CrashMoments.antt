@@ -9,7 +9,7 @@ use Rattle.sasi_host.specs.Disk.{Changes, FileChange, Same, AnyChange, LeftWith,
 use Rattle.sasi_host.proofs.ChangeLaws.{changes_as, changes_on, changes_among, stays, step_as, each_on}
 use Rattle.sasi_host.proofs.Durability.{file_durable_other}
 use Rattle.sasi_host.proofs.ContentLaws.{reaches_where, contents_other}
-use Rattle.sasi_gated.specs.Format.{IsBeforeOrAfter, header, frame, new_file}
+use Rattle.sasi_gated.specs.Format.{IsBeforeOrAfter, header, frame, new_gated_file}
 use Rattle.sasi_gated.proofs.Laws.{gated_end, header_length, frame_length}
 use Rattle.sasi_gated.proofs.HandleLaws.{end_stays}
 use Rattle.sasi_gated.specs.Reads.{AppendsRecord}
@@ -20,7 +20,7 @@ use Rattle.sasi_manifest.specs.Consistent.{IsConsistent}
 use Rattle.sasi_manifest.proofs.Consistency.{record_consistent}
 use Rattle.sasi_formats.proofs.EncodingsAgree.{is_encoded_of}
 use Rattle.sasi_manifest.specs.Edits.{AllApply, encoded, edits as edits_after}
-use Rattle.sasi_manifest.specs.Listings.{after_all, with_record_counted, edits_of, records_of, length_of}
+use Rattle.sasi_manifest.specs.Listings.{after_all, with_record_counted, rewrite_edits, records_of, length_of}
 use Rattle.sasi_manifest.specs.Format.{IsNext, IsRewritten}
 use Rattle.sasi_manifest.specs.Abbreviations.{Builds}
 use Rattle.sasi_manifest.specs.OpenManifest.{ManifestState, IsOpenManifest, IsAtListingEnd, ManifestStands, IsEither, IsUnsealed, ChangesOnlyManifest, Creates}
@@ -110,10 +110,10 @@ pub still_unsealed : (a b : View) (n : ℕ) → Changes (FileChange (manifest_na
 still_unsealed a b n change unsealed = each_on a b (FileChange (manifest_name n) AnyChange) (λ f. get f (seal_name n) ≡ None) change (λ x y step none. step.others (seal_name n) (seal_apart n) ∙ none) unsealed
 
 -- the one record of a new manifest
-pub new_builds : (listing made : Listing) (payload : Bytes) → AllApply None (edits_of listing) → length
-    (encoded (edits_of listing)) ≤ 2 ^ 30 → payload ≡ encoded (edits_of listing) → IsRewritten listing made → Builds (payload ∷ []) made
+pub new_builds : (listing made : Listing) (payload : Bytes) → AllApply None (rewrite_edits listing) → length
+    (encoded (rewrite_edits listing)) ≤ 2 ^ 30 → payload ≡ encoded (rewrite_edits listing) → IsRewritten listing made → Builds (payload ∷ []) made
 new_builds listing made payload apply short is rewritten =
-    subst (λ (l : Bytes). Builds (l ∷ []) made) (sym is) (edits_of listing, is_encoded_of (edits_after None) (edits_of listing) (encoded (edits_of listing)) (record_encodes None (edits_of listing) apply (omega arith) short), sym rewritten)
+    subst (λ (l : Bytes). Builds (l ∷ []) made) (sym is) (rewrite_edits listing, is_encoded_of (edits_after None) (rewrite_edits listing) (encoded (rewrite_edits listing)) (record_encodes None (rewrite_edits listing) apply (omega arith) short), sym rewritten)
 
 made_seal : (a b : View) (n at : ℕ) (listing : Listing) (records : List Bytes) → IsSound a → IsUnsealed a n → IsAtEnd a
     (manifest_name n) at records → Builds records listing → Changes (FileChange (seal_name n) MaybeCreated) a b → Changes (Creates n listing) a b
@@ -167,16 +167,16 @@ counted_sizes (Some l) payload listing is =
     let same : listing ≡ record l { records = l.records + 1; length = l.length + (5 + length payload) }
     = cc in (ap (λ (x : Listing). x.records) same, ap (λ (x : Listing). x.length) same)
 
-new_length : (file : FileName) (payload : Bytes) → length (new_file file (Some payload)) ≡ 22 + length payload
+new_length : (file : FileName) (payload : Bytes) → length (new_gated_file file (Some payload)) ≡ 22 + length payload
 new_length file payload = omega (arith, header_length file, frame_length payload, length-append (header file) (1 ∷ (frame payload ++ 0 ∷ [])), length-append (frame payload) (0 ∷ []))
 
-pub new_is_open : (n : ℕ) (gated : Handle) (listing made : Listing) (file : FileName) (payload : Bytes) → AllApply None (edits_of listing)
-    → payload ≡ encoded (edits_of listing) → IsRewritten listing made → file ≡ manifest_name n → gated.file ≡ file → gated.at + 1 ≡ length
-    (new_file file (Some payload)) → gated.at ≤ 2 ^ 62
+pub new_is_open : (n : ℕ) (gated : Handle) (listing made : Listing) (file : FileName) (payload : Bytes) → AllApply None (rewrite_edits listing)
+    → payload ≡ encoded (rewrite_edits listing) → IsRewritten listing made → file ≡ manifest_name n → gated.file ≡ file → gated.at + 1 ≡ length
+    (new_gated_file file (Some payload)) → gated.at ≤ 2 ^ 62
     → IsTrue gated.usable → IsOpenManifest n gated made true
 new_is_open n gated listing made file payload apply is rewritten named of offset fits usable =
-    let sizes = counted_sizes (after_all None (edits_of listing)) (encoded (edits_of listing)) made rewritten in
-    let stay = sizes_stay None (edits_of listing) apply in
+    let sizes = counted_sizes (after_all None (rewrite_edits listing)) (encoded (rewrite_edits listing)) made rewritten in
+    let stay = sizes_stay None (rewrite_edits listing) apply in
     record {
       file = of ∙ named;
       ready = λ yes. record {
@@ -187,7 +187,7 @@ new_is_open n gated listing made file payload apply is rewritten named of offset
             (arith, sizes.0, stay.0, offset, new_length file payload);
         handle = usable;
       };
-      consistent = record_consistent None (encoded (edits_of listing)) (edits_of listing) made apply rewritten tt;
+      consistent = record_consistent None (encoded (rewrite_edits listing)) (rewrite_edits listing) made apply rewritten tt;
     }
 
 pub next_is_open : (n : ℕ) (old new : Handle) (listing next : Listing) (edits : List Edit) → old.file ≡ manifest_name n

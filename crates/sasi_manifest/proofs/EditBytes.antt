@@ -16,7 +16,7 @@ use Rattle.sasi_manifest.specs.declared.edit.Edit.TheVariants.{Start, CreateTabl
 use Rattle.sasi_manifest.specs.declared.files.ListedFile.{ListedFile}
 use Rattle.sasi_manifest.specs.declared.files.PartNumber.{PartNumber}
 use Rattle.sasi_manifest.specs.declared.listing.Listing.{Listing}
-use Rattle.sasi_manifest.specs.Edits.{columns, edit, edits, encoded, Applies, new_file, new_files, parts, replace, files_of, part, removed_number, removed_numbers}
+use Rattle.sasi_manifest.specs.Edits.{columns, edit, edits, encoded, Applies, new_file_format, new_files, parts, replace, files_of, part, removed_number, removed_numbers}
 use Rattle.sasi_manifest.specs.ListedDefinition.{ListedDefinition}
 use Rattle.sasi_manifest.specs.ListedFiles.{file_length}
 use Rattle.sasi_manifest.specs.Abbreviations.{column}
@@ -56,7 +56,7 @@ abbrev pub file_bytes : ListedFile → Bytes
 file_bytes f = to_be_bytes w32 f.number ++ formats.encoded parts f.parts
 
 pub files_bytes : (tables : List ListedDefinition) (removed : List ℕ) (fs : List ListedFile) → formats.encoded (new_files tables removed) fs ≡ to_be_bytes w32 (length fs) ++ flat_map file_bytes fs
-files_bytes tables removed fs = ap (λ (l : Bytes). to_be_bytes w32 (length fs) ++ l) (items_flat (λ before. formats.encoded (new_file tables removed before)) file_bytes (λ before f. refl) [] fs)
+files_bytes tables removed fs = ap (λ (l : Bytes). to_be_bytes w32 (length fs) ++ l) (items_flat (λ before. formats.encoded (new_file_format tables removed before)) file_bytes (λ before f. refl) [] fs)
 
 -- the bytes of files in the place of others
 abbrev pub segments_bytes : ℕ → ℕ → ℕ → Bytes

@@ -1,6 +1,6 @@
 pub mod Applying
 pub mod Replacing
-pub mod Places
+pub mod Positions
 pub mod EditBytes
 pub mod FileOrder
 pub mod Sizes

@@ -39,7 +39,7 @@ use Rattle.sasi_manifest.proofs.Consistency.{record_consistent}
 use Rattle.sasi_manifest.specs.Format.{RecordsLeadTo}
 use Rattle.sasi_manifest.specs.Damages.{IsLengthDamage, IsManifestDamage, NoFalseManifestDamage}
 use Rattle.sasi_manifest.proofs.Laws.{leads_on, manifest_undamaged}
-use Rattle.sasi_manifest.specs.Reading.{ReadingGoesOn, IsOffsetWithin, IsDamageOfRecord, ReadsWhole, ReadsListing, StandsWhereKept}
+use Rattle.sasi_manifest.specs.Reading.{IsReadingManifest, IsOffsetWithin, IsDamageOfRecord, ReadsWhole, ReadsListing, StandsWhereKept}
 use Rattle.sasi_manifest.proofs.Records.{record_applies, sizes_stay, something_listed}
 use Rattle.sasi_manifest.proofs.CrashMoments.{counted_sizes}
 
@@ -60,10 +60,10 @@ shown_outside v n file (fault.Damaged damage) named shown = λ bytes is.
     inl (subst (λ (l : FileName). IsGatedDamage l bytes damage) named (shown bytes (subst (λ (l : FileName). contents v l ≡ Some bytes) (sym named) is)))
 
 -- what the file read at first, it reads still
-still : (a b : View) (n : ℕ) (gated : Handle) (listed : Option Listing) (bytes : Bytes) → ReadingGoesOn a b n gated listed → contents a (manifest_name n) ≡ Some bytes → contents b gated.file ≡ Some bytes
+still : (a b : View) (n : ℕ) (gated : Handle) (listed : Option Listing) (bytes : Bytes) → IsReadingManifest a b n gated listed → contents a (manifest_name n) ≡ Some bytes → contents b gated.file ≡ Some bytes
 still a b n gated listed bytes on is = ap (λ (l : FileName). contents b l) on.file ∙ contents_same a b (manifest_name n) on.same ∙ is
 
-pub shown_at_gate : (a b : View) (n : ℕ) (gated : Handle) (listed : Option Listing) (f : ReadFault) → ReadingGoesOn a b n gated listed → GatedDamageShownAt b gated.file gated.at f → IsManifestDamage a n f
+pub shown_at_gate : (a b : View) (n : ℕ) (gated : Handle) (listed : Option Listing) (f : ReadFault) → IsReadingManifest a b n gated listed → GatedDamageShownAt b gated.file gated.at f → IsManifestDamage a n f
 shown_at_gate a b n gated listed fault.Failed on shown = tt
 shown_at_gate a b n gated listed fault.OutOfMemory on shown = tt
 shown_at_gate a b n gated listed (fault.Damaged damage) on shown = λ bytes is.
@@ -73,7 +73,7 @@ shown_at_gate a b n gated listed (fault.Damaged damage) on shown = λ bytes is.
     (subst (λ (l : FileName). IsAtGate l bytes gated.at read.done read.rest) (sym on.file) read.at_gate)))
 
 pub shown_inside : (a b : View) (n after : ℕ) (gated : Handle) (listed : Option Listing) (payload : Bytes) (f : ReadFault)
-    → ReadingGoesOn a b n gated listed → ReadsGate b gated.file gated.at after true payload → OnDamage
+    → IsReadingManifest a b n gated listed → ReadsGate b gated.file gated.at after true payload → OnDamage
     (IsDamageOfRecord n (length_of listed - 1) listed payload) f → IsManifestDamage a n f
 shown_inside a b n after gated listed payload fault.Failed on gate telling = tt
 shown_inside a b n after gated listed payload fault.OutOfMemory on gate telling = tt
@@ -116,7 +116,7 @@ none_read from (p ∷ ps) (es, is_encoded, more) =
     let applied = record_applies from es p (encodes_of (edits from) es p is_encoded) in
     absurd (some_listed (with_record_counted p (after_all from es)) ps (counted_then p (after_all from es) (something_listed from es applied.apply applied.some)) more)
 
-pub shown_empty : (a b : View) (n after : ℕ) (gated : Handle) (payload : Bytes) (damage : Damage) → ReadingGoesOn a b n gated None
+pub shown_empty : (a b : View) (n after : ℕ) (gated : Handle) (payload : Bytes) (damage : Damage) → IsReadingManifest a b n gated None
     → ReadsGate b gated.file gated.at after false payload → damage.file ≡ manifest_name n → damage.at ≡ 16 → damage.rule ≡ Number
     → seen_bytes damage.seen ≡ 0 ∷ []
     → IsManifestDamage a n (fault.Damaged damage)
@@ -139,12 +139,12 @@ shown_empty a b n after gated payload damage on gate named offset rule seen byte
 
 -- ---- what was read
 
-pub goes_on_next : (a b c : View) (n : ℕ) (old new : Handle) (listed : Option Listing) (listing : Listing) (payload : Bytes)
-    (es : List Edit) → ReadingGoesOn a b n old listed → ReadsGate b old.file old.at new.at true payload → Changes Same b c
+pub reading_next_record : (a b c : View) (n : ℕ) (old new : Handle) (listed : Option Listing) (listing : Listing) (payload : Bytes)
+    (es : List Edit) → IsReadingManifest a b n old listed → ReadsGate b old.file old.at new.at true payload → Changes Same b c
     → new.at ≡ old.at + (5 + length payload) → new.at ≤ 2 ^ 62 → new.file ≡ old.file → IsTrue new.usable
     → c.disk_faults ≡ b.disk_faults → c.out_faults ≡ b.out_faults → IsBuffered new.buffered c.files
-    → ReadsEachOnce b c old.file old.buffered.page new.buffered.page new.at → Encodes (edits listed) es payload → Some listing ≡ with_record_counted payload (after_all listed es) → ReadingGoesOn a c n new (Some listing)
-goes_on_next a b c n old new listed listing payload es on gate same offset fits file usable disk out buffered once is made =
+    → ReadsEachOnce b c old.file old.buffered.page new.buffered.page new.at → Encodes (edits listed) es payload → Some listing ≡ with_record_counted payload (after_all listed es) → IsReadingManifest a c n new (Some listing)
+reading_next_record a b c n old new listed listing payload es on gate same offset fits file usable disk out buffered once is made =
     let sizes = counted_sizes (after_all listed es) payload listing made in
     let stay = sizes_stay listed es (record_applies listed es payload is).apply in
     record {
@@ -172,18 +172,18 @@ goes_on_next a b c n old new listed listing payload es on gate same offset fits 
     }
 
 -- the pages that were read up to the end, and up to an error
-pub reads_within : (a b c : View) (n : ℕ) (old new : Handle) (listed : Option Listing) → ReadingGoesOn a b n old listed → new.file ≡ old.file
+pub reads_within : (a b c : View) (n : ℕ) (old new : Handle) (listed : Option Listing) → IsReadingManifest a b n old listed → new.file ≡ old.file
     → ReadsEachOnce b c old.file old.buffered.page new.buffered.page new.at → ReadsWithinPages a c (manifest_name n)
 reads_within a b c n old new listed on file once =
     subst (λ (f : FileName). ReadsWithinPages a c f) (file ∙ on.file)
     (opens_within a c new (opens_on a b c old new (contents_same a b old.file on.same) file on.once once))
 
-pub reads_no_further : (a b c : View) (n : ℕ) (old : Handle) (listed : Option Listing) → ReadingGoesOn a b n old listed
+pub reads_no_further : (a b c : View) (n : ℕ) (old : Handle) (listed : Option Listing) → IsReadingManifest a b n old listed
     → ReadsNoFurther b c old.file old.buffered.page old.at → ReadsWithinPages a c (manifest_name n)
 reads_no_further a b c n old listed on further =
     subst (λ (f : FileName). ReadsWithinPages a c f) on.file (fails_within a b c old (contents_same a b old.file on.same) on.once further)
 
-pub read_whole : (a b : View) (n after : ℕ) (gated : Handle) (listing : Listing) (payload : Bytes) → ReadingGoesOn a b n gated (Some listing)
+pub read_whole : (a b : View) (n after : ℕ) (gated : Handle) (listing : Listing) (payload : Bytes) → IsReadingManifest a b n gated (Some listing)
     → ReadsGate b gated.file gated.at after false payload → ReadsWhole a n after listing
 read_whole a b n after gated listing payload on gate bytes told =
     let read = on.reads bytes told in

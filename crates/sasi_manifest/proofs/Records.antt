@@ -24,7 +24,7 @@ use Rattle.sasi_manifest.specs.declared.listing.Listing.{Listing}
 use Rattle.sasi_manifest.specs.Edits.{edit, edits, encoded, Applies, AllApply}
 use Rattle.sasi_manifest.specs.ReadEdits.{read_edits}
 use Rattle.sasi_manifest.specs.Abbreviations.{created_table, started, with_listed_table}
-use Rattle.sasi_manifest.specs.Listings.{IsWritable, after, after_all, at_number, replaced, with_record_counted, records_of, length_of}
+use Rattle.sasi_manifest.specs.Listings.{FitsWidths, after, after_all, at_number, replaced, with_record_counted, records_of, length_of}
 use Rattle.sasi_manifest.proofs.Applying.{no_start, no_create, no_replace, writable}
 use Rattle.sasi_manifest.proofs.EditBytes.{edits_few, same_record}
 
@@ -43,12 +43,12 @@ pub in_turn : (from : Option Listing) (before es : List Edit) → fit_items (λ 
 in_turn from before [] h = tt
 in_turn from before (e ∷ es) h = (h.0, subst (λ (l : Option Listing). ApplyInTurn l es) (after_push from before e) (in_turn from (before ++ e ∷ []) es h.1))
 
-writable_in_turn : (from : Option Listing) (es : List Edit) → ApplyInTurn from es → AllByRecursion IsWritable es
+writable_in_turn : (from : Option Listing) (es : List Edit) → ApplyInTurn from es → AllByRecursion FitsWidths es
 writable_in_turn from [] all = tt
 writable_in_turn from (e ∷ es) all = (writable from e all.0, writable_in_turn (after from e) es all.1)
 
 -- they can be written
-pub all_writable : (from : Option Listing) (es : List Edit) → AllApply from es → AllByRecursion IsWritable es
+pub all_writable : (from : Option Listing) (es : List Edit) → AllApply from es → AllByRecursion FitsWidths es
 all_writable from es all = writable_in_turn from es (in_turn from [] es all)
 
 -- the turn of a loop
@@ -82,8 +82,8 @@ module _ (from : Option Listing) (count : ℕ) (old : Reading) where
   pub reading_begins : IsReading from count old count from old
   reading_begins = record { es = []; makes = refl; so_far = items_begin item count old }
 
-  pub reading_goes_on : (left next : ℕ) (listed to : Option Listing) (s t : Reading) (e : Edit) → left ≡ suc next → read (edit listed) s ≡ Got e t → to ≡ after listed e → IsReading from count old left listed s → IsReading from count old next to t
-  reading_goes_on left next listed to s t e counted got is on = record {
+  pub reading_next_edit : (left next : ℕ) (listed to : Option Listing) (s t : Reading) (e : Edit) → left ≡ suc next → read (edit listed) s ≡ Got e t → to ≡ after listed e → IsReading from count old left listed s → IsReading from count old next to t
+  reading_next_edit left next listed to s t e counted got is on = record {
     es = on.es ++ e ∷ [];
     makes = after_push from on.es e ∙ ap (λ (l : Option Listing). after l e) on.makes ∙ sym is;
     so_far = items_more item count old next on.es s e t (ap (λ (l : Option Listing). read (edit l) s) on.makes ∙ got) (subst (λ (n : ℕ). SoFar item count old n on.es s) counted on.so_far);

@@ -31,10 +31,10 @@ abbrev pub IsLengthDamage : ℕ → Bytes → FormatRule → ℕ → Bytes → T
 IsLengthDamage before payload rule at seen = (rule ≡ Number) × (at ≡ before + 1) × (seen ≡ to_be_bytes w32 (length payload))
 
 -- the damage that a corruption of this record is
-abbrev pub IsRecordDamage : ℕ → Bytes → Corruption → FormatRule → ℕ → Bytes → Type 0
-IsRecordDamage before payload Short rule at seen = IsLengthDamage before payload rule at seen
-IsRecordDamage before payload Long rule at seen = IsLengthDamage before payload rule at seen
-IsRecordDamage before payload (Broken broken offset found) rule at seen = (rule ≡ broken) × (at ≡ before + (5 + offset)) × (seen ≡ found)
+abbrev pub IsEditDamage : ℕ → Bytes → Corruption → FormatRule → ℕ → Bytes → Type 0
+IsEditDamage before payload Short rule at seen = IsLengthDamage before payload rule at seen
+IsEditDamage before payload Long rule at seen = IsLengthDamage before payload rule at seen
+IsEditDamage before payload (Broken broken offset found) rule at seen = (rule ≡ broken) × (at ≡ before + (5 + offset)) × (seen ≡ found)
 
 -- after records that apply comes one that doesn't
 pub record HasBrokenRecord (number : ℕ) (bytes : Bytes) (rule : FormatRule) (at : ℕ) (seen : Bytes) : Type 0 where
@@ -49,7 +49,7 @@ pub record HasBrokenRecord (number : ℕ) (bytes : Bytes) (rule : FormatRule) (a
   pub opens : Opens rest payload tail
   pub found : Corruption
   pub fails : FailsWhole (edits listed) payload found
-  pub told : IsRecordDamage before payload found rule at seen
+  pub told : IsEditDamage before payload found rule at seen
 
 -- the manifest of this number has the damage: as a gated file, or in its records
 abbrev pub ShowsDamage : ℕ → Bytes → Damage → Type 0

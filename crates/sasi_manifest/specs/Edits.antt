@@ -123,12 +123,12 @@ abbrev pub new_number : List ListedDefinition → List ℕ → List ListedFile �
 new_number tables removed before = checked rule.Number 4 (is_new tables removed before) (in_range w32 1 (2 ^ 32 - 1))
 
 -- a file with a new number, and its parts
-abbrev pub new_file : List ListedDefinition → List ℕ → List ListedFile → Format ListedFile
-new_file tables removed before = mapped (λ f. record { number = f.0; parts = f.1 }) (λ f. (f.number, f.parts)) (λ _. refl)
+abbrev pub new_file_format : List ListedDefinition → List ℕ → List ListedFile → Format ListedFile
+new_file_format tables removed before = mapped (λ f. record { number = f.0; parts = f.1 }) (λ f. (f.number, f.parts)) (λ _. refl)
     (new_number tables removed before & parts)
 
 abbrev pub new_files : List ListedDefinition → List ℕ → Format (List ListedFile)
-new_files tables removed = Counted (number w32) (new_file tables removed)
+new_files tables removed = Counted (number w32) (new_file_format tables removed)
 
 -- the numbers of files of the table, and new files
 abbrev pub files : List ListedDefinition → ℕ → Format (List ℕ × List ListedFile)

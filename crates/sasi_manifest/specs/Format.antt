@@ -6,7 +6,7 @@ use Rattle.sasi_formats.specs.Encodings.{IsEncoded}
 use Rattle.sasi_manifest.specs.declared.edit.Edit.{Edit}
 use Rattle.sasi_manifest.specs.declared.listing.Listing.{Listing}
 use Rattle.sasi_manifest.specs.Edits.{edits, encoded}
-use Rattle.sasi_manifest.specs.Listings.{after_all, with_record_counted, edits_of}
+use Rattle.sasi_manifest.specs.Listings.{after_all, with_record_counted, rewrite_edits}
 
 -- the records build the second listing from the first
 abbrev pub RecordsLeadTo : Option Listing → List Bytes → Option Listing → Type 0
@@ -19,7 +19,7 @@ IsManifest number bytes listing = (records : List Bytes) × IsGated (manifest_na
 
 -- the listing of a manifest that was written anew: the same tables, in one record
 abbrev pub IsRewritten : Listing → Listing → Type 0
-IsRewritten listing rewritten = Some rewritten ≡ with_record_counted (encoded (edits_of listing)) (after_all None (edits_of listing))
+IsRewritten listing rewritten = Some rewritten ≡ with_record_counted (encoded (rewrite_edits listing)) (after_all None (rewrite_edits listing))
 
 -- the listing after one more record of these edits
 abbrev pub IsNext : Listing → List Edit → Listing → Type 0

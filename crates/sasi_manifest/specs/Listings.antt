@@ -26,10 +26,10 @@ pub record CanStart (floor last : ℕ) : Type 0 where
   pub last_fits : last < 2 ^ 32
 
 -- the fields of the edit fit their widths
-abbrev pub IsWritable : Edit → Type 0
-IsWritable (Start partitioner floor last) = Unit {0}
-IsWritable (CreateTable number name columns key since) = (length name ≤ 48) × (length columns ≤ 64) × AreNames (names_in columns)
-IsWritable (Replace table removed added since floor last) = (length removed < 2 ^ 32) × (length added < 2 ^ 32) × AllByRecursion (λ f. length f.parts < 2 ^ 16) added
+abbrev pub FitsWidths : Edit → Type 0
+FitsWidths (Start partitioner floor last) = Unit {0}
+FitsWidths (CreateTable number name columns key since) = (length name ≤ 48) × (length columns ≤ 64) × AreNames (names_in columns)
+FitsWidths (Replace table removed added since floor last) = (length removed < 2 ^ 32) × (length added < 2 ^ 32) × AllByRecursion (λ f. length f.parts < 2 ^ 16) added
 
 -- the list with the item of this number changed, from the number of its first item on
 abbrev pub at_number : {A : Type 0} → ℕ → ℕ → (A → A) → List A → List A
@@ -72,9 +72,9 @@ length_of (Some listing) = listing.length
 abbrev pub create_edit : ℕ → ListedDefinition → Edit
 create_edit number t = CreateTable number t.definition.name t.definition.columns t.definition.key t.since
 
-abbrev pub create_edits : ℕ → List ListedDefinition → List Edit
-create_edits number [] = []
-create_edits number (t ∷ tables) = create_edit number t ∷ create_edits (suc number) tables
+abbrev pub table_edits : ℕ → List ListedDefinition → List Edit
+table_edits number [] = []
+table_edits number (t ∷ tables) = create_edit number t ∷ table_edits (suc number) tables
 
 abbrev pub files_edit : ℕ → ℕ → ℕ → ℕ → List ListedFile → List Edit
 files_edit number since floor last [] = []
@@ -86,5 +86,5 @@ file_edits number floor last [] = []
 file_edits number floor last (t ∷ tables) = files_edit number t.since floor last t.files ++ file_edits (suc number) floor last tables
 
 -- the start, then the tables in order, then their files
-abbrev pub edits_of : Listing → List Edit
-edits_of listing = Start listing.partitioner listing.floor listing.last ∷ (create_edits 1 listing.tables ++ file_edits 1 listing.floor listing.last listing.tables)
+abbrev pub rewrite_edits : Listing → List Edit
+rewrite_edits listing = Start listing.partitioner listing.floor listing.last ∷ (table_edits 1 listing.tables ++ file_edits 1 listing.floor listing.last listing.tables)

@@ -20,7 +20,7 @@ use Rattle.sasi_manifest.specs.Listings.{length_of, records_of}
 use Rattle.sasi_manifest.specs.Format.{IsManifest, RecordsLeadTo}
 use Rattle.sasi_manifest.specs.Abbreviations.{Builds}
 use Rattle.sasi_manifest.specs.Edits.{edits}
-use Rattle.sasi_manifest.specs.Damages.{IsRecordDamage}
+use Rattle.sasi_manifest.specs.Damages.{IsEditDamage}
 use Rattle.sasi_manifest.specs.OpenManifest.{ManifestStands}
 
 -- the damage is a corruption of the record after the gate at this offset
@@ -28,7 +28,7 @@ pub record IsDamageOfRecord (number before : ℕ) (from : Option Listing) (paylo
   pub named : damage.file ≡ manifest_name number
   pub found : Corruption
   pub fails : FailsWhole (edits from) payload found
-  pub told : IsRecordDamage before payload found damage.rule damage.at (seen_bytes damage.seen)
+  pub told : IsEditDamage before payload found damage.rule damage.at (seen_bytes damage.seen)
 
 -- the offset of the fault is at most this
 abbrev pub IsOffsetWithin : ℕ → FormatFault → Type 0
@@ -66,7 +66,7 @@ abbrev pub StandsWhereKept : View → View → ℕ → ℕ → Listing → Type 
 StandsWhereKept old new number at listing = (bytes : Bytes) → IsTold old → IsFileDurable old (manifest_name number) bytes → ManifestStands new number at listing
 
 -- what holds while a manifest is read
-pub record ReadingGoesOn (a b : View) (number : ℕ) (gated : Handle) (listed : Option Listing) : Type 0 where
+pub record IsReadingManifest (a b : View) (number : ℕ) (gated : Handle) (listed : Option Listing) : Type 0 where
   pub file : gated.file ≡ manifest_name number
   pub usable : IsTrue gated.usable
   pub fits : gated.at ≤ 2 ^ 62

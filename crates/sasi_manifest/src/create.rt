@@ -6,13 +6,13 @@ ghost use Rattle.sasi_host.specs.Names.{manifest_name, seal_name};
 ghost use Rattle.sasi_manifest.specs.declared.listing.Listing.{Listing as AListing};
 ghost use Rattle.sasi_manifest.specs.Edits.{AllApply, encoded};
 ghost use Rattle.sasi_manifest.specs.Format.{IsRewritten};
-ghost use Rattle.sasi_manifest.specs.Listings.{after_all, edits_of, with_record_counted};
+ghost use Rattle.sasi_manifest.specs.Listings.{after_all, rewrite_edits, with_record_counted};
 ghost use Rattle.sasi_manifest.specs.OpenManifest.{Creates, IsOpenManifest, IsUnsealed, ManifestStands, ChangesOnlyManifest};
 
 use crate::apply::apply_all;
 use crate::encode::encode;
 use crate::read_record::count_record;
-use crate::rewrite::edits_of;
+use crate::rewrite::rewrite_edits;
 use crate::seal::make_seal;
 use crate::size::edits_size;
 use crate::{Edit, Listing};
@@ -22,7 +22,7 @@ use std::alloc::{AllocError, Global};
 
 /// The open file of a manifest, and its listing.
 #[derive(Drop)]
-pub struct Opened {
+pub struct OpenParts {
     pub gated: Gated,
     pub listing: Listing,
 }
@@ -33,11 +33,11 @@ pub fn create_sealed<H: Host>(
     host: &mut H,
     number: ManifestNumber,
     listing: &Listing,
-) -> Result<Opened, HostFault>
+) -> Result<OpenParts, HostFault>
     requires manifest { IsAbsent (H.view host.old) (manifest_name number) }
     requires seal { IsAbsent (H.view host.old) (seal_name number) }
-    requires apply { AllApply None (edits_of listing.now) }
-    requires short { length (encoded (edits_of listing.now)) ≤ 2 ^ 30 }
+    requires apply { AllApply None (rewrite_edits listing.now) }
+    requires short { length (encoded (rewrite_edits listing.now)) ≤ 2 ^ 30 }
     ensures ok { IfOk result (λ o. ManifestStands (H.view host.new) number o.gated.at o.listing) }
     ensures sealed { OnOk result (IsUnsealed (H.view host.old) number → IsFileDurable (H.view host.new) (seal_name number) []) }
     ensures listing { IfOk result (λ o. IsRewritten listing.now o.listing) }
@@ -48,12 +48,12 @@ pub fn create_sealed<H: Host>(
     ensures calls { MakesCalls 6 (H.view host.old) (H.view host.new) result }
     ensures causes { ListCauses (H.view host.old) (H.view host.new) result }
 {
-    let edits = edits_of(alloc, listing)?;
+    let edits = rewrite_edits(alloc, listing)?;
     let record = encode(alloc, &edits)?;
     let listing = listing_of(alloc, &edits)?;
     let gated = Gated::create(alloc, host, FileName::manifest(number), Some(&record))?;
     make_seal(host, number)?;
-    Ok(Opened { gated, listing })
+    Ok(OpenParts { gated, listing })
 }
 
 // The listing that one record of these edits builds up.

@@ -2,7 +2,7 @@
 ghost use Rattle.std.specs.Prelude.{◌≡◌, ◌≤◌, ◌<◌, ◌^◌, ◌++◌, length, IfOk, OnOk};
 ghost use Rattle.std.specs.List.{AllByRecursion};
 ghost use Rattle.sasi_manifest.specs.Edits.{encoded};
-ghost use Rattle.sasi_manifest.specs.Listings.{IsWritable};
+ghost use Rattle.sasi_manifest.specs.Listings.{FitsWidths};
 
 use crate::Edit;
 use crate::put::put_edit;
@@ -12,7 +12,7 @@ use std::alloc::{AllocError, Global};
 
 /// The record of the edits.
 pub fn encode(alloc: Global, edits: &[Edit]) -> Result<Record, AllocError>
-    requires writable { AllByRecursion IsWritable edits.now }
+    requires writable { AllByRecursion FitsWidths edits.now }
     requires short { length (encoded edits.now) ≤ 2 ^ 30 }
     ensures { IfOk result (λ r. r ≡ encoded edits.now) }
 {
@@ -22,7 +22,7 @@ pub fn encode(alloc: Global, edits: &[Edit]) -> Result<Record, AllocError>
 }
 
 fn put_edits(edits: &[Edit], out: &mut Vec<u8>) -> Result<(), AllocError>
-    requires writable { AllByRecursion IsWritable edits.now }
+    requires writable { AllByRecursion FitsWidths edits.now }
     requires few { length edits.now < 2 ^ 32 }
     ensures { OnOk result (out.new.items ≡ out.old.items ++ encoded edits.now) }
 {

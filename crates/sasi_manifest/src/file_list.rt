@@ -15,7 +15,7 @@ pub fn has_file(files: &[ListedFile], number: DataNumber) -> bool
     requires { AreInOrder 0 files.now }
     ensures { result ≡ has_file files.now number }
 {
-    is_at(files, place_of(files, number), number)
+    is_at(files, position_of(files, number), number)
 }
 
 // Whether the file at this position has the number.
@@ -62,7 +62,7 @@ pub fn copy_files(alloc: Global, files: &[ListedFile]) -> Result<Vec<ListedFile>
 }
 
 // The first position of a file whose number isn't lower, or else the end.
-fn place_of(files: &[ListedFile], number: DataNumber) -> usize
+fn position_of(files: &[ListedFile], number: DataNumber) -> usize
     requires { AreInOrder 0 files.now }
     ensures place { result ≡ position_or_len (λ f. nat_le number f.number) files.now }
     ensures within { result ≤ length files.now }
@@ -119,6 +119,6 @@ fn put_file(files: &mut Vec<ListedFile>, file: ListedFile)
     ensures length { vec_len files.new ≡ vec_len files.old + 1 }
     ensures room { vec_capacity files.old ≤ vec_capacity files.new }
 {
-    let at = place_of(files, file.number);
+    let at = position_of(files, file.number);
     let _ = files.insert(at, file);
 }

@@ -10,7 +10,7 @@ ghost use Rattle.sasi_manifest.specs.Consistent.{IsConsistent};
 ghost use Rattle.sasi_manifest.specs.Damages.{IsManifestDamage, NoFalseManifestDamage};
 ghost use Rattle.sasi_manifest.specs.Edits.{AllApply, encoded};
 ghost use Rattle.sasi_manifest.specs.Format.{IsManifest, IsNext, IsRewritten};
-ghost use Rattle.sasi_manifest.specs.Listings.{edits_of};
+ghost use Rattle.sasi_manifest.specs.Listings.{rewrite_edits};
 ghost use Rattle.sasi_manifest.specs.Reading.{ReadsListing, StandsWhereKept};
 ghost use Rattle.sasi_manifest.specs.OpenManifest.{Creates, IsEither, IsUnsealed, ManifestStands, ChangesOnlyManifest};
 
@@ -76,8 +76,8 @@ impl Manifest {
     ) -> Result<Manifest, HostFault>
         requires manifest { IsAbsent (H.view host.old) (manifest_name number) }
         requires seal { IsAbsent (H.view host.old) (seal_name number) }
-        requires apply { AllApply None (edits_of listing.now) }
-        requires short { length (encoded (edits_of listing.now)) ≤ 2 ^ 30 }
+        requires apply { AllApply None (rewrite_edits listing.now) }
+        requires short { length (encoded (rewrite_edits listing.now)) ≤ 2 ^ 30 }
         ensures ok { IfOk result (λ m. ManifestStands (H.view host.new) number m.at m.listing) }
         ensures sealed { OnOk result (IsUnsealed (H.view host.old) number → IsFileDurable (H.view host.new) (seal_name number) []) }
         ensures listing { IfOk result (λ m. IsRewritten listing.now m.listing) }

@@ -19,7 +19,7 @@ ghost use Rattle.sasi_manifest.specs.Reading.{IsOffsetWithin, IsDamageOfRecord, 
 ghost use Rattle.sasi_manifest.specs.OpenManifest.{IsOpenManifest};
 
 use crate::Listing;
-use crate::create::Opened;
+use crate::create::OpenParts;
 use crate::read_record::read_record;
 use sasi_formats::FormatFault;
 use sasi_gated::Gated;
@@ -31,7 +31,7 @@ pub fn open_manifest<H: Host>(
     alloc: Global,
     host: &mut H,
     number: ManifestNumber,
-) -> Result<Opened, ReadFault>
+) -> Result<OpenParts, ReadFault>
     requires { IsThere (H.view host.old) (manifest_name number) }
     ensures ok { IfOk result (λ o. ReadsWhole (H.view host.old) number o.gated.at o.listing) }
     ensures room { IfOk result (λ o. Reaches (H.view host.new) (manifest_name number) (o.gated.at + 1)) }
@@ -49,7 +49,7 @@ pub fn open_manifest<H: Host>(
     }
     match listed {
         None => Err(ReadFault::Damaged(empty(number))),
-        Some(listing) => Ok(Opened { gated, listing }),
+        Some(listing) => Ok(OpenParts { gated, listing }),
     }
 }
 

@@ -4,10 +4,10 @@ ghost use Rattle.std.specs.Int.{to_be_bytes, w32};
 ghost use Rattle.std.specs.List.{AllByRecursion};
 ghost use Rattle.sasi_model.specs.Refusals.{names_in};
 ghost use Rattle.sasi_formats.specs.Formats.{encoded};
-ghost use Rattle.sasi_manifest.specs.Edits.{edit as edit_format, columns as columns_format, name as name_format, new_file, new_files, partitioner_code, parts as parts_format, removed_numbers};
+ghost use Rattle.sasi_manifest.specs.Edits.{edit as edit_format, columns as columns_format, name as name_format, new_file_format, new_files, partitioner_code, parts as parts_format, removed_numbers};
 ghost use Rattle.sasi_manifest.specs.Abbreviations.{column as column_format};
 ghost use Rattle.sasi_manifest.specs.Naming.{AreNames};
-ghost use Rattle.sasi_manifest.specs.Listings.{IsWritable};
+ghost use Rattle.sasi_manifest.specs.Listings.{FitsWidths};
 
 use crate::{Edit, ListedFile, PartNumber};
 use sasi_fields::{put_bytes, put_u8, put_u16, put_u32};
@@ -18,7 +18,7 @@ use std::alloc::AllocError;
 /// Appends an edit: its tag and its fields.
 #[tactic(auto, unfolding(crate::specs::Edits::edit, crate::specs::Edits::replace))]
 pub fn put_edit(out: &mut Vec<u8>, edit: &Edit) -> Result<(), AllocError>
-    requires { IsWritable edit.now }
+    requires { FitsWidths edit.now }
     ensures { OnOk result (out.new.items ≡ out.old.items ++ encoded (edit_format None) edit.now) }
 {
     match edit {
@@ -105,7 +105,7 @@ fn put_files(out: &mut Vec<u8>, files: &[ListedFile]) -> Result<(), AllocError>
 // Appends the number of a file, then its parts.
 fn put_file(out: &mut Vec<u8>, file: &ListedFile) -> Result<(), AllocError>
     requires { length file.now.parts < 2 ^ 16 }
-    ensures { OnOk result (out.new.items ≡ out.old.items ++ encoded (new_file [] [] []) file.now) }
+    ensures { OnOk result (out.new.items ≡ out.old.items ++ encoded (new_file_format [] [] []) file.now) }
 {
     put_u32(out, file.number)?;
     put_parts(out, file.parts.as_slice())

@@ -2,7 +2,7 @@
 ghost use Rattle.std.specs.Prelude.{◌≡◌, []};
 ghost use Rattle.sasi_formats.specs.Reader.{read, read_items as items_of};
 ghost use Rattle.sasi_formats.specs.Gives.{Gives};
-ghost use Rattle.sasi_manifest.specs.Edits.{files, files_of, is_current, is_new, is_taken, new_file, new_files, new_number, part, parts, removed_number, removed_numbers};
+ghost use Rattle.sasi_manifest.specs.Edits.{files, files_of, is_current, is_new, is_taken, new_file_format, new_files, new_number, part, parts, removed_number, removed_numbers};
 
 use crate::files::{ListedFile, ListedFiles, NumberList, PartNumber, PartNumbers};
 use crate::listed::ListedTables;
@@ -111,7 +111,7 @@ fn read_each_added(
     removed: &NumberSet,
     count: u32,
 ) -> Result<NewFiles, FormatFault>
-    ensures { Gives (items_of (λ before. read (new_file tables.now removed.now before)) count [] reader.old) result reader.new }
+    ensures { Gives (items_of (λ before. read (new_file_format tables.now removed.now before)) count [] reader.old) result reader.new }
 {
     let mut added = NewFiles::new(alloc);
     for _turn in 0..count {
@@ -129,7 +129,7 @@ fn read_file(
     removed: &NumberSet,
     before: &NewFiles,
 ) -> Result<ListedFile, FormatFault>
-    ensures { Gives (read (new_file tables.now removed.now before.now) reader.old) result reader.new }
+    ensures { Gives (read (new_file_format tables.now removed.now before.now) reader.old) result reader.new }
 {
     let number = read_number(reader, tables, removed, before)?;
     let parts = read_parts(alloc, reader)?;

@@ -1,7 +1,7 @@
 // The edits that build up a listing anew.
 ghost use Rattle.std.specs.Prelude.{◌≡◌, ◌+◌, ◌<◌, ◌≤◌, ◌^◌, ◌++◌, length, map, IfOk, OnOk};
 ghost use Rattle.sasi_manifest.specs.ListedTables.{listed};
-ghost use Rattle.sasi_manifest.specs.Listings.{create_edit, create_edits, edits_of, file_edits, files_edit};
+ghost use Rattle.sasi_manifest.specs.Listings.{create_edit, file_edits, files_edit, rewrite_edits, table_edits};
 
 use crate::file_list::copy_files;
 use crate::{Edit, ListedFiles, ListedTable, Listing, NumberList};
@@ -10,8 +10,8 @@ use sasi_types::TableNumber;
 use std::alloc::{AllocError, Global};
 
 /// The start, then the tables in order, then their files.
-pub fn edits_of(alloc: Global, listing: &Listing) -> Result<Vec<Edit>, AllocError>
-    ensures { IfOk result (λ edits. edits.items ≡ edits_of listing.now) }
+pub fn rewrite_edits(alloc: Global, listing: &Listing) -> Result<Vec<Edit>, AllocError>
+    ensures { IfOk result (λ edits. edits.items ≡ rewrite_edits listing.now) }
 {
     let tables = listing.tables.as_slice();
     let mut edits = Vec::new(alloc);
@@ -32,7 +32,7 @@ fn push_tables(
     tables: &[ListedTable],
 ) -> Result<(), AllocError>
     requires { length tables.now ≤ 256 }
-    ensures { OnOk result (edits.new.items ≡ edits.old.items ++ create_edits 1 (map listed tables.now)) }
+    ensures { OnOk result (edits.new.items ≡ edits.old.items ++ table_edits 1 (map listed tables.now)) }
 {
     for (i, table) in tables.iter().enumerate() {
         edits.push(create_edit(alloc, i as u32 + 1, table)?)?;

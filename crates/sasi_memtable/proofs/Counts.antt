@@ -21,7 +21,7 @@ use Rattle.sasi_cells.specs.Maps.{put}
 use Rattle.sasi_model.specs.Cells.{Partition, empty_partition, merge}
 use Rattle.sasi_model.specs.State.{decorated}
 use Rattle.sasi_model.specs.Abbreviations.{Partitions}
-use Rattle.sasi_memtable.specs.declared.size.Growth.{Growth}
+use Rattle.sasi_memtable.specs.declared.size.SizeChange.{SizeChange}
 use Rattle.sasi_memtable.specs.declared.size.Size.{Size}
 use Rattle.sasi_memtable.specs.MemtableView.{AreDecorated}
 use Rattle.sasi_memtable.specs.Sizes.{byte_count, bytes_in, cell_count, cells_in, saturated}
@@ -89,7 +89,7 @@ module _ (f : DecoratedKey × Partition → ℕ) where
   sum_found m k = subst (λ x. at_key k x ≤ sum_by f (fin.entries m)) (sym (fin.get-entries m k)) (found_sum k (fin.entries m))
 
 -- what a change does to the sizes
-pub is_resized : (old : Partitions) (key : DecoratedKey) (change : Partition) (was : Size) (growth : Growth) → IsTotal old was → IsGrowth old key change growth → IsResized (put old key change) was growth
+pub is_resized : (old : Partitions) (key : DecoratedKey) (change : Partition) (was : Size) (growth : SizeChange) → IsTotal old was → IsGrowth old key change growth → IsResized (put old key change) was growth
 is_resized old key change was growth total is =
     let merged : Partition = merge (unwrap_or (fin.get old key) empty_partition) change in
     let cells_before : ℕ = option_map_or cells_in (fin.get old key) 0 in
@@ -179,7 +179,7 @@ entry_added f entry left rest size counted part all is fits part_is counted_is s
 -- ---- a change
 
 -- the sizes of a key's partition before and after, by the entries
-pub growth_is : (entries : Entries) (key : DecoratedKey) (change : Partition) (growth : Growth) → IsSizeAt key (partition_at entries key) growth.before
+pub growth_is : (entries : Entries) (key : DecoratedKey) (change : Partition) (growth : SizeChange) → IsSizeAt key (partition_at entries key) growth.before
     → IsSizeAt key (Some (merge (unwrap_or (partition_at entries key) empty_partition) change)) growth.after → IsGrowth (fin.from_entries entries) key change growth
 growth_is entries key change growth before after =
     let same = sym (get-from_partitions entries key) in

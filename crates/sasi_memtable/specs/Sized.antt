@@ -6,7 +6,7 @@ use Rattle.sasi_types.specs.declared.decorated_key.DecoratedKey.{DecoratedKey}
 use Rattle.sasi_types.specs.declared.partitioner.Partitioner.{Partitioner}
 use Rattle.sasi_model.specs.Cells.{Partition, empty_partition, merge}
 use Rattle.sasi_model.specs.Abbreviations.{Partitions}
-use Rattle.sasi_memtable.specs.declared.size.Growth.{Growth}
+use Rattle.sasi_memtable.specs.declared.size.SizeChange.{SizeChange}
 use Rattle.sasi_memtable.specs.declared.size.Size.{Size}
 use Rattle.sasi_memtable.specs.MemtableView.{AreDecorated}
 use Rattle.sasi_memtable.specs.Sizes.{byte_count, bytes_in, cell_count, cells_in, saturated}
@@ -29,12 +29,12 @@ abbrev pub replaced : ℕ → ℕ → ℕ → Option ℕ
 replaced count before after = if count == 2 ^ 64 - 1 then None else Some (saturated ((count - before) + after))
 
 -- these are the sizes of the key's partition before a change and after it
-pub record IsGrowth (old : Partitions) (key : DecoratedKey) (change : Partition) (growth : Growth) : Type 0 where
+pub record IsGrowth (old : Partitions) (key : DecoratedKey) (change : Partition) (growth : SizeChange) : Type 0 where
   pub before : IsSizeAt key (map_.get old key) growth.before
   pub after : IsSizeAt key (Some (merge (unwrap_or (map_.get old key) empty_partition) change)) growth.after
 
 -- all partitions but one are as they were, and the growth has that one's size before and after
-pub record IsResized (new : Partitions) (was : Size) (growth : Growth) : Type 0 where
+pub record IsResized (new : Partitions) (was : Size) (growth : SizeChange) : Type 0 where
   pub cells : ℕ
   pub cells_before : ℕ
   pub cells_after : ℕ

@@ -8,7 +8,7 @@ ghost use Rattle.sasi_cells.specs.Maps.{put};
 ghost use Rattle.sasi_model.specs.Cells.{empty_partition, merge};
 ghost use Rattle.sasi_memtable.specs.Sized.{IsSizeAt, IsTotal};
 
-use crate::size::{Growth, Size};
+use crate::size::{Size, SizeChange};
 use crate::total::resized;
 use sasi_cells::Partition;
 use sasi_types::DecoratedKey;
@@ -39,7 +39,7 @@ fn merge_at(
     partitions: &mut BTreeMap<DecoratedKey, Partition>,
     key: DecoratedKey,
     change: Partition,
-) -> Result<Growth, AllocError>
+) -> Result<SizeChange, AllocError>
     ensures ok { OnOk result ((q : DecoratedKey) → get decorated_cmp partitions.new q ≡ (if is_at (decorated_cmp key) q then Some (merge (unwrap_or (get decorated_cmp partitions.old key) empty_partition) change) else get decorated_cmp partitions.old q)) }
     ensures err { OnErr result ((q : DecoratedKey) → get decorated_cmp partitions.new q ≡ get decorated_cmp partitions.old q) }
     ensures before { IfOk result (λ growth. IsSizeAt key (get decorated_cmp partitions.old key) growth.before) }
@@ -51,7 +51,7 @@ fn merge_at(
     let partition = partition_of(alloc, change)?;
     let after = Size::of(&key, &partition);
     partitions.insert(key, partition)?;
-    Ok(Growth {
+    Ok(SizeChange {
         before: Size::none(),
         after,
     })
@@ -62,7 +62,7 @@ fn merge_sized(
     key: &DecoratedKey,
     partition: &mut Partition,
     change: Partition,
-) -> Result<Growth, AllocError>
+) -> Result<SizeChange, AllocError>
     ensures ok { OnOk result (partition.new ≡ merge partition.old change) }
     ensures err { OnErr result (partition.new ≡ partition.old) }
     ensures before { IfOk result (λ growth. IsSizeAt key.now (Some partition.old) growth.before) }
@@ -71,7 +71,7 @@ fn merge_sized(
     let before = Size::of(key, partition);
     partition.merge_from(change)?;
     let after = Size::of(key, partition);
-    Ok(Growth { before, after })
+    Ok(SizeChange { before, after })
 }
 
 // The partition of a change alone.

@@ -16,7 +16,7 @@ pub struct Size {
 
 /// The size of a key's partition before a change and after it.
 #[derive(Clone, Copy)]
-pub struct Growth {
+pub struct SizeChange {
     pub before: Size,
     pub after: Size,
 }

@@ -5,13 +5,17 @@ ghost use Rattle.std.specs.FinMap as map;
 ghost use Rattle.sasi_types.specs.DecoratedKey.{decorated_cmp};
 ghost use Rattle.sasi_memtable.specs.Sized.{IsResized, IsTotal};
 
-use crate::size::{Growth, Size, replaced};
+use crate::size::{Size, SizeChange, replaced};
 use sasi_cells::Partition;
 use sasi_types::DecoratedKey;
 use std::collections::BTreeMap;
 
 /// The size of all partitions, once one of them has changed. It counts all of them only where a count has saturated.
-pub fn resized(partitions: &BTreeMap<DecoratedKey, Partition>, was: Size, growth: Growth) -> Size
+pub fn resized(
+    partitions: &BTreeMap<DecoratedKey, Partition>,
+    was: Size,
+    growth: SizeChange,
+) -> Size
     requires { IsResized (map.from_entries partitions.now.entries) was growth }
     ensures { IsTotal (map.from_entries partitions.now.entries) result }
 {

@@ -22,7 +22,7 @@ use Rattle.sasi_model.specs.Cells.{Partition, largest, max_timestamp_of, value_c
 use Rattle.sasi_model.specs.State.{Column, Definition, State, Table, key_column, number_at, number_of_column}
 use Rattle.sasi_model.specs.Pieces.{begins}
 use Rattle.sasi_model.specs.Tokens.{Lexeme, Uuid, is_digit, is_word_byte, lower_byte}
-use Rattle.sasi_model.specs.Refusals.{Refusal, Rule, is_key_value, is_text_with}
+use Rattle.sasi_model.specs.Refusals.{Refusal, RefusalRule, is_key_value, is_text_with}
 use Rattle.sasi_model.specs.Lines.{line, printed, rows_lines}
 use Rattle.sasi_model.specs.Step.{StepResult, cells_set, execute, given_key, live_rows, primary_key, refused_step, selected_columns, value_given}
 
@@ -179,8 +179,8 @@ abbrev pub lower : List ℕ → List ℕ
 lower word = map lower_byte word
 
 -- the value of decimal digits that follow those of n
-abbrev pub decimal_on : ℕ → List ℕ → ℕ
-decimal_on n digits = fold (λ n b. 10 * n + (b - 48)) n digits
+abbrev pub digits_value_on : ℕ → List ℕ → ℕ
+digits_value_on n digits = fold (λ n b. 10 * n + (b - 48)) n digits
 
 abbrev pub NUMBER_LIMIT : ℕ
 NUMBER_LIMIT = 2 ^ 127
@@ -191,8 +191,8 @@ lexeme_or found other = option_map_or (λ bytes. record { token = Uuid bytes; in
 -- ---- rules
 
 -- the refusal of the first rule that applies
-abbrev pub first_of : List Rule → Option Refusal
-first_of rules = lookup (λ applies. applies) rules
+abbrev pub first_refusal : List RefusalRule → Option Refusal
+first_refusal rules = lookup (λ applies. applies) rules
 
 abbrev pub TABLE_LIMIT : ℕ
 TABLE_LIMIT = 256

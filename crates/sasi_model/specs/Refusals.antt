@@ -70,11 +70,11 @@ read = read_by grammar_parser
 -- ---- rules
 
 -- a rule applies, and gives a refusal
-abbrev pub Rule : Type 0
-Rule = Bool × Refusal
+abbrev pub RefusalRule : Type 0
+RefusalRule = Bool × Refusal
 
 -- a name that is in the list already
-abbrev pub repeat_rules : List (List ℕ) → List (List ℕ) → List Rule
+abbrev pub repeat_rules : List (List ℕ) → List (List ℕ) → List RefusalRule
 repeat_rules before [] = []
 repeat_rules before (name ∷ names) = (list_any (same name) before, (7, codes "ColumnRepeated " ++ name)) ∷ repeat_rules (before ++ name ∷ []) names
 
@@ -120,7 +120,7 @@ abbrev pub tests : (ColumnType → Literal → Bool) → Option ColumnType → L
 tests test column literal = option_map_or (λ type. test type literal) column false
 
 -- a rule for each column with its literal
-abbrev pub each : (List ℕ → Literal → Rule) → List (List ℕ × Literal) → List Rule
+abbrev pub each : (List ℕ → Literal → RefusalRule) → List (List ℕ × Literal) → List RefusalRule
 each rule given = map (λ g. rule g.0 g.1) given
 
 abbrev pub is_column : Definition → List ℕ → Bool
@@ -129,28 +129,28 @@ is_column d name = is_some (number_of_column d name)
 abbrev pub is_key : Definition → List ℕ → Bool
 is_key d name = option_map_or (λ column. same name column.0) (key_column d) false
 
-abbrev pub wrong_type : Definition → List ℕ → Literal → Rule
+abbrev pub wrong_type : Definition → List ℕ → Literal → RefusalRule
 wrong_type d name literal = (tests (λ type given. not (is_of type given)) (type_of_column d name) literal, (8, codes "WrongType " ++ name))
 
 -- the same in a WHERE, where NULL is of no type
-abbrev pub wrong_where : Definition → List ℕ → Literal → Rule
+abbrev pub wrong_where : Definition → List ℕ → Literal → RefusalRule
 wrong_where d name literal = (tests (λ type given. not (is_of type given) || is_null given) (type_of_column d name) literal, (8, codes "WrongType " ++ name))
 
-abbrev pub number_range : Definition → List ℕ → Literal → Rule
+abbrev pub number_range : Definition → List ℕ → Literal → RefusalRule
 number_range d name literal = (tests is_out_of_range (type_of_column d name) literal, (9, codes "NumberRange " ++ name))
 
-abbrev pub key_empty : Definition → List ℕ → Literal → Rule
+abbrev pub key_empty : Definition → List ℕ → Literal → RefusalRule
 key_empty d name literal = (is_key d name && tests (is_text_with (λ text. length text == 0)) (type_of_column d name) literal, (11, codes "KeyEmpty " ++ name))
 
 -- a text has at most 65,535 bytes
-abbrev pub value_too_long : Definition → List ℕ → Literal → Rule
+abbrev pub value_too_long : Definition → List ℕ → Literal → RefusalRule
 value_too_long d name literal = (tests (is_text_with (λ text. nat_lt 65535 (length text))) (type_of_column d name) literal, (12, codes "ValueTooLong " ++ name))
 
-abbrev pub no_column : Definition → List ℕ → Rule
+abbrev pub no_column : Definition → List ℕ → RefusalRule
 no_column d name = (not (is_column d name), (6, codes "NoColumn " ++ name))
 
 -- the name is no column, or the key
-abbrev pub no_regular_column : Definition → List ℕ → Rule
+abbrev pub no_regular_column : Definition → List ℕ → RefusalRule
 no_regular_column d name = (not (is_column d name) || is_key d name, (6, codes "NoColumn " ++ name))
 
 -- ---- times
@@ -160,7 +160,7 @@ is_time (Fits z) = int_le (pos 1) z && int_le z (pos (2 ^ 62))
 is_time Wide = false
 
 -- A timestamp is from 1 to 2^62. The first argument is the largest one of the state.
-abbrev pub time_rules : ℕ → Option Number → List Rule
+abbrev pub time_rules : ℕ → Option Number → List RefusalRule
 time_rules max_timestamp None = (max_timestamp == 2 ^ 62, (21, codes "ClockSpent")) ∷ []
 time_rules max_timestamp (Some time) = (not (is_time time), (20, codes "TimestampRange")) ∷ []
 
@@ -170,7 +170,7 @@ abbrev pub names_in : List Column → List (List ℕ)
 names_in columns = map (λ column. column.0) columns
 
 -- at most 256 tables, and in each 64 columns, the key column included
-abbrev pub create_rules : List Definition → List ℕ → List Column → List (List ℕ) → List Rule
+abbrev pub create_rules : List Definition → List ℕ → List Column → List (List ℕ) → List RefusalRule
 create_rules tables table columns keys =
     (is_some (definition_of table tables), (5, codes "TableExists " ++ table))
     ∷ (map (λ key. (not (list_any (same key) (names_in columns)), (6, codes "NoColumn " ++ key))) keys ++ (repeat_rules [] (names_in columns)
@@ -178,7 +178,7 @@ create_rules tables table columns keys =
     ∷ (nat_le 256 (length tables), (24, codes "TooMany tables 256")) ∷ (nat_lt 64 (length columns), (24, codes "TooMany columns 64")) ∷ []))
 
 -- the rule that the key is missing, which names the key column; none without such a column
-abbrev pub key_missing : Definition → Bool → List Rule
+abbrev pub key_missing : Definition → Bool → List RefusalRule
 key_missing d applies = option_map_or (λ column. (applies, (10, codes "KeyMissing " ++ column.0)) ∷ []) (key_column d) []
 
 -- a value for the key
@@ -186,7 +186,7 @@ abbrev pub is_key_value : Definition → List ℕ → Literal → Bool
 is_key_value d name literal = is_key d name && not (is_null literal)
 
 -- an INSERT gives the key a value
-abbrev pub insert_rules : ℕ → List ℕ → List (List ℕ) → List (List ℕ × Literal) → Option Number → Option Definition → List Rule
+abbrev pub insert_rules : ℕ → List ℕ → List (List ℕ) → List (List ℕ × Literal) → Option Number → Option Definition → List RefusalRule
 insert_rules max_timestamp table columns given time None = (true, (4, codes "NoTable " ++ table)) ∷ []
 insert_rules max_timestamp table columns given time (Some d) =
     map (no_column d) columns ++ (repeat_rules [] columns ++ (each (wrong_type d) given ++ (each (number_range d) given
@@ -194,33 +194,33 @@ insert_rules max_timestamp table columns given time (Some d) =
     ++ (each (key_empty d) given ++ (each (value_too_long d) given ++ time_rules max_timestamp time))))))
 
 -- the WHERE of an UPDATE or a DELETE names a column that isn't the key
-abbrev pub other_key : Definition → List ℕ → List Rule
+abbrev pub other_key : Definition → List ℕ → List RefusalRule
 other_key d key = key_missing d (is_column d key && not (is_key d key))
 
-abbrev pub update_rules : ℕ → List ℕ → List (List ℕ × Literal) → List ℕ → Literal → Option Number → Option Definition → List Rule
+abbrev pub update_rules : ℕ → List ℕ → List (List ℕ × Literal) → List ℕ → Literal → Option Number → Option Definition → List RefusalRule
 update_rules max_timestamp table sets key value time None = (true, (4, codes "NoTable " ++ table)) ∷ []
 update_rules max_timestamp table sets key value time (Some d) =
     map (λ set. no_regular_column d set.0) sets ++ no_column d key ∷ (repeat_rules [] (map (λ set. set.0) sets)
     ++ (each (wrong_type d) sets ++ wrong_where d key value ∷ (each (number_range d) sets ++ number_range d key value
     ∷ (other_key d key ++ key_empty d key value ∷ (each (value_too_long d) sets ++ value_too_long d key value ∷ time_rules max_timestamp time)))))
 
-abbrev pub delete_rules : ℕ → List ℕ → List (List ℕ) → List ℕ → Literal → Option Number → Option Definition → List Rule
+abbrev pub delete_rules : ℕ → List ℕ → List (List ℕ) → List ℕ → Literal → Option Number → Option Definition → List RefusalRule
 delete_rules max_timestamp table columns key value time None = (true, (4, codes "NoTable " ++ table)) ∷ []
 delete_rules max_timestamp table columns key value time (Some d) =
     map (no_regular_column d) columns ++ no_column d key ∷ (repeat_rules [] columns ++ wrong_where d key value ∷ number_range d key value
     ∷ (other_key d key ++ key_empty d key value ∷ value_too_long d key value ∷ time_rules max_timestamp time))
 
-abbrev pub select_rules : List ℕ → Option (List (List ℕ)) → Option Definition → List Rule
+abbrev pub select_rules : List ℕ → Option (List (List ℕ)) → Option Definition → List RefusalRule
 select_rules table columns None = (true, (4, codes "NoTable " ++ table)) ∷ []
 select_rules table None (Some d) = []
 select_rules table (Some columns) (Some d) = map (no_column d) columns
 
-abbrev pub flush_rules : List ℕ → Option Definition → List Rule
+abbrev pub flush_rules : List ℕ → Option Definition → List RefusalRule
 flush_rules table None = (true, (4, codes "NoTable " ++ table)) ∷ []
 flush_rules table (Some d) = []
 
 -- the rules for these tables and this largest timestamp of the state; none for a statement that isn't built
-abbrev pub rules : List Definition → ℕ → Statement → List Rule
+abbrev pub rules : List Definition → ℕ → Statement → List RefusalRule
 rules tables max_timestamp (CreateTable table columns keys) = create_rules tables table columns keys
 rules tables max_timestamp (Insert table columns values time) = insert_rules max_timestamp table columns (zip columns values) time (definition_of table tables)
 rules tables max_timestamp (Update table time sets key value) = update_rules max_timestamp table sets key value time (definition_of table tables)

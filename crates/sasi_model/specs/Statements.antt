@@ -204,8 +204,8 @@ index stepped = As (λ f. CreateIndex f.0 f.1.0 f.1.1.0 f.1.1.1.0 f.1.1.1.1 step
 -- ---- INSERT, UPDATE and DELETE
 
 -- as many literals as names
-abbrev pub are_even : (List ℕ × (List (List ℕ) × List Literal)) → Bool
-are_even f = length f.1.1 == length f.1.0
+abbrev pub same_length : (List ℕ × (List (List ℕ) × List Literal)) → Bool
+same_length f = length f.1.1 == length f.1.0
 
 -- INTO name ( name {, name} ) VALUES ( literal {, literal}
 abbrev pub given : Form (List ℕ × (List (List ℕ) × List Literal))
@@ -213,7 +213,7 @@ given = (word "into" ∷ []) ▸ (name & (Open ∷ []) ▸ names & (Close ∷ wo
 
 -- INTO name ( name {, name} ) VALUES ( literal {, literal} ) [USING TIMESTAMP integer]
 abbrev pub insert : Form Statement
-insert = As (λ f. Insert f.0.0 f.0.1.0 f.0.1.1 f.1) (Where are_even given & (Close ∷ []) ▸ time)
+insert = As (λ f. Insert f.0.0 f.0.1.0 f.0.1.1 f.1) (Where same_length given & (Close ∷ []) ▸ time)
 
 -- name [USING TIMESTAMP integer] SET name = literal {, name = literal} WHERE name = literal
 abbrev pub update : Form Statement

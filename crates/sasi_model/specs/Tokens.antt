@@ -99,8 +99,8 @@ string_lexeme found = option_map_or (λ q. record { token = Quoted q.text; insid
 -- ---- integers
 
 -- the value of decimal digits
-abbrev pub decimal : List ℕ → ℕ
-decimal digits = fold (λ n b. 10 * n + (b - 48)) 0 digits
+abbrev pub digits_value : List ℕ → ℕ
+digits_value digits = fold (λ n b. 10 * n + (b - 48)) 0 digits
 
 -- 128 bits have the numbers from -2^127 to 2^127 - 1
 abbrev pub positive : ℕ → Number
@@ -114,11 +114,11 @@ abbrev pub digits_on : List ℕ → ℕ
 digits_on behind = prefix_len is_digit behind
 
 abbrev pub positive_lexeme : ℕ → List ℕ → Lexeme
-positive_lexeme b behind = record { token = Integer (positive (decimal (b ∷ take (digits_on behind) behind))); inside = digits_on behind }
+positive_lexeme b behind = record { token = Integer (positive (digits_value (b ∷ take (digits_on behind) behind))); inside = digits_on behind }
 
 -- after its `-`
 abbrev pub negative_lexeme : List ℕ → Lexeme
-negative_lexeme behind = record { token = Integer (negative (decimal (take (digits_on behind) behind))); inside = digits_on behind }
+negative_lexeme behind = record { token = Integer (negative (digits_value (take (digits_on behind) behind))); inside = digits_on behind }
 
 -- ---- uuids
 

@@ -12,8 +12,8 @@ use Rattle.sasi_host.specs.Disk.{Changes, Lists}
 use Rattle.sasi_manifest.specs.declared.listing.Listing.{Listing}
 use Rattle.sasi_manifest.specs.Damages.{IsManifestDamage}
 use Rattle.sasi_manifest.specs.Reading.{ReadsListing}
-use Rattle.sasi_folder.specs.Damages.{FolderShows, ShowsListed, ShowsMissing, broken_log, broken_manifest, no_manifest}
-use Rattle.sasi_folder.specs.Stands.{IsSealed}
+use Rattle.sasi_folder.specs.Damages.{FolderShows, ShowsManifestOrListed, ShowsMissing, broken_log, broken_manifest, no_manifest}
+use Rattle.sasi_folder.specs.FolderContents.{IsSealed}
 use Rattle.sasi_recover.specs.declared.unlisted_files.Keep.TheVariants.{Store as KeepStore}
 use Rattle.sasi_recover.specs.Deletion.{Deletes, keeps}
 use Rattle.sasi_recover.specs.NewFolder.{ReportsForeign}
@@ -29,7 +29,7 @@ module _ (v : View) (folder : Folder) (files : v.files ≡ Some folder) where
 
   -- damage that the manifest shows as it reads
   pub manifest_shown : (number : ℕ) (fault : ReadFault) → IsThere v (manifest_name number) → IsManifestDamage v number fault
-      → OnDamage (ShowsListed folder number) fault
+      → OnDamage (ShowsManifestOrListed folder number) fault
   manifest_shown number Failed there shown = tt
   manifest_shown number OutOfMemory there shown = tt
   manifest_shown number (Damaged damage) there shown =
@@ -47,12 +47,12 @@ module _ (v : View) (folder : Folder) (files : v.files ≡ Some folder) where
     }
 
     -- it isn't among the names
-    pub manifest_missing : (number : ℕ) (damage : Damage) → ReportsMissing names (manifest_name number) damage → ShowsListed folder number damage
+    pub manifest_missing : (number : ℕ) (damage : Damage) → ReportsMissing names (manifest_name number) damage → ShowsManifestOrListed folder number damage
     manifest_missing number damage tells = no_manifest (missing_from (manifest_name number) damage tells)
 
     -- a segment that it lists isn't
     pub segment_missing : (number : ℕ) (listing : Listing) (damage : Damage) → IsThere v (manifest_name number)
-        → ReadsListing v number listing → ReportsMissingSegment names listing.floor listing.last damage → ShowsListed folder number damage
+        → ReadsListing v number listing → ReportsMissingSegment names listing.floor listing.last damage → ShowsManifestOrListed folder number damage
     segment_missing number listing damage there reads tells =
         let bytes = bytes_there v folder (manifest_name number) files there in
         broken_log bytes.0 listing bytes.1 (reads bytes.0 (reads_of v folder (manifest_name number) bytes.0 files bytes.1))
@@ -97,7 +97,7 @@ module _ (v : View) (folder : Folder) (files : v.files ≡ Some folder) where
 pub segment_shown : (a b : View) (folder : Folder) (number : ℕ) (listing : Listing) (numbers : List ℕ) (fault : ReadFault) → a.files ≡ Some folder
     → IsThere a (manifest_name number) → ReadsListing a number listing
     → Changes (Deletes (keeps (KeepStore number listing.floor listing.last) numbers)) a b → LiveSegmentsExist b listing → ReplayShowsDamage b listing fault
-    → OnDamage (ShowsListed folder number) fault
+    → OnDamage (ShowsManifestOrListed folder number) fault
 segment_shown a b folder number listing numbers Failed files there reads deletes live shown = tt
 segment_shown a b folder number listing numbers OutOfMemory files there reads deletes live shown = tt
 segment_shown a b folder number listing numbers (Damaged damage) files there reads deletes live (segment, above, below, shown) =
@@ -117,7 +117,7 @@ segment_shown a b folder number listing numbers (Damaged damage) files there rea
 
 -- ---- the folder
 
-pub sealed_shown : (folder : Folder) (number : ℕ) (fault : ReadFault) → IsSealed folder number → OnDamage (ShowsListed folder number) fault
+pub sealed_shown : (folder : Folder) (number : ℕ) (fault : ReadFault) → IsSealed folder number → OnDamage (ShowsManifestOrListed folder number) fault
     → OnDamage (FolderShows folder) fault
 sealed_shown folder number Failed sealed shows = tt
 sealed_shown folder number OutOfMemory sealed shows = tt

@@ -73,17 +73,17 @@ module _ (a b : View) (same : Changes Same a b) where
   end_damage xs i d (Damaged damage) within shown = (get_or xs i d, All-contains_itself xs i d within, λ bytes is. shown bytes (contents_same a b (data_name (get_or xs i d)) same ∙ is))
 
   pub no_false_end : (xs : List ℕ) (i d : ℕ) (fault : ReadFault) → i < length xs → NoFalseDataDamage b (data_name (get_or xs i d)) fault → NoFalseEndDamage a xs fault
-  no_false_end xs i d Failed within spares = tt
-  no_false_end xs i d OutOfMemory within spares = tt
-  no_false_end xs i d (Damaged damage) within spares = λ all.
+  no_false_end xs i d Failed within no_false = tt
+  no_false_end xs i d OutOfMemory within no_false = tt
+  no_false_end xs i d (Damaged damage) within no_false = λ all.
       let file = all (get_or xs i d) (All-contains_itself xs i d within) in
-      spares file.0 file.2.0 file.2.1 file.2.2 (contents_same a b (data_name (get_or xs i d)) same ∙ file.1) file.2.3
+      no_false file.0 file.2.0 file.2.1 file.2.2 (contents_same a b (data_name (get_or xs i d)) same ∙ file.1) file.2.3
 
   -- damage of one of them, and that it isn't a data file
-  pub spares_before : (n : ℕ) (fault : ReadFault) → NoFalseDataDamage b (data_name n) fault → NoFalseDataDamage a (data_name n) fault
-  spares_before n Failed spares = tt
-  spares_before n OutOfMemory spares = tt
-  spares_before n (Damaged damage) spares = λ bytes partitioner types content is of. spares bytes partitioner types content (contents_same a b (data_name n) same ∙ is) of
+  pub no_false_before : (n : ℕ) (fault : ReadFault) → NoFalseDataDamage b (data_name n) fault → NoFalseDataDamage a (data_name n) fault
+  no_false_before n Failed no_false = tt
+  no_false_before n OutOfMemory no_false = tt
+  no_false_before n (Damaged damage) no_false = λ bytes partitioner types content is of. no_false bytes partitioner types content (contents_same a b (data_name n) same ∙ is) of
 
 -- the timestamp of a footer, at most the limit
 pub limited : (v : View) (n time least : ℕ) → TellsMaxTimestamp v (data_name n) time → least ≡ min time TIME_LIMIT → TellsTime v n least

@@ -17,7 +17,7 @@ use Rattle.sasi_host.specs.View.{View, IsAbsent, IsThere, contents, contents_in}
 use Rattle.sasi_host.specs.Disk.{Changes, IsFileDurable, Lists, MaybeDeleted, Relation, Same, FileChange}
 use Rattle.sasi_host.proofs.ContentLaws.{contents_other, there_where}
 use Rattle.sasi_host.proofs.ChangeLaws.{changes_as, changes_on, stays}
-use Rattle.sasi_folder.specs.Stands.{IsFresh}
+use Rattle.sasi_folder.specs.FolderContents.{IsFresh}
 use Rattle.sasi_recover.specs.declared.unlisted_files.Keep.TheVariants.{Store}
 use Rattle.sasi_layout.specs.Kept.{has_segment}
 use Rattle.sasi_recover.specs.Deletion.{DeletedUnless, Deletes, keeps}

@@ -39,9 +39,9 @@ read_differs P (read_fault.Damaged damage) = tt
 
 -- a manifest that is whole isn't reported
 pub manifest_differs : (T : Type 0) (v : View) (folder : Folder) (number : ℕ) (wanted kept : Partitioner) (f : ReadFault) → v.files ≡ Some folder → KeepsUnder folder number kept → NoFalseManifestDamage v number f → TellsDifference {T = T} wanted kept (Err (open_fault_of f))
-manifest_differs T v folder number wanted kept read_fault.Failed files keeps spares = tt
-manifest_differs T v folder number wanted kept read_fault.OutOfMemory files keeps spares = tt
-manifest_differs T v folder number wanted kept (read_fault.Damaged damage) files keeps spares = spares keeps.bytes keeps.listing (reads_of v folder (manifest_name number) keeps.bytes files keeps.there) keeps.lists
+manifest_differs T v folder number wanted kept read_fault.Failed files keeps no_false = tt
+manifest_differs T v folder number wanted kept read_fault.OutOfMemory files keeps no_false = tt
+manifest_differs T v folder number wanted kept (read_fault.Damaged damage) files keeps no_false = no_false keeps.bytes keeps.listing (reads_of v folder (manifest_name number) keeps.bytes files keeps.there) keeps.lists
 
 -- the manifest that was read lists what the folder keeps
 pub keeps_read : (v : View) (folder : Folder) (number : ℕ) (listing : Listing) (kept : Partitioner) → v.files ≡ Some folder → KeepsUnder folder number kept → ReadsListing v number listing → listing.partitioner ≡ kept

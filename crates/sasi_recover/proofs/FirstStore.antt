@@ -23,20 +23,20 @@ use Rattle.sasi_manifest.proofs.Consistency.{record_consistent}
 use Rattle.sasi_manifest.proofs.EditBytes.{start_length}
 use Rattle.sasi_manifest.specs.Edits.{AllApply, encoded}
 use Rattle.sasi_manifest.specs.Format.{IsManifest, IsRewritten}
-use Rattle.sasi_manifest.specs.Listings.{edits_of}
+use Rattle.sasi_manifest.specs.Listings.{rewrite_edits}
 use Rattle.sasi_manifest.specs.OpenManifest.{Creates, IsUnsealed, ChangesOnlyManifest}
 use Rattle.sasi_manifest.specs.OpenManifest as manifests
 use Rattle.sasi_folder.proofs.FolderLaws.{kinds_apart}
-use Rattle.sasi_folder.specs.Stands.{Holds, IsFresh}
+use Rattle.sasi_folder.specs.FolderContents.{FolderHolds, IsFresh}
 use Rattle.sasi_layout.specs.Layout.{state_of}
 use Rattle.sasi_layout.specs.Kept.{HasKept}
-use Rattle.sasi_layout.specs.Serving.{IsReady, Serves}
+use Rattle.sasi_layout.specs.Serving.{CanChange, Serves}
 use Rattle.sasi_layout.specs.Shape.{HasShape, new_layout}
 use Rattle.sasi_recover.specs.declared.opened.Numbers.{Numbers}
 use Rattle.sasi_recover.specs.declared.opened.Opened.{Opened}
 use Rattle.sasi_recover.specs.Deletion.{Deletes}
 use Rattle.sasi_recover.specs.NewFolder.{IsFreshOrNew}
-use Rattle.sasi_recover.specs.OpenedFolder.{AnyFolderChange, in_hand}
+use Rattle.sasi_recover.specs.OpenedFolder.{AnyFolderChange, opened_store}
 use Rattle.sasi_recover.proofs.DeletedFiles.{deletes_fresh}
 
 -- ---- what the first manifest lists
@@ -44,16 +44,16 @@ use Rattle.sasi_recover.proofs.DeletedFiles.{deletes_fresh}
 abbrev pub new_listing : Partitioner → Listing
 new_listing p = record { partitioner = p; floor = 1; last = 1; records = 1; length = 36; tables = [] }
 
-pub first_apply : (p : Partitioner) → AllApply None (edits_of (new_listing p))
+pub first_apply : (p : Partitioner) → AllApply None (rewrite_edits (new_listing p))
 first_apply p = (start_applies p 1 1 (record { floor_some = omega arith; ordered = omega arith; last_fits = omega arith }), tt)
 
-pub first_short : (p : Partitioner) → length (encoded (edits_of (new_listing p))) ≤ 2 ^ 30
+pub first_short : (p : Partitioner) → length (encoded (rewrite_edits (new_listing p))) ≤ 2 ^ 30
 first_short p = omega (arith, start_length p 1 1)
 
 -- the listing that is made
 abbrev pub made_listing : Partitioner → Listing
 made_listing p = record
-    { partitioner = p; floor = 1; last = 1; records = 0 + 1; length = 17 + (5 + length (encoded (edits_of (new_listing p)))); tables = [] }
+    { partitioner = p; floor = 1; last = 1; records = 0 + 1; length = 17 + (5 + length (encoded (rewrite_edits (new_listing p)))); tables = [] }
 
 pub is_rewritten : (p : Partitioner) → IsRewritten (new_listing p) (made_listing p)
 is_rewritten p = refl
@@ -62,7 +62,7 @@ pub made_is : (p : Partitioner) (made : Listing) → IsRewritten (new_listing p)
 made_is p made is = let e : Some made ≡ Some (made_listing p) = is in cc
 
 made_consistent : (p : Partitioner) → IsConsistent (made_listing p)
-made_consistent p = record_consistent None (encoded (edits_of (new_listing p))) (edits_of (new_listing p)) (made_listing p) (first_apply p)
+made_consistent p = record_consistent None (encoded (rewrite_edits (new_listing p))) (rewrite_edits (new_listing p)) (made_listing p) (first_apply p)
     (is_rewritten p) tt
 
 -- which is that of a new layout
@@ -78,7 +78,7 @@ IsFirstLog bytes = IsGated (log_name 1) bytes []
 holds_made : (p : Partitioner) (y : Folder) (manifest log : Bytes) → IsSome (get y (seal_name 1))
     → ((other : ℕ) → 1 < other → get y (seal_name other) ≡ None) → get y (manifest_name 1) ≡ Some manifest
     → IsManifest 1 manifest (made_listing p)
-    → get y (log_name 1) ≡ Some log → IsFirstLog log → Holds y 1 (made_listing p) ([] ∷ [])
+    → get y (log_name 1) ≡ Some log → IsFirstLog log → FolderHolds y 1 (made_listing p) ([] ∷ [])
 holds_made p y manifest log sealed none there lists has first = record {
   sealed = record { there = sealed; highest = none };
   manifest = (manifest, there, lists);
@@ -87,9 +87,9 @@ holds_made p y manifest log sealed none there lists has first = record {
 }
 
 -- so it has the shape of the new layout
-shape_made : (p : Partitioner) (y : Folder) → Holds y 1 (made_listing p) ([] ∷ []) → HasShape y (new_layout p) ([] ∷ [])
+shape_made : (p : Partitioner) (y : Folder) → FolderHolds y 1 (made_listing p) ([] ∷ []) → HasShape y (new_layout p) ([] ∷ [])
 shape_made p y holds =
-    let is : Holds y 1 (new_listing p) ([] ∷ []) = subst (λ (l : Listing). Holds y 1 l ([] ∷ [])) (made_new p) holds in
+    let is : FolderHolds y 1 (new_listing p) ([] ∷ []) = subst (λ (l : Listing). FolderHolds y 1 l ([] ∷ [])) (made_new p) holds in
     record { sealed = is.sealed; manifest = is.manifest; live = is.live; segments = is.segments; tables = tt; used = refl }
 
 -- ---- moments
@@ -182,7 +182,7 @@ module _ (p : Partitioner) (opened : Opened) (first : IsFirst p opened) where
   number_is = first.1
 
   pub first_ready : (c : View) → Reaches c (manifest_name 1) (opened.manifest.at + 1) → Reaches c (log_name 1) (opened.log.at + 1)
-      → IsTrue opened.manifest.usable → IsTrue opened.log.usable → manifests.ManifestStands c 1 opened.manifest.at opened.manifest.listing → ((folder : Folder) → c.files ≡ Some folder → HasKept (record { manifest = 1; listing = new_listing p }) folder) → IsReady c (in_hand opened)
+      → IsTrue opened.manifest.usable → IsTrue opened.log.usable → manifests.ManifestStands c 1 opened.manifest.at opened.manifest.listing → ((folder : Folder) → c.files ≡ Some folder → HasKept (record { manifest = 1; listing = new_listing p }) folder) → CanChange c (opened_store opened)
   first_ready c manifest_room log_room manifest_usable log_usable stands kept = record {
     consistent = subst IsConsistent (sym listing_is) (subst IsConsistent (made_new p) (made_consistent p));
     definitions = rw listing_is refl;
@@ -209,7 +209,7 @@ module _ (p : Partitioner) (opened : Opened) (first : IsFirst p opened) where
 
   pub first_serves : (a b c : View) → IsTold c → Each a IsFresh → Changes (FileChange (log_name 1) AnyChange) a b → IsAtLogEnd b (log_name 1) opened.log.at []
       → Changes (ChangesOnlyManifest 1) b c → (IsUnsealed b 1 → IsFileDurable c (seal_name 1) [])
-      → manifests.ManifestStands c 1 opened.manifest.at opened.manifest.listing → Serves c (in_hand opened) (new_layout p)
+      → manifests.ManifestStands c 1 opened.manifest.at opened.manifest.listing → Serves c (opened_store opened) (new_layout p)
   first_serves a b c told fresh begun end second sealed stands =
       let fresh_b = each_on a b (FileChange (log_name 1) AnyChange) IsFresh begun log_fresh fresh in
       let end_c = log_end b c opened.log.at second end in
@@ -221,7 +221,7 @@ module _ (p : Partitioner) (opened : Opened) (first : IsFirst p opened) where
       ) in
       record {
         told = told;
-        well = tt;
+        in_order = tt;
         definitions = rw listing_is refl;
         tables = rw first.3 refl;
         used = rw first.4 refl;
@@ -291,7 +291,7 @@ module _ (a b c : View) (p : Partitioner) (kept : FileName → Bool) (sound_a : 
   synced_fresh = each_on b c Same IsFresh sync same_fresh (deleted_fresh a b p kept sound_a change fresh)
 
 -- what a later part of a call promises, promised from its start
-pub serves_later : (p : Partitioner) (result : Result Opened HostFault) (b c a : View) → IfOk result (λ opened. IsTold b → Each b IsFresh → Serves c (in_hand opened) (new_layout p))
-    → (IsTold a → IsTold b) → (Each a IsFresh → Each b IsFresh) → IfOk result (λ opened. IsTold a → Each a IsFresh → Serves c (in_hand opened) (new_layout p))
+pub serves_later : (p : Partitioner) (result : Result Opened HostFault) (b c a : View) → IfOk result (λ opened. IsTold b → Each b IsFresh → Serves c (opened_store opened) (new_layout p))
+    → (IsTold a → IsTold b) → (Each a IsFresh → Each b IsFresh) → IfOk result (λ opened. IsTold a → Each a IsFresh → Serves c (opened_store opened) (new_layout p))
 serves_later p (Ok opened) b c a serves told fresh = λ seen new. serves (told seen) (fresh new)
 serves_later p (Err fault) b c a serves told fresh = tt

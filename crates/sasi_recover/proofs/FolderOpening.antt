@@ -27,11 +27,11 @@ use Rattle.sasi_manifest.specs.Reading.{ReadsListing, StandsWhereKept}
 use Rattle.sasi_manifest.proofs.Laws.{manifest_stays}
 use Rattle.sasi_folder.proofs.FolderLaws.{kinds_apart, segments_kept}
 use Rattle.sasi_folder.specs.Opens.{CanOpen, KeepsPartitioner, KeepsUnder, Opens}
-use Rattle.sasi_folder.specs.Stands.{HasSegments, IsFresh, IsSealed, types_listed}
+use Rattle.sasi_folder.specs.FolderContents.{HasSegments, IsFresh, IsSealed, types_listed}
 use Rattle.sasi_layout.specs.Kept.{HasKept, is_listed}
 use Rattle.sasi_layout.specs.Layout.{Layout, listed_of, listing_of, state_of, used_in}
 use Rattle.sasi_model.specs.State.{max_timestamp}
-use Rattle.sasi_layout.specs.Serving.{AreNumbered, IsReady, Serves}
+use Rattle.sasi_layout.specs.Serving.{AreNumbered, CanChange, Serves}
 use Rattle.sasi_layout.specs.Shape.{HasShape, IsOfShape, ShapeOf, new_layout}
 use Rattle.sasi_manifest.specs.Damages.{NoFalseManifestDamage}
 use Rattle.sasi_manifest.specs.Format.{IsManifest}
@@ -40,25 +40,25 @@ use Rattle.sasi_recover.specs.declared.fault.OpenFault.TheVariants as fault
 use Rattle.sasi_recover.specs.Faults.{OnDiffers, OnOpenDamage, open_fault_of}
 use Rattle.sasi_recover.proofs.Damaged.{foreign_shown}
 use Rattle.sasi_recover.proofs.OpenedState.{firsts_fresh}
-use Rattle.sasi_folder.specs.Damages.{FolderShows, ShowsListed}
+use Rattle.sasi_folder.specs.Damages.{FolderShows, ShowsManifestOrListed}
 use Rattle.sasi_recover.proofs.Differences.{open_damage}
 use Rattle.sasi_recover.specs.declared.opened.Opened.{Opened}
 use Rattle.sasi_recover.specs.Deletion.{Deletes, keeps}
 use Rattle.sasi_recover.specs.NewFolder.{IsFreshOrNew, NoFalseFreshDamage, ReportsForeign, is_initial}
-use Rattle.sasi_recover.specs.OpenedFolder.{AnyFolderChange, in_hand, table_in_hand, used_numbers}
+use Rattle.sasi_recover.specs.OpenedFolder.{AnyFolderChange, opened_store, opened_table, used_numbers}
 use Rattle.sasi_recover.specs.Opening.{IsFolderDurable, IsHighestSeal, KeepsStore}
 use Rattle.sasi_recover.specs.Replaying.{KeepsSegments, NoFalseReplayDamage, ReadsAll, Replays}
 use Rattle.sasi_recover.specs.ReplayState.{IsReplayOf, ReplayState, replayed_state, tables_time}
-use Rattle.sasi_recover.specs.SealedFolder.{AreListedFiles, IsManifestRead, IsSettled, kept_with}
+use Rattle.sasi_recover.specs.SealedFolder.{AreListedFiles, IsChecked, IsManifestRead, kept_with}
 use Rattle.sasi_recover.proofs.DeletedFiles.{deletes_kept, deletes_store, keeps_data, keeps_manifest, keeps_seal, keeps_segment, unless_kept}
 use Rattle.sasi_recover.proofs.KeptFiles.{has_kept, keeps_is}
 use Rattle.sasi_recover.proofs.KeptShapes.{bytes_of_file, file_of_shape, shape_where_kept}
-use Rattle.sasi_recover.proofs.OpenedStore.{consistent_well, data_fits, definitions_are, maps_in_hand, shape_bare, shape_well, tables_ready}
+use Rattle.sasi_recover.proofs.OpenedStore.{consistent_in_order, data_fits, definitions_are, maps_in_memory, shape_bare, shape_in_order, tables_ready}
 use Rattle.sasi_recover.proofs.PerTable.{maps_of, replayed_maps}
 use Rattle.sasi_recover.proofs.SealedStore.{bytes_there, contents_left, held_is_listed, listed_is_there, manifest_room, manifest_stands, reads_of}
-use Rattle.sasi_recover.proofs.Settling.{among_of, among_shape, listing_is, of_among, shape_has}
+use Rattle.sasi_recover.proofs.Checking.{among_of, among_shape, listing_is, of_among, shape_has}
 use Rattle.sasi_recover.proofs.ShapeTimes.{shape_time}
-use Rattle.sasi_recover.proofs.SyncedFolder.{settled_kept, settled_store, there_same}
+use Rattle.sasi_recover.proofs.SyncedFolder.{durable_kept, durable_store, there_same}
 
 -- ---- which of the two it is
 
@@ -118,27 +118,27 @@ keeps_on x y z number floor last first second = record {
 }
 
 module _ (a c : View) (m : ManifestState) (numbers : List ℕ) (time : ℕ) (names : List FileName) (lists : Lists a names) (sound : IsSound a) (durable : IsFolderDurable a) (read : IsManifestRead a m) (listed : AreListedFiles m.listing numbers)
-    (settled : IsSettled a c m numbers time) where
+    (checked : IsChecked a c m numbers time) where
   -- ---- the shape, in each image
 
   module _ (folder : Folder) (files : a.files ≡ Some folder) (l : Layout) (logs : List (List Mutation)) (number : l.used.manifest ≡ m.number) (has : HasShape folder l logs) where
     told_c : IsTold c
-    told_c = told_after (Deletes (kept_with m numbers)) a c settled.deletes (ap (λ (o : Option Folder). is_some o) files)
+    told_c = told_after (Deletes (kept_with m numbers)) a c checked.deletes (ap (λ (o : Option Folder). is_some o) files)
 
     lists_l : m.listing ≡ listing_of l
     lists_l = listing_is a names m numbers lists read listed folder files l logs number has
 
     pub each_shape : Each c (λ x. HasShape x l logs)
     each_shape y now =
-        let from = settled.deletes.image y now in
+        let from = checked.deletes.image y now in
         let stays : KeepsStore m.number m.listing.floor m.listing.last folder y = keeps_on folder from.0 y m.number m.listing.floor m.listing.last
-        (settled_store a sound durable folder files from.0 from.1 m.number m.listing.floor m.listing.last)
+        (durable_store a sound durable folder files from.0 from.1 m.number m.listing.floor m.listing.last)
         (deletes_store m.number m.listing.floor m.listing.last numbers from.0 y from.2) in
         shape_where_kept folder y l logs (rw number (subst (λ (e : Listing). KeepsStore m.number e.floor e.last folder y) lists_l stays))
         (λ k is. (
         let file = file_of_shape folder l logs k has is in
         let bytes = bytes_of_file folder l.partitioner k file in
-        settled.durable k file.has.bytes (among_shape a names m numbers lists read listed folder files l logs number has k is) (reads_of a folder (data_name k) file.has.bytes files bytes) y now ∙ sym bytes
+        checked.durable k file.has.bytes (among_shape a names m numbers lists read listed folder files l logs number has k is) (reads_of a folder (data_name k) file.has.bytes files bytes) y now ∙ sym bytes
         )) has
 
     pub live_kept : KeepsSegments c (types_listed m.listing) m.listing.floor logs
@@ -147,8 +147,8 @@ module _ (a c : View) (m : ManifestState) (numbers : List ℕ) (time : ℕ) (nam
         (keeps_segments c folder (types_listed (listing_of l)) l.floor logs
         (λ segment bytes above below is.
         deletes_kept a c (kept_with m numbers) (log_name segment) bytes
-        (keeps_segment m.number m.listing.floor m.listing.last numbers segment (omega (arith, above, ap (λ (e : Listing). e.floor) lists_l)) (omega (arith, below, has.live, ap (λ (e : Listing). e.last) lists_l))) settled.deletes
-        (settled_kept a sound durable (log_name segment) bytes refl (reads_of a folder (log_name segment) bytes files is)))
+        (keeps_segment m.number m.listing.floor m.listing.last numbers segment (omega (arith, above, ap (λ (e : Listing). e.floor) lists_l)) (omega (arith, below, has.live, ap (λ (e : Listing). e.last) lists_l))) checked.deletes
+        (durable_kept a sound durable (log_name segment) bytes refl (reads_of a folder (log_name segment) bytes files is)))
         has.segments)
 
     pub live_count : m.listing.floor + length logs ≡ suc m.listing.last
@@ -156,31 +156,31 @@ module _ (a c : View) (m : ManifestState) (numbers : List ℕ) (time : ℕ) (nam
 
     -- no damage is told of a segment
     pub replay_undamaged : (fault : ReadFault) → NoFalseReplayDamage c m.listing fault → OnDamage (λ _. ⊥) fault
-    replay_undamaged read_fault.Failed spares = tt
-    replay_undamaged read_fault.OutOfMemory spares = tt
-    replay_undamaged (read_fault.Damaged damage) spares = spares logs told_c live_count live_kept
+    replay_undamaged read_fault.Failed no_false = tt
+    replay_undamaged read_fault.OutOfMemory no_false = tt
+    replay_undamaged (read_fault.Damaged damage) no_false = no_false logs told_c live_count live_kept
 
     -- **The store that was opened serves the layout.**
     pub opened_serves : (e : View) (opened : Opened) (state : ReplayState) → opened.manifest ≡ m → opened.tables.items ≡ state.tables → used_numbers opened.numbers ≡ used_in m.number m.listing → opened.greatest ≡ max time state.max_timestamp
-        → opened.log.file ≡ log_name m.listing.last → Changes Same c e → Replays c e m.listing opened.log.at state → IsReplayOf m.listing state → Serves e (in_hand opened) l
+        → opened.log.file ≡ log_name m.listing.last → Changes Same c e → Replays c e m.listing opened.log.at state → IsReplayOf m.listing state → Serves e (opened_store opened) l
     unfolding replayed_state
     opened_serves e opened state manifest_is tables_are numbers_are greatest_is file_is same replays is_replay =
         let replayed = replays logs told_c live_count live_kept in
         let ends = replayed.1 in
         let maps : state.tables ≡ maps_of l.partitioner l.floor logs 1 (map listed_of l.tables) =
         ap (λ (s : ReplayState). s.tables) replayed.0 ∙ ap (λ (e : Listing). (replayed_state e logs).tables) lists_l ∙ replayed_maps l.partitioner (map listed_of l.tables) l.floor 0 logs in
-        let kept_manifest = settled_kept a sound durable (manifest_name m.number) (bytes_there a folder (manifest_name m.number) files read.there).0 refl
+        let kept_manifest = durable_kept a sound durable (manifest_name m.number) (bytes_there a folder (manifest_name m.number) files read.there).0 refl
         (reads_of a folder (manifest_name m.number) (bytes_there a folder (manifest_name m.number) files read.there).0 files (bytes_there a folder (manifest_name m.number) files read.there).1) in
         let at_a = read.stands (bytes_there a folder (manifest_name m.number) files read.there).0 (ap (λ (o : Option Folder). is_some o) files) kept_manifest in
-        let at_c = manifest_stands a c m.number m.listing numbers settled.deletes m.at at_a in
+        let at_c = manifest_stands a c m.number m.listing numbers checked.deletes m.at at_a in
         let bare_is = shape_bare folder l logs has in
         let time_is : max time state.max_timestamp ≡ max_timestamp (state_of l) = ap (max time) (is_replay.time ∙ ap tables_time maps)
-        ∙ shape_time a folder l logs numbers time files has (among_shape a names m numbers lists read listed folder files l logs number has) (shape_has a names m numbers lists read listed folder files l logs number has) settled.tells in
+        ∙ shape_time a folder l logs numbers time files has (among_shape a names m numbers lists read listed folder files l logs number has) (shape_has a names m numbers lists read listed folder files l logs number has) checked.tells in
         record {
           told = told_after Same c e same told_c;
-          well = shape_well folder l logs has (subst IsConsistent lists_l read.consistent);
+          in_order = shape_in_order folder l logs has (subst IsConsistent lists_l read.consistent);
           definitions = rw (manifest_is, lists_l) (definitions_are l.tables);
-          tables = ap (map table_in_hand) (tables_are ∙ maps) ∙ maps_in_hand folder l.partitioner l.floor 1 logs l.tables has.tables;
+          tables = ap (map opened_table) (tables_are ∙ maps) ∙ maps_in_memory folder l.partitioner l.floor 1 logs l.tables has.tables;
           used = numbers_are ∙ ap (λ n. used_in n m.listing) (sym number) ∙ ap (used_in l.used.manifest) lists_l ∙ sym has.used;
           timestamp = greatest_is ∙ time_is;
           listing = ap (λ (s : ManifestState). s.listing) manifest_is ∙ lists_l;
@@ -203,7 +203,7 @@ module _ (a c : View) (m : ManifestState) (numbers : List ℕ) (time : ℕ) (nam
 
   -- the store can make changes
   pub opened_ready : (e : View) (opened : Opened) (state : ReplayState) → opened.manifest ≡ m → opened.tables.items ≡ state.tables → used_numbers opened.numbers ≡ used_in m.number m.listing → opened.greatest ≡ max time state.max_timestamp
-      → opened.log.file ≡ log_name m.listing.last → IsTrue opened.log.usable → Changes Same c e → Reaches e (log_name m.listing.last) (opened.log.at + 1) → IsReplayOf m.listing state → IsReady e (in_hand opened)
+      → opened.log.file ≡ log_name m.listing.last → IsTrue opened.log.usable → Changes Same c e → Reaches e (log_name m.listing.last) (opened.log.at + 1) → IsReplayOf m.listing state → CanChange e (opened_store opened)
   opened_ready e opened state manifest_is tables_are numbers_are greatest_is file_is log_usable same log_room is_replay = rw manifest_is (record {
     consistent = read.consistent;
     definitions = refl;
@@ -211,13 +211,13 @@ module _ (a c : View) (m : ManifestState) (numbers : List ℕ) (time : ℕ) (nam
     numbered = subst (AreNumbered m) (sym numbers_are) (record {
       manifest_is = refl;
       log_is = refl;
-      files = consistent_well m.listing _ read.consistent (omega arith);
+      files = consistent_in_order m.listing _ read.consistent (omega arith);
       fits = data_fits m.listing.tables read.consistent.files;
     });
-    timestamp = omega (arith, greatest_is, settled.tells.limit, is_replay.limit);
+    timestamp = omega (arith, greatest_is, checked.tells.limit, is_replay.limit);
     log_file = file_is;
     manifest_room = reaches_where c e Same (manifest_name m.number) (m.at + 1) same (contents_same c e (manifest_name m.number) same)
-        (manifest_room a c m.number m.listing numbers settled.deletes (m.at + 1) read.room);
+        (manifest_room a c m.number m.listing numbers checked.deletes (m.at + 1) read.room);
     log_room = subst (λ (f : FileName). Reaches e f (opened.log.at + 1)) (sym file_is) log_room;
     manifest_usable = read.usable;
     log_usable = log_usable;
@@ -227,22 +227,22 @@ module _ (a c : View) (m : ManifestState) (numbers : List ℕ) (time : ℕ) (nam
     where
       manifest_now : (e : View) → Changes Same c e → IsTold e → ManifestStands e m.number m.at m.listing
       manifest_now e same told =
-          let told_a = told_before (Deletes (kept_with m numbers)) a c settled.deletes (told_before Same c e same told) in
+          let told_a = told_before (Deletes (kept_with m numbers)) a c checked.deletes (told_before Same c e same told) in
           let folder = told_files a told_a in
           let bytes = bytes_there a folder.0 (manifest_name m.number) folder.1 read.there in
           manifest_stays c e m.number m.at m.listing (λ bytes. file_durable_same c e (manifest_name m.number) bytes same)
-          (manifest_stands a c m.number m.listing numbers settled.deletes m.at (read.stands bytes.0 told_a (settled_kept a sound durable (manifest_name m.number) bytes.0 refl (reads_of a folder.0 (manifest_name m.number) bytes.0 folder.1 bytes.1))))
+          (manifest_stands a c m.number m.listing numbers checked.deletes m.at (read.stands bytes.0 told_a (durable_kept a sound durable (manifest_name m.number) bytes.0 refl (reads_of a folder.0 (manifest_name m.number) bytes.0 folder.1 bytes.1))))
 
       kept_now : (e : View) → Changes Same c e → (folder : Folder) → e.files ≡ Some folder → HasKept (record { manifest = m.number; listing = m.listing }) folder
       kept_now e same folder files = has_kept (record { manifest = m.number; listing = m.listing }) folder
           (here (manifest_name m.number) (stays (manifest_name m.number) (keeps_manifest m.number m.listing.floor m.listing.last numbers) read.there))
           (here (seal_name m.number) (stays (seal_name m.number) (keeps_seal m.number m.listing.floor m.listing.last numbers) read.sealed))
-          (λ segment above below. here (log_name segment) (settled.live segment above below))
+          (λ segment above below. here (log_name segment) (checked.live segment above below))
           (λ n is. (
           let has = of_among numbers n (listed.listed n ∙ is) in
-          here (data_name n) (stays (data_name n) (keeps_data m.number m.listing.floor m.listing.last numbers n (among_of numbers n has)) (settled.there n has))
+          here (data_name n) (stays (data_name n) (keeps_data m.number m.listing.floor m.listing.last numbers n (among_of numbers n has)) (checked.there n has))
           ))
-          (λ name other. sym (is_here name) ∙ settled.gone name (keeps_is m.number m.listing numbers name listed.listed ∙ other))
+          (λ name other. sym (is_here name) ∙ checked.gone name (keeps_is m.number m.listing numbers name listed.listed ∙ other))
         where
           is_here : (name : FileName) → contents c name ≡ get folder name
           is_here name = sym (contents_same c e name same) ∙ ap (λ (o : Option Folder). contents_in o name) files
@@ -251,12 +251,12 @@ module _ (a c : View) (m : ManifestState) (numbers : List ℕ) (time : ℕ) (nam
           here name there = subst (λ (o : Option Bytes). IsSome o) (is_here name) (there (told_before Same c e same (ap (λ (o : Option Folder). is_some o) files)))
 
           stays : (name : FileName) → kept_with m numbers name ≡ true → IsThere a name → IsThere c name
-          stays name is there = there_where a c (Deletes (kept_with m numbers)) name settled.deletes (contents_left a c (kept_with m numbers) name is settled.deletes) there
+          stays name is there = there_where a c (Deletes (kept_with m numbers)) name checked.deletes (contents_left a c (kept_with m numbers) name is checked.deletes) there
 
   -- what was read of the folder
   pub opened_opens : (e : View) (state : ReplayState) (folder : Folder) → a.files ≡ Some folder → IsSealed folder m.number → ReadsAll c m.listing state → Opens folder
   opened_opens e state folder files sealed all =
-      let now = settled.deletes.seen folder files in
+      let now = checked.deletes.seen folder files in
       let read_all = all now.0 now.1 in
       let bytes = bytes_there a folder (manifest_name m.number) files read.there in
       record {
@@ -275,8 +275,8 @@ module _ (a c : View) (m : ManifestState) (numbers : List ℕ) (time : ℕ) (nam
         };
         files = λ n is. (
             let has = of_among numbers n (listed.listed n ∙ is) in
-            let file = bytes_there a folder (data_name n) files (settled.there n has) in
-            (file.0, file.1, settled.ends n has file.0 (reads_of a folder (data_name n) file.0 files file.1))
+            let file = bytes_there a folder (data_name n) files (checked.there n has) in
+            (file.0, file.1, checked.ends n has file.0 (reads_of a folder (data_name n) file.0 files file.1))
             );
       }
 
@@ -306,7 +306,7 @@ manifest_is_read a b m number sound_a sound durable same number_is there sealed 
       let f = told_files b told in
       let reads_b : contents b (manifest_name number) ≡ Some bytes = ap (λ (o : Option Folder). contents_in o (manifest_name number)) f.1 ∙ kept f.0 (sound.reads f.0 f.1) in
       let reads_a : contents a (manifest_name number) ≡ Some bytes = sym (contents_same a b (manifest_name number) same) ∙ reads_b in
-      stands bytes (told_before Same a b same told) (settled_kept a sound_a durable (manifest_name number) bytes refl reads_a)
+      stands bytes (told_before Same a b same told) (durable_kept a sound_a durable (manifest_name number) bytes refl reads_a)
       );
   consistent = known;
   room = room;
@@ -323,16 +323,16 @@ no_shape_damage f none = open_damage (λ _. ⊥) f none
 
 -- a manifest isn't damaged where a folder has its shape
 pub shape_damage : (v : View) (folder : Folder) (l : Layout) (logs : List (List Mutation)) (number : ℕ) (f : ReadFault) → v.files ≡ Some folder → l.used.manifest ≡ number → HasShape folder l logs → NoFalseManifestDamage v number f → OnDamage (λ _. ⊥) f
-shape_damage v folder l logs number read_fault.Failed files is has spares = tt
-shape_damage v folder l logs number read_fault.OutOfMemory files is has spares = tt
-shape_damage v folder l logs number (read_fault.Damaged damage) files is has spares =
+shape_damage v folder l logs number read_fault.Failed files is has no_false = tt
+shape_damage v folder l logs number read_fault.OutOfMemory files is has no_false = tt
+shape_damage v folder l logs number (read_fault.Damaged damage) files is has no_false =
     let there : get folder (manifest_name number) ≡ Some has.manifest.0 = ap (λ n. get folder (manifest_name n)) (sym is) ∙ has.manifest.1 in
-    spares has.manifest.0 (listing_of l) (reads_of v folder (manifest_name number) has.manifest.0 files there) (subst (λ n. IsManifest n has.manifest.0 (listing_of l)) is has.manifest.2)
+    no_false has.manifest.0 (listing_of l) (reads_of v folder (manifest_name number) has.manifest.0 files there) (subst (λ n. IsManifest n has.manifest.0 (listing_of l)) is has.manifest.2)
 
 -- ---- a new folder
 
-pub new_serves : (b c : View) (l new : Layout) (result : Result Opened OpenFault) → l ≡ new → IfOk result (λ opened. IsTold b → Each b IsFresh → Serves c (in_hand opened) new) → IsTold b → Each b IsFresh → IfOk result (λ opened. Serves c (in_hand opened) l)
-new_serves b c l new (Ok opened) is serves told fresh = subst (Serves c (in_hand opened)) (sym is) (serves told fresh)
+pub new_serves : (b c : View) (l new : Layout) (result : Result Opened OpenFault) → l ≡ new → IfOk result (λ opened. IsTold b → Each b IsFresh → Serves c (opened_store opened) new) → IsTold b → Each b IsFresh → IfOk result (λ opened. Serves c (opened_store opened) l)
+new_serves b c l new (Ok opened) is serves told fresh = subst (Serves c (opened_store opened)) (sym is) (serves told fresh)
 new_serves b c l new (Err f) is serves told fresh = tt
 
 pub new_opens : (v : View) (names : List FileName) (folder : Folder) (result : Result Opened OpenFault) → Lists v names → v.files ≡ Some folder → OnOk result (All (λ name. is_initial name ≡ true) names) → OnOk result (CanOpen folder)
@@ -351,10 +351,10 @@ new_damage v folder names files lists (fault.Damaged damage) none foreign = fore
 new_damage v folder names files lists (fault.PartitionerDiffers asked kept) none foreign = tt
 
 pub new_undamaged : (v : View) (folder : Folder) (f : OpenFault) → OnOpenDamage (λ _. NoFalseFreshDamage v) f → v.files ≡ Some folder → IsFresh folder → OnOpenDamage (λ _. ⊥) f
-new_undamaged v folder fault.Failed spares files fresh = tt
-new_undamaged v folder fault.OutOfMemory spares files fresh = tt
-new_undamaged v folder (fault.Damaged damage) spares files fresh = spares folder files fresh
-new_undamaged v folder (fault.PartitionerDiffers asked kept) spares files fresh = tt
+new_undamaged v folder fault.Failed no_false files fresh = tt
+new_undamaged v folder fault.OutOfMemory no_false files fresh = tt
+new_undamaged v folder (fault.Damaged damage) no_false files fresh = no_false folder files fresh
+new_undamaged v folder (fault.PartitionerDiffers asked kept) no_false files fresh = tt
 
 pub never_differs : (P : Partitioner → Partitioner → Type 0) (f : OpenFault) → OnDiffers (λ wanted kept. ⊥) f → OnDiffers P f
 never_differs P fault.Failed never = tt
@@ -382,7 +382,7 @@ sealed_differs folder number asked fault.OutOfMemory sealed differs = tt
 sealed_differs folder number asked (fault.Damaged damage) sealed differs = tt
 sealed_differs folder number asked (fault.PartitionerDiffers wanted kept) sealed differs = (differs.0, (number, sealed, differs.1), differs.2)
 
-pub sealed_damage : (folder : Folder) (number : ℕ) (f : OpenFault) → IsSealed folder number → OnOpenDamage (ShowsListed folder number) f → OnOpenDamage (FolderShows folder) f
+pub sealed_damage : (folder : Folder) (number : ℕ) (f : OpenFault) → IsSealed folder number → OnOpenDamage (ShowsManifestOrListed folder number) f → OnOpenDamage (FolderShows folder) f
 sealed_damage folder number fault.Failed sealed shows = tt
 sealed_damage folder number fault.OutOfMemory sealed shows = tt
 sealed_damage folder number (fault.Damaged damage) sealed shows = inr (record { number = number; sealed = sealed; shows = shows })

@@ -12,15 +12,15 @@ use Rattle.sasi_host.specs.Disk.{IsFileDurable, IsSynced, Each}
 use Rattle.sasi_model.specs.State.{Definition}
 use Rattle.sasi_cells.specs.declared.mutation.Mutation.{Mutation}
 use Rattle.sasi_manifest.specs.ListedFiles.{has_file}
-use Rattle.sasi_folder.specs.Stands.{Holds}
+use Rattle.sasi_folder.specs.FolderContents.{FolderHolds}
 use Rattle.sasi_layout.specs.Kept.{is_listed}
 use Rattle.sasi_layout.specs.Layout.{File, Layout, TableParts, listed_of, listing_of}
 use Rattle.sasi_layout.specs.Shape.{AreShaped, HasFile, HasShape}
 use Rattle.sasi_recover.specs.Opening.{IsFolderDurable, KeepsStore}
-use Rattle.sasi_recover.proofs.SyncedFolder.{holds_where_kept, settled_name, settled_none, settled_store}
+use Rattle.sasi_recover.proofs.SyncedFolder.{durable_name, durable_none, durable_store, holds_where_kept}
 
 -- what a shape tells without its data files
-pub holds_of : (x : Folder) (l : Layout) (logs : List (List Mutation)) → HasShape x l logs → Holds x l.used.manifest (listing_of l) logs
+pub holds_of : (x : Folder) (l : Layout) (logs : List (List Mutation)) → HasShape x l logs → FolderHolds x l.used.manifest (listing_of l) logs
 holds_of x l logs has = record { sealed = has.sealed; manifest = has.manifest; live = has.live; segments = has.segments }
 
 -- ---- listed data files
@@ -124,15 +124,15 @@ module _ (v : View) (sound : IsSound v) (durable : IsFolderDurable v) (f : Folde
   synced_file x now name synced = by (get f name) refl
     where
       by : (o : Option Bytes) → get f name ≡ o → get x name ≡ get f name
-      by None none = settled_none v sound durable f files x now name none ∙ sym none
+      by None none = durable_none v sound durable f files x now name none ∙ sym none
       by (Some bytes) has =
-          let there = some_of (get x name) (settled_name v sound durable f files x now name ∙ ap (λ (o : Option Bytes). is_some o) has) in
+          let there = some_of (get x name) (durable_name v sound durable f files x now name ∙ ap (λ (o : Option Bytes). is_some o) has) in
           let reads : contents v name ≡ Some bytes = ap (λ (o : Option Folder). contents_in o name) files ∙ has in
           there.1 ∙ ap (λ (b : Bytes). Some b) (synced x there.0 bytes now reads there.1) ∙ sym has
 
   -- **Each image has the shape of the folder as it reads, once its data files are synced.**
   pub synced_shape : (l : Layout) (logs : List (List Mutation)) → ((k : ℕ) → is_listed (listing_of l).tables k ≡ true → IsSynced v (data_name k)) → HasShape f l logs → Each v (λ x. HasShape x l logs)
-  synced_shape l logs synced has x now = shape_where_kept f x l logs (settled_store v sound durable f files x now l.used.manifest l.floor l.last) (λ k listed. synced_file x now (data_name k) (synced k listed)) has
+  synced_shape l logs synced has x now = shape_where_kept f x l logs (durable_store v sound durable f files x now l.used.manifest l.floor l.last) (λ k listed. synced_file x now (data_name k) (synced k listed)) has
 
 -- a synced file is durable
 pub synced_durable : (v : View) → IsSound v → IsFolderDurable v → (name : FileName) (bytes : Bytes) → IsSynced v name → contents v name ≡ Some bytes → IsFileDurable v name bytes

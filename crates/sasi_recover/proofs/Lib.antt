@@ -22,7 +22,7 @@ pub mod ReplayingAll
 pub mod ReplayingSegment
 pub mod ReplayingTables
 pub mod SealedStore
-pub mod Settling
+pub mod Checking
 pub mod ShapeTimes
 pub mod SyncedFolder
 pub mod Timestamps

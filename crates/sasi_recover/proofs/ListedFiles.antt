@@ -8,7 +8,7 @@ use Rattle.sasi_host.specs.Disk.{Changes, Lists, Same}
 use Rattle.sasi_host.proofs.ChangeLaws.{changes_as, changes_on}
 use Rattle.sasi_manifest.specs.OpenManifest.{ManifestState}
 use Rattle.sasi_manifest.specs.Reading.{ReadsListing}
-use Rattle.sasi_folder.specs.Stands.{IsSealed}
+use Rattle.sasi_folder.specs.FolderContents.{IsSealed}
 use Rattle.sasi_folder.proofs.FolderLaws.{highest_same}
 use Rattle.sasi_layout.specs.Kept.{Kept, is_kept}
 use Rattle.sasi_recover.specs.Deletion.{Deletes}

@@ -16,7 +16,7 @@ use Rattle.sasi_manifest.specs.ListedTables.{listed}
 use Rattle.sasi_manifest.proofs.NumberTrees.{has_numbers}
 use Rattle.sasi_layout.specs.Kept.{is_listed}
 use Rattle.sasi_recover.specs.OpeningReads.{data_count}
-use Rattle.sasi_recover.proofs.Settling.{among_of, of_among}
+use Rattle.sasi_recover.proofs.Checking.{among_of, of_among}
 
 join : (a b c : Bool) → (a || (b || c)) ≡ ((a || b) || c)
 join true b c = refl

@@ -6,7 +6,7 @@ use Rattle.sasi_host.specs.declared.name.FileName.{FileName}
 use Rattle.sasi_host.specs.Names.{Folder, log_name, manifest_name}
 use Rattle.sasi_host.specs.View.{View}
 use Rattle.sasi_host.specs.Disk.{Lists}
-use Rattle.sasi_folder.specs.Stands.{IsFresh}
+use Rattle.sasi_folder.specs.FolderContents.{IsFresh}
 use Rattle.sasi_layout.proofs.KeptLaws.{name_same}
 use Rattle.sasi_recover.specs.NewFolder.{is_initial}
 use Rattle.sasi_recover.proofs.SealedStore.{held_is_listed, none_where}

@@ -15,13 +15,13 @@ use Rattle.sasi_manifest.specs.declared.files.ListedFile.{ListedFile}
 use Rattle.sasi_manifest.specs.declared.listing.Listing.{Listing}
 use Rattle.sasi_manifest.specs.ListedDefinition.{ListedDefinition}
 use Rattle.sasi_manifest.specs.Listings.{listed_definitions}
-use Rattle.sasi_layout.specs.Layout.{Layout, TableParts, Used, bare, bare_table, greatest_data, greatest_file, listed_of, listing_of, unflushed}
-use Rattle.sasi_layout.specs.Serving.{AreTablesReady, TableInHand}
+use Rattle.sasi_layout.specs.Layout.{Layout, TableParts, Used, bare, bare_table, largest_data, largest_file, listed_of, listing_of, unflushed}
+use Rattle.sasi_layout.specs.Serving.{AreTablesReady, TableInMemory}
 use Rattle.sasi_layout.specs.Serving as serving
 use Rattle.sasi_layout.specs.Shape.{AreShaped, HasShape, replay, replay_segment}
-use Rattle.sasi_layout.specs.Wells.{IsWell, IsWellTable, Rising}
+use Rattle.sasi_layout.specs.NumbersInOrder.{HasFilesInOrder, HasNumbersInOrder, Rising}
 use Rattle.sasi_recover.specs.declared.opened.TableMap.{TableMap}
-use Rattle.sasi_recover.specs.OpenedFolder.{table_in_hand}
+use Rattle.sasi_recover.specs.OpenedFolder.{opened_table}
 use Rattle.sasi_recover.specs.ReplayState.{AreMapsFrom}
 use Rattle.sasi_recover.proofs.PerTable.{maps_of}
 
@@ -69,11 +69,11 @@ shape_bare x l logs has =
 -- ---- in memory
 
 -- the memtables are those of the shape
-pub maps_in_hand : (x : Folder) (p : Partitioner) (floor n : ℕ) (logs : List (List Mutation)) (ts : List TableParts) → AreShaped x p floor n logs ts
-    → map table_in_hand (maps_of p floor logs n (map listed_of ts)) ≡ map serving.table_in_hand ts
-maps_in_hand x p floor n logs [] are = refl
-maps_in_hand x p floor n logs (t ∷ ts) are =
-    let rest = maps_in_hand x p floor (suc n) logs ts are.1 in
+pub maps_in_memory : (x : Folder) (p : Partitioner) (floor n : ℕ) (logs : List (List Mutation)) (ts : List TableParts) → AreShaped x p floor n logs ts
+    → map opened_table (maps_of p floor logs n (map listed_of ts)) ≡ map serving.table_in_memory ts
+maps_in_memory x p floor n logs [] are = refl
+maps_in_memory x p floor n logs (t ∷ ts) are =
+    let rest = maps_in_memory x p floor (suc n) logs ts are.1 in
     let memtable = are.0.memtable in
     let first = are.0.first in
     let idle = are.0.idle in
@@ -84,7 +84,7 @@ definitions_are [] = refl
 definitions_are (t ∷ ts) = ap (λ (l : List Definition). t.definition ∷ l) (definitions_are ts)
 
 -- each table in memory is ready
-pub tables_ready : (p : Partitioner) (floor last n : ℕ) (ts : List ListedDefinition) (xs : List TableMap) → AreMapsFrom p floor last n ts xs → AreTablesReady p floor last (listed_definitions ts) (map table_in_hand xs)
+pub tables_ready : (p : Partitioner) (floor last n : ℕ) (ts : List ListedDefinition) (xs : List TableMap) → AreMapsFrom p floor last n ts xs → AreTablesReady p floor last (listed_definitions ts) (map opened_table xs)
 tables_ready p floor last n [] [] maps = tt
 tables_ready p floor last n [] (x ∷ xs) maps = absurd maps
 tables_ready p floor last n (t ∷ ts) [] maps = absurd maps
@@ -95,28 +95,28 @@ tables_ready p floor last n (t ∷ ts) (x ∷ xs) maps = (
 
 -- ---- numbers
 
-files_rising : (above high : ℕ) (fs : List ListedFile) → FilesRise above fs → above ≤ high → greatest_file fs ≤ high → Rising above high fs
+files_rising : (above high : ℕ) (fs : List ListedFile) → FilesRise above fs → above ≤ high → largest_file fs ≤ high → Rising above high fs
 files_rising above high [] rise low most = low
 files_rising above high (f ∷ fs) rise low most = (rise.0, files_rising f.number high fs rise.2 (omega (arith, most)) (omega (arith, most)))
 
-files_fit : (above : ℕ) (fs : List ListedFile) → FilesRise above fs → greatest_file fs < 2 ^ 32
+files_fit : (above : ℕ) (fs : List ListedFile) → FilesRise above fs → largest_file fs < 2 ^ 32
 files_fit above [] rise = omega arith
 files_fit above (f ∷ fs) rise = omega (arith, rise.1, files_fit f.number fs rise.2)
 
-pub data_fits : (ts : List ListedDefinition) → AllByRecursion (λ t. FilesRise 0 t.files) ts → greatest_data ts < 2 ^ 32
+pub data_fits : (ts : List ListedDefinition) → AllByRecursion (λ t. FilesRise 0 t.files) ts → largest_data ts < 2 ^ 32
 data_fits [] rise = omega arith
 data_fits (t ∷ ts) rise = omega (arith, files_fit 0 t.files rise.0, data_fits ts rise.1)
 
-pub tables_well : (high last : ℕ) (ts : List ListedDefinition) → AllByRecursion (λ t. FilesRise 0 t.files) ts → AllByRecursion (λ t. t.since ≤ last) ts → greatest_data ts ≤ high → AllByRecursion (IsWellTable high last) ts
-tables_well high last [] rise since most = tt
-tables_well high last (t ∷ ts) rise since most = (
+pub tables_in_order : (high last : ℕ) (ts : List ListedDefinition) → AllByRecursion (λ t. FilesRise 0 t.files) ts → AllByRecursion (λ t. t.since ≤ last) ts → largest_data ts ≤ high → AllByRecursion (HasFilesInOrder high last) ts
+tables_in_order high last [] rise since most = tt
+tables_in_order high last (t ∷ ts) rise since most = (
   record { rise = files_rising 0 high t.files rise.0 (omega arith) (omega (arith, most)); since = since.0 },
-  tables_well high last ts rise.1 since.1 (omega (arith, most)),
+  tables_in_order high last ts rise.1 since.1 (omega (arith, most)),
 )
 
-pub consistent_well : (listing : Listing) (high : ℕ) → IsConsistent listing → greatest_data listing.tables ≤ high → AllByRecursion (IsWellTable high listing.last) listing.tables
-consistent_well listing high known most = tables_well high listing.last listing.tables known.files known.since most
+pub consistent_in_order : (listing : Listing) (high : ℕ) → IsConsistent listing → largest_data listing.tables ≤ high → AllByRecursion (HasFilesInOrder high listing.last) listing.tables
+consistent_in_order listing high known most = tables_in_order high listing.last listing.tables known.files known.since most
 
--- **The layout of a shape is well.**
-pub shape_well : (x : Folder) (l : Layout) (logs : List (List Mutation)) → HasShape x l logs → IsConsistent (listing_of l) → IsWell l
-shape_well x l logs has known = consistent_well (listing_of l) l.used.file known (omega (arith, ap (λ (u : Used). u.file) has.used))
+-- **The numbers of the layout of a shape are in order.**
+pub shape_in_order : (x : Folder) (l : Layout) (logs : List (List Mutation)) → HasShape x l logs → IsConsistent (listing_of l) → HasNumbersInOrder l
+shape_in_order x l logs has known = consistent_in_order (listing_of l) l.used.«data» known (omega (arith, ap (λ (u : Used). u.«data») has.used))

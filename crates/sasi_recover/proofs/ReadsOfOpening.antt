@@ -10,7 +10,7 @@ use Rattle.sasi_host.specs.View.{View, IsThere, contents, contents_in}
 use Rattle.sasi_manifest.specs.declared.listing.Listing.{Listing}
 use Rattle.sasi_manifest.specs.Reading.{ReadsListing}
 use Rattle.sasi_manifest.specs.OpenManifest.{ManifestState}
-use Rattle.sasi_recover.specs.SealedFolder.{IsSettled}
+use Rattle.sasi_recover.specs.SealedFolder.{IsChecked}
 use Rattle.sasi_recover.specs.OpeningReads.{data_count, file_reads, segment_reads, live_reads, OpensReadingOnce, ReadsFileOnce, ReadsListedOnce, ReadsListingOnce, ReadsLiveOnce, ReadsStoreOnce}
 use Rattle.sasi_recover.proofs.DeletedFiles.{keeps_segment, unless_kept}
 use Rattle.sasi_recover.proofs.SealedStore.{bytes_there, reads_of}
@@ -73,10 +73,10 @@ once_in a b folder file files once = subst (λ (o : Option Folder). b.reads ≤ 
     (once (ap (λ (o : Option Folder). is_some o) files))
 
 -- the ends of the data files were read, other files were deleted, and the live segments were read
-pub listing_read : (a b c : View) (folder : Folder) (m : ManifestState) (numbers : List ℕ) (time : ℕ) → a.files ≡ Some folder → IsSettled a b m numbers time → length numbers ≡ data_count m.listing.tables
+pub listing_read : (a b c : View) (folder : Folder) (m : ManifestState) (numbers : List ℕ) (time : ℕ) → a.files ≡ Some folder → IsChecked a b m numbers time → length numbers ≡ data_count m.listing.tables
     → b.reads ≤ a.reads + 2 * length numbers → ReadsLiveOnce b c m.listing → ReadsListingOnce folder m.listing a c
-listing_read a b c folder m numbers time files settled count first live =
-    let now = settled.deletes.seen folder files in
+listing_read a b c folder m numbers time files checked count first live =
+    let now = checked.deletes.seen folder files in
     let same = same_reads folder now.0 m.listing.floor (suc m.listing.last - m.listing.floor)
     (λ segment above below. unless_kept _ _ _ (keeps_segment m.number m.listing.floor m.listing.last numbers segment above (omega (arith, above, below))) (now.2 (log_name segment))) in
     omega (arith, first, count, live now.0 now.1, same)

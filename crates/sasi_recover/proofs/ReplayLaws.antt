@@ -19,7 +19,7 @@ use Rattle.sasi_manifest.specs.Listings.{at_number}
 use Rattle.sasi_manifest.proofs.Replacing.{unchanged}
 use Rattle.sasi_folder.proofs.FolderChanges.{mutation_listed}
 use Rattle.sasi_folder.specs.Replay.{is_replayed}
-use Rattle.sasi_folder.specs.Stands.{types_listed}
+use Rattle.sasi_folder.specs.FolderContents.{types_listed}
 use Rattle.sasi_layout.proofs.Storable.{none_storable, put_storable}
 use Rattle.sasi_cells.specs.Maps.{put}
 use Rattle.sasi_model.specs.Cells.{max_timestamp_of}

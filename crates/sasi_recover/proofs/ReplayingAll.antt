@@ -15,8 +15,8 @@ use Rattle.sasi_manifest.specs.declared.listing.Listing.{Listing}
 use Rattle.sasi_recover.specs.ReplayState.{IsReplayOf, ReplayState, after_segment, after_segments, empty_state, replayed_state}
 use Rattle.sasi_recover.proofs.ReplayLaws.{segments_last}
 use Rattle.sasi_folder.proofs.FolderChanges.{segments_join}
-use Rattle.sasi_folder.specs.Stands.{HasSegment, types_listed}
-use Rattle.sasi_recover.specs.Replaying.{LiveSegmentsExist, HasRead, HasReplayed, ReplayShowsDamage, SegmentShowsDamage, KeepsSegment, KeepsSegments, MergedBefore, ReadsAll, ReadsSegment, Replays, ReplaysSegment, NoFalseReplayDamage, NoFalseSegmentDamage}
+use Rattle.sasi_folder.specs.FolderContents.{HasSegment, types_listed}
+use Rattle.sasi_recover.specs.Replaying.{LiveSegmentsExist, HasMerged, HasReplayed, ReplayShowsDamage, SegmentShowsDamage, KeepsSegment, KeepsSegments, MergedBefore, ReadsAll, ReadsSegment, Replays, ReplaysSegment, NoFalseReplayDamage, NoFalseSegmentDamage}
 use Rattle.sasi_recover.specs.OpeningReads.{ReadsLiveOnce}
 use Rattle.sasi_recover.proofs.ReadsOfOpening.{live_more, live_within}
 use Rattle.sasi_recover.proofs.SealedStore.{bytes_there, reads_of}
@@ -79,7 +79,7 @@ module _ (a b : View) (listing : Listing) (number : ℕ) (now : ReplayState) (on
   still_there there = there_where a b Same (log_name number) on.same (contents_same a b (log_name number) on.same) (there number on.from_floor within)
 
   -- what the folder has of one segment more
-  pub read_more : (later : ReplayState) → ReadsSegment b listing number now later → (folder : Folder) → a.files ≡ Some folder → LiveSegmentsExist a listing → HasRead folder listing (suc number) later
+  pub read_more : (later : ReplayState) → ReadsSegment b listing number now later → (folder : Folder) → a.files ≡ Some folder → LiveSegmentsExist a listing → HasMerged folder listing (suc number) later
   read_more later reads folder files there =
       let r = on.read folder files there in
       let bytes = bytes_there a folder (log_name number) files (there number on.from_floor within) in
@@ -94,7 +94,7 @@ module _ (a b : View) (listing : Listing) (number : ℕ) (now : ReplayState) (on
 
   -- where it is the last, all were read
   pub read_all : (later : ReplayState) → ReadsSegment b listing number now later → number ≡ listing.last → LiveSegmentsExist a listing → ReadsAll a listing later
-  read_all later reads last there folder files = subst (λ n. HasRead folder listing (suc n) later) last (read_more later reads folder files there)
+  read_all later reads last there folder files = subst (λ n. HasMerged folder listing (suc n) later) last (read_more later reads folder files there)
 
   module _ (c : View) (later : ReplayState) (at : ℕ) (same : Changes Same b c) (replays : ReplaysSegment b c listing number at now later) where
     merged_next : (logs : List (List Mutation)) → IsTold a → (n : IsNextLeft a listing number now logs) → (later ≡ after_segments listing.tables listing.floor (empty_state listing) (n.done ++ n.next ∷ [])) × IsAtLogEnd c (log_name number) at n.next
@@ -113,7 +113,7 @@ module _ (a b : View) (listing : Listing) (number : ℕ) (now : ReplayState) (on
       out = out ∙ on.out;
       reads_left = λ folder files there. live_more a b c listing number within on.same folder files (there number on.from_floor within) (on.reads_left folder files there) once;
       maps = maps;
-      read = λ folder files there. (let following : suc number ≡ number + 1 = omega arith in subst (λ k. HasRead folder listing k later) following (read_more later reads folder files there));
+      read = λ folder files there. (let following : suc number ≡ number + 1 = omega arith in subst (λ k. HasMerged folder listing k later) following (read_more later reads folder files there));
       merged = λ logs told live kept. (
           let n = next_of logs told live kept in
           let following : suc number ≡ number + 1 = omega arith in
@@ -152,8 +152,8 @@ module _ (a b : View) (listing : Listing) (number : ℕ) (now : ReplayState) (on
   shown_among (fault.Damaged damage) shown = (number, on.from_floor, within, λ bytes told. shown bytes (contents_same a b (log_name number) on.same ∙ told))
 
   pub no_false_damage_among : (f : ReadFault) → NoFalseSegmentDamage b listing number f → NoFalseReplayDamage a listing f
-  no_false_damage_among fault.Failed spares = tt
-  no_false_damage_among fault.OutOfMemory spares = tt
-  no_false_damage_among (fault.Damaged damage) spares = λ logs told live kept.
+  no_false_damage_among fault.Failed no_false = tt
+  no_false_damage_among fault.OutOfMemory no_false = tt
+  no_false_damage_among (fault.Damaged damage) no_false = λ logs told live kept.
       let n = next_of logs told live kept in
-      spares n.next (told_after Same a b on.same told) (file_durable_on n.next n.kept)
+      no_false n.next (told_after Same a b on.same told) (file_durable_on n.next n.kept)

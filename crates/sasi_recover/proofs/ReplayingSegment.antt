@@ -28,7 +28,7 @@ use Rattle.sasi_commitlog.specs.LogPosition.{IsAtLogEnd, IsReadingLog}
 use Rattle.sasi_manifest.specs.declared.listing.Listing.{Listing}
 use Rattle.sasi_recover.specs.ReplayState.{ReplayState, after_mutation, after_segment}
 use Rattle.sasi_recover.proofs.ReplayLaws.{segment_more}
-use Rattle.sasi_folder.specs.Stands.{types_listed}
+use Rattle.sasi_folder.specs.FolderContents.{types_listed}
 use Rattle.sasi_recover.specs.Replaying.{MergesNext, after_read, SegmentShowsDamage, KeepsSegment, ReadsSegment, ReplaysSegment, NoFalseSegmentDamage}
 
 -- so many mutations of a segment were merged, and these are left
@@ -224,11 +224,11 @@ module _ (a b : View) (listing : Listing) (number : ℕ) (log : Handle) (before 
       subst (λ (f : FileName). ShowsLog (types_listed listing) f bytes damage) on.file (shown bytes at.0 at.1 (still bytes told) at.2)
 
   pub no_false_damage_on : (f : ReadFault) → NoFalseLogDamage b log.file (types_listed listing) log.at f → NoFalseSegmentDamage a listing number f
-  no_false_damage_on fault.Failed spares = tt
-  no_false_damage_on fault.OutOfMemory spares = tt
-  no_false_damage_on (fault.Damaged damage) spares = λ mutations told kept.
+  no_false_damage_on fault.Failed no_false = tt
+  no_false_damage_on fault.OutOfMemory no_false = tt
+  no_false_damage_on (fault.Damaged damage) no_false = λ mutations told kept.
       let some = on.merged mutations told kept in
-      spares some.done some.left (told_after Same a b on.same told) (subst (λ (f : FileName). IsReadingLog b f log.at (types_listed listing) some.done some.left) (sym on.file) some.reading)
+      no_false some.done some.left (told_after Same a b on.same told) (subst (λ (f : FileName). IsReadingLog b f log.at (types_listed listing) some.done some.left) (sym on.file) some.reading)
 
 pub shown_first : (v : View) (listing : Listing) (number : ℕ) (f : ReadFault) → GatedDamageShown v (log_name number) f → SegmentShowsDamage v listing number f
 shown_first v listing number fault.Failed shown = tt
@@ -236,7 +236,7 @@ shown_first v listing number fault.OutOfMemory shown = tt
 shown_first v listing number (fault.Damaged damage) shown = λ bytes told. inl (shown bytes told)
 
 pub no_false_damage_first : (v : View) (listing : Listing) (number : ℕ) (f : ReadFault) → IsSound v → NoFalseGatedDamage v (log_name number) f → NoFalseSegmentDamage v listing number f
-no_false_damage_first v listing number fault.Failed sound spares = tt
-no_false_damage_first v listing number fault.OutOfMemory sound spares = tt
-no_false_damage_first v listing number (fault.Damaged damage) sound spares = λ mutations told kept.
-    spares kept.0 (map payload_of mutations) (file_durable_contents v (log_name number) kept.0 sound told kept.1) kept.2.gated
+no_false_damage_first v listing number fault.Failed sound no_false = tt
+no_false_damage_first v listing number fault.OutOfMemory sound no_false = tt
+no_false_damage_first v listing number (fault.Damaged damage) sound no_false = λ mutations told kept.
+    no_false kept.0 (map payload_of mutations) (file_durable_contents v (log_name number) kept.0 sound told kept.1) kept.2.gated

@@ -15,7 +15,7 @@ use Rattle.sasi_manifest.specs.Format.{IsManifest}
 use Rattle.sasi_manifest.proofs.Laws.{manifest_same, manifest_stays}
 use Rattle.sasi_manifest.specs.Reading.{ReadsListing}
 use Rattle.sasi_manifest.specs.OpenManifest.{ManifestStands}
-use Rattle.sasi_folder.specs.Stands.{HasSegments, Holds, types_listed}
+use Rattle.sasi_folder.specs.FolderContents.{FolderHolds, HasSegments, types_listed}
 use Rattle.sasi_recover.specs.declared.unlisted_files.Keep.TheVariants.{Store}
 use Rattle.sasi_recover.specs.Deletion.{DeletedUnless, Deletes, keeps}
 use Rattle.sasi_recover.specs.Replaying.{LiveSegmentsExist}
@@ -73,13 +73,13 @@ segment_there x tables number segment (ms ∷ logs) has above below = ⊎_elim
 
 -- what is read of its manifest is what it lists
 pub listed_same : (v : View) (folder : Folder) (number : ℕ) (listing read : Listing) (logs : List (List Mutation)) → v.files ≡ Some folder
-    → Holds folder number listing logs → ReadsListing v number read → read ≡ listing
+    → FolderHolds folder number listing logs → ReadsListing v number read → read ≡ listing
 listed_same v folder number listing read logs files holds reads =
     manifest_same number holds.manifest.0 read listing
     (reads holds.manifest.0 (reads_of v folder (manifest_name number) holds.manifest.0 files holds.manifest.1)) holds.manifest.2
 
 module _ (v : View) (names : List FileName) (number : ℕ) (lists : Lists v names) (folder : Folder) (listing : Listing)
-    (logs : List (List Mutation)) (files : v.files ≡ Some folder) (holds : Holds folder number listing logs) where
+    (logs : List (List Mutation)) (files : v.files ≡ Some folder) (holds : FolderHolds folder number listing logs) where
   pub segments_listed : (read : Listing) (damage : Damage) → ReadsListing v number read → ReportsMissingSegment names read.floor read.last damage → ⊥
   segments_listed read damage reads tells =
       let same : read ≡ listing = listed_same v folder number listing read logs files holds reads in
@@ -147,18 +147,18 @@ module _ (a b : View) (number : ℕ) (listing : Listing) (numbers : List ℕ) (c
 
 -- ---- moments
 
-holds_stay : (number : ℕ) (listing : Listing) (logs : List (List Mutation)) (x y : Folder) → Same x y → Holds x number listing logs
-    → Holds y number listing logs
-holds_stay number listing logs x y same holds = subst (λ (f : Folder). Holds f number listing logs) (sym same) holds
+holds_stay : (number : ℕ) (listing : Listing) (logs : List (List Mutation)) (x y : Folder) → Same x y → FolderHolds x number listing logs
+    → FolderHolds y number listing logs
+holds_stay number listing logs x y same holds = subst (λ (f : Folder). FolderHolds f number listing logs) (sym same) holds
 
 pub read_moments : (a b : View) (number : ℕ) (listing : Listing) (logs : List (List Mutation)) → IsSound a → Changes Same a b
-    → Each a (λ x. Holds x number listing logs) → Changes (λ x y. Holds y number listing logs) a b
-read_moments a b number listing logs sound change each = at_each_moment a b Same (λ x. Holds x number listing logs)
-    (λ y. Holds y number listing logs) sound change each (λ x y holds same. holds_stay number listing logs x y same holds)
+    → Each a (λ x. FolderHolds x number listing logs) → Changes (λ x y. FolderHolds y number listing logs) a b
+read_moments a b number listing logs sound change each = at_each_moment a b Same (λ x. FolderHolds x number listing logs)
+    (λ y. FolderHolds y number listing logs) sound change each (λ x y holds same. holds_stay number listing logs x y same holds)
 
 -- each image of a folder that was read holds what was read
 pub read_holds : (a : View) (number : ℕ) (listing read : Listing) (logs : List (List Mutation)) → IsSound a → ReadsListing a number read
-    → Each a (λ x. Holds x number listing logs) → (x : Folder) → a.image x → read ≡ listing
+    → Each a (λ x. FolderHolds x number listing logs) → (x : Folder) → a.image x → read ≡ listing
 read_holds a number listing read logs sound reads each x now =
     let files = told_files a (sound.told x now) in
     listed_same a files.0 number listing read logs files.1 (each files.0 (sound.reads files.0 files.1)) reads

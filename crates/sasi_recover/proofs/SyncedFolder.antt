@@ -10,7 +10,7 @@ use Rattle.sasi_host.proofs.ContentLaws.{contents_same, there_where, told_before
 use Rattle.sasi_cells.specs.declared.mutation.Mutation.{Mutation}
 use Rattle.sasi_manifest.specs.declared.listing.Listing.{Listing}
 use Rattle.sasi_folder.proofs.FolderLaws.{segments_kept}
-use Rattle.sasi_folder.specs.Stands.{Holds, IsFresh, types_listed}
+use Rattle.sasi_folder.specs.FolderContents.{FolderHolds, IsFresh, types_listed}
 use Rattle.sasi_recover.specs.Opening.{IsRecordSynced, IsFolderDurable, KeepsStore, has_records}
 
 some_of : (o : Option Bytes) → is_some o ≡ true → (b : Bytes) × (o ≡ Some b)
@@ -42,8 +42,8 @@ module _ (a b : View) (same : Changes Same a b) where
       ∙ ap (λ (o : Option Bytes). is_some o) (sym (contents_same a b name same))
 
   -- **What is durable stays durable where the folder doesn't change.**
-  pub settled_same : IsFolderDurable a → IsFolderDurable b
-  settled_same folder_durable = record { names = folder_same folder_durable.names; records = λ name. record_same name (folder_durable.records name) }
+  pub durable_same : IsFolderDurable a → IsFolderDurable b
+  durable_same folder_durable = record { names = folder_same folder_durable.names; records = λ name. record_same name (folder_durable.records name) }
 
   pub lists_same : (names : List FileName) → Lists a names → Lists b names
   lists_same names lists told name = subst (λ (o : Option Bytes). Contains names name ↔ IsSome o) (sym (contents_same a b name same))
@@ -60,8 +60,8 @@ pub listed_there : (v : View) (names : List FileName) → Lists v names → All 
 listed_there v names lists k d within told = (lists told (get_or names k d)).0 (All-contains_itself names k d within)
 
 -- all records are synced, where the listed ones are
-pub listed_settled : (v : View) (names : List FileName) → IsSound v → Lists v names → IsFolderSynced v → All (IsRecordSynced v) names → IsFolderDurable v
-listed_settled v names sound lists folder all = record {
+pub listed_durable : (v : View) (names : List FileName) → IsSound v → Lists v names → IsFolderSynced v → All (IsRecordSynced v) names → IsFolderDurable v
+listed_durable v names sound lists folder all = record {
   names = folder;
   records = λ name is x left read now reads has. (
       let there : IsSome (contents v name) = ap (λ (o : Option Bytes). is_some o) reads in
@@ -73,8 +73,8 @@ listed_settled v names sound lists folder all = record {
 
 module _ (v : View) (sound : IsSound v) (folder_durable : IsFolderDurable v) where
   -- a manifest or a segment that is there is in each image
-  pub settled_kept : (name : FileName) (bytes : Bytes) → has_records name.kind ≡ true → contents v name ≡ Some bytes → IsFileDurable v name bytes
-  settled_kept name bytes is reads x now =
+  pub durable_kept : (name : FileName) (bytes : Bytes) → has_records name.kind ≡ true → contents v name ≡ Some bytes → IsFileDurable v name bytes
+  durable_kept name bytes is reads x now =
       let there = some_of (get x name) (folder_durable.names x name (sound.told x now) now ∙ ap (λ (o : Option Bytes). is_some o) reads) in
       there.1 ∙ ap (λ (b : Bytes). Some b) (folder_durable.records name is x there.0 bytes now reads there.1)
 
@@ -83,33 +83,33 @@ module _ (v : View) (sound : IsSound v) (folder_durable : IsFolderDurable v) whe
     reads name = ap (λ (o : Option Folder). contents_in o name) files
 
     -- each name is in it, if it is in the folder
-    pub settled_name : (name : FileName) → is_some (get x name) ≡ is_some (get f name)
-    settled_name name = folder_durable.names x name (sound.told x now) now ∙ ap (λ (o : Option Bytes). is_some o) (reads name)
+    pub durable_name : (name : FileName) → is_some (get x name) ≡ is_some (get f name)
+    durable_name name = folder_durable.names x name (sound.told x now) now ∙ ap (λ (o : Option Bytes). is_some o) (reads name)
 
-    pub settled_none : (name : FileName) → get f name ≡ None → get x name ≡ None
-    settled_none name none = none_of (get x name) (settled_name name ∙ ap (λ (o : Option Bytes). is_some o) none)
+    pub durable_none : (name : FileName) → get f name ≡ None → get x name ≡ None
+    durable_none name none = none_of (get x name) (durable_name name ∙ ap (λ (o : Option Bytes). is_some o) none)
 
     -- and manifests and segments are alike
-    pub settled_record : (name : FileName) → has_records name.kind ≡ true → get x name ≡ get f name
-    settled_record name is = from (get f name) refl
+    pub durable_record : (name : FileName) → has_records name.kind ≡ true → get x name ≡ get f name
+    durable_record name is = from (get f name) refl
       where
         from : (o : Option Bytes) → get f name ≡ o → get x name ≡ get f name
-        from None none = settled_none name none ∙ sym none
-        from (Some bytes) has = settled_kept name bytes is (reads name ∙ has) x now ∙ sym has
+        from None none = durable_none name none ∙ sym none
+        from (Some bytes) has = durable_kept name bytes is (reads name ∙ has) x now ∙ sym has
 
     -- so what a store has there stays
-    pub settled_store : (number floor last : ℕ) → KeepsStore number floor last f x
-    settled_store number floor last = record {
-      seal = settled_name (seal_name number);
-      higher = λ other above. settled_none (seal_name other);
-      manifest = settled_record (manifest_name number) refl;
-      logs = λ segment above below. settled_record (log_name segment) refl;
+    pub durable_store : (number floor last : ℕ) → KeepsStore number floor last f x
+    durable_store number floor last = record {
+      seal = durable_name (seal_name number);
+      higher = λ other above. durable_none (seal_name other);
+      manifest = durable_record (manifest_name number) refl;
+      logs = λ segment above below. durable_record (log_name segment) refl;
     }
 
 -- ---- what a folder holds, where it keeps what the store has there
 
 pub holds_where_kept : (x y : Folder) (number : ℕ) (listing : Listing) (logs : List (List Mutation))
-    → KeepsStore number listing.floor listing.last x y → Holds x number listing logs → Holds y number listing logs
+    → KeepsStore number listing.floor listing.last x y → FolderHolds x number listing logs → FolderHolds y number listing logs
 holds_where_kept x y number listing logs keeps holds = record {
   sealed = record { there = keeps.seal ∙ holds.sealed.there; highest = λ other above. keeps.higher other above (holds.sealed.highest other above) };
   manifest = (holds.manifest.0, keeps.manifest ∙ holds.manifest.1, holds.manifest.2);
@@ -119,11 +119,11 @@ holds_where_kept x y number listing logs keeps holds = record {
 }
 
 -- **Each image of a durable folder holds what the folder holds as it reads.**
-pub settled_holds : (v : View) (f : Folder) (number : ℕ) (listing : Listing) (logs : List (List Mutation)) → IsSound v → IsFolderDurable v
-    → v.files ≡ Some f → Holds f number listing logs → Each v (λ x. Holds x number listing logs)
-settled_holds v f number listing logs sound folder_durable files holds x now = holds_where_kept f x number listing logs
-    (settled_store v sound folder_durable f files x now number listing.floor listing.last) holds
+pub durable_holds : (v : View) (f : Folder) (number : ℕ) (listing : Listing) (logs : List (List Mutation)) → IsSound v → IsFolderDurable v
+    → v.files ≡ Some f → FolderHolds f number listing logs → Each v (λ x. FolderHolds x number listing logs)
+durable_holds v f number listing logs sound folder_durable files holds x now = holds_where_kept f x number listing logs
+    (durable_store v sound folder_durable f files x now number listing.floor listing.last) holds
 
 -- **Each image of a durable new folder is new.**
-pub settled_fresh : (v : View) (f : Folder) → IsSound v → IsFolderDurable v → v.files ≡ Some f → IsFresh f → Each v IsFresh
-settled_fresh v f sound folder_durable files fresh x now name other another = settled_none v sound folder_durable f files x now name (fresh name other another)
+pub durable_fresh : (v : View) (f : Folder) → IsSound v → IsFolderDurable v → v.files ≡ Some f → IsFresh f → Each v IsFresh
+durable_fresh v f sound folder_durable files fresh x now name other another = durable_none v sound folder_durable f files x now name (fresh name other another)

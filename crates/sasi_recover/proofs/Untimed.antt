@@ -6,12 +6,12 @@ use Rattle.sasi_layout.specs.Kept.{is_listed}
 use Rattle.sasi_manifest.specs.declared.listing.Listing.{Listing}
 use Rattle.sasi_manifest.specs.ListedDefinition.{ListedDefinition}
 use Rattle.sasi_recover.specs.DataFiles.{IsLargestOf}
-use Rattle.sasi_recover.specs.OpenedFolder.{IsTimed, in_hand}
+use Rattle.sasi_recover.specs.OpenedFolder.{IsTimed, opened_store}
 use Rattle.sasi_recover.specs.ReplayState.{AreMapsFrom, IsReplayOf, ReplayState, tables_time}
 use Rattle.sasi_recover.specs.SealedFolder.{AreListedFiles}
 use Rattle.sasi_recover.specs.declared.opened.Opened.{Opened}
 use Rattle.sasi_recover.specs.declared.opened.TableMap.{TableMap}
-use Rattle.sasi_recover.proofs.Settling.{among_of}
+use Rattle.sasi_recover.proofs.Checking.{among_of}
 use Rattle.sasi_types.specs.declared.partitioner.Partitioner.{Partitioner}
 
 no_maps : (p : Partitioner) (floor last number : ℕ) (xs : List TableMap) → AreMapsFrom p floor last number [] xs → tables_time xs ≡ 0
@@ -35,7 +35,7 @@ module _ (v : View) (listing : Listing) (files : List ℕ) (time : ℕ) (s : Rep
   no_tables (t ∷ ts) none = cc
 
   -- **Where no table is listed, neither a data file nor the log has a timestamp.**
-  pub opened_timed : (opened : Opened) → opened.manifest.listing ≡ listing → opened.greatest ≡ max time s.max_timestamp → IsTimed (in_hand opened)
+  pub opened_timed : (opened : Opened) → opened.manifest.listing ≡ listing → opened.greatest ≡ max time s.max_timestamp → IsTimed (opened_store opened)
   opened_timed opened same greatest none =
       let no = ap (λ (l : Listing). l.tables) (sym same) ∙ no_tables opened.manifest.listing.tables none in
       omega (arith, greatest, none_listed no, none_replayed listing.tables replayed.maps no)

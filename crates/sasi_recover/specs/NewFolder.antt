@@ -9,7 +9,7 @@ use Rattle.sasi_host.specs.declared.name.FileName.{FileName}
 use Rattle.sasi_host.specs.Damages.{seen_bytes}
 use Rattle.sasi_host.specs.Names.{Folder, name_eq, log_name, manifest_name, seal_name}
 use Rattle.sasi_host.specs.View.{View}
-use Rattle.sasi_folder.specs.Stands.{IsFresh}
+use Rattle.sasi_folder.specs.FolderContents.{IsFresh}
 use Rattle.sasi_layout.specs.Shape.{IsOfShape, new_layout}
 
 -- a file that an unfinished creation of a store may leave: the first manifest or the first segment of the log

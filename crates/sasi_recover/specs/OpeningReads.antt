@@ -8,7 +8,7 @@ use Rattle.sasi_host.specs.View.{View, IsTold, contents}
 use Rattle.sasi_manifest.specs.declared.listing.Listing.{Listing}
 use Rattle.sasi_manifest.specs.Format.{IsManifest}
 use Rattle.sasi_manifest.specs.ListedDefinition.{ListedDefinition}
-use Rattle.sasi_folder.specs.Stands.{IsSealed}
+use Rattle.sasi_folder.specs.FolderContents.{IsSealed}
 
 -- the most reads of a file that is read from its start to its end: none where it isn't there
 abbrev pub file_reads : Option Bytes → ℕ

@@ -7,7 +7,7 @@ use Rattle.sasi_host.specs.Names.{Folder}
 use Rattle.sasi_host.specs.View.{View}
 use Rattle.sasi_folder.specs.Damages.{FolderShows}
 use Rattle.sasi_folder.specs.Opens.{KeepsPartitioner}
-use Rattle.sasi_folder.specs.Stands.{IsSealed}
+use Rattle.sasi_folder.specs.FolderContents.{IsSealed}
 use Rattle.sasi_layout.specs.Layout.{Layout}
 use Rattle.sasi_layout.specs.Shape.{ShapeOf}
 use Rattle.sasi_recover.specs.Faults.{OnDiffers, OnOpenDamage, TellsDifference}

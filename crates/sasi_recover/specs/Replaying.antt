@@ -12,7 +12,7 @@ use Rattle.sasi_gated.specs.Handles.{Handle}
 use Rattle.sasi_commitlog.specs.LogPosition.{IsAtLogEnd}
 use Rattle.sasi_commitlog.specs.Reads.{ReadsLogGate, ReadsMutations}
 use Rattle.sasi_manifest.specs.declared.listing.Listing.{Listing}
-use Rattle.sasi_folder.specs.Stands.{HasSegments, types_listed}
+use Rattle.sasi_folder.specs.FolderContents.{HasSegments, types_listed}
 use Rattle.sasi_recover.specs.OpeningReads.{live_reads, segment_reads}
 use Rattle.sasi_recover.specs.ReplayState.{IsReplayOf, ReplayState, after_mutation, after_segment, after_segments, empty_state, replayed_state}
 
@@ -39,7 +39,7 @@ ReadsSegment v listing number before later = (bytes : Bytes) → contents v (log
     → (mutations : List Mutation) × IsLog number (types_listed listing) bytes mutations × (later ≡ after_segment listing.tables number before mutations)
 
 -- the live segments of the folder before this number have some, and they were merged in order
-pub record HasRead (folder : Folder) (listing : Listing) (number : ℕ) (now : ReplayState) : Type 0 where
+pub record HasMerged (folder : Folder) (listing : Listing) (number : ℕ) (now : ReplayState) : Type 0 where
   pub logs : List (List Mutation)
   pub count : listing.floor + length logs ≡ number
   pub segments : HasSegments folder (types_listed listing) listing.floor logs
@@ -47,7 +47,7 @@ pub record HasRead (folder : Folder) (listing : Listing) (number : ℕ) (now : R
 
 -- and so were all of the folder as it reads
 abbrev pub ReadsAll : View → Listing → ReplayState → Type 0
-ReadsAll v listing state = (folder : Folder) → v.files ≡ Some folder → HasRead folder listing (suc listing.last) state
+ReadsAll v listing state = (folder : Folder) → v.files ≡ Some folder → HasMerged folder listing (suc listing.last) state
 
 -- ---- damage
 
@@ -100,7 +100,7 @@ pub record MergesNext (old new : View) (listing : Listing) (number : ℕ) (log l
   pub mutations : ReadsMutations old new log.file (types_listed listing) log.at log_after.at read
   pub file : log_after.file ≡ log.file
   pub usable : IsTrue log_after.usable
-  pub goes_on : is_more ≡ true → log.at < log_after.at
+  pub advances : is_more ≡ true → log.at < log_after.at
   pub fits : log_after.at ≤ 2 ^ 62
   pub room : is_more ≡ false → Reaches new log_after.file (log_after.at + 1)
 
@@ -121,5 +121,5 @@ pub record HasReplayed (a b : View) (listing : Listing) (number : ℕ) (now : Re
   pub out : b.out_faults ≡ a.out_faults
   pub reads_left : (folder : Folder) → a.files ≡ Some folder → LiveSegmentsExist a listing → b.reads + segment_reads folder number (suc listing.last - number) ≤ a.reads + live_reads folder listing
   pub maps : IsReplayOf listing now
-  pub read : (folder : Folder) → a.files ≡ Some folder → LiveSegmentsExist a listing → HasRead folder listing number now
+  pub read : (folder : Folder) → a.files ≡ Some folder → LiveSegmentsExist a listing → HasMerged folder listing number now
   pub merged : (logs : List (List Mutation)) → IsTold a → listing.floor + length logs ≡ suc listing.last → KeepsSegments a (types_listed listing) listing.floor logs → MergedBefore a listing number now logs

@@ -74,7 +74,7 @@ abbrev pub kept_with : ManifestState → List ℕ → FileName → Bool
 kept_with m files = keeps (Store m.number m.listing.floor m.listing.last) files
 
 -- What the manifest lists was checked: the segments are there, and the data files with their ends. The other files were deleted.
-pub record IsSettled (old new : View) (m : ManifestState) (files : List ℕ) (time : ℕ) : Type 0 where
+pub record IsChecked (old new : View) (m : ManifestState) (files : List ℕ) (time : ℕ) : Type 0 where
   pub deletes : Changes (Deletes (kept_with m files)) old new
   pub gone : (name : FileName) → kept_with m files name ≡ false → IsAbsent new name
   pub live : LiveSegmentsExist new m.listing

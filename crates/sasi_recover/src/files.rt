@@ -6,7 +6,7 @@ ghost use Rattle.sasi_manifest.specs.ListedFiles.{is_among};
 ghost use Rattle.sasi_manifest.specs.ListedTables.{listed};
 ghost use Rattle.sasi_layout.specs.Kept.{is_listed};
 ghost use Rattle.sasi_recover.specs.OpeningReads.{data_count};
-ghost use Rattle.sasi_layout.specs.Layout.{greatest_data, greatest_file};
+ghost use Rattle.sasi_layout.specs.Layout.{largest_data, largest_file};
 
 use sasi_host::{DataNumber, FileName};
 use sasi_manifest::{ListedFile, ListedTable, Listing};
@@ -61,7 +61,7 @@ fn is_among(numbers: &[DataNumber], number: DataNumber) -> bool
 
 /// The largest number of a listed data file; 0 where there is none.
 pub fn largest_number(tables: &[ListedTable]) -> DataNumber
-    ensures { result ≡ greatest_data (map listed tables.now) }
+    ensures { result ≡ largest_data (map listed tables.now) }
 {
     let mut largest = 0;
     for table in tables {
@@ -71,7 +71,7 @@ pub fn largest_number(tables: &[ListedTable]) -> DataNumber
 }
 
 fn largest_in(files: &[ListedFile]) -> DataNumber
-    ensures { result ≡ greatest_file files.now }
+    ensures { result ≡ largest_file files.now }
 {
     let mut largest = 0;
     for file in files {

@@ -7,11 +7,11 @@ ghost use Rattle.sasi_host.specs.Names.{name_cmp};
 ghost use Rattle.sasi_host.specs.View.{IsAbsent, IsTold, ListCauses};
 ghost use Rattle.sasi_host.specs.Disk.{Changes, IsFolderSynced, Lists, Same, Each};
 ghost use Rattle.sasi_gated.specs.Causes.{ReadingCauses};
-ghost use Rattle.sasi_folder.specs.Stands.{IsFresh};
-ghost use Rattle.sasi_layout.specs.Serving.{IsReady, Serves};
+ghost use Rattle.sasi_folder.specs.FolderContents.{IsFresh};
+ghost use Rattle.sasi_layout.specs.Serving.{CanChange, Serves};
 ghost use Rattle.sasi_layout.specs.Shape.{new_layout};
 ghost use Rattle.sasi_recover.specs.NewFolder.{IsFreshOrNew, ReportsForeign, NoFalseFreshDamage, is_initial};
-ghost use Rattle.sasi_recover.specs.OpenedFolder.{AnyFolderChange, IsTimed, in_hand};
+ghost use Rattle.sasi_recover.specs.OpenedFolder.{AnyFolderChange, IsTimed, opened_store};
 ghost use Rattle.sasi_recover.specs.ReplayState.{AreMaps};
 
 use crate::unlisted_files::{Keep, delete_unlisted};
@@ -33,9 +33,9 @@ pub fn create_store<H: Host>(
     requires lists { Lists (H.view host.old) names.now }
     requires sorted { IsStrictlySortedBy name_cmp names.now }
     ensures tables { IfOk result (λ opened. AreMaps opened.manifest.listing opened.tables.items) }
-    ensures timed { IfOk result (λ opened. IsTimed (in_hand opened)) }
-    ensures ready { IfOk result (λ opened. IsReady (H.view host.new) (in_hand opened)) }
-    ensures serves { IfOk result (λ opened. IsTold (H.view host.old) → Each (H.view host.old) IsFresh → Serves (H.view host.new) (in_hand opened) (new_layout partitioner)) }
+    ensures timed { IfOk result (λ opened. IsTimed (opened_store opened)) }
+    ensures ready { IfOk result (λ opened. CanChange (H.view host.new) (opened_store opened)) }
+    ensures serves { IfOk result (λ opened. IsTold (H.view host.old) → Each (H.view host.old) IsFresh → Serves (H.view host.new) (opened_store opened) (new_layout partitioner)) }
     ensures any_moment { Each (H.view host.old) IsFresh → Changes (IsFreshOrNew partitioner) (H.view host.old) (H.view host.new) }
     ensures firsts { OnOk result (All (λ name. is_initial name ≡ true) names.now) }
     ensures damaged { IfErr result (OnDamage (ReportsForeign names.now)) }
@@ -80,9 +80,9 @@ fn clear_and_create<H: Host>(
     requires lists { Lists (H.view host.old) names.now }
     requires sorted { IsStrictlySortedBy name_cmp names.now }
     ensures tables { IfOk result (λ opened. AreMaps opened.manifest.listing opened.tables.items) }
-    ensures timed { IfOk result (λ opened. IsTimed (in_hand opened)) }
-    ensures ready { IfOk result (λ opened. IsReady (H.view host.new) (in_hand opened)) }
-    ensures serves { IfOk result (λ opened. IsTold (H.view host.old) → Each (H.view host.old) IsFresh → Serves (H.view host.new) (in_hand opened) (new_layout partitioner)) }
+    ensures timed { IfOk result (λ opened. IsTimed (opened_store opened)) }
+    ensures ready { IfOk result (λ opened. CanChange (H.view host.new) (opened_store opened)) }
+    ensures serves { IfOk result (λ opened. IsTold (H.view host.old) → Each (H.view host.old) IsFresh → Serves (H.view host.new) (opened_store opened) (new_layout partitioner)) }
     ensures any_moment { Each (H.view host.old) IsFresh → Changes (IsFreshOrNew partitioner) (H.view host.old) (H.view host.new) }
     ensures changes { Changes AnyFolderChange (H.view host.old) (H.view host.new) }
     ensures causes { ListCauses (H.view host.old) (H.view host.new) result }
@@ -101,9 +101,9 @@ fn create_files<H: Host>(
     requires none { (name : AName) → IsAbsent (H.view host.old) name }
     requires synced { IsFolderSynced (H.view host.old) }
     ensures tables { IfOk result (λ opened. AreMaps opened.manifest.listing opened.tables.items) }
-    ensures timed { IfOk result (λ opened. IsTimed (in_hand opened)) }
-    ensures ready { IfOk result (λ opened. IsReady (H.view host.new) (in_hand opened)) }
-    ensures serves { IfOk result (λ opened. IsTold (H.view host.old) → Each (H.view host.old) IsFresh → Serves (H.view host.new) (in_hand opened) (new_layout partitioner)) }
+    ensures timed { IfOk result (λ opened. IsTimed (opened_store opened)) }
+    ensures ready { IfOk result (λ opened. CanChange (H.view host.new) (opened_store opened)) }
+    ensures serves { IfOk result (λ opened. IsTold (H.view host.old) → Each (H.view host.old) IsFresh → Serves (H.view host.new) (opened_store opened) (new_layout partitioner)) }
     ensures any_moment { Each (H.view host.old) IsFresh → Changes (IsFreshOrNew partitioner) (H.view host.old) (H.view host.new) }
     ensures changes { Changes AnyFolderChange (H.view host.old) (H.view host.new) }
     ensures causes { ListCauses (H.view host.old) (H.view host.new) result }

@@ -8,16 +8,16 @@ ghost use Rattle.sasi_host.specs.Disk.{Changes, Lists, Same, Each};
 ghost use Rattle.sasi_host.specs.View.{IsThere, IsTold};
 ghost use Rattle.sasi_host.specs.Names.{Folder, name_cmp, seal_name};
 ghost use Rattle.sasi_cells.specs.declared.mutation.Mutation.{Mutation};
-ghost use Rattle.sasi_folder.specs.Damages.{ShowsListed};
+ghost use Rattle.sasi_folder.specs.Damages.{ShowsManifestOrListed};
 ghost use Rattle.sasi_folder.specs.Opens.{CanOpen, KeepsUnder, Opens};
-ghost use Rattle.sasi_folder.specs.Stands.{IsFresh, IsSealed};
+ghost use Rattle.sasi_folder.specs.FolderContents.{IsFresh, IsSealed};
 ghost use Rattle.sasi_layout.specs.Layout.{Layout};
-ghost use Rattle.sasi_layout.specs.Serving.{IsReady, Serves};
+ghost use Rattle.sasi_layout.specs.Serving.{CanChange, Serves};
 ghost use Rattle.sasi_layout.specs.Shape.{HasShape, ShapeOf, new_layout};
 ghost use Rattle.sasi_recover.specs.Faults.{IsDifference, OnDiffers, OnOpenDamage, OpenCauses, TellsDifference};
 ghost use Rattle.sasi_recover.specs.KeptListed.{KeepsListed};
 ghost use Rattle.sasi_recover.specs.NewFolder.{IsForeign, IsFreshOrNew, NoFalseFreshDamage, ReportsForeign, is_initial};
-ghost use Rattle.sasi_recover.specs.OpenedFolder.{AnyFolderChange, IsTimed, in_hand};
+ghost use Rattle.sasi_recover.specs.OpenedFolder.{AnyFolderChange, IsTimed, opened_store};
 ghost use Rattle.sasi_recover.specs.Opening.{IsFolderDurable};
 ghost use Rattle.sasi_recover.specs.OpeningReads.{ReadsStoreOnce};
 ghost use Rattle.sasi_recover.specs.Promises.{OpensSafely, ReportsTruly};
@@ -38,10 +38,10 @@ pub fn open<H: Host>(
     host: &mut H,
     asked: Option<Partitioner>,
 ) -> Result<Opened, OpenFault>
-    ensures ready { IfOk result (λ opened. IsReady (H.view host.new) (in_hand opened)) }
+    ensures ready { IfOk result (λ opened. CanChange (H.view host.new) (opened_store opened)) }
     ensures tables { IfOk result (λ opened. AreMaps opened.manifest.listing opened.tables.items) }
-    ensures timed { IfOk result (λ opened. IsTimed (in_hand opened)) }
-    ensures serves { (folder : Folder) (l : Layout) → (H.view host.old).files ≡ Some folder → ShapeOf asked folder l → IfOk result (λ opened. Serves (H.view host.new) (in_hand opened) l) }
+    ensures timed { IfOk result (λ opened. IsTimed (opened_store opened)) }
+    ensures serves { (folder : Folder) (l : Layout) → (H.view host.old).files ≡ Some folder → ShapeOf asked folder l → IfOk result (λ opened. Serves (H.view host.new) (opened_store opened) l) }
     ensures opens { (folder : Folder) → (H.view host.old).files ≡ Some folder → OnOk result (CanOpen folder) }
     ensures safe { OpensSafely asked (H.view host.old) (H.view host.new) }
     ensures reports { ReportsTruly asked (H.view host.old) result }
@@ -65,10 +65,10 @@ fn open_new<H: Host>(
 ) -> Result<Opened, OpenFault>
     requires lists { Lists (H.view host.old) names.now }
     requires sorted { IsStrictlySortedBy name_cmp names.now }
-    ensures ready { IfOk result (λ opened. IsReady (H.view host.new) (in_hand opened)) }
+    ensures ready { IfOk result (λ opened. CanChange (H.view host.new) (opened_store opened)) }
     ensures tables { IfOk result (λ opened. AreMaps opened.manifest.listing opened.tables.items) }
-    ensures timed { IfOk result (λ opened. IsTimed (in_hand opened)) }
-    ensures serves { IfOk result (λ opened. IsTold (H.view host.old) → Each (H.view host.old) IsFresh → Serves (H.view host.new) (in_hand opened) (new_layout (unwrap_or asked partitioner.Lead8))) }
+    ensures timed { IfOk result (λ opened. IsTimed (opened_store opened)) }
+    ensures serves { IfOk result (λ opened. IsTold (H.view host.old) → Each (H.view host.old) IsFresh → Serves (H.view host.new) (opened_store opened) (new_layout (unwrap_or asked partitioner.Lead8))) }
     ensures any_moment { Each (H.view host.old) IsFresh → Changes (IsFreshOrNew (unwrap_or asked partitioner.Lead8)) (H.view host.old) (H.view host.new) }
     ensures firsts { OnOk result (All (λ name. is_initial name ≡ true) names.now) }
     ensures damaged { IfErr result (OnOpenDamage (ReportsForeign names.now)) }
@@ -95,13 +95,13 @@ fn open_sealed<H: Host>(
     requires sorted { IsStrictlySortedBy name_cmp names.now }
     requires folder_durable { IsFolderDurable (H.view host.old) }
     requires sealed { IsThere (H.view host.old) (seal_name number) }
-    ensures ready { IfOk result (λ opened. IsReady (H.view host.new) (in_hand opened)) }
+    ensures ready { IfOk result (λ opened. CanChange (H.view host.new) (opened_store opened)) }
     ensures tables { IfOk result (λ opened. AreMaps opened.manifest.listing opened.tables.items) }
-    ensures timed { IfOk result (λ opened. IsTimed (in_hand opened)) }
-    ensures serves { (folder : Folder) (l : Layout) (logs : List (List Mutation)) → (H.view host.old).files ≡ Some folder → l.used.manifest ≡ number → HasShape folder l logs → IfOk result (λ opened. Serves (H.view host.new) (in_hand opened) l) }
+    ensures timed { IfOk result (λ opened. IsTimed (opened_store opened)) }
+    ensures serves { (folder : Folder) (l : Layout) (logs : List (List Mutation)) → (H.view host.old).files ≡ Some folder → l.used.manifest ≡ number → HasShape folder l logs → IfOk result (λ opened. Serves (H.view host.new) (opened_store opened) l) }
     ensures opens { (folder : Folder) → (H.view host.old).files ≡ Some folder → IsSealed folder number → OnOk result (Opens folder) }
     ensures any_moment { (folder : Folder) (l : Layout) (logs : List (List Mutation)) → (H.view host.old).files ≡ Some folder → l.used.manifest ≡ number → HasShape folder l logs → Changes (λ x y. (y ≡ x) ⊎ HasShape y l logs) (H.view host.old) (H.view host.new) }
-    ensures damaged { (folder : Folder) → (H.view host.old).files ≡ Some folder → IfErr result (OnOpenDamage (ShowsListed folder number)) }
+    ensures damaged { (folder : Folder) → (H.view host.old).files ≡ Some folder → IfErr result (OnOpenDamage (ShowsManifestOrListed folder number)) }
     ensures undamaged { (folder : Folder) (l : Layout) (logs : List (List Mutation)) → (H.view host.old).files ≡ Some folder → l.used.manifest ≡ number → HasShape folder l logs → IfErr result (OnOpenDamage (λ _. ⊥)) }
     ensures differs { (folder : Folder) (wanted kept : APartitioner) → (H.view host.old).files ≡ Some folder → asked ≡ Some wanted → KeepsUnder folder number kept → wanted ≢ kept → TellsDifference wanted kept result }
     ensures differs_only { (folder : Folder) → (H.view host.old).files ≡ Some folder → IfErr result (OnDiffers (λ wanted kept. (asked ≡ Some wanted) × KeepsUnder folder number kept × (wanted ≢ kept))) }

@@ -13,7 +13,7 @@ ghost use Rattle.sasi_commitlog.specs.Reads.{IsLogDamageAt, NoFalseLogDamage};
 ghost use Rattle.sasi_manifest.specs.ListedTables.{listed};
 ghost use Rattle.sasi_manifest.specs.Listings.{CanStart};
 ghost use Rattle.sasi_folder.specs.Replay.{is_replayed};
-ghost use Rattle.sasi_folder.specs.Stands.{types_listed};
+ghost use Rattle.sasi_folder.specs.FolderContents.{types_listed};
 ghost use Rattle.sasi_layout.specs.Serving.{IsTyped};
 ghost use Rattle.sasi_types.specs.Token.{AreBytes};
 ghost use Rattle.std.specs.List.{AllByRecursion};

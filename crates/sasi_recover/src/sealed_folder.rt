@@ -10,18 +10,18 @@ ghost use Rattle.sasi_cells.specs.declared.mutation.Mutation.{Mutation};
 ghost use Rattle.sasi_manifest.specs.Consistent.{IsConsistent};
 ghost use Rattle.sasi_manifest.specs.Damages.{NoFalseManifestDamage};
 ghost use Rattle.sasi_manifest.specs.Reading.{ReadsListing, StandsWhereKept};
-ghost use Rattle.sasi_folder.specs.Damages.{ShowsListed};
+ghost use Rattle.sasi_folder.specs.Damages.{ShowsManifestOrListed};
 ghost use Rattle.sasi_folder.specs.Opens.{Opens};
-ghost use Rattle.sasi_folder.specs.Stands.{IsSealed};
+ghost use Rattle.sasi_folder.specs.FolderContents.{IsSealed};
 ghost use Rattle.sasi_layout.specs.Layout.{Layout, used_in};
-ghost use Rattle.sasi_layout.specs.Serving.{IsReady, Serves};
+ghost use Rattle.sasi_layout.specs.Serving.{CanChange, Serves};
 ghost use Rattle.sasi_layout.specs.Shape.{HasShape};
 ghost use Rattle.sasi_recover.specs.KeptListed.{KeepsAll, kept_under};
-ghost use Rattle.sasi_recover.specs.OpenedFolder.{AnyFolderChange, IsTimed, in_hand, used_numbers};
+ghost use Rattle.sasi_recover.specs.OpenedFolder.{AnyFolderChange, IsTimed, opened_store, used_numbers};
 ghost use Rattle.sasi_recover.specs.Opening.{IsFolderDurable};
 ghost use Rattle.sasi_recover.specs.OpeningReads.{ReadsFileOnce, ReadsListingOnce};
 ghost use Rattle.sasi_recover.specs.ReplayState.{AreMaps};
-ghost use Rattle.sasi_recover.specs.SealedFolder.{AreListedFiles, AreNamed, IsManifestRead, IsSettled, ReportsMissingListed};
+ghost use Rattle.sasi_recover.specs.SealedFolder.{AreListedFiles, AreNamed, IsChecked, IsManifestRead, ReportsMissingListed};
 
 use crate::data_files::{check_data_files, read_ends};
 use crate::files::{largest_number, sorted_numbers};
@@ -49,7 +49,7 @@ pub fn read_manifest<H: Host>(
     ensures room { IfOk result (λ m. Reaches (H.view host.new) (manifest_name number) (m.at + 1)) }
     ensures number { IfOk result (λ m. m.number ≡ number) }
     ensures usable { IfOk result (λ m. IsTrue m.usable) }
-    ensures damaged { (folder : Folder) → (H.view host.old).files ≡ Some folder → IfErr result (OnDamage (ShowsListed folder number)) }
+    ensures damaged { (folder : Folder) → (H.view host.old).files ≡ Some folder → IfErr result (OnDamage (ShowsManifestOrListed folder number)) }
     ensures undamaged { IfErr result (NoFalseManifestDamage (H.view host.old) number) }
     ensures changes { Changes Same (H.view host.old) (H.view host.new) }
     ensures once { ReadsFileOnce (H.view host.old) (H.view host.new) (manifest_name number) }
@@ -71,13 +71,13 @@ pub fn open_listed<H: Host>(
     requires sorted { IsStrictlySortedBy name_cmp names.now }
     requires folder_durable { IsFolderDurable (H.view host.old) }
     requires read { IsManifestRead (H.view host.old) manifest }
-    ensures ready { IfOk result (λ opened. IsReady (H.view host.new) (in_hand opened)) }
+    ensures ready { IfOk result (λ opened. CanChange (H.view host.new) (opened_store opened)) }
     ensures tables { IfOk result (λ opened. AreMaps opened.manifest.listing opened.tables.items) }
-    ensures timed { IfOk result (λ opened. IsTimed (in_hand opened)) }
-    ensures serves { (folder : Folder) (l : Layout) (logs : List (List Mutation)) → (H.view host.old).files ≡ Some folder → l.used.manifest ≡ manifest.number → HasShape folder l logs → IfOk result (λ opened. Serves (H.view host.new) (in_hand opened) l) }
+    ensures timed { IfOk result (λ opened. IsTimed (opened_store opened)) }
+    ensures serves { (folder : Folder) (l : Layout) (logs : List (List Mutation)) → (H.view host.old).files ≡ Some folder → l.used.manifest ≡ manifest.number → HasShape folder l logs → IfOk result (λ opened. Serves (H.view host.new) (opened_store opened) l) }
     ensures opens { (folder : Folder) → (H.view host.old).files ≡ Some folder → IsSealed folder manifest.number → OnOk result (Opens folder) }
     ensures any_moment { (folder : Folder) (l : Layout) (logs : List (List Mutation)) → (H.view host.old).files ≡ Some folder → l.used.manifest ≡ manifest.number → HasShape folder l logs → Changes (λ x y. (y ≡ x) ⊎ HasShape y l logs) (H.view host.old) (H.view host.new) }
-    ensures damaged { (folder : Folder) → (H.view host.old).files ≡ Some folder → IfErr result (OnDamage (ShowsListed folder manifest.number)) }
+    ensures damaged { (folder : Folder) → (H.view host.old).files ≡ Some folder → IfErr result (OnDamage (ShowsManifestOrListed folder manifest.number)) }
     ensures undamaged { (folder : Folder) (l : Layout) (logs : List (List Mutation)) → (H.view host.old).files ≡ Some folder → l.used.manifest ≡ manifest.number → HasShape folder l logs → IfErr result (OnDamage (λ _. ⊥)) }
     ensures kept { Changes (KeepsAll (kept_under manifest)) (H.view host.old) (H.view host.new) }
     ensures changes { Changes AnyFolderChange (H.view host.old) (H.view host.new) }
@@ -85,7 +85,7 @@ pub fn open_listed<H: Host>(
     ensures causes { ReadingCauses (H.view host.old) (H.view host.new) result }
 {
     let files = sorted_numbers(alloc, manifest.listing())?;
-    let greatest = settle(host, names, &manifest, &files)?;
+    let greatest = check_and_delete(host, names, &manifest, &files)?;
     let replayed = replay(alloc, host, manifest.listing())?;
     let numbers = numbers_in(&manifest);
     Ok(Opened {
@@ -98,7 +98,7 @@ pub fn open_listed<H: Host>(
 }
 
 // Checks the files that the manifest lists, and deletes the others. Gives the largest timestamp that data files tell.
-fn settle<H: Host>(
+fn check_and_delete<H: Host>(
     host: &mut H,
     names: &[FileName],
     manifest: &Manifest,
@@ -109,9 +109,9 @@ fn settle<H: Host>(
     requires folder_durable { IsFolderDurable (H.view host.old) }
     requires read { IsManifestRead (H.view host.old) manifest.now }
     requires files { AreListedFiles manifest.now.listing files.now }
-    ensures settled { IfOk result (λ time. IsSettled (H.view host.old) (H.view host.new) manifest.now files.now time) }
+    ensures checked { IfOk result (λ time. IsChecked (H.view host.old) (H.view host.new) manifest.now files.now time) }
     ensures any_moment { (folder : Folder) (l : Layout) (logs : List (List Mutation)) → (H.view host.old).files ≡ Some folder → l.used.manifest ≡ manifest.now.number → HasShape folder l logs → Changes (λ x y. (y ≡ x) ⊎ HasShape y l logs) (H.view host.old) (H.view host.new) }
-    ensures damaged { (folder : Folder) → (H.view host.old).files ≡ Some folder → IfErr result (OnDamage (ShowsListed folder manifest.now.number)) }
+    ensures damaged { (folder : Folder) → (H.view host.old).files ≡ Some folder → IfErr result (OnDamage (ShowsManifestOrListed folder manifest.now.number)) }
     ensures undamaged { (folder : Folder) (l : Layout) (logs : List (List Mutation)) → (H.view host.old).files ≡ Some folder → l.used.manifest ≡ manifest.now.number → HasShape folder l logs → IfErr result (OnDamage (λ _. ⊥)) }
     ensures kept { Changes (KeepsAll (kept_under manifest.now)) (H.view host.old) (H.view host.new) }
     ensures changes { Changes AnyFolderChange (H.view host.old) (H.view host.new) }

@@ -7,7 +7,7 @@ use Rattle.sasi_host.specs.Disk.{Changes}
 use Rattle.sasi_layout.specs.Between.{Between}
 use Rattle.sasi_layout.specs.Layout.{TableParts, state_of, table_of}
 use Rattle.sasi_layout.specs.Running.{after_pieces}
-use Rattle.sasi_layout.specs.Serving.{StoreInHand}
+use Rattle.sasi_layout.specs.Serving.{StoreInMemory}
 use Rattle.sasi_layout.specs.Spent.{spent}
 use Rattle.sasi_layout.specs.Worlds.{ServesWorld, World, steps}
 use Rattle.sasi_model.specs.Pieces.{Piece}
@@ -42,12 +42,12 @@ use Rattle.sasi_run.proofs.RunParts.{appends_none, ran_both, ran_nothing, reads_
 -- what a store promises of a piece that it didn't do
 pub record StepFailed (fault : StepFault) (session : Session) (a b : View) (piece : Piece) : Type 0 where
   pub change : Changes AnyFolderChange a b
-  pub moments : (w : World) → ServesWorld a session.store.hand w → Changes (λ x y. Between w.layout (steps.moves w piece) y) a b
-  pub spends : OnSpent (λ kind. (w : World) → ServesWorld a session.store.hand w → spent w.layout (steps.moves w piece) ≡ Some kind) fault
-  pub undamaged : (w : World) → ServesWorld a session.store.hand w → OnStepDamage (λ _. ⊥) fault
+  pub moments : (w : World) → ServesWorld a session.store.memory w → Changes (λ x y. Between w.layout (steps.moves w piece) y) a b
+  pub spends : OnSpent (λ kind. (w : World) → ServesWorld a session.store.memory w → spent w.layout (steps.moves w piece) ≡ Some kind) fault
+  pub undamaged : (w : World) → ServesWorld a session.store.memory w → OnStepDamage (λ _. ⊥) fault
 
 stopped_moving : (f : StepFault) (session : Session) (a b : View) (piece : Piece) → StepFailed f session a b piece → (w : World)
-    → ServesWorld a session.store.hand w → StoppedPieces (stop_of f) w [] (piece ∷ []) a b
+    → ServesWorld a session.store.memory w → StoppedPieces (stop_of f) w [] (piece ∷ []) a b
 stopped_moving fault.Failed session a b piece failed w serves = record {
   shown = unmoved a b failed.change.emitted;
   crashes = leaves_moved a b w piece (failed.moments w serves);
@@ -86,16 +86,16 @@ fails_moving f session a b piece failed = record {
 -- what a store promises of a piece that it did
 pub record StepDone (session : Session) (later : StoreView) (a b : View) (piece : Piece) (reply : List ℕ) (outcome : Outcome) : Type 0 where
   pub change : Changes AnyFolderChange a b
-  pub moments : (w : World) → ServesWorld a session.store.hand w → Changes (λ x y. Between w.layout (steps.moves w piece) y) a b
-  pub answers : (w : World) → ServesWorld a session.store.hand w → Answered b later.hand w piece reply outcome
-  pub anywhere : (s : State) → IsOfState session.store s → AnsweredButRows later.hand s piece reply outcome
+  pub moments : (w : World) → ServesWorld a session.store.memory w → Changes (λ x y. Between w.layout (steps.moves w piece) y) a b
+  pub answers : (w : World) → ServesWorld a session.store.memory w → Answered b later.memory w piece reply outcome
+  pub anywhere : (s : State) → IsOfState session.store s → AnsweredButRows later.memory s piece reply outcome
 
 module _ (session : Session) (later : StoreView) (a b d : View) (piece : Piece) (reply bytes : List ℕ) (outcome : Outcome)
     (done : StepDone session later a b piece reply outcome) (same : bytes ≡ reply) (emits : Emits bytes b d) where
-  crashes : (w : World) → ServesWorld a session.store.hand w → CrashLeavesPieces a d w (piece ∷ [])
+  crashes : (w : World) → ServesWorld a session.store.memory w → CrashLeavesPieces a d w (piece ∷ [])
   crashes w serves =
       let is = done.answers w serves in
-      leaves_answered a b w piece (done.moments w serves) d bytes (same ∙ is.reply_is) (each_of_shape b later.hand _ is.serves) emits
+      leaves_answered a b w piece (done.moments w serves) d bytes (same ∙ is.reply_is) (each_of_shape b later.memory _ is.serves) emits
 
   -- the reply was not emitted whole
   pub fails_shown : d.emits ≡ counted b.emits → FailsCrashSafe Output session a d (piece ∷ [])
@@ -146,7 +146,7 @@ module _ (session : Session) (later : StoreView) (a b d : View) (piece : Piece) 
     ran = λ w serves.
         (let is = done.answers w serves in
         record {
-          serves = rw store_is (serves_still b d later.hand _ emits.files emits.image is.serves);
+          serves = rw store_is (serves_still b d later.memory _ emits.files emits.image is.serves);
           shown = subst (λ (r : List ℕ). Appends a.emitted d.emitted r) (same ∙ is.reply_is ∙ sym (append-nil (steps.reply w piece)))
               (subst (λ (l : Option (List ℕ)). Appends l d.emitted bytes) done.change.emitted all);
           count = count ∙ ap (counted_outcome session.refused) is.outcome_is ∙ counts session.refused (step (state_of w.layout) piece).refused small;
@@ -295,8 +295,8 @@ of_tables [] = refl
 of_tables (t ∷ ts) = ap (λ (ds : List Definition). t.definition ∷ ds) (of_tables ts)
 
 -- the state of the world that a store serves has its definitions and its largest timestamp
-pub state_served : (v : View) (store : StoreInHand) (w : World) → ServesWorld v store w → IsStateOf store.definitions store.max_timestamp (state_of w.layout)
+pub state_served : (v : View) (store : StoreInMemory) (w : World) → ServesWorld v store w → IsStateOf store.definitions store.max_timestamp (state_of w.layout)
 state_served v store w serves = record {
   definitions_are = of_tables w.layout.tables ∙ sym serves.definitions;
-  newest_is = sym serves.timestamp;
+  max_time_is = sym serves.timestamp;
 }

@@ -9,7 +9,7 @@ use Rattle.sasi_host.specs.Disk.{Changes, Same}
 use Rattle.sasi_host.specs.declared.damage.Damage.{Damage}
 use Rattle.sasi_folder.specs.Damages.{FolderShows}
 use Rattle.sasi_folder.specs.Opens.{CanOpen, KeepsPartitioner}
-use Rattle.sasi_folder.specs.Stands.{IsSealed}
+use Rattle.sasi_folder.specs.FolderContents.{IsSealed}
 use Rattle.sasi_layout.specs.Layout.{Layout}
 use Rattle.sasi_layout.specs.Shape.{ShapeOf}
 use Rattle.sasi_layout.specs.Worlds.{ServesWorld, new_world}
@@ -153,7 +153,7 @@ pub record OpenDone (words : List (List ℕ)) (store : StoreView) (a b : View) :
   pub silent : b.emitted ≡ a.emitted
   pub none_out : b.emits ≡ a.emits
   pub opens : (folder : Folder) → a.files ≡ Some folder → CanOpen folder
-  pub serves : (folder : Folder) (l : Layout) → a.files ≡ Some folder → ShapeOf (asked_by words) folder l → ServesWorld b store.hand (new_world l)
+  pub serves : (folder : Folder) (l : Layout) → a.files ≡ Some folder → ShapeOf (asked_by words) folder l → ServesWorld b store.memory (new_world l)
   pub agrees : (folder : Folder) (wanted kept : Partitioner) → a.files ≡ Some folder → asked_by words ≡ Some wanted → KeepsPartitioner folder kept → wanted ≢ kept → ⊥
 
 of_store_used : (status : Status) → IsOfStore status → status ≢ Usage

@@ -14,11 +14,11 @@ use Rattle.sasi_layout.specs.Running as running
 use Rattle.sasi_layout.specs.Running.{IsBusy, IsMoving, IsQuiet, after_pieces, replies_of}
 use Rattle.sasi_layout.specs.Shape.{IsOfShape, StandsSealed}
 use Rattle.sasi_layout.specs.Statements.{moves_asked}
-use Rattle.sasi_layout.specs.Wells.{IsWell}
+use Rattle.sasi_layout.specs.NumbersInOrder.{HasNumbersInOrder}
 use Rattle.sasi_layout.specs.Worlds.{World, steps}
 use Rattle.sasi_layout.proofs.LayoutLaws.{bare_state, moves_state}
 use Rattle.sasi_layout.proofs.StatementLaws.{step_state}
-use Rattle.sasi_run.proofs.Worlds.{replies_are, state_is, well_after}
+use Rattle.sasi_run.proofs.Worlds.{in_order_after, replies_are, state_is}
 
 -- ---- moments by states
 
@@ -104,19 +104,19 @@ either l (Flushes table) done rest parts = kept_either l _ done rest parts (flus
 of_shape : (l : Layout) (folder : Folder) (s : State) → IsOfShape (bare l) folder → state_of l ≡ s → StandsSealed folder s
 of_shape l folder s shape is = record { shape = bare l; has = shape; state_is = sym (bare_state l ∙ is) }
 
-module _ (w : World) (well : IsWell w.layout) (before : List ℕ) (folder : Folder) (out : List ℕ) where
+module _ (w : World) (in_order : HasNumbersInOrder w.layout) (before : List ℕ) (folder : Folder) (out : List ℕ) where
   between : (done : List Piece) → out ≡ before ++ replies_of steps w done → StandsSealed folder (state_after (state_of w.layout) done)
       → IsBetweenPieces (state_of w.layout) before done folder out
-  between done went stands = record { went = went ∙ ap (λ (r : List ℕ). before ++ r) (replies_are done w well); stands = stands }
+  between done went stands = record { went = went ∙ ap (λ (r : List ℕ). before ++ r) (replies_are done w in_order); stands = stands }
 
   quiet : (done : List Piece) → IsQuiet (after_pieces steps w done).layout (before ++ replies_of steps w done) folder out
       → IsBetweenPieces (state_of w.layout) before done folder out
-  quiet done is = between done is.went (of_shape (after_pieces steps w done).layout folder _ is.shape (state_is done w well))
+  quiet done is = between done is.went (of_shape (after_pieces steps w done).layout folder _ is.shape (state_is done w in_order))
 
   module _ (done : List Piece) (piece : Piece) (others rest : List Piece) (next : rest ≡ piece ∷ others) where
     -- the state after the piece
     stepped : state_of (steps.after (after_pieces steps w done) piece).layout ≡ (step (state_after (state_of w.layout) done) piece).state
-    stepped = step_state (after_pieces steps w done) piece (well_after done w well) ∙ ap (λ (s : State). (step s piece).state) (state_is done w well)
+    stepped = step_state (after_pieces steps w done) piece (in_order_after done w in_order) ∙ ap (λ (s : State). (step s piece).state) (state_is done w in_order)
 
     answering : (front back : List ℕ) → steps.reply (after_pieces steps w done) piece ≡ front ++ back → out ≡ (before ++ replies_of steps w done) ++ front
         → IsOfShape (bare (steps.after (after_pieces steps w done) piece).layout) folder → IsAnswering (state_of w.layout) before done rest folder out
@@ -126,8 +126,8 @@ module _ (w : World) (well : IsWell w.layout) (before : List ℕ) (folder : Fold
       next = next;
       front = front;
       back = back;
-      parts = subst (λ (s : State). (step s piece).reply ≡ front ++ back) (state_is done w well) parts;
-      went = went ∙ append_assoc before (replies_of steps w done) front ∙ ap (λ (r : List ℕ). before ++ (r ++ front)) (replies_are done w well);
+      parts = subst (λ (s : State). (step s piece).reply ≡ front ++ back) (state_is done w in_order) parts;
+      went = went ∙ append_assoc before (replies_of steps w done) front ∙ ap (λ (r : List ℕ). before ++ (r ++ front)) (replies_are done w in_order);
       stands = of_shape (steps.after (after_pieces steps w done) piece).layout folder _ shape stepped;
     }
 
@@ -137,7 +137,7 @@ module _ (w : World) (well : IsWell w.layout) (before : List ℕ) (folder : Fold
         let l : Layout = (after_pieces steps w done).layout in
         let b = is.between in
         ⊎_elim
-        (λ early. inl (between done is.went (of_shape (after_moves b.done l) folder _ b.shape (early ∙ state_is done w well))))
+        (λ early. inl (between done is.went (of_shape (after_moves b.done l) folder _ b.shape (early ∙ state_is done w in_order))))
         (λ late. inr (record {
           piece = piece;
           others = others;
@@ -145,7 +145,7 @@ module _ (w : World) (well : IsWell w.layout) (before : List ℕ) (folder : Fold
           front = [];
           back = (step (state_after (state_of w.layout) done) piece).reply;
           parts = refl;
-          went = is.went ∙ ap (λ (r : List ℕ). before ++ r) (replies_are done w well ∙ sym (append-nil (replies (state_of w.layout) done)));
+          went = is.went ∙ ap (λ (r : List ℕ). before ++ r) (replies_are done w in_order ∙ sym (append-nil (replies (state_of w.layout) done)));
           stands = of_shape (after_moves b.done l) folder _ b.shape (late ∙ stepped);
         }))
         (either l _ b.done b.rest b.parts)

@@ -6,7 +6,7 @@ use Rattle.std.specs.Io.KnownBytes.{Consumes, IsAtEnd}
 use Rattle.sasi_host.specs.View.{View}
 use Rattle.sasi_layout.specs.Layout.{state_of}
 use Rattle.sasi_layout.specs.Running.{replies_of}
-use Rattle.sasi_layout.specs.Wells.{IsWell}
+use Rattle.sasi_layout.specs.NumbersInOrder.{HasNumbersInOrder}
 use Rattle.sasi_layout.specs.Worlds.{World, steps}
 use Rattle.sasi_model.specs.Pieces.{Piece, Pieces, pieces, all_pieces}
 use Rattle.sasi_model.specs.Parsers.{grammar_parser}
@@ -90,16 +90,16 @@ without_next script read done next first = record {
   has = first.has;
 }
 
-module _ (w : World) (well : IsWell w.layout) (read : List ℕ) (done next : List Piece) (l l2 : Option (List ℕ)) (a c : View) (consumed : Consumes l l2 read)
+module _ (w : World) (in_order : HasNumbersInOrder w.layout) (read : List ℕ) (done next : List Piece) (l l2 : Option (List ℕ)) (a c : View) (consumed : Consumes l l2 read)
     (bounded : length read ≤ SCRIPT_MOST + READ_MOST) (first : IsFirstPart (script_of l read) read done next) where
   abbrev first_replies : EmitsFirstReplies (exact grammar_parser) (state_of w.layout) (script_of l read) read (replies_of steps w done)
-  first_replies = record { done = done; first = without_next (script_of l read) read done next first; replied = replies_are done w well }
+  first_replies = record { done = done; first = without_next (script_of l read) read done next first; replied = replies_are done w in_order }
 
   crashes : CrashLeavesPieces a c w (done ++ next) → CrashLeavesPieces a c w (all_pieces (script_of l read))
   crashes leaves = widened a c w (done ++ next) first.rest (all_pieces (script_of l read)) first.parts leaves
 
   makes : (others : ℕ) → MakesEmits (emits_in w done + others) a.emits c.emits → MakesEmits (emits_for (state_of w.layout) done + others) a.emits c.emits
-  makes others counted = subst (λ (n : ℕ). MakesEmits (n + others) a.emits c.emits) (emits_are done w well) counted
+  makes others counted = subst (λ (n : ℕ). MakesEmits (n + others) a.emits c.emits) (emits_are done w in_order) counted
 
   -- from a world
   pub stops_world : (stop : Stop) → StoppedPieces stop w done next a c → RunsWorld (status_of_stop stop) w l l2 a c
@@ -132,7 +132,7 @@ module _ (w : World) (well : IsWell w.layout) (read : List ℕ) (done next : Lis
           consumed = consumed;
           emitted = at.2;
           at_end = tt;
-          shows = record { done = done; piece = at.0; first = here; replied = replies_are done w well };
+          shows = record { done = done; piece = at.0; first = here; replied = replies_are done w in_order };
           bounded = bounded;
         };
         crashes = crashes stopped.crashes;
@@ -140,7 +140,7 @@ module _ (w : World) (well : IsWell w.layout) (read : List ℕ) (done next : Lis
         ends = λ is. absurd is;
         emits = record {
           answered = done;
-          by_status = (record { done = done; piece = at.0; first = here; replied = replies_are done w well }, refl);
+          by_status = (record { done = done; piece = at.0; first = here; replied = replies_are done w in_order }, refl);
           emits = makes 0 stopped.emits;
         };
         spends = record { done = done; piece = at.0; first = here; replied = refl; spends = at.3; earlier = stopped.unspent };
@@ -149,7 +149,7 @@ module _ (w : World) (well : IsWell w.layout) (read : List ℕ) (done next : Lis
   stops_world Output stopped =
       let at = stopped.shown in
       let here : IsFirstPart (script_of l read) read done (at.0 ∷ []) = subst (λ (ps : List Piece). IsFirstPart (script_of l read) read done ps) at.3 first in
-      let reply = subst (λ (t : State). (step t at.0).reply ≡ at.1 ++ at.2) (state_is done w well) at.4 in
+      let reply = subst (λ (t : State). (step t at.0).reply ≡ at.1 ++ at.2) (state_is done w in_order) at.4 in
       let cut : EmitsCutReply grammar_parser (exact grammar_parser) (state_of w.layout) (script_of l read) read (replies_of steps w done ++ at.1) = record {
         done = done;
         piece = at.0;
@@ -157,7 +157,7 @@ module _ (w : World) (well : IsWell w.layout) (read : List ℕ) (done next : Lis
         whole = replies_of steps w done;
         front = at.1;
         back = at.2;
-        replied = replies_are done w well;
+        replied = replies_are done w in_order;
         reply = sym reply;
         parts = refl;
       } in

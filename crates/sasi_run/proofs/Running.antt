@@ -12,7 +12,7 @@ use Rattle.sasi_layout.specs.Between.{Between}
 use Rattle.sasi_layout.specs.Layout.{Layout, bare}
 use Rattle.sasi_layout.specs.Moves.{Move, after_moves}
 use Rattle.sasi_layout.specs.Running.{Crashed, IsBusy, IsQuiet, after_pieces, replies_of}
-use Rattle.sasi_layout.specs.Serving.{Serves, StoreInHand}
+use Rattle.sasi_layout.specs.Serving.{Serves, StoreInMemory}
 use Rattle.sasi_layout.specs.Shape.{IsOfShape}
 use Rattle.sasi_layout.specs.Worlds.{World, steps}
 use Rattle.sasi_store.specs.StoreView.{IsReady, StoreView}
@@ -32,32 +32,32 @@ grown (Some o) (Some n) before more is appends =
 -- ---- the store
 
 -- after an emit a store serves the same layout
-pub serves_still : (a b : View) (store : StoreInHand) (l : Layout) → b.files ≡ a.files → ((x : Folder) → b.image x → a.image x) → Serves a store l → Serves b store l
+pub serves_still : (a b : View) (store : StoreInMemory) (l : Layout) → b.files ≡ a.files → ((x : Folder) → b.image x → a.image x) → Serves a store l → Serves b store l
 serves_still a b store l same fewer serves = serves_fewer a b fewer store l (subst (λ (f : Option Folder). IsSome f) (sym same) serves.told) serves
 
 -- and can make a change as before
 pub ready_still : (a b : View) (store : StoreView) → b.files ≡ a.files → ((x : Folder) → b.image x → a.image x) → IsReady a store → IsReady b store
 ready_still a b store same fewer ready = record {
-  hand = record {
-    consistent = ready.hand.consistent;
-    definitions = ready.hand.definitions;
-    tables = ready.hand.tables;
-    numbered = ready.hand.numbered;
-    timestamp = ready.hand.timestamp;
-    log_file = ready.hand.log_file;
-    manifest_room = rw same ready.hand.manifest_room;
-    log_room = rw same ready.hand.log_room;
-    manifest_usable = ready.hand.manifest_usable;
-    stands = λ told. manifest_fewer a b fewer store.hand.manifest.number store.hand.manifest.at store.hand.manifest.listing
-        (ready.hand.stands (subst (λ (f : Option Folder). IsSome f) same told));
-    log_usable = ready.hand.log_usable;
-    kept = rw same ready.hand.kept;
+  memory = record {
+    consistent = ready.memory.consistent;
+    definitions = ready.memory.definitions;
+    tables = ready.memory.tables;
+    numbered = ready.memory.numbered;
+    timestamp = ready.memory.timestamp;
+    log_file = ready.memory.log_file;
+    manifest_room = rw same ready.memory.manifest_room;
+    log_room = rw same ready.memory.log_room;
+    manifest_usable = ready.memory.manifest_usable;
+    stands = λ told. manifest_fewer a b fewer store.memory.manifest.number store.memory.manifest.at store.memory.manifest.listing
+        (ready.memory.stands (subst (λ (f : Option Folder). IsSome f) same told));
+    log_usable = ready.memory.log_usable;
+    kept = rw same ready.memory.kept;
   };
   usable = ready.usable;
 }
 
 -- each image has the shape of the layout that is served
-pub each_of_shape : (v : View) (store : StoreInHand) (l : Layout) → Serves v store l → Each v (IsOfShape (bare l))
+pub each_of_shape : (v : View) (store : StoreInMemory) (l : Layout) → Serves v store l → Each v (IsOfShape (bare l))
 each_of_shape v store l serves x now = (serves.older ++ serves.current ∷ [], serves.shape x now)
 
 -- ---- nothing is done

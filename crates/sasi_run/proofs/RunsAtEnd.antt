@@ -68,7 +68,7 @@ ends_fault from mid l l1 l2 a b n fresh on few kept =
               consumed = consumed;
               emitted = ran.shown;
               at_end = tt;
-              shows = record { whole = replies_are t.done w serves.well ∙ ap (replies (state_of w.layout)) (sym (whole_now from mid on.read fresh t)); short = size };
+              shows = record { whole = replies_are t.done w serves.in_order ∙ ap (replies (state_of w.layout)) (sym (whole_now from mid on.read fresh t)); short = size };
               bounded = omega (arith, size);
             };
             crashes = widened a b w t.done first.0 (all_pieces (script_of l on.read)) first.1 ran.crashes;
@@ -77,7 +77,7 @@ ends_fault from mid l l1 l2 a b n fresh on few kept =
             emits = record {
               answered = t.done;
               by_status = sym (whole_now from mid on.read fresh t);
-              emits = makes_alone _ a.emits b.emits (subst (λ (k : ℕ). MakesEmits k a.emits b.emits) (emits_are t.done w serves.well) ran.emits);
+              emits = makes_alone _ a.emits b.emits (subst (λ (k : ℕ). MakesEmits k a.emits b.emits) (emits_are t.done w serves.in_order) ran.emits);
             };
             spends = tt;
             undamaged = λ damage is. cc;
@@ -107,7 +107,7 @@ ends_script from mid to l l1 l2 a b c n none fresh on few ate empty end fin = re
 
 module _ (from to : Session) (l l2 : Option (List ℕ)) (a b c : View) (fresh : IsAtScriptStart from) (on : RanScript from to l l2 a b)
     (silent : c.emitted ≡ b.emitted) (none_out : c.emits ≡ b.emits)
-    (moments : (w : World) → ServesWorld b to.store.hand w → Changes (λ x y. Between w.layout [] y) b c) where
+    (moments : (w : World) → ServesWorld b to.store.memory w → Changes (λ x y. Between w.layout [] y) b c) where
   -- nothing was emitted since
   appends_on : (shown : List ℕ) → Appends a.emitted b.emitted shown → Appends a.emitted c.emitted shown
   appends_on shown p = subst (λ (o : Option (List ℕ)). Appends a.emitted o shown) (sym silent) p
@@ -116,7 +116,7 @@ module _ (from to : Session) (l l2 : Option (List ℕ)) (a b c : View) (fresh : 
   of_script : (P : List Piece → Type 0) → P (all_pieces on.read) → P (all_pieces (script_of l on.read))
   of_script P p = subst (λ (bytes : List ℕ). P (all_pieces bytes)) (sym (script_whole l l2 on.read on.consumed on.at_end)) p
 
-  module _ (w : World) (serves : ServesWorld a from.store.hand w) where
+  module _ (w : World) (serves : ServesWorld a from.store.memory w) where
     crashes : CrashLeavesPieces a c w (all_pieces on.read)
     crashes =
         let ran = on.ran w serves in
@@ -126,14 +126,14 @@ module _ (from to : Session) (l l2 : Option (List ℕ)) (a b c : View) (fresh : 
     emits_in_all = subst (λ (k : ℕ). MakesEmits (emits_in w (all_pieces on.read)) a.emits k) (sym none_out) (on.ran w serves).emits
 
     emits_all : MakesEmits (emits_for (state_of w.layout) (all_pieces on.read) + 0) a.emits c.emits
-    emits_all = makes_alone _ a.emits c.emits (subst (λ (k : ℕ). MakesEmits k a.emits c.emits) (emits_are (all_pieces on.read) w serves.well) emits_in_all)
+    emits_all = makes_alone _ a.emits c.emits (subst (λ (k : ℕ). MakesEmits k a.emits c.emits) (emits_are (all_pieces on.read) w serves.in_order) emits_in_all)
 
     all_shown : (n : ℕ) → to.refused ≡ n → EmitsAllReplies grammar_parser (exact grammar_parser) (state_of w.layout) on.read (replies_of steps w (all_pieces on.read)) n
     all_shown n is =
         let count : to.refused ≡ counted_by from.refused (refusals_of w (all_pieces on.read)) = (on.ran w serves).count in
-        let by_model : refusals_of w (all_pieces on.read) ≡ refusals (state_of w.layout) (all_pieces on.read) = refusals_are (all_pieces on.read) w serves.well in
+        let by_model : refusals_of w (all_pieces on.read) ≡ refusals (state_of w.layout) (all_pieces on.read) = refusals_are (all_pieces on.read) w serves.in_order in
         record {
-          all = replies_are (all_pieces on.read) w serves.well;
+          all = replies_are (all_pieces on.read) w serves.in_order;
           count = omega (arith, is, count, by_model, fresh.count);
           short = on.short;
         }
@@ -158,7 +158,7 @@ module _ (from to : Session) (l l2 : Option (List ℕ)) (a b c : View) (fresh : 
 
   -- ---- the use of the store was ended
 
-  module _ (ends : (w : World) → ServesWorld b to.store.hand w → Ended c (closed w.layout)) where
+  module _ (ends : (w : World) → ServesWorld b to.store.memory w → Ended c (closed w.layout)) where
     ended_by : (none : Bool) → nat_eq to.refused 0 ≡ none → RunsCrashSafe (cond none Done (Refused to.refused)) from.store l l2 a c
     ended_by true is =
         let zero_is : to.refused ≡ 0 = grind arith in
@@ -220,7 +220,7 @@ module _ (from to : Session) (l l2 : Option (List ℕ)) (a b c : View) (fresh : 
         stop_runs Disk s on.read l l2 a c (all_pieces on.read) [] on.consumed (omega (arith, on.short)) first (record { shown = ran.shown; emitted = appends_on ran.shown ran.emitted; replies = ran.replies });
     from = λ w serves.
         (let ran = on.ran w serves in
-        stops_world w serves.well on.read (all_pieces on.read) [] l l2 a c on.consumed (omega (arith, on.short)) first Disk
+        stops_world w serves.in_order on.read (all_pieces on.read) [] l l2 a c on.consumed (omega (arith, on.short)) first Disk
         (record {
           shown = appends_on _ ran.shown;
           crashes = subst (λ (ps : List Piece). CrashLeavesPieces a c w ps) (sym (append-nil (all_pieces on.read))) (crashes w serves);
@@ -277,7 +277,7 @@ ends_last stop from mid l l1 l2 a b c n none fresh on few ate empty end fails =
           (stopped_behind_but stop s t.done [] last from mid a b c ran (fails.anywhere (state_after s t.done) ran.state)));
       from = λ w serves.
           (let ran = on.feeds.ran w serves in
-          stops_world w serves.well on.read t.done last l l2 a c consumed bounded first stop
+          stops_world w serves.in_order on.read t.done last l l2 a c consumed bounded first stop
           (subst (λ (ps : List Piece). StoppedPieces stop w ps last a c) (append-nil t.done)
           (stopped_behind stop w t.done [] last from mid a b c ran (fails.stopped (after_pieces steps w t.done) ran.serves))));
     }
@@ -321,7 +321,7 @@ ends_long from mid to l l1 l2 a b c n chunk part rest fresh on few ate small par
               consumed = consumed;
               emitted = ran.shown;
               at_end = tt;
-              shows = record { whole = replies_are t.feeds.done w serves.well ∙ ap (replies (state_of w.layout)) (sym whole); long = long };
+              shows = record { whole = replies_are t.feeds.done w serves.in_order ∙ ap (replies (state_of w.layout)) (sym whole); long = long };
               bounded = bounded;
             };
             crashes = widened a c w t.feeds.done _ _ cut ran.crashes;
@@ -330,7 +330,7 @@ ends_long from mid to l l1 l2 a b c n chunk part rest fresh on few ate small par
             emits = record {
               answered = t.feeds.done;
               by_status = sym whole;
-              emits = makes_alone _ a.emits c.emits (subst (λ (k : ℕ). MakesEmits k a.emits c.emits) (emits_are t.feeds.done w serves.well) ran.emits);
+              emits = makes_alone _ a.emits c.emits (subst (λ (k : ℕ). MakesEmits k a.emits c.emits) (emits_are t.feeds.done w serves.in_order) ran.emits);
             };
             spends = tt;
             undamaged = λ damage is. cc;
@@ -369,7 +369,7 @@ ends_within stop from mid l l1 l2 a b c n chunk part rest fresh on few ate small
           (stopped_behind_but stop s t.done u.stops.done u.stops.next from mid a b c ran (u.anywhere (state_after s t.done) ran.state));
       from = λ w serves.
           (let ran = on.feeds.ran w serves in
-          stops_world w serves.well read (t.done ++ u.stops.done) u.stops.next l l2 a c consumed bounded first stop
+          stops_world w serves.in_order read (t.done ++ u.stops.done) u.stops.next l l2 a c consumed bounded first stop
           (stopped_behind stop w t.done u.stops.done u.stops.next from mid a b c ran (u.stopped (after_pieces steps w t.done) ran.serves)));
     }
   where
@@ -388,9 +388,9 @@ pub starts_on : (session : Session) (l : Option (List ℕ)) (a : View) → IsRea
     → ReadsCrashSafe session session l l a a 0
 starts_on session l a ready small = record { read = []; consumed = consumes_nothing l; length_is = refl; feeds = feeds_nothing session a ready small }
 
-pub goes_on : (from mid to : Session) (l l1 l2 : Option (List ℕ)) (a b c : View) (n m : ℕ) (chunk : List ℕ) → ReadsCrashSafe from mid l l1 a b n
+pub safe_behind_chunk : (from mid to : Session) (l l1 l2 : Option (List ℕ)) (a b c : View) (n m : ℕ) (chunk : List ℕ) → ReadsCrashSafe from mid l l1 a b n
     → Consumes l1 l2 chunk → FeedsCrashSafe mid to b c chunk → m ≡ length chunk → ReadsCrashSafe from to l l2 a c (n + m)
-goes_on from mid to l l1 l2 a b c n m chunk on ate more is = record {
+safe_behind_chunk from mid to l l1 l2 a b c n m chunk on ate more is = record {
   read = on.read ++ chunk;
   consumed = consumes_both l l1 l2 on.read chunk on.consumed ate;
   length_is = omega (arith, length-append on.read chunk, on.length_is, is);
@@ -453,9 +453,9 @@ ends_beyond from mid to l l1 l2 a b c n room count fresh on all read more =
     (rw length-drop (omega (arith, read.length_is, more))) read.feeds
 
 -- the run goes on behind a read
-pub goes_on_read : (from mid to : Session) (l l1 l2 : Option (List ℕ)) (a b c : View) (n room count : ℕ) → ReadsCrashSafe from mid l l1 a b n
+pub safe_behind_read : (from mid to : Session) (l l1 l2 : Option (List ℕ)) (a b c : View) (n room count : ℕ) → ReadsCrashSafe from mid l l1 a b n
     → FeedsRead mid to l1 l2 b c room count → count ≤ room → ReadsCrashSafe from to l l2 a c (n + count)
-goes_on_read from mid to l l1 l2 a b c n room count on read fits =
-    goes_on from mid to l l1 l2 a b c n count read.read on read.consumed
+safe_behind_read from mid to l l1 l2 a b c n room count on read fits =
+    safe_behind_chunk from mid to l l1 l2 a b c n count read.read on read.consumed
     (subst (λ (bytes : List ℕ). FeedsCrashSafe mid to b c bytes) (take_all room read.read (omega (arith, read.length_is, fits))) read.feeds)
     (sym read.length_is)

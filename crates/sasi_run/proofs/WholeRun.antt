@@ -13,7 +13,7 @@ use Rattle.sasi_layout.specs.Layout.{Layout, state_of}
 use Rattle.sasi_layout.specs.Running.{Crashed, after_pieces}
 use Rattle.sasi_layout.specs.Serving.{Ended, closed}
 use Rattle.sasi_layout.specs.Shape.{ShapeOf, Stands}
-use Rattle.sasi_layout.specs.Wells.{IsWell}
+use Rattle.sasi_layout.specs.NumbersInOrder.{HasNumbersInOrder}
 use Rattle.sasi_layout.specs.Worlds.{ServesWorld, new_world, steps}
 use Rattle.sasi_layout.proofs.LayoutLaws.{bare_state}
 use Rattle.sasi_model.specs.Pieces.{Piece, all_pieces}
@@ -111,11 +111,11 @@ module _ (asked : Option Partitioner) (a : View) (l : Layout) (starts : StartsFr
           after = inr after.1.2;
         }
 
-    pub recovers : IsWell l → (folder : Folder) (out : List ℕ) → LeavesShape grammar_parser asked a l pieces before folder out
+    pub recovers : HasNumbersInOrder l → (folder : Folder) (out : List ℕ) → LeavesShape grammar_parser asked a l pieces before folder out
         → Recovers Stands grammar_parser asked a (state_of l) pieces before folder out
-    recovers well folder out left = ⊎_elim (recovers_image folder out)
+    recovers in_order folder out left = ⊎_elim (recovers_image folder out)
         (λ crashed.
-        (let was = by_states (new_world l) well before folder out pieces crashed in
+        (let was = by_states (new_world l) in_order before folder out pieces crashed in
         ⊎_elim (λ quiet. from_moment folder out (replies (state_of l) was.done) quiet.went was)
         (λ answering. from_moment folder out (replies (state_of l) was.done ++ answering.front) answering.went was) was.stands))
         left
@@ -248,16 +248,16 @@ moved r status s l l2 o p q same runs = record {
 
 -- it was opened, and the script run
 runs_opened : (asked : Option Partitioner) (status : Status) (a b c : View) (m : Layout) (store : StoreView) (l l2 : Option (List ℕ)) → IsSound a
-    → StartsFromLayout asked a m → Changes (UnchangedOrShaped asked m) a b → ServesWorld b store.hand (new_world m) → IsSound c
+    → StartsFromLayout asked a m → Changes (UnchangedOrShaped asked m) a b → ServesWorld b store.memory (new_world m) → IsSound c
     → RunsWorld status (new_world m) l l2 b c → RunsWhole asked status m l l2 a c
 unfolding moved
 runs_opened asked status a b c m store l l2 sound starts change serves sound_c on = record {
   runs = moved (exact grammar_parser) status (state_of m) l l2 b.emitted a.emitted c.emitted change.emitted on.runs;
-  crash = λ before emitted folder out left. recovers asked a m starts before emitted (all_pieces (script_of l on.runs.read)) serves.well folder out
+  crash = λ before emitted folder out left. recovers asked a m starts before emitted (all_pieces (script_of l on.runs.read)) serves.in_order folder out
       (leaves_run asked a m starts before emitted (all_pieces (script_of l on.runs.read)) b c sound change on.crashes folder out left);
   shapes = λ before emitted folder out left. leaves_run asked a m starts before emitted (all_pieces (script_of l on.runs.read)) b c sound change on.crashes folder out left;
   ends = λ ran. stands_for_end c (after_pieces steps (new_world m) (all_pieces (script_of l on.runs.read))).layout _ sound_c (on.told ran) (on.ends ran)
-      (state_is (all_pieces (script_of l on.runs.read)) (new_world m) serves.well);
+      (state_is (all_pieces (script_of l on.runs.read)) (new_world m) serves.in_order);
 }
 
 -- ---- from each layout
@@ -288,7 +288,7 @@ whole_unopened asked fault script a b sound silent change = record {
 pub whole_opened : (asked : Option Partitioner) (status : Status) (script later : SourceView) (a b c : View) (store : StoreView) (s : State) → IsOfState store s → IsSound a → IsSound c
     → b.emitted ≡ a.emitted
     → ((folder : Folder) (l : Layout) → a.files ≡ Some folder → ShapeOf asked folder l → Changes (UnchangedOrShaped asked l) a b)
-    → ((folder : Folder) (l : Layout) → a.files ≡ Some folder → ShapeOf asked folder l → ServesWorld b store.hand (new_world l))
+    → ((folder : Folder) (l : Layout) → a.files ≡ Some folder → ShapeOf asked folder l → ServesWorld b store.memory (new_world l))
     → RunsCrashSafe status store script.left later.left b c → Whole asked status script later a c
 whole_opened asked status script later a b c store s of sound sound_c silent change opened on = record {
   on_every_host = (s, moved (but_rows grammar_parser) status s script.left later.left b.emitted a.emitted c.emitted silent (on.anywhere s of));

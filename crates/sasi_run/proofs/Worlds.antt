@@ -5,9 +5,9 @@ use Rattle.sasi_model.specs.State.{State}
 use Rattle.sasi_model.specs.Step.{refusals, replies, state_after}
 use Rattle.sasi_layout.specs.Layout.{state_of}
 use Rattle.sasi_layout.specs.Running.{after_pieces, replies_of}
-use Rattle.sasi_layout.specs.Wells.{IsWell}
+use Rattle.sasi_layout.specs.NumbersInOrder.{HasNumbersInOrder}
 use Rattle.sasi_layout.specs.Worlds.{World, steps}
-use Rattle.sasi_layout.proofs.StatementLaws.{step_state, step_well}
+use Rattle.sasi_layout.proofs.StatementLaws.{step_in_order, step_state}
 use Rattle.sasi_run.specs.EmitCounts.{emits_for, emits_in, emits_of}
 use Rattle.sasi_run.specs.Session.{refusals_of, refused_by}
 use Rattle.sasi_run.specs.Spending.{SpendsNone}
@@ -39,30 +39,30 @@ spends_both (x ∷ xs) ys w none later = (none.0, spends_both xs ys (steps.after
 
 -- ---- by the model
 
-pub well_after : (ps : List Piece) (w : World) → IsWell w.layout → IsWell (after_pieces steps w ps).layout
-well_after [] w well = well
-well_after (p ∷ ps) w well = well_after ps (steps.after w p) (step_well w p well)
+pub in_order_after : (ps : List Piece) (w : World) → HasNumbersInOrder w.layout → HasNumbersInOrder (after_pieces steps w ps).layout
+in_order_after [] w in_order = in_order
+in_order_after (p ∷ ps) w in_order = in_order_after ps (steps.after w p) (step_in_order w p in_order)
 
 -- the state after the pieces is that of the model
-pub state_is : (ps : List Piece) (w : World) → IsWell w.layout → state_of (after_pieces steps w ps).layout ≡ state_after (state_of w.layout) ps
-state_is [] w well = refl
-state_is (p ∷ ps) w well = state_is ps (steps.after w p) (step_well w p well) ∙ ap (λ (s : State). state_after s ps) (step_state w p well)
+pub state_is : (ps : List Piece) (w : World) → HasNumbersInOrder w.layout → state_of (after_pieces steps w ps).layout ≡ state_after (state_of w.layout) ps
+state_is [] w in_order = refl
+state_is (p ∷ ps) w in_order = state_is ps (steps.after w p) (step_in_order w p in_order) ∙ ap (λ (s : State). state_after s ps) (step_state w p in_order)
 
 -- and so are their replies
-pub replies_are : (ps : List Piece) (w : World) → IsWell w.layout → replies_of steps w ps ≡ replies (state_of w.layout) ps
-replies_are [] w well = refl
-replies_are (p ∷ ps) w well =
+pub replies_are : (ps : List Piece) (w : World) → HasNumbersInOrder w.layout → replies_of steps w ps ≡ replies (state_of w.layout) ps
+replies_are [] w in_order = refl
+replies_are (p ∷ ps) w in_order =
     ap (λ (l : List ℕ). steps.reply w p ++ l)
-    (replies_are ps (steps.after w p) (step_well w p well) ∙ ap (λ (s : State). replies s ps) (step_state w p well))
+    (replies_are ps (steps.after w p) (step_in_order w p in_order) ∙ ap (λ (s : State). replies s ps) (step_state w p in_order))
 
-pub refusals_are : (ps : List Piece) (w : World) → IsWell w.layout → refusals_of w ps ≡ refusals (state_of w.layout) ps
-refusals_are [] w well = refl
-refusals_are (p ∷ ps) w well =
+pub refusals_are : (ps : List Piece) (w : World) → HasNumbersInOrder w.layout → refusals_of w ps ≡ refusals (state_of w.layout) ps
+refusals_are [] w in_order = refl
+refusals_are (p ∷ ps) w in_order =
     ap (λ (n : ℕ). refused_by w p + n)
-    (refusals_are ps (steps.after w p) (step_well w p well) ∙ ap (λ (s : State). refusals s ps) (step_state w p well))
+    (refusals_are ps (steps.after w p) (step_in_order w p in_order) ∙ ap (λ (s : State). refusals s ps) (step_state w p in_order))
 
-pub emits_are : (ps : List Piece) (w : World) → IsWell w.layout → emits_in w ps ≡ emits_for (state_of w.layout) ps
-emits_are [] w well = refl
-emits_are (p ∷ ps) w well =
+pub emits_are : (ps : List Piece) (w : World) → HasNumbersInOrder w.layout → emits_in w ps ≡ emits_for (state_of w.layout) ps
+emits_are [] w in_order = refl
+emits_are (p ∷ ps) w in_order =
     ap (λ (n : ℕ). emits_of (steps.reply w p) + n)
-    (emits_are ps (steps.after w p) (step_well w p well) ∙ ap (λ (s : State). emits_for s ps) (step_state w p well))
+    (emits_are ps (steps.after w p) (step_in_order w p in_order) ∙ ap (λ (s : State). emits_for s ps) (step_state w p in_order))

@@ -7,7 +7,7 @@ use Rattle.sasi_host.specs.Disk.{Changes, Same}
 use Rattle.sasi_host.specs.Names.{Folder}
 use Rattle.sasi_folder.specs.Damages.{FolderShows}
 use Rattle.sasi_folder.specs.Opens.{CanOpen, KeepsPartitioner}
-use Rattle.sasi_folder.specs.Stands.{IsSealed}
+use Rattle.sasi_folder.specs.FolderContents.{IsSealed}
 use Rattle.sasi_layout.specs.Layout.{Layout, state_of}
 use Rattle.sasi_layout.specs.Shape.{ShapeOf}
 use Rattle.sasi_layout.specs.Worlds.{new_world}

@@ -34,7 +34,7 @@ CrashLeavesPieces a b w pieces = (out : List ℕ) → a.emitted ≡ Some out →
 
 -- the store has the definitions and the largest timestamp of the state
 abbrev pub IsOfState : StoreView → State → Type 0
-IsOfState store s = IsStateOf store.hand.definitions store.hand.max_timestamp s
+IsOfState store s = IsStateOf store.memory.definitions store.memory.max_timestamp s
 
 -- From a state that the store was of these pieces were run: their replies were emitted, but for the rows, and the store is of the state after them.
 pub record RanButRows (s : State) (pieces : List Piece) (old new : Session) (a b : View) : Type 0 where
@@ -61,7 +61,7 @@ pub record StoppedButRows (stop : Stop) (s : State) (done next : List Piece) (a 
 
 -- From a world that the store served these pieces were run: their replies were emitted, and the store serves the world after them.
 pub record RanPieces (w : World) (pieces : List Piece) (old new : Session) (a b : View) : Type 0 where
-  pub serves : ServesWorld b new.store.hand (after_pieces steps w pieces)
+  pub serves : ServesWorld b new.store.memory (after_pieces steps w pieces)
   pub shown : Appends a.emitted b.emitted (replies_of steps w pieces)
   pub count : new.refused ≡ counted_by old.refused (refusals_of w pieces)
   pub crashes : CrashLeavesPieces a b w pieces
@@ -80,31 +80,31 @@ pub record AnswersCrashSafe (old new : Session) (a b : View) (piece : Piece) : T
   pub reading : new.splitter ≡ old.splitter
   pub anywhere : (s : State) → IsOfState old.store s → RanButRows s (piece ∷ []) old new a b
   pub ready : IsReady b new.store
-  pub ran : (w : World) → ServesWorld a old.store.hand w → RanPieces w (piece ∷ []) old new a b
+  pub ran : (w : World) → ServesWorld a old.store.memory w → RanPieces w (piece ∷ []) old new a b
 
 -- it stopped in these pieces
 pub record FailsCrashSafe (stop : Stop) (old : Session) (a b : View) (next : List Piece) : Type 0 where
   pub anywhere : (s : State) → IsOfState old.store s → StoppedButRows stop s [] next a b
-  pub stopped : (w : World) → ServesWorld a old.store.hand w → StoppedPieces stop w [] next a b
+  pub stopped : (w : World) → ServesWorld a old.store.memory w → StoppedPieces stop w [] next a b
 
 -- it was fed these bytes
 pub record FeedsCrashSafe (old new : Session) (a b : View) (bytes : List ℕ) : Type 0 where
   pub feeds : Feeds old new bytes
   pub anywhere : (s : State) → IsOfState old.store s → RanButRows s feeds.done old new a b
   pub ready : IsReady b new.store
-  pub ran : (w : World) → ServesWorld a old.store.hand w → RanPieces w feeds.done old new a b
+  pub ran : (w : World) → ServesWorld a old.store.memory w → RanPieces w feeds.done old new a b
 
 -- it stopped within them
 pub record StopsCrashSafe (stop : Stop) (old : Session) (a b : View) (bytes : List ℕ) : Type 0 where
   pub stops : Stops old bytes
   pub anywhere : (s : State) → IsOfState old.store s → StoppedButRows stop s stops.done stops.next a b
-  pub stopped : (w : World) → ServesWorld a old.store.hand w → StoppedPieces stop w stops.done stops.next a b
+  pub stopped : (w : World) → ServesWorld a old.store.memory w → StoppedPieces stop w stops.done stops.next a b
 
 -- it has run the last piece, if anything was left of one
 pub record FinishesCrashSafe (old new : Session) (a b : View) : Type 0 where
   pub anywhere : (s : State) → IsOfState old.store s → RanButRows s (resume old.splitter []).last old new a b
   pub ready : IsReady b new.store
-  pub ran : (w : World) → ServesWorld a old.store.hand w → RanPieces w (resume old.splitter []).last old new a b
+  pub ran : (w : World) → ServesWorld a old.store.memory w → RanPieces w (resume old.splitter []).last old new a b
 
 -- so many bytes were read and fed to the session
 pub record ReadsCrashSafe (from to : Session) (left_old left_new : Option (List ℕ)) (a b : View) (count : ℕ) : Type 0 where
@@ -151,7 +151,7 @@ pub record RanScript (from to : Session) (left_old left_new : Option (List ℕ))
   pub at_end : IsAtEnd left_new
   pub anywhere : (s : State) → IsOfState from.store s → RanButRows s (all_pieces read) from to a b
   pub ready : IsReady b to.store
-  pub ran : (w : World) → ServesWorld a from.store.hand w → RanPieces w (all_pieces read) from to a b
+  pub ran : (w : World) → ServesWorld a from.store.memory w → RanPieces w (all_pieces read) from to a b
 
 -- From a world that the store served the run showed what its status says, by so many emits, and a crash meanwhile leaves no more than the pieces of the script do.
 pub record RunsWorld (status : Status) (w : World) (left_old left_new : Option (List ℕ)) (a b : View) : Type 0 where
@@ -166,4 +166,4 @@ pub record RunsWorld (status : Status) (w : World) (left_old left_new : Option (
 -- the run of a store from each state that it was of, and from each world that it served
 pub record RunsCrashSafe (status : Status) (store : StoreView) (left_old left_new : Option (List ℕ)) (a b : View) : Type 0 where
   pub anywhere : (s : State) → IsOfState store s → Runs grammar_parser (but_rows grammar_parser) status s left_old left_new a.emitted b.emitted
-  pub from : (w : World) → ServesWorld a store.hand w → RunsWorld status w left_old left_new a b
+  pub from : (w : World) → ServesWorld a store.memory w → RunsWorld status w left_old left_new a b

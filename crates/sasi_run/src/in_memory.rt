@@ -1,6 +1,6 @@
 // A run over memory.
 ghost use Rattle.std.specs.Prelude.{◌≡◌, ◌≤◌, length, map, string_bytes};
-ghost use Rattle.sasi_host.specs.Memory.{host_view, seen, source_view};
+ghost use Rattle.sasi_host.specs.Memory.{host_view, memory_host, source_view};
 ghost use Rattle.sasi_host.specs.View.{Rose};
 ghost use Rattle.sasi_run.specs.CommandLine.{IsCommandLine, asked_by};
 ghost use Rattle.sasi_run.specs.Causes.{RanThrough, RunCauses};
@@ -24,11 +24,11 @@ pub fn run_in_memory(
     host: &mut MemHost,
     analyzers: Vec<Box<dyn Analyzer>>,
 ) -> Status
-    ensures headline { Headline Stands (asked_by (map (λ w. string_bytes w) words.now)) result (source_view script.old) (source_view script.new) (host_view (seen host.old)) (host_view (seen host.new)) }
-    ensures shapes { Shapes (asked_by (map (λ w. string_bytes w) words.now)) result (source_view script.old) (source_view script.new) (host_view (seen host.old)) (host_view (seen host.new)) }
-    ensures causes { RunCauses (map (λ w. string_bytes w) words.now) result (source_view script.old) (source_view script.new) (host_view (seen host.old)) (host_view (seen host.new)) }
+    ensures headline { Headline Stands (asked_by (map (λ w. string_bytes w) words.now)) result (source_view script.old) (source_view script.new) (host_view (memory_host host.old)) (host_view (memory_host host.new)) }
+    ensures shapes { Shapes (asked_by (map (λ w. string_bytes w) words.now)) result (source_view script.old) (source_view script.new) (host_view (memory_host host.old)) (host_view (memory_host host.new)) }
+    ensures causes { RunCauses (map (λ w. string_bytes w) words.now) result (source_view script.old) (source_view script.new) (host_view (memory_host host.old)) (host_view (memory_host host.new)) }
     ensures untouched { result ≡ Status.Usage → (script.new ≡ script.old) × (host.new ≡ host.old) }
-    ensures through { IsCommandLine (map (λ w. string_bytes w) words.now) → FailsNowhere script.old (seen host.old) → ¬ (Rose (seen host.old).refused (seen host.new).refused) → length script.old.left ≤ SCRIPT_MOST → RanThrough result }
+    ensures through { IsCommandLine (map (λ w. string_bytes w) words.now) → FailsNowhere script.old (memory_host host.old) → ¬ (Rose (memory_host host.old).refused (memory_host host.new).refused) → length script.old.left ≤ SCRIPT_MOST → RanThrough result }
 {
     run(alloc, words, script, host, analyzers)
 }

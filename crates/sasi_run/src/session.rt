@@ -100,7 +100,7 @@ pub fn answer<H: Host>(session: &mut Session, host: &mut H, end: PieceEnd) -> Re
     requires ready { IsReady (H.view host.old) session.old.store }
     ensures ok { OnOk result (AnswersCrashSafe session.old session.new (H.view host.old) (H.view host.new) (piece_of end session.old.splitter.text)) }
     ensures err { IfErr result (λ stop. FailsCrashSafe stop session.old (H.view host.old) (H.view host.new) (piece_of end session.old.splitter.text ∷ [])) }
-    ensures spared { (w : World) → ServesWorld (H.view host.old) session.old.store.hand w → NeedsNoFile (state_of w.layout) (piece_of end session.old.splitter.text) → (H.view host.new).calls ≡ (H.view host.old).calls }
+    ensures no_file_call { (w : World) → ServesWorld (H.view host.old) session.old.store.memory w → NeedsNoFile (state_of w.layout) (piece_of end session.old.splitter.text) → (H.view host.new).calls ≡ (H.view host.old).calls }
     ensures causes { Faults (H.view host.old) (H.view host.new) result }
     ensures told { FailsOnlyAsTold (H.view host.old) (H.view host.new) }
 {

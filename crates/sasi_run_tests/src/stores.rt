@@ -1,5 +1,5 @@
 // What a store says of its steps.
-ghost use Rattle.sasi_host.specs.Memory.{host_view, seen};
+ghost use Rattle.sasi_host.specs.Memory.{host_view, memory_host};
 ghost use Rattle.sasi_store.specs.StoreView.{IsReady};
 
 use sasi_host::MemHost;
@@ -12,7 +12,7 @@ use std::process::Abort;
 /// Opens the store of a new folder, whose host fails from the second statement on: thirteen calls make the folder, and a
 /// table is recorded by four.
 fn opened(rt: &impl Abort, alloc: Global, host: &mut MemHost) -> Store
-    ensures { IsReady (host_view (seen host.new)) result }
+    ensures { IsReady (host_view (memory_host host.new)) result }
 {
     host.stop_after(17);
     match Store::open(alloc, host, None) {
@@ -23,7 +23,7 @@ fn opened(rt: &impl Abort, alloc: Global, host: &mut MemHost) -> Store
 
 /// A store counts a step that succeeds, and one that fails, and is then unusable.
 fn check_steps(rt: &impl Abort, host: &mut MemHost, store: &mut Store, reply: &mut Reply)
-    requires { IsReady (host_view (seen host.old)) store.old }
+    requires { IsReady (host_view (memory_host host.old)) store.old }
 {
     assert!(rt; store.steps() == 0 && store.is_usable());
     let create = b"CREATE TABLE t (k int PRIMARY KEY);";

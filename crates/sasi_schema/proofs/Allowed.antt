@@ -4,7 +4,7 @@ use Rattle.std.proofs.lemmas.List.{length-map}
 use Rattle.std.proofs.lemmas.Bool.Decides.{nat_tests}
 use Rattle.sasi_model.specs.State.{Column, Definition}
 use Rattle.sasi_model.specs.Refusals.{create_rules, repeat_rules, names_in}
-use Rattle.sasi_model.specs.Abbreviations.{first_of, KeyMissing, TooManyTables, TooManyColumns, TABLE_LIMIT, COLUMN_LIMIT, key_position}
+use Rattle.sasi_model.specs.Abbreviations.{first_refusal, KeyMissing, TooManyTables, TooManyColumns, TABLE_LIMIT, COLUMN_LIMIT, key_position}
 use Rattle.sasi_model.specs.Step.{primary_key}
 use Rattle.sasi_schema.specs.declared.table.Table.{Table}
 use Rattle.sasi_schema.proofs.RuleLaws.{none_first, none_parts}
@@ -26,7 +26,7 @@ below a b above = grind (arith, nat_tests)
 at_most : (a b : ℕ) → nat_lt a b ≡ false → b ≤ a
 at_most a b above = grind (arith, nat_tests)
 
-pub allowed : (tables : List Definition) (table : List ℕ) (columns : List Column) (keys : List (List ℕ)) → first_of (create_rules tables table columns keys) ≡ None → IsAllowed tables columns keys
+pub allowed : (tables : List Definition) (table : List ℕ) (columns : List Column) (keys : List (List ℕ)) → first_refusal (create_rules tables table columns keys) ≡ None → IsAllowed tables columns keys
 allowed tables table columns keys none =
     let counts = count_rules tables table columns keys in
     let find_table = none_parts (name_rules tables table) (key_rules columns keys ++ (repeat_rules [] (names_in columns) ++ counts)) none in

@@ -10,16 +10,16 @@ use Rattle.std.proofs.lemmas.Map.Text.{is_eq-slice_cmp}
 use Rattle.sasi_types.specs.Key.{key_cmp}
 use Rattle.sasi_model.specs.Statements.{same}
 use Rattle.sasi_model.specs.Refusals.{repeat_rules}
-use Rattle.sasi_model.specs.Abbreviations.{first_of, ColumnRepeated}
+use Rattle.sasi_model.specs.Abbreviations.{first_refusal, ColumnRepeated}
 
 -- a name that doesn't stand before
 pub repeat_past : (names : List (List ℕ)) (i : ℕ) (name : List ℕ) → i < length names → name ≡ get_or names i name → list_any (same name) (take i names) ≡ false
-    → first_of (repeat_rules (take i names) (drop i names)) ≡ first_of (repeat_rules (take (i + 1) names) (drop (i + 1) names))
+    → first_refusal (repeat_rules (take i names) (drop i names)) ≡ first_refusal (repeat_rules (take (i + 1) names) (drop (i + 1) names))
 repeat_past names i name inside is new = rw (add-one, take-suc names i name inside, drop-cons names i name inside, ← is, new) refl
 
 -- one that does
 pub repeat_here : (names : List (List ℕ)) (i : ℕ) (name : List ℕ) → i < length names → name ≡ get_or names i name → list_any (same name) (take i names) ≡ true
-    → first_of (repeat_rules (take i names) (drop i names)) ≡ Some (ColumnRepeated name)
+    → first_refusal (repeat_rules (take i names) (drop i names)) ≡ Some (ColumnRepeated name)
 repeat_here names i name inside is there = rw (drop-cons names i name inside, ← is, there) refl
 
 -- the order has two names equal exactly where they are the same

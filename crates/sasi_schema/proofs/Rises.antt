@@ -7,7 +7,7 @@ use Rattle.sasi_model.specs.State.{definition_of}
 use Rattle.sasi_schema.specs.declared.table.Table.{Table}
 use Rattle.sasi_schema.specs.Defined.{definition, definitions}
 use Rattle.sasi_schema.specs.Numbers.{number_of_table, RisesFrom}
-use Rattle.sasi_schema.proofs.Positions.{from_place, from_more}
+use Rattle.sasi_schema.proofs.Positions.{from_position, from_more}
 
 -- the number at a position
 pub rises_at : (n : ℕ) (tables : List Table) (i : ℕ) (t : Table) → RisesFrom n (map (λ t. t.number) tables) → i < length tables → t ≡ get_or tables i t → t.number ≡ n + i
@@ -26,7 +26,7 @@ pub named_past : (name : List ℕ) (tables : List Table) (i : ℕ) (t : Table) �
 named_past name tables i t inside is other = rw (add-one, drop-cons tables i t inside, ← is, other) refl
 
 pub number_past : (name : List ℕ) (tables : List Table) (i : ℕ) (t : Table) → i < length tables → t ≡ get_or tables i t → same t.name name ≡ false
-    → from_place i (number_of_table name (definitions (drop i tables))) ≡ from_place (i + 1) (number_of_table name (definitions (drop (i + 1) tables)))
+    → from_position i (number_of_table name (definitions (drop i tables))) ≡ from_position (i + 1) (number_of_table name (definitions (drop (i + 1) tables)))
 number_past name tables i t inside is other = rw (add-one, drop-cons tables i t inside, ← is, other) (from_more i (number_of_table name (definitions (drop (suc i) tables))))
 
 -- the table of the name is found
@@ -35,12 +35,12 @@ pub named_here : (name : List ℕ) (tables : List Table) (i : ℕ) (t : Table) �
 named_here name tables i t inside is found = rw (drop-cons tables i t inside, ← is, found) refl
 
 pub number_here : (name : List ℕ) (tables : List Table) (i : ℕ) (t : Table) → i < length tables → t ≡ get_or tables i t → same t.name name ≡ true
-    → from_place i (number_of_table name (definitions (drop i tables))) ≡ Some (i + 1)
+    → from_position i (number_of_table name (definitions (drop i tables))) ≡ Some (i + 1)
 number_here name tables i t inside is found = rw (drop-cons tables i t inside, ← is, found) refl
 
 -- the number of the table that was found
 pub number_told : (name : List ℕ) (tables : List Table) (i : ℕ) (t : Table) → i < length tables → t ≡ get_or tables i t → same t.name name ≡ true
-    → number_of_table name (definitions tables) ≡ from_place i (number_of_table name (definitions (drop i tables))) → RisesFrom 1 (map (λ t. t.number) tables)
+    → number_of_table name (definitions tables) ≡ from_position i (number_of_table name (definitions (drop i tables))) → RisesFrom 1 (map (λ t. t.number) tables)
     → Some t.number ≡ number_of_table name (definitions tables)
 number_told name tables i t inside is found passed rises =
     ap Some (rises_at 1 tables i t rises inside is ∙ omega arith) ∙ sym (passed ∙ number_here name tables i t inside is found)

@@ -2,7 +2,7 @@
 ghost use Rattle.std.specs.Prelude.{◌≡◌, [], IfOk, map};
 ghost use Rattle.std.specs.Option.{option_map};
 ghost use Rattle.sasi_model.specs.Refusals.{repeat_rules};
-ghost use Rattle.sasi_model.specs.Abbreviations.{first_of, ColumnRepeated};
+ghost use Rattle.sasi_model.specs.Abbreviations.{first_refusal, ColumnRepeated};
 
 use sasi_types::Name;
 use std::alloc::{AllocError, Global};
@@ -10,7 +10,7 @@ use std::collections::BTreeSet;
 
 /// The first name that repeats an earlier one.
 pub fn repeated_name(alloc: Global, names: &[Name]) -> Result<Option<Name>, AllocError>
-    ensures { IfOk result (λ name. first_of (repeat_rules [] names.now) ≡ option_map ColumnRepeated name) }
+    ensures { IfOk result (λ name. first_refusal (repeat_rules [] names.now) ≡ option_map ColumnRepeated name) }
 {
     let mut seen = BTreeSet::new(alloc);
     for name in names {
@@ -23,7 +23,7 @@ pub fn repeated_name(alloc: Global, names: &[Name]) -> Result<Option<Name>, Allo
 
 /// The first name of a column that repeats an earlier column's.
 pub fn repeated_column<T>(alloc: Global, columns: &[(Name, T)]) -> Result<Option<Name>, AllocError>
-    ensures { IfOk result (λ name. first_of (repeat_rules [] (map (λ column. column.0) columns.now)) ≡ option_map ColumnRepeated name) }
+    ensures { IfOk result (λ name. first_refusal (repeat_rules [] (map (λ column. column.0) columns.now)) ≡ option_map ColumnRepeated name) }
 {
     let mut seen = BTreeSet::new(alloc);
     for column in columns {

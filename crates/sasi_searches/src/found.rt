@@ -1,6 +1,6 @@
 // What a search of an index file gives.
 ghost use Rattle.std.specs.Prelude.{IfOk, OnOk};
-ghost use Rattle.sasi_host.specs.Memory.{host_view, seen};
+ghost use Rattle.sasi_host.specs.Memory.{host_view, memory_host};
 ghost use Rattle.sasi_searches.specs.Searching.{IsSearchOf};
 
 use crate::asked::Asked;
@@ -19,7 +19,7 @@ const FILE: FileName = FileName {
 
 // A search of the file.
 fn search(alloc: Global, host: &mut MemHost, asked: &Asked) -> Result<Search, ReadFault>
-    ensures { IfOk result (λ search. IsSearchOf FILE (host_view (seen host.new)) search) }
+    ensures { IfOk result (λ search. IsSearchOf FILE (host_view (memory_host host.new)) search) }
 {
     if host.bytes(FILE).is_none() {
         return Err(ReadFault::Failed);
@@ -31,8 +31,8 @@ fn search(alloc: Global, host: &mut MemHost, asked: &Asked) -> Result<Search, Re
 
 // The next pair of a search.
 fn next(host: &mut MemHost, found: &mut Search) -> Result<Option<Pair>, ReadFault>
-    requires { IsSearchOf FILE (host_view (seen host.old)) found.old }
-    ensures { OnOk result (IsSearchOf FILE (host_view (seen host.new)) found.new) }
+    requires { IsSearchOf FILE (host_view (memory_host host.old)) found.old }
+    ensures { OnOk result (IsSearchOf FILE (host_view (memory_host host.new)) found.new) }
 {
     if host.bytes(FILE).is_none() {
         return Err(ReadFault::Failed);
@@ -54,7 +54,7 @@ fn collect(
     found: Search,
     text: &mut String,
 ) -> Result<(), ReadFault>
-    requires { IsSearchOf FILE (host_view (seen host.old)) found }
+    requires { IsSearchOf FILE (host_view (memory_host host.old)) found }
 {
     let mut found = found;
     for _turn in 0..u64::MAX {

@@ -13,7 +13,7 @@ use Rattle.sasi_manifest.specs.declared.files.ListedFile.{ListedFile}
 use Rattle.sasi_merge.specs.Merging.{Head, has_key}
 use Rattle.sasi_merge.specs.Streams.{Entries}
 use Rattle.sasi_store.specs.declared.source.Source.{Source}
-use Rattle.sasi_store.specs.Sources.{AreMoved, CanStep, IsListed, IsMovedAt, NoFalseSourceDamage, ShowsListed, ShowsSource, StepsTo, goes, stays}
+use Rattle.sasi_store.specs.Sources.{AreMoved, CanStep, IsListedSource, IsMovedAt, NoFalseSourceDamage, ShowsListed, ShowsSource, StepsTo, advances, stays}
 use Rattle.sasi_store.specs.Left.{AreLeft}
 use Rattle.sasi_store.proofs.Costs.{reads_same}
 use Rattle.sasi_store.proofs.Moves.{all_at, as_many_heads, as_many_sources, got, left_at, moved_can, moved_left, moved_listed, moved_more, set_itself, some_left}
@@ -26,7 +26,7 @@ some_at (x ∷ xs) (suc n) inside = some_at xs n (omega arith)
 
 -- ---- one position
 
--- the source at a position has the key, and goes on
+-- the source at a position has the key, and advances
 pub goes_at : (seen : Option Folder) (key : DecoratedKey) (at : ℕ) (heads : List Head) (sources : List Source) (nexts : List Head) (afters : List Source) (head : Head) (source : Source) (next : Head) (after : Source) → at < length heads → at < length sources → head ≡ get_or heads at head → source ≡ get_or sources at source → has_key key head ≡ true → StepsTo seen source next after → nexts ≡ set heads at next → afters ≡ set sources at after → IsMovedAt seen key at heads sources nexts afters
 goes_at seen key at heads sources nexts afters head source next after in_heads in_sources head_is source_is has steps heads_are sources_are = record {
   head = head;
@@ -35,7 +35,7 @@ goes_at seen key at heads sources nexts afters head source next after in_heads i
   after = after;
   had = got heads at head in_heads head_is;
   was = got sources at source in_sources source_is;
-  moved = goes has steps;
+  moved = advances has steps;
   heads_are = heads_are;
   sources_are = sources_are;
 }
@@ -80,16 +80,16 @@ module _ (v w : View) (key : DecoratedKey) (at : ℕ) (heads : List Head) (sourc
       (subst (λ (o : Option Folder). IsMovedAt o key at nexts afters heads_new sources_new) (reads_same v w change) next))
 
   -- damage is that of a listed file
-  pub moving_shown : (files : List ListedFile) (types : List ColumnType) (f : ReadFault) → at < length sources → ((source : Source) → slice_get afters at ≡ Some source → ShowsSource w.files source f) → AllByRecursion (IsListed v.files files types) sources → OnDamage (ShowsListed v.files files types) f
+  pub moving_shown : (files : List ListedFile) (types : List ColumnType) (f : ReadFault) → at < length sources → ((source : Source) → slice_get afters at ≡ Some source → ShowsSource w.files source f) → AllByRecursion (IsListedSource v.files files types) sources → OnDamage (ShowsListed v.files files types) f
   moving_shown files types f inside shown listed =
       let one = some_at afters at (at_source inside) in
       source_shown v.files files types one.0 f
-      (all_at (IsListed v.files files types) afters at one.0 (moved_listed v.files key files types at heads sources nexts afters moved listed) one.1)
+      (all_at (IsListedSource v.files files types) afters at one.0 (moved_listed v.files key files types at heads sources nexts afters moved listed) one.1)
       (subst (λ (o : Option Folder). ShowsSource o one.0 f) (reads_same v w change) (shown one.0 one.1))
 
   -- and there is none where the sources have partitions left
-  pub moving_spares : (p : Partitioner) (lefts : List Entries) (f : ReadFault) → at < length sources → ((source : Source) → slice_get afters at ≡ Some source → NoFalseSourceDamage w.files source f) → AreLeft v.files p heads sources lefts → OnDamage (λ _. ⊥) f
-  moving_spares p lefts f inside spared are =
+  pub no_false_moving : (p : Partitioner) (lefts : List Entries) (f : ReadFault) → at < length sources → ((source : Source) → slice_get afters at ≡ Some source → NoFalseSourceDamage w.files source f) → AreLeft v.files p heads sources lefts → OnDamage (λ _. ⊥) f
+  no_false_moving p lefts f inside no_false are =
       let one = some_at afters at (at_source inside) in
       left_at v.files p nexts afters (some_left v.files key at lefts) at one.0 f (moved_left v.files key p at heads sources nexts afters lefts moved are) one.1
-      (subst (λ (o : Option Folder). NoFalseSourceDamage o one.0 f) (reads_same v w change) (spared one.0 one.1))
+      (subst (λ (o : Option Folder). NoFalseSourceDamage o one.0 f) (reads_same v w change) (no_false one.0 one.1))

@@ -13,7 +13,7 @@ use Rattle.sasi_layout.proofs.Trails.{moves_early, moves_none, moves_on}
 use Rattle.sasi_layout.specs.Between.{Between}
 use Rattle.sasi_layout.specs.Layout.{Layout, TableParts, unflushed}
 use Rattle.sasi_layout.specs.Moves.{Flush, Move, Put, after_moves, after_put}
-use Rattle.sasi_layout.specs.Serving.{IsReady, Serves, StoreInHand, TableInHand, table_in_hand}
+use Rattle.sasi_layout.specs.Serving.{CanChange, Serves, StoreInMemory, TableInMemory, table_in_memory}
 use Rattle.sasi_layout.specs.Spent.{spent}
 use Rattle.sasi_layout.specs.Statements.{are_full, flush_where, numbered, tests_unflushed}
 use Rattle.sasi_layout.specs.declared.number_kind.NumberKind.{NumberKind}
@@ -25,7 +25,7 @@ use Rattle.sasi_store.specs.MakesMoves.{MakesMoves, MovesOf}
 use Rattle.sasi_store.specs.declared.fault.StepFault.{StepFault}
 use Rattle.sasi_store.specs.declared.fault.StepFault.TheVariants as fault
 use Rattle.sasi_store.proofs.MoveCauses.{any_change, none_made}
-use Rattle.sasi_store.proofs.TablesInHand.{seen_as}
+use Rattle.sasi_store.proofs.TablesInMemory.{seen_as}
 
 -- ---- a mutation, and moves after it
 
@@ -51,7 +51,7 @@ module _ (m : Mutation) (more : MovesOf) where
   both l = Put m ∷ more (after_put m l)
 
   -- the mutation wasn't put
-  pub put_alone : {T : Type 0} (a b : View) (old new : StoreInHand) (e : StepFault) → MakesMoves {T = T} (λ l. Put m ∷ []) a b old new (Err e) → {U : Type 0} → MakesMoves {T = U} both a b old new (Err e)
+  pub put_alone : {T : Type 0} (a b : View) (old new : StoreInMemory) (e : StepFault) → MakesMoves {T = T} (λ l. Put m ∷ []) a b old new (Err e) → {U : Type 0} → MakesMoves {T = U} both a b old new (Err e)
   put_alone a b old new e first = record {
     any_moment = λ l serves. moves_early l a b (Put m ∷ []) (more (after_put m l)) (first.any_moment l serves);
     serves = tt;
@@ -71,7 +71,7 @@ module _ (m : Mutation) (more : MovesOf) where
       by (fault.NumbersSpent kind) is = λ l serves. absurd (none_spent kind (is l serves))
 
   -- it was, and these moves come after it
-  pub put_then : {T U : Type 0} (x : T) (a b c : View) (old mid new : StoreInHand) (result : Result U StepFault) → MakesMoves {T = T} (λ l. Put m ∷ []) a b old mid (Ok x) → MakesMoves more b c mid new result → MakesMoves both a c old new result
+  pub put_then : {T U : Type 0} (x : T) (a b c : View) (old mid new : StoreInMemory) (result : Result U StepFault) → MakesMoves {T = T} (λ l. Put m ∷ []) a b old mid (Ok x) → MakesMoves more b c mid new result → MakesMoves both a c old new result
   put_then x a b c old mid new result first second = record {
     any_moment = λ l serves. moves_on l a b c (Put m ∷ []) (more (after_put m l)) (first.any_moment l serves) (second.any_moment (after_put m l) (first.serves l serves));
     serves = by_ok result (λ all l serves. all (after_put m l) (first.serves l serves)) second.serves;
@@ -115,14 +115,14 @@ numbered_at number xs x some there =
     let e : 1 + (number - 1) ≡ number = omega (arith, some) in
     ap (λ (k : ℕ). numbered 1 k xs) (sym e) ∙ numbered_behind 1 (number - 1) xs x there
 
-module _ (test : List Partitions → Bool) (table : ℕ) (v : View) (store : StoreInHand) (h : TableInHand) (some : 0 < table) (there : slice_get store.tables (table - 1) ≡ Some h) (idle : h.frozen ≡ []) where
+module _ (test : List Partitions → Bool) (table : ℕ) (v : View) (store : StoreInMemory) (h : TableInMemory) (some : 0 < table) (there : slice_get store.tables (table - 1) ≡ Some h) (idle : h.frozen ≡ []) where
   -- the test of the layout is that of the store
   pub tests_are : (l : Layout) → Serves v store l → tests_unflushed test table l ≡ test (h.memtable ∷ [])
   tests_are l serves =
-      let t = seen_as table_in_hand l.tables (table - 1) h (ap (λ (ts : List TableInHand). slice_get ts (table - 1)) (sym serves.tables) ∙ there) in
-      let frozen : t.0.frozen ≡ [] = ap (λ (k : TableInHand). k.frozen) t.2 ∙ idle in
+      let t = seen_as table_in_memory l.tables (table - 1) h (ap (λ (ts : List TableInMemory). slice_get ts (table - 1)) (sym serves.tables) ∙ there) in
+      let frozen : t.0.frozen ≡ [] = ap (λ (k : TableInMemory). k.frozen) t.2 ∙ idle in
       ap (λ (o : Option TableParts). option_map_or (λ t. test (unflushed t)) o false) (numbered_at table l.tables t.0 some t.1)
-      ∙ ap (λ (k : List Partitions). test (k ++ t.0.memtable ∷ [])) frozen ∙ ap (λ (k : TableInHand). test (k.memtable ∷ [])) t.2
+      ∙ ap (λ (k : List Partitions). test (k ++ t.0.memtable ∷ [])) frozen ∙ ap (λ (k : TableInMemory). test (k.memtable ∷ [])) t.2
 
   moves_where : (b : Bool) → test (h.memtable ∷ []) ≡ b → (l : Layout) → Serves v store l → flush_where test table l ≡ cond b (Flush table ∷ []) []
   moves_where b is l serves = ap (λ t. cond t (Flush table ∷ []) []) (tests_are l serves ∙ is)
@@ -131,7 +131,7 @@ module _ (test : List Partitions → Bool) (table : ℕ) (v : View) (store : Sto
   done = Ok tt
 
   -- it doesn't pass: no move
-  pub passes_not : IsSound v → IsReady v store → test (h.memtable ∷ []) ≡ false → MakesMoves (flush_where test table) v v store store done
+  pub passes_not : IsSound v → CanChange v store → test (h.memtable ∷ []) ≡ false → MakesMoves (flush_where test table) v v store store done
   passes_not sound ready is = record {
     any_moment = λ l serves. moves_none l v (flush_where test table l) sound (λ x now. (_, serves.shape x now));
     serves = λ l serves. subst (λ (ms : List Move). Serves v store (after_moves ms l)) (sym (moves_where false is l serves)) serves;
@@ -145,7 +145,7 @@ module _ (test : List Partitions → Bool) (table : ℕ) (v : View) (store : Sto
   }
 
   -- it does: a flush
-  pub passes : {T : Type 0} (b : View) (new : StoreInHand) (result : Result T StepFault) → test (h.memtable ∷ []) ≡ true → MakesMoves (λ l. Flush table ∷ []) v b store new result → MakesMoves (flush_where test table) v b store new result
+  pub passes : {T : Type 0} (b : View) (new : StoreInMemory) (result : Result T StepFault) → test (h.memtable ∷ []) ≡ true → MakesMoves (λ l. Flush table ∷ []) v b store new result → MakesMoves (flush_where test table) v b store new result
   passes b new result is makes = record {
     any_moment = λ l serves. subst (λ (ms : List Move). Changes (λ x y. Between l ms y) v b) (sym (moves_where true is l serves)) (makes.any_moment l serves);
     serves = by_ok result (λ all l serves. subst (λ (ms : List Move). Serves b new (after_moves ms l)) (sym (moves_where true is l serves)) (all l serves)) makes.serves;

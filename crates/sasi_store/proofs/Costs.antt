@@ -5,7 +5,7 @@ use Rattle.sasi_host.specs.declared.damage.Damage.{Damage}
 use Rattle.sasi_host.specs.declared.fault.ReadFault.{ReadFault}
 use Rattle.sasi_host.specs.declared.fault.ReadFault.TheVariants as fault
 use Rattle.sasi_host.specs.Names.{Folder}
-use Rattle.sasi_host.specs.View.{ReadsAtMost, View}
+use Rattle.sasi_host.specs.View.{ReadCost, View}
 use Rattle.sasi_host.specs.Disk.{Changes, Same}
 use Rattle.sasi_host.specs.Damages.{OnDamage}
 use Rattle.sasi_host.proofs.FailingLaws.{failed_behind}
@@ -22,7 +22,7 @@ reads_same a b change = by a.files refl
 -- ---- causes
 
 -- so many reads at most fail as reads do
-pub of_reads : {T : Type 0} (most : _) (a b : View) (result : Result T ReadFault) → ReadsAtMost most a b result → ScanCauses a b result
+pub of_reads : {T : Type 0} (most : _) (a b : View) (result : Result T ReadFault) → ReadCost most a b result → ScanCauses a b result
 of_reads most a b (Ok x) one = record { disk = one.disk; out = one.out; ok = one.ok; failed = tt; other = tt }
 of_reads most a b (Err f) one = record { disk = one.disk; out = one.out; ok = tt; failed = one.failed; other = λ works. by f works one.memory one.damaged }
   where

@@ -14,15 +14,15 @@ use Rattle.sasi_layout.proofs.LayoutLaws.{create_state}
 use Rattle.sasi_layout.proofs.ListingLaws.{create_is_next}
 use Rattle.sasi_layout.proofs.Storable.{none_storable}
 use Rattle.sasi_layout.proofs.Trails.{create_each, create_moves}
-use Rattle.sasi_layout.proofs.WellMoves.{moved_well}
+use Rattle.sasi_layout.proofs.MovesInOrder.{moved_in_order}
 use Rattle.sasi_layout.specs.Between.{Between}
 use Rattle.sasi_layout.specs.Kept.{HasKept, has_data, has_segment, is_kept}
 use Rattle.sasi_layout.specs.Layout.{Layout, TableParts, listing_of, state_of}
 use Rattle.sasi_layout.specs.Moves.{Create, after_create, create_edits, new_parts}
-use Rattle.sasi_layout.specs.Serving.{IsReady, IsTyped, Serves, StoreInHand, TableInHand, kept_by, table_in_hand}
-use Rattle.sasi_layout.specs.Wells.{IsWellTable}
+use Rattle.sasi_layout.specs.Serving.{CanChange, IsTyped, Serves, StoreInMemory, TableInMemory, kept_by, table_in_memory}
+use Rattle.sasi_layout.specs.NumbersInOrder.{HasFilesInOrder}
 use Rattle.sasi_machine.proofs.TableColumns.{small}
-use Rattle.sasi_machine.proofs.MaxTimestamps.{greatest_push, nothing_held}
+use Rattle.sasi_machine.proofs.MaxTimestamps.{max_timestamp_push, nothing_held}
 use Rattle.sasi_manifest.proofs.Consistency.{record_consistent}
 use Rattle.sasi_manifest.specs.declared.edit.Edit.{Edit}
 use Rattle.sasi_manifest.specs.declared.edit.Edit.TheVariants.{CreateTable}
@@ -46,22 +46,22 @@ use Rattle.sasi_store.specs.Writable.{IsCreatable}
 use Rattle.sasi_store.proofs.MoveCauses.{IsPlain, any_change, plain_undamaged, plain_unspent}
 use Rattle.sasi_layout.proofs.KeptLaws.{keeps_manifest}
 use Rattle.sasi_store.proofs.Frames.{changed_kept, end_other, reached_there}
-use Rattle.sasi_store.proofs.TablesInHand.{all_push, ready_push}
+use Rattle.sasi_store.proofs.TablesInMemory.{all_push, ready_push}
 
 -- the edit that lists the table
 abbrev pub edit_of : Table → ℕ → Edit
 edit_of t since = CreateTable t.number t.name t.columns t.key since
 
-abbrev pub edits_for : StoreInHand → Table → List Edit
+abbrev pub edits_for : StoreInMemory → Table → List Edit
 edits_for store t = edit_of t store.manifest.listing.last ∷ []
 
 -- the table in memory, with nothing in it
-abbrev pub nothing_held_yet : TableInHand
+abbrev pub nothing_held_yet : TableInMemory
 nothing_held_yet = record { first = None; frozen = []; memtable = map_.empty }
 
 -- the store after it, whose manifest goes on from there
-abbrev pub hand_after_create : Table → ManifestState → StoreInHand → StoreInHand
-hand_after_create t manifest store = record store { definitions = store.definitions ++ definition t ∷ []; manifest = manifest; tables = store.tables ++ nothing_held_yet ∷ [] }
+abbrev pub memory_after_create : Table → ManifestState → StoreInMemory → StoreInMemory
+memory_after_create t manifest store = record store { definitions = store.definitions ++ definition t ∷ []; manifest = manifest; tables = store.tables ++ nothing_held_yet ∷ [] }
 
 one_listing : (x y : Listing) → Some x ≡ Some y → x ≡ y
 one_listing x y e = cc
@@ -72,13 +72,13 @@ next_same former es x y first second = one_listing x y (first ∙ sym second)
 
 pub new_timestamp : (s : State) (d : Definition) → max_timestamp (with_new_table s d) ≡ max_timestamp s
 unfolding max_timestamp
-new_timestamp s d = greatest_push s.tables (empty_table d) nothing_held
+new_timestamp s d = max_timestamp_push s.tables (empty_table d) nothing_held
 
 any_push : {A : Type 0} (P : A → Bool) (xs : List A) (y : A) → P y ≡ false → list_any P (xs ++ y ∷ []) ≡ list_any P xs
 any_push P [] y none = ap (λ b. b || false) none
 any_push P (x ∷ xs) y none = ap (λ b. P x || b) (any_push P xs y none)
 
-module _ (a b : View) (sound : IsSound a) (store : StoreInHand) (t : Table) (ready : IsReady a store) (creatable : IsCreatable store t) where
+module _ (a b : View) (sound : IsSound a) (store : StoreInMemory) (t : Table) (ready : CanChange a store) (creatable : IsCreatable store t) where
   abbrev listing : Listing
   listing = store.manifest.listing
 
@@ -111,7 +111,7 @@ module _ (a b : View) (sound : IsSound a) (store : StoreInHand) (t : Table) (rea
   -- **The store serves the layout after it.**
   pub create_serves : (new : ManifestState) → Changes (FileChange (manifest_name store.manifest.number) AnyChange) a b → new.number ≡ store.manifest.number → IsNext listing (edits_for store t) new.listing
       → (ManifestStands a store.manifest.number store.manifest.at listing → ManifestStands b store.manifest.number new.at new.listing)
-      → (l : Layout) → Serves a store l → Serves b (hand_after_create t new store) (after_create (definition t) l)
+      → (l : Layout) → Serves a store l → Serves b (memory_after_create t new store) (after_create (definition t) l)
   create_serves new change number is stands l serves =
       let d = definition t in
       let next = listing_of (after_create d l) in
@@ -120,9 +120,9 @@ module _ (a b : View) (sound : IsSound a) (store : StoreInHand) (t : Table) (rea
       let end : ManifestStands b l.used.manifest new.at next = subst (λ (n : ℕ). ManifestStands b n new.at next) serves.manifest (subst (ManifestStands b store.manifest.number new.at) listed (stands (stands_in l serves))) in
       record {
         told = told_after (FileChange (manifest_name store.manifest.number) AnyChange) a b change serves.told;
-        well = moved_well (Create d) l serves.well;
+        in_order = moved_in_order (Create d) l serves.in_order;
         definitions = ap (λ (ds : List Definition). ds ++ d ∷ []) serves.definitions ∙ sym (map-append (λ (t : TableParts). t.definition) l.tables (new_parts d l.last ∷ []));
-        tables = ap (λ (ts : List TableInHand). ts ++ nothing_held_yet ∷ []) serves.tables ∙ sym (map-append table_in_hand l.tables (new_parts d l.last ∷ []));
+        tables = ap (λ (ts : List TableInMemory). ts ++ nothing_held_yet ∷ []) serves.tables ∙ sym (map-append table_in_memory l.tables (new_parts d l.last ∷ []));
         used = serves.used;
         timestamp = serves.timestamp ∙ sym (ap max_timestamp (create_state d l) ∙ new_timestamp (state_of l) d);
         listing = listed;
@@ -143,7 +143,7 @@ module _ (a b : View) (sound : IsSound a) (store : StoreInHand) (t : Table) (rea
   -- **It is ready after it.**
   pub create_ready : (new : ManifestState) → Changes (FileChange (manifest_name store.manifest.number) AnyChange) a b → new.number ≡ store.manifest.number → IsNext listing (edits_for store t) new.listing
       → (ManifestStands a store.manifest.number store.manifest.at listing → ManifestStands b store.manifest.number new.at new.listing)
-      → Reaches b (manifest_name new.number) (new.at + 1) → IsTrue new.usable → IsReady b (hand_after_create t new store)
+      → Reaches b (manifest_name new.number) (new.at + 1) → IsTrue new.usable → CanChange b (memory_after_create t new store)
   create_ready new change number is stands room usable =
       let d = definition t in
       let listed = listed_after new.listing is in
@@ -157,7 +157,7 @@ module _ (a b : View) (sound : IsSound a) (store : StoreInHand) (t : Table) (rea
         numbered = record {
           manifest_is = ready.numbered.manifest_is ∙ sym number;
           log_is = ready.numbered.log_is ∙ sym listed.2;
-          files = rw (listed.2, listed.3) (all_push (IsWellTable store.used.file listing.last) listing.tables row ready.numbered.files (record { rise = omega arith; since = omega arith }));
+          files = rw (listed.2, listed.3) (all_push (HasFilesInOrder store.used.«data» listing.last) listing.tables row ready.numbered.files (record { rise = omega arith; since = omega arith }));
           fits = ready.numbered.fits;
         };
         timestamp = ready.timestamp;
@@ -189,11 +189,11 @@ module _ (a b : View) (sound : IsSound a) (store : StoreInHand) (t : Table) (rea
           → new.listing.tables ≡ listing.tables ++ record { definition = definition t; since = listing.last; files = [] } ∷ [] → (folder : Folder) → HasKept (kept_by store) folder → HasKept (record { manifest = new.number; listing = new.listing }) folder
       kept_same new number floor last tables folder has name = has name ∙ sym (same_kept new name number floor last tables)
 
-module _ (a b : View) (sound : IsSound a) (store : StoreInHand) (t : Table) (ready : IsReady a store) (creatable : IsCreatable store t) where
+module _ (a b : View) (sound : IsSound a) (store : StoreInMemory) (t : Table) (ready : CanChange a store) (creatable : IsCreatable store t) where
   abbrev pub Moments : Type 0
   Moments = (next : Listing) → IsNext store.manifest.listing (edits_for store t) next → ManifestStands a store.manifest.number store.manifest.at store.manifest.listing → Changes (FileChange (manifest_name store.manifest.number) (LeftWith (IsEither store.manifest.number store.manifest.listing next))) a b
 
-  pub create_stopped : {T : Type 0} (new : StoreInHand) (e : StepFault) → Moments → Changes (FileChange (manifest_name store.manifest.number) AnyChange) a b → b.reads ≡ a.reads → IsPlain e → StepCauses {T = T} a b (Err e) → MakesMoves {T = T} (λ l. Create (definition t) ∷ []) a b store new (Err e)
+  pub create_stopped : {T : Type 0} (new : StoreInMemory) (e : StepFault) → Moments → Changes (FileChange (manifest_name store.manifest.number) AnyChange) a b → b.reads ≡ a.reads → IsPlain e → StepCauses {T = T} a b (Err e) → MakesMoves {T = T} (λ l. Create (definition t) ∷ []) a b store new (Err e)
   create_stopped new e moments change reads plain causes = record {
     any_moment = create_moment a b sound store t ready creatable moments;
     serves = tt;
@@ -208,7 +208,7 @@ module _ (a b : View) (sound : IsSound a) (store : StoreInHand) (t : Table) (rea
 
   pub create_made : {T : Type 0} (x : T) (new : ManifestState) → Moments → Changes (FileChange (manifest_name store.manifest.number) AnyChange) a b → new.number ≡ store.manifest.number → IsNext store.manifest.listing (edits_for store t) new.listing
       → (ManifestStands a store.manifest.number store.manifest.at store.manifest.listing → ManifestStands b store.manifest.number new.at new.listing)
-      → Reaches b (manifest_name new.number) (new.at + 1) → IsTrue new.usable → b.reads ≡ a.reads → StepCauses {T = T} a b (Ok x) → MakesMoves {T = T} (λ l. Create (definition t) ∷ []) a b store (hand_after_create t new store) (Ok x)
+      → Reaches b (manifest_name new.number) (new.at + 1) → IsTrue new.usable → b.reads ≡ a.reads → StepCauses {T = T} a b (Ok x) → MakesMoves {T = T} (λ l. Create (definition t) ∷ []) a b store (memory_after_create t new store) (Ok x)
   create_made x new moments change number is stands room usable reads causes = record {
     any_moment = create_moment a b sound store t ready creatable moments;
     serves = create_serves a b sound store t ready creatable new change number is stands;

@@ -2,11 +2,11 @@
 use Rattle.std.proofs.Common.{◌≡◌, ℕ, suc, ◌+◌, ◌<◌, ◌≤◌, true, false, cond, nat_eq, List, [], ◌∷◌, length, map, drop, get_or, Option, None, Some, refl, sym, ap, subst, ◌∙◌, arith}
 use Rattle.std.proofs.lemmas.List.{drop_all, drop_more}
 use Rattle.sasi_layout.specs.Moves.{lesser}
-use Rattle.sasi_layout.specs.Serving.{TableInHand}
-use Rattle.sasi_recover.specs.OpenedFolder.{table_in_hand}
+use Rattle.sasi_layout.specs.Serving.{TableInMemory}
+use Rattle.sasi_recover.specs.OpenedFolder.{opened_table}
 use Rattle.sasi_recover.specs.declared.opened.TableMap.{TableMap}
 use Rattle.sasi_schema.specs.Numbers.{RisesFrom}
-use Rattle.sasi_store.specs.Floors.{floor_in_hand, lowered}
+use Rattle.sasi_store.specs.Floors.{floor_in_memory, lowered}
 
 lesser_swap : (a b : Option ℕ) (n : ℕ) → lesser a (lesser b n) ≡ lesser b (lesser a n)
 lesser_swap None b n = refl
@@ -14,13 +14,13 @@ lesser_swap (Some x) None n = refl
 lesser_swap (Some x) (Some y) n = omega arith
 
 -- the last segment may be lowered first
-floor_lowered : (n table last : ℕ) (first : Option ℕ) (ts : List TableInHand) → floor_in_hand n table (lesser first last) ts ≡ lesser first (floor_in_hand n table last ts)
+floor_lowered : (n table last : ℕ) (first : Option ℕ) (ts : List TableInMemory) → floor_in_memory n table (lesser first last) ts ≡ lesser first (floor_in_memory n table last ts)
 floor_lowered n table last first [] = refl
 floor_lowered n table last first (t ∷ ts) =
     let rest = floor_lowered (suc n) table last first ts in
-    elim (nat_eq n table) as (λ b. cond b (floor_in_hand (suc n) table (lesser first last) ts) (lesser t.first (floor_in_hand (suc n) table (lesser first last) ts)) ≡ lesser first (cond b (floor_in_hand (suc n) table last ts) (lesser t.first (floor_in_hand (suc n) table last ts)))) [
+    elim (nat_eq n table) as (λ b. cond b (floor_in_memory (suc n) table (lesser first last) ts) (lesser t.first (floor_in_memory (suc n) table (lesser first last) ts)) ≡ lesser first (cond b (floor_in_memory (suc n) table last ts) (lesser t.first (floor_in_memory (suc n) table last ts)))) [
       | true ↦ rest
-      | false ↦ ap (lesser t.first) rest ∙ lesser_swap t.first first (floor_in_hand (suc n) table last ts)
+      | false ↦ ap (lesser t.first) rest ∙ lesser_swap t.first first (floor_in_memory (suc n) table last ts)
     ]
 
 abbrev numbers_in : List TableMap → List ℕ
@@ -29,7 +29,7 @@ numbers_in tables = map (λ (t : TableMap). t.number) tables
 -- the floor so far is that of the whole for the tables that are left
 pub record IsLowering (floor table last : ℕ) (tables : List TableMap) (index : ℕ) : Type 0 where
   pub numbers : RisesFrom (suc index) (map (λ (t : TableMap). t.number) (drop index tables))
-  pub floor_is : floor_in_hand (suc index) table floor (map table_in_hand (drop index tables)) ≡ floor_in_hand 1 table last (map table_in_hand tables)
+  pub floor_is : floor_in_memory (suc index) table floor (map opened_table (drop index tables)) ≡ floor_in_memory 1 table last (map opened_table tables)
 
 pub lowering_first : (table last : ℕ) (tables : List TableMap) → RisesFrom 1 (map (λ (t : TableMap). t.number) tables) → IsLowering last table last tables 0
 lowering_first table last tables numbers = record { numbers = numbers; floor_is = refl }
@@ -41,12 +41,12 @@ module _ (floor table last : ℕ) (tables : List TableMap) (index : ℕ) (t : Ta
   numbers_split : RisesFrom (suc index) (numbers_in (t ∷ drop (index + 1) tables))
   numbers_split = subst (λ l. RisesFrom (suc index) (numbers_in l)) split on.numbers
 
-  abbrev left : List TableInHand
-  left = map table_in_hand (drop (index + 1) tables)
+  abbrev left : List TableInMemory
+  left = map opened_table (drop (index + 1) tables)
 
-  lowered_is : floor_in_hand (suc (suc index)) table (lowered table floor (suc index) t.first) left ≡ floor_in_hand (suc index) table floor (table_in_hand t ∷ left)
+  lowered_is : floor_in_memory (suc (suc index)) table (lowered table floor (suc index) t.first) left ≡ floor_in_memory (suc index) table floor (opened_table t ∷ left)
   lowered_is =
-      elim (nat_eq (suc index) table) as (λ b. floor_in_hand (suc (suc index)) table (cond b floor (lesser t.first floor)) left ≡ cond b (floor_in_hand (suc (suc index)) table floor left) (lesser t.first (floor_in_hand (suc (suc index)) table floor left))) [
+      elim (nat_eq (suc index) table) as (λ b. floor_in_memory (suc (suc index)) table (cond b floor (lesser t.first floor)) left ≡ cond b (floor_in_memory (suc (suc index)) table floor left) (lesser t.first (floor_in_memory (suc (suc index)) table floor left))) [
         | true ↦ refl
         | false ↦ floor_lowered (suc (suc index)) table floor t.first left
       ]
@@ -55,14 +55,14 @@ module _ (floor table last : ℕ) (tables : List TableMap) (index : ℕ) (t : Ta
   lowering_more later became =
       let next : suc (suc index) ≡ suc (index + 1) = omega arith in
       let number : lowered table floor t.number t.first ≡ lowered table floor (suc index) t.first = ap (λ (n : ℕ). lowered table floor n t.first) numbers_split.0 in
-      let before : floor_in_hand (suc index) table floor (table_in_hand t ∷ left) ≡ floor_in_hand 1 table last (map table_in_hand tables) =
-      subst (λ (l : List TableMap). floor_in_hand (suc index) table floor (map table_in_hand l) ≡ floor_in_hand 1 table last (map table_in_hand tables)) split on.floor_is in
+      let before : floor_in_memory (suc index) table floor (opened_table t ∷ left) ≡ floor_in_memory 1 table last (map opened_table tables) =
+      subst (λ (l : List TableMap). floor_in_memory (suc index) table floor (map opened_table l) ≡ floor_in_memory 1 table last (map opened_table tables)) split on.floor_is in
       record {
         numbers = subst (λ (n : ℕ). RisesFrom n (numbers_in (drop (index + 1) tables))) next numbers_split.1;
-        floor_is = ap (λ (n : ℕ). floor_in_hand n table later left) (sym next) ∙ ap (λ (k : ℕ). floor_in_hand (suc (suc index)) table k left) (became ∙ number) ∙ lowered_is ∙ before;
+        floor_is = ap (λ (n : ℕ). floor_in_memory n table later left) (sym next) ∙ ap (λ (k : ℕ). floor_in_memory (suc (suc index)) table k left) (became ∙ number) ∙ lowered_is ∙ before;
       }
 
-pub lowering_done : (floor table last : ℕ) (tables : List TableMap) (index : ℕ) → IsLowering floor table last tables index → length tables ≤ index → floor ≡ floor_in_hand 1 table last (map table_in_hand tables)
+pub lowering_done : (floor table last : ℕ) (tables : List TableMap) (index : ℕ) → IsLowering floor table last tables index → length tables ≤ index → floor ≡ floor_in_memory 1 table last (map opened_table tables)
 lowering_done floor table last tables index on past =
     let end : drop index tables ≡ [] = drop_all index tables (omega (arith, past)) in
-    subst (λ (l : List TableMap). floor_in_hand (suc index) table floor (map table_in_hand l) ≡ floor_in_hand 1 table last (map table_in_hand tables)) end on.floor_is
+    subst (λ (l : List TableMap). floor_in_memory (suc index) table floor (map opened_table l) ≡ floor_in_memory 1 table last (map opened_table tables)) end on.floor_is

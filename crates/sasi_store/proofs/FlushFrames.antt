@@ -16,7 +16,7 @@ use Rattle.sasi_manifest.proofs.Laws.{manifest_stays}
 use Rattle.sasi_folder.proofs.FolderLaws.{kinds_apart, numbers_apart}
 use Rattle.sasi_layout.specs.Layout.{File, Layout, TableParts, bare, bare_table, listed_of}
 use Rattle.sasi_layout.specs.Frames.{AgreeOn}
-use Rattle.sasi_layout.specs.Wells.{IsWell, IsWellTable, Rising}
+use Rattle.sasi_layout.specs.NumbersInOrder.{HasFilesInOrder, HasNumbersInOrder, Rising}
 use Rattle.sasi_layout.proofs.ListingLaws.{rising_bound}
 use Rattle.sasi_layout.proofs.Agreeing.{agree_deleted}
 use Rattle.sasi_store.specs.declared.flush.FlushNumbers.{FlushNumbers}
@@ -49,18 +49,18 @@ module _ (n : FlushNumbers) (x y : Folder) (made : MakesFiles n x y) where
     files_unmade high is f.listed.number fs rise.1,
   )
 
-  tables_unmade : (high last : ℕ) → n.file ≡ suc high → (ts : List TableParts) → AllByRecursion (IsWellTable high last) (map listed_of ts)
+  tables_unmade : (high last : ℕ) → n.file ≡ suc high → (ts : List TableParts) → AllByRecursion (HasFilesInOrder high last) (map listed_of ts)
       → AllByRecursion (λ (t : TableParts). AllByRecursion (λ (f : File). get y (data_name f.listed.number) ≡ get x (data_name f.listed.number)) t.files) (map bare_table ts)
-  tables_unmade high last is [] well = tt
-  tables_unmade high last is (t ∷ ts) well = (files_unmade high is 0 t.files well.0.rise, tables_unmade high last is ts well.1)
+  tables_unmade high last is [] in_order = tt
+  tables_unmade high last is (t ∷ ts) in_order = (files_unmade high is 0 t.files in_order.0.rise, tables_unmade high last is ts in_order.1)
 
   -- nothing that the layout lists changes while they are made
-  pub agree_made : (l : Layout) → IsWell l → n.file ≡ suc l.used.file → n.last ≡ suc l.last → AgreeOn (bare l) x y
-  agree_made l well file last = record {
+  pub agree_made : (l : Layout) → HasNumbersInOrder l → n.file ≡ suc l.used.«data» → n.last ≡ suc l.last → AgreeOn (bare l) x y
+  agree_made l in_order file last = record {
     seals = λ other. made (seal_name other) (kinds_apart _ _ (omega arith)) (kinds_apart _ _ (omega arith));
     manifest = manifest_unmade l.used.manifest;
     logs = λ segment above below. made (log_name segment) (kinds_apart _ _ (omega arith)) (numbers_apart _ _ (omega (arith, last, below)));
-    files = tables_unmade l.used.file l.last file l.tables well;
+    files = tables_unmade l.used.«data» l.last file l.tables in_order;
   }
 
 -- ---- the segments that are deleted

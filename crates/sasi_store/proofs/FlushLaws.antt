@@ -22,7 +22,7 @@ use Rattle.sasi_manifest.specs.OpenManifest.{IsEither, ManifestState, ManifestSt
 use Rattle.sasi_memtable.specs.MemtableView.{MemtableView}
 use Rattle.sasi_folder.proofs.FolderLaws.{kinds_apart}
 use Rattle.sasi_layout.specs.Layout.{Layout, TableParts, listing_of, unflushed}
-use Rattle.sasi_layout.specs.Moves.{Flush, after_flush, flush_edits, new_file}
+use Rattle.sasi_layout.specs.Moves.{Flush, after_flush, flush_edits, new_listed_file}
 use Rattle.sasi_layout.specs.Between.{Between, Makes}
 use Rattle.sasi_layout.specs.Flushed.{HasNew, IsWritten, ListsEither, contents_of, logs_after}
 use Rattle.sasi_layout.proofs.ListingLaws.{flush_is_next}
@@ -46,20 +46,20 @@ module _ (l : Layout) (logs : List (List Mutation)) (a : View) (manifest : Manif
   flush_none = makes_early l [] (Flush n.table ∷ []) logs a a begun
 
   files_made : (b : View) → Changes (MakesFiles n) a b → Makes l [] logs a b
-  files_made b made = makes_still l [] logs (MakesFiles n) a a b sound_a begun made (λ x y step. agree_made n x y step l is.well is.file is.last)
+  files_made b made = makes_still l [] logs (MakesFiles n) a a b sound_a begun made (λ x y step. agree_made n x y step l is.in_order is.file is.last)
 
   -- while the new files are made
   pub flush_made : (b : View) → Changes (MakesFiles n) a b → Changes (λ x y. Between l (Flush n.table ∷ []) y) a b
   flush_made b made = makes_early l [] (Flush n.table ∷ []) logs a b (files_made b made)
 
   edits_are : edit_of n ∷ [] ≡ flush_edits n.table l
-  edits_are = let file = is.file in let last = is.last in let floor = is.floor in λ i. Replace n.table [] (new_file (file i) ∷ []) (last i) (floor i) (last i) ∷ []
+  edits_are = let file = is.file in let last = is.last in let floor = is.floor in λ i. Replace n.table [] (new_listed_file (file i) ∷ []) (last i) (floor i) (last i) ∷ []
 
   -- what the manifest lists afterwards
   next_is : IsNext manifest.listing (edit_of n ∷ []) (listing_of (after_flush n.table l))
   next_is =
       let next = listing_of (after_flush n.table l) in
-      subst (λ (e : Listing). IsNext e (edit_of n ∷ []) next) (sym is.listing) (subst (λ (es : List Edit). IsNext (listing_of l) es next) (sym edits_are) (flush_is_next n.table l is.well))
+      subst (λ (e : Listing). IsNext e (edit_of n ∷ []) next) (sym is.listing) (subst (λ (es : List Edit). IsNext (listing_of l) es next) (sym edits_are) (flush_is_next n.table l is.in_order))
 
   listing_after : (next : Listing) → IsNext manifest.listing (edit_of n ∷ []) next → next ≡ listing_of (after_flush n.table l)
   listing_after next made = let e : Some next ≡ Some (listing_of (after_flush n.table l)) = made ∙ sym next_is in cc
@@ -71,7 +71,7 @@ module _ (l : Layout) (logs : List (List Mutation)) (a : View) (manifest : Manif
     bytes : Bytes
     bytes = data_bytes l.partitioner (contents_of memtable.partitions)
 
-    file_there : IsFileDurable b (data_name (suc l.used.file)) bytes
+    file_there : IsFileDurable b (data_name (suc l.used.«data»)) bytes
     unfolding bytes
     file_there =
         subst (λ number. IsFileDurable b (data_name number) (data_bytes l.partitioner (contents_of memtable.partitions))) is.file
@@ -88,7 +88,7 @@ module _ (l : Layout) (logs : List (List Mutation)) (a : View) (manifest : Manif
 
     new_files : Each b (HasNew n.table l)
     new_files x now =
-        let fits : length bytes ≤ 2 ^ 62 = sound_b.fits (data_name (suc l.used.file)) bytes (file_durable_contents b (data_name (suc l.used.file)) bytes sound_b (sound_b.told x now) file_there) in
+        let fits : length bytes ≤ 2 ^ 62 = sound_b.fits (data_name (suc l.used.«data»)) bytes (file_durable_contents b (data_name (suc l.used.«data»)) bytes sound_b (sound_b.told x now) file_there) in
         new_each l n.table at b (flushed_each l n.table bytes b is.storable written file_there fits) (subst (λ number. IsAtLogEnd b (log_name number) at []) is.last end) x now
 
     stands_made : ManifestStands b manifest.number manifest.at manifest.listing

@@ -14,7 +14,7 @@ use Rattle.sasi_manifest.specs.Edits.{Applies, encoded}
 use Rattle.sasi_manifest.proofs.Applying.{applies_replace}
 use Rattle.sasi_manifest.proofs.EditBytes.{edit_bytes, encoded_length, replace_length}
 use Rattle.sasi_folder.proofs.FolderLaws.{kinds_apart, numbers_apart}
-use Rattle.sasi_layout.specs.Moves.{new_file}
+use Rattle.sasi_layout.specs.Moves.{new_listed_file}
 use Rattle.sasi_pairs.specs.SealedFiles.{AddOnly}
 use Rattle.sasi_store.specs.declared.flush.FlushNumbers.{FlushNumbers}
 use Rattle.sasi_store.specs.Flushing.{AreAbsent, AreThere, DeletesSegments, HasFlushedFiles, MakesFiles, edit_of}
@@ -44,7 +44,7 @@ still_durable n b c bytes change durable = file_durable_other b c (log_name n.la
 -- ---- the record
 
 -- it adds the file, and no other one
-pub adds_file : (n : FlushNumbers) (sealed : ListedFile) (edits : List Edit) → sealed ≡ new_file n.file → edits ≡ edit_of n ∷ [] → AddOnly sealed edits
+pub adds_file : (n : FlushNumbers) (sealed : ListedFile) (edits : List Edit) → sealed ≡ new_listed_file n.file → edits ≡ edit_of n ∷ [] → AddOnly sealed edits
 adds_file n sealed edits sealed_is is = subst (λ (es : List Edit). AddOnly sealed es) (sym is) (subst (λ (f : ListedFile). AddOnly f (edit_of n ∷ [])) (sym sealed_is) refl)
 
 -- and is short
@@ -53,7 +53,7 @@ record_short n = omega (
   arith,
   encoded_length (edit_of n ∷ []),
   ap length (append-nil (edit_bytes (edit_of n))),
-  replace_length n.table [] (new_file n.file ∷ []) n.last n.floor n.last,
+  replace_length n.table [] (new_listed_file n.file ∷ []) n.last n.floor n.last,
 )
 
 -- the manifest reaches as far as before
@@ -65,7 +65,7 @@ room_unmade n a b number at change room =
 
 -- the floor is no later than the new segment
 pub floor_within : (listing : Listing) (n : FlushNumbers) → Applies (Some listing) (edit_of n) → n.floor ≤ n.last
-floor_within listing n applies = (applies_replace listing n.table [] (new_file n.file ∷ []) n.last n.floor n.last applies).floor_within
+floor_within listing n applies = (applies_replace listing n.table [] (new_listed_file n.file ∷ []) n.last n.floor n.last applies).floor_within
 
 -- the segments that are to be deleted are still there
 pub former_there : (n : FlushNumbers) (manifest first floor : ℕ) (a b c : View) → floor ≡ first → n.floor ≤ n.last → Changes (MakesFiles n) a b → Changes (FileChange (manifest_name manifest) AnyChange) b c → AreThere a first n.floor → AreThere c floor n.floor

@@ -13,9 +13,9 @@ use Rattle.sasi_host.specs.View.{IsSound, ListCauses, Reaches, View}
 use Rattle.sasi_layout.specs.Between.{Between}
 use Rattle.sasi_layout.specs.Layout.{Layout, Used}
 use Rattle.sasi_layout.specs.Moves.{Flush}
-use Rattle.sasi_layout.specs.Serving.{IsReady, Serves, StoreInHand, TableInHand}
+use Rattle.sasi_layout.specs.Serving.{CanChange, Serves, StoreInMemory, TableInMemory}
 use Rattle.sasi_layout.specs.Spent.{first_spent, spent}
-use Rattle.sasi_layout.specs.Statements.{hold_any}
+use Rattle.sasi_layout.specs.Statements.{any_partition}
 use Rattle.sasi_layout.specs.declared.number_kind.NumberKind.{NumberKind}
 use Rattle.sasi_layout.specs.declared.number_kind.NumberKind.TheVariants as kinds
 use Rattle.sasi_manifest.specs.Format.{IsNext}
@@ -23,24 +23,24 @@ use Rattle.sasi_manifest.specs.Listings.{at_number}
 use Rattle.sasi_manifest.specs.OpenManifest.{ManifestState, ManifestStands}
 use Rattle.sasi_memtable.specs.MemtableView.{MemtableView}
 use Rattle.sasi_model.specs.Abbreviations.{Partitions}
-use Rattle.sasi_recover.specs.OpenedFolder.{table_in_hand, used_numbers}
+use Rattle.sasi_recover.specs.OpenedFolder.{opened_table, used_numbers}
 use Rattle.sasi_recover.specs.declared.opened.Numbers.{Numbers}
 use Rattle.sasi_recover.specs.declared.opened.TableMap.{TableMap}
 use Rattle.sasi_schema.specs.Numbers.{RisesFrom}
 use Rattle.sasi_types.specs.declared.partitioner.Partitioner.{Partitioner}
 use Rattle.sasi_store.specs.Faults.{fault_of_call}
-use Rattle.sasi_store.specs.Floors.{HoldsAny, floor_in_hand, flushed_in_hand, hand_after_flush}
+use Rattle.sasi_store.specs.Floors.{IsUnflushed, floor_in_memory, flushed_in_memory, memory_after_flush}
 use Rattle.sasi_store.specs.Flushing.{CanFlush, ChangesInFlush, HasFlushedFiles, IsFlushOf, IsFlushed, edit_of}
 use Rattle.sasi_store.specs.MakesMoves.{MakesMoves}
 use Rattle.sasi_store.specs.Numbers.{AreNext, AreSpent}
 use Rattle.sasi_store.specs.Puts.{HasTableFor}
-use Rattle.sasi_store.specs.StoreView.{AreTables, IsOfParts, hand_of}
+use Rattle.sasi_store.specs.StoreView.{AreTables, IsOfParts, memory_of}
 use Rattle.sasi_store.specs.declared.fault.StepFault.TheVariants.{NumbersSpent}
 use Rattle.sasi_store.specs.declared.flush.FlushNumbers.{FlushNumbers}
 use Rattle.sasi_store.specs.declared.parts.Parts.{Parts}
 use Rattle.sasi_store.proofs.FlushingTables.{can_flush, flush_of, flush_ready, flush_serves, listed_after}
 use Rattle.sasi_store.proofs.MoveCauses.{any_change, call_failed, call_made, call_plain, makes_nothing, plain_undamaged, plain_unspent}
-use Rattle.sasi_store.proofs.TablesInHand.{all_at, all_set, inside_there, map_there, set_numbered, there_inside, unseen_set}
+use Rattle.sasi_store.proofs.TablesInMemory.{all_at, all_set, inside_there, map_there, set_numbered, there_inside, unseen_set}
 
 -- ---- the table
 
@@ -48,16 +48,16 @@ module _ (p : Parts) (number : ℕ) where
   pub table_at : HasTableFor number p.tables.items → (t : TableMap) × (slice_get p.tables.items (number - 1) ≡ Some t)
   table_at there = inside_there p.tables.items (number - 1) (omega (arith, there.some, there.inside))
 
-  pub hand_at : (t : TableMap) → slice_get p.tables.items (number - 1) ≡ Some t → slice_get (hand_of p).tables (number - 1) ≡ Some (table_in_hand t)
-  hand_at t there = map_there table_in_hand p.tables.items (number - 1) t there
+  pub memory_at : (t : TableMap) → slice_get p.tables.items (number - 1) ≡ Some t → slice_get (memory_of p).tables (number - 1) ≡ Some (opened_table t)
+  memory_at t there = map_there opened_table p.tables.items (number - 1) t there
 
-  pub holds_any : 0 < number → (t : TableMap) → slice_get p.tables.items (number - 1) ≡ Some t → 1 ≤ length (map_.entries t.memtable.partitions) → HoldsAny number (hand_of p)
-  holds_any some t there held = record { some = some; there_is = table_in_hand t; there = hand_at t there; idle = refl; held = held }
+  pub is_unflushed : 0 < number → (t : TableMap) → slice_get p.tables.items (number - 1) ≡ Some t → 1 ≤ length (map_.entries t.memtable.partitions) → IsUnflushed number (memory_of p)
+  is_unflushed some t there held = record { some = some; there_is = opened_table t; there = memory_at t there; idle = refl; held = held }
 
-  pub held_there : HoldsAny number (hand_of p) → HasTableFor number p.tables.items
-  held_there held =
-      let size : length (map table_in_hand p.tables.items) ≡ length p.tables.items = length-map p.tables.items table_in_hand in
-      record { some = held.some; inside = omega (arith, held.some, there_inside (hand_of p).tables (number - 1) held.there_is held.there, size) }
+  pub unflushed_there : IsUnflushed number (memory_of p) → HasTableFor number p.tables.items
+  unflushed_there held =
+      let size : length (map opened_table p.tables.items) ≡ length p.tables.items = length-map p.tables.items opened_table in
+      record { some = held.some; inside = omega (arith, held.some, there_inside (memory_of p).tables (number - 1) held.there_is held.there, size) }
 
 -- ---- a test of the memtable
 
@@ -71,39 +71,39 @@ held_some m is = by (length (map_.entries m)) is
     by zero is = absurd (never is)
     by (suc n) is = omega arith
 
-pub held_passes : (m : Partitions) → (length (map_.entries m) == 0) ≡ false → hold_any (m ∷ []) ≡ true
-held_passes m is = ap (λ b. not b || false) is
+pub some_passes : (m : Partitions) → (length (map_.entries m) == 0) ≡ false → any_partition (m ∷ []) ≡ true
+some_passes m is = ap (λ b. not b || false) is
 
-pub none_passes : (m : Partitions) → (length (map_.entries m) == 0) ≡ true → hold_any (m ∷ []) ≡ false
+pub none_passes : (m : Partitions) → (length (map_.entries m) == 0) ≡ true → any_partition (m ∷ []) ≡ false
 none_passes m is = ap (λ b. not b || false) is
 
 -- ---- the numbers
 
-spent_as : (v : View) (p : Parts) (number : ℕ) (l : Layout) → Serves v (hand_of p) l → spent l (Flush number ∷ []) ≡ first_spent ((kinds.Data, p.numbers.«data») ∷ (kinds.Log, p.numbers.log) ∷ []) None
-spent_as v p number l serves = ap (λ (u : Used). first_spent ((kinds.Data, u.file) ∷ (kinds.Log, u.log) ∷ []) None) (sym serves.used)
+spent_as : (v : View) (p : Parts) (number : ℕ) (l : Layout) → Serves v (memory_of p) l → spent l (Flush number ∷ []) ≡ first_spent ((kinds.Data, p.numbers.«data») ∷ (kinds.Log, p.numbers.log) ∷ []) None
+spent_as v p number l serves = ap (λ (u : Used). first_spent ((kinds.Data, u.«data») ∷ (kinds.Log, u.log) ∷ []) None) (sym serves.used)
 
 -- no number is left
-pub numbers_spent : {T : Type 0} (v : View) (sound : IsSound v) (p : Parts) (number : ℕ) (kind : NumberKind) → AreSpent p.numbers kind → MakesMoves {T = T} (λ l. Flush number ∷ []) v v (hand_of p) (hand_of p) (Err (NumbersSpent kind))
-numbers_spent v sound p number kind is = makes_nothing (λ l. Flush number ∷ []) v sound (hand_of p) (hand_of p) (NumbersSpent kind) tt (λ l serves. spent_as v p number l serves ∙ is) (λ e. cc)
+pub numbers_spent : {T : Type 0} (v : View) (sound : IsSound v) (p : Parts) (number : ℕ) (kind : NumberKind) → AreSpent p.numbers kind → MakesMoves {T = T} (λ l. Flush number ∷ []) v v (memory_of p) (memory_of p) (Err (NumbersSpent kind))
+numbers_spent v sound p number kind is = makes_nothing (λ l. Flush number ∷ []) v sound (memory_of p) (memory_of p) (NumbersSpent kind) tt (λ l serves. spent_as v p number l serves ∙ is) (λ e. cc)
 
 -- ---- the flush
 
-module _ (a : View) (sound : IsSound a) (p : Parts) (of : IsOfParts p) (ready : IsReady a (hand_of p)) (number : ℕ) (small : number < 2 ^ 32) (held : HoldsAny number (hand_of p)) (next : Numbers) (is : AreNext p.numbers next)
-    (floor : ℕ) (floor_is : floor ≡ floor_in_hand 1 number next.log (map table_in_hand p.tables.items)) (t : TableMap) (there : slice_get p.tables.items (number - 1) ≡ Some t) where
+module _ (a : View) (sound : IsSound a) (p : Parts) (of : IsOfParts p) (ready : CanChange a (memory_of p)) (number : ℕ) (small : number < 2 ^ 32) (held : IsUnflushed number (memory_of p)) (next : Numbers) (is : AreNext p.numbers next)
+    (floor : ℕ) (floor_is : floor ≡ floor_in_memory 1 number next.log (map opened_table p.tables.items)) (t : TableMap) (there : slice_get p.tables.items (number - 1) ≡ Some t) where
   abbrev pub numbers : FlushNumbers
   numbers = record { table = number; file = next.«data»; floor = floor; last = next.log }
 
-  row_is : table_in_hand t ≡ held.there_is
-  row_is = one (table_in_hand t) held.there_is (sym (hand_at p number t there) ∙ held.there)
+  row_is : opened_table t ≡ held.there_is
+  row_is = one (opened_table t) held.there_is (sym (memory_at p number t there) ∙ held.there)
     where
-      one : (x y : TableInHand) → Some x ≡ Some y → x ≡ y
+      one : (x y : TableInMemory) → Some x ≡ Some y → x ≡ y
       one x y e = cc
 
   last_is : next.log ≡ suc p.manifest.listing.last
   last_is = is.log ∙ ap (λ (n : ℕ). suc n) ready.numbered.log_is
 
   memtable_is : t.memtable.partitions ≡ held.there_is.memtable
-  memtable_is = ap (λ (h : TableInHand). h.memtable) row_is
+  memtable_is = ap (λ (h : TableInMemory). h.memtable) row_is
 
   under : t.memtable.partitioner ≡ p.manifest.listing.partitioner
   under = all_at (λ (t : TableMap). t.memtable.partitioner ≡ p.manifest.listing.partitioner) (number - 1) p.tables.items t of.under there
@@ -112,18 +112,18 @@ module _ (a : View) (sound : IsSound a) (p : Parts) (of : IsOfParts p) (ready : 
   fits = (small, is.file_fits, is.log_fits)
 
   pub can : CanFlush a p.manifest t.memtable numbers
-  can = can_flush a (hand_of p) ready numbers t.memtable held is.file last_is floor_is fits memtable_is under
+  can = can_flush a (memory_of p) ready numbers t.memtable held is.file last_is floor_is fits memtable_is under
 
   pub partitioner_after : (manifest : ManifestState) → IsNext p.manifest.listing (edit_of numbers ∷ []) manifest.listing → manifest.listing.partitioner ≡ p.manifest.listing.partitioner
-  partitioner_after manifest listed = (listed_after a (hand_of p) ready numbers t.memtable held is.file last_is floor_is fits memtable_is under manifest.listing listed).0
+  partitioner_after manifest listed = (listed_after a (memory_of p) ready numbers t.memtable held is.file last_is floor_is fits memtable_is under manifest.listing listed).0
 
   module _ (b : View) (moments : (l : Layout) (logs : List (List Mutation)) → IsFlushOf a p.manifest t.memtable numbers l logs → Changes (λ x y. Between l (Flush number ∷ []) y) a b)
       (change : Changes (ChangesInFlush p.manifest.number p.manifest.listing.floor numbers) a b) where
-    flush_at : (l : Layout) (serves : Serves a (hand_of p) l) → IsFlushOf a p.manifest t.memtable numbers l (serves.older ++ serves.current ∷ [])
-    flush_at l serves = flush_of a (hand_of p) ready numbers t.memtable held is.file last_is floor_is fits memtable_is under b l serves
+    flush_at : (l : Layout) (serves : Serves a (memory_of p) l) → IsFlushOf a p.manifest t.memtable numbers l (serves.older ++ serves.current ∷ [])
+    flush_at l serves = flush_of a (memory_of p) ready numbers t.memtable held is.file last_is floor_is fits memtable_is under b l serves
 
     -- a call failed, or memory ran out
-    pub flush_stopped : {T U : Type 0} (new : StoreInHand) (f : HostFault) → ListCauses {T = T} a b (Err f) → MakesMoves {T = U} (λ l. Flush number ∷ []) a b (hand_of p) new (Err (fault_of_call f))
+    pub flush_stopped : {T U : Type 0} (new : StoreInMemory) (f : HostFault) → ListCauses {T = T} a b (Err f) → MakesMoves {T = U} (λ l. Flush number ∷ []) a b (memory_of p) new (Err (fault_of_call f))
     flush_stopped new f causes = record {
       any_moment = λ l serves. moments l (serves.older ++ serves.current ∷ []) (flush_at l serves);
       serves = tt;
@@ -142,11 +142,11 @@ module _ (a : View) (sound : IsSound a) (p : Parts) (of : IsOfParts p) (ready : 
         → IsNext p.manifest.listing (edit_of numbers ∷ []) manifest.listing → manifest.number ≡ p.manifest.number → Reaches b (manifest_name manifest.number) (manifest.at + 1) → IsTrue manifest.usable
         → log.file ≡ log_name next.log → Reaches b log.file (log.at + 1) → IsTrue log.usable → HasFlushedFiles b p.manifest.listing.floor numbers
         → (ManifestStands a p.manifest.number p.manifest.at p.manifest.listing → ManifestStands b manifest.number manifest.at manifest.listing)
-        → ListCauses {T = T} a b (Ok x) → MakesMoves {T = U} (λ l. Flush number ∷ []) a b (hand_of p) (hand_after_flush number manifest log (hand_of p)) (Ok y)
+        → ListCauses {T = T} a b (Ok x) → MakesMoves {T = U} (λ l. Flush number ∷ []) a b (memory_of p) (memory_after_flush number manifest log (memory_of p)) (Ok y)
     flush_made x y manifest log flushed listed same room usable file log_room log_usable files stands causes = record {
       any_moment = λ l serves. moments l (serves.older ++ serves.current ∷ []) (flush_at l serves);
-      serves = λ l serves. flush_serves a (hand_of p) ready numbers t.memtable held is.file last_is floor_is fits memtable_is under b l serves manifest log change same file (flushed l (serves.older ++ serves.current ∷ []) (flush_at l serves));
-      ready = flush_ready a (hand_of p) ready numbers t.memtable held is.file last_is floor_is fits memtable_is under b manifest log listed same room usable file log_room log_usable change files stands;
+      serves = λ l serves. flush_serves a (memory_of p) ready numbers t.memtable held is.file last_is floor_is fits memtable_is under b l serves manifest log change same file (flushed l (serves.older ++ serves.current ∷ []) (flush_at l serves));
+      ready = flush_ready a (memory_of p) ready numbers t.memtable held is.file last_is floor_is fits memtable_is under b manifest log listed same room usable file log_room log_usable change files stands;
       unspent = λ l serves. spent_as a p number l serves ∙ is.unspent;
       spent_is = tt;
       undamaged = tt;
@@ -162,14 +162,14 @@ module _ (p : Parts) (of : IsOfParts p) (number : ℕ) (some : 0 < number) (t : 
   abbrev emptied : TableMap
   emptied = record t { memtable = memtable; first = None }
 
-  pub flushed_hand : (manifest : ManifestState) (log : Handle) (next : Numbers) → AreNext p.numbers next → memtable.partitions ≡ map_.empty
-      → record { definitions = p.schema; manifest = manifest; log = log; tables = map table_in_hand tables; used = used_numbers next; max_timestamp = p.max_timestamp } ≡ hand_after_flush number manifest log (hand_of p)
-  flushed_hand manifest log next is empty =
-      let seen : table_in_hand emptied ≡ flushed_in_hand (table_in_hand t) = ap (λ (m : Partitions). record { first = None; frozen = []; memtable = m }) empty in
-      let tables_are : map table_in_hand tables ≡ at_number 1 number flushed_in_hand (map table_in_hand p.tables.items) =
-      ap (map table_in_hand) cleared ∙ set_numbered table_in_hand flushed_in_hand number p.tables.items t emptied some there seen in
-      let used_are : used_numbers next ≡ record (used_numbers p.numbers) { log = suc p.numbers.log; file = suc p.numbers.«data» } =
-      λ i. record { manifest = is.manifest i; log = is.log i; file = is.file i; index = is.index i; part = is.part i } in
+  pub flushed_memory : (manifest : ManifestState) (log : Handle) (next : Numbers) → AreNext p.numbers next → memtable.partitions ≡ map_.empty
+      → record { definitions = p.schema; manifest = manifest; log = log; tables = map opened_table tables; used = used_numbers next; max_timestamp = p.max_timestamp } ≡ memory_after_flush number manifest log (memory_of p)
+  flushed_memory manifest log next is empty =
+      let seen : opened_table emptied ≡ flushed_in_memory (opened_table t) = ap (λ (m : Partitions). record { first = None; frozen = []; memtable = m }) empty in
+      let tables_are : map opened_table tables ≡ at_number 1 number flushed_in_memory (map opened_table p.tables.items) =
+      ap (map opened_table) cleared ∙ set_numbered opened_table flushed_in_memory number p.tables.items t emptied some there seen in
+      let used_are : used_numbers next ≡ record (used_numbers p.numbers) { log = suc p.numbers.log; «data» = suc p.numbers.«data» } =
+      λ i. record { manifest = is.manifest i; log = is.log i; «data» = is.file i; index = is.index i; part = is.part i } in
       λ i. record { definitions = p.schema; manifest = manifest; log = log; tables = tables_are i; used = used_are i; max_timestamp = p.max_timestamp }
 
   pub flushed_parts : (partitioner : Partitioner) → partitioner ≡ p.manifest.listing.partitioner → memtable.partitioner ≡ partitioner → AreTables partitioner tables

@@ -24,12 +24,12 @@ use Rattle.sasi_layout.proofs.ListingLaws.{rising_bound}
 use Rattle.sasi_layout.proofs.NewFiles.{ready_flush}
 use Rattle.sasi_layout.proofs.Numbered.{all_changed, seen_at, unseen_at}
 use Rattle.sasi_layout.proofs.Storable.{entries_storable, none_storable}
-use Rattle.sasi_layout.proofs.WellMoves.{moved_well}
+use Rattle.sasi_layout.proofs.MovesInOrder.{moved_in_order}
 use Rattle.sasi_layout.specs.Kept.{HasKept, Kept, is_listed}
 use Rattle.sasi_layout.specs.Layout.{Layout, TableParts, Used, listing_of, unflushed}
-use Rattle.sasi_layout.specs.Moves.{Flush, after_flush, flush_table, floor_without, lesser, new_file, next_floor}
-use Rattle.sasi_layout.specs.Serving.{AreTablesReady, IsLive, IsReady, IsStorable, IsTableReady, Serves, StoreInHand, TableInHand, kept_by, table_in_hand}
-use Rattle.sasi_layout.specs.Wells.{IsWellTable, Rising}
+use Rattle.sasi_layout.specs.Moves.{Flush, after_flush, flush_table, floor_without, lesser, new_listed_file, next_floor}
+use Rattle.sasi_layout.specs.Serving.{AreTablesReady, CanChange, IsLive, IsStorable, IsTableReady, Serves, StoreInMemory, TableInMemory, kept_by, table_in_memory}
+use Rattle.sasi_layout.specs.NumbersInOrder.{HasFilesInOrder, Rising}
 use Rattle.sasi_manifest.proofs.Applying.{replace_applies}
 use Rattle.sasi_manifest.proofs.Consistency.{record_consistent}
 use Rattle.sasi_manifest.specs.declared.listing.Listing.{Listing}
@@ -49,62 +49,62 @@ use Rattle.sasi_model.specs.Cells.{Partition}
 use Rattle.sasi_types.specs.declared.column.ColumnType.{ColumnType}
 use Rattle.sasi_types.specs.declared.decorated_key.DecoratedKey.{DecoratedKey}
 use Rattle.sasi_types.specs.declared.partitioner.Partitioner.{Partitioner}
-use Rattle.sasi_store.specs.Floors.{HoldsAny, floor_in_hand, flushed_in_hand, hand_after_flush}
+use Rattle.sasi_store.specs.Floors.{IsUnflushed, floor_in_memory, flushed_in_memory, memory_after_flush}
 use Rattle.sasi_store.proofs.OneMap.{one_map}
 use Rattle.sasi_store.specs.Flushing.{CanFlush, ChangesInFlush, HasFlushedFiles, HaveBodies, IsFlushOf, IsFlushed, edit_of}
 use Rattle.sasi_store.specs.declared.flush.FlushNumbers.{FlushNumbers}
 use Rattle.sasi_store.proofs.Frames.{reached_there}
-use Rattle.sasi_store.proofs.TablesInHand.{as_many, at_numbered, ready_in_hand, seen_as, there_inside}
+use Rattle.sasi_store.proofs.TablesInMemory.{as_many, at_numbered, ready_in_memory, seen_as, there_inside}
 
 -- ---- the floor
 
 -- a floor below which no live segment is needed
-floor_most : (n table last : ℕ) (ts : List TableInHand) → floor_in_hand n table last ts ≤ last
+floor_most : (n table last : ℕ) (ts : List TableInMemory) → floor_in_memory n table last ts ≤ last
 floor_most n table last [] = omega arith
 floor_most n table last (t ∷ ts) =
     let rest = floor_most (suc n) table last ts in
-    elim (nat_eq n table) as (λ b. cond b (floor_in_hand (suc n) table last ts) (lesser t.first (floor_in_hand (suc n) table last ts)) ≤ last) [
+    elim (nat_eq n table) as (λ b. cond b (floor_in_memory (suc n) table last ts) (lesser t.first (floor_in_memory (suc n) table last ts)) ≤ last) [
       | true ↦ rest
       | false ↦ by t.first rest
     ]
   where
-    by : (o : Option ℕ) → floor_in_hand (suc n) table last ts ≤ last → lesser o (floor_in_hand (suc n) table last ts) ≤ last
+    by : (o : Option ℕ) → floor_in_memory (suc n) table last ts ≤ last → lesser o (floor_in_memory (suc n) table last ts) ≤ last
     by None is = is
     by (Some k) is = omega (arith, is)
 
-floor_least : (p : Partitioner) (floor most n table last : ℕ) (ds : List Definition) (ts : List TableInHand) → AreTablesReady p floor most ds ts → floor ≤ last → floor ≤ floor_in_hand n table last ts
+floor_least : (p : Partitioner) (floor most n table last : ℕ) (ds : List Definition) (ts : List TableInMemory) → AreTablesReady p floor most ds ts → floor ≤ last → floor ≤ floor_in_memory n table last ts
 floor_least p floor most n table last ds [] ready under = under
 floor_least p floor most n table last [] (t ∷ ts) ready under = absurd ready
 floor_least p floor most n table last (d ∷ ds) (t ∷ ts) ready under =
     let rest = floor_least p floor most (suc n) table last ds ts ready.1 under in
-    elim (nat_eq n table) as (λ b. floor ≤ cond b (floor_in_hand (suc n) table last ts) (lesser t.first (floor_in_hand (suc n) table last ts))) [
+    elim (nat_eq n table) as (λ b. floor ≤ cond b (floor_in_memory (suc n) table last ts) (lesser t.first (floor_in_memory (suc n) table last ts))) [
       | true ↦ rest
       | false ↦ by t.first ready.0.first rest
     ]
   where
-    by : (o : Option ℕ) → IsLive floor most o → floor ≤ floor_in_hand (suc n) table last ts → floor ≤ lesser o (floor_in_hand (suc n) table last ts)
+    by : (o : Option ℕ) → IsLive floor most o → floor ≤ floor_in_memory (suc n) table last ts → floor ≤ lesser o (floor_in_memory (suc n) table last ts)
     by None live is = is
     by (Some k) live is = omega (arith, live.0, is)
 
 -- that of a layout
-floor_is : (n table last : ℕ) (ts : List TableParts) → floor_in_hand n table last (map table_in_hand ts) ≡ floor_without n table last ts
+floor_is : (n table last : ℕ) (ts : List TableParts) → floor_in_memory n table last (map table_in_memory ts) ≡ floor_without n table last ts
 floor_is n table last [] = refl
 floor_is n table last (t ∷ ts) = let rest = floor_is (suc n) table last ts in λ i. cond (nat_eq n table) (rest i) (lesser t.first (rest i))
 
 -- the flushed table holds nothing, and the first segments of the others stay live
-flushed_ready : (p : Partitioner) (floor most new n table last : ℕ) (ds : List Definition) (ts : List TableInHand) → AreTablesReady p floor most ds ts → new ≤ floor_in_hand n table last ts → most ≤ last → AreTablesReady p new last ds (at_number n table flushed_in_hand ts)
+flushed_ready : (p : Partitioner) (floor most new n table last : ℕ) (ds : List Definition) (ts : List TableInMemory) → AreTablesReady p floor most ds ts → new ≤ floor_in_memory n table last ts → most ≤ last → AreTablesReady p new last ds (at_number n table flushed_in_memory ts)
 flushed_ready p floor most new n table last [] [] ready above on = tt
 flushed_ready p floor most new n table last [] (t ∷ ts) ready above on = absurd ready
 flushed_ready p floor most new n table last (d ∷ ds) [] ready above on = absurd ready
 flushed_ready p floor most new n table last (d ∷ ds) (t ∷ ts) ready above on =
-    elim (nat_eq n table) as (λ b. new ≤ cond b (floor_in_hand (suc n) table last ts) (lesser t.first (floor_in_hand (suc n) table last ts)) → IsTableReady p new last d (cond b (flushed_in_hand t) t) × AreTablesReady p new last ds (at_number (suc n) table flushed_in_hand ts)) [
+    elim (nat_eq n table) as (λ b. new ≤ cond b (floor_in_memory (suc n) table last ts) (lesser t.first (floor_in_memory (suc n) table last ts)) → IsTableReady p new last d (cond b (flushed_in_memory t) t) × AreTablesReady p new last ds (at_number (suc n) table flushed_in_memory ts)) [
       | true ↦ λ over. (record { typed = ready.0.typed; first = tt; frozen = tt; memtable = none_storable p (types_of d) }, flushed_ready p floor most new (suc n) table last ds ts ready.1 over on)
       | false ↦ λ over.
           let parts = by t.first ready.0.first over in
           (record { typed = ready.0.typed; first = parts.0; frozen = ready.0.frozen; memtable = ready.0.memtable }, flushed_ready p floor most new (suc n) table last ds ts ready.1 parts.1 on)
     ] above
   where
-    by : (o : Option ℕ) → IsLive floor most o → new ≤ lesser o (floor_in_hand (suc n) table last ts) → IsLive new last o × (new ≤ floor_in_hand (suc n) table last ts)
+    by : (o : Option ℕ) → IsLive floor most o → new ≤ lesser o (floor_in_memory (suc n) table last ts) → IsLive new last o × (new ≤ floor_in_memory (suc n) table last ts)
     by None live over = (tt, over)
     by (Some k) live over = ((omega (arith, over), omega (arith, live.1, on)), omega (arith, over))
 
@@ -150,8 +150,8 @@ within_all last table n (t ∷ ts) all =
     both true is = is
     both false is = is
 
-module _ (a : View) (store : StoreInHand) (ready : IsReady a store) (n : FlushNumbers) (m : MemtableView) (held : HoldsAny n.table store) (file : n.file ≡ suc store.used.file) (last : n.last ≡ suc store.manifest.listing.last)
-    (floor : n.floor ≡ floor_in_hand 1 n.table n.last store.tables) (fits : (n.table < 2 ^ 32) × (n.file < 2 ^ 32) × (n.last < 2 ^ 32))
+module _ (a : View) (store : StoreInMemory) (ready : CanChange a store) (n : FlushNumbers) (m : MemtableView) (held : IsUnflushed n.table store) (file : n.file ≡ suc store.used.«data») (last : n.last ≡ suc store.manifest.listing.last)
+    (floor : n.floor ≡ floor_in_memory 1 n.table n.last store.tables) (fits : (n.table < 2 ^ 32) × (n.file < 2 ^ 32) × (n.last < 2 ^ 32))
     (memtable : m.partitions ≡ held.there_is.memtable) (under : m.partitioner ≡ store.manifest.listing.partitioner) where
   abbrev pub listing : Listing
   listing = store.manifest.listing
@@ -173,13 +173,13 @@ module _ (a : View) (store : StoreInHand) (ready : IsReady a store) (n : FlushNu
 
   -- the table in memory with its definition
   defined : (d : Definition) × IsTableReady listing.partitioner listing.floor listing.last d held.there_is
-  defined = ready_in_hand listing.partitioner listing.floor listing.last (n.table - 1) store.definitions store.tables held.there_is ready.tables held.there
+  defined = ready_in_memory listing.partitioner listing.floor listing.last (n.table - 1) store.definitions store.tables held.there_is ready.tables held.there
 
   new_number : is_listed listing.tables n.file ≡ false
-  new_number = unlisted_above store.used.file listing.last n.file listing.tables ready.numbered.files (omega (arith, file))
+  new_number = unlisted_above store.used.«data» listing.last n.file listing.tables ready.numbered.files (omega (arith, file))
 
   applies : Applies (Some listing) (edit_of n)
-  applies = replace_applies listing n.table [] (new_file n.file ∷ []) n.last n.floor n.last (record {
+  applies = replace_applies listing n.table [] (new_listed_file n.file ∷ []) n.last n.floor n.last (record {
     some = held.some;
     within = inside;
     table_fits = fits.0;
@@ -215,19 +215,19 @@ module _ (a : View) (store : StoreInHand) (ready : IsReady a store) (n : FlushNu
   -- ---- what the manifest lists then
 
   module _ (next : Listing) (is : IsNext listing (edit_of n ∷ []) next) where
-    pub listed_after : (next.partitioner ≡ listing.partitioner) × (next.floor ≡ n.floor) × (next.last ≡ n.last) × (next.tables ≡ at_number 1 n.table (replaced [] (new_file n.file ∷ []) n.last) listing.tables)
+    pub listed_after : (next.partitioner ≡ listing.partitioner) × (next.floor ≡ n.floor) × (next.last ≡ n.last) × (next.tables ≡ at_number 1 n.table (replaced [] (new_listed_file n.file ∷ []) n.last) listing.tables)
     listed_after = (cc, cc, cc, cc)
 
     pub next_consistent : IsConsistent next
     next_consistent = record_consistent (Some listing) (encoded (edit_of n ∷ [])) (edit_of n ∷ []) next (applies, tt) is ready.consistent
 
     pub next_definitions : store.definitions ≡ listed_definitions next.tables
-    next_definitions = ready.definitions ∙ sym (unseen_at (λ (t : ListedDefinition). t.definition) (replaced [] (new_file n.file ∷ []) n.last) (λ t. refl) 1 n.table listing.tables) ∙ ap listed_definitions (sym listed_after.3)
+    next_definitions = ready.definitions ∙ sym (unseen_at (λ (t : ListedDefinition). t.definition) (replaced [] (new_listed_file n.file ∷ []) n.last) (λ t. refl) 1 n.table listing.tables) ∙ ap listed_definitions (sym listed_after.3)
 
-    pub next_files : AllByRecursion (IsWellTable n.file next.last) next.tables
-    next_files = rw (listed_after.2, listed_after.3) (all_changed (IsWellTable store.used.file listing.last) (IsWellTable n.file n.last) (replaced [] (new_file n.file ∷ []) n.last)
-        (λ t well. record { rise = rising_with (new_file n.file) 0 store.used.file t.files well.rise (omega (arith, file)); since = omega arith })
-        (λ t well. record { rise = rising_higher 0 store.used.file n.file t.files (omega (arith, file)) well.rise; since = omega (arith, well.since, last) })
+    pub next_files : AllByRecursion (HasFilesInOrder n.file next.last) next.tables
+    next_files = rw (listed_after.2, listed_after.3) (all_changed (HasFilesInOrder store.used.«data» listing.last) (HasFilesInOrder n.file n.last) (replaced [] (new_listed_file n.file ∷ []) n.last)
+        (λ t in_order. record { rise = rising_with (new_listed_file n.file) 0 store.used.«data» t.files in_order.rise (omega (arith, file)); since = omega arith })
+        (λ t in_order. record { rise = rising_higher 0 store.used.«data» n.file t.files (omega (arith, file)) in_order.rise; since = omega (arith, in_order.since, last) })
         1 n.table listing.tables ready.numbered.files)
 
     -- the files of the folder afterwards
@@ -275,23 +275,23 @@ module _ (a : View) (store : StoreInHand) (ready : IsReady a store) (n : FlushNu
     last_is = last ∙ ap (λ (e : Listing). suc e.last) serves.listing
 
     floor_of : n.floor ≡ next_floor n.table l
-    floor_of = floor ∙ ap (floor_in_hand 1 n.table n.last) serves.tables ∙ floor_is 1 n.table n.last l.tables ∙ ap (λ (k : ℕ). floor_without 1 n.table k l.tables) last_is
+    floor_of = floor ∙ ap (floor_in_memory 1 n.table n.last) serves.tables ∙ floor_is 1 n.table n.last l.tables ∙ ap (λ (k : ℕ). floor_without 1 n.table k l.tables) last_is
 
-    file_is : n.file ≡ suc l.used.file
-    file_is = file ∙ ap (λ (u : Used). suc u.file) serves.used
+    file_is : n.file ≡ suc l.used.«data»
+    file_is = file ∙ ap (λ (u : Used). suc u.«data») serves.used
 
     unflushed_is : At 1 n.table (λ t. merged (unflushed t) ≡ m.partitions) l.tables
     unflushed_is =
-        let t = seen_as table_in_hand l.tables (n.table - 1) held.there_is (ap (λ (ts : List TableInHand). slice_get ts (n.table - 1)) (sym serves.tables) ∙ held.there) in
-        let frozen : t.0.frozen ≡ [] = ap (λ (h : TableInHand). h.frozen) t.2 ∙ held.idle in
+        let t = seen_as table_in_memory l.tables (n.table - 1) held.there_is (ap (λ (ts : List TableInMemory). slice_get ts (n.table - 1)) (sym serves.tables) ∙ held.there) in
+        let frozen : t.0.frozen ≡ [] = ap (λ (h : TableInMemory). h.frozen) t.2 ∙ held.idle in
         at_numbered (λ (t : TableParts). merged (unflushed t) ≡ m.partitions) n.table l.tables t.0 held.some t.1
-        (ap (λ (k : List Partitions). merged (k ++ t.0.memtable ∷ [])) frozen ∙ ap (λ (h : TableInHand). merged (h.memtable ∷ [])) t.2 ∙ one_map listing.partitioner (types_of defined.0) held.there_is.memtable defined.1.memtable ∙ sym memtable)
+        (ap (λ (k : List Partitions). merged (k ++ t.0.memtable ∷ [])) frozen ∙ ap (λ (h : TableInMemory). merged (h.memtable ∷ [])) t.2 ∙ one_map listing.partitioner (types_of defined.0) held.there_is.memtable defined.1.memtable ∙ sym memtable)
 
     -- **It is the flush of the layout's table.**
     pub flush_of : IsFlushOf a store.manifest m n l logs
     flush_of = record {
       shape = serves.shape;
-      well = serves.well;
+      in_order = serves.in_order;
       number = serves.manifest;
       listing = serves.listing;
       stands = subst (λ (k : ℕ). ManifestStands a k store.manifest.at listing) (sym serves.manifest) (subst (ManifestStands a l.used.manifest store.manifest.at) (sym serves.listing) serves.manifest_end);
@@ -303,16 +303,16 @@ module _ (a : View) (store : StoreInHand) (ready : IsReady a store) (n : FlushNu
     }
 
     -- **The store serves the layout after it.**
-    pub flush_serves : {S : Relation} (manifest : ManifestState) (log : Handle) → Changes S a b → manifest.number ≡ store.manifest.number → log.file ≡ log_name n.last → IsFlushed b manifest log n l logs → Serves b (hand_after_flush n.table manifest log store) (after_flush n.table l)
+    pub flush_serves : {S : Relation} (manifest : ManifestState) (log : Handle) → Changes S a b → manifest.number ≡ store.manifest.number → log.file ≡ log_name n.last → IsFlushed b manifest log n l logs → Serves b (memory_after_flush n.table manifest log store) (after_flush n.table l)
     flush_serves {S} manifest log change number log_file flushed =
         let used_log : store.used.log ≡ l.last = ready.numbered.log_is ∙ ap (λ (e : Listing). e.last) serves.listing in
-        let change_table : TableParts → TableParts = flush_table (suc l.used.file) (suc l.last) in
+        let change_table : TableParts → TableParts = flush_table (suc l.used.«data») (suc l.last) in
         record {
           told = told_after S a b change serves.told;
-          well = moved_well (Flush n.table) l serves.well;
+          in_order = moved_in_order (Flush n.table) l serves.in_order;
           definitions = serves.definitions ∙ sym (unseen_at (λ (t : TableParts). t.definition) change_table (λ t. refl) 1 n.table l.tables);
-          tables = ap (at_number 1 n.table flushed_in_hand) serves.tables ∙ sym (seen_at table_in_hand change_table flushed_in_hand (λ t. refl) 1 n.table l.tables);
-          used = ap (λ (k : ℕ). record store.used { log = suc k; file = suc store.used.file }) used_log ∙ ap (λ (u : Used). record u { log = suc l.last; file = suc u.file }) serves.used;
+          tables = ap (at_number 1 n.table flushed_in_memory) serves.tables ∙ sym (seen_at table_in_memory change_table flushed_in_memory (λ t. refl) 1 n.table l.tables);
+          used = ap (λ (k : ℕ). record store.used { log = suc k; «data» = suc store.used.«data» }) used_log ∙ ap (λ (u : Used). record u { log = suc l.last; «data» = suc u.«data» }) serves.used;
           timestamp = serves.timestamp ∙ sym (ap max_timestamp (flush_state n.table l));
           listing = flushed.listing;
           manifest = number ∙ serves.manifest;
@@ -327,18 +327,18 @@ module _ (a : View) (store : StoreInHand) (ready : IsReady a store) (n : FlushNu
   -- **It is ready after it.**
   pub flush_ready : (b : View) (manifest : ManifestState) (log : Handle) → IsNext listing (edit_of n ∷ []) manifest.listing → manifest.number ≡ store.manifest.number → Reaches b (manifest_name manifest.number) (manifest.at + 1) → IsTrue manifest.usable
       → log.file ≡ log_name n.last → Reaches b log.file (log.at + 1) → IsTrue log.usable → Changes (ChangesInFlush store.manifest.number listing.floor n) a b → HasFlushedFiles b listing.floor n
-      → (ManifestStands a store.manifest.number store.manifest.at listing → ManifestStands b manifest.number manifest.at manifest.listing) → IsReady b (hand_after_flush n.table manifest log store)
+      → (ManifestStands a store.manifest.number store.manifest.at listing → ManifestStands b manifest.number manifest.at manifest.listing) → CanChange b (memory_after_flush n.table manifest log store)
   flush_ready b manifest log is number room usable log_file log_room log_usable change flushed stands =
       let after = listed_after manifest.listing is in
       record {
         consistent = next_consistent manifest.listing is;
         definitions = next_definitions manifest.listing is;
         tables = rw (after.0, after.1, after.2) (flushed_ready listing.partitioner listing.floor listing.last n.floor 1 n.table n.last store.definitions store.tables ready.tables
-            (subst (λ (k : ℕ). k ≤ floor_in_hand 1 n.table n.last store.tables) (sym floor) (omega arith)) (omega (arith, last)));
+            (subst (λ (k : ℕ). k ≤ floor_in_memory 1 n.table n.last store.tables) (sym floor) (omega arith)) (omega (arith, last)));
         numbered = record {
           manifest_is = ready.numbered.manifest_is ∙ sym number;
           log_is = ap (λ (k : ℕ). suc k) ready.numbered.log_is ∙ sym last ∙ sym after.2;
-          files = subst (λ (k : ℕ). AllByRecursion (IsWellTable k manifest.listing.last) manifest.listing.tables) file (next_files manifest.listing is);
+          files = subst (λ (k : ℕ). AllByRecursion (HasFilesInOrder k manifest.listing.last) manifest.listing.tables) file (next_files manifest.listing is);
           fits = subst (λ (k : ℕ). k < 2 ^ 32) file fits.1;
         };
         timestamp = ready.timestamp;

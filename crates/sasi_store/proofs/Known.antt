@@ -4,7 +4,7 @@ use Rattle.std.specs.Prelude.{OnOk, max}
 use Rattle.std.proofs.lemmas.List.{map-append}
 use Rattle.sasi_cells.specs.Mutations.{state_with_mutation}
 use Rattle.sasi_cells.specs.declared.mutation.Mutation.{Mutation}
-use Rattle.sasi_layout.specs.Serving.{StoreInHand}
+use Rattle.sasi_layout.specs.Serving.{StoreInMemory}
 use Rattle.sasi_machine.specs.Prepares.{IsApplicable, IsStateOf}
 use Rattle.sasi_model.specs.Abbreviations.{definitions}
 use Rattle.sasi_model.specs.Cells.{Partition, max_timestamp_of}
@@ -25,13 +25,13 @@ use Rattle.sasi_store.proofs.Timestamps.{put_timestamp}
 -- ---- its opening
 
 -- **An opened store is of some state.**
-pub opened_state : (store : StoreInHand) → IsTimed store → (s : State) × IsStateOf store.definitions store.max_timestamp s
+pub opened_state : (store : StoreInMemory) → IsTimed store → (s : State) × IsStateOf store.definitions store.max_timestamp s
 opened_state store timely = by store.definitions store.max_timestamp timely
   where
     by : (ds : List Definition) (time : ℕ) → (ds ≡ [] → time ≡ 0) → (s : State) × IsStateOf ds time s
     by [] time none = (
       record { partitioner = store.manifest.listing.partitioner; tables = [] },
-      record { definitions_are = refl; newest_is = blank_time store.manifest.listing.partitioner [] ∙ sym (none refl) },
+      record { definitions_are = refl; max_time_is = blank_time store.manifest.listing.partitioner [] ∙ sym (none refl) },
     )
     by (d ∷ ds) time none = (_, timed store.manifest.listing.partitioner d ds time)
 
@@ -42,11 +42,11 @@ reports_on asked a f reports = record { damaged = reports.damaged; undamaged = r
 -- ---- a change
 
 -- it knows the state that it is of
-pub known_as : (store : StoreInHand) (ds : List Definition) (time : ℕ) (s : State) → Knows store ds time → IsStateOf ds time s → IsStateOf store.definitions store.max_timestamp s
-known_as store ds time s knows of = record { definitions_are = of.definitions_are ∙ sym knows.definitions_are; newest_is = of.newest_is ∙ sym knows.timestamp_is }
+pub known_as : (store : StoreInMemory) (ds : List Definition) (time : ℕ) (s : State) → Knows store ds time → IsStateOf ds time s → IsStateOf store.definitions store.max_timestamp s
+known_as store ds time s knows of = record { definitions_are = of.definitions_are ∙ sym knows.definitions_are; max_time_is = of.max_time_is ∙ sym knows.timestamp_is }
 
 -- what was known before is known by other words
-pub knows_then : {T : Type 0} (store : StoreInHand) (ds es : List Definition) (a b : ℕ) (result : Result T StepFault) → ds ≡ es → a ≡ b → OnOk result (Knows store ds a) → OnOk result (Knows store es b)
+pub knows_then : {T : Type 0} (store : StoreInMemory) (ds es : List Definition) (a b : ℕ) (result : Result T StepFault) → ds ≡ es → a ≡ b → OnOk result (Knows store ds a) → OnOk result (Knows store es b)
 knows_then store ds es a b result same time knows =
     subst (λ (n : ℕ). OnOk result (Knows store es n)) time (subst (λ (l : List Definition). OnOk result (Knows store l a)) same knows)
 
@@ -54,7 +54,7 @@ knows_then store ds es a b result same time knows =
 pub created_state : (ds : List Definition) (time : ℕ) (s : State) (d : Definition) → IsStateOf ds time s → IsStateOf (ds ++ d ∷ []) time (with_new_table s d)
 created_state ds time s d of = record {
   definitions_are = map-append (λ (t : Table). t.definition) s.tables (empty_table d ∷ []) ∙ ap (λ (l : List Definition). l ++ d ∷ []) of.definitions_are;
-  newest_is = new_timestamp s d ∙ of.newest_is;
+  max_time_is = new_timestamp s d ∙ of.max_time_is;
 }
 
 defined_behind : (at : ℕ) (key : DecoratedKey) (change : Partition) (ts : List Table) → definitions (changed_behind at key change ts) ≡ definitions ts
@@ -70,5 +70,5 @@ defined_after (suc at) key change ts = defined_behind at key change ts
 pub written_state : (ds : List Definition) (time : ℕ) (s : State) (w : Mutation) → IsApplicable s w → IsStateOf ds time s → IsStateOf ds (max time (max_timestamp_of w.change)) (state_with_mutation s w)
 written_state ds time s w fits of = record {
   definitions_are = defined_after w.table (decorated s.partitioner w.key) w.change s.tables ∙ of.definitions_are;
-  newest_is = put_timestamp s w fits.table fits.some fits.there ∙ ap (λ (n : ℕ). max n (max_timestamp_of w.change)) of.newest_is;
+  max_time_is = put_timestamp s w fits.table fits.some fits.there ∙ ap (λ (n : ℕ). max n (max_timestamp_of w.change)) of.max_time_is;
 }

@@ -13,7 +13,7 @@ pub mod FlushLaws
 pub mod FlushedFiles
 pub mod FlushedNames
 pub mod Frames
-pub mod TablesInHand
+pub mod TablesInMemory
 pub mod Timestamps
 pub mod OneMap
 pub mod MoveCauses

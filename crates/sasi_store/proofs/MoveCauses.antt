@@ -7,7 +7,7 @@ use Rattle.sasi_host.specs.Disk.{Changes, Relation, Same}
 use Rattle.sasi_host.specs.View.{IsSound, ListCauses, View}
 use Rattle.sasi_layout.proofs.Trails.{moves_none}
 use Rattle.sasi_layout.specs.Layout.{Layout}
-use Rattle.sasi_layout.specs.Serving.{Serves, StoreInHand}
+use Rattle.sasi_layout.specs.Serving.{Serves, StoreInMemory}
 use Rattle.sasi_layout.specs.Spent.{spent}
 use Rattle.sasi_layout.specs.declared.number_kind.NumberKind.{NumberKind}
 use Rattle.sasi_recover.specs.OpenedFolder.{AnyFolderChange}
@@ -67,7 +67,7 @@ pub any_change : (S : Relation) (a b : View) → Changes S a b → Changes AnyFo
 any_change S a b change = changes_as a b S AnyFolderChange change (λ x y step. tt)
 
 -- memory ran out, or a number was spent, before anything was done
-pub makes_nothing : {T : Type 0} (moves : MovesOf) (v : View) (sound : IsSound v) (old new : StoreInHand) (e : StepFault) → OnStepDamage (λ _. ⊥) e → OnSpent (λ kind. (l : Layout) → Serves v old l → spent l (moves l) ≡ Some kind) e → e ≢ fault.Failed → MakesMoves {T = T} moves v v old new (Err e)
+pub makes_nothing : {T : Type 0} (moves : MovesOf) (v : View) (sound : IsSound v) (old new : StoreInMemory) (e : StepFault) → OnStepDamage (λ _. ⊥) e → OnSpent (λ kind. (l : Layout) → Serves v old l → spent l (moves l) ≡ Some kind) e → e ≢ fault.Failed → MakesMoves {T = T} moves v v old new (Err e)
 makes_nothing moves v sound old new e undamaged spent_is other = record {
   any_moment = λ l serves. moves_none l v (moves l) sound (λ x now. (_, serves.shape x now));
   serves = tt;

@@ -16,9 +16,9 @@ use Rattle.sasi_merge.specs.Streams.{Entries, IsRising, behind, head_of, merged_
 use Rattle.sasi_merge.proofs.LeastKeys.{given_has}
 use Rattle.sasi_merge.proofs.Streams.{all_rising, next_entry, no_entry}
 use Rattle.sasi_store.specs.declared.source.Source.{Source}
-use Rattle.sasi_store.specs.Sources.{AreMoved, AreReady, CanStep, IsHeadKeyed, IsKeyed, IsListed, IsMoved, IsMovedAt, NoFalseSourceDamage, StepsTo, goes, stays}
+use Rattle.sasi_store.specs.Sources.{AreMoved, AreReady, CanStep, IsHeadKeyed, IsKeyed, IsListedSource, IsMoved, IsMovedAt, NoFalseSourceDamage, StepsTo, advances, stays}
 use Rattle.sasi_store.specs.Left.{AreLeft, ArePrinted, HasLeft, IsLeft, IsNextPrinted}
-use Rattle.sasi_store.proofs.Steps.{source_spares, steps_can, steps_keyed, steps_left, steps_listed}
+use Rattle.sasi_store.proofs.Steps.{no_false_source, steps_can, steps_keyed, steps_left, steps_listed}
 
 -- ---- positions
 
@@ -84,15 +84,15 @@ module _ (seen : Option Folder) (key : DecoratedKey) where
   sources_keep P keeps (suc n) (h ∷ heads) (s ∷ sources) (i ∷ nexts) (t ∷ afters) moved all = (one moved.0, sources_keep P keeps n heads sources nexts afters moved.1 all.1)
     where
       one : IsMoved seen key h s i t → P t
-      one (goes has steps) = keeps s i t steps all.0
+      one (advances has steps) = keeps s i t steps all.0
       one (stays has next_is after_is) = subst P (sym after_is) all.0
   sources_keep P keeps (suc n) heads sources nexts afters moved all = absurd moved
 
   pub moved_can : (n : ℕ) (heads : List Head) (sources : List Source) (nexts : List Head) (afters : List Source) → AreMoved seen key n heads sources nexts afters → AllByRecursion (CanStep seen) sources → AllByRecursion (CanStep seen) afters
   moved_can = sources_keep (CanStep seen) (λ source head after steps can. steps_can seen source head after steps)
 
-  pub moved_listed : (files : List ListedFile) (types : List ColumnType) (n : ℕ) (heads : List Head) (sources : List Source) (nexts : List Head) (afters : List Source) → AreMoved seen key n heads sources nexts afters → AllByRecursion (IsListed seen files types) sources → AllByRecursion (IsListed seen files types) afters
-  moved_listed files types = sources_keep (IsListed seen files types) (λ source head after steps listed. steps_listed seen files types source head after steps listed)
+  pub moved_listed : (files : List ListedFile) (types : List ColumnType) (n : ℕ) (heads : List Head) (sources : List Source) (nexts : List Head) (afters : List Source) → AreMoved seen key n heads sources nexts afters → AllByRecursion (IsListedSource seen files types) sources → AllByRecursion (IsListedSource seen files types) afters
+  moved_listed files types = sources_keep (IsListedSource seen files types) (λ source head after steps listed. steps_listed seen files types source head after steps listed)
 
   moved_keyed : (kind : ColumnType) (n : ℕ) (heads : List Head) (sources : List Source) (nexts : List Head) (afters : List Source) → AreMoved seen key n heads sources nexts afters → AllByRecursion (IsKeyed kind) sources → AllByRecursion (IsKeyed kind) afters
   moved_keyed kind = sources_keep (IsKeyed kind) (λ source head after steps keyed. (steps_keyed seen kind source head after steps keyed).source_keyed)
@@ -102,7 +102,7 @@ module _ (seen : Option Folder) (key : DecoratedKey) where
   heads_keyed kind (suc n) (h ∷ heads) (s ∷ sources) (i ∷ nexts) (t ∷ afters) moved all had = (one moved.0, heads_keyed kind n heads sources nexts afters moved.1 all.1 had.1)
     where
       one : IsMoved seen key h s i t → IsHeadKeyed kind i
-      one (goes has steps) = (steps_keyed seen kind s i t steps all.0).head_keyed
+      one (advances has steps) = (steps_keyed seen kind s i t steps all.0).head_keyed
       one (stays has next_is after_is) = subst (IsHeadKeyed kind) (sym next_is) had.0
   heads_keyed kind (suc n) heads sources nexts afters moved all had = absurd moved
 
@@ -117,7 +117,7 @@ module _ (seen : Option Folder) (key : DecoratedKey) where
   -- ---- what is left
 
   one_left : (p : Partitioner) (head : Head) (source : Source) (next : Head) (after : Source) (left : Entries) → IsMoved seen key head source next after → IsLeft seen p head source left → IsLeft seen p next after (moved key left)
-  one_left p head source next after left (goes has steps) is =
+  one_left p head source next after left (advances has steps) is =
       let has_it : has_key key (head_of left) ≡ true = sym (ap (has_key key) is.head_is) ∙ has in
       let gives = steps_left seen p source (behind left) next after is.behind_it steps in
       subst (IsLeft seen p next after) (sym (ap (λ b. cond b (behind left) left) has_it)) (record { head_is = gives.head_is; behind_it = gives.behind_it })
@@ -164,13 +164,13 @@ heads_are seen p (h ∷ heads) (s ∷ sources) [] are = absurd are
 
 -- a source at a position has something left
 pub left_at : (seen : Option Folder) (p : Partitioner) (heads : List Head) (sources : List Source) (lefts : List Entries) (at : ℕ) (source : Source) (f : ReadFault) → AreLeft seen p heads sources lefts → slice_get sources at ≡ Some source → NoFalseSourceDamage seen source f → OnDamage (λ _. ⊥) f
-left_at seen p [] sources lefts at source f are was spared = absurd (let no : None ≡ Some source = sym (ap (λ (ss : List Source). slice_get ss at) are.0) ∙ was in cc)
-left_at seen p (h ∷ heads) (s ∷ sources) (left ∷ lefts) zero source f are was spared =
+left_at seen p [] sources lefts at source f are was no_false = absurd (let no : None ≡ Some source = sym (ap (λ (ss : List Source). slice_get ss at) are.0) ∙ was in cc)
+left_at seen p (h ∷ heads) (s ∷ sources) (left ∷ lefts) zero source f are was no_false =
     let same : source ≡ s = cc in
-    source_spares seen p s (behind left) f are.0.behind_it (subst (λ (x : Source). NoFalseSourceDamage seen x f) same spared)
-left_at seen p (h ∷ heads) (s ∷ sources) (left ∷ lefts) (suc at) source f are was spared = left_at seen p heads sources lefts at source f are.1 was spared
-left_at seen p (h ∷ heads) [] lefts at source f are was spared = absurd are
-left_at seen p (h ∷ heads) (s ∷ sources) [] at source f are was spared = absurd are
+    no_false_source seen p s (behind left) f are.0.behind_it (subst (λ (x : Source). NoFalseSourceDamage seen x f) same no_false)
+left_at seen p (h ∷ heads) (s ∷ sources) (left ∷ lefts) (suc at) source f are was no_false = left_at seen p heads sources lefts at source f are.1 was no_false
+left_at seen p (h ∷ heads) [] lefts at source f are was no_false = absurd are
+left_at seen p (h ∷ heads) (s ∷ sources) [] at source f are was no_false = absurd are
 
 -- ---- the next partition of the merge
 

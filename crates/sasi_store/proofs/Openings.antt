@@ -32,7 +32,7 @@ use Rattle.sasi_merge.specs.Merging.{Head}
 use Rattle.sasi_merge.specs.Streams.{Entries, IsRising, behind, head_of}
 use Rattle.sasi_store.specs.declared.source.Source.{Source}
 use Rattle.sasi_store.specs.declared.source.Source.TheVariants.{File, Map}
-use Rattle.sasi_store.specs.Sources.{AllStored, AreReady, CanStep, IsHeadKeyed, IsKeyed, IsListed, ShowsListed, StepsTo}
+use Rattle.sasi_store.specs.Sources.{AllStored, AreReady, CanStep, IsHeadKeyed, IsKeyed, IsListedSource, ShowsListed, StepsTo}
 use Rattle.sasi_store.specs.Left.{AreLeft, entries_of}
 use Rattle.sasi_store.specs.Scanning.{AreContents, AreOpened, HasContent, IsAdded, IsOpened, IsOpenedFile}
 use Rattle.sasi_store.proofs.Costs.{damage_as, reads_same}
@@ -73,8 +73,8 @@ opened_ready seen types kind (f ∷ files) (h ∷ heads) (s ∷ sources) first a
 opened_ready seen types kind (f ∷ files) [] sources first are = absurd are
 opened_ready seen types kind (f ∷ files) (h ∷ heads) [] first are = absurd are
 
-pub opened_listed : (seen : Option Folder) (types : List ColumnType) (all files : List ListedFile) (heads : List Head) (sources : List Source) → AllByRecursion (λ f. Contains all f) files → AreOpened seen types files heads sources → AllByRecursion (IsListed seen all types) sources
-opened_listed seen types all [] heads sources among are = subst (AllByRecursion (IsListed seen all types)) (sym are.1) tt
+pub opened_listed : (seen : Option Folder) (types : List ColumnType) (all files : List ListedFile) (heads : List Head) (sources : List Source) → AllByRecursion (λ f. Contains all f) files → AreOpened seen types files heads sources → AllByRecursion (IsListedSource seen all types) sources
+opened_listed seen types all [] heads sources among are = subst (AllByRecursion (IsListedSource seen all types)) (sym are.1) tt
 opened_listed seen types all (f ∷ files) (h ∷ heads) (s ∷ sources) among are =
     let one = are.0 in (
       steps_listed seen all types (File one.scan) h s one.steps (record { file = f; listed = among.0; named = one.is.named; types_are = one.is.types_are; footer = one.is.footer }),
@@ -132,7 +132,7 @@ maps_ready seen kind (m ∷ maps) stored =
     let one = map_keyed kind (map_.entries m.partitions) (map_stored kind m.partitions stored.0) in
     record { can = (tt, rest.can); keyed = (one.source_keyed, rest.keyed); heads_keyed = (one.head_keyed, rest.heads_keyed); counted = ap (λ n. suc n) rest.counted }
 
-pub maps_listed : (seen : Option Folder) (files : List ListedFile) (types : List ColumnType) (maps : List MemtableView) → AllByRecursion (IsListed seen files types) (map_sources maps)
+pub maps_listed : (seen : Option Folder) (files : List ListedFile) (types : List ColumnType) (maps : List MemtableView) → AllByRecursion (IsListedSource seen files types) (map_sources maps)
 maps_listed seen files types [] = tt
 maps_listed seen files types (m ∷ maps) = (tt, maps_listed seen files types maps)
 
@@ -243,13 +243,13 @@ next_shown v w types files at file f change inside is shown =
     file_shown v.files files types file f (at, inside, sym is)
     (subst (λ (o : Option Folder). OnDamage (λ damage. (bytes : Bytes) → contents_in o (data_name file.number) ≡ Some bytes → ShowsDataFile types (data_name file.number) bytes damage) f) (reads_same v w change) shown)
 
-pub next_spares : (v w : View) (types : List ColumnType) (files : List ListedFile) (at : ℕ) (file : ListedFile) (f : ReadFault) → Changes Same v w → at < length files → file ≡ get_or files at file → OnDamage (λ _. (p : Partitioner) (content : Content) → HasContent w.files p types file content → ⊥) f → OnDamage (λ _. (p : Partitioner) (contents : List Content) → AreContents v.files p types files contents → ⊥) f
-next_spares v w types files at file f change inside is spared =
+pub no_false_next : (v w : View) (types : List ColumnType) (files : List ListedFile) (at : ℕ) (file : ListedFile) (f : ReadFault) → Changes Same v w → at < length files → file ≡ get_or files at file → OnDamage (λ _. (p : Partitioner) (content : Content) → HasContent w.files p types file content → ⊥) f → OnDamage (λ _. (p : Partitioner) (contents : List Content) → AreContents v.files p types files contents → ⊥) f
+no_false_next v w types files at file f change inside is no_false =
     damage_as (λ _. (p : Partitioner) (content : Content) → HasContent w.files p types file content → ⊥) (λ _. (p : Partitioner) (contents : List Content) → AreContents v.files p types files contents → ⊥) f
     (λ damage none p contents have.
     let one = content_at v.files p types files contents at file have (got files at file inside is) in
     none p one.0 (subst (λ (o : Option Folder). HasContent o p types file one.0) (sym (reads_same v w change)) one.1))
-    spared
+    no_false
 
 -- the listed file is there, behind reads
 pub still_there : (v w : View) (files : List ListedFile) (at : ℕ) (file : ListedFile) → Changes Same v w → at < length files → file ≡ get_or files at file → AllByRecursion (λ (f : ListedFile). IsThere v (data_name f.number)) files → IsThere w (data_name file.number)

@@ -11,7 +11,7 @@ use Rattle.sasi_host.specs.Names.{Bytes, Folder, data_name}
 use Rattle.sasi_host.specs.View.{View, contents_in}
 use Rattle.sasi_datawrite.specs.Files.{IsDataFile}
 use Rattle.sasi_datawrite.specs.Format.{Content}
-use Rattle.sasi_dataread.specs.Opened.{IsOpenedAs, Opened}
+use Rattle.sasi_dataread.specs.Opened.{IsOpenedAs, OpenDataFile}
 use Rattle.sasi_dataread.specs.ReadCosts.{ReadsEachPageOnce, ScansPagesOnce, always_within, begins_sequential, file_pages, progress, progress_within}
 use Rattle.sasi_dataread.specs.Scans.{DataScan}
 use Rattle.sasi_layout.specs.Layout.{TableParts}
@@ -21,7 +21,7 @@ use Rattle.sasi_merge.specs.Merging.{Head}
 use Rattle.sasi_store.specs.declared.source.Source.{Source}
 use Rattle.sasi_store.specs.declared.source.Source.TheVariants.{File}
 use Rattle.sasi_store.specs.Sources.{IsOpenIn}
-use Rattle.sasi_store.specs.Paging.{AllPagesRead, GoReading, GoWithin, IsPaged, OpensReading, OpensWithin, PagesRead, StepsReading, StepsWithin, all_pages_left, pages_in, pages_left, table_reads}
+use Rattle.sasi_store.specs.Paging.{AllPagesRead, IsPaged, MovesReading, MovesWithin, OpensReading, OpensWithin, PagesRead, StepsReading, StepsWithin, all_pages_left, pages_in, pages_left, table_reads}
 use Rattle.sasi_store.specs.Scanning.{AreContents, HasContent, IsOpenedFile, IsTableOf}
 use Rattle.sasi_store.proofs.Costs.{reads_same}
 use Rattle.sasi_store.proofs.Moves.{got}
@@ -37,13 +37,13 @@ file_reads : (seen : Option Folder) (p : Partitioner) (old new : DataScan) (befo
 file_reads seen p old new before now content is same once =
     let open_now : IsOpenIn seen new.opened p content = record {
       bytes = is.bytes;
-      reads = ap (λ (o : Opened). contents_in seen o.file) same ∙ is.reads;
-      data_file = subst (λ (o : Opened). IsDataFile p o.types is.bytes content) (sym same) is.data_file;
-      of = subst (λ (o : Opened). IsOpenedAs o p content) (sym same) is.of;
+      reads = ap (λ (o : OpenDataFile). contents_in seen o.file) same ∙ is.reads;
+      data_file = subst (λ (o : OpenDataFile). IsDataFile p o.types is.bytes content) (sym same) is.data_file;
+      of = subst (λ (o : OpenDataFile). IsOpenedAs o p content) (sym same) is.of;
       keys = is.keys;
     } in
     let pages = pages_are seen old.opened.file is.bytes is.reads in
-    let pages_now : pages_in seen new.opened.file ≡ pages_in seen old.opened.file = ap (λ (o : Opened). pages_in seen o.file) same in
+    let pages_now : pages_in seen new.opened.file ≡ pages_in seen old.opened.file = ap (λ (o : OpenDataFile). pages_in seen o.file) same in
     let within = progress_within is.bytes content new once.sequential in
     record {
       paged = record { content = content; is = open_now; sequential = once.sequential };
@@ -59,38 +59,38 @@ scan_reads v w old new result same once p paged =
   where
     by : (r : Result Head ReadFault) → MatchResult r (λ _. ReadsEachPageOnce paged.is.bytes paged.content v.reads w.reads old new) (λ _. w.reads + progress old ≤ v.reads + 2 * file_pages paged.is.bytes)
         → MatchResult r (λ _. PagesRead v.files p (File old) (File new) v.reads w.reads) (λ _. w.reads ≤ v.reads + pages_left v.files (File old))
-    by (Ok head) goes = file_reads v.files p old new v.reads w.reads paged.content paged.is same goes
+    by (Ok head) advances = file_reads v.files p old new v.reads w.reads paged.content paged.is same advances
     by (Err f) within = scan_stops v.files old v.reads w.reads paged.is.bytes paged.is.reads within
 
 -- whether it failed or not
 step_within : {T : Type 0} (seen : Option Folder) (p : Partitioner) (old new : Source) (before now : ℕ) (result : Result T ReadFault) → StepsWithin seen p old new before now result → IsPaged seen p old → now ≤ before + pages_left seen old
-step_within seen p old new before now result step paged = always_within (PagesRead seen p old new before now) now (before + pages_left seen old) result (λ goes. omega (arith, goes.reads)) (step paged)
+step_within seen p old new before now result step paged = always_within (PagesRead seen p old new before now) now (before + pages_left seen old) result (λ advances. omega (arith, advances.reads)) (step paged)
 
 -- ---- all sources
 
-pub none_read : (seen : Option Folder) (p : Partitioner) (sources : List Source) (count : ℕ) → GoReading seen p sources sources count count
+pub none_read : (seen : Option Folder) (p : Partitioner) (sources : List Source) (count : ℕ) → MovesReading seen p sources sources count count
 none_read seen p sources count paged = record { paged = paged; reads = omega arith }
 
-pub reads_go_on : (seen : Option Folder) (p : Partitioner) (first second third : List Source) (a b c : ℕ) → GoReading seen p first second a b → GoReading seen p second third b c → GoReading seen p first third a c
-reads_go_on seen p first second third a b c one two paged =
+pub reads_joined : (seen : Option Folder) (p : Partitioner) (first second third : List Source) (a b c : ℕ) → MovesReading seen p first second a b → MovesReading seen p second third b c → MovesReading seen p first third a c
+reads_joined seen p first second third a b c one two paged =
     let before = one paged in
     let after = two before.paged in
     record { paged = after.paged; reads = omega (arith, before.reads, after.reads) }
 
 -- whether one of their steps failed or not
-gone_within : {T : Type 0} (seen : Option Folder) (p : Partitioner) (old new : List Source) (before now : ℕ) (result : Result T ReadFault) → GoWithin seen p old new before now result → AllByRecursion (IsPaged seen p) old → now ≤ before + all_pages_left seen old
-gone_within seen p old new before now result goes paged = always_within (AllPagesRead seen p old new before now) now (before + all_pages_left seen old) result (λ all. omega (arith, all.reads)) (goes paged)
+gone_within : {T : Type 0} (seen : Option Folder) (p : Partitioner) (old new : List Source) (before now : ℕ) (result : Result T ReadFault) → MovesWithin seen p old new before now result → AllByRecursion (IsPaged seen p) old → now ≤ before + all_pages_left seen old
+gone_within seen p old new before now result advances paged = always_within (AllPagesRead seen p old new before now) now (before + all_pages_left seen old) result (λ all. omega (arith, all.reads)) (advances paged)
 
 -- they went on, and then one may have failed
-pub stops_on : {T : Type 0} (seen : Option Folder) (p : Partitioner) (first second third : List Source) (a b c : ℕ) (result : Result T ReadFault) → GoReading seen p first second a b → GoWithin seen p second third b c result → AllByRecursion (IsPaged seen p) first → c ≤ a + all_pages_left seen first
+pub stops_on : {T : Type 0} (seen : Option Folder) (p : Partitioner) (first second third : List Source) (a b c : ℕ) (result : Result T ReadFault) → MovesReading seen p first second a b → MovesWithin seen p second third b c result → AllByRecursion (IsPaged seen p) first → c ≤ a + all_pages_left seen first
 stops_on seen p first second third a b c result one two paged = let before = one paged in omega (arith, before.reads, gone_within seen p second third b c result two before.paged)
 
 -- and no step did
-pub gone_by : (seen : Option Folder) (p : Partitioner) (first second : List Source) (a b : ℕ) → GoReading seen p first second a b → AllByRecursion (IsPaged seen p) first → b ≤ a + all_pages_left seen first
-gone_by seen p first second a b goes paged = omega (arith, (goes paged).reads)
+pub gone_by : (seen : Option Folder) (p : Partitioner) (first second : List Source) (a b : ℕ) → MovesReading seen p first second a b → AllByRecursion (IsPaged seen p) first → b ≤ a + all_pages_left seen first
+gone_by seen p first second a b advances paged = omega (arith, (advances paged).reads)
 
 -- a step of the source at a position
-pub set_reads : (seen : Option Folder) (p : Partitioner) (sources : List Source) (at : ℕ) (source after : Source) (before now : ℕ) → slice_get sources at ≡ Some source → StepsReading seen p source after before now → GoReading seen p sources (set sources at after) before now
+pub set_reads : (seen : Option Folder) (p : Partitioner) (sources : List Source) (at : ℕ) (source after : Source) (before now : ℕ) → slice_get sources at ≡ Some source → StepsReading seen p source after before now → MovesReading seen p sources (set sources at after) before now
 set_reads seen p [] at source after before now is step paged = absurd (let no : None ≡ Some source = is in cc)
 set_reads seen p (s ∷ sources) zero source after before now is step paged =
     let same : source ≡ s = cc in
@@ -216,11 +216,11 @@ opened_within v w types files ms sources folder p t result told is opens =
 -- and then they went on, or one of them failed
 pub whole_reads : {T : Type 0} (v w u : View) (types : List ColumnType) (files : List ListedFile) (ms : List MemtableView) (sources all news : List Source) (folder : Folder) (p : Partitioner) (t : TableParts) (result : Result T ReadFault) → Changes Same v w → all ≡ sources ++ map_sources ms → v.files ≡ Some folder → IsTableOf folder p types files (map (λ (m : MemtableView). m.partitions) ms) t
     → ((q : Partitioner) (contents : List Content) → AreContents v.files q types files contents → OpensReading v.files q (table_reads v.files files) [] sources v.reads w.reads)
-    → ((q : Partitioner) → GoWithin w.files q all news w.reads u.reads result) → u.reads ≤ v.reads + table_reads v.files files
-whole_reads v w u types files ms sources all news folder p t result change all_are told is opens goes =
+    → ((q : Partitioner) → MovesWithin w.files q all news w.reads u.reads result) → u.reads ≤ v.reads + table_reads v.files files
+whole_reads v w u types files ms sources all news folder p t result change all_are told is opens advances =
     let scanned = table_scanned folder p types files ms t is in
     let have = subst (λ (o : Option Folder). AreContents o p types files scanned.contents) (sym told) scanned.have in
     let opened = opens p scanned.contents have in
-    let going = subst (λ (o : Option Folder). GoWithin o p all news w.reads u.reads result) (reads_same v w change) (goes p) in
+    let going = subst (λ (o : Option Folder). MovesWithin o p all news w.reads u.reads result) (reads_same v w change) (advances p) in
     let within = gone_within v.files p all news w.reads u.reads result going (subst (AllByRecursion (IsPaged v.files p)) (sym all_are) (maps_paged v.files p sources ms opened.paged)) in
     omega (arith, opened.reads, within, ap (all_pages_left v.files) all_are ∙ maps_pages v.files sources ms)

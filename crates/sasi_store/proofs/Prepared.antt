@@ -14,7 +14,7 @@ use Rattle.sasi_cells.specs.Mutations.{state_with_mutation}
 use Rattle.sasi_cells.specs.declared.mutation.Mutation.{Mutation}
 use Rattle.sasi_folder.proofs.Creating.{can_create}
 use Rattle.sasi_host.specs.View.{View}
-use Rattle.sasi_layout.specs.Serving.{IsReady}
+use Rattle.sasi_layout.specs.Serving.{CanChange}
 use Rattle.sasi_machine.specs.Prepares.{CreatesTable, HasRows, HasTable, IsApplicable, IsQuery, IsSelect, IsStateOf, IsTimeless, Prepares, asked_by}
 use Rattle.sasi_machine.specs.declared.prepared.Prepared.{Prepared}
 use Rattle.sasi_machine.specs.declared.prepared.Prepared.TheVariants.{Create, Write as Writes}
@@ -35,7 +35,7 @@ use Rattle.sasi_model.specs.State.{Definition, State, definition_of, max_timesta
 use Rattle.sasi_model.specs.Step.{primary_key}
 use Rattle.sasi_model.specs.Stored.{IsBodyOf}
 use Rattle.sasi_model.specs.WellFormed.{IsWellFormed}
-use Rattle.sasi_recover.specs.OpenedFolder.{table_in_hand}
+use Rattle.sasi_recover.specs.OpenedFolder.{opened_table}
 use Rattle.sasi_schema.proofs.Keys.{types_are}
 use Rattle.sasi_schema.specs.declared.table.Table.{Table}
 use Rattle.sasi_types.specs.declared.column.ColumnType.{ColumnType}
@@ -44,14 +44,14 @@ use Rattle.sasi_types.specs.declared.statement.Statement.{Statement}
 use Rattle.sasi_types.specs.declared.statement.Statement.TheVariants.{CreateTable}
 use Rattle.sasi_store.specs.Puts.{HasTableFor}
 use Rattle.sasi_store.specs.Selects.{IsSelectable}
-use Rattle.sasi_store.specs.StoreView.{hand_of}
-use Rattle.sasi_store.specs.Writable.{IsCreatable, IsWritable}
+use Rattle.sasi_store.specs.StoreView.{memory_of}
+use Rattle.sasi_store.specs.Writable.{IsCreatable, IsWritableMutation}
 use Rattle.sasi_store.specs.declared.parts.Parts.{Parts}
 use Rattle.sasi_machine.proofs.StatementPreparing.{empty_definitions}
-use Rattle.sasi_store.proofs.TablesInHand.{as_many, map_there}
+use Rattle.sasi_store.proofs.TablesInMemory.{as_many, map_there}
 use Rattle.sasi_store.proofs.Timestamps.{put_timestamp}
 
-module _ (v : View) (p : Parts) (ready : IsReady v (hand_of p)) where
+module _ (v : View) (p : Parts) (ready : CanChange v (memory_of p)) where
   abbrev listing : Listing
   listing = p.manifest.listing
 
@@ -66,16 +66,16 @@ module _ (v : View) (p : Parts) (ready : IsReady v (hand_of p)) where
   counted = ap length ready.definitions ∙ length-map listing.tables (λ (t : ListedDefinition). t.definition)
 
   create_applies : (t : Table) (statement : Statement) → IsWellFormed statement → CreatesTable blank statement t → Applies (Some listing) (edits.CreateTable t.number t.name t.columns t.key listing.last)
-  create_applies t (CreateTable table columns keys) well creates =
-      let all = can_create listing blank table columns keys ready.consistent (blank_definitions ∙ ready.definitions) well creates.0 in
+  create_applies t (CreateTable table columns keys) in_order creates =
+      let all = can_create listing blank table columns keys ready.consistent (blank_definitions ∙ ready.definitions) in_order creates.0 in
       let size : length (map empty_table p.schema) ≡ length p.schema = length-map p.schema empty_table in
       let number : suc (length listing.tables) ≡ t.number = omega (arith, creates.2, counted, size) in
       let is = sym creates.1 in
       subst (λ (n : ℕ). Applies (Some listing) (edits.CreateTable n t.name t.columns t.key listing.last)) number
       (subst (λ (d : Definition). Applies (Some listing) (edits.CreateTable (suc (length listing.tables)) d.name d.columns d.key listing.last)) is all)
-  create_applies t statement well creates = absurd creates
+  create_applies t statement in_order creates = absurd creates
 
-  pub creatable : (t : Table) (piece : Piece) (reply : List ℕ) → Prepares blank piece reply (Create t) → IsCreatable (hand_of p) t
+  pub creatable : (t : Table) (piece : Piece) (reply : List ℕ) → Prepares blank piece reply (Create t) → IsCreatable (memory_of p) t
   creatable t piece reply prepared =
       let size : length (map empty_table p.schema) ≡ length p.schema = length-map p.schema empty_table in
       let number = prepared.2.number in
@@ -88,11 +88,11 @@ module _ (v : View) (p : Parts) (ready : IsReady v (hand_of p)) where
   pub has_table_for : (number : ℕ) → HasTable blank number → HasTableFor number p.tables.items
   has_table_for number has =
       let size : length (map empty_table p.schema) ≡ length p.schema = length-map p.schema empty_table in
-      let count = as_many listing.partitioner listing.floor listing.last p.schema (map table_in_hand p.tables.items) ready.tables in
-      let maps : length (map table_in_hand p.tables.items) ≡ length p.tables.items = length-map p.tables.items table_in_hand in
+      let count = as_many listing.partitioner listing.floor listing.last p.schema (map opened_table p.tables.items) ready.tables in
+      let maps : length (map opened_table p.tables.items) ≡ length p.tables.items = length-map p.tables.items opened_table in
       record { some = has.some; inside = omega (arith, has.inside, size, count, maps) }
 
-  pub selectable : (rows : Selection) → HasRows blank rows → IsSelectable (hand_of p) rows
+  pub selectable : (rows : Selection) → HasRows blank rows → IsSelectable (memory_of p) rows
   selectable rows has = record {
     some = has.some;
     definition = has.table.definition;
@@ -140,7 +140,7 @@ timed q d ds time =
     let put = put_timestamp s (deletion time) (empty_table d) (omega arith) here in
     record {
       definitions_are = ap (λ (l : List Definition). d ∷ l) (empty_definitions ds);
-      newest_is = omega (arith, put, no_cell time, blank_time q (d ∷ ds));
+      max_time_is = omega (arith, put, no_cell time, blank_time q (d ∷ ds));
     }
 
 -- and where there is none, nothing is written
@@ -161,8 +161,8 @@ none_written time (Says statement) n key change is = by (lookup (λ applies. app
     by None is = none_asked time statement n key change is
     by (Some r) is = cc
 
-module _ (v : View) (p : Parts) (ready : IsReady v (hand_of p)) where
-  writable_in : (s : State) → definitions s.tables ≡ p.schema → (w : Mutation) → w.table < 2 ^ 32 → IsApplicable s w → IsWritable (hand_of p) w
+module _ (v : View) (p : Parts) (ready : CanChange v (memory_of p)) where
+  writable_in : (s : State) → definitions s.tables ≡ p.schema → (w : Mutation) → w.table < 2 ^ 32 → IsApplicable s w → IsWritableMutation (memory_of p) w
   writable_in s are w small fits = record {
     some = fits.some;
     small = small;
@@ -172,10 +172,10 @@ module _ (v : View) (p : Parts) (ready : IsReady v (hand_of p)) where
   }
 
   -- **A mutation that is prepared can be written.**
-  pub writable : (w : Mutation) (piece : Piece) (reply : List ℕ) → w.table < 2 ^ 32 → asks p.schema p.max_timestamp piece ≡ ask.Writes w.table w.key w.change → ((s : State) → IsStateOf p.schema p.max_timestamp s → Prepares s piece reply (Writes w)) → IsWritable (hand_of p) w
+  pub writable : (w : Mutation) (piece : Piece) (reply : List ℕ) → w.table < 2 ^ 32 → asks p.schema p.max_timestamp piece ≡ ask.Writes w.table w.key w.change → ((s : State) → IsStateOf p.schema p.max_timestamp s → Prepares s piece reply (Writes w)) → IsWritableMutation (memory_of p) w
   writable w piece reply small asked prepared = by p.schema refl
     where
-      by : (ds : List Definition) → p.schema ≡ ds → IsWritable (hand_of p) w
+      by : (ds : List Definition) → p.schema ≡ ds → IsWritableMutation (memory_of p) w
       by [] none = absurd (none_written p.max_timestamp (read piece) w.table w.key w.change (ap (λ (ds : List Definition). asks ds p.max_timestamp piece) (sym none) ∙ asked))
       by (d ∷ ds) some =
           let s : State = state_with_mutation (record { partitioner = p.manifest.listing.partitioner; tables = map empty_table (d ∷ ds) }) (deletion p.max_timestamp) in

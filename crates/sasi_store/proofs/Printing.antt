@@ -71,16 +71,16 @@ module _ (v w : View) (change : Changes Same v w) (p : Partitioner) (picked : Pi
   left_now : AreLeft w.files p heads sources on.rest
   left_now = subst (λ (o : Option Folder). AreLeft o p heads sources on.rest) (sym (reads_same v w change)) on.left
 
-  pub goes_on : (nexts : List Head) (afters : List Source) (reply_new : List ℕ) (more : ℕ) → ((q : Partitioner) (ls : List Entries) → AreLeft w.files q heads sources ls → AllByRecursion IsRising ls → PrintsNext w.files q picked ls nexts afters reply reply_new (Some more)) → IsPrinting v.files p picked lefts nexts afters reply_old reply_new (rows + more)
-  goes_on nexts afters reply_new more next =
+  pub printing_next : (nexts : List Head) (afters : List Source) (reply_new : List ℕ) (more : ℕ) → ((q : Partitioner) (ls : List Entries) → AreLeft w.files q heads sources ls → AllByRecursion IsRising ls → PrintsNext w.files q picked ls nexts afters reply reply_new (Some more)) → IsPrinting v.files p picked lefts nexts afters reply_old reply_new (rows + more)
+  printing_next nexts afters reply_new more next =
       printing_more v.files p picked lefts heads sources nexts afters reply_old reply reply_new rows more on
       (subst (λ (o : Option Folder). IsNextPrinted o p picked on.rest nexts afters reply reply_new more) (reads_same v w change) (next p on.rest left_now on.rising))
 
   pub ends_on : (nexts : List Head) (afters : List Source) (reply_new : List ℕ) → ((q : Partitioner) (ls : List Entries) → AreLeft w.files q heads sources ls → AllByRecursion IsRising ls → PrintsNext w.files q picked ls nexts afters reply reply_new None) → ArePrinted picked (merged_entries lefts) reply_old reply_new rows
   ends_on nexts afters reply_new end = let last = end p on.rest left_now on.rising in printing_ends v.files p picked lefts heads sources reply_old reply reply_new rows on last.0 last.1
 
-  pub spares_on : (f : ReadFault) → ((q : Partitioner) (ls : List Entries) → AreLeft w.files q heads sources ls → OnDamage (λ _. ⊥) f) → OnDamage (λ _. ⊥) f
-  spares_on f spared = spared p on.rest left_now
+  pub no_false_on : (f : ReadFault) → ((q : Partitioner) (ls : List Entries) → AreLeft w.files q heads sources ls → OnDamage (λ _. ⊥) f) → OnDamage (λ _. ⊥) f
+  no_false_on f no_false = no_false p on.rest left_now
 
 -- with their number the rows are the answer
 pub answer_is : (picked : Picked) (entries all : Entries) (reply_old reply reply_new : List ℕ) (rows : ℕ) → entries ≡ all → ArePrinted picked entries reply_old reply rows → reply_new ≡ reply ++ count_line rows → reply_new ≡ reply_old ++ rows_lines (rows_of picked all)

@@ -14,18 +14,18 @@ use Rattle.sasi_commitlog.specs.LogPosition.{IsAtLogEnd, IsLogBeforeOrAfter}
 use Rattle.sasi_commitlog.specs.Reads.{GainsMutation}
 use Rattle.sasi_folder.proofs.FolderLaws.{kinds_apart}
 use Rattle.sasi_folder.proofs.Recording.{mutation_fits}
-use Rattle.sasi_folder.specs.Stands.{types_listed}
+use Rattle.sasi_folder.specs.FolderContents.{types_listed}
 use Rattle.sasi_layout.proofs.LayoutLaws.{put_state}
 use Rattle.sasi_layout.proofs.ListingLaws.{put_listing}
 use Rattle.sasi_layout.proofs.Numbered.{seen_at, unseen_at}
 use Rattle.sasi_layout.proofs.Storable.{put_storable}
 use Rattle.sasi_layout.proofs.Trails.{put_each, put_moves}
-use Rattle.sasi_layout.proofs.WellMoves.{moved_well}
+use Rattle.sasi_layout.proofs.MovesInOrder.{moved_in_order}
 use Rattle.sasi_layout.specs.Between.{Between}
 use Rattle.sasi_layout.specs.Layout.{Layout, TableParts, listing_of, state_of, table_of}
 use Rattle.sasi_layout.specs.Moves.{Put, after_put, or_else, put_table}
 use Rattle.sasi_layout.specs.Kept.{is_kept}
-use Rattle.sasi_layout.specs.Serving.{AreTablesReady, IsLive, IsReady, IsTableReady, Serves, StoreInHand, TableInHand, kept_by, table_in_hand}
+use Rattle.sasi_layout.specs.Serving.{AreTablesReady, CanChange, IsLive, IsTableReady, Serves, StoreInMemory, TableInMemory, kept_by, table_in_memory}
 use Rattle.sasi_manifest.specs.declared.listing.Listing.{Listing}
 use Rattle.sasi_manifest.specs.Listings.{at_number}
 use Rattle.sasi_manifest.specs.OpenManifest.{ManifestStands}
@@ -38,22 +38,22 @@ use Rattle.sasi_model.specs.Changes.{empty_table}
 use Rattle.sasi_model.specs.State.{Definition, State, Table, max_timestamp}
 use Rattle.sasi_model.specs.Stored.{IsBodyOf}
 use Rattle.sasi_model.specs.State.{decorated}
-use Rattle.sasi_recover.specs.OpenedFolder.{table_in_hand as open_table, used_numbers}
+use Rattle.sasi_recover.specs.OpenedFolder.{opened_table as open_table, used_numbers}
 use Rattle.sasi_recover.specs.declared.opened.TableMap.{TableMap}
 use Rattle.sasi_schema.specs.Numbers.{RisesFrom}
 use Rattle.sasi_types.specs.declared.partitioner.Partitioner.{Partitioner}
 use Rattle.sasi_cells.specs.Maps.{put}
 use Rattle.sasi_store.specs.Faults.{StepCauses}
 use Rattle.sasi_store.specs.MakesMoves.{MakesMoves}
-use Rattle.sasi_store.specs.StoreView.{AreTables, IsOfParts, hand_of}
+use Rattle.sasi_store.specs.StoreView.{AreTables, IsOfParts, memory_of}
 use Rattle.sasi_store.specs.declared.fault.StepFault.{StepFault}
 use Rattle.sasi_store.specs.declared.parts.Parts.{Parts}
-use Rattle.sasi_store.specs.Puts.{HasTableFor, IsPutAt, hand_after_put, put_in_hand, put_map}
+use Rattle.sasi_store.specs.Puts.{HasTableFor, IsPutAt, memory_after_put, put_in_memory, put_map}
 use Rattle.sasi_store.proofs.MoveCauses.{IsPlain, any_change, plain_undamaged, plain_unspent}
-use Rattle.sasi_store.specs.Writable.{IsWritable}
+use Rattle.sasi_store.specs.Writable.{IsWritableMutation}
 use Rattle.sasi_layout.proofs.KeptLaws.{keeps_segment}
 use Rattle.sasi_store.proofs.Frames.{changed_kept, manifest_other, reached_there}
-use Rattle.sasi_store.proofs.TablesInHand.{all_at, all_set, as_many, at_numbered, inside_there, length_set, map_there, ready_changed, ready_there, seen_there, set_numbered, there_inside, unseen_set}
+use Rattle.sasi_store.proofs.TablesInMemory.{all_at, all_set, as_many, at_numbered, inside_there, length_set, map_there, ready_changed, ready_there, seen_there, set_numbered, there_inside, unseen_set}
 use Rattle.sasi_store.proofs.Timestamps.{put_timestamp}
 
 -- ---- the mutation
@@ -63,12 +63,12 @@ empty_at [] at d there = cc
 empty_at (x ∷ ds) zero d there = let same : x ≡ d = cc in ap (λ (d : Definition). Some (empty_table d)) same
 empty_at (x ∷ ds) (suc at) d there = empty_at ds at d there
 
-module _ (a b : View) (sound : IsSound a) (store : StoreInHand) (m : Mutation) (ready : IsReady a store) (writable : IsWritable store m) (bytes : AreBytes m.key) where
+module _ (a b : View) (sound : IsSound a) (store : StoreInMemory) (m : Mutation) (ready : CanChange a store) (writable : IsWritableMutation store m) (bytes : AreBytes m.key) where
   abbrev listing : Listing
   listing = store.manifest.listing
 
   -- the table is typed
-  typed_at : (at : ℕ) (d : Definition) → slice_get store.definitions at ≡ Some d → (t : TableInHand) × IsTableReady listing.partitioner listing.floor listing.last d t
+  typed_at : (at : ℕ) (d : Definition) → slice_get store.definitions at ≡ Some d → (t : TableInMemory) × IsTableReady listing.partitioner listing.floor listing.last d t
   typed_at at d there = ready_there listing.partitioner listing.floor listing.last at store.definitions store.tables d ready.tables there
 
   fits : IsMutationOf (types_listed listing) m
@@ -97,11 +97,11 @@ module _ (a b : View) (sound : IsSound a) (store : StoreInHand) (m : Mutation) (
   -- **Each moment is one of the put.**
   pub put_moment : ((mutations : List Mutation) → IsAtLogEnd a store.log.file store.log.at mutations → Changes (FileChange store.log.file (LeftWith (IsLogBeforeOrAfter store.log.file mutations m))) a b)
       → (l : Layout) → Serves a store l → Changes (λ x y. Between l (Put m ∷ []) y) a b
-  put_moment moments l serves = put_moves l a b serves.older serves.current m sound serves.shape serves.well (fits_layout l serves) (of_layout l serves moments)
+  put_moment moments l serves = put_moves l a b serves.older serves.current m sound serves.shape serves.in_order (fits_layout l serves) (of_layout l serves moments)
 
   -- **The store serves the layout after it.**
   pub put_serves : (log : Handle) → Changes (FileChange store.log.file AnyChange) a b → GainsMutation a b store.log.file store.log.at log.at m → log.file ≡ store.log.file
-      → (l : Layout) → Serves a store l → Serves b (record (hand_after_put m store) { log = log }) (after_put m l)
+      → (l : Layout) → Serves a store l → Serves b (record (memory_after_put m store) { log = log }) (after_put m l)
   put_serves log change gains file l serves =
       let change_log : Changes (FileChange (log_name l.last) AnyChange) a b = subst (λ f. Changes (FileChange f AnyChange) a b) serves.log change in
       let end : IsAtLogEnd b (log_name l.last) log.at (serves.current ++ m ∷ []) =
@@ -109,13 +109,13 @@ module _ (a b : View) (sound : IsSound a) (store : StoreInHand) (m : Mutation) (
       let change_table : TableParts → TableParts = put_table l.partitioner l.last m in
       record {
         told = told_after (FileChange store.log.file AnyChange) a b change serves.told;
-        well = moved_well (Put m) l serves.well;
+        in_order = moved_in_order (Put m) l serves.in_order;
         definitions = serves.definitions ∙ sym (unseen_at (λ (t : TableParts). t.definition) change_table (λ t. refl) 1 m.table l.tables);
         tables =
-            ap (λ (ts : List TableInHand). at_number 1 m.table (put_in_hand listing.partitioner store.used.log m) ts) serves.tables
-            ∙ ap (λ (k : Listing). at_number 1 m.table (put_in_hand k.partitioner store.used.log m) (map table_in_hand l.tables)) serves.listing
-            ∙ ap (λ (n : ℕ). at_number 1 m.table (put_in_hand l.partitioner n m) (map table_in_hand l.tables)) (ready.numbered.log_is ∙ ap (λ (k : Listing). k.last) serves.listing)
-            ∙ sym (seen_at table_in_hand change_table (put_in_hand l.partitioner l.last m) (λ t. refl) 1 m.table l.tables);
+            ap (λ (ts : List TableInMemory). at_number 1 m.table (put_in_memory listing.partitioner store.used.log m) ts) serves.tables
+            ∙ ap (λ (k : Listing). at_number 1 m.table (put_in_memory k.partitioner store.used.log m) (map table_in_memory l.tables)) serves.listing
+            ∙ ap (λ (n : ℕ). at_number 1 m.table (put_in_memory l.partitioner n m) (map table_in_memory l.tables)) (ready.numbered.log_is ∙ ap (λ (k : Listing). k.last) serves.listing)
+            ∙ sym (seen_at table_in_memory change_table (put_in_memory l.partitioner l.last m) (λ t. refl) 1 m.table l.tables);
         used = serves.used;
         timestamp = ap (λ (n : ℕ). max n (max_timestamp_of m.change)) serves.timestamp ∙ sym (ap max_timestamp (put_state m l) ∙ put_timestamp (state_of l) m (there_in l serves).0 writable.some (there_in l serves).1);
         listing = serves.listing ∙ sym (put_listing m l);
@@ -125,18 +125,18 @@ module _ (a b : View) (sound : IsSound a) (store : StoreInHand) (m : Mutation) (
         current = serves.current ++ m ∷ [];
         log_end = end;
         manifest_end = subst (λ (k : Listing). ManifestStands b l.used.manifest store.manifest.at k) (sym (put_listing m l)) (manifest_other a b (log_name l.last) l.used.manifest store.manifest.at (listing_of l) (kinds_apart _ _ (omega arith)) change_log serves.manifest_end);
-        shape = put_each l m log.at a b serves.older serves.current serves.shape serves.well (fits_layout l serves) change_log end;
+        shape = put_each l m log.at a b serves.older serves.current serves.shape serves.in_order (fits_layout l serves) change_log end;
       }
 
   -- **It is ready after it.**
-  pub put_ready : (log : Handle) → Changes (FileChange store.log.file AnyChange) a b → log.file ≡ store.log.file → Reaches b log.file (log.at + 1) → IsTrue log.usable → IsReady b (record (hand_after_put m store) { log = log })
+  pub put_ready : (log : Handle) → Changes (FileChange store.log.file AnyChange) a b → log.file ≡ store.log.file → Reaches b log.file (log.at + 1) → IsTrue log.usable → CanChange b (record (memory_after_put m store) { log = log })
   put_ready log change file room usable =
       let body = writable.body in
       record {
         consistent = ready.consistent;
         definitions = ready.definitions;
-        tables = subst (λ (n : ℕ). AreTablesReady listing.partitioner listing.floor listing.last store.definitions (at_number 1 m.table (put_in_hand listing.partitioner n m) store.tables)) (sym ready.numbered.log_is)
-            (ready_changed listing.partitioner (λ d. IsBodyOf (types_of d) m.key m.change) (put_in_hand listing.partitioner listing.last m) listing.floor listing.last listing.floor listing.last
+        tables = subst (λ (n : ℕ). AreTablesReady listing.partitioner listing.floor listing.last store.definitions (at_number 1 m.table (put_in_memory listing.partitioner n m) store.tables)) (sym ready.numbered.log_is)
+            (ready_changed listing.partitioner (λ d. IsBodyOf (types_of d) m.key m.change) (put_in_memory listing.partitioner listing.last m) listing.floor listing.last listing.floor listing.last
             (λ d t fits_in is. record {
               typed = is.typed;
               first = live_put t.first is.first;
@@ -168,7 +168,7 @@ module _ (a b : View) (sound : IsSound a) (store : StoreInHand) (m : Mutation) (
 
   -- ---- what the store promises of it
 
-  pub put_stopped : {T : Type 0} (new : StoreInHand) (e : StepFault) → ((mutations : List Mutation) → IsAtLogEnd a store.log.file store.log.at mutations → Changes (FileChange store.log.file (LeftWith (IsLogBeforeOrAfter store.log.file mutations m))) a b)
+  pub put_stopped : {T : Type 0} (new : StoreInMemory) (e : StepFault) → ((mutations : List Mutation) → IsAtLogEnd a store.log.file store.log.at mutations → Changes (FileChange store.log.file (LeftWith (IsLogBeforeOrAfter store.log.file mutations m))) a b)
       → Changes (FileChange store.log.file AnyChange) a b → b.reads ≡ a.reads → IsPlain e → StepCauses {T = T} a b (Err e) → MakesMoves {T = T} (λ l. Put m ∷ []) a b store new (Err e)
   put_stopped new e moments change reads plain causes = record {
     any_moment = put_moment moments;
@@ -184,7 +184,7 @@ module _ (a b : View) (sound : IsSound a) (store : StoreInHand) (m : Mutation) (
 
   pub put_made : {T : Type 0} (x : T) (log : Handle) → ((mutations : List Mutation) → IsAtLogEnd a store.log.file store.log.at mutations → Changes (FileChange store.log.file (LeftWith (IsLogBeforeOrAfter store.log.file mutations m))) a b)
       → Changes (FileChange store.log.file AnyChange) a b → GainsMutation a b store.log.file store.log.at log.at m → log.file ≡ store.log.file → Reaches b log.file (log.at + 1) → IsTrue log.usable → b.reads ≡ a.reads → StepCauses {T = T} a b (Ok x)
-      → MakesMoves {T = T} (λ l. Put m ∷ []) a b store (record (hand_after_put m store) { log = log }) (Ok x)
+      → MakesMoves {T = T} (λ l. Put m ∷ []) a b store (record (memory_after_put m store) { log = log }) (Ok x)
   put_made x log moments change gains file room usable reads causes = record {
     any_moment = put_moment moments;
     serves = put_serves log change gains file;
@@ -206,20 +206,20 @@ module _ (p : Parts) (m : Mutation) (of : IsOfParts p) (there : HasTableFor m.ta
   under : found.0.memtable.partitioner ≡ p.manifest.listing.partitioner
   under = all_at (λ (t : TableMap). t.memtable.partitioner ≡ p.manifest.listing.partitioner) (m.table - 1) p.tables.items found.0 of.under found.1
 
-  pub put_tables : map open_table tables ≡ at_number 1 m.table (put_in_hand p.manifest.listing.partitioner p.numbers.log m) (map open_table p.tables.items)
+  pub put_tables : map open_table tables ≡ at_number 1 m.table (put_in_memory p.manifest.listing.partitioner p.numbers.log m) (map open_table p.tables.items)
   put_tables =
       let t = found.0 in
       let new : TableMap = put_map p.numbers.log m.key m.change t in
-      let seen : open_table new ≡ put_in_hand p.manifest.listing.partitioner p.numbers.log m (open_table t) =
+      let seen : open_table new ≡ put_in_memory p.manifest.listing.partitioner p.numbers.log m (open_table t) =
       ap (λ (q : Partitioner). record { first = or_else t.first (Some p.numbers.log); frozen = []; memtable = put t.memtable.partitions (decorated q m.key) m.change }) under in
-      ap (map open_table) (is t found.1) ∙ set_numbered open_table (put_in_hand p.manifest.listing.partitioner p.numbers.log m) m.table p.tables.items t new there.some found.1 seen
+      ap (map open_table) (is t found.1) ∙ set_numbered open_table (put_in_memory p.manifest.listing.partitioner p.numbers.log m) m.table p.tables.items t new there.some found.1 seen
 
   -- **The store is as it is after the put.**
-  pub put_hand : (log : Handle) (n : ℕ) → n ≡ max p.max_timestamp (max_timestamp_of m.change)
-      → record { definitions = p.schema; manifest = p.manifest; log = log; tables = map open_table tables; used = used_numbers p.numbers; max_timestamp = n } ≡ record (hand_after_put m (hand_of p)) { log = log }
-  put_hand log n time =
-      ap (λ (ts : List TableInHand). record { definitions = p.schema; manifest = p.manifest; log = log; tables = ts; used = used_numbers p.numbers; max_timestamp = n }) put_tables
-      ∙ ap (λ (k : ℕ). record (hand_after_put m (hand_of p)) { log = log; max_timestamp = k }) time
+  pub put_memory : (log : Handle) (n : ℕ) → n ≡ max p.max_timestamp (max_timestamp_of m.change)
+      → record { definitions = p.schema; manifest = p.manifest; log = log; tables = map open_table tables; used = used_numbers p.numbers; max_timestamp = n } ≡ record (memory_after_put m (memory_of p)) { log = log }
+  put_memory log n time =
+      ap (λ (ts : List TableInMemory). record { definitions = p.schema; manifest = p.manifest; log = log; tables = ts; used = used_numbers p.numbers; max_timestamp = n }) put_tables
+      ∙ ap (λ (k : ℕ). record (memory_after_put m (memory_of p)) { log = log; max_timestamp = k }) time
 
   pub put_of_parts : AreTables p.manifest.listing.partitioner tables
   put_of_parts =
@@ -236,7 +236,7 @@ module _ (p : Parts) (m : Mutation) (of : IsOfParts p) (there : HasTableFor m.ta
       record { some = there.some; inside = omega (arith, there.inside, size, ap length (is found.0 found.1)) }
 
 -- a table that can be written to has a memtable
-pub has_table : (v : View) (p : Parts) (number : ℕ) (d : Definition) → IsReady v (hand_of p) → 0 < number → slice_get p.schema (number - 1) ≡ Some d → HasTableFor number p.tables.items
+pub has_table : (v : View) (p : Parts) (number : ℕ) (d : Definition) → CanChange v (memory_of p) → 0 < number → slice_get p.schema (number - 1) ≡ Some d → HasTableFor number p.tables.items
 has_table v p number d ready some there =
     let listing = p.manifest.listing in
     let count = as_many listing.partitioner listing.floor listing.last p.schema (map open_table p.tables.items) ready.tables in

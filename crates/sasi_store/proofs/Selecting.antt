@@ -12,7 +12,7 @@ use Rattle.sasi_cells.specs.declared.mutation.Mutation.{Mutation}
 use Rattle.sasi_dataread.specs.Damages.{ShowsDataFile, inside, opened_by, outside}
 use Rattle.sasi_folder.specs.Damages as folders
 use Rattle.sasi_folder.specs.Damages.{FolderShows, broken_content, broken_data, broken_ends}
-use Rattle.sasi_folder.specs.Stands.{IsSealed}
+use Rattle.sasi_folder.specs.FolderContents.{IsSealed}
 use Rattle.sasi_host.specs.Damages.{OnDamage}
 use Rattle.sasi_host.specs.declared.damage.Damage.{Damage}
 use Rattle.sasi_host.specs.declared.fault.ReadFault.{ReadFault}
@@ -25,7 +25,7 @@ use Rattle.sasi_layout.proofs.Trails.{manifest_each}
 use Rattle.sasi_layout.specs.Kept.{Kept, is_kept, is_listed}
 use Rattle.sasi_layout.specs.Layout.{File, Layout, TableParts, bare_table, listed_of, state_of, table_of, unflushed}
 use Rattle.sasi_layout.specs.Serving as layout
-use Rattle.sasi_layout.specs.Serving.{IsReady, Serves, TableInHand, kept_by}
+use Rattle.sasi_layout.specs.Serving.{CanChange, Serves, TableInMemory, kept_by}
 use Rattle.sasi_layout.specs.Shape.{AreShaped, HasFile}
 use Rattle.sasi_machine.specs.Prepares.{answer_rows, lines_of}
 use Rattle.sasi_machine.specs.TableRows.{KeysStored}
@@ -40,7 +40,7 @@ use Rattle.sasi_manifest.specs.ListedTables.{listed}
 use Rattle.sasi_memtable.specs.MemtableView.{MemtableView}
 use Rattle.sasi_model.specs.Abbreviations.{types_of}
 use Rattle.sasi_model.specs.State.{Definition, Table}
-use Rattle.sasi_recover.specs.OpenedFolder.{table_in_hand}
+use Rattle.sasi_recover.specs.OpenedFolder.{opened_table}
 use Rattle.sasi_recover.specs.declared.opened.TableMap.{TableMap}
 use Rattle.sasi_schema.specs.Defined.{definition}
 use Rattle.sasi_types.specs.declared.column.ColumnType.{ColumnType}
@@ -50,11 +50,11 @@ use Rattle.sasi_store.specs.Faults.{OnStepDamage, fault_of_read}
 use Rattle.sasi_store.specs.Scanning.{IsTableOf}
 use Rattle.sasi_store.specs.Selects.{IsSelectable}
 use Rattle.sasi_store.specs.Sources.{ShowsListed}
-use Rattle.sasi_store.specs.StoreView.{hand_of}
+use Rattle.sasi_store.specs.StoreView.{memory_of}
 use Rattle.sasi_store.specs.declared.parts.Parts.{Parts}
-use Rattle.sasi_store.proofs.FlushingParts.{hand_at, table_at}
+use Rattle.sasi_store.proofs.FlushingParts.{memory_at, table_at}
 use Rattle.sasi_store.proofs.Putting.{has_table}
-use Rattle.sasi_store.proofs.TablesInHand.{index_got, map_there, ready_at, seen_as, there_inside}
+use Rattle.sasi_store.proofs.TablesInMemory.{index_got, map_there, ready_at, seen_as, there_inside}
 
 -- ---- lists
 
@@ -133,10 +133,10 @@ pub record HasTable (p : Parts) (rows : Selection) (definition : Definition) (ty
   pub types_are : types ≡ types_of definition
   pub files_are : files ≡ files_of p.manifest.listing.tables rows.table
   pub held : TableMap
-  pub held_there : slice_get p.tables.items (rows.table - 1) ≡ Some held
+  pub unflushed_there : slice_get p.tables.items (rows.table - 1) ≡ Some held
   pub maps_are : maps ≡ held.memtable ∷ []
 
-module _ (v : View) (sound : IsSound v) (p : Parts) (ready : IsReady v (hand_of p)) (rows : Selection) (can : IsSelectable (hand_of p) rows) where
+module _ (v : View) (sound : IsSound v) (p : Parts) (ready : CanChange v (memory_of p)) (rows : Selection) (can : IsSelectable (memory_of p) rows) where
   abbrev listing : Listing
   listing = p.manifest.listing
 
@@ -174,7 +174,7 @@ module _ (v : View) (sound : IsSound v) (p : Parts) (ready : IsReady v (hand_of 
     types_are = types_are ∙ ap types_of (row_defined tables seen row (index_got tables at row (inside_listed tables seen) is_row));
     files_are = files_are;
     held = held;
-    held_there = index_got p.tables.items at held inside_memory is_held;
+    unflushed_there = index_got p.tables.items at held inside_memory is_held;
     maps_are = maps_are;
   }
 
@@ -185,7 +185,7 @@ module _ (v : View) (sound : IsSound v) (p : Parts) (ready : IsReady v (hand_of 
     files_there =
         subst (AllByRecursion (λ (f : ListedFile). IsThere v (data_name f.number))) (sym (has.files_are ∙ listed_files))
         (all_then (λ (f : ListedFile). has_file defined.0.files f.number ≡ true) (λ (f : ListedFile). IsThere v (data_name f.number))
-        (λ f is_in. kept_there v (kept_by (hand_of p)) (data_name f.number) ready.kept (keeps_data (kept_by (hand_of p)) f.number ∙ listed_any listing.tables at defined.0 defined.1 f.number is_in))
+        (λ f is_in. kept_there v (kept_by (memory_of p)) (data_name f.number) ready.kept (keeps_data (kept_by (memory_of p)) f.number ∙ listed_any listing.tables at defined.0 defined.1 f.number is_in))
         defined.0.files (has_each defined.0.files))
 
     pub key_first : slice_get types 0 ≡ Some rows.picked.key
@@ -197,12 +197,12 @@ module _ (v : View) (sound : IsSound v) (p : Parts) (ready : IsReady v (hand_of 
         stored : KeysStored rows.picked.key has.held.memtable.partitions
         stored key some =
             let part = some_in (get has.held.memtable.partitions key) some in
-            let is = ready_at listing.partitioner listing.floor listing.last at (hand_of p).definitions (hand_of p).tables can.definition (table_in_hand has.held) ready.tables can.there (hand_at p rows.table has.held has.held_there) in
+            let is = ready_at listing.partitioner listing.floor listing.last at (memory_of p).definitions (memory_of p).tables can.definition (opened_table has.held) ready.tables can.there (memory_at p rows.table has.held has.unflushed_there) in
             subst (λ (k : ColumnType). IsStored k key.key) (sym can.key) (body_stored can.definition key.key part.0 (is.memtable key part.0 part.1).body)
 
-    module _ (l : Layout) (serves : Serves v (hand_of p) l) where
-      parts : (x : TableParts) × (slice_get l.tables at ≡ Some x) × (layout.table_in_hand x ≡ table_in_hand has.held)
-      parts = seen_as layout.table_in_hand l.tables at (table_in_hand has.held) (ap (λ (ts : List TableInHand). slice_get ts at) (sym serves.tables) ∙ hand_at p rows.table has.held has.held_there)
+    module _ (l : Layout) (serves : Serves v (memory_of p) l) where
+      parts : (x : TableParts) × (slice_get l.tables at ≡ Some x) × (layout.table_in_memory x ≡ opened_table has.held)
+      parts = seen_as layout.table_in_memory l.tables at (opened_table has.held) (ap (λ (ts : List TableInMemory). slice_get ts at) (sym serves.tables) ∙ memory_at p rows.table has.held has.unflushed_there)
 
       parts_defined : parts.0.definition ≡ can.definition
       parts_defined = there_one parts.0.definition can.definition
@@ -214,7 +214,7 @@ module _ (v : View) (sound : IsSound v) (p : Parts) (ready : IsReady v (hand_of 
           ap (λ (d : ListedDefinition). d.files) (there_one defined.0 (listed_of parts.0) (sym defined.1 ∙ is))
 
       parts_maps : map (λ (m : MemtableView). m.partitions) maps ≡ unflushed parts.0
-      parts_maps = ap (λ (ms : List MemtableView). map (λ (m : MemtableView). m.partitions) ms) has.maps_are ∙ ap (λ (h : TableInHand). h.frozen ++ h.memtable ∷ []) (sym parts.2)
+      parts_maps = ap (λ (ms : List MemtableView). map (λ (m : MemtableView). m.partitions) ms) has.maps_are ∙ ap (λ (h : TableInMemory). h.frozen ++ h.memtable ∷ []) (sym parts.2)
 
       -- **The table that is printed is that of the layout.**
       pub is_printed : (folder : Folder) × (v.files ≡ Some folder) × (x : TableParts) × IsTableOf folder l.partitioner types files (map (λ (m : MemtableView). m.partitions) maps) x × (answer_rows (state_of l) rows ≡ lines_of rows (table_of x).partitions)
@@ -236,8 +236,8 @@ module _ (v : View) (sound : IsSound v) (p : Parts) (ready : IsReady v (hand_of 
 
   sealed : (folder : Folder) → v.files ≡ Some folder → IsSealed folder p.manifest.number
   sealed folder files = record {
-    there = ready.kept folder files (seal_name p.manifest.number) ∙ keeps_seal (kept_by (hand_of p));
-    highest = λ other above. none_in (get folder (seal_name other)) (ready.kept folder files (seal_name other) ∙ unkept_seal (kept_by (hand_of p)) other above);
+    there = ready.kept folder files (seal_name p.manifest.number) ∙ keeps_seal (kept_by (memory_of p));
+    highest = λ other above. none_in (get folder (seal_name other)) (ready.kept folder files (seal_name other) ∙ unkept_seal (kept_by (memory_of p)) other above);
   }
 
   -- **Damage of one of its data files is damage of the folder.**
@@ -250,7 +250,7 @@ module _ (v : View) (sound : IsSound v) (p : Parts) (ready : IsReady v (hand_of 
       let contained : Contains defined.0.files shows.file = subst (λ (fs : List ListedFile). Contains fs shows.file) (has.files_are ∙ listed_files) shows.listed in
       let holds : has_file defined.0.files n ≡ true = all_within (λ (f : ListedFile). has_file defined.0.files f.number ≡ true) defined.0.files shows.file contained.0 contained.1 contained.2 (has_each defined.0.files) in
       let is_in : is_listed listing.tables n ≡ true = listed_any listing.tables at defined.0 defined.1 n holds in
-      let bytes = some_in (get folder (data_name n)) (ready.kept folder now (data_name n) ∙ keeps_data (kept_by (hand_of p)) n ∙ is_in) in
+      let bytes = some_in (get folder (data_name n)) (ready.kept folder now (data_name n) ∙ keeps_data (kept_by (memory_of p)) n ∙ is_in) in
       inr (record {
         number = p.manifest.number;
         sealed = sealed folder now;
@@ -258,7 +258,7 @@ module _ (v : View) (sound : IsSound v) (p : Parts) (ready : IsReady v (hand_of 
             (by n bytes.0 is_in bytes.1 holds (shows.shown bytes.0 (ap (λ (o : Option Folder). contents_in o (data_name n)) now ∙ bytes.1)));
       })
     where
-      by : (n : ℕ) (bytes : Bytes) → is_listed listing.tables n ≡ true → get folder (data_name n) ≡ Some bytes → has_file defined.0.files n ≡ true → ShowsDataFile types (data_name n) bytes damage → folders.ShowsDataFile folder listing.tables damage
+      by : (n : ℕ) (bytes : Bytes) → is_listed listing.tables n ≡ true → get folder (data_name n) ≡ Some bytes → has_file defined.0.files n ≡ true → ShowsDataFile types (data_name n) bytes damage → folders.ShowsListedDataFile folder listing.tables damage
       by n bytes is_in there holds (outside shown) = broken_ends n bytes is_in there shown
       by n bytes is_in there holds (inside numbers parts shown) = broken_content n bytes (opened_by (data_name n) types numbers) there (record {
         table = defined.0;

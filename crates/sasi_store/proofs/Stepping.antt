@@ -14,7 +14,7 @@ use Rattle.sasi_layout.proofs.Trails.{moves_none, none_done}
 use Rattle.sasi_layout.specs.Between.{Between}
 use Rattle.sasi_layout.specs.Layout.{Layout, bare, state_of}
 use Rattle.sasi_layout.specs.Moves.{Move, after_moves}
-use Rattle.sasi_layout.specs.Serving.{IsReady, Serves, StoreInHand}
+use Rattle.sasi_layout.specs.Serving.{CanChange, Serves, StoreInMemory}
 use Rattle.sasi_layout.specs.Shape.{HasShape}
 use Rattle.sasi_layout.specs.Spent.{spent}
 use Rattle.sasi_layout.specs.Statements.{moves_asked}
@@ -43,17 +43,17 @@ use Rattle.sasi_schema.specs.Numbers.{number_of_table}
 use Rattle.sasi_store.specs.MakesMoves.{MakesMoves}
 use Rattle.sasi_store.specs.Paging.{table_reads}
 use Rattle.sasi_store.specs.Selects.{select_reads}
-use Rattle.sasi_store.specs.Steps.{Steps}
+use Rattle.sasi_store.specs.Steps.{StepPromises}
 use Rattle.sasi_store.specs.declared.fault.StepFault.{StepFault}
 use Rattle.sasi_store.specs.declared.fault.StepFault.TheVariants as fault
 use Rattle.sasi_store.proofs.MoveCauses.{any_change, none_made}
 
 -- ---- a world and its state
 
-pub state_is : (v : View) (store : StoreInHand) (l : Layout) → Serves v store l → IsStateOf store.definitions store.max_timestamp (state_of l)
-state_is v store l serves = record { definitions_are = sym (serves.definitions ∙ definitions_are l); newest_is = sym serves.timestamp }
+pub state_is : (v : View) (store : StoreInMemory) (l : Layout) → Serves v store l → IsStateOf store.definitions store.max_timestamp (state_of l)
+state_is v store l serves = record { definitions_are = sym (serves.definitions ∙ definitions_are l); max_time_is = sym serves.timestamp }
 
-module _ (v : View) (store : StoreInHand) (piece : Piece) (asked : Asked) (is : asks store.definitions store.max_timestamp piece ≡ asked) where
+module _ (v : View) (store : StoreInMemory) (piece : Piece) (asked : Asked) (is : asks store.definitions store.max_timestamp piece ≡ asked) where
   pub moves_are : (w : World) → ServesWorld v store w → steps.moves w piece ≡ moves_asked w.layout asked
   moves_are w serves =
       ap (λ (ds : List Definition). moves_asked w.layout (asks ds (max_timestamp (state_of w.layout)) piece)) (sym serves.definitions)
@@ -75,19 +75,19 @@ by_damage P Q f (fault.Damaged damage) is = f damage is
 by_damage P Q f (fault.NumbersSpent kind) is = tt
 
 -- the whole reply was known from the state
-answered_as : (store : StoreInHand) (s after : State) (piece : Piece) (reply : List ℕ) (outcome : Outcome) → StepsTo s piece after reply outcome → IsStateOf store.definitions store.max_timestamp after → AnsweredButRows store s piece reply outcome
+answered_as : (store : StoreInMemory) (s after : State) (piece : Piece) (reply : List ℕ) (outcome : Outcome) → StepsTo s piece after reply outcome → IsStateOf store.definitions store.max_timestamp after → AnsweredButRows store s piece reply outcome
 answered_as store s after piece reply outcome to of = record {
   state_is = subst (IsStateOf store.definitions store.max_timestamp) (sym to.state_is) of;
   outcome_is = to.outcome_is;
   reply_is = λ _. sym to.reply_is;
 }
 
-module _ {T : Type 0} (a b : View) (old new : StoreInHand) (piece : Piece) (reply : List ℕ) (asked : Asked) (is : asks old.definitions old.max_timestamp piece ≡ asked) (changing : asked ≡ ask.NoChange → ⊥) where
+module _ {T : Type 0} (a b : View) (old new : StoreInMemory) (piece : Piece) (reply : List ℕ) (asked : Asked) (is : asks old.definitions old.max_timestamp piece ≡ asked) (changing : asked ≡ ask.NoChange → ⊥) where
   -- its moves were made; `after` is the state after the piece
   pub step_made : (x : T) (after : State → State) → MakesMoves {T = T} (λ l. moves_asked l asked) a b old new (Ok x)
       → ((s : State) → IsStateOf old.definitions old.max_timestamp s → StepsTo s piece (after s) reply Done)
       → ((s : State) → IsStateOf old.definitions old.max_timestamp s → IsStateOf new.definitions new.max_timestamp (after s))
-      → Steps piece a b old new reply (Ok Done)
+      → StepPromises piece a b old new reply (Ok Done)
   step_made x after makes steps_to known = record {
     answers = λ w serves.
         let to = steps_to (state_of w.layout) (state_is a old w.layout serves) in
@@ -111,7 +111,7 @@ module _ {T : Type 0} (a b : View) (old new : StoreInHand) (piece : Piece) (repl
   }
 
   -- they weren't, or not all of them
-  pub step_failed : (e : StepFault) → MakesMoves {T = T} (λ l. moves_asked l asked) a b old new (Err e) → Steps piece a b old new reply (Err e)
+  pub step_failed : (e : StepFault) → MakesMoves {T = T} (λ l. moves_asked l asked) a b old new (Err e) → StepPromises piece a b old new reply (Err e)
   step_failed e makes = record {
     answers = tt;
     everywhere = tt;
@@ -136,7 +136,7 @@ abbrev none_left : Result Outcome StepFault
 none_left = Err fault.OutOfMemory
 
 -- memory ran out before anything was done
-pub step_full : (v : View) (sound : IsSound v) (old : StoreInHand) (piece : Piece) (reply : List ℕ) → Steps piece v v old old reply (Err fault.OutOfMemory)
+pub step_full : (v : View) (sound : IsSound v) (old : StoreInMemory) (piece : Piece) (reply : List ℕ) → StepPromises piece v v old old reply (Err fault.OutOfMemory)
 step_full v sound old piece reply = record {
   answers = tt;
   everywhere = tt;
@@ -159,8 +159,8 @@ step_full v sound old piece reply = record {
         both e = cc
 
 -- it is answered without a change
-pub step_answered : (v : View) (sound : IsSound v) (old : StoreInHand) (piece : Piece) (reply : List ℕ) (outcome : Outcome) → IsReady v old → asks old.definitions old.max_timestamp piece ≡ ask.NoChange
-    → ((s : State) → IsStateOf old.definitions old.max_timestamp s → StepsTo s piece s reply outcome) → Steps piece v v old old reply (Ok outcome)
+pub step_answered : (v : View) (sound : IsSound v) (old : StoreInMemory) (piece : Piece) (reply : List ℕ) (outcome : Outcome) → CanChange v old → asks old.definitions old.max_timestamp piece ≡ ask.NoChange
+    → ((s : State) → IsStateOf old.definitions old.max_timestamp s → StepsTo s piece s reply outcome) → StepPromises piece v v old old reply (Ok outcome)
 step_answered v sound old piece reply outcome ready is steps_to = record {
   answers = λ w serves.
       let to = steps_to (state_of w.layout) (state_is v old w.layout serves) in
@@ -186,9 +186,9 @@ step_answered v sound old piece reply outcome ready is steps_to = record {
 -- ---- a SELECT
 
 -- what it may read, by the number of the table that it names
-pub select_costs : (seen : Option Folder) (store : StoreInHand) (s : State) (piece : Piece) (rows : Selection) → definitions s.tables ≡ store.definitions → SaysOne piece (λ statement. SelectsRows s statement rows)
+pub select_costs : (seen : Option Folder) (store : StoreInMemory) (s : State) (piece : Piece) (rows : Selection) → definitions s.tables ≡ store.definitions → SaysOne piece (λ statement. SelectsRows s statement rows)
     → select_reads seen store (read piece) ≡ table_reads seen (files_of store.manifest.listing.tables rows.table)
-select_costs seen store s piece rows are (statement, says, well, selects) = ap (select_reads seen store) says ∙ by statement selects
+select_costs seen store s piece rows are (statement, says, in_order, selects) = ap (select_reads seen store) says ∙ by statement selects
   where
     by : (statement : Statement) → SelectsRows s statement rows → select_reads seen store (Says statement) ≡ table_reads seen (files_of store.manifest.listing.tables rows.table)
     by (Query select) selects =
@@ -205,7 +205,7 @@ module _ (a b : View) (change : Changes Same a b) where
   image_before : (y : Folder) → b.image y → a.image y
   image_before y now = let from = change.image y now in subst a.image (sym from.2) from.1
 
-  pub serves_same : (store : StoreInHand) (l : Layout) → Serves a store l → Serves b store l
+  pub serves_same : (store : StoreInMemory) (l : Layout) → Serves a store l → Serves b store l
   serves_same store l serves = serves_fewer a b image_before store l (told_after Same a b change serves.told) serves
 
   pub files_before : (folder : Folder) → b.files ≡ Some folder → a.files ≡ Some folder
@@ -221,7 +221,7 @@ module _ (a b : View) (change : Changes Same a b) where
       by None is = absurd (untold (sym (change.untold is) ∙ files))
       by (Some was) is = (let now = change.seen was is in is ∙ ap Some (sym now.2 ∙ one now.0 folder (sym now.1 ∙ files)))
 
-  pub ready_same : (store : StoreInHand) → IsReady a store → IsReady b store
+  pub ready_same : (store : StoreInMemory) → CanChange a store → CanChange b store
   ready_same store ready = record {
     consistent = ready.consistent;
     definitions = ready.definitions;
@@ -237,16 +237,16 @@ module _ (a b : View) (change : Changes Same a b) where
     kept = λ folder files. ready.kept folder (files_before folder files);
   }
 
-module _ (a b : View) (sound : IsSound a) (old : StoreInHand) (piece : Piece) (change : Changes Same a b) (is : asks old.definitions old.max_timestamp piece ≡ ask.NoChange) (query : IsQuery (read piece)) where
+module _ (a b : View) (sound : IsSound a) (old : StoreInMemory) (piece : Piece) (change : Changes Same a b) (is : asks old.definitions old.max_timestamp piece ≡ ask.NoChange) (query : IsQuery (read piece)) where
   moments : (w : World) → ServesWorld a old w → Changes (λ x y. Between w.layout (steps.moves w piece) y) a b
   moments w serves = at_each_moment a b Same (λ x. HasShape x (bare w.layout) (serves.older ++ serves.current ∷ [])) (λ y. Between w.layout (steps.moves w piece) y) sound change serves.shape
       (λ x y has same. none_done w.layout (steps.moves w piece) y (_, subst (λ (z : Folder). HasShape z (bare w.layout) (serves.older ++ serves.current ∷ [])) (sym same) has))
 
-  pub select_answered : {T : Type 0} (x : T) (reply : List ℕ) → IsReady a old → ((w : World) → ServesWorld a old w → (step (state_of w.layout) piece).reply ≡ reply)
+  pub select_answered : {T : Type 0} (x : T) (reply : List ℕ) → CanChange a old → ((w : World) → ServesWorld a old w → (step (state_of w.layout) piece).reply ≡ reply)
       → ((s : State) → IsStateOf old.definitions old.max_timestamp s → ((step s piece).state ≡ s) × (Done ≡ outcome_of (step s piece).refused))
       → (number : ℕ) → select_reads a.files old (read piece) ≡ table_reads a.files (files_of old.manifest.listing.tables number)
       → ((l : Layout) → Serves a old l → b.reads ≤ a.reads + table_reads a.files (files_of old.manifest.listing.tables number))
-      → StepCauses {T = T} a b (Ok x) → Steps piece a b old old reply (Ok Done)
+      → StepCauses {T = T} a b (Ok x) → StepPromises piece a b old old reply (Ok Done)
   select_answered x reply ready replied steps_to number cost costs causes = record {
     answers = λ w serves. record {
       serves = subst (λ (ms : List Move). Serves b old (after_moves ms w.layout)) (sym (moves_are a old piece ask.NoChange is w serves)) (serves_same a b change old w.layout serves);
@@ -276,7 +276,7 @@ module _ (a b : View) (sound : IsSound a) (old : StoreInHand) (piece : Piece) (c
   pub select_failed : {T : Type 0} (e : StepFault) (reply : List ℕ) → ((folder : Folder) → b.files ≡ Some folder → OnStepDamage (FolderShows folder) e) → ((l : Layout) → Serves a old l → OnStepDamage (λ _. ⊥) e) → OnSpent (λ _. ⊥) e
       → (number : ℕ) → select_reads a.files old (read piece) ≡ table_reads a.files (files_of old.manifest.listing.tables number)
       → ((l : Layout) → Serves a old l → b.reads ≤ a.reads + table_reads a.files (files_of old.manifest.listing.tables number))
-      → StepCauses {T = T} a b (Err e) → Steps piece a b old old reply (Err e)
+      → StepCauses {T = T} a b (Err e) → StepPromises piece a b old old reply (Err e)
   select_failed e reply damaged undamaged unspent number cost costs causes = record {
     answers = tt;
     everywhere = tt;

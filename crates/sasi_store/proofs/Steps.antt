@@ -21,7 +21,7 @@ use Rattle.sasi_datawrite.specs.Files.{IsDataFile}
 use Rattle.sasi_datawrite.specs.Format.{Content}
 use Rattle.sasi_dataread.specs.Damages.{ShowsDataFile, ShowsHeaderOrFooter, inside, outside}
 use Rattle.sasi_dataread.specs.HeaderAndFooter.{HasHeaderAndFooter}
-use Rattle.sasi_dataread.specs.Opened.{IsOpenedAs, Opened}
+use Rattle.sasi_dataread.specs.Opened.{IsOpenedAs, OpenDataFile}
 use Rattle.sasi_dataread.specs.Reads.{IsOpenOn, NoFalseDataDamage}
 use Rattle.sasi_dataread.specs.Scans.{DataScan, NoFalseOpenedDamage, ReadsNextPartition, StepsToPartition}
 use Rattle.sasi_manifest.specs.declared.files.ListedFile.{ListedFile}
@@ -29,7 +29,7 @@ use Rattle.sasi_merge.specs.Merging.{Head}
 use Rattle.sasi_merge.specs.Streams.{Entries, behind, head_of}
 use Rattle.sasi_store.specs.declared.source.Source.{Source}
 use Rattle.sasi_store.specs.declared.source.Source.TheVariants.{File, Map}
-use Rattle.sasi_store.specs.Sources.{AllStored, CanStep, IsHeadKeyed, IsKeyed, IsListed, IsListedFile, CanScan, IsOpenIn, NoFalseSourceDamage, ShowsListed, ShowsSource, StepsInFile, StepsTo, numbers_of}
+use Rattle.sasi_store.specs.Sources.{AllStored, CanStep, IsHeadKeyed, IsKeyed, IsListedSource, IsListedFile, CanScan, IsOpenIn, NoFalseSourceDamage, ShowsListed, ShowsSource, StepsInFile, StepsTo, numbers_of}
 use Rattle.sasi_store.specs.Left.{HasLeft, entries_of}
 use Rattle.sasi_store.specs.Scanning.{HasContent, IsOpenedFile}
 use Rattle.sasi_store.proofs.Costs.{reads_same}
@@ -48,7 +48,7 @@ in_file seen p old new left None content is same left_is steps =
       head_is = sym (ap head_of none);
       behind_it = record {
         content = content;
-        is = subst (λ (o : Opened). IsOpenIn seen o p content) (sym same) is;
+        is = subst (λ (o : OpenDataFile). IsOpenIn seen o p content) (sym same) is;
         left_is = ap behind none ∙ sym (ap (entries_of p) (ap (λ n. drop n content) steps.1 ∙ steps.0));
       };
     }
@@ -58,7 +58,7 @@ in_file seen p old new left (Some one) content is same left_is steps =
       head_is = ap (λ t. Some (t, one.1, one.2)) steps.1 ∙ sym (ap head_of some);
       behind_it = record {
         content = content;
-        is = subst (λ (o : Opened). IsOpenIn seen o p content) (sym same) is;
+        is = subst (λ (o : OpenDataFile). IsOpenIn seen o p content) (sym same) is;
         left_is = ap behind some;
       };
     }
@@ -77,8 +77,8 @@ steps_can seen (Map old) head (Map new) steps = tt
 steps_can seen (File old) head (Map new) steps = absurd steps
 steps_can seen (Map old) head (File new) steps = absurd steps
 
-pub steps_listed : (seen : Option Folder) (files : List ListedFile) (types : List ColumnType) (source : Source) (head : Head) (after : Source) → StepsTo seen source head after → IsListed seen files types source → IsListed seen files types after
-steps_listed seen files types (File old) head (File new) steps listed = subst (λ (o : Opened). IsListedFile seen files types o) (sym steps.opened) listed
+pub steps_listed : (seen : Option Folder) (files : List ListedFile) (types : List ColumnType) (source : Source) (head : Head) (after : Source) → StepsTo seen source head after → IsListedSource seen files types source → IsListedSource seen files types after
+steps_listed seen files types (File old) head (File new) steps listed = subst (λ (o : OpenDataFile). IsListedFile seen files types o) (sym steps.opened) listed
 steps_listed seen files types (Map old) head (Map new) steps listed = tt
 steps_listed seen files types (File old) head (Map new) steps listed = absurd steps
 steps_listed seen files types (Map old) head (File new) steps listed = absurd steps
@@ -124,7 +124,7 @@ map_keyed kind es all = record { head_keyed = head_in_map kind es all; source_ke
 pub steps_keyed : (seen : Option Folder) (kind : ColumnType) (source : Source) (head : Head) (after : Source) → StepsTo seen source head after → IsKeyed kind source → Keyed kind head after
 steps_keyed seen kind (File old) head (File new) steps keyed = record {
   head_keyed = head_in_file kind old.opened.types head keyed steps.in_table;
-  source_keyed = subst (λ (o : Opened). first_is o.types kind) (sym steps.opened) keyed;
+  source_keyed = subst (λ (o : OpenDataFile). first_is o.types kind) (sym steps.opened) keyed;
 }
 steps_keyed seen kind (Map old) head (Map new) steps keyed = record {
   head_keyed = subst (IsHeadKeyed kind) (sym steps.0) (head_in_map kind old keyed);
@@ -136,7 +136,7 @@ steps_keyed seen kind (Map old) head (File new) steps keyed = absurd steps
 -- ---- damage
 
 -- what a listed source shows is shown by a listed file
-pub source_shown : (seen : Option Folder) (files : List ListedFile) (types : List ColumnType) (source : Source) (f : ReadFault) → IsListed seen files types source → ShowsSource seen source f → OnDamage (ShowsListed seen files types) f
+pub source_shown : (seen : Option Folder) (files : List ListedFile) (types : List ColumnType) (source : Source) (f : ReadFault) → IsListedSource seen files types source → ShowsSource seen source f → OnDamage (ShowsListed seen files types) f
 source_shown seen files types (File scan) fault.Failed listed shown = tt
 source_shown seen files types (File scan) fault.OutOfMemory listed shown = tt
 source_shown seen files types (File scan) (fault.Damaged damage) listed shown = record {
@@ -153,23 +153,23 @@ source_shown seen files types (Map rest) fault.OutOfMemory listed shown = tt
 source_shown seen files types (Map rest) (fault.Damaged damage) listed shown = absurd shown
 
 -- and none of a source that has partitions left
-pub source_spares : (seen : Option Folder) (p : Partitioner) (source : Source) (left : Entries) (f : ReadFault) → HasLeft seen p source left → NoFalseSourceDamage seen source f → OnDamage (λ _. ⊥) f
-source_spares seen p (File scan) left fault.Failed has spared = tt
-source_spares seen p (File scan) left fault.OutOfMemory has spared = tt
-source_spares seen p (File scan) left (fault.Damaged damage) has spared = spared p has.content has.is
-source_spares seen p (Map rest) left fault.Failed has spared = tt
-source_spares seen p (Map rest) left fault.OutOfMemory has spared = tt
-source_spares seen p (Map rest) left (fault.Damaged damage) has spared = spared
+pub no_false_source : (seen : Option Folder) (p : Partitioner) (source : Source) (left : Entries) (f : ReadFault) → HasLeft seen p source left → NoFalseSourceDamage seen source f → OnDamage (λ _. ⊥) f
+no_false_source seen p (File scan) left fault.Failed has no_false = tt
+no_false_source seen p (File scan) left fault.OutOfMemory has no_false = tt
+no_false_source seen p (File scan) left (fault.Damaged damage) has no_false = no_false p has.content has.is
+no_false_source seen p (Map rest) left fault.Failed has no_false = tt
+no_false_source seen p (Map rest) left fault.OutOfMemory has no_false = tt
+no_false_source seen p (Map rest) left (fault.Damaged damage) has no_false = no_false
 
 -- ---- a step in a file, by what its scan promises
 
-open_on : (v : View) (opened : Opened) (p : Partitioner) (content : Content) → IsOpenIn v.files opened p content → IsOpenOn v opened p content
+open_on : (v : View) (opened : OpenDataFile) (p : Partitioner) (content : Content) → IsOpenIn v.files opened p content → IsOpenOn v opened p content
 open_on v opened p content is = record { bytes = is.bytes; reads = is.reads; data_file = is.data_file; of = is.of }
 
 -- the scan can go on after reads
 pub scan_on : (v w : View) (old new : DataScan) → Changes Same v w → CanScan v.files old → new.opened ≡ old.opened → IsBuffered new.pairs_buffered w.files → IsBuffered new.buffered w.files → CanScan v.files new
 scan_on v w old new change can same pairs part = record {
-  there = subst (λ (o : Opened). IsSome v.files → IsSome (contents_in v.files o.file)) (sym same) can.there;
+  there = subst (λ (o : OpenDataFile). IsSome v.files → IsSome (contents_in v.files o.file)) (sym same) can.there;
   pairs_buffered = subst (IsBuffered new.pairs_buffered) (reads_same v w change) pairs;
   buffered = subst (IsBuffered new.buffered) (reads_same v w change) part;
 }
@@ -184,15 +184,15 @@ scan_steps v w old new (Ok head) change can same pairs part next in_table = reco
 }
 scan_steps v w old new (Err f) change can same pairs part next in_table = tt
 
-pub scan_spares : (v : View) (scan : DataScan) (result : Result Head ReadFault) → IfErr result (NoFalseOpenedDamage v scan.opened) → IfErr result (NoFalseSourceDamage v.files (File scan))
-scan_spares v scan (Ok head) spared = tt
-scan_spares v scan (Err fault.Failed) spared = tt
-scan_spares v scan (Err fault.OutOfMemory) spared = tt
-scan_spares v scan (Err (fault.Damaged damage)) spared = λ p content is. spared p content (open_on v scan.opened p content is) is.keys
+pub no_false_scan : (v : View) (scan : DataScan) (result : Result Head ReadFault) → IfErr result (NoFalseOpenedDamage v scan.opened) → IfErr result (NoFalseSourceDamage v.files (File scan))
+no_false_scan v scan (Ok head) no_false = tt
+no_false_scan v scan (Err fault.Failed) no_false = tt
+no_false_scan v scan (Err fault.OutOfMemory) no_false = tt
+no_false_scan v scan (Err (fault.Damaged damage)) no_false = λ p content is. no_false p content (open_on v scan.opened p content is) is.keys
 
 -- ---- the opening of a file, by what it promises
 
-opened_in : (v : View) (types : List ColumnType) (file : ListedFile) (opened : Opened) → opened.file ≡ data_name file.number → opened.types ≡ types
+opened_in : (v : View) (types : List ColumnType) (file : ListedFile) (opened : OpenDataFile) → opened.file ≡ data_name file.number → opened.types ≡ types
     → ((bytes : Bytes) (p : Partitioner) (content : Content) → contents v (data_name file.number) ≡ Some bytes → IsDataFile p types bytes content → IsOpenedAs opened p content)
     → (p : Partitioner) (content : Content) → HasContent v.files p types file content → IsOpenIn v.files opened p content
 opened_in v types file opened named types_are opens p content has = record {
@@ -204,7 +204,7 @@ opened_in v types file opened named types_are opens p content has = record {
 }
 
 -- a scan before the first partition
-pub opened_file : (v : View) (types : List ColumnType) (file : ListedFile) (opened : Opened) (scan : DataScan) → IsThere v (data_name file.number) → opened.file ≡ data_name file.number → opened.types ≡ types
+pub opened_file : (v : View) (types : List ColumnType) (file : ListedFile) (opened : OpenDataFile) (scan : DataScan) → IsThere v (data_name file.number) → opened.file ≡ data_name file.number → opened.types ≡ types
     → ((bytes : Bytes) (p : Partitioner) (content : Content) → contents v (data_name file.number) ≡ Some bytes → IsDataFile p types bytes content → IsOpenedAs opened p content)
     → ((bytes : Bytes) → contents v (data_name file.number) ≡ Some bytes → HasHeaderAndFooter bytes (numbers_of opened))
     → scan ≡ record { opened = opened; passed = 0; pairs_buffered = record { file = opened.file; page = None; bytes = [] }; buffered = record { file = opened.file; page = None; bytes = [] } } → IsOpenedFile v.files types file scan
@@ -229,10 +229,10 @@ opening_shown v types file fault.Failed shown = tt
 opening_shown v types file fault.OutOfMemory shown = tt
 opening_shown v types file (fault.Damaged damage) shown = λ bytes is. outside (shown bytes is)
 
-pub opening_spares : (v : View) (types : List ColumnType) (file : ListedFile) (f : ReadFault) → NoFalseDataDamage v (data_name file.number) f → OnDamage (λ _. (p : Partitioner) (content : Content) → HasContent v.files p types file content → ⊥) f
-opening_spares v types file fault.Failed spared = tt
-opening_spares v types file fault.OutOfMemory spared = tt
-opening_spares v types file (fault.Damaged damage) spared = λ p content has. spared has.bytes p types content has.reads has.data_file
+pub no_false_opening : (v : View) (types : List ColumnType) (file : ListedFile) (f : ReadFault) → NoFalseDataDamage v (data_name file.number) f → OnDamage (λ _. (p : Partitioner) (content : Content) → HasContent v.files p types file content → ⊥) f
+no_false_opening v types file fault.Failed no_false = tt
+no_false_opening v types file fault.OutOfMemory no_false = tt
+no_false_opening v types file (fault.Damaged damage) no_false = λ p content has. no_false has.bytes p types content has.reads has.data_file
 
 -- ---- the first step of an opened file
 
@@ -246,7 +246,7 @@ first_shown v types file scan (fault.Damaged damage) is shown = λ bytes reads.
     (subst (λ (k : List ColumnType). ShowsDataFile k scan.opened.file bytes damage) is.types_are
     (inside (numbers_of scan.opened) (is.footer bytes there) (shown bytes there)))
 
-pub first_spares : (v : View) (types : List ColumnType) (file : ListedFile) (scan : DataScan) (f : ReadFault) → IsOpenedFile v.files types file scan → NoFalseSourceDamage v.files (File scan) f → OnDamage (λ _. (p : Partitioner) (content : Content) → HasContent v.files p types file content → ⊥) f
-first_spares v types file scan fault.Failed is spared = tt
-first_spares v types file scan fault.OutOfMemory is spared = tt
-first_spares v types file scan (fault.Damaged damage) is spared = λ p content has. spared p content (is.opened p content has)
+pub no_false_first : (v : View) (types : List ColumnType) (file : ListedFile) (scan : DataScan) (f : ReadFault) → IsOpenedFile v.files types file scan → NoFalseSourceDamage v.files (File scan) f → OnDamage (λ _. (p : Partitioner) (content : Content) → HasContent v.files p types file content → ⊥) f
+no_false_first v types file scan fault.Failed is no_false = tt
+no_false_first v types file scan fault.OutOfMemory is no_false = tt
+no_false_first v types file scan (fault.Damaged damage) is no_false = λ p content has. no_false p content (is.opened p content has)

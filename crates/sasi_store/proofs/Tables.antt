@@ -26,7 +26,7 @@ use Rattle.sasi_layout.specs.Shape.{HasFile}
 use Rattle.sasi_merge.specs.Merging.{Head}
 use Rattle.sasi_merge.specs.Streams.{Entries, IsRising, maps_of, merged_entries}
 use Rattle.sasi_store.specs.declared.source.Source.{Source}
-use Rattle.sasi_store.specs.Sources.{AreReady, IsListed}
+use Rattle.sasi_store.specs.Sources.{AreReady, IsListedSource}
 use Rattle.sasi_store.specs.Left.{AreLeft, ArePrinted, entries_of}
 use Rattle.sasi_store.specs.Scanning.{AreContents, AreOpened, IsTableOf}
 use Rattle.sasi_store.proofs.Costs.{reads_same}
@@ -93,10 +93,10 @@ module _ (v w : View) (change : Changes Same v w) (types : List ColumnType) (fil
       both_are (λ o hs ss. AreReady o kind hs ss)
       (ready_both v.files kind heads sources (map_heads ms) (map_sources ms) (opened_ready v.files types kind files heads sources first opened) (maps_ready v.files kind ms stored))
 
-  pub table_listed : AllByRecursion (IsListed w.files files types) sources_all
+  pub table_listed : AllByRecursion (IsListedSource w.files files types) sources_all
   table_listed =
-      both_are (λ o hs ss. AllByRecursion (IsListed o files types) ss)
-      (all_both (IsListed v.files files types) sources (map_sources ms) (opened_listed v.files types files files heads sources (each_among files) opened) (maps_listed v.files files types ms))
+      both_are (λ o hs ss. AllByRecursion (IsListedSource o files types) ss)
+      (all_both (IsListedSource v.files files types) sources (map_sources ms) (opened_listed v.files types files files heads sources (each_among files) opened) (maps_listed v.files files types ms))
 
   table_left : (p : Partitioner) (contents : List Content) → AreContents v.files p types files contents → AreLeft w.files p heads_all sources_all (map (entries_of p) contents ++ map_entries ms)
   table_left p contents have =
@@ -120,20 +120,20 @@ module _ (v w : View) (change : Changes Same v w) (types : List ColumnType) (fil
       (printed p (map (entries_of p) scanned.contents ++ map_entries ms) (table_left p scanned.contents have) (table_rises p scanned.contents have))
 
   -- and where the files are those of the table, nothing is damaged
-  pub table_spares : (f : ReadFault) → ((q : Partitioner) (lefts : List Entries) → AreLeft w.files q heads_all sources_all lefts → AllByRecursion IsRising lefts → OnDamage (λ _. ⊥) f)
+  pub no_false_table : (f : ReadFault) → ((q : Partitioner) (lefts : List Entries) → AreLeft w.files q heads_all sources_all lefts → AllByRecursion IsRising lefts → OnDamage (λ _. ⊥) f)
       → OnDamage (λ _. (folder : Folder) (p : Partitioner) (t : TableParts) → v.files ≡ Some folder → IsTableOf folder p types files (map (λ (m : MemtableView). m.partitions) ms) t → ⊥) f
-  table_spares fault.Failed spared = tt
-  table_spares fault.OutOfMemory spared = tt
-  table_spares (fault.Damaged damage) spared = λ folder p t told is.
+  no_false_table fault.Failed no_false = tt
+  no_false_table fault.OutOfMemory no_false = tt
+  no_false_table (fault.Damaged damage) no_false = λ folder p t told is.
       let scanned = table_scanned folder p types files ms t is in
       let have = here folder p scanned.contents told scanned.have in
-      spared p (map (entries_of p) scanned.contents ++ map_entries ms) (table_left p scanned.contents have) (table_rises p scanned.contents have)
+      no_false p (map (entries_of p) scanned.contents ++ map_entries ms) (table_left p scanned.contents have) (table_rises p scanned.contents have)
 
 -- nor at their opening
-pub opening_spares_table : (v : View) (types : List ColumnType) (files : List ListedFile) (maps : List Partitions) (ms : List MemtableView) (f : ReadFault) → maps ≡ map (λ (m : MemtableView). m.partitions) ms → OnDamage (λ _. (p : Partitioner) (contents : List Content) → AreContents v.files p types files contents → ⊥) f
+pub no_false_opening_table : (v : View) (types : List ColumnType) (files : List ListedFile) (maps : List Partitions) (ms : List MemtableView) (f : ReadFault) → maps ≡ map (λ (m : MemtableView). m.partitions) ms → OnDamage (λ _. (p : Partitioner) (contents : List Content) → AreContents v.files p types files contents → ⊥) f
     → OnDamage (λ _. (folder : Folder) (p : Partitioner) (t : TableParts) → v.files ≡ Some folder → IsTableOf folder p types files maps t → ⊥) f
-opening_spares_table v types files maps ms fault.Failed maps_are spared = tt
-opening_spares_table v types files maps ms fault.OutOfMemory maps_are spared = tt
-opening_spares_table v types files maps ms (fault.Damaged damage) maps_are spared = λ folder p t told is.
+no_false_opening_table v types files maps ms fault.Failed maps_are no_false = tt
+no_false_opening_table v types files maps ms fault.OutOfMemory maps_are no_false = tt
+no_false_opening_table v types files maps ms (fault.Damaged damage) maps_are no_false = λ folder p t told is.
     let scanned = table_scanned folder p types files ms t (subst (λ (ps : List Partitions). IsTableOf folder p types files ps t) maps_are is) in
-    spared p scanned.contents (subst (λ (o : Option Folder). AreContents o p types files scanned.contents) (sym told) scanned.have)
+    no_false p scanned.contents (subst (λ (o : Option Folder). AreContents o p types files scanned.contents) (sym told) scanned.have)

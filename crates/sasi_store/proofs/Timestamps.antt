@@ -4,7 +4,7 @@ use Rattle.std.specs.Prelude.{max}
 use Rattle.sasi_types.specs.declared.decorated_key.DecoratedKey.{DecoratedKey}
 use Rattle.sasi_cells.specs.Mutations.{state_with_mutation}
 use Rattle.sasi_cells.specs.declared.mutation.Mutation.{Mutation}
-use Rattle.sasi_machine.proofs.MaxTimestamps.{greatest_put}
+use Rattle.sasi_machine.proofs.MaxTimestamps.{max_timestamp_put}
 use Rattle.sasi_model.specs.Abbreviations.{max_timestamp_of_tables}
 use Rattle.sasi_model.specs.Cells.{Partition, max_timestamp_of}
 use Rattle.sasi_model.specs.Changes.{changed_behind, changed_tables}
@@ -13,7 +13,7 @@ use Rattle.sasi_model.specs.State.{State, Table, decorated, max_timestamp}
 changed_behind_times : (at : ℕ) (key : DecoratedKey) (change : Partition) (ts : List Table) (t : Table) → slice_get ts at ≡ Some t
     → max_timestamp_of_tables (changed_behind at key change ts) ≡ max (max_timestamp_of_tables ts) (max_timestamp_of change)
 changed_behind_times at key change [] t there = cc
-changed_behind_times zero key change (x ∷ ts) t there = omega (arith, greatest_put x.partitions key change)
+changed_behind_times zero key change (x ∷ ts) t there = omega (arith, max_timestamp_put x.partitions key change)
 changed_behind_times (suc at) key change (x ∷ ts) t there = omega (arith, changed_behind_times at key change ts t there)
 
 changed_times : (number : ℕ) (key : DecoratedKey) (change : Partition) (ts : List Table) (t : Table) → 0 < number → slice_get ts (number - 1) ≡ Some t

@@ -2,7 +2,7 @@
 use Rattle.std.specs.Prelude.{◌≡◌, ◌⊎◌, ℕ, List, IsSome, None}
 use Rattle.sasi_host.specs.View.{View}
 use Rattle.sasi_layout.specs.Layout.{state_of}
-use Rattle.sasi_layout.specs.Serving.{StoreInHand}
+use Rattle.sasi_layout.specs.Serving.{StoreInMemory}
 use Rattle.sasi_layout.specs.Spent.{spent}
 use Rattle.sasi_layout.specs.Worlds.{ServesWorld, World, steps}
 use Rattle.sasi_machine.specs.Outcome.{outcome_of}
@@ -15,7 +15,7 @@ use Rattle.sasi_model.specs.State.{State}
 use Rattle.sasi_model.specs.Step.{step, step_by}
 
 -- The store serves the world after the piece, the reply and the outcome are those of the model's step, and no number that the piece needs is spent.
-pub record Answered (v : View) (store : StoreInHand) (w : World) (piece : Piece) (reply : List ℕ) (outcome : Outcome) : Type 0 where
+pub record Answered (v : View) (store : StoreInMemory) (w : World) (piece : Piece) (reply : List ℕ) (outcome : Outcome) : Type 0 where
   pub serves : ServesWorld v store (steps.after w piece)
   pub reply_is : reply ≡ steps.reply w piece
   pub outcome_is : outcome ≡ outcome_of (step (state_of w.layout) piece).refused
@@ -26,7 +26,7 @@ abbrev pub PrintsRows : Parser → State → Piece → Type 0
 PrintsRows parser s piece = IsQuery (read_by parser piece) × ((step_by parser s piece).refused ≡ None)
 
 -- Whatever the files are: the outcome is that of the model's step, and so is the reply, but where it has rows. The store has the definitions and the largest timestamp of the state after the piece.
-pub record AnsweredButRows (store : StoreInHand) (s : State) (piece : Piece) (reply : List ℕ) (outcome : Outcome) : Type 0 where
+pub record AnsweredButRows (store : StoreInMemory) (s : State) (piece : Piece) (reply : List ℕ) (outcome : Outcome) : Type 0 where
   pub state_is : IsStateOf store.definitions store.max_timestamp (step s piece).state
   pub outcome_is : outcome ≡ outcome_of (step s piece).refused
   pub reply_is : ¬ (PrintsRows grammar_parser s piece) → reply ≡ (step s piece).reply

@@ -8,7 +8,7 @@ use Rattle.sasi_host.specs.Names.{Bytes}
 use Rattle.sasi_types.specs.declared.partitioner.Partitioner.{Partitioner}
 use Rattle.sasi_gated.specs.Handles.{Handle}
 use Rattle.sasi_layout.specs.Layout.{Used}
-use Rattle.sasi_layout.specs.Serving.{StoreInHand, TableInHand}
+use Rattle.sasi_layout.specs.Serving.{StoreInMemory, TableInMemory}
 use Rattle.sasi_manifest.specs.declared.listing.Listing.{Listing}
 use Rattle.sasi_manifest.specs.ListedDefinition.{ListedDefinition, listed_code}
 use Rattle.sasi_manifest.specs.OpenManifest.{ManifestState}
@@ -39,24 +39,24 @@ coded_manifest =
     code_by (ℕ × (ℕ × (Bool × Listing))) (coded× coded_ℕ (coded× coded_ℕ (coded× coded_bool coded_listing)))
     (λ m. (m.number, (m.at, (m.usable, m.listing)))) (λ c. record { number = c.0; at = c.1.0; usable = c.1.1.0; listing = c.1.1.1 }) (λ _. refl)
 
-abbrev coded_table_in_hand : Coded TableInHand
-coded_table_in_hand =
+abbrev coded_table_in_memory : Coded TableInMemory
+coded_table_in_memory =
     code_by (Option ℕ × (List Partitions × Partitions)) (coded× (coded_option coded_ℕ) (coded× (coded_list coded_partitions) coded_partitions))
     (λ t. (t.first, (t.frozen, t.memtable))) (λ c. record { first = c.0; frozen = c.1.0; memtable = c.1.1 }) (λ _. refl)
 
 abbrev coded_used : Coded Used
 coded_used =
     code_by (ℕ × (ℕ × (ℕ × (ℕ × ℕ)))) (coded× coded_ℕ (coded× coded_ℕ (coded× coded_ℕ (coded× coded_ℕ coded_ℕ))))
-    (λ u. (u.manifest, (u.log, (u.file, (u.index, u.part))))) (λ c. record { manifest = c.0; log = c.1.0; file = c.1.1.0; index = c.1.1.1.0; part = c.1.1.1.1 }) (λ _. refl)
+    (λ u. (u.manifest, (u.log, (u.«data», (u.index, u.part))))) (λ c. record { manifest = c.0; log = c.1.0; «data» = c.1.1.0; index = c.1.1.1.0; part = c.1.1.1.1 }) (λ _. refl)
 
-abbrev coded_hand : Coded StoreInHand
-coded_hand =
-    code_by (List Definition × (ManifestState × (Handle × (List TableInHand × (Used × ℕ)))))
-    (coded× (coded_list coded_definition) (coded× coded_manifest (coded× coded_handle (coded× (coded_list coded_table_in_hand) (coded× coded_used coded_ℕ)))))
+abbrev coded_memory : Coded StoreInMemory
+coded_memory =
+    code_by (List Definition × (ManifestState × (Handle × (List TableInMemory × (Used × ℕ)))))
+    (coded× (coded_list coded_definition) (coded× coded_manifest (coded× coded_handle (coded× (coded_list coded_table_in_memory) (coded× coded_used coded_ℕ)))))
     (λ s. (s.definitions, (s.manifest, (s.log, (s.tables, (s.used, s.max_timestamp))))))
     (λ c. record { definitions = c.0; manifest = c.1.0; log = c.1.1.0; tables = c.1.1.1.0; used = c.1.1.1.1.0; max_timestamp = c.1.1.1.1.1 }) (λ _. refl)
 
 abbrev pub coded_store : Coded StoreView
 coded_store =
-    code_by (StoreInHand × (ℕ × Bool)) (coded× coded_hand (coded× coded_ℕ coded_bool))
-    (λ s. (s.hand, (s.steps, s.usable))) (λ c. record { hand = c.0; steps = c.1.0; usable = c.1.1 }) (λ _. refl)
+    code_by (StoreInMemory × (ℕ × Bool)) (coded× coded_memory (coded× coded_ℕ coded_bool))
+    (λ s. (s.memory, (s.steps, s.usable))) (λ c. record { memory = c.0; steps = c.1.0; usable = c.1.1 }) (λ _. refl)

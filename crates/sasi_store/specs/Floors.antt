@@ -3,32 +3,32 @@ use Rattle.std.specs.Prelude.{◌≡◌, ◌-◌, ◌<◌, ◌≤◌, ℕ, suc, 
 use Rattle.std.specs.FinMap as map_
 use Rattle.sasi_gated.specs.Handles.{Handle}
 use Rattle.sasi_layout.specs.Moves.{lesser}
-use Rattle.sasi_layout.specs.Serving.{StoreInHand, TableInHand}
+use Rattle.sasi_layout.specs.Serving.{StoreInMemory, TableInMemory}
 use Rattle.sasi_manifest.specs.Listings.{at_number}
 use Rattle.sasi_manifest.specs.OpenManifest.{ManifestState}
 
 -- the least segment that has a mutation of another table than this one, and else the last
-abbrev pub floor_in_hand : ℕ → ℕ → ℕ → List TableInHand → ℕ
-floor_in_hand n table last [] = last
-floor_in_hand n table last (t ∷ ts) = if nat_eq n table then floor_in_hand (suc n) table last ts else lesser t.first (floor_in_hand (suc n) table last ts)
+abbrev pub floor_in_memory : ℕ → ℕ → ℕ → List TableInMemory → ℕ
+floor_in_memory n table last [] = last
+floor_in_memory n table last (t ∷ ts) = if nat_eq n table then floor_in_memory (suc n) table last ts else lesser t.first (floor_in_memory (suc n) table last ts)
 
 -- the table has nothing in memory any more
-abbrev pub flushed_in_hand : TableInHand → TableInHand
-flushed_in_hand t = record { first = None; frozen = []; memtable = map_.empty }
+abbrev pub flushed_in_memory : TableInMemory → TableInMemory
+flushed_in_memory t = record { first = None; frozen = []; memtable = map_.empty }
 
 -- the store after the flush of a table, whose manifest and log go on from there
-abbrev pub hand_after_flush : ℕ → ManifestState → Handle → StoreInHand → StoreInHand
-hand_after_flush table manifest log store = record store {
+abbrev pub memory_after_flush : ℕ → ManifestState → Handle → StoreInMemory → StoreInMemory
+memory_after_flush table manifest log store = record store {
   manifest = manifest;
   log = log;
-  tables = at_number 1 table flushed_in_hand store.tables;
-  used = record store.used { log = suc store.used.log; file = suc store.used.file };
+  tables = at_number 1 table flushed_in_memory store.tables;
+  used = record store.used { log = suc store.used.log; «data» = suc store.used.«data» };
 }
 
 -- the table is there, with something in its memtable
-pub record HoldsAny (table : ℕ) (store : StoreInHand) : Type 0 where
+pub record IsUnflushed (table : ℕ) (store : StoreInMemory) : Type 0 where
   pub some : 0 < table
-  pub there_is : TableInHand
+  pub there_is : TableInMemory
   pub there : slice_get store.tables (table - 1) ≡ Some there_is
   pub idle : there_is.frozen ≡ []
   pub held : 1 ≤ length (map_.entries there_is.memtable)

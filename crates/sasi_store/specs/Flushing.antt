@@ -20,11 +20,11 @@ use Rattle.sasi_manifest.specs.Edits.{Applies}
 use Rattle.sasi_manifest.specs.OpenManifest.{ManifestState, ManifestStands}
 use Rattle.sasi_memtable.specs.MemtableView.{MemtableView}
 use Rattle.sasi_layout.specs.Layout.{Layout, bare, listing_of, unflushed}
-use Rattle.sasi_layout.specs.Moves.{after_flush, new_file, next_floor}
+use Rattle.sasi_layout.specs.Moves.{after_flush, new_listed_file, next_floor}
 use Rattle.sasi_layout.specs.Shape.{HasShape}
 use Rattle.sasi_layout.specs.Flushed.{logs_after}
 use Rattle.sasi_layout.specs.Serving.{AreStorable}
-use Rattle.sasi_layout.specs.Wells.{IsWell}
+use Rattle.sasi_layout.specs.NumbersInOrder.{HasNumbersInOrder}
 use Rattle.sasi_store.specs.declared.flush.FlushNumbers.{FlushNumbers}
 
 -- ---- what is written
@@ -51,7 +51,7 @@ DeletesSegments first floor old new = (name : FileName) → ((segment : ℕ) →
 
 -- the one edit of its record
 abbrev pub edit_of : FlushNumbers → Edit
-edit_of n = Replace n.table [] (new_file n.file ∷ []) n.last n.floor n.last
+edit_of n = Replace n.table [] (new_listed_file n.file ∷ []) n.last n.floor n.last
 
 -- The flush can be made: the names of its files are free, the segments that it deletes are there, and its record applies to what the manifest lists.
 pub record CanFlush (v : View) (manifest : ManifestState) (memtable : MemtableView) (n : FlushNumbers) : Type 0 where
@@ -68,11 +68,11 @@ pub record CanFlush (v : View) (manifest : ManifestState) (memtable : MemtableVi
 -- The flush is that of a table of the layout: each image has its shape, the manifest lists what it lists, and the numbers and the memtable are those of its next flush.
 pub record IsFlushOf (v : View) (manifest : ManifestState) (memtable : MemtableView) (n : FlushNumbers) (l : Layout) (logs : List (List Mutation)) : Type 0 where
   pub shape : Each v (λ x. HasShape x (bare l) logs)
-  pub well : IsWell l
+  pub in_order : HasNumbersInOrder l
   pub number : manifest.number ≡ l.used.manifest
   pub listing : manifest.listing ≡ listing_of l
   pub stands : ManifestStands v manifest.number manifest.at manifest.listing
-  pub file : n.file ≡ suc l.used.file
+  pub file : n.file ≡ suc l.used.«data»
   pub last : n.last ≡ suc l.last
   pub floor : n.floor ≡ next_floor n.table l
   pub holds : At 1 n.table (λ t. merged (unflushed t) ≡ memtable.partitions) l.tables

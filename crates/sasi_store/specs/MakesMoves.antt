@@ -5,7 +5,7 @@ use Rattle.sasi_host.specs.View.{View}
 use Rattle.sasi_layout.specs.Between.{Between}
 use Rattle.sasi_layout.specs.Layout.{Layout}
 use Rattle.sasi_layout.specs.Moves.{Move, after_moves}
-use Rattle.sasi_layout.specs.Serving.{IsReady, Serves, StoreInHand}
+use Rattle.sasi_layout.specs.Serving.{CanChange, Serves, StoreInMemory}
 use Rattle.sasi_layout.specs.Spent.{spent}
 use Rattle.sasi_model.specs.State.{Definition}
 use Rattle.sasi_recover.specs.OpenedFolder.{AnyFolderChange}
@@ -13,7 +13,7 @@ use Rattle.sasi_store.specs.Faults.{OnSpent, OnStepDamage, StepCauses}
 use Rattle.sasi_store.specs.declared.fault.StepFault.{StepFault}
 
 -- what the store knows of its state without its files
-pub record Knows (store : StoreInHand) (definitions : List Definition) (max_timestamp : ℕ) : Type 0 where
+pub record Knows (store : StoreInMemory) (definitions : List Definition) (max_timestamp : ℕ) : Type 0 where
   pub definitions_are : store.definitions ≡ definitions
   pub timestamp_is : store.max_timestamp ≡ max_timestamp
 
@@ -22,10 +22,10 @@ abbrev pub MovesOf : Type 0
 MovesOf = Layout → List Move
 
 -- Whichever layout the store serves, each moment is one between its moves. Afterwards it serves the layout after them. It ends early only where a number is spent that they need, or where a call or memory fails.
-pub record MakesMoves {T : Type 0} (moves : MovesOf) (a b : View) (old new : StoreInHand) (result : Result T StepFault) : Type 0 where
+pub record MakesMoves {T : Type 0} (moves : MovesOf) (a b : View) (old new : StoreInMemory) (result : Result T StepFault) : Type 0 where
   pub any_moment : (l : Layout) → Serves a old l → Changes (λ x y. Between l (moves l) y) a b
   pub serves : OnOk result ((l : Layout) → Serves a old l → Serves b new (after_moves (moves l) l))
-  pub ready : OnOk result (IsReady b new)
+  pub ready : OnOk result (CanChange b new)
   pub unspent : OnOk result ((l : Layout) → Serves a old l → spent l (moves l) ≡ None)
   pub spent_is : IfErr result (OnSpent (λ kind. (l : Layout) → Serves a old l → spent l (moves l) ≡ Some kind))
   pub undamaged : IfErr result (OnStepDamage (λ _. ⊥))

@@ -60,8 +60,8 @@ pub record AllPagesRead (seen : Option Folder) (partitioner : Partitioner) (old 
   pub paged : AllByRecursion (IsPaged seen partitioner) new
   pub reads : now + all_pages_left seen new ≤ before + all_pages_left seen old
 
-abbrev pub GoReading : Option Folder → Partitioner → List Source → List Source → ℕ → ℕ → Type 0
-GoReading seen partitioner old new before now = AllByRecursion (IsPaged seen partitioner) old → AllPagesRead seen partitioner old new before now
+abbrev pub MovesReading : Option Folder → Partitioner → List Source → List Source → ℕ → ℕ → Type 0
+MovesReading seen partitioner old new before now = AllByRecursion (IsPaged seen partitioner) old → AllPagesRead seen partitioner old new before now
 
 -- the opening of sources takes so many more reads
 pub record OpensReading (seen : Option Folder) (partitioner : Partitioner) (more : ℕ) (old new : List Source) (before now : ℕ) : Type 0 where
@@ -75,8 +75,8 @@ abbrev pub StepsWithin : {T : Type 0} → Option Folder → Partitioner → Sour
 StepsWithin seen partitioner old new before now result = IsPaged seen partitioner old → MatchResult result (λ _. PagesRead seen partitioner old new before now) (λ _. now ≤ before + pages_left seen old)
 
 -- and steps of which one fails no more than all of them may
-abbrev pub GoWithin : {T : Type 0} → Option Folder → Partitioner → List Source → List Source → ℕ → ℕ → Result T ReadFault → Type 0
-GoWithin seen partitioner old new before now result = AllByRecursion (IsPaged seen partitioner) old → MatchResult result (λ _. AllPagesRead seen partitioner old new before now) (λ _. now ≤ before + all_pages_left seen old)
+abbrev pub MovesWithin : {T : Type 0} → Option Folder → Partitioner → List Source → List Source → ℕ → ℕ → Result T ReadFault → Type 0
+MovesWithin seen partitioner old new before now result = AllByRecursion (IsPaged seen partitioner) old → MatchResult result (λ _. AllPagesRead seen partitioner old new before now) (λ _. now ≤ before + all_pages_left seen old)
 
 -- an opening that fails takes no more than so many
 abbrev pub OpensWithin : {T : Type 0} → Option Folder → Partitioner → ℕ → List Source → List Source → ℕ → ℕ → Result T ReadFault → Type 0

@@ -3,7 +3,7 @@ use Rattle.std.specs.Prelude.{◌≡◌, ◌-◌, ◌<◌, ◌≤◌, ℕ, max, 
 use Rattle.sasi_cells.specs.Maps.{put}
 use Rattle.sasi_cells.specs.declared.mutation.Mutation.{Mutation}
 use Rattle.sasi_layout.specs.Moves.{or_else}
-use Rattle.sasi_layout.specs.Serving.{StoreInHand, TableInHand}
+use Rattle.sasi_layout.specs.Serving.{StoreInMemory, TableInMemory}
 use Rattle.sasi_manifest.specs.Listings.{at_number}
 use Rattle.sasi_memtable.specs.MemtableView.{with_change}
 use Rattle.sasi_model.specs.Cells.{Partition, max_timestamp_of}
@@ -25,12 +25,12 @@ pub record HasTableFor (number : ℕ) (tables : List TableMap) : Type 0 where
   pub inside : number ≤ length tables
 
 -- the same of a table in memory
-abbrev pub put_in_hand : Partitioner → ℕ → Mutation → TableInHand → TableInHand
-put_in_hand partitioner segment m t = record t { first = or_else t.first (Some segment); memtable = put t.memtable (decorated partitioner m.key) m.change }
+abbrev pub put_in_memory : Partitioner → ℕ → Mutation → TableInMemory → TableInMemory
+put_in_memory partitioner segment m t = record t { first = or_else t.first (Some segment); memtable = put t.memtable (decorated partitioner m.key) m.change }
 
 -- and of the whole store, whose log goes on from there
-abbrev pub hand_after_put : Mutation → StoreInHand → StoreInHand
-hand_after_put m store = record store {
-  tables = at_number 1 m.table (put_in_hand store.manifest.listing.partitioner store.used.log m) store.tables;
+abbrev pub memory_after_put : Mutation → StoreInMemory → StoreInMemory
+memory_after_put m store = record store {
+  tables = at_number 1 m.table (put_in_memory store.manifest.listing.partitioner store.used.log m) store.tables;
   max_timestamp = max store.max_timestamp (max_timestamp_of m.change);
 }

@@ -17,7 +17,7 @@ use Rattle.sasi_datawrite.specs.Format.{Content}
 use Rattle.sasi_datawrite.specs.declared.footer.Footer.{Footer}
 use Rattle.sasi_dataread.specs.Damages.{ShowsData, ShowsDataFile}
 use Rattle.sasi_dataread.specs.HeaderAndFooter.{HasHeaderAndFooter}
-use Rattle.sasi_dataread.specs.Opened.{IsOpenedAs, Opened}
+use Rattle.sasi_dataread.specs.Opened.{IsOpenedAs, OpenDataFile}
 use Rattle.sasi_dataread.specs.Scans.{DataScan, KeysAreBytes, StepsToPartition}
 use Rattle.sasi_manifest.specs.declared.files.ListedFile.{ListedFile}
 use Rattle.sasi_merge.specs.Merging.{Head, has_key}
@@ -38,7 +38,7 @@ CanStep seen (File scan) = CanScan seen scan
 CanStep seen (Map left) = ⊤
 
 -- the file reads as the data file of a content, and was opened as that
-pub record IsOpenIn (seen : Option Folder) (opened : Opened) (partitioner : Partitioner) (content : Content) : Type 0 where
+pub record IsOpenIn (seen : Option Folder) (opened : OpenDataFile) (partitioner : Partitioner) (content : Content) : Type 0 where
   pub bytes : Bytes
   pub reads : contents_in seen opened.file ≡ Some bytes
   pub data_file : IsDataFile partitioner opened.types bytes content
@@ -97,26 +97,26 @@ pub record AreReady (seen : Option Folder) (kind : ColumnType) (heads : List Hea
   pub heads_keyed : AllByRecursion (IsHeadKeyed kind) heads
   pub counted : length heads ≡ length sources
 
-abbrev pub numbers_of : Opened → Footer
+abbrev pub numbers_of : OpenDataFile → Footer
 numbers_of opened = record { tree = opened.tree; max_timestamp = opened.max_timestamp; end = opened.end }
 
 -- the file is one of those that are listed, and was opened by its own footer
-pub record IsListedFile (seen : Option Folder) (files : List ListedFile) (types : List ColumnType) (opened : Opened) : Type 0 where
+pub record IsListedFile (seen : Option Folder) (files : List ListedFile) (types : List ColumnType) (opened : OpenDataFile) : Type 0 where
   pub file : ListedFile
   pub listed : Contains files file
   pub named : opened.file ≡ data_name file.number
   pub types_are : opened.types ≡ types
   pub footer : (bytes : Bytes) → contents_in seen opened.file ≡ Some bytes → HasHeaderAndFooter bytes (numbers_of opened)
 
-abbrev pub IsListed : Option Folder → List ListedFile → List ColumnType → Source → Type 0
-IsListed seen files types (File scan) = IsListedFile seen files types scan.opened
-IsListed seen files types (Map left) = ⊤
+abbrev pub IsListedSource : Option Folder → List ListedFile → List ColumnType → Source → Type 0
+IsListedSource seen files types (File scan) = IsListedFile seen files types scan.opened
+IsListedSource seen files types (Map left) = ⊤
 
 -- ---- the sources whose heads have a key go on
 
--- this source goes on if its head has the key
+-- this source advances if its head has the key
 pub data IsMoved (seen : Option Folder) (key : DecoratedKey) (head : Head) (source : Source) (next : Head) (after : Source) : Type 0 where
-  goes : has_key key head ≡ true → StepsTo seen source next after → IsMoved seen key head source next after
+  advances : has_key key head ≡ true → StepsTo seen source next after → IsMoved seen key head source next after
   stays : has_key key head ≡ false → next ≡ head → after ≡ source → IsMoved seen key head source next after
 
 -- so do the first so many, and the others stay

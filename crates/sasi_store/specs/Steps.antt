@@ -5,7 +5,7 @@ use Rattle.sasi_host.specs.Disk.{Changes, Same}
 use Rattle.sasi_host.specs.Names.{Folder}
 use Rattle.sasi_host.specs.View.{View}
 use Rattle.sasi_layout.specs.Between.{Between}
-use Rattle.sasi_layout.specs.Serving.{IsReady, StoreInHand}
+use Rattle.sasi_layout.specs.Serving.{CanChange, StoreInMemory}
 use Rattle.sasi_layout.specs.Spent.{spent}
 use Rattle.sasi_layout.specs.Worlds.{ServesWorld, World, steps}
 use Rattle.sasi_machine.specs.Prepares.{IsQuery, IsStateOf}
@@ -20,10 +20,10 @@ use Rattle.sasi_store.specs.Faults.{OnSpent, OnStepDamage, StepCauses}
 use Rattle.sasi_store.specs.Selects.{select_reads}
 use Rattle.sasi_store.specs.declared.fault.StepFault.{StepFault}
 
-pub record Steps (piece : Piece) (a b : View) (old new : StoreInHand) (reply : List ℕ) (result : Result Outcome StepFault) : Type 0 where
+pub record StepPromises (piece : Piece) (a b : View) (old new : StoreInMemory) (reply : List ℕ) (result : Result Outcome StepFault) : Type 0 where
   pub answers : IfOk result (λ outcome. (w : World) → ServesWorld a old w → Answered b new w piece reply outcome)
   pub everywhere : IfOk result (λ outcome. (s : State) → IsStateOf old.definitions old.max_timestamp s → AnsweredButRows new s piece reply outcome)
-  pub ready : OnOk result (IsReady b new)
+  pub ready : OnOk result (CanChange b new)
   pub any_moment : (w : World) → ServesWorld a old w → Changes (λ x y. Between w.layout (steps.moves w piece) y) a b
   pub spent_is : IfErr result (OnSpent (λ kind. (w : World) → ServesWorld a old w → spent w.layout (steps.moves w piece) ≡ Some kind))
   pub damaged : (folder : Folder) → b.files ≡ Some folder → IfErr result (OnStepDamage (FolderShows folder))

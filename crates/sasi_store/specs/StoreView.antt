@@ -4,15 +4,15 @@ use Rattle.std.specs.List.{AllByRecursion}
 use Rattle.sasi_types.specs.declared.partitioner.Partitioner.{Partitioner}
 use Rattle.sasi_host.specs.View.{View}
 use Rattle.sasi_layout.specs.Serving as layout
-use Rattle.sasi_layout.specs.Serving.{StoreInHand}
-use Rattle.sasi_recover.specs.OpenedFolder.{table_in_hand, used_numbers}
+use Rattle.sasi_layout.specs.Serving.{StoreInMemory}
+use Rattle.sasi_recover.specs.OpenedFolder.{opened_table, used_numbers}
 use Rattle.sasi_recover.specs.declared.opened.TableMap.{TableMap}
 use Rattle.sasi_schema.specs.Numbers.{RisesFrom}
 use Rattle.sasi_store.specs.declared.parts.Parts.{Parts}
 
 pub record StoreView : Type 0 where
   -- what it has in memory of its folder
-  pub hand : StoreInHand
+  pub memory : StoreInMemory
   -- the number of steps that were begun
   pub steps : ℕ
   -- every step succeeded
@@ -20,17 +20,17 @@ pub record StoreView : Type 0 where
 
 -- It can make a step.
 pub record IsReady (v : View) (store : StoreView) : Type 0 where
-  pub hand : layout.IsReady v store.hand
+  pub memory : layout.CanChange v store.memory
   pub usable : IsTrue store.usable
 
 -- ---- by its parts
 
-abbrev pub hand_of : Parts → StoreInHand
-hand_of p = record {
+abbrev pub memory_of : Parts → StoreInMemory
+memory_of p = record {
   definitions = p.schema;
   manifest = p.manifest;
   log = p.log;
-  tables = map table_in_hand p.tables.items;
+  tables = map opened_table p.tables.items;
   used = used_numbers p.numbers;
   max_timestamp = p.max_timestamp;
 }

@@ -1,7 +1,7 @@
 -- What can be written to a store, and created in it.
 use Rattle.std.specs.Prelude.{◌≡◌, ◌+◌, ◌-◌, ◌<◌, ◌^◌, length, slice_get, None, Some}
 use Rattle.sasi_cells.specs.declared.mutation.Mutation.{Mutation}
-use Rattle.sasi_layout.specs.Serving.{StoreInHand}
+use Rattle.sasi_layout.specs.Serving.{StoreInMemory}
 use Rattle.sasi_manifest.specs.Edits.{Applies}
 use Rattle.sasi_manifest.specs.declared.edit.Edit.TheVariants.{CreateTable}
 use Rattle.sasi_model.specs.Abbreviations.{types_of}
@@ -10,7 +10,7 @@ use Rattle.sasi_model.specs.Stored.{IsBodyOf}
 use Rattle.sasi_schema.specs.declared.table.Table.{Table}
 
 -- the table of the mutation is there, and its key and change can be stored in it
-pub record IsWritable (store : StoreInHand) (m : Mutation) : Type 0 where
+pub record IsWritableMutation (store : StoreInMemory) (m : Mutation) : Type 0 where
   pub some : 0 < m.table
   pub small : m.table < 2 ^ 32
   pub definition : Definition
@@ -18,7 +18,7 @@ pub record IsWritable (store : StoreInHand) (m : Mutation) : Type 0 where
   pub body : IsBodyOf (types_of definition) m.key m.change
 
 -- the table is the next one, and the manifest can list it
-pub record IsCreatable (store : StoreInHand) (t : Table) : Type 0 where
+pub record IsCreatable (store : StoreInMemory) (t : Table) : Type 0 where
   pub number : t.number ≡ length store.definitions + 1
   pub free : definition_of t.name store.definitions ≡ None
   pub applies : Applies (Some store.manifest.listing) (CreateTable t.number t.name t.columns t.key store.manifest.listing.last)

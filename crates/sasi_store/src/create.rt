@@ -1,11 +1,11 @@
 // New tables.
 ghost use Rattle.std.specs.Prelude.{◌≡◌, ◌++◌, ◌∷◌, [], IfOk, OnOk};
-ghost use Rattle.sasi_layout.specs.Serving.{IsReady};
+ghost use Rattle.sasi_layout.specs.Serving.{CanChange};
 ghost use Rattle.sasi_layout.specs.Statements.{moves_asked};
 ghost use Rattle.sasi_model.specs.Asked.{Creates};
 ghost use Rattle.sasi_schema.specs.Defined.{definition};
 ghost use Rattle.sasi_store.specs.MakesMoves.{Knows, MakesMoves};
-ghost use Rattle.sasi_store.specs.StoreView.{IsOfParts, hand_of};
+ghost use Rattle.sasi_store.specs.StoreView.{IsOfParts, memory_of};
 ghost use Rattle.sasi_store.specs.Writable.{IsCreatable};
 
 use crate::StepFault;
@@ -19,14 +19,14 @@ use std::alloc::{AllocError, Global};
 
 /// Lists a table in the manifest, and creates it.
 pub fn create<H: Host>(parts: &mut Parts, host: &mut H, table: Table) -> Result<(), StepFault>
-    requires ready { IsReady (H.view host.old) (hand_of parts.old) }
+    requires ready { CanChange (H.view host.old) (memory_of parts.old) }
     requires parts { IsOfParts parts.old }
-    requires creatable { IsCreatable (hand_of parts.old) table }
-    ensures makes { MakesMoves (λ l. moves_asked l (Creates (definition table))) (H.view host.old) (H.view host.new) (hand_of parts.old) (hand_of parts.new) result }
-    ensures knows { OnOk result (Knows (hand_of parts.new) (parts.old.schema ++ definition table ∷ []) parts.old.max_timestamp) }
+    requires creatable { IsCreatable (memory_of parts.old) table }
+    ensures makes { MakesMoves (λ l. moves_asked l (Creates (definition table))) (H.view host.old) (H.view host.new) (memory_of parts.old) (memory_of parts.new) result }
+    ensures knows { OnOk result (Knows (memory_of parts.new) (parts.old.schema ++ definition table ∷ []) parts.old.max_timestamp) }
     ensures parts { OnOk result (IsOfParts parts.new) }
 {
-    let edits = edits_of(parts.alloc, &table, parts.manifest.listing().last)?;
+    let edits = create_edits(parts.alloc, &table, parts.manifest.listing().last)?;
     parts.manifest.append(host, &edits)?;
     let new = TableMap {
         number: table.number,
@@ -46,7 +46,7 @@ fn push(tables: &mut Vec<TableMap>, table: TableMap) -> Result<(), AllocError>
 }
 
 // The edit that lists a table whose mutations stand in the segments of the log from this one on.
-fn edits_of(alloc: Global, table: &Table, since: SegmentNumber) -> Result<EditList, AllocError>
+fn create_edits(alloc: Global, table: &Table, since: SegmentNumber) -> Result<EditList, AllocError>
     ensures { IfOk result (λ edits. edits ≡ Edit.CreateTable table.now.number table.now.name table.now.columns table.now.key since ∷ []) }
 {
     let mut edits = EditList::new(alloc);

@@ -10,7 +10,7 @@ ghost use Rattle.sasi_datawrite.specs.Format.{data_bytes};
 ghost use Rattle.sasi_manifest.specs.Format.{IsNext};
 ghost use Rattle.sasi_manifest.specs.OpenManifest.{ManifestStands};
 ghost use Rattle.sasi_layout.specs.Layout.{Layout};
-ghost use Rattle.sasi_layout.specs.Moves.{Flush, new_file};
+ghost use Rattle.sasi_layout.specs.Moves.{Flush, new_listed_file};
 ghost use Rattle.sasi_layout.specs.Between.{Between};
 ghost use Rattle.sasi_layout.specs.Flushed.{contents_of};
 ghost use Rattle.sasi_store.specs.Flushing.{CanFlush, ChangesInFlush, HasFlushedFiles, HaveBodies, IsFlushOf, IsFlushed, MakesFiles, edit_of};
@@ -62,7 +62,7 @@ pub fn flush<H: Host>(
     ensures changes { Changes (ChangesInFlush manifest.old.number manifest.old.listing.floor numbers) (H.view host.old) (H.view host.new) }
     ensures causes { ListCauses (H.view host.old) (H.view host.new) result }
 {
-    let edits = edits_of(alloc, numbers)?;
+    let edits = flush_edits(alloc, numbers)?;
     let first = manifest.listing().floor;
     let partitioner = manifest.listing().partitioner;
     let made = make_files(alloc, host, partitioner, memtable, numbers)?;
@@ -72,7 +72,7 @@ pub fn flush<H: Host>(
 }
 
 // The one edit of a flush.
-fn edits_of(alloc: Global, numbers: FlushNumbers) -> Result<EditList, AllocError>
+fn flush_edits(alloc: Global, numbers: FlushNumbers) -> Result<EditList, AllocError>
     ensures { IfOk result (λ edits. edits ≡ edit_of numbers ∷ []) }
 {
     let mut added = ListedFiles::new(alloc);
@@ -113,7 +113,7 @@ fn make_files<H: Host>(
     requires some { 1 ≤ length (map.entries memtable.now.partitions) }
     requires bodies { HaveBodies memtable.now.partitions }
     ensures durable { OnOk result (IsFileDurable (H.view host.new) (data_name numbers.file) (data_bytes partitioner (contents_of memtable.now.partitions))) }
-    ensures sealed { IfOk result (λ made. made.sealed ≡ new_file numbers.file) }
+    ensures sealed { IfOk result (λ made. made.sealed ≡ new_listed_file numbers.file) }
     ensures log_end { IfOk result (λ made. IsAtLogEnd (H.view host.new) (log_name numbers.last) made.log.at []) }
     ensures log_file { IfOk result (λ made. made.log.file ≡ log_name numbers.last) }
     ensures log_room { IfOk result (λ made. Reaches (H.view host.new) (log_name numbers.last) (made.log.at + 1)) }

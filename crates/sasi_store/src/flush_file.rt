@@ -11,7 +11,7 @@ ghost use Rattle.sasi_datawrite.specs.declared.fault.PairFault.TheVariants as pa
 ghost use Rattle.sasi_datawrite.specs.Format.{data_bytes};
 ghost use Rattle.sasi_datawrite.specs.Writing.{IsWriting};
 ghost use Rattle.sasi_layout.specs.Flushed.{contents_of};
-ghost use Rattle.sasi_layout.specs.Moves.{new_file};
+ghost use Rattle.sasi_layout.specs.Moves.{new_listed_file};
 ghost use Rattle.sasi_store.specs.Flushing.{HaveBodies};
 
 use sasi_host::{DataNumber, Host, HostFault};
@@ -34,7 +34,7 @@ pub fn write_file<H: Host>(
     requires some { 1 ≤ length (map.entries memtable.now.partitions) }
     requires bodies { HaveBodies memtable.now.partitions }
     ensures durable { OnOk result (IsFileDurable (H.view host.new) (data_name number) (data_bytes partitioner (contents_of memtable.now.partitions))) }
-    ensures sealed { IfOk result (λ sealed. sealed ≡ new_file number) }
+    ensures sealed { IfOk result (λ sealed. sealed ≡ new_listed_file number) }
     ensures changes { Changes (FileChange (data_name number) AnyChange) (H.view host.old) (H.view host.new) }
     ensures causes { ListCauses (H.view host.old) (H.view host.new) result }
 {
@@ -73,7 +73,7 @@ fn write_all<H: Host>(
     requires room { Reaches (H.view host.old) writer.file writer.offset }
     requires usable { IsTrue writer.usable }
     ensures durable { OnOk result (IsFileDurable (H.view host.new) writer.file (data_bytes writer.partitioner (contents_of memtable.now.partitions))) }
-    ensures sealed { IfOk result (λ sealed. sealed ≡ new_file writer.file.number) }
+    ensures sealed { IfOk result (λ sealed. sealed ≡ new_listed_file writer.file.number) }
     ensures changes { Changes (FileChange writer.file AnyChange) (H.view host.old) (H.view host.new) }
     ensures causes { PushCauses (λ _. ⊥) (H.view host.old) (H.view host.new) result }
 {

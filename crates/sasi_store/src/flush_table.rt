@@ -1,16 +1,16 @@
 // The flush of a table of a store.
 ghost use Rattle.std.specs.Prelude.{◌≡◌, ◌<◌, ◌∷◌, [], None, Some, length, map, slice_get, slice_set, IfErr, IfOk, OnOk};
 ghost use Rattle.sasi_layout.specs.Moves.{Flush};
-ghost use Rattle.sasi_layout.specs.Serving.{IsReady};
-ghost use Rattle.sasi_layout.specs.Statements.{flush_where, hold_any};
-ghost use Rattle.sasi_recover.specs.OpenedFolder.{table_in_hand};
+ghost use Rattle.sasi_layout.specs.Serving.{CanChange};
+ghost use Rattle.sasi_layout.specs.Statements.{any_partition, flush_where};
+ghost use Rattle.sasi_recover.specs.OpenedFolder.{opened_table};
 ghost use Rattle.sasi_recover.specs.declared.opened.TableMap.{TableMap as ATableMap};
 ghost use Rattle.sasi_schema.specs.Numbers.{RisesFrom};
-ghost use Rattle.sasi_store.specs.Floors.{HoldsAny, floor_in_hand, lowered};
+ghost use Rattle.sasi_store.specs.Floors.{IsUnflushed, floor_in_memory, lowered};
 ghost use Rattle.sasi_store.specs.MakesMoves.{Knows, MakesMoves};
 ghost use Rattle.sasi_store.specs.Numbers.{AreNext, AreSpent};
 ghost use Rattle.sasi_store.specs.Puts.{HasTableFor};
-ghost use Rattle.sasi_store.specs.StoreView.{IsOfParts, hand_of};
+ghost use Rattle.sasi_store.specs.StoreView.{IsOfParts, memory_of};
 
 use crate::StepFault;
 use crate::flush::{FlushNumbers, flush};
@@ -22,16 +22,16 @@ use sasi_recover::{Numbers, TableMap};
 use sasi_types::TableNumber;
 
 /// Flushes a table, unless its memtable is empty.
-pub fn flush_held<H: Host>(
+pub fn flush_unless_empty<H: Host>(
     parts: &mut Parts,
     host: &mut H,
     table: TableNumber,
 ) -> Result<(), StepFault>
-    requires ready { IsReady (H.view host.old) (hand_of parts.old) }
+    requires ready { CanChange (H.view host.old) (memory_of parts.old) }
     requires parts { IsOfParts parts.old }
     requires there { HasTableFor table parts.old.tables.items }
-    ensures makes { MakesMoves (flush_where hold_any table) (H.view host.old) (H.view host.new) (hand_of parts.old) (hand_of parts.new) result }
-    ensures knows { OnOk result (Knows (hand_of parts.new) parts.old.schema parts.old.max_timestamp) }
+    ensures makes { MakesMoves (flush_where any_partition table) (H.view host.old) (H.view host.new) (memory_of parts.old) (memory_of parts.new) result }
+    ensures knows { OnOk result (Knows (memory_of parts.new) parts.old.schema parts.old.max_timestamp) }
     ensures parts { OnOk result (IsOfParts parts.new) }
 {
     if parts.tables[table as usize - 1].memtable.is_empty() {
@@ -46,11 +46,11 @@ pub fn flush_table<H: Host>(
     host: &mut H,
     table: TableNumber,
 ) -> Result<(), StepFault>
-    requires ready { IsReady (H.view host.old) (hand_of parts.old) }
+    requires ready { CanChange (H.view host.old) (memory_of parts.old) }
     requires parts { IsOfParts parts.old }
-    requires held { HoldsAny table (hand_of parts.old) }
-    ensures makes { MakesMoves (λ l. Flush table ∷ []) (H.view host.old) (H.view host.new) (hand_of parts.old) (hand_of parts.new) result }
-    ensures knows { OnOk result (Knows (hand_of parts.new) parts.old.schema parts.old.max_timestamp) }
+    requires held { IsUnflushed table (memory_of parts.old) }
+    ensures makes { MakesMoves (λ l. Flush table ∷ []) (H.view host.old) (H.view host.new) (memory_of parts.old) (memory_of parts.new) result }
+    ensures knows { OnOk result (Knows (memory_of parts.new) parts.old.schema parts.old.max_timestamp) }
     ensures parts { OnOk result (IsOfParts parts.new) }
 {
     let next = next_numbers(parts.numbers)?;
@@ -94,7 +94,7 @@ fn next_numbers(numbers: Numbers) -> Result<Numbers, NumberKind>
 // The first segment that has a mutation of another table than this one, or the last segment where none has.
 fn floor_without(tables: &[TableMap], table: TableNumber, last: SegmentNumber) -> SegmentNumber
     requires { RisesFrom 1 (map (λ t. t.number) tables.now) }
-    ensures { result ≡ floor_in_hand 1 table last (map table_in_hand tables.now) }
+    ensures { result ≡ floor_in_memory 1 table last (map opened_table tables.now) }
 {
     let mut floor = last;
     for held in tables {

@@ -1,10 +1,10 @@
 // What a store has in memory.
 ghost use Rattle.std.specs.Prelude.{◌≡◌, [], map, IfOk};
 ghost use Rattle.sasi_manifest.specs.Naming.{AreApart};
-ghost use Rattle.sasi_recover.specs.OpenedFolder.{in_hand};
+ghost use Rattle.sasi_recover.specs.OpenedFolder.{opened_store};
 ghost use Rattle.sasi_schema.specs.Defined.{definition};
 ghost use Rattle.sasi_schema.specs.Numbers.{RisesFrom};
-ghost use Rattle.sasi_store.specs.StoreView.{hand_of};
+ghost use Rattle.sasi_store.specs.StoreView.{memory_of};
 
 use sasi_commitlog::Log;
 use sasi_manifest::{ListedTable, Manifest};
@@ -29,7 +29,7 @@ pub struct Parts {
 
 /// What a store has of an opened folder.
 pub fn parts_of(alloc: Global, opened: Opened) -> Result<Parts, AllocError>
-    ensures hand { IfOk result (λ parts. hand_of parts ≡ in_hand opened) }
+    ensures memory { IfOk result (λ parts. memory_of parts ≡ opened_store opened) }
     ensures tables { IfOk result (λ parts. parts.tables.items ≡ opened.tables.items) }
     ensures manifest { IfOk result (λ parts. parts.manifest ≡ opened.manifest) }
 {

@@ -16,9 +16,9 @@ ghost use Rattle.sasi_manifest.specs.declared.files.ListedFile.{ListedFile as AL
 ghost use Rattle.sasi_layout.specs.Layout.{TableParts, table_of};
 ghost use Rattle.sasi_merge.specs.Merging.{with_token};
 ghost use Rattle.sasi_merge.specs.Streams.{Entries, IsRising, merged_entries};
-ghost use Rattle.sasi_store.specs.Sources.{AreReady, IsListed, ShowsListed};
+ghost use Rattle.sasi_store.specs.Sources.{AreReady, IsListedSource, ShowsListed};
 ghost use Rattle.sasi_store.specs.Left.{AreLeft, ArePrinted, PrintsNext};
-ghost use Rattle.sasi_store.specs.Paging.{GoWithin, table_reads};
+ghost use Rattle.sasi_store.specs.Paging.{MovesWithin, table_reads};
 ghost use Rattle.sasi_store.specs.Scanning.{IsTableOf, ScanCauses};
 
 use crate::source::Source;
@@ -77,8 +77,8 @@ fn print_merge<H: Host>(
     requires { AreReady (H.view host.old).files picked.now.key heads.old sources.old.items }
     ensures ok { IfOk result (λ rows. (partitioner : Partitioner) (lefts : List Entries) → AreLeft (H.view host.old).files partitioner heads.old sources.old.items lefts → AllByRecursion IsRising lefts
         → ArePrinted picked.now (merged_entries lefts) reply.old reply.new rows) }
-    ensures reads { (partitioner : Partitioner) → GoWithin (H.view host.old).files partitioner sources.old.items sources.new.items (H.view host.old).reads (H.view host.new).reads result }
-    ensures damaged { (files : List AListedFile) (types : List ColumnType) → AllByRecursion (IsListed (H.view host.old).files files types) sources.old.items → IfErr result (OnDamage (ShowsListed (H.view host.old).files files types)) }
+    ensures reads { (partitioner : Partitioner) → MovesWithin (H.view host.old).files partitioner sources.old.items sources.new.items (H.view host.old).reads (H.view host.new).reads result }
+    ensures damaged { (files : List AListedFile) (types : List ColumnType) → AllByRecursion (IsListedSource (H.view host.old).files files types) sources.old.items → IfErr result (OnDamage (ShowsListed (H.view host.old).files files types)) }
     ensures undamaged { (partitioner : Partitioner) (lefts : List Entries) → AreLeft (H.view host.old).files partitioner heads.old sources.old.items lefts → AllByRecursion IsRising lefts → IfErr result (OnDamage (λ _. ⊥)) }
     ensures changes { Changes Same (H.view host.old) (H.view host.new) }
     ensures causes { ScanCauses (H.view host.old) (H.view host.new) result }
@@ -110,9 +110,9 @@ fn print_next<H: Host>(
         → PrintsNext (H.view host.old).files partitioner picked.now lefts heads.new sources.new.items reply.old reply.new printed) }
     ensures few { IfOk result (λ printed. IfSome printed (λ rows. rows ≤ 1)) }
     ensures ready { OnOk result (AreReady (H.view host.old).files picked.now.key heads.new sources.new.items) }
-    ensures listed { OnOk result ((files : List AListedFile) (types : List ColumnType) → AllByRecursion (IsListed (H.view host.old).files files types) sources.old.items → AllByRecursion (IsListed (H.view host.old).files files types) sources.new.items) }
-    ensures reads { (partitioner : Partitioner) → GoWithin (H.view host.old).files partitioner sources.old.items sources.new.items (H.view host.old).reads (H.view host.new).reads result }
-    ensures damaged { (files : List AListedFile) (types : List ColumnType) → AllByRecursion (IsListed (H.view host.old).files files types) sources.old.items → IfErr result (OnDamage (ShowsListed (H.view host.old).files files types)) }
+    ensures listed { OnOk result ((files : List AListedFile) (types : List ColumnType) → AllByRecursion (IsListedSource (H.view host.old).files files types) sources.old.items → AllByRecursion (IsListedSource (H.view host.old).files files types) sources.new.items) }
+    ensures reads { (partitioner : Partitioner) → MovesWithin (H.view host.old).files partitioner sources.old.items sources.new.items (H.view host.old).reads (H.view host.new).reads result }
+    ensures damaged { (files : List AListedFile) (types : List ColumnType) → AllByRecursion (IsListedSource (H.view host.old).files files types) sources.old.items → IfErr result (OnDamage (ShowsListed (H.view host.old).files files types)) }
     ensures undamaged { (partitioner : Partitioner) (lefts : List Entries) → AreLeft (H.view host.old).files partitioner heads.old sources.old.items lefts → IfErr result (OnDamage (λ _. ⊥)) }
     ensures changes { Changes Same (H.view host.old) (H.view host.new) }
     ensures causes { ScanCauses (H.view host.old) (H.view host.new) result }

@@ -4,13 +4,13 @@ ghost use Rattle.sasi_folder.specs.Damages.{FolderShows};
 ghost use Rattle.sasi_host.specs.Disk.{Changes, Same};
 ghost use Rattle.sasi_host.specs.Names.{Folder};
 ghost use Rattle.sasi_layout.specs.Layout.{Layout, state_of};
-ghost use Rattle.sasi_layout.specs.Serving.{IsReady, Serves};
+ghost use Rattle.sasi_layout.specs.Serving.{CanChange, Serves};
 ghost use Rattle.sasi_machine.specs.Prepares.{answer_rows};
 ghost use Rattle.sasi_manifest.specs.Edits.{files_of};
 ghost use Rattle.sasi_store.specs.Faults.{OnSpent, OnStepDamage, StepCauses};
 ghost use Rattle.sasi_store.specs.Paging.{table_reads};
 ghost use Rattle.sasi_store.specs.Selects.{IsSelectable};
-ghost use Rattle.sasi_store.specs.StoreView.{IsOfParts, hand_of};
+ghost use Rattle.sasi_store.specs.StoreView.{IsOfParts, memory_of};
 
 use crate::StepFault;
 use crate::parts::Parts;
@@ -27,13 +27,13 @@ pub fn select<H: Host>(
     rows: &Selection,
     reply: &mut Reply,
 ) -> Result<(), StepFault>
-    requires ready { IsReady (H.view host.old) (hand_of parts.now) }
+    requires ready { CanChange (H.view host.old) (memory_of parts.now) }
     requires parts { IsOfParts parts.now }
-    requires there { IsSelectable (hand_of parts.now) rows.now }
-    ensures ok { OnOk result ((l : Layout) → Serves (H.view host.old) (hand_of parts.now) l → reply.new ≡ reply.old ++ answer_rows (state_of l) rows.now) }
-    ensures reads { (l : Layout) → Serves (H.view host.old) (hand_of parts.now) l → (H.view host.new).reads ≤ (H.view host.old).reads + table_reads (H.view host.old).files (files_of parts.now.manifest.listing.tables rows.now.table) }
+    requires there { IsSelectable (memory_of parts.now) rows.now }
+    ensures ok { OnOk result ((l : Layout) → Serves (H.view host.old) (memory_of parts.now) l → reply.new ≡ reply.old ++ answer_rows (state_of l) rows.now) }
+    ensures reads { (l : Layout) → Serves (H.view host.old) (memory_of parts.now) l → (H.view host.new).reads ≤ (H.view host.old).reads + table_reads (H.view host.old).files (files_of parts.now.manifest.listing.tables rows.now.table) }
     ensures damaged { (folder : Folder) → (H.view host.new).files ≡ Some folder → IfErr result (OnStepDamage (FolderShows folder)) }
-    ensures undamaged { (l : Layout) → Serves (H.view host.old) (hand_of parts.now) l → IfErr result (OnStepDamage (λ _. ⊥)) }
+    ensures undamaged { (l : Layout) → Serves (H.view host.old) (memory_of parts.now) l → IfErr result (OnStepDamage (λ _. ⊥)) }
     ensures unspent { IfErr result (OnSpent (λ _. ⊥)) }
     ensures changes { Changes Same (H.view host.old) (H.view host.new) }
     ensures causes { StepCauses (H.view host.old) (H.view host.new) result }

@@ -2,7 +2,7 @@
 ghost use Rattle.std.specs.Prelude.{◌≡◌, IfErr, IfOk};
 ghost use Rattle.sasi_types.specs.declared.partitioner.Partitioner.{Partitioner};
 ghost use Rattle.sasi_host.specs.Disk.{Changes, Same};
-ghost use Rattle.sasi_host.specs.View.{ReadsAtMost};
+ghost use Rattle.sasi_host.specs.View.{ReadCost};
 ghost use Rattle.sasi_dataread.specs.Damages.{ShowsData};
 ghost use Rattle.sasi_store.specs.Paging.{StepsWithin};
 ghost use Rattle.sasi_store.specs.Sources.{CanScan, CanStep, NoFalseSourceDamage, ShowsSource, StepsInFile, StepsTo};
@@ -30,7 +30,7 @@ impl<'a> Source<'a> {
         ensures undamaged { IfErr result (NoFalseSourceDamage (H.view host.old).files self.old) }
         ensures reads { (partitioner : Partitioner) → StepsWithin (H.view host.old).files partitioner self.old self.new (H.view host.old).reads (H.view host.new).reads result }
         ensures changes { Changes Same (H.view host.old) (H.view host.new) }
-        ensures causes { ReadsAtMost 2052 (H.view host.old) (H.view host.new) result }
+        ensures causes { ReadCost 2052 (H.view host.old) (H.view host.new) result }
     {
         match self {
             Source::File(scan) => next_in_file(alloc, host, scan),
@@ -47,7 +47,7 @@ fn next_in_file<H: Host>(alloc: Global, host: &mut H, scan: &mut Walk) -> Result
     ensures undamaged { IfErr result (NoFalseSourceDamage (H.view host.old).files (InFile scan.old)) }
     ensures reads { (partitioner : Partitioner) → StepsWithin (H.view host.old).files partitioner (InFile scan.old) (InFile scan.new) (H.view host.old).reads (H.view host.new).reads result }
     ensures changes { Changes Same (H.view host.old) (H.view host.new) }
-    ensures causes { ReadsAtMost 2052 (H.view host.old) (H.view host.new) result }
+    ensures causes { ReadCost 2052 (H.view host.old) (H.view host.new) result }
 {
     scan.next(alloc, host, &mut Direct)
 }

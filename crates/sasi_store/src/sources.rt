@@ -7,7 +7,7 @@ ghost use Rattle.sasi_types.specs.declared.column.ColumnType.{ColumnType};
 ghost use Rattle.sasi_host.specs.Damages.{OnDamage};
 ghost use Rattle.sasi_host.specs.Disk.{Changes, Same};
 ghost use Rattle.sasi_host.specs.Names.{Bytes, data_name};
-ghost use Rattle.sasi_host.specs.View.{IsThere, ReadsAtMost, contents_in};
+ghost use Rattle.sasi_host.specs.View.{IsThere, ReadCost, contents_in};
 ghost use Rattle.sasi_datawrite.specs.Format.{Content};
 ghost use Rattle.sasi_dataread.specs.Damages.{ShowsDataFile};
 ghost use Rattle.sasi_manifest.specs.declared.files.ListedFile.{ListedFile as AListedFile};
@@ -15,9 +15,9 @@ ghost use Rattle.sasi_merge.specs.Merging.{with_token};
 ghost use Rattle.sasi_merge.specs.Streams.{Entries, behind, head_of};
 ghost use Rattle.sasi_store.specs.declared.source.Source.{Source as ASource};
 ghost use Rattle.sasi_store.specs.declared.source.Source.TheVariants.{Map};
-ghost use Rattle.sasi_store.specs.Sources.{AreMoved, CanStep, IsListed, IsMovedAt, NoFalseSourceDamage, ShowsListed, ShowsSource};
+ghost use Rattle.sasi_store.specs.Sources.{AreMoved, CanStep, IsListedSource, IsMovedAt, NoFalseSourceDamage, ShowsListed, ShowsSource};
 ghost use Rattle.sasi_store.specs.Left.{AreLeft};
-ghost use Rattle.sasi_store.specs.Paging.{GoWithin, IsPaged, OpensWithin, pages_in, table_reads};
+ghost use Rattle.sasi_store.specs.Paging.{IsPaged, MovesWithin, OpensWithin, pages_in, table_reads};
 ghost use Rattle.sasi_store.specs.Scanning.{AreContents, AreOpened, HasContent, IsAdded, IsOpened, IsOpenedFile, ScanCauses};
 
 use crate::map_scan::MapScan;
@@ -71,7 +71,7 @@ fn open_source<H: Host>(
     ensures damaged { IfErr result (OnDamage (λ damage. (bytes : Bytes) → contents_in (H.view host.old).files (data_name file.now.number) ≡ Some bytes → ShowsDataFile types.now (data_name file.now.number) bytes damage)) }
     ensures undamaged { IfErr result (OnDamage (λ _. (partitioner : Partitioner) (content : Content) → HasContent (H.view host.old).files partitioner types.now file.now content → ⊥)) }
     ensures changes { Changes Same (H.view host.old) (H.view host.new) }
-    ensures causes { ReadsAtMost 2055 (H.view host.old) (H.view host.new) result }
+    ensures causes { ReadCost 2055 (H.view host.old) (H.view host.new) result }
 {
     let scan = open_file(alloc, host, file, types)?;
     let mut source = Source::File(scan);
@@ -107,7 +107,7 @@ fn open_file<H: Host>(
     ensures damaged { IfErr result (OnDamage (λ damage. (bytes : Bytes) → contents_in (H.view host.old).files (data_name file.now.number) ≡ Some bytes → ShowsDataFile types.now (data_name file.now.number) bytes damage)) }
     ensures undamaged { IfErr result (OnDamage (λ _. (partitioner : Partitioner) (content : Content) → HasContent (H.view host.old).files partitioner types.now file.now content → ⊥)) }
     ensures changes { Changes Same (H.view host.old) (H.view host.new) }
-    ensures causes { ReadsAtMost 3 (H.view host.old) (H.view host.new) result }
+    ensures causes { ReadCost 3 (H.view host.old) (H.view host.new) result }
 {
     let name = FileName::data(file.number);
     let opened = DataFile::open(alloc, host, &mut Direct, name, types)?;
@@ -158,8 +158,8 @@ pub fn advance<H: Host>(
     requires can { AllByRecursion (CanStep (H.view host.old).files) sources.old.items }
     requires counted { length heads.old ≡ length sources.old.items }
     ensures moved { OnOk result (AreMoved (H.view host.old).files (with_token merge.now key.now) (length sources.old.items) heads.old sources.old.items heads.new sources.new.items) }
-    ensures reads { (partitioner : Partitioner) → GoWithin (H.view host.old).files partitioner sources.old.items sources.new.items (H.view host.old).reads (H.view host.new).reads result }
-    ensures damaged { (files : List AListedFile) (types : List ColumnType) → AllByRecursion (IsListed (H.view host.old).files files types) sources.old.items → IfErr result (OnDamage (ShowsListed (H.view host.old).files files types)) }
+    ensures reads { (partitioner : Partitioner) → MovesWithin (H.view host.old).files partitioner sources.old.items sources.new.items (H.view host.old).reads (H.view host.new).reads result }
+    ensures damaged { (files : List AListedFile) (types : List ColumnType) → AllByRecursion (IsListedSource (H.view host.old).files files types) sources.old.items → IfErr result (OnDamage (ShowsListed (H.view host.old).files files types)) }
     ensures undamaged { (partitioner : Partitioner) (lefts : List Entries) → AreLeft (H.view host.old).files partitioner heads.old sources.old.items lefts → IfErr result (OnDamage (λ _. ⊥)) }
     ensures changes { Changes Same (H.view host.old) (H.view host.new) }
     ensures causes { ScanCauses (H.view host.old) (H.view host.new) result }
@@ -184,11 +184,11 @@ fn advance_at<H: Host>(
     requires in_heads { at < length heads.old }
     requires in_sources { at < length sources.old.items }
     ensures moved { OnOk result (IsMovedAt (H.view host.old).files (with_token merge.now key.now) at heads.old sources.old.items heads.new sources.new.items) }
-    ensures reads { (partitioner : Partitioner) → GoWithin (H.view host.old).files partitioner sources.old.items sources.new.items (H.view host.old).reads (H.view host.new).reads result }
+    ensures reads { (partitioner : Partitioner) → MovesWithin (H.view host.old).files partitioner sources.old.items sources.new.items (H.view host.old).reads (H.view host.new).reads result }
     ensures damaged { IfErr result (λ f. (source : ASource) → slice_get sources.old.items at ≡ Some source → ShowsSource (H.view host.old).files source f) }
     ensures undamaged { IfErr result (λ f. (source : ASource) → slice_get sources.old.items at ≡ Some source → NoFalseSourceDamage (H.view host.old).files source f) }
     ensures changes { Changes Same (H.view host.old) (H.view host.new) }
-    ensures causes { ReadsAtMost 2052 (H.view host.old) (H.view host.new) result }
+    ensures causes { ReadCost 2052 (H.view host.old) (H.view host.new) result }
 {
     if merge.has_given(key, &heads.as_slice()[at]) {
         let head = sources[at].next(alloc, host)?;

@@ -1,16 +1,16 @@
 // Steps.
 ghost use Rattle.std.specs.Prelude.{◌≡◌, ◌<◌, ◌^◌, OnOk};
-ghost use Rattle.sasi_layout.specs.Serving.{IsReady};
+ghost use Rattle.sasi_layout.specs.Serving.{CanChange};
 ghost use Rattle.sasi_machine.specs.Prepares.{IsStateOf};
 ghost use Rattle.sasi_model.specs.Pieces.{piece_of};
 ghost use Rattle.sasi_model.specs.State.{State};
 ghost use Rattle.sasi_store.specs.Answers.{NeedsNoFile};
-ghost use Rattle.sasi_store.specs.Steps.{Steps};
-ghost use Rattle.sasi_store.specs.StoreView.{IsOfParts, hand_of};
+ghost use Rattle.sasi_store.specs.Steps.{StepPromises};
+ghost use Rattle.sasi_store.specs.StoreView.{IsOfParts, memory_of};
 
 use crate::StepFault;
 use crate::create::create;
-use crate::flush_table::flush_held;
+use crate::flush_table::flush_unless_empty;
 use crate::parts::Parts;
 use crate::select::select;
 use crate::write::write;
@@ -26,10 +26,10 @@ pub fn step<H: Host>(
     end: PieceEnd,
     reply: &mut Reply,
 ) -> Result<Outcome, StepFault>
-    requires ready { IsReady (H.view host.old) (hand_of parts.old) }
+    requires ready { CanChange (H.view host.old) (memory_of parts.old) }
     requires parts { IsOfParts parts.old }
-    ensures steps { Steps (piece_of end piece.now) (H.view host.old) (H.view host.new) (hand_of parts.old) (hand_of parts.new) reply.new result }
-    ensures spared { (s : State) → IsStateOf parts.old.schema parts.old.max_timestamp s → NeedsNoFile s (piece_of end piece.now) → host.new ≡ host.old }
+    ensures steps { StepPromises (piece_of end piece.now) (H.view host.old) (H.view host.new) (memory_of parts.old) (memory_of parts.new) reply.new result }
+    ensures no_file_call { (s : State) → IsStateOf parts.old.schema parts.old.max_timestamp s → NeedsNoFile s (piece_of end piece.now) → host.new ≡ host.old }
     ensures parts { OnOk result (IsOfParts parts.new) }
 {
     match prepare(
@@ -51,7 +51,7 @@ pub fn step<H: Host>(
             Ok(Outcome::Done)
         }
         Prepared::Flush(table) => {
-            flush_held(parts, host, table)?;
+            flush_unless_empty(parts, host, table)?;
             Ok(Outcome::Done)
         }
         Prepared::Select(rows) => {

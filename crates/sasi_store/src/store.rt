@@ -45,13 +45,13 @@ pub struct Store {
 impl Model for Store {
     ghost use Rattle.std.specs.Prelude.{IsTrue};
     ghost use Rattle.sasi_store.specs.Codes.{coded_store};
-    ghost use Rattle.sasi_store.specs.StoreView.{IsOfParts, StoreView, hand_of};
+    ghost use Rattle.sasi_store.specs.StoreView.{IsOfParts, StoreView, memory_of};
 
     ghost Value = { StoreView };
 
     ghost coded = { coded_store };
 
-    ghost view = { λ a. record { hand = hand_of a.parts; steps = a.steps; usable = a.usable } };
+    ghost view = { λ a. record { memory = memory_of a.parts; steps = a.steps; usable = a.usable } };
 
     ghost invariant = { λ a. IsTrue a.usable → IsOfParts a.parts };
 }
@@ -64,8 +64,8 @@ impl Store {
         asked: Option<Partitioner>,
     ) -> Result<Store, OpenFault>
         ensures ready { IfOk result (λ store. IsReady (H.view host.new) store) }
-        ensures state { IfOk result (λ store. (s : State) × IsStateOf store.hand.definitions store.hand.max_timestamp s) }
-        ensures serves { (folder : Folder) (l : Layout) → (H.view host.old).files ≡ Some folder → ShapeOf asked folder l → IfOk result (λ store. ServesWorld (H.view host.new) store.hand (new_world l)) }
+        ensures state { IfOk result (λ store. (s : State) × IsStateOf store.memory.definitions store.memory.max_timestamp s) }
+        ensures serves { (folder : Folder) (l : Layout) → (H.view host.old).files ≡ Some folder → ShapeOf asked folder l → IfOk result (λ store. ServesWorld (H.view host.new) store.memory (new_world l)) }
         ensures opens { (folder : Folder) → (H.view host.old).files ≡ Some folder → OnOk result (CanOpen folder) }
         ensures safe { OpensSafely asked (H.view host.old) (H.view host.new) }
         ensures reports { ReportsTruly asked (H.view host.old) result }
@@ -95,17 +95,17 @@ impl Store {
         reply: &mut Reply,
     ) -> Result<Outcome, StepFault>
         requires { IsReady (H.view host.old) self.old }
-        ensures answers { IfOk result (λ outcome. (w : World) → ServesWorld (H.view host.old) self.old.hand w → Answered (H.view host.new) self.new.hand w (piece_of end piece.now) reply.new outcome) }
-        ensures everywhere { IfOk result (λ outcome. (s : State) → IsStateOf self.old.hand.definitions self.old.hand.max_timestamp s → AnsweredButRows self.new.hand s (piece_of end piece.now) reply.new outcome) }
+        ensures answers { IfOk result (λ outcome. (w : World) → ServesWorld (H.view host.old) self.old.memory w → Answered (H.view host.new) self.new.memory w (piece_of end piece.now) reply.new outcome) }
+        ensures everywhere { IfOk result (λ outcome. (s : State) → IsStateOf self.old.memory.definitions self.old.memory.max_timestamp s → AnsweredButRows self.new.memory s (piece_of end piece.now) reply.new outcome) }
         ensures ready { OnOk result (IsReady (H.view host.new) self.new) }
-        ensures any_moment { (w : World) → ServesWorld (H.view host.old) self.old.hand w → Changes (λ x y. Between w.layout (steps.moves w (piece_of end piece.now)) y) (H.view host.old) (H.view host.new) }
-        ensures spent { IfErr result (OnSpent (λ kind. (w : World) → ServesWorld (H.view host.old) self.old.hand w → spent w.layout (steps.moves w (piece_of end piece.now)) ≡ Some kind)) }
+        ensures any_moment { (w : World) → ServesWorld (H.view host.old) self.old.memory w → Changes (λ x y. Between w.layout (steps.moves w (piece_of end piece.now)) y) (H.view host.old) (H.view host.new) }
+        ensures spent { IfErr result (OnSpent (λ kind. (w : World) → ServesWorld (H.view host.old) self.old.memory w → spent w.layout (steps.moves w (piece_of end piece.now)) ≡ Some kind)) }
         ensures damaged { (folder : Folder) → (H.view host.new).files ≡ Some folder → IfErr result (OnStepDamage (FolderShows folder)) }
-        ensures undamaged { (w : World) → ServesWorld (H.view host.old) self.old.hand w → IfErr result (OnStepDamage (λ _. ⊥)) }
-        ensures spared { (s : State) → IsStateOf self.old.hand.definitions self.old.hand.max_timestamp s → NeedsNoFile s (piece_of end piece.now) → host.new ≡ host.old }
-        ensures reads_only { asks self.old.hand.definitions self.old.hand.max_timestamp (piece_of end piece.now) ≡ NoChange → Changes Same (H.view host.old) (H.view host.new) }
+        ensures undamaged { (w : World) → ServesWorld (H.view host.old) self.old.memory w → IfErr result (OnStepDamage (λ _. ⊥)) }
+        ensures no_file_call { (s : State) → IsStateOf self.old.memory.definitions self.old.memory.max_timestamp s → NeedsNoFile s (piece_of end piece.now) → host.new ≡ host.old }
+        ensures reads_only { asks self.old.memory.definitions self.old.memory.max_timestamp (piece_of end piece.now) ≡ NoChange → Changes Same (H.view host.old) (H.view host.new) }
         ensures unread { (IsQuery (read (piece_of end piece.now)) → ⊥) → (H.view host.new).reads ≡ (H.view host.old).reads }
-        ensures reads { (w : World) → ServesWorld (H.view host.old) self.old.hand w → (H.view host.new).reads ≤ (H.view host.old).reads + select_reads (H.view host.old).files self.old.hand (read (piece_of end piece.now)) }
+        ensures reads { (w : World) → ServesWorld (H.view host.old) self.old.memory w → (H.view host.new).reads ≤ (H.view host.old).reads + select_reads (H.view host.old).files self.old.memory (read (piece_of end piece.now)) }
         ensures changes { Changes AnyFolderChange (H.view host.old) (H.view host.new) }
         ensures usable { self.new.usable ≡ is_ok result }
         ensures steps { self.new.steps ≡ counted self.old.steps }
@@ -135,8 +135,8 @@ impl Store {
     /// Ends the use of the store: the folder is left with the files of its tables and of the log alone.
     pub fn finish<H: Host>(self, host: &mut H) -> Result<(), Failed>
         requires { IsReady (H.view host.old) self }
-        ensures ends { OnOk result ((w : World) → ServesWorld (H.view host.old) self.hand w → Ended (H.view host.new) (closed w.layout)) }
-        ensures any_moment { (w : World) → ServesWorld (H.view host.old) self.hand w → Changes (λ x y. Between w.layout [] y) (H.view host.old) (H.view host.new) }
+        ensures ends { OnOk result ((w : World) → ServesWorld (H.view host.old) self.memory w → Ended (H.view host.new) (closed w.layout)) }
+        ensures any_moment { (w : World) → ServesWorld (H.view host.old) self.memory w → Changes (λ x y. Between w.layout [] y) (H.view host.old) (H.view host.new) }
         ensures unchanged { host.new ≡ host.old }
         ensures causes { DiskCauses (H.view host.old) (H.view host.new) result }
     {

@@ -1,15 +1,15 @@
 // Writes: a mutation is logged, and then merged into its memtable.
 ghost use Rattle.std.specs.Prelude.{◌≡◌, ◌∷◌, [], IfOk, OnErr, OnOk, max};
 ghost use Rattle.sasi_layout.specs.Moves.{Put};
-ghost use Rattle.sasi_layout.specs.Serving.{IsReady};
+ghost use Rattle.sasi_layout.specs.Serving.{CanChange};
 ghost use Rattle.sasi_layout.specs.Statements.{are_full, flush_where, moves_asked};
 ghost use Rattle.sasi_model.specs.Asked.{Writes};
 ghost use Rattle.sasi_model.specs.Cells.{max_timestamp_of};
 ghost use Rattle.sasi_types.specs.Token.{AreBytes};
 ghost use Rattle.sasi_store.specs.MakesMoves.{Knows, MakesMoves};
 ghost use Rattle.sasi_store.specs.Puts.{HasTableFor, IsPutAt, put_map};
-ghost use Rattle.sasi_store.specs.StoreView.{IsOfParts, hand_of};
-ghost use Rattle.sasi_store.specs.Writable.{IsWritable};
+ghost use Rattle.sasi_store.specs.StoreView.{IsOfParts, memory_of};
+ghost use Rattle.sasi_store.specs.Writable.{IsWritableMutation};
 
 use crate::StepFault;
 use crate::flush_table::flush_table;
@@ -28,11 +28,11 @@ const BYTE_LIMIT: u64 = 1 << 26;
 
 /// Puts a mutation, and flushes its table if the memtable is full then.
 pub fn write<H: Host>(parts: &mut Parts, host: &mut H, mutation: Mutation) -> Result<(), StepFault>
-    requires ready { IsReady (H.view host.old) (hand_of parts.old) }
+    requires ready { CanChange (H.view host.old) (memory_of parts.old) }
     requires parts { IsOfParts parts.old }
-    requires writable { IsWritable (hand_of parts.old) mutation }
-    ensures makes { MakesMoves (λ l. moves_asked l (Writes mutation.table mutation.key mutation.change)) (H.view host.old) (H.view host.new) (hand_of parts.old) (hand_of parts.new) result }
-    ensures knows { OnOk result (Knows (hand_of parts.new) parts.old.schema (max parts.old.max_timestamp (max_timestamp_of mutation.change))) }
+    requires writable { IsWritableMutation (memory_of parts.old) mutation }
+    ensures makes { MakesMoves (λ l. moves_asked l (Writes mutation.table mutation.key mutation.change)) (H.view host.old) (H.view host.new) (memory_of parts.old) (memory_of parts.new) result }
+    ensures knows { OnOk result (Knows (memory_of parts.new) parts.old.schema (max parts.old.max_timestamp (max_timestamp_of mutation.change))) }
     ensures parts { OnOk result (IsOfParts parts.new) }
 {
     let table = mutation.table;
@@ -42,11 +42,11 @@ pub fn write<H: Host>(parts: &mut Parts, host: &mut H, mutation: Mutation) -> Re
 
 // Flushes a table if its memtable is full.
 fn flush_full<H: Host>(parts: &mut Parts, host: &mut H, table: TableNumber) -> Result<(), StepFault>
-    requires ready { IsReady (H.view host.old) (hand_of parts.old) }
+    requires ready { CanChange (H.view host.old) (memory_of parts.old) }
     requires parts { IsOfParts parts.old }
     requires there { HasTableFor table parts.old.tables.items }
-    ensures makes { MakesMoves (flush_where are_full table) (H.view host.old) (H.view host.new) (hand_of parts.old) (hand_of parts.new) result }
-    ensures knows { OnOk result (Knows (hand_of parts.new) parts.old.schema parts.old.max_timestamp) }
+    ensures makes { MakesMoves (flush_where are_full table) (H.view host.old) (H.view host.new) (memory_of parts.old) (memory_of parts.new) result }
+    ensures knows { OnOk result (Knows (memory_of parts.new) parts.old.schema parts.old.max_timestamp) }
     ensures parts { OnOk result (IsOfParts parts.new) }
 {
     if is_full(&parts.tables[table as usize - 1].memtable) {
@@ -64,11 +64,11 @@ fn is_full(memtable: &Memtable) -> bool
 
 // Logs a mutation, and then merges it into its memtable.
 fn put<H: Host>(parts: &mut Parts, host: &mut H, mutation: Mutation) -> Result<(), StepFault>
-    requires ready { IsReady (H.view host.old) (hand_of parts.old) }
+    requires ready { CanChange (H.view host.old) (memory_of parts.old) }
     requires parts { IsOfParts parts.old }
-    requires writable { IsWritable (hand_of parts.old) mutation }
-    ensures makes { MakesMoves (λ l. Put mutation ∷ []) (H.view host.old) (H.view host.new) (hand_of parts.old) (hand_of parts.new) result }
-    ensures knows { OnOk result (Knows (hand_of parts.new) parts.old.schema (max parts.old.max_timestamp (max_timestamp_of mutation.change))) }
+    requires writable { IsWritableMutation (memory_of parts.old) mutation }
+    ensures makes { MakesMoves (λ l. Put mutation ∷ []) (H.view host.old) (H.view host.new) (memory_of parts.old) (memory_of parts.new) result }
+    ensures knows { OnOk result (Knows (memory_of parts.new) parts.old.schema (max parts.old.max_timestamp (max_timestamp_of mutation.change))) }
     ensures parts { OnOk result (IsOfParts parts.new) }
     ensures there { OnOk result (HasTableFor mutation.table parts.new.tables.items) }
 {

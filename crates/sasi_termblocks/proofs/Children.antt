@@ -14,10 +14,10 @@ use Rattle.sasi_formats.proofs.Fitting.{both_true, number_fits}
 use Rattle.sasi_termblocks.specs.declared.block_ref.BlockRef.{BlockRef}
 use Rattle.sasi_termblocks.specs.declared.term_entry.TermEntry.{TermEntry}
 use Rattle.sasi_termblocks.specs.Entries.{pointer, term}
-use Rattle.sasi_termblocks.specs.Blocks.{Item, above, block, blocks, items_of, least, leasts, pointer_item}
+use Rattle.sasi_termblocks.specs.Blocks.{Item, above, block, blocks, first_term, first_terms, items_of, pointer_item}
 use Rattle.sasi_termblocks.specs.Windows.{HasEntry, IsBound, bytes_in, count_in}
-use Rattle.sasi_termblocks.specs.BlockFaults.{HasPlace}
-use Rattle.sasi_termblocks.specs.Descents.{IsFor, IsPageFor, is_place, level_at, level_items, pointer_to}
+use Rattle.sasi_termblocks.specs.BlockFaults.{PointsTo}
+use Rattle.sasi_termblocks.specs.Descents.{IsFor, IsPageFor, is_page_offset, level_at, level_items, pointer_to}
 use Rattle.sasi_termblocks.specs.Scans.{HasBlocks, IsRising, start_of, terms_of}
 use Rattle.sasi_termblocks.proofs.CutLaws.{all_blocks}
 use Rattle.sasi_termblocks.proofs.LevelLaws.{pointer_at, pointers_length}
@@ -28,7 +28,7 @@ use Rattle.sasi_termblocks.proofs.Found.{block_is, bound_splits, value_begins}
 
 -- ---- pointers
 
-pub pointer_kept : (low high : ℕ) (bytes : Bytes) (index : ℕ) (t : Bytes) (place : ℕ) → HasEntry (pointer_to low high) bytes index (t, place) → HasEntry pointer bytes index (t, place) × (is_place low high place ≡ true)
+pub pointer_kept : (low high : ℕ) (bytes : Bytes) (index : ℕ) (t : Bytes) (place : ℕ) → HasEntry (pointer_to low high) bytes index (t, place) → HasEntry pointer bytes index (t, place) × (is_page_offset low high place ≡ true)
 pointer_kept low high bytes index t place has =
     let s = start (bytes_in bytes index) in
     let next = (reads_exactly (pointer_to low high) s has.0 (t, place)).0 has.1 in (
@@ -40,7 +40,7 @@ pointer_kept low high bytes index t place has =
           passes = next.passes;
         }),
       ),
-      (when_is (is_place low high place) place place next.is.ends.is_value).0,
+      (when_is (is_page_offset low high place) place place next.is.ends.is_value).0,
     )
 
 -- what the offset of a page is
@@ -49,8 +49,8 @@ pub record IsPageIn (low high place : ℕ) : Type 0 where
   pub above : low ≤ place / 4096
   pub below : place / 4096 < high
 
-pub place_in : (low high place : ℕ) → is_place low high place ≡ true → IsPageIn low high place
-place_in low high place is =
+pub page_is_in : (low high place : ℕ) → is_page_offset low high place ≡ true → IsPageIn low high place
+page_is_in low high place is =
     let first = both_true (place % 4096 == 0) (nat_le low (place / 4096) && nat_lt (place / 4096) high) is in
     let second = both_true (nat_le low (place / 4096)) (nat_lt (place / 4096) high) first.1 in
     record { aligned = search (rules, first.0); above = search (rules, second.0); below = search (rules, second.1) }
@@ -99,21 +99,21 @@ pointer_is bytes r entries level group index t place has le lt within entry =
     let fits = (is_block groups group (all_blocks up (are_small up up_are)) lt).fits in
     let n = start_of groups group + index in
     let inside = item_within groups group index lt within in
-    let count : length (leasts here) ≡ length (joined groups) = sym (pointers_length at (leasts here)) ∙ sym (ap (λ (l : List Item). length l) (joined_blocks up)) in
-    let least_n = get_or (leasts here) n [] in
-    let place_n = at + 4096 * n in
-    let item_is : get_or group_here index d ≡ pointer_item least_n place_n =
-    sym (item_at groups group index d lt within) ∙ ap (λ (l : List Item). get_or l n d) (joined_blocks up) ∙ pointer_at at (leasts here) n d (omega (arith, inside, count)) in
+    let count : length (first_terms here) ≡ length (joined groups) = sym (pointers_length at (first_terms here)) ∙ sym (ap (λ (l : List Item). length l) (joined_blocks up)) in
+    let least_n = get_or (first_terms here) n [] in
+    let offset_n = at + 4096 * n in
+    let item_is : get_or group_here index d ≡ pointer_item least_n offset_n =
+    sym (item_at groups group index d lt within) ∙ ap (λ (l : List Item). get_or l n d) (joined_blocks up) ∙ pointer_at at (first_terms here) n d (omega (arith, inside, count)) in
     let own = every_at IsItem group_here index d (block_every IsItem up group up_are) within in
     let term_fits : Fits term least_n = subst (λ (i : Item). Fits term i.term) item_is own.fits in
-    let stands = level_block level r.levels r.first items bytes n le are has.stands (omega (arith, inside, count, length-map (blocks here) least)) in
-    let short : place_n < 2 ^ 64 = omega (arith, at_ends bytes place_n (block (get_or (blocks here) n [])) stands, has.short) in
-    let mine = value_begins pointer group_here index d (least_n, place_n) fits within (ap (λ (i : Item). i.bytes) item_is) (term_fits, number_fits w64 place_n short) in
-    ap (λ (p : Bytes × ℕ). p.1) (one_entry pointer (block group_here) index (t, place) (least_n, place_n) entry mine)
+    let stands = level_block level r.levels r.first items bytes n le are has.stands (omega (arith, inside, count, length-map (blocks here) first_term)) in
+    let short : offset_n < 2 ^ 64 = omega (arith, at_ends bytes offset_n (block (get_or (blocks here) n [])) stands, has.short) in
+    let mine = value_begins pointer group_here index d (least_n, offset_n) fits within (ap (λ (i : Item). i.bytes) item_is) (term_fits, number_fits w64 offset_n short) in
+    ap (λ (p : Bytes × ℕ). p.1) (one_entry pointer (block group_here) index (t, place) (least_n, offset_n) entry mine)
 
 -- the page of the block below
 pub child_for : (bytes window : Bytes) (r : BlockRef) (entries : List TermEntry) (level page below place low high : ℕ) (sought : Bytes) → HasBlocks bytes r entries → level + 1 ≤ r.levels
-    → IsPageFor r.first entries (level + 1) sought page → HasAt bytes (4096 * page) window → length window ≡ 4096 → IsBound window (count_in window) sought below → HasPlace low high window (below - 1) place
+    → IsPageFor r.first entries (level + 1) sought page → HasAt bytes (4096 * page) window → length window ≡ 4096 → IsBound window (count_in window) sought below → PointsTo low high window (below - 1) place
     → IsPageFor r.first entries level sought (place / 4096)
 child_for bytes window r entries level page below place low high sought has le page_for stands long bound entry =
     let items = items_of entries in
@@ -142,6 +142,6 @@ child_for bytes window r entries level page below place low high sought has le p
     (subst (λ (w : Bytes). HasEntry pointer w (below - 1) (entry.0, place)) window_is kept.0) in
     record {
       group = start_of (blocks up) group + (below - 1);
-      page_is = omega (arith, place_is, (place_in low high place kept.1).aligned);
+      page_is = omega (arith, place_is, (page_is_in low high place kept.1).aligned);
       is_for = block_below at here sought group below here_are here_rise is_for split;
     }

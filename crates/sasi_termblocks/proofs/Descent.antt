@@ -3,7 +3,7 @@ use Rattle.std.proofs.Common.{◌≡◌, ℕ, zero, suc, ◌+◌, ◌*◌, ◌/�
 use Rattle.std.specs.Prelude.{◌==◌, if◌then◌else◌}
 use Rattle.sasi_host.specs.declared.name.FileName.{FileName}
 use Rattle.sasi_host.specs.Names.{Bytes, Folder}
-use Rattle.sasi_host.specs.View.{View, IsThere, ReadsAtMost, contents}
+use Rattle.sasi_host.specs.View.{View, IsThere, ReadCost, contents}
 use Rattle.sasi_host.specs.Buffered.{Buffered}
 use Rattle.sasi_host.proofs.CauseLaws.{ok_reads, reads_on}
 use Rattle.sasi_host.proofs.ContentLaws.{contents_same, there_where}
@@ -73,8 +73,8 @@ pub high_is : (r : BlockRef) (level page : ℕ) → level ≡ 1 → high_page r 
 high_is r level page is = let test : (level == 1) ≡ true = search (rules, is) in ap (λ (t : Bool). if t then (r.first / 4096 + r.blocks) else page) test
 
 -- a reader may go on
-pub can_go_on : (K L : Option Folder → Type 0) (A B : FileName → Type 0) (u v : View) (h i : Buffered) → CanReadOn K u h → HasReadOn L A B u v h i → CanReadOn L v i
-can_go_on K L A B u v h i can read = record {
+pub can_read_on : (K L : Option Folder → Type 0) (A B : FileName → Type 0) (u v : View) (h i : Buffered) → CanReadOn K u h → HasReadOn L A B u v h i → CanReadOn L v i
+can_read_on K L A B u v h i can read = record {
   there = subst (λ (n : FileName). IsThere v n) (sym read.file) (there_where u v Same h.file read.changes (contents_same u v h.file read.changes) can.there);
   agrees = read.agrees;
   buffered = read.buffered;
@@ -83,7 +83,7 @@ can_go_on K L A B u v h i can read = record {
 pub still_reads : (u v : View) (was now : FileName) (bytes : Bytes) → Changes Same u v → now ≡ was → contents u was ≡ Some bytes → contents v now ≡ Some bytes
 still_reads u v was now bytes change same is = contents_same u v now change ∙ ap (λ (f : FileName). contents u f) same ∙ is
 
-pub costs_more : {T : Type 0} (a b c : View) (n m : ℕ) (x : T) → m ≡ n + 1 → ReadsAtMost {T = Unit {0}} n a b (Ok tt) → ReadsAtMost 1 b c (Ok x) → ReadsAtMost {T = Unit {0}} m a c (Ok tt)
+pub costs_more : {T : Type 0} (a b c : View) (n m : ℕ) (x : T) → m ≡ n + 1 → ReadCost {T = Unit {0}} n a b (Ok tt) → ReadCost 1 b c (Ok x) → ReadCost {T = Unit {0}} m a c (Ok tt)
 costs_more a b c n m x is one two = ok_reads a c m x tt (reads_on a b c n 1 m tt (Ok x) (omega (arith, is)) one two)
 
 pub files_same : (a b : View) → Changes Same a b → b.files ≡ a.files

@@ -22,7 +22,7 @@ use Rattle.sasi_termblocks.specs.Entries.{is_below, term, term_entry}
 use Rattle.sasi_termblocks.specs.declared.term_entry.TermEntry.{TermEntry}
 use Rattle.sasi_termblocks.specs.Windows.{BreaksEntry, BreaksNext, HasEntry, HasSize, IsFault, bytes_in, offset_in}
 use Rattle.sasi_termblocks.specs.Windows.BreaksEntry.{offset, field}
-use Rattle.sasi_termblocks.specs.BlockFaults.{BreaksUpTo, HasPlace, IsBrokenAt, IsMisplaced, IsMoved, IsNear, IsPlaced}
+use Rattle.sasi_termblocks.specs.BlockFaults.{BreaksUpTo, IsBrokenAt, IsMisplaced, IsMoved, IsNear, IsPlaced, PointsTo}
 use Rattle.sasi_termblocks.specs.Descents.{pointer_to}
 
 -- the offset of a fault that a format tells lies within the block
@@ -92,26 +92,26 @@ pub fault_moved : {A : Type 0} (format : Format A) (block : Bytes) (index : ℕ)
 fault_moved format block index s f now is fails moved near = entry_moved format block index f now (subst (λ (r : Reading). FailsWith (read format r) f) is fails) moved near
 
 -- the offset of a pointer alone
-place_got : (o : Outcome (Bytes × ℕ)) (place : ℕ) (t : Reading) → outcome_as (λ both. both.1) o ≡ Got place t → (x : Bytes) × (o ≡ Got (x, place) t)
-place_got (Got both u) place t is =
+pointer_got : (o : Outcome (Bytes × ℕ)) (place : ℕ) (t : Reading) → outcome_as (λ both. both.1) o ≡ Got place t → (x : Bytes) × (o ≡ Got (x, place) t)
+pointer_got (Got both u) place t is =
     let value : both.1 ≡ place = cc in
     let behind : u ≡ t = cc in
     (both.0, ap (λ (n : ℕ). Got (both.0, n) u) value ∙ ap (λ (r : Reading). Got (both.0, place) r) behind)
-place_got (Failed f) place t is = absurd cc
+pointer_got (Failed f) place t is = absurd cc
 
 as_fails : (o : Outcome (Bytes × ℕ)) (f : Corruption) → outcome_as (λ both. both.1) o ≡ Failed f → o ≡ Failed f
 as_fails (Got both u) f is = absurd cc
 as_fails (Failed g) f is = let same : g ≡ f = cc in ap (λ (x : Corruption). Failed x) same
 
-pub place_fails : (o : Outcome (Bytes × ℕ)) (f : FormatFault) → FailsWith (outcome_as (λ both. both.1) o) f → FailsWith o f
-place_fails o fault.OutOfMemory fails = tt
-place_fails o fault.Short fails = as_fails o reader.Short fails
-place_fails o fault.Long fails = as_fails o reader.Long fails
-place_fails o (fault.Broken b) fails = as_fails o (reader.Broken b.rule b.at (seen_bytes b.seen)) fails
+pub pointer_fails : (o : Outcome (Bytes × ℕ)) (f : FormatFault) → FailsWith (outcome_as (λ both. both.1) o) f → FailsWith o f
+pointer_fails o fault.OutOfMemory fails = tt
+pointer_fails o fault.Short fails = as_fails o reader.Short fails
+pointer_fails o fault.Long fails = as_fails o reader.Long fails
+pointer_fails o (fault.Broken b) fails = as_fails o (reader.Broken b.rule b.at (seen_bytes b.seen)) fails
 
-pub has_place : (low high : ℕ) (block : Bytes) (index : ℕ) (s t : Reading) (place : ℕ) → s ≡ start (bytes_in block index) → outcome_as (λ both. both.1) (read (pointer_to low high) s) ≡ Got place t → HasPlace low high block index place
-has_place low high block index s t place is got =
-    let both = place_got (read (pointer_to low high) s) place t got in
+pub points_to : (low high : ℕ) (block : Bytes) (index : ℕ) (s t : Reading) (place : ℕ) → s ≡ start (bytes_in block index) → outcome_as (λ both. both.1) (read (pointer_to low high) s) ≡ Got place t → PointsTo low high block index place
+points_to low high block index s t place is got =
+    let both = pointer_got (read (pointer_to low high) s) place t got in
     (both.0, got_entry (pointer_to low high) block index s t (both.0, place) is both.1)
 
 -- the bytes from an offset on, as a slice has them

@@ -10,7 +10,7 @@ use Rattle.sasi_host.specs.Damages.{HasAt}
 use Rattle.sasi_formats.specs.Formats.{Fits, encoded}
 use Rattle.sasi_termblocks.specs.declared.term_entry.TermEntry.{TermEntry}
 use Rattle.sasi_termblocks.specs.Entries.{is_below, postings, term}
-use Rattle.sasi_termblocks.specs.Blocks.{Item, Cut, add, block, blocks, cut_of, items_of, least, leasts, pointers_to, size, with_last}
+use Rattle.sasi_termblocks.specs.Blocks.{Item, Cut, add, block, blocks, cut_of, items_of, first_term, first_terms, pointers_to, size, with_last}
 use Rattle.sasi_termblocks.specs.Writing.{AreShort, AreSmall}
 use Rattle.sasi_termblocks.specs.Scans.{HaveBytes, IsRising, start_of}
 use Rattle.sasi_termblocks.proofs.CutLaws.{AreBlocks, add_is, all_blocks, block_length, room_kept, room_made}
@@ -157,20 +157,20 @@ every_at P (item ∷ others) (suc index) d are lt = every_at P others index d ar
 
 -- ---- least terms
 
-pub least_at : (groups : List (List Item)) (index : ℕ) → get_or (map least groups) index [] ≡ least (get_or groups index [])
+pub least_at : (groups : List (List Item)) (index : ℕ) → get_or (map first_term groups) index [] ≡ first_term (get_or groups index [])
 least_at [] index = refl
 least_at (first ∷ others) zero = refl
 least_at (first ∷ others) (suc index) = least_at others index
 
-pub least_first : (group : List Item) (d : Item) → 0 < length group → least group ≡ (get_or group 0 d).term
+pub least_first : (group : List Item) (d : Item) → 0 < length group → first_term group ≡ (get_or group 0 d).term
 least_first [] d some = absurd (omega (arith, some))
 least_first (item ∷ others) d some = refl
 
-least_short : (group : List Item) → AreItems group → length (least group) ≤ 1024
+least_short : (group : List Item) → AreItems group → length (first_term group) ≤ 1024
 least_short [] are = omega arith
 least_short (item ∷ others) are = term_short item.term are.0.fits
 
-pub leasts_short : (items : List Item) → AreItems items → AreShort (leasts items)
+pub leasts_short : (items : List Item) → AreItems items → AreShort (first_terms items)
 leasts_short items are k =
     subst (λ (l : Bytes). length l ≤ 1024) (sym (least_at (blocks items) k))
     (least_short (get_or (blocks items) k []) (block_every IsItem items k are))
@@ -187,8 +187,8 @@ pub pointer_terms : (at : ℕ) (terms : List Bytes) → terms_in (pointers_to at
 pointer_terms at [] = refl
 pointer_terms at (t ∷ others) = ap (λ (l : List Bytes). t ∷ l) (pointer_terms (at + 4096) others)
 
--- the least term of a block is that of the entry where it starts
-pub least_is : (groups : List (List Item)) (index : ℕ) → AreBlocks groups → index < length groups → least (get_or groups index []) ≡ get_or (terms_in (joined groups)) (start_of groups index) []
+-- the first term of a block is that of the entry where it starts
+pub least_is : (groups : List (List Item)) (index : ℕ) → AreBlocks groups → index < length groups → first_term (get_or groups index []) ≡ get_or (terms_in (joined groups)) (start_of groups index) []
 least_is groups index are lt =
     let d : Item = record { term = []; bytes = [] } in
     let some = (is_block groups index are lt).some in
@@ -196,21 +196,21 @@ least_is groups index are lt =
     least_first (get_or groups index []) d some ∙ ap (λ (i : Item). i.term) (sym (item_at groups index 0 d lt some))
     ∙ sym (term_at (joined groups) (start_of groups index + 0) d within) ∙ ap (λ (n : ℕ). get_or (terms_in (joined groups)) n []) (omega arith)
 
-pub leasts_rise : (items : List Item) → AreItems items → IsRising (terms_in items) → IsRising (leasts items)
+pub leasts_rise : (items : List Item) → AreItems items → IsRising (terms_in items) → IsRising (first_terms items)
 leasts_rise items are rising index lt =
     let groups = blocks items in
     let blocks_are = all_blocks items (are_small items are) in
-    let count = length-map groups least in
+    let count = length-map groups first_term in
     let this : index < length groups = omega (arith, lt, count) in
     let next : index + 1 < length groups = omega (arith, lt, count) in
     let same = joined_blocks items in
     let some = (is_block groups index blocks_are this).some in
     let after = (is_block groups (index + 1) blocks_are next).some in
-    let here : get_or (leasts items) index [] ≡ get_or (terms_in items) (start_of groups index) [] =
+    let here : get_or (first_terms items) index [] ≡ get_or (terms_in items) (start_of groups index) [] =
     least_at groups index ∙ least_is groups index blocks_are this ∙ ap (λ (l : List Item). get_or (terms_in l) (start_of groups index) []) same in
-    let there : get_or (leasts items) (index + 1) [] ≡ get_or (terms_in items) (start_of groups (index + 1)) [] =
+    let there : get_or (first_terms items) (index + 1) [] ≡ get_or (terms_in items) (start_of groups (index + 1)) [] =
     least_at groups (index + 1) ∙ least_is groups (index + 1) blocks_are next ∙ ap (λ (l : List Item). get_or (terms_in l) (start_of groups (index + 1)) []) same in
     let within : start_of groups (index + 1) < length (terms_in items) =
     omega (arith, item_within groups (index + 1) 0 next after, ap (λ (l : List Item). length l) same, length-map items (λ (i : Item). i.term)) in
     let rises = rises_to (terms_in items) rising (start_of groups index) (start_of groups (index + 1)) (omega (arith, start_next groups index this, some)) within in
-    ap (λ (l : Bytes). is_below l (get_or (leasts items) (index + 1) [])) here ∙ ap (λ (l : Bytes). is_below (get_or (terms_in items) (start_of groups index) []) l) there ∙ rises
+    ap (λ (l : Bytes). is_below l (get_or (first_terms items) (index + 1) [])) here ∙ ap (λ (l : Bytes). is_below (get_or (terms_in items) (start_of groups index) []) l) there ∙ rises

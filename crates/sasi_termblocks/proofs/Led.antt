@@ -11,7 +11,7 @@ use Rattle.sasi_termblocks.specs.declared.term_entry.TermEntry.{TermEntry}
 use Rattle.sasi_termblocks.specs.Entries.{is_below, term}
 use Rattle.sasi_termblocks.specs.Blocks.{Item, block, blocks, items_of}
 use Rattle.sasi_termblocks.specs.Windows.{HasEntry, IsBound, count_in}
-use Rattle.sasi_termblocks.specs.BlockFaults.{HasPlace, IsMisplaced}
+use Rattle.sasi_termblocks.specs.BlockFaults.{IsMisplaced, PointsTo}
 use Rattle.sasi_termblocks.specs.Damages.{LeadsFor, LeadsTo, ShowsBlock}
 use Rattle.sasi_termblocks.specs.Damages.LeadsFor.{from_top, further_down}
 use Rattle.sasi_termblocks.specs.Damages.ShowsBlock.{ends, breaks}
@@ -29,11 +29,11 @@ use Rattle.sasi_termblocks.proofs.Steps.{position_is, terms_same}
 
 -- on to the block below
 pub led_on : (bytes window : Bytes) (r : BlockRef) (sought : Bytes) (level page below place : ℕ) → 0 < level → LeadsFor bytes r sought level page → HasAt bytes (4096 * page) window → length window ≡ 4096
-    → IsBound window (count_in window) sought below → HasPlace (low_page r level) (high_page r level page) window (below - 1) place → LeadsFor bytes r sought (level - 1) (place / 4096)
+    → IsBound window (count_in window) sought below → PointsTo (low_page r level) (high_page r level page) window (below - 1) place → LeadsFor bytes r sought (level - 1) (place / 4096)
 led_on bytes window r sought level page below place some leads stands long bound has =
     let up : level ≡ level - 1 + 1 = omega (arith, some) in
     further_down (level - 1) (place / 4096) page below place window (subst (λ (n : ℕ). LeadsFor bytes r sought n page) up leads) stands long bound
-    (subst (λ (n : ℕ). HasPlace (low_page r n) (high_page r n page) window (below - 1) place) up has) refl
+    (subst (λ (n : ℕ). PointsTo (low_page r n) (high_page r n page) window (below - 1) place) up has) refl
 
 led_within : (bytes : Bytes) (r : BlockRef) (sought : Bytes) (level page : ℕ) → LeadsFor bytes r sought level page → level ≤ r.levels
 led_within bytes r sought level page (from_top _ _ some is page_is) = omega (arith, is)

@@ -10,7 +10,7 @@ use Rattle.sasi_tokentree.proofs.WriteLaws.{writes_on}
 use Rattle.sasi_termblocks.specs.declared.packer.Packer.{Packer}
 use Rattle.sasi_termblocks.specs.declared.block_ref.BlockRef.{BlockRef}
 use Rattle.sasi_termblocks.specs.declared.term_entry.TermEntry.{TermEntry}
-use Rattle.sasi_termblocks.specs.Blocks.{Item, Cut, EndsAfter, IsRefOf, add, above, blocks, cut_of, least, leasts, level_bytes, levels_bytes, next_at, pointer_item, pointers_to, items_of, term_item, top_of, top_pointer}
+use Rattle.sasi_termblocks.specs.Blocks.{Item, Cut, EndsAfter, IsRefOf, add, above, blocks, cut_of, first_term, first_terms, level_bytes, levels_bytes, next_at, pointer_item, pointers_to, items_of, term_item, top_of, top_pointer}
 use Rattle.sasi_termblocks.specs.Writing.{AreShort, AreSmall, HasPushed, IsLevel, IsSmall, Packs, Writer}
 use Rattle.sasi_termblocks.proofs.CutLaws.{cut_is, cut_push, fewer, offsets_length}
 use Rattle.sasi_termblocks.proofs.EntryLaws.{pointer_small}
@@ -39,10 +39,10 @@ pointers_more at terms index lt =
 -- ---- the level above
 
 -- it has fewer blocks
-pub fewer_above : (at : ℕ) (terms next : List Bytes) → AreShort terms → 2 ≤ length terms → next ≡ leasts (pointers_to at terms) → length next < length terms
+pub fewer_above : (at : ℕ) (terms next : List Bytes) → AreShort terms → 2 ≤ length terms → next ≡ first_terms (pointers_to at terms) → length next < length terms
 fewer_above at terms next short two is =
     let less = fewer (pointers_to at terms) (pointers_small at terms short) (omega (arith, two, pointers_length at terms)) in
-    omega (arith, less, pointers_length at terms, ap (λ (l : List Bytes). length l) is, length-map (blocks (pointers_to at terms)) least)
+    omega (arith, less, pointers_length at terms, ap (λ (l : List Bytes). length l) is, length-map (blocks (pointers_to at terms)) first_term)
 
 pub level_as : (bytes same : Bytes) (terms alike : List Bytes) (items : List Item) → same ≡ bytes → alike ≡ terms → IsLevel bytes terms items → IsLevel same alike items
 level_as bytes same terms alike items is are level = record {
@@ -64,7 +64,7 @@ pointer_pushed packer at terms index term place lt term_is place_is packs =
 -- a level of one block is the last
 pub one_ends : (at : ℕ) (items : List Item) (bytes : Bytes) (terms : List Bytes) → IsLevel bytes terms items → length terms ≤ 1 → EndsAfter 0 at items
 unfolding EndsAfter
-one_ends at items bytes terms level le = omega (arith, le, ap (λ (l : List Bytes). length l) level.terms_are, length-map (blocks items) least)
+one_ends at items bytes terms level le = omega (arith, le, ap (λ (l : List Bytes). length l) level.terms_are, length-map (blocks items) first_term)
 
 pub one_written : (a b : View) (file : FileName) (at : ℕ) (items : List Item) (bytes : Bytes) (terms : List Bytes) → IsLevel bytes terms items → Writes a b file at bytes → Writes a b file at (levels_bytes 0 at items)
 unfolding levels_bytes
@@ -75,7 +75,7 @@ unfolding top_of
 one_top at items = refl
 
 next_is : (at next : ℕ) (items : List Item) (bytes : Bytes) (terms : List Bytes) → IsLevel bytes terms items → next ≡ at + length bytes → next ≡ next_at at items
-next_is at next items bytes terms level is = omega (arith, is, level.whole, ap (λ (l : List Bytes). length l) level.terms_are, length-map (blocks items) least)
+next_is at next items bytes terms level is = omega (arith, is, level.whole, ap (λ (l : List Bytes). length l) level.terms_are, length-map (blocks items) first_term)
 
 above_is : (at : ℕ) (items : List Item) (bytes : Bytes) (terms : List Bytes) → IsLevel bytes terms items → pointers_to at terms ≡ above at items
 above_is at items bytes terms level = ap (λ (l : List Bytes). pointers_to at l) level.terms_are
@@ -85,7 +85,7 @@ pub more_end : (at next more : ℕ) (items : List Item) (bytes : Bytes) (terms :
 unfolding EndsAfter
 more_end at next more items bytes terms level is two ends =
     rw add-one (
-      omega (arith, two, ap (λ (l : List Bytes). length l) level.terms_are, length-map (blocks items) least),
+      omega (arith, two, ap (λ (l : List Bytes). length l) level.terms_are, length-map (blocks items) first_term),
       subst (λ (l : List Item). EndsAfter more (next_at at items) l) (above_is at items bytes terms level)
           (subst (λ (n : ℕ). EndsAfter more n (pointers_to at terms)) (next_is at next items bytes terms level is) ends),
     )
@@ -118,7 +118,7 @@ pub refers : (at : ℕ) (entries : List TermEntry) (made : BlockRef) (bytes : By
 refers at entries made bytes terms count levels top pushed level ends top_is pushed_is count_is is =
     subst (λ (r : BlockRef). IsRefOf at entries r) (sym is) (record {
       first = refl;
-      blocks_are = count_is ∙ ap (λ (l : List Bytes). length l) level.terms_are ∙ length-map (blocks (items_of entries)) least;
+      blocks_are = count_is ∙ ap (λ (l : List Bytes). length l) level.terms_are ∙ length-map (blocks (items_of entries)) first_term;
       levels_are = ends;
       top_is = pointer levels top top_is;
       terms_are = pushed_is;

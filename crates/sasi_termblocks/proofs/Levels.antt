@@ -7,7 +7,7 @@ use Rattle.sasi_host.specs.Names.{Bytes}
 use Rattle.sasi_host.specs.Damages.{HasAt}
 use Rattle.sasi_host.proofs.Offsets.{first_at, second_at, inner_at}
 use Rattle.sasi_termblocks.specs.Entries.{is_below}
-use Rattle.sasi_termblocks.specs.Blocks.{Item, EndsAfter, above, block, blocks, least, leasts, level_bytes, levels_bytes, next_at, top_of}
+use Rattle.sasi_termblocks.specs.Blocks.{Item, EndsAfter, above, block, blocks, first_term, first_terms, level_bytes, levels_bytes, next_at, top_of}
 use Rattle.sasi_termblocks.specs.Scans.{CountsBelow, IsRising, start_of}
 use Rattle.sasi_termblocks.specs.Descents.{IsFor, level_at, level_items}
 use Rattle.sasi_termblocks.proofs.CutLaws.{AreBlocks, all_blocks}
@@ -26,10 +26,10 @@ at_up zero at items = refl
 at_up (suc level) at items = at_up level (next_at at items) (above at items)
 
 above_are : (at : ℕ) (items : List Item) → AreItems items → AreItems (above at items)
-above_are at items are = pointers_are at (leasts items) (leasts_short items are)
+above_are at items are = pointers_are at (first_terms items) (leasts_short items are)
 
 above_rise : (at : ℕ) (items : List Item) → AreItems items → IsRising (terms_in items) → IsRising (terms_in (above at items))
-above_rise at items are rising = subst (λ (l : List Bytes). IsRising l) (sym (pointer_terms at (leasts items))) (leasts_rise items are rising)
+above_rise at items are rising = subst (λ (l : List Bytes). IsRising l) (sym (pointer_terms at (first_terms items))) (leasts_rise items are rising)
 
 pub level_are : (level at : ℕ) (items : List Item) → AreItems items → AreItems (level_items level at items)
 level_are zero at items are = are
@@ -48,7 +48,7 @@ some_blocks items some = from (blocks items) (joined_blocks items)
     from (first ∷ others) is = omega arith
 
 above_some : (at : ℕ) (items : List Item) → 0 < length items → 0 < length (above at items)
-above_some at items some = omega (arith, some_blocks items some, pointers_length at (leasts items), length-map (blocks items) least)
+above_some at items some = omega (arith, some_blocks items some, pointers_length at (first_terms items), length-map (blocks items) first_term)
 
 pub level_some : (level at : ℕ) (items : List Item) → 0 < length items → 0 < length (level_items level at items)
 level_some zero at items some = some
@@ -129,7 +129,7 @@ module _ (items : List Item) (sought : Bytes) (group below : ℕ) (are : AreItem
       ∙ ap (λ (l : List Item). (get_or l (start_of (blocks items) group + index) d).term) (sym (joined_blocks items))
       ∙ ap (λ (i : Item). i.term) (item_at (blocks items) group index d is_for.within lt)
 
-  least_of : (index : ℕ) → index < length (blocks items) → get_or (terms_in items) (start_of (blocks items) index) [] ≡ least (get_or (blocks items) index [])
+  least_of : (index : ℕ) → index < length (blocks items) → get_or (terms_in items) (start_of (blocks items) index) [] ≡ first_term (get_or (blocks items) index [])
   least_of index lt = ap (λ (l : List Item). get_or (terms_in l) (start_of (blocks items) index) []) (sym (joined_blocks items)) ∙ sym (least_is (blocks items) index blocks_are lt)
 
   start_zero : group ≡ 0 → start_of (blocks items) group ≡ 0
@@ -229,10 +229,10 @@ block_below at items sought group below are rising is_for split =
     let up = above at items in
     let up_are = above_are at items are in
     let up_rise = above_rise at items are rising in
-    let terms = pointer_terms at (leasts items) in
-    let count : length (terms_in up) ≡ length (blocks items) = ap (λ (l : List Bytes). length l) terms ∙ length-map (blocks items) least in
+    let terms = pointer_terms at (first_terms items) in
+    let count : length (terms_in up) ≡ length (blocks items) = ap (λ (l : List Bytes). length l) terms ∙ length-map (blocks items) first_term in
     let child = start_of (blocks up) group + (below - 1) in
-    let told : (n : ℕ) → get_or (terms_in up) n [] ≡ least (get_or (blocks items) n []) = λ n. ap (λ (l : List Bytes). get_or l n []) terms ∙ least_at (blocks items) n in
+    let told : (n : ℕ) → get_or (terms_in up) n [] ≡ first_term (get_or (blocks items) n []) = λ n. ap (λ (l : List Bytes). get_or l n []) terms ∙ least_at (blocks items) n in
     record {
       within = omega (arith, count, within_all up sought group below up_are up_rise is_for split (below - 1) (split_index up sought group below up_are up_rise is_for split));
       last = λ some. ap (λ (l : Bytes). is_below l sought) (sym (told child)) ∙ child_last up sought group below up_are up_rise is_for split some;

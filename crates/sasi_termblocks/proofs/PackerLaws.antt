@@ -8,8 +8,8 @@ use Rattle.std.specs.Int.{to_be_bytes, w16}
 use Rattle.std.specs.Prelude.{replicate, slice_index}
 use Rattle.sasi_host.specs.Names.{Bytes}
 use Rattle.sasi_termblocks.specs.declared.packer.Packer.{Packer}
-use Rattle.sasi_termblocks.specs.Blocks.{Item, Cut, add, block, blocks, cut_of, entries_bytes, least, leasts, offsets, size, with_last, with_room}
-use Rattle.sasi_termblocks.specs.Writing.{AreShort, IsLevel, Packs, leasts_with}
+use Rattle.sasi_termblocks.specs.Blocks.{Item, Cut, add, block, blocks, cut_of, entries_bytes, first_term, first_terms, offsets, size, with_last, with_room}
+use Rattle.sasi_termblocks.specs.Writing.{AreShort, IsLevel, Packs, first_terms_with}
 use Rattle.sasi_termblocks.proofs.CutLaws.{flat_push, offsets_behind, offsets_length, offsets_push, room_kept, room_made}
 
 -- the parts of a block, one after another
@@ -80,21 +80,21 @@ starts_push starts start each le k = ⊎_elim
     (λ within. subst (λ (n : ℕ). n ≤ 4096) (sym (get_or_append_left starts (start ∷ []) 0 k within.1)) (each k))
     (leb_tells (length starts) k)
 
--- the least terms of blocks, with an entry more in the last one
-leasts_added : (full : List (List Item)) (last : List Item) (terms : List Bytes) (bytes : ℕ) (item : Item) → bytes ≡ 4096 * length full → terms ≡ map least (with_last full last)
-    → leasts_with bytes terms item.term ≡ map least (with_last full (last ++ item ∷ []))
+-- the first terms of blocks, with an entry more in the last one
+leasts_added : (full : List (List Item)) (last : List Item) (terms : List Bytes) (bytes : ℕ) (item : Item) → bytes ≡ 4096 * length full → terms ≡ map first_term (with_last full last)
+    → first_terms_with bytes terms item.term ≡ map first_term (with_last full (last ++ item ∷ []))
 leasts_added full [] terms bytes item is terms_are =
-    let le : 4096 * length terms ≤ bytes = omega (arith, is, ap (λ (l : List Bytes). length l) terms_are, length-map full least) in
-    rw (le-leb (4096 * length terms) bytes le) (ap (λ (l : List Bytes). l ++ item.term ∷ []) terms_are ∙ sym (map_push least full (item ∷ [])))
+    let le : 4096 * length terms ≤ bytes = omega (arith, is, ap (λ (l : List Bytes). length l) terms_are, length-map full first_term) in
+    rw (le-leb (4096 * length terms) bytes le) (ap (λ (l : List Bytes). l ++ item.term ∷ []) terms_are ∙ sym (map_push first_term full (item ∷ [])))
 leasts_added full (first ∷ others) terms bytes item is terms_are =
     let lt : bytes < 4096 * length terms =
-    omega (arith, is, ap (λ (l : List Bytes). length l) terms_are, length-map (full ++ (first ∷ others) ∷ []) least, length_push full (first ∷ others)) in
-    rw (lt-leb (4096 * length terms) bytes lt) (terms_are ∙ map_push least full (first ∷ others) ∙ sym (map_push least full (first ∷ (others ++ item ∷ []))))
+    omega (arith, is, ap (λ (l : List Bytes). length l) terms_are, length-map (full ++ (first ∷ others) ∷ []) first_term, length_push full (first ∷ others)) in
+    rw (lt-leb (4096 * length terms) bytes lt) (terms_are ∙ map_push first_term full (first ∷ others) ∙ sym (map_push first_term full (first ∷ (others ++ item ∷ []))))
 
 pub packs_added : (mid now : Packer) (cut : Cut) (item : Item) (full start : ℕ) → Packs mid (with_room (length item.bytes) cut) → now.full.items ≡ mid.full.items
-    → now.leasts.items ≡ leasts_with full mid.leasts.items item.term → now.starts.items ≡ mid.starts.items ++ start ∷ [] → full ≡ length mid.full.items → start ≡ length mid.entries.items
+    → now.first_terms.items ≡ first_terms_with full mid.first_terms.items item.term → now.starts.items ≡ mid.starts.items ++ start ∷ [] → full ≡ length mid.full.items → start ≡ length mid.entries.items
     → now.entries.items ≡ mid.entries.items ++ item.bytes → Packs now (add cut item)
-packs_added mid now cut item full start packs same leasts starts full_is start_is entries =
+packs_added mid now cut item full start packs same first_terms starts full_is start_is entries =
     let room = with_room (length item.bytes) cut in
     record {
       full_is = same ∙ packs.full_is;
@@ -103,7 +103,7 @@ packs_added mid now cut item full start packs same leasts starts full_is start_i
           ∙ ap (λ (n : ℕ). offsets 0 room.last ++ n ∷ []) (omega (arith, start_is, ap (λ (l : Bytes). length l) packs.entries_are))
           ∙ sym (offsets_push 0 room.last item);
       entries_are = entries ∙ ap (λ (l : Bytes). l ++ item.bytes) packs.entries_are ∙ sym (flat_push (λ (i : Item). i.bytes) room.last item);
-      leasts_are = leasts ∙ leasts_added room.full room.last mid.leasts.items full item (full_is ∙ packs.whole) packs.leasts_are;
+      first_terms_are = first_terms ∙ leasts_added room.full room.last mid.first_terms.items full item (full_is ∙ packs.whole) packs.first_terms_are;
     }
 
 -- room for it: as it was
@@ -140,30 +140,30 @@ packs_made was now cut bytes small packs lt closes =
 pub packs_closed : (was now : Packer) (cut : Cut) (first : Item) (others : List Item) → cut.last ≡ first ∷ others → Packs was cut
     → ((items : List Item) → was.starts.items ≡ offsets 0 items → was.entries.items ≡ entries_bytes items → now.full.items ≡ was.full.items ++ block items)
     → length now.full.items ≡ length was.full.items + 4096
-    → now.starts.items ≡ [] → now.entries.items ≡ [] → now.leasts.items ≡ was.leasts.items → Packs now (record { full = cut.full ++ cut.last ∷ []; last = [] })
+    → now.starts.items ≡ [] → now.entries.items ≡ [] → now.first_terms.items ≡ was.first_terms.items → Packs now (record { full = cut.full ++ cut.last ∷ []; last = [] })
 packs_closed was now cut first others last_is packs put long starts entries terms = record {
   full_is = put cut.last packs.starts_are packs.entries_are ∙ ap (λ (l : Bytes). l ++ block cut.last) packs.full_is ∙ sym (flat_push block cut.full cut.last);
   whole = omega (arith, long, packs.whole, length_push cut.full cut.last);
   starts_are = starts;
   entries_are = entries;
-  leasts_are = terms ∙ packs.leasts_are ∙ ap (λ (l : List Item). map least (with_last cut.full l)) last_is ∙ ap (λ (l : List Item). map least (cut.full ++ l ∷ [])) (sym last_is);
+  first_terms_are = terms ∙ packs.first_terms_are ∙ ap (λ (l : List Item). map first_term (with_last cut.full l)) last_is ∙ ap (λ (l : List Item). map first_term (cut.full ++ l ∷ [])) (sym last_is);
 }
 
 -- ---- a whole level
 
 -- the packer has these blocks, all closed
 abbrev Has : Packer → List (List Item) → Type 0
-Has packer groups = (packer.full.items ≡ flat_map block groups) × (packer.leasts.items ≡ map least groups) × (length packer.full.items ≡ 4096 * length packer.leasts.items)
+Has packer groups = (packer.full.items ≡ flat_map block groups) × (packer.first_terms.items ≡ map first_term groups) × (length packer.full.items ≡ 4096 * length packer.first_terms.items)
 
-level_of : (packer : Packer) (items : List Item) → Has packer (blocks items) → IsLevel packer.full.items packer.leasts.items items
+level_of : (packer : Packer) (items : List Item) → Has packer (blocks items) → IsLevel packer.full.items packer.first_terms.items items
 level_of packer items has = record { bytes_are = has.0; terms_are = has.1; whole = has.2 }
 
 all_closed : (packer : Packer) (full : List (List Item)) → Packs packer (record { full = full; last = [] }) → Has packer full
 all_closed packer full packs =
-    (packs.full_is, packs.leasts_are, packs.whole ∙ omega (arith, ap (λ (l : List Bytes). length l) packs.leasts_are, length-map full least))
+    (packs.full_is, packs.first_terms_are, packs.whole ∙ omega (arith, ap (λ (l : List Bytes). length l) packs.first_terms_are, length-map full first_term))
 
 -- where no block is open
-pub level_kept : (packer : Packer) (items : List Item) → length packer.starts.items ≡ 0 → Packs packer (cut_of items) → IsLevel packer.full.items packer.leasts.items items
+pub level_kept : (packer : Packer) (items : List Item) → length packer.starts.items ≡ 0 → Packs packer (cut_of items) → IsLevel packer.full.items packer.first_terms.items items
 level_kept packer items none packs = level_of packer items (from (cut_of items).full (cut_of items).last packs)
   where
     from : (full : List (List Item)) (last : List Item) → Packs packer (record { full = full; last = last }) → Has packer (with_last full last)
@@ -173,7 +173,7 @@ level_kept packer items none packs = level_of packer items (from (cut_of items).
 -- and where one was closed
 pub level_closed : (was now : Packer) (items : List Item) → 0 < length was.starts.items → Packs was (cut_of items)
     → ((cut : Cut) (first : Item) (others : List Item) → cut.last ≡ first ∷ others → Packs was cut → Packs now (record { full = cut.full ++ cut.last ∷ []; last = [] }))
-    → IsLevel now.full.items now.leasts.items items
+    → IsLevel now.full.items now.first_terms.items items
 level_closed was now items some packs closes = level_of now items (from (cut_of items).full (cut_of items).last packs)
   where
     from : (full : List (List Item)) (last : List Item) → Packs was (record { full = full; last = last }) → Has now (with_last full last)
@@ -181,6 +181,6 @@ level_closed was now items some packs closes = level_of now items (from (cut_of 
     from full (first ∷ others) packs = all_closed now (full ++ (first ∷ others) ∷ []) (closes (record { full = full; last = first ∷ others }) first others refl packs)
 
 -- a packer without blocks
-pub no_blocks : (packer : Packer) → packer.full.items ≡ [] → packer.starts.items ≡ [] → packer.entries.items ≡ [] → packer.leasts.items ≡ [] → Packs packer (cut_of [])
+pub no_blocks : (packer : Packer) → packer.full.items ≡ [] → packer.starts.items ≡ [] → packer.entries.items ≡ [] → packer.first_terms.items ≡ [] → Packs packer (cut_of [])
 unfolding cut_of
-no_blocks packer full starts entries terms = record { full_is = full; whole = ap (λ (l : Bytes). length l) full; starts_are = starts; entries_are = entries; leasts_are = terms }
+no_blocks packer full starts entries terms = record { full_is = full; whole = ap (λ (l : Bytes). length l) full; starts_are = starts; entries_are = entries; first_terms_are = terms }

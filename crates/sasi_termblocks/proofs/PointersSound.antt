@@ -20,14 +20,14 @@ use Rattle.sasi_formats.proofs.Fitting.{checked_fits, number_fits}
 use Rattle.sasi_termblocks.specs.declared.block_ref.BlockRef.{BlockRef}
 use Rattle.sasi_termblocks.specs.declared.term_entry.TermEntry.{TermEntry}
 use Rattle.sasi_termblocks.specs.Entries.{pointer, term}
-use Rattle.sasi_termblocks.specs.Blocks.{Item, EndsAfter, above, block, blocks, items_of, least, leasts, level_bytes, next_at, pointer_item}
+use Rattle.sasi_termblocks.specs.Blocks.{Item, EndsAfter, above, block, blocks, items_of, first_term, first_terms, level_bytes, next_at, pointer_item}
 use Rattle.sasi_termblocks.specs.Windows.{HasEntry, count_in}
 use Rattle.sasi_termblocks.specs.Damages.{BreaksPointers, BreaksTerms, Leads, ShowsBlocks}
 use Rattle.sasi_termblocks.specs.Damages.ShowsBlock.{ends, breaks}
 use Rattle.sasi_termblocks.specs.Damages.ShowsBlocks.{ends_early, in_terms, in_pointers, behind_terms, led_too_far, led_too_near}
 use Rattle.sasi_termblocks.specs.BlockFaults.{BreaksFirstPointer}
 use Rattle.sasi_termblocks.specs.Damages.Leads.{top, down}
-use Rattle.sasi_termblocks.specs.Descents.{high_page, is_place, level_at, level_items, low_page, page_of_top, pointer_to}
+use Rattle.sasi_termblocks.specs.Descents.{high_page, is_page_offset, level_at, level_items, low_page, page_of_top, pointer_to}
 use Rattle.sasi_termblocks.specs.Scans.{HasBlocks, NoFalseDamage, start_of}
 use Rattle.sasi_termblocks.proofs.CutLaws.{all_blocks}
 use Rattle.sasi_termblocks.proofs.LevelLaws.{pointer_at, pointers_length}
@@ -88,7 +88,7 @@ on_level bytes r entries level page has (down _ _ from index window t place lead
     let le : level ≤ r.levels = omega (arith, on.le) in
     let place_is = pointer_is bytes r entries level on.group index t place has le group_lt within (subst (λ (w : Bytes). HasEntry pointer w index (t, place)) window_is entry) in
     let inside = item_within (blocks up) on.group index group_lt within in
-    let count : length (joined (blocks up)) ≡ length (blocks here) = ap (λ (l : List Item). length l) (joined_blocks up) ∙ pointers_length at (leasts here) ∙ length-map (blocks here) least in
+    let count : length (joined (blocks up)) ≡ length (blocks here) = ap (λ (l : List Item). length l) (joined_blocks up) ∙ pointers_length at (first_terms here) ∙ length-map (blocks here) first_term in
     record {
       group = start_of (blocks up) on.group + index;
       le = le;
@@ -96,8 +96,8 @@ on_level bytes r entries level page has (down _ _ from index window t place lead
       is = omega (arith, page_is, place_is, level_aligned level r.first items (omega (arith, has.aligned)));
     }
 
-place_passes : (low high place : ℕ) → place % 4096 ≡ 0 → low ≤ place / 4096 → place / 4096 < high → is_place low high place ≡ true
-place_passes low high place aligned above_low below_high =
+offset_passes : (low high place : ℕ) → place % 4096 ≡ 0 → low ≤ place / 4096 → place / 4096 < high → is_page_offset low high place ≡ true
+offset_passes low high place aligned above_low below_high =
     let first : (place % 4096 == 0) ≡ true = search (rules, aligned) in
     let second : nat_le low (place / 4096) ≡ true = search (rules, above_low) in
     let third : nat_lt (place / 4096) high ≡ true = search (rules, below_high) in
@@ -125,19 +125,19 @@ pointers_sound bytes r entries level page rule_ at_seen seen has on (inr entry) 
     let d : Item = record { term = []; bytes = [] } in
     let n = start_of (blocks up) on.group + index in
     let inside = item_within (blocks up) on.group index on.lt within in
-    let count : length (joined (blocks up)) ≡ length (leasts here) = ap (λ (l : List Item). length l) (joined_blocks up ∙ up_is) ∙ pointers_length at (leasts here) in
-    let blocks_count = length-map (blocks here) least in
-    let least_n = get_or (leasts here) n [] in
-    let place_n = at + 4096 * n in
-    let item_is : get_or group_here index d ≡ pointer_item least_n place_n =
-    sym (item_at (blocks up) on.group index d on.lt within) ∙ ap (λ (l : List Item). get_or l n d) (joined_blocks up ∙ up_is) ∙ pointer_at at (leasts here) n d (omega (arith, inside, count)) in
+    let count : length (joined (blocks up)) ≡ length (first_terms here) = ap (λ (l : List Item). length l) (joined_blocks up ∙ up_is) ∙ pointers_length at (first_terms here) in
+    let blocks_count = length-map (blocks here) first_term in
+    let least_n = get_or (first_terms here) n [] in
+    let offset_n = at + 4096 * n in
+    let item_is : get_or group_here index d ≡ pointer_item least_n offset_n =
+    sym (item_at (blocks up) on.group index d on.lt within) ∙ ap (λ (l : List Item). get_or l n d) (joined_blocks up ∙ up_is) ∙ pointer_at at (first_terms here) n d (omega (arith, inside, count)) in
     let own = every_at IsItem group_here index d (block_every IsItem up on.group up_are) within in
     let term_fits : Fits term least_n = subst (λ (i : Item). Fits term i.term) item_is own.fits in
     let stands = level_block level r.levels r.first items bytes n (omega (arith, on.le)) are has.stands (omega (arith, inside, count, blocks_count)) in
-    let short : place_n < 2 ^ 64 = omega (arith, at_ends bytes place_n (block (get_or (blocks here) n [])) stands, has.short) in
+    let short : offset_n < 2 ^ 64 = omega (arith, at_ends bytes offset_n (block (get_or (blocks here) n [])) stands, has.short) in
     let aligned = level_aligned level r.first items (omega (arith, has.aligned)) in
     let page_n : 4096 * page ≡ next_at at here + 4096 * on.group = on.is ∙ ap (λ (k : ℕ). k + 4096 * on.group) (at_up level r.first items) in
-    let test : is_place (low_page r (suc level)) (high_page r (suc level) page) place_n ≡ true =
+    let test : is_page_offset (low_page r (suc level)) (high_page r (suc level) page) offset_n ≡ true =
     ⊎_elim
     (λ first.
     let zero_level : level ≡ 0 = omega (arith, first.1) in
@@ -145,18 +145,18 @@ pointers_sound bytes r entries level page rule_ at_seen seen has on (inr entry) 
     let at_first : at ≡ r.first = ap (λ (k : ℕ). level_at k r.first items) zero_level in
     let here_is : here ≡ items = ap (λ (k : ℕ). level_items k r.first items) zero_level in
     let here_count : length (blocks here) ≡ r.blocks = ap (λ (l : List Item). length (blocks l)) here_is ∙ sym has.referred.blocks_are in
-    place_passes (low_page r (suc level)) (high_page r (suc level) page) place_n (omega (arith, aligned)) (omega (arith, low_is r (suc level) one_level, at_first))
+    offset_passes (low_page r (suc level)) (high_page r (suc level) page) offset_n (omega (arith, aligned)) (omega (arith, low_is r (suc level) one_level, at_first))
     (omega (arith, high_is r (suc level) page one_level, at_first, inside, count, blocks_count, here_count, has.aligned)))
     (λ later.
     let no : (suc level == 1) ≡ false = search (rules, later.1) in
     let low : low_page r (suc level) ≡ r.first / 4096 + r.blocks = ap (λ (t : Bool). if t then (r.first / 4096) else (r.first / 4096 + r.blocks)) no in
     let high : high_page r (suc level) page ≡ page = ap (λ (t : Bool). if t then (r.first / 4096 + r.blocks) else page) no in
     let past = level_past level r.first items later.1 in
-    place_passes (low_page r (suc level)) (high_page r (suc level) page) place_n (omega (arith, aligned)) (omega (arith, low, past, has.referred.blocks_are, has.aligned))
+    offset_passes (low_page r (suc level)) (high_page r (suc level) page) offset_n (omega (arith, aligned)) (omega (arith, low, past, has.referred.blocks_are, has.aligned))
     (omega (arith, high, page_n, inside, count, blocks_count)))
     (leb_tells level 0) in
-    value_sound (pointer_to (low_page r (suc level)) (high_page r (suc level) page)) group_here index d (least_n, place_n) rule_ at_seen seen one.fits within (ap (λ (i : Item). i.bytes) item_is)
-    (term_fits, checked_fits rule.Place 8 (is_place (low_page r (suc level)) (high_page r (suc level) page)) (number w64) place_n (number_fits w64 place_n short) test) entry.2
+    value_sound (pointer_to (low_page r (suc level)) (high_page r (suc level) page)) group_here index d (least_n, offset_n) rule_ at_seen seen one.fits within (ap (λ (i : Item). i.bytes) item_is)
+    (term_fits, checked_fits rule.Place 8 (is_page_offset (low_page r (suc level)) (high_page r (suc level) page)) (number w64) offset_n (number_fits w64 offset_n short) test) entry.2
 
 -- ---- the first pointer block
 
@@ -165,7 +165,7 @@ module _ (bytes : Bytes) (r : BlockRef) (entries : List TermEntry) (has : HasBlo
   first_level =
       let items = items_of entries in
       let any = ends_some r.levels r.first items some has.referred.levels_are in
-      some_blocks (above r.first items) (omega (arith, any, pointers_length r.first (leasts items), length-map (blocks items) least))
+      some_blocks (above r.first items) (omega (arith, any, pointers_length r.first (first_terms items), length-map (blocks items) first_term))
 
   first_page : (page : ℕ) → page ≡ r.first / 4096 + r.blocks → 4096 * page ≡ level_at (suc zero) r.first (items_of entries) + 4096 * 0
   first_page page page_is =
@@ -189,21 +189,21 @@ module _ (bytes : Bytes) (r : BlockRef) (entries : List TermEntry) (has : HasBlo
       let d : Item = record { term = []; bytes = [] } in
       let n = start_of (blocks up) 0 + 0 in
       let inside = item_within (blocks up) 0 0 lt one.some in
-      let count : length (joined (blocks up)) ≡ length (leasts items) = ap (λ (l : List Item). length l) (joined_blocks up) ∙ pointers_length r.first (leasts items) in
-      let least_n = get_or (leasts items) n [] in
-      let place_n = r.first + 4096 * n in
+      let count : length (joined (blocks up)) ≡ length (first_terms items) = ap (λ (l : List Item). length l) (joined_blocks up) ∙ pointers_length r.first (first_terms items) in
+      let least_n = get_or (first_terms items) n [] in
+      let offset_n = r.first + 4096 * n in
       let begins : n ≡ 0 = refl in
-      let item_is : get_or group_here 0 d ≡ pointer_item least_n place_n =
-      sym (item_at (blocks up) 0 0 d lt one.some) ∙ ap (λ (l : List Item). get_or l n d) (joined_blocks up) ∙ pointer_at r.first (leasts items) n d (omega (arith, inside, count)) in
+      let item_is : get_or group_here 0 d ≡ pointer_item least_n offset_n =
+      sym (item_at (blocks up) 0 0 d lt one.some) ∙ ap (λ (l : List Item). get_or l n d) (joined_blocks up) ∙ pointer_at r.first (first_terms items) n d (omega (arith, inside, count)) in
       let own = every_at IsItem group_here 0 d (block_every IsItem up 0 up_are) one.some in
       let term_fits : Fits term least_n = subst (λ (i : Item). Fits term i.term) item_is own.fits in
-      let fits : n < length (blocks items) = omega (arith, inside, count, length-map (blocks items) least) in
+      let fits : n < length (blocks items) = omega (arith, inside, count, length-map (blocks items) first_term) in
       let stands = level_block zero r.levels r.first items bytes n (omega arith) are has.stands fits in
-      let short : place_n < 2 ^ 64 = omega (arith, at_ends bytes place_n (block (get_or (blocks items) n [])) stands, has.short) in
+      let short : offset_n < 2 ^ 64 = omega (arith, at_ends bytes offset_n (block (get_or (blocks items) n [])) stands, has.short) in
       let page = r.first / 4096 in
-      let test : is_place page (page + 1) place_n ≡ true = place_passes page (page + 1) place_n (omega (arith, begins, has.aligned)) (omega (arith, begins)) (omega (arith, begins)) in
-      value_sound (pointer_to page (page + 1)) group_here 0 d (least_n, place_n) rule_ at_seen seen one.fits one.some (ap (λ (i : Item). i.bytes) item_is)
-      (term_fits, checked_fits rule.Place 8 (is_place page (page + 1)) (number w64) place_n (number_fits w64 place_n short) test) entry
+      let test : is_page_offset page (page + 1) offset_n ≡ true = offset_passes page (page + 1) offset_n (omega (arith, begins, has.aligned)) (omega (arith, begins)) (omega (arith, begins)) in
+      value_sound (pointer_to page (page + 1)) group_here 0 d (least_n, offset_n) rule_ at_seen seen one.fits one.some (ap (λ (i : Item). i.bytes) item_is)
+      (term_fits, checked_fits rule.Place 8 (is_page_offset page (page + 1)) (number w64) offset_n (number_fits w64 offset_n short) test) entry
 
 -- no corruption is shown of blocks in the format
 pub blocks_sound : (file : FileName) (bytes : Bytes) (r : BlockRef) (entries : List TermEntry) (damage : Damage) → HasBlocks bytes r entries → ShowsBlocks file r bytes damage → ⊥

@@ -12,7 +12,7 @@ use Rattle.sasi_termblocks.specs.declared.term_entry.TermEntry.{TermEntry}
 use Rattle.sasi_termblocks.specs.Entries.{term_entry}
 use Rattle.sasi_termblocks.specs.Blocks.{Item, block, blocks, items_of, term_item}
 use Rattle.sasi_termblocks.specs.Windows.{HasEntry, IsBound, count_in}
-use Rattle.sasi_termblocks.specs.BlockFaults.{HasPlace}
+use Rattle.sasi_termblocks.specs.BlockFaults.{PointsTo}
 use Rattle.sasi_termblocks.specs.Damages.{Leads}
 use Rattle.sasi_termblocks.specs.Damages.Leads.{down}
 use Rattle.sasi_termblocks.specs.Descents.{IsPageFor}
@@ -27,7 +27,7 @@ use Rattle.sasi_termblocks.proofs.Children.{all_items, all_rise, page_block, poi
 
 -- the pointers lead on
 pub leads_on : (bytes window : Bytes) (r : BlockRef) (level page low high index place : ℕ) → 0 < level → Leads bytes r level page → HasAt bytes (4096 * page) window → length window ≡ 4096 → index < count_in window
-    → HasPlace low high window index place → Leads bytes r (level - 1) (place / 4096)
+    → PointsTo low high window index place → Leads bytes r (level - 1) (place / 4096)
 leads_on bytes window r level page low high index place some leads stands long lt has =
     let up : level ≡ level - 1 + 1 = omega (arith, some) in
     down (level - 1) (place / 4096) page index window has.0 place (subst (λ (n : ℕ). Leads bytes r n page) up leads) stands long lt (pointer_kept low high window index has.0 place has.1).0 refl

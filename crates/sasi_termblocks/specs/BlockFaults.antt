@@ -14,8 +14,8 @@ use Rattle.sasi_termblocks.specs.Descents.{pointer_to}
 use Rattle.sasi_termblocks.specs.Windows.{BreaksEntry, BreaksFront, BreaksNext, BreaksOrder, HasEntry, bytes_in, count_in, offset_in}
 
 -- the pointer with this index has some term and this offset
-abbrev pub HasPlace : ℕ → ℕ → Bytes → ℕ → ℕ → Type 0
-HasPlace low high block index place = (t : Bytes) × HasEntry (pointer_to low high) block index (t, place)
+abbrev pub PointsTo : ℕ → ℕ → Bytes → ℕ → ℕ → Type 0
+PointsTo low high block index place = (t : Bytes) × HasEntry (pointer_to low high) block index (t, place)
 
 -- the test compares the entry's term with this one
 abbrev pub IsCompared : Bytes → ℕ → Bytes → Bool → Type 0

@@ -69,23 +69,23 @@ blocks items = with_last (cut_of items).full (cut_of items).last
 abbrev pub level_bytes : List Item → Bytes
 level_bytes items = flat_map block (blocks items)
 
--- the least term of a block
-abbrev pub least : List Item → Bytes
-least [] = []
-least (item ∷ others) = item.term
+-- the first term of a block
+abbrev pub first_term : List Item → Bytes
+first_term [] = []
+first_term (item ∷ others) = item.term
 
--- the least terms of the blocks of a level
-abbrev pub leasts : List Item → List Bytes
-leasts items = map least (blocks items)
+-- the first terms of the blocks of a level
+abbrev pub first_terms : List Item → List Bytes
+first_terms items = map first_term (blocks items)
 
--- pointers to blocks with these least terms, of which the first stands at this offset
+-- pointers to blocks with these first terms, of which the first stands at this offset
 abbrev pub pointers_to : ℕ → List Bytes → List Item
 pointers_to place [] = []
 pointers_to place (term ∷ others) = pointer_item term place ∷ pointers_to (place + 4096) others
 
 -- the entries of the level above one of these entries at this offset
 abbrev pub above : ℕ → List Item → List Item
-above at items = pointers_to at (leasts items)
+above at items = pointers_to at (first_terms items)
 
 -- where it begins
 abbrev pub next_at : ℕ → List Item → ℕ

@@ -13,7 +13,7 @@ use Rattle.sasi_termblocks.specs.declared.fault.BlockFault.TheVariants.{OutOfMem
 use Rattle.sasi_termblocks.specs.Entries.{pointer, term_entry}
 use Rattle.sasi_termblocks.specs.Windows.{BreaksEntry, BreaksFront, BreaksNext, BreaksOrder, HasEntry, IsBound, count_in}
 use Rattle.sasi_termblocks.specs.Descents.{high_page, low_page, page_of_top, pointer_to}
-use Rattle.sasi_termblocks.specs.BlockFaults.{BreaksFirstPointer, HasPlace, IsMisplaced}
+use Rattle.sasi_termblocks.specs.BlockFaults.{BreaksFirstPointer, IsMisplaced, PointsTo}
 
 -- ---- the faults of a block in its file
 
@@ -63,7 +63,7 @@ pub data Leads (bytes : Bytes) (ref : BlockRef) : ℕ → ℕ → Type 0 where
 pub data LeadsFor (bytes : Bytes) (ref : BlockRef) (sought : Bytes) : ℕ → ℕ → Type 0 where
   from_top : (level page : ℕ) → 0 < ref.blocks → level ≡ ref.levels → page ≡ page_of_top ref → LeadsFor bytes ref sought level page
   further_down : (level page from below place : ℕ) (block : Bytes) → LeadsFor bytes ref sought (level + 1) from → HasAt bytes (4096 * from) block → length block ≡ 4096
-      → IsBound block (count_in block) sought below → HasPlace (low_page ref (level + 1)) (high_page ref (level + 1) from) block (below - 1) place → page ≡ place / 4096 → LeadsFor bytes ref sought level page
+      → IsBound block (count_in block) sought below → PointsTo (low_page ref (level + 1)) (high_page ref (level + 1) from) block (below - 1) place → page ≡ place / 4096 → LeadsFor bytes ref sought level page
 
 -- and in the term block on to the first entry that isn't below
 pub record LeadsTo (bytes : Bytes) (ref : BlockRef) (sought : Bytes) (page index : ℕ) : Type 0 where
@@ -101,4 +101,4 @@ ShowsGiven file ref page index least bytes damage = ShowsBlocks file ref bytes d
 -- the pointer blocks, if there are any, begin behind the term blocks, with a pointer to the first of these
 abbrev pub EndsTerms : Bytes → BlockRef → Type 0
 EndsTerms bytes ref =
-    0 < ref.levels → (block : Bytes) × HasAt bytes (4096 * (ref.first / 4096 + ref.blocks)) block × ((place : ℕ) × HasPlace (ref.first / 4096) (ref.first / 4096 + 1) block 0 place)
+    0 < ref.levels → (block : Bytes) × HasAt bytes (4096 * (ref.first / 4096 + ref.blocks)) block × ((place : ℕ) × PointsTo (ref.first / 4096) (ref.first / 4096 + 1) block 0 place)

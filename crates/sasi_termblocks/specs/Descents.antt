@@ -8,7 +8,7 @@ use Rattle.sasi_formats.specs.Fields.{◌&◌, checked, number}
 use Rattle.sasi_termblocks.specs.declared.block_ref.BlockRef.{BlockRef}
 use Rattle.sasi_termblocks.specs.declared.term_entry.TermEntry.{TermEntry}
 use Rattle.sasi_termblocks.specs.Entries.{is_below, term}
-use Rattle.sasi_termblocks.specs.Blocks.{Item, above, blocks, items_of, least, next_at}
+use Rattle.sasi_termblocks.specs.Blocks.{Item, above, blocks, first_term, items_of, next_at}
 
 -- ---- the levels, counted from the term blocks on
 
@@ -24,11 +24,11 @@ level_items (suc level) at items = level_items level (next_at at items) (above a
 
 -- ---- the block for a term
 
--- the block's least term is below the term, and that of the next block isn't; the first block needs no such term
+-- the block's first term is below the term, and that of the next block isn't; the first block needs no such term
 pub record IsFor (groups : List (List Item)) (sought : Bytes) (group : ℕ) : Type 0 where
   pub within : group < length groups
-  pub last : 0 < group → is_below (least (get_or groups group [])) sought ≡ true
-  pub next : group + 1 < length groups → is_below (least (get_or groups (group + 1) [])) sought ≡ false
+  pub last : 0 < group → is_below (first_term (get_or groups group [])) sought ≡ true
+  pub next : group + 1 < length groups → is_below (first_term (get_or groups (group + 1) [])) sought ≡ false
 
 -- the page has that block of a level
 pub record IsPageFor (first : ℕ) (entries : List TermEntry) (level : ℕ) (sought : Bytes) (page : ℕ) : Type 0 where
@@ -39,12 +39,12 @@ pub record IsPageFor (first : ℕ) (entries : List TermEntry) (level : ℕ) (sou
 -- ---- pointers
 
 -- the offset is that of a page from `low` up to `high`, which isn't among them
-abbrev pub is_place : ℕ → ℕ → ℕ → Bool
-is_place low high place = place % 4096 == 0 && (nat_le low (place / 4096) && nat_lt (place / 4096) high)
+abbrev pub is_page_offset : ℕ → ℕ → ℕ → Bool
+is_page_offset low high place = place % 4096 == 0 && (nat_le low (place / 4096) && nat_lt (place / 4096) high)
 
 -- a pointer to one of these pages
 abbrev pub pointer_to : ℕ → ℕ → Format (Bytes × ℕ)
-pointer_to low high = term & checked rule.Place 8 (is_place low high) (number w64)
+pointer_to low high = term & checked rule.Place 8 (is_page_offset low high) (number w64)
 
 -- the pages of the blocks to which a block of a level on this page can point: the term blocks, or the pointer blocks before it
 abbrev pub low_page : BlockRef → ℕ → ℕ

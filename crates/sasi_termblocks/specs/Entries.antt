@@ -86,6 +86,6 @@ postings = tagged flags flags_of (λ n. select (n == 1) in_tree inline)
 abbrev pub term_entry : Format TermEntry
 term_entry = mapped (λ e. record { term = e.0; list = e.1.0; inline = e.1.1 }) (λ e. (e.term, (e.list, e.inline))) (λ _. refl) (term & postings)
 
--- the least term of a block, and the block's offset
+-- the first term of a block, and the block's offset
 abbrev pub pointer : Format (Bytes × ℕ)
 pointer = term & number w64

@@ -4,7 +4,7 @@ use Rattle.std.specs.List.{flat_map}
 use Rattle.sasi_host.specs.Names.{Bytes}
 use Rattle.sasi_termblocks.specs.declared.packer.Packer.{Packer}
 use Rattle.sasi_termblocks.specs.declared.term_entry.TermEntry.{TermEntry}
-use Rattle.sasi_termblocks.specs.Blocks.{Item, Cut, block, cut_of, entries_bytes, items_of, least, level_bytes, leasts, offsets, with_last}
+use Rattle.sasi_termblocks.specs.Blocks.{Item, Cut, block, cut_of, entries_bytes, items_of, first_term, level_bytes, first_terms, offsets, with_last}
 
 -- each of these terms is short enough for an entry
 abbrev pub AreShort : List Bytes → Type 0
@@ -15,12 +15,12 @@ abbrev pub AreSmall : List Item → Type 0
 AreSmall [] = Unit {0}
 AreSmall (item ∷ others) = (length item.bytes ≤ 1200) × AreSmall others
 
--- the last block fits 4,096 bytes, its numbers fit their fields, and there is at most one least term more than full blocks
+-- the last block fits 4,096 bytes, its numbers fit their fields, and there is at most one first term more than full blocks
 pub record IsSmall (packer : Packer) : Type 0 where
   pub size : 2 + (2 * length packer.starts.items + length packer.entries.items) ≤ 4096
   pub each : (k : ℕ) → slice_index packer.starts.items k ≤ 4096
-  pub terms : AreShort packer.leasts.items
-  pub few : 4096 * length packer.leasts.items ≤ length packer.full.items + 4096
+  pub terms : AreShort packer.first_terms.items
+  pub few : 4096 * length packer.first_terms.items ≤ length packer.full.items + 4096
 
 -- the packer has these blocks
 pub record Packs (packer : Packer) (cut : Cut) : Type 0 where
@@ -28,16 +28,16 @@ pub record Packs (packer : Packer) (cut : Cut) : Type 0 where
   pub whole : length packer.full.items ≡ 4096 * length cut.full
   pub starts_are : packer.starts.items ≡ offsets 0 cut.last
   pub entries_are : packer.entries.items ≡ entries_bytes cut.last
-  pub leasts_are : packer.leasts.items ≡ map least (with_last cut.full cut.last)
+  pub first_terms_are : packer.first_terms.items ≡ map first_term (with_last cut.full cut.last)
 
--- the least terms, with that of a new block where there are no more of them than full blocks, which have so many bytes
-abbrev pub leasts_with : ℕ → List Bytes → Bytes → List Bytes
-leasts_with full terms term = if nat_le (4096 * length terms) full then (terms ++ term ∷ []) else terms
+-- the first terms, with that of a new block where there are no more of them than full blocks, which have so many bytes
+abbrev pub first_terms_with : ℕ → List Bytes → Bytes → List Bytes
+first_terms_with full terms term = if nat_le (4096 * length terms) full then (terms ++ term ∷ []) else terms
 
--- the bytes and the least terms of a level of these entries
+-- the bytes and the first terms of a level of these entries
 pub record IsLevel (bytes : Bytes) (terms : List Bytes) (items : List Item) : Type 0 where
   pub bytes_are : bytes ≡ level_bytes items
-  pub terms_are : terms ≡ leasts items
+  pub terms_are : terms ≡ first_terms items
   pub whole : length bytes ≡ 4096 * length terms
 
 -- ---- a writer

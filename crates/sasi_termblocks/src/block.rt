@@ -5,14 +5,14 @@ ghost use Rattle.sasi_formats.specs.Reader.{start};
 ghost use Rattle.sasi_termblocks.specs.Entries.{is_below, term, term_entry};
 ghost use Rattle.sasi_termblocks.specs.Windows.{BreaksCount, BreaksEntry, BreaksFront, BreaksStart, EndsAtNext, HasEntry, HasSize, IsBound, IsFault, StartsBehind, bytes_in, count_in, number_at, offset_in};
 ghost use Rattle.sasi_termblocks.specs.Descents.{pointer_to};
-ghost use Rattle.sasi_termblocks.specs.BlockFaults.{BreaksEnd, BreaksFirstPointer, BreaksLeast, BreaksSome, BreaksUpTo, HasPlace, IsAboveLast, IsAtLeast, IsBrokenAt, IsCompared, IsMoved, IsNear, IsPlaced, IsSearched};
+ghost use Rattle.sasi_termblocks.specs.BlockFaults.{BreaksEnd, BreaksFirstPointer, BreaksLeast, BreaksSome, BreaksUpTo, IsAboveLast, IsAtLeast, IsBrokenAt, IsCompared, IsMoved, IsNear, IsPlaced, IsSearched, PointsTo};
 
 use crate::block_encode::BLOCK_BYTES;
-use crate::decode::{read_entry, read_place, read_term, skip_entry};
+use crate::decode::{read_entry, read_pointer, read_term, skip_entry};
 use crate::fault::BlockFault;
 use crate::term_entry::TermEntry;
 use sasi_fields::FieldReader;
-use sasi_formats::{Broken, FormatFault, found};
+use sasi_formats::{Broken, FormatFault, broken_at};
 use sasi_host::FormatRule;
 use std::alloc::Global;
 
@@ -74,7 +74,7 @@ fn broken(rule: FormatRule, at: usize, bytes: &[u8]) -> BlockFault
     ensures near { IsNear result }
     ensures is { IsBrokenAt rule at (take 8 bytes.now) result }
 {
-    BlockFault::Broken(found(rule, at, bytes))
+    BlockFault::Broken(broken_at(rule, at, bytes))
 }
 
 // A reader before the entry with this index.
@@ -186,27 +186,27 @@ pub fn check_entry(
 }
 
 // The offset to which the pointer with this index leads: that of a page from `low` up to `high`, which isn't among them.
-pub fn place_at(block: &[u8], index: usize, low: u64, high: u64) -> Result<u64, BlockFault>
+pub fn pointed_offset(block: &[u8], index: usize, low: u64, high: u64) -> Result<u64, BlockFault>
     requires whole { length block.now ≡ 4096 }
     requires within { 4 + 2 * index ≤ 4096 }
-    ensures ok { IfOk result (HasPlace low high block.now index) }
+    ensures ok { IfOk result (PointsTo low high block.now index) }
     ensures seen { IfErr result (IsFault (BreaksEntry (pointer_to low high) block.now index)) }
 {
-    match read_place(&mut reader_at(block, index), low, high) {
+    match read_pointer(&mut reader_at(block, index), low, high) {
         Ok(place) => Ok(place),
         Err(fault) => Err(fault_at(block, index, fault)),
     }
 }
 
 // The offset to which the first pointer leads: that of this page.
-pub fn first_place(block: &[u8], page: u64) -> Result<u64, BlockFault>
+pub fn first_pointer(block: &[u8], page: u64) -> Result<u64, BlockFault>
     requires whole { length block.now ≡ 4096 }
     requires page { page ≤ 2 ^ 52 }
-    ensures ok { IfOk result (HasPlace page (page + 1) block.now 0) }
+    ensures ok { IfOk result (PointsTo page (page + 1) block.now 0) }
     ensures seen { IfErr result (IsFault (BreaksFirstPointer page block.now)) }
 {
     let _ = count_of(block)?;
-    let place = place_at(block, 0, page, page + 1)?;
+    let place = pointed_offset(block, 0, page, page + 1)?;
     Ok(place)
 }
 

@@ -1,6 +1,6 @@
 // Reads blocks from the file.
 ghost use Rattle.std.specs.Prelude.{◌≡◌, ◌+◌, ◌*◌, ◌^◌, ◌<◌, ◌≤◌, List, ℕ, length, take, IfErr, IfOk, OnOk, Some};
-ghost use Rattle.sasi_host.specs.View.{contents, ReadsAtMost};
+ghost use Rattle.sasi_host.specs.View.{contents, ReadCost};
 ghost use Rattle.sasi_host.specs.Damages.{HasAt, DamageShown, ShowsEnd};
 ghost use Rattle.sasi_host.specs.PageReading.{CanReadOn, HasReadOn};
 ghost use Rattle.sasi_termblocks.specs.BlockFaults.{IsNear};
@@ -26,8 +26,8 @@ pub fn load_block<H: Host, P: PageReader>(
     ensures page { OnOk result (page < 2 ^ 50) }
     ensures damaged { IfErr result (DamageShown (H.view host.old) buffered.old.file (ShowsEnd (4096 * page + 4096) buffered.old.file)) }
     ensures read { HasReadOn (P.agrees pages.new) (P.covers pages.old) (P.covers pages.new) (H.view host.old) (H.view host.new) buffered.old buffered.new }
-    ensures causes { ReadsAtMost 1 (H.view host.old) (H.view host.new) result }
-    ensures spared { buffered.old.page ≡ Some page → (H.view host.new).reads ≡ (H.view host.old).reads }
+    ensures causes { ReadCost 1 (H.view host.old) (H.view host.new) result }
+    ensures same_page { buffered.old.page ≡ Some page → (H.view host.new).reads ≡ (H.view host.old).reads }
 {
     if page >= MAX_PAGES {
         return Err(unexpected_end(host, buffered.file()));

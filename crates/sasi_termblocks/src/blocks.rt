@@ -1,6 +1,6 @@
 // Readers of blocks.
 ghost use Rattle.std.specs.Prelude.{◌≡◌, ◌+◌, ◌/◌, ◌≤◌, [], IfErr, IfOk, OnErr, None};
-ghost use Rattle.sasi_host.specs.View.{ReadsAtMost};
+ghost use Rattle.sasi_host.specs.View.{ReadCost};
 ghost use Rattle.sasi_host.specs.Damages.{DamageShown};
 ghost use Rattle.sasi_host.specs.PageReading.{CanReadOn, HasReadOn};
 ghost use Rattle.sasi_termblocks.specs.Damages.{ShowsBlocks};
@@ -70,7 +70,7 @@ impl Blocks {
         ensures damaged { IfErr result (DamageShown (H.view host.old) self.old.buffered.file (ShowsBlocks self.old.buffered.file self.old.blocks)) }
         ensures undamaged { IfErr result (NoFalseDamage (H.view host.old) self.old.buffered.file self.old.blocks) }
         ensures read { HasReadOn (P.agrees pages.new) (P.covers pages.old) (P.covers pages.new) (H.view host.old) (H.view host.new) self.old.buffered self.new.buffered }
-        ensures causes { ReadsAtMost (self.old.blocks.levels + 2) (H.view host.old) (H.view host.new) result }
+        ensures causes { ReadCost (self.old.blocks.levels + 2) (H.view host.old) (H.view host.new) result }
         ensures blocks { self.new.blocks ≡ self.old.blocks }
         ensures err { OnErr result ((self.new.page ≡ self.old.page) × (self.new.index ≡ self.old.index)) }
     {
@@ -96,7 +96,7 @@ impl Blocks {
         ensures damaged { IfErr result (DamageShown (H.view host.old) self.old.buffered.file (ShowsBlocks self.old.buffered.file self.old.blocks)) }
         ensures undamaged { IfErr result (NoFalseDamage (H.view host.old) self.old.buffered.file self.old.blocks) }
         ensures read { HasReadOn (P.agrees pages.new) (P.covers pages.old) (P.covers pages.new) (H.view host.old) (H.view host.new) self.old.buffered self.new.buffered }
-        ensures causes { ReadsAtMost 1 (H.view host.old) (H.view host.new) result }
+        ensures causes { ReadCost 1 (H.view host.old) (H.view host.new) result }
         ensures blocks { self.new.blocks ≡ self.old.blocks }
         ensures err { OnErr result ((self.new.page ≡ self.old.page) × (self.new.index ≡ self.old.index)) }
     {

@@ -6,7 +6,7 @@ ghost use Rattle.sasi_formats.specs.Reader.{outcome_as, read};
 ghost use Rattle.sasi_formats.specs.Fields.{checked, last};
 ghost use Rattle.sasi_formats.specs.Gives.{Gives, GivesBytes};
 ghost use Rattle.sasi_termblocks.specs.Entries.{few_pairs, flags, is_behind, pair, pair_count, postings, term, term_entry, term_tree};
-ghost use Rattle.sasi_termblocks.specs.Descents.{is_place, pointer_to};
+ghost use Rattle.sasi_termblocks.specs.Descents.{is_page_offset, pointer_to};
 
 use crate::block_encode::BLOCK_BYTES;
 use crate::term_entry::TermEntry;
@@ -55,21 +55,21 @@ pub fn skip_entry(alloc: Global, reader: &mut FieldReader) -> Result<(), FormatF
 }
 
 // Reads a pointer, and gives its offset: that of a page from `low` up to `high`, which isn't among them.
-pub fn read_place(reader: &mut FieldReader, low: u64, high: u64) -> Result<u64, FormatFault>
+pub fn read_pointer(reader: &mut FieldReader, low: u64, high: u64) -> Result<u64, FormatFault>
     ensures { Gives (outcome_as (λ both. both.1) (read (pointer_to low high) reader.old)) result reader.new }
 {
     read_term(reader)?;
     let start = FieldStart::of(reader);
     let place = read_u64(reader)?;
-    if !is_place(low, high, place) {
+    if !is_page_offset(low, high, place) {
         return Err(start.broken(FormatRule::Place, 8));
     }
     Ok(place)
 }
 
 // Whether the offset is that of a page from `low` up to `high`, which isn't among them.
-fn is_place(low: u64, high: u64, place: u64) -> bool
-    ensures { result ≡ is_place low high place }
+fn is_page_offset(low: u64, high: u64, place: u64) -> bool
+    ensures { result ≡ is_page_offset low high place }
 {
     let page = place / BLOCK_BYTES as u64;
     place % BLOCK_BYTES as u64 == 0 && (low <= page && page < high)

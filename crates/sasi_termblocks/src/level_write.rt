@@ -17,32 +17,32 @@ pub struct Above {
     pub top: u64,
 }
 
-// Writes a level of blocks with these bytes and least terms, and the levels of pointers above it.
+// Writes a level of blocks with these bytes and first terms, and the levels of pointers above it.
 pub fn write_levels<H: Host>(
     alloc: Global,
     host: &mut H,
     file: FileName,
     at: u64,
     bytes: &[u8],
-    leasts: &[Term],
+    first_terms: &[Term],
 ) -> Result<Above, HostFault>
     requires room { Reaches (H.view host.old) file at }
-    requires short { AreShort leasts.now }
-    requires few { 4096 * length leasts.now ≤ length bytes.now + 4096 }
-    ensures ok { IfOk result (λ above. (items : List Item) → IsLevel bytes.now leasts.now items → Writes (H.view host.old) (H.view host.new) file at (levels_bytes above.levels at items)) }
-    ensures ends { IfOk result (λ above. (items : List Item) → IsLevel bytes.now leasts.now items → EndsAfter above.levels at items) }
-    ensures top { IfOk result (λ above. (items : List Item) → IsLevel bytes.now leasts.now items → above.top ≡ top_of above.levels at items) }
-    ensures few { IfOk result (λ above. above.levels ≤ length leasts.now) }
+    requires short { AreShort first_terms.now }
+    requires few { 4096 * length first_terms.now ≤ length bytes.now + 4096 }
+    ensures ok { IfOk result (λ above. (items : List Item) → IsLevel bytes.now first_terms.now items → Writes (H.view host.old) (H.view host.new) file at (levels_bytes above.levels at items)) }
+    ensures ends { IfOk result (λ above. (items : List Item) → IsLevel bytes.now first_terms.now items → EndsAfter above.levels at items) }
+    ensures top { IfOk result (λ above. (items : List Item) → IsLevel bytes.now first_terms.now items → above.top ≡ top_of above.levels at items) }
+    ensures few { IfOk result (λ above. above.levels ≤ length first_terms.now) }
     ensures changes { ChangesFrom file at (H.view host.old) (H.view host.new) }
     ensures causes { ListCauses (H.view host.old) (H.view host.new) result }
 {
     write_bytes(host, file, at, bytes)?;
-    if leasts.len() <= 1 {
+    if first_terms.len() <= 1 {
         return Ok(Above { levels: 0, top: at });
     }
     let next = at + bytes.len() as u64;
-    let level = pack_pointers(alloc, at, leasts)?;
-    let above = write_levels(alloc, host, file, next, &level.full, &level.leasts)?;
+    let level = pack_pointers(alloc, at, first_terms)?;
+    let above = write_levels(alloc, host, file, next, &level.full, &level.first_terms)?;
     Ok(Above {
         levels: above.levels + 1,
         top: above.top,

@@ -1,21 +1,21 @@
 // Packs the entries of a level into blocks.
 ghost use Rattle.std.specs.Prelude.{◌≡◌, ℕ, ◌+◌, ◌*◌, ◌^◌, ◌<◌, ◌≤◌, List, [], ◌∷◌, ◌++◌, length, OnOk, IfOk};
 ghost use Rattle.sasi_termblocks.specs.Blocks.{Cut, Item, add, cut_of, with_room};
-ghost use Rattle.sasi_termblocks.specs.Writing.{AreShort, IsLevel, IsSmall, Packs, leasts_with};
+ghost use Rattle.sasi_termblocks.specs.Writing.{AreShort, IsLevel, IsSmall, Packs, first_terms_with};
 
 use crate::block_encode::{BLOCK_BYTES, put_block};
 use sasi_fields::put_bytes;
 use sasi_types::Term;
 use std::alloc::{AllocError, Global};
 
-// The blocks of a level: the bytes of the full ones, the entries of the last one, and the least term of each.
+// The blocks of a level: the bytes of the full ones, the entries of the last one, and the first term of each.
 #[derive(Drop)]
 pub struct Packer {
     pub full: Vec<u8>,
     // Where each entry of the last block begins behind its offsets.
     pub starts: Vec<u16>,
     pub entries: Vec<u8>,
-    pub leasts: Vec<Term>,
+    pub first_terms: Vec<Term>,
 }
 
 impl Packer {
@@ -28,7 +28,7 @@ impl Packer {
             full: Vec::new(alloc),
             starts: Vec::new(alloc),
             entries: Vec::new(alloc),
-            leasts: Vec::new(alloc),
+            first_terms: Vec::new(alloc),
         }
     }
 
@@ -41,7 +41,7 @@ impl Packer {
         ensures small { IsSmall self.new }
     {
         make_room(self, bytes.len())?;
-        begin_block(&mut self.leasts, self.full.len(), term)?;
+        begin_block(&mut self.first_terms, self.full.len(), term)?;
         let start = self.entries.len() as u16;
         self.starts.push(start)?;
         put_bytes(&mut self.entries, bytes)?;
@@ -79,21 +79,21 @@ pub fn close(packer: &mut Packer) -> Result<(), AllocError>
     Ok(())
 }
 
-// Keeps the term as the least one of the last block, where that has no entry yet: there are then as many least terms as full blocks.
-fn begin_block(leasts: &mut Vec<Term>, full: usize, term: &[u8]) -> Result<(), AllocError>
-    requires terms { AreShort leasts.old.items }
+// Keeps the term as the first one of the last block, where that has no entry yet: there are then as many first terms as full blocks.
+fn begin_block(first_terms: &mut Vec<Term>, full: usize, term: &[u8]) -> Result<(), AllocError>
+    requires terms { AreShort first_terms.old.items }
     requires term { length term.now ≤ 1024 }
-    requires few { 4096 * length leasts.old.items ≤ full + 4096 }
+    requires few { 4096 * length first_terms.old.items ≤ full + 4096 }
     requires full { full < 2 ^ 63 }
-    ensures ok { OnOk result (leasts.new.items ≡ leasts_with full leasts.old.items term.now) }
-    ensures terms { AreShort leasts.new.items }
-    ensures few { 4096 * length leasts.new.items ≤ full + 4096 }
+    ensures ok { OnOk result (first_terms.new.items ≡ first_terms_with full first_terms.old.items term.now) }
+    ensures terms { AreShort first_terms.new.items }
+    ensures few { 4096 * length first_terms.new.items ≤ full + 4096 }
 {
-    if leasts.len() * BLOCK_BYTES > full {
+    if first_terms.len() * BLOCK_BYTES > full {
         return Ok(());
     }
-    let alloc = *leasts.allocator();
+    let alloc = *first_terms.allocator();
     let bytes = term.to_vec(alloc)?;
-    leasts.push(Term::new(bytes))?;
+    first_terms.push(Term::new(bytes))?;
     Ok(())
 }

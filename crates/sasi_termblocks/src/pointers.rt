@@ -10,19 +10,19 @@ use crate::packer::{Packer, close};
 use sasi_types::Term;
 use std::alloc::{AllocError, Global};
 
-// The blocks of pointers to blocks with these least terms, of which the first stands at this offset.
-pub fn pack_pointers(alloc: Global, at: u64, leasts: &[Term]) -> Result<Packer, AllocError>
-    requires short { AreShort leasts.now }
-    requires room { at + 4096 * length leasts.now < 2 ^ 64 }
-    ensures level { IfOk result (λ above. IsLevel above.full.items above.leasts.items (pointers_to at leasts.now)) }
-    ensures short { IfOk result (λ above. AreShort above.leasts.items) }
-    ensures few { IfOk result (λ above. 4096 * length above.leasts.items ≤ length above.full.items + 4096) }
+// The blocks of pointers to blocks with these first terms, of which the first stands at this offset.
+pub fn pack_pointers(alloc: Global, at: u64, first_terms: &[Term]) -> Result<Packer, AllocError>
+    requires short { AreShort first_terms.now }
+    requires room { at + 4096 * length first_terms.now < 2 ^ 64 }
+    ensures level { IfOk result (λ above. IsLevel above.full.items above.first_terms.items (pointers_to at first_terms.now)) }
+    ensures short { IfOk result (λ above. AreShort above.first_terms.items) }
+    ensures few { IfOk result (λ above. 4096 * length above.first_terms.items ≤ length above.full.items + 4096) }
 {
     let mut packer = Packer::new(alloc);
     let mut bytes = Vec::new(alloc);
-    for index in 0..leasts.len() {
+    for index in 0..first_terms.len() {
         let place = at + BLOCK_BYTES as u64 * index as u64;
-        push_pointer(&mut packer, &mut bytes, leasts[index].bytes(), place)?;
+        push_pointer(&mut packer, &mut bytes, first_terms[index].bytes(), place)?;
     }
     end_level(&mut packer)?;
     Ok(packer)
@@ -49,9 +49,9 @@ fn push_pointer(
 // Closes the last block of a level, if there is one.
 pub fn end_level(packer: &mut Packer) -> Result<(), AllocError>
     requires small { IsSmall packer.old }
-    ensures ok { OnOk result ((items : List Item) → Packs packer.old (cut_of items) → IsLevel packer.new.full.items packer.new.leasts.items items) }
-    ensures short { AreShort packer.new.leasts.items }
-    ensures few { 4096 * length packer.new.leasts.items ≤ length packer.new.full.items + 4096 }
+    ensures ok { OnOk result ((items : List Item) → Packs packer.old (cut_of items) → IsLevel packer.new.full.items packer.new.first_terms.items items) }
+    ensures short { AreShort packer.new.first_terms.items }
+    ensures few { 4096 * length packer.new.first_terms.items ≤ length packer.new.full.items + 4096 }
 {
     if packer.starts.is_empty() {
         return Ok(());

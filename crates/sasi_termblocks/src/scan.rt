@@ -1,14 +1,14 @@
 // Scans the entries of blocks, one after another.
 ghost use Rattle.std.specs.Prelude.{◌≡◌, ◌+◌, ◌-◌, ◌*◌, ◌/◌, ◌^◌, ◌<◌, ◌≤◌, ◌⊎◌, List, ℕ, length, IfErr, IfOk, IsTrue, None, OnOk, Some, false};
-ghost use Rattle.sasi_host.specs.View.{contents, ReadsAtMost};
+ghost use Rattle.sasi_host.specs.View.{contents, ReadCost};
 ghost use Rattle.sasi_host.specs.Damages.{DamageShown, HasAt};
 ghost use Rattle.sasi_host.specs.PageReading.{CanReadOn, HasReadOn};
 ghost use Rattle.sasi_termblocks.specs.Windows.{IsFault, count_in};
-ghost use Rattle.sasi_termblocks.specs.BlockFaults.{BreaksFirstPointer, HasPlace};
+ghost use Rattle.sasi_termblocks.specs.BlockFaults.{BreaksFirstPointer, PointsTo};
 ghost use Rattle.sasi_termblocks.specs.Damages.{BreaksGiven, EndsTerms, ShowsBlock, ShowsBlocks, ShowsGiven};
 ghost use Rattle.sasi_termblocks.specs.Scans.{EndsBelow, EndsPast, GivesEntry, IsNotBelow, ReadsFirst, ReadsHere, ReadsNext, ReadsSome};
 
-use crate::block::{check_entry, check_least, check_order, count_of, entry_at, first_place};
+use crate::block::{check_entry, check_least, check_order, count_of, entry_at, first_pointer};
 use crate::block_encode::BLOCK_BYTES;
 use crate::block_read::{fault_of, load_block, loaded_block};
 use crate::block_ref::BlockRef;
@@ -50,13 +50,13 @@ fn check_pointer_block<H: Host, P: PageReader>(
 ) -> Result<(), ReadFault>
     requires read { CanReadOn (P.agrees pages.old) (H.view host.old) buffered.old }
     requires first { first ≤ 2 ^ 52 }
-    ensures ok { OnOk result ((bytes : List ℕ) → contents (H.view host.old) buffered.old.file ≡ Some bytes → (block : List ℕ) × HasAt bytes (4096 * page) block × ((place : ℕ) × HasPlace first (first + 1) block 0 place)) }
+    ensures ok { OnOk result ((bytes : List ℕ) → contents (H.view host.old) buffered.old.file ≡ Some bytes → (block : List ℕ) × HasAt bytes (4096 * page) block × ((place : ℕ) × PointsTo first (first + 1) block 0 place)) }
     ensures damaged { IfErr result (DamageShown (H.view host.old) buffered.old.file (ShowsBlock (BreaksFirstPointer first) buffered.old.file page)) }
     ensures read { HasReadOn (P.agrees pages.new) (P.covers pages.old) (P.covers pages.new) (H.view host.old) (H.view host.new) buffered.old buffered.new }
-    ensures causes { ReadsAtMost 1 (H.view host.old) (H.view host.new) result }
+    ensures causes { ReadCost 1 (H.view host.old) (H.view host.new) result }
 {
     load_block(host, pages, buffered, page)?;
-    match first_place(loaded_block(buffered), first) {
+    match first_pointer(loaded_block(buffered), first) {
         Ok(_) => Ok(()),
         Err(fault) => Err(fault_of(buffered.file(), page, fault)),
     }
@@ -75,7 +75,7 @@ fn check_end<H: Host, P: PageReader>(
     ensures ok { OnOk result ((bytes : List ℕ) → contents (H.view host.old) buffered.old.file ≡ Some bytes → EndsTerms bytes blocks) }
     ensures damaged { IfErr result (DamageShown (H.view host.old) buffered.old.file (ShowsBlocks buffered.old.file blocks)) }
     ensures read { HasReadOn (P.agrees pages.new) (P.covers pages.old) (P.covers pages.new) (H.view host.old) (H.view host.new) buffered.old buffered.new }
-    ensures causes { ReadsAtMost 1 (H.view host.old) (H.view host.new) result }
+    ensures causes { ReadCost 1 (H.view host.old) (H.view host.new) result }
 {
     if blocks.levels == 0 {
         return Ok(());
@@ -135,7 +135,7 @@ pub fn entry_from<H: Host, P: PageReader>(
     ensures low { IfOk result (λ found. blocks.first / 4096 ≤ found.position.page) }
     ensures damaged { IfErr result (DamageShown (H.view host.old) buffered.old.file (ShowsGiven buffered.old.file blocks position.page position.index least.now)) }
     ensures read { HasReadOn (P.agrees pages.new) (P.covers pages.old) (P.covers pages.new) (H.view host.old) (H.view host.new) buffered.old buffered.new }
-    ensures causes { ReadsAtMost 1 (H.view host.old) (H.view host.new) result }
+    ensures causes { ReadCost 1 (H.view host.old) (H.view host.new) result }
 {
     if is_too_long(blocks) {
         return Err(unexpected_end(host, buffered.file()));
@@ -171,7 +171,7 @@ pub fn first_from<H: Host, P: PageReader>(
     ensures low { IfOk result (λ found. blocks.first / 4096 ≤ found.position.page) }
     ensures damaged { IfErr result (DamageShown (H.view host.old) buffered.old.file (ShowsBlocks buffered.old.file blocks)) }
     ensures read { HasReadOn (P.agrees pages.new) (P.covers pages.old) (P.covers pages.new) (H.view host.old) (H.view host.new) buffered.old buffered.new }
-    ensures causes { ReadsAtMost (blocks.levels + 2) (H.view host.old) (H.view host.new) result }
+    ensures causes { ReadCost (blocks.levels + 2) (H.view host.old) (H.view host.new) result }
 {
     if is_too_long(blocks) {
         return Err(unexpected_end(host, buffered.file()));

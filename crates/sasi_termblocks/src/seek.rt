@@ -1,17 +1,17 @@
 // Seeks terms in the blocks of a file.
 ghost use Rattle.std.specs.Prelude.{◌≡◌, ◌+◌, ◌-◌, ◌*◌, ◌/◌, ◌^◌, ◌<◌, ◌≤◌, List, ℕ, length, IfErr, IfOk, Some};
-ghost use Rattle.sasi_host.specs.View.{contents, ReadsAtMost};
+ghost use Rattle.sasi_host.specs.View.{contents, ReadCost};
 ghost use Rattle.sasi_host.specs.Damages.{DamageShown};
 ghost use Rattle.sasi_host.specs.PageReading.{CanReadOn, HasReadOn};
 ghost use Rattle.sasi_termblocks.specs.declared.block_ref.BlockRef.{BlockRef};
 ghost use Rattle.sasi_termblocks.specs.declared.term_entry.TermEntry.{TermEntry};
 ghost use Rattle.sasi_termblocks.specs.Windows.{EndsAtNext, IsBound, IsFault, count_in};
-ghost use Rattle.sasi_termblocks.specs.BlockFaults.{HasPlace, IsAboveLast};
+ghost use Rattle.sasi_termblocks.specs.BlockFaults.{IsAboveLast, PointsTo};
 ghost use Rattle.sasi_termblocks.specs.Damages.{BreaksPointers, BreaksSplit, BreaksTerms, Leads, LeadsFor, LeadsTo, ShowsBlock, ShowsBlocks};
 ghost use Rattle.sasi_termblocks.specs.Descents.{IsPageFor, high_page, low_page, page_of_top};
 ghost use Rattle.sasi_termblocks.specs.Scans.{CountsBelow, HasBlocks, HasPassed, terms_of};
 
-use crate::block::{check_entry, check_order, count_below, count_of, out_of_order, place_at};
+use crate::block::{check_entry, check_order, count_below, count_of, out_of_order, pointed_offset};
 use crate::block_encode::BLOCK_BYTES;
 use crate::block_read::{fault_of, load_block, loaded_block};
 use crate::block_ref::BlockRef;
@@ -21,15 +21,15 @@ use sasi_host::{BufferedFile, Host, PageReader, ReadFault};
 use std::alloc::Global;
 
 // The offset to which a block points for a term: that of its last pointer with a term below it, or of its first one.
-fn place_for(block: &[u8], sought: &[u8], low: u64, high: u64) -> Result<u64, BlockFault>
+fn pointer_for(block: &[u8], sought: &[u8], low: u64, high: u64) -> Result<u64, BlockFault>
     requires whole { length block.now ≡ 4096 }
-    ensures ok { IfOk result (λ place. (below : ℕ) × IsBound block.now (count_in block.now) sought.now below × HasPlace low high block.now (below - 1) place) }
+    ensures ok { IfOk result (λ place. (below : ℕ) × IsBound block.now (count_in block.now) sought.now below × PointsTo low high block.now (below - 1) place) }
     ensures some { IfOk result (λ _. 0 < count_in block.now) }
     ensures seen { IfErr result (IsFault (BreaksPointers low high block.now)) }
 {
     let count = count_of(block)?;
     let below = count_below(block, count, sought)?;
-    let place = place_at(block, below.saturating_sub(1), low, high)?;
+    let place = pointed_offset(block, below.saturating_sub(1), low, high)?;
     Ok(place)
 }
 
@@ -120,11 +120,11 @@ fn child_page<H: Host, P: PageReader>(
     ensures within { IfOk result (λ child. child < high_page blocks level page) }
     ensures damaged { IfErr result (DamageShown (H.view host.old) buffered.old.file (ShowsBlock (BreaksPointers (low_page blocks level) (high_page blocks level page)) buffered.old.file page)) }
     ensures read { HasReadOn (P.agrees pages.new) (P.covers pages.old) (P.covers pages.new) (H.view host.old) (H.view host.new) buffered.old buffered.new }
-    ensures causes { ReadsAtMost 1 (H.view host.old) (H.view host.new) result }
+    ensures causes { ReadCost 1 (H.view host.old) (H.view host.new) result }
 {
     load_block(host, pages, buffered, page)?;
     let range = range_of(blocks, level, page);
-    match place_for(loaded_block(buffered), sought, range.low, range.high) {
+    match pointer_for(loaded_block(buffered), sought, range.low, range.high) {
         Ok(place) => Ok(place / BLOCK_BYTES as u64),
         Err(fault) => Err(fault_of(buffered.file(), page, fault)),
     }
@@ -188,7 +188,7 @@ pub fn leaf_page<H: Host, P: PageReader>(
     ensures high { IfOk result (λ page. page < blocks.first / 4096 + blocks.blocks) }
     ensures damaged { IfErr result (DamageShown (H.view host.old) buffered.old.file (ShowsBlocks buffered.old.file blocks)) }
     ensures read { HasReadOn (P.agrees pages.new) (P.covers pages.old) (P.covers pages.new) (H.view host.old) (H.view host.new) buffered.old buffered.new }
-    ensures causes { ReadsAtMost blocks.levels (H.view host.old) (H.view host.new) result }
+    ensures causes { ReadCost blocks.levels (H.view host.old) (H.view host.new) result }
 {
     let mut page = top_page(blocks);
     for passed in 0..blocks.levels {
@@ -216,7 +216,7 @@ pub fn position_for<H: Host, P: PageReader>(
     ensures later { IfOk result (λ here. page ≤ here.page) }
     ensures damaged { IfErr result (DamageShown (H.view host.old) buffered.old.file (ShowsBlock (BreaksSplit first page sought.now) buffered.old.file page)) }
     ensures read { HasReadOn (P.agrees pages.new) (P.covers pages.old) (P.covers pages.new) (H.view host.old) (H.view host.new) buffered.old buffered.new }
-    ensures causes { ReadsAtMost 1 (H.view host.old) (H.view host.new) result }
+    ensures causes { ReadCost 1 (H.view host.old) (H.view host.new) result }
 {
     load_block(host, pages, buffered, page)?;
     match split_led(alloc, loaded_block(buffered), first, page, sought) {

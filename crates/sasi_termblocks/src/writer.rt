@@ -77,8 +77,8 @@ impl BlockWriter {
         let alloc = *self.bytes.allocator();
         let mut packer = self.packer;
         end_level(&mut packer)?;
-        let above = write_levels(alloc, host, file, at, &packer.full, &packer.leasts)?;
-        Ok(reference(at, packer.leasts.len() as u64, above, self.terms))
+        let above = write_levels(alloc, host, file, at, &packer.full, &packer.first_terms)?;
+        Ok(reference(at, packer.first_terms.len() as u64, above, self.terms))
     }
 }
 

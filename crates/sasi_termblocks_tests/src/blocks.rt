@@ -1,7 +1,7 @@
 // Blocks of many sizes.
 ghost use Rattle.std.specs.Prelude.{◌≡◌};
 ghost use Rattle.sasi_host.specs.Buffered.{IsBuffered};
-ghost use Rattle.sasi_host.specs.Memory.{host_view, seen as seen_of};
+ghost use Rattle.sasi_host.specs.Memory.{host_view, memory_host};
 ghost use Rattle.sasi_termblocks_tests.specs.declared.fixture.TheConstants.{FILE};
 
 use crate::fixture::{FILE, nth_term, write_blocks};
@@ -86,9 +86,9 @@ fn two_and_three_levels(rt: HostRuntime) {
 // The next entry's term is this one.
 fn has_next(rt: &impl Abort, host: &mut MemHost, scan: &mut Blocks, term: &[u8]) -> bool
     requires file { scan.old.buffered.file ≡ FILE }
-    requires buffered { IsBuffered scan.old.buffered (host_view (seen_of host.old)).files }
+    requires buffered { IsBuffered scan.old.buffered (host_view (memory_host host.old)).files }
     ensures file { scan.new.buffered.file ≡ FILE }
-    ensures buffered { IsBuffered scan.new.buffered (host_view (seen_of host.new)).files }
+    ensures buffered { IsBuffered scan.new.buffered (host_view (memory_host host.new)).files }
 {
     assert!(rt; host.bytes(FILE).is_some());
     let found = scan.next(host, &mut Direct).expect(rt, "read");
@@ -104,9 +104,9 @@ fn has_first(
     term: &[u8],
 ) -> bool
     requires file { scan.old.buffered.file ≡ FILE }
-    requires buffered { IsBuffered scan.old.buffered (host_view (seen_of host.old)).files }
+    requires buffered { IsBuffered scan.old.buffered (host_view (memory_host host.old)).files }
     ensures file { scan.new.buffered.file ≡ FILE }
-    ensures buffered { IsBuffered scan.new.buffered (host_view (seen_of host.new)).files }
+    ensures buffered { IsBuffered scan.new.buffered (host_view (memory_host host.new)).files }
 {
     assert!(rt; host.bytes(FILE).is_some());
     let found = scan.seek(host, &mut Direct, sought).expect(rt, "read");

@@ -11,7 +11,7 @@ use Rattle.sasi_host.specs.Disk.{Changes, Same}
 use Rattle.sasi_host.proofs.ContentLaws.{contents_same}
 use Rattle.sasi_host.proofs.DamageLaws.{shown_as, shown_before}
 use Rattle.sasi_tokentree.specs.declared.node_read.Node.{Node}
-use Rattle.sasi_tokentree.specs.Damages.{ShownOf, ShowsOf, ShowsTreeBy, pair_place}
+use Rattle.sasi_tokentree.specs.Damages.{ShownOf, ShowsOf, ShowsTreeBy, pair_offset}
 use Rattle.sasi_tokentree.specs.Damages.ShowsTreeBy.{in_node, in_entry}
 
 -- the file reads as before
@@ -30,7 +30,7 @@ tree_shown_still Alone a b was now tree f change same shown =
 
 -- damage where some entries may be read alone is damage where more may
 pub tree_shown_more : (Alone More : ℕ → Type 0) (v : View) (file : FileName) (tree : TreeRef) (f : ReadFault) → ((bytes : Bytes) (index : ℕ) → contents v file ≡
-    Some bytes → Alone index → index < tree.pairs → length bytes < pair_place tree index + 16 → More index) → DamageShown v file
+    Some bytes → Alone index → index < tree.pairs → length bytes < pair_offset tree index + 16 → More index) → DamageShown v file
     (ShowsTreeBy Alone file tree) f → DamageShown v file (ShowsTreeBy More file tree) f
 tree_shown_more Alone More v file tree f more shown = shown_as (ShowsTreeBy Alone file tree) (ShowsTreeBy More file tree) v file f (λ bytes damage is shows. case bytes damage is shows) shown
   where

@@ -5,8 +5,8 @@ use Rattle.std.proofs.lemmas.Bool.Decides.{eqb_tells, leb_tells, nat_tests}
 use Rattle.sasi_types.specs.declared.tree.Pair.{Pair}
 use Rattle.sasi_types.specs.declared.tree.TreeRef.{TreeRef}
 use Rattle.sasi_host.specs.Buffered.{pages_of, buffered_at, unbuffered_pages}
-use Rattle.sasi_tokentree.specs.Damages.{pair_place}
-use Rattle.sasi_tokentree.specs.Scans.{PairScan, IsEntryBuffered, entry_cost, header_read, read_place}
+use Rattle.sasi_tokentree.specs.Damages.{pair_offset}
+use Rattle.sasi_tokentree.specs.Scans.{PairScan, IsEntryBuffered, entry_cost, header_read, read_from}
 
 -- a node lies on at most two pages
 pub node_pages : (page : Option ℕ) (at n : ℕ) → n ≤ 4088 → unbuffered_pages page at n ≤ 2
@@ -28,10 +28,10 @@ header_short index = ⊎_elim (λ first. omega (arith, first.1)) (λ other. omeg
 
 -- so an entry is read from at most two pages
 pub entry_pages : (page : Option ℕ) (tree : TreeRef) (index : ℕ) → entry_cost page tree index ≤ 2
-entry_pages page tree index = node_pages page (read_place tree index) (16 + header_read index) (omega (arith, header_short index))
+entry_pages page tree index = node_pages page (read_from tree index) (16 + header_read index) (omega (arith, header_short index))
 
 -- the next one is read from behind the one before it on
-pub read_behind : (tree : TreeRef) (passed : ℕ) → 0 < passed → read_place tree passed ≡ pair_place tree (passed - 1) + 16
+pub read_behind : (tree : TreeRef) (passed : ℕ) → 0 < passed → read_from tree passed ≡ pair_offset tree (passed - 1) + 16
 read_behind tree passed some = ⊎_elim
     (λ first. omega (arith, some, first.0, first.1))
     (λ other. omega (arith, some, other.0, other.1))
@@ -54,9 +54,9 @@ behind_pages before n le = over (buffered_at (Some ((before + 15) / 4096)) (befo
 pub next_entry_cost : (w : PairScan) (pair : Pair) → 0 < w.passed → IsEntryBuffered w (Some pair) → entry_cost w.buffered.page w.tree w.passed ≤ 1
 next_entry_cost w pair some entry_buffered =
     let n = 16 + header_read w.passed in
-    subst (λ (p : Option ℕ). unbuffered_pages p (read_place w.tree w.passed) n ≤ 1) (sym entry_buffered)
-    (subst (λ (at : ℕ). unbuffered_pages (Some ((pair_place w.tree (w.passed - 1) + 15) / 4096)) at n ≤ 1) (sym (read_behind w.tree w.passed some))
-    (behind_pages (pair_place w.tree (w.passed - 1)) n (omega (arith, header_short w.passed))))
+    subst (λ (p : Option ℕ). unbuffered_pages p (read_from w.tree w.passed) n ≤ 1) (sym entry_buffered)
+    (subst (λ (at : ℕ). unbuffered_pages (Some ((pair_offset w.tree (w.passed - 1) + 15) / 4096)) at n ≤ 1) (sym (read_behind w.tree w.passed some))
+    (behind_pages (pair_offset w.tree (w.passed - 1)) n (omega (arith, header_short w.passed))))
 
 -- ---- what the reads of one pair cost
 

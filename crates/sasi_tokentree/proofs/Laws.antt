@@ -9,7 +9,7 @@ use Rattle.sasi_host.specs.Disk.{overlay}
 use Rattle.sasi_tokentree.specs.Format.{above, levels, level_bytes, nodes, size, top, tree_bytes, tree_ref, IsRising, AreFit, HasTree}
 use Rattle.sasi_tokentree.proofs.Sizes.{first_above_length, level_length, more_levels, one_level, top_more, top_one}
 use Rattle.sasi_tokentree.proofs.HeightLaws.{top_is}
-use Rattle.sasi_tokentree.specs.Damages.{is_node_place}
+use Rattle.sasi_tokentree.specs.Damages.{is_node_offset}
 
 -- a file in which the tree was written has it
 pub has_written : (old : Bytes) (at : ℕ) (pairs : List Pair) → at ≤ length old → IsRising pairs → AreFit pairs → HasTree (overlay old at (tree_bytes at pairs)) (tree_ref at pairs) pairs
@@ -48,16 +48,16 @@ pub record RootStands (at : ℕ) (pairs : List Pair) : Type 0 where
   pub behind : at ≤ (tree_ref at pairs).root
   pub within : (tree_ref at pairs).root + 24 ≤ at + length (tree_bytes at pairs)
 
-pub root_place : (at : ℕ) (pairs : List Pair) → 0 < length pairs → RootStands at pairs
-root_place at pairs some = record {
+pub root_offset : (at : ℕ) (pairs : List Pair) → 0 < length pairs → RootStands at pairs
+root_offset at pairs some = record {
   behind = omega (arith, top_is (length pairs) at (length pairs) some (omega arith));
   within = top_within (length pairs) 0 at pairs some (omega arith);
 }
 
 -- so a node can stand there, in front of whatever comes behind the tree
-pub is_root_place : (at to : ℕ) (pairs : List Pair) → 0 < length pairs → at + length (tree_bytes at pairs) ≤ to → is_node_place at to (tree_ref at pairs).root ≡ true
-is_root_place at to pairs some le =
-    let place = root_place at pairs some in
+pub is_root_offset : (at to : ℕ) (pairs : List Pair) → 0 < length pairs → at + length (tree_bytes at pairs) ≤ to → is_node_offset at to (tree_ref at pairs).root ≡ true
+is_root_offset at to pairs some le =
+    let place = root_offset at pairs some in
     let root = (tree_ref at pairs).root in
     let first : nat_le at root ≡ true = search (rules, place.behind) in
     let within : root + 24 ≤ to = omega (arith, place.within, le) in

@@ -19,7 +19,7 @@ use Rattle.sasi_tokentree.proofs.Sizes.{entry_length, node_length, part_length, 
 use Rattle.sasi_tokentree.specs.Heights.{bytes_below_root}
 use Rattle.sasi_tokentree.proofs.HeightLaws.{none_below_root, more_below_root, top_is}
 use Rattle.sasi_tokentree.specs.declared.node_read.Node.{Node}
-use Rattle.sasi_tokentree.specs.Damages.{BeginsLeaf, IsNodeFrom, IsNodeOf, ShowsEndOr, ShowsOf, ShownOf, ShowsTreeBy, start, pair_place}
+use Rattle.sasi_tokentree.specs.Damages.{BeginsLeaf, IsNodeFrom, IsNodeOf, ShowsEndOr, ShowsOf, ShownOf, ShowsTreeBy, start, pair_offset}
 use Rattle.sasi_tokentree.specs.Damages.ShowsTreeBy.{in_node, in_entry}
 use Rattle.sasi_tokentree.specs.Damages.IsNodeFrom.{of_level, of_above}
 use Rattle.sasi_tokentree.specs.Reads.{HasNode, HasLevels, CountsBelow, IsReached, NoFalseTreeDamage, NoFalseLevelDamage}
@@ -75,17 +75,17 @@ ends_within bytes at index entries stands lt =
 -- the entry that stands at the offset of a pair is the pair
 pub pair_is : (bytes : Bytes) (at index : ℕ) (entries : List Pair) (pair : Pair) → HasLevels bytes 0 at entries → index < length entries → pair.token < 2 ^ 64 → pair.place < 2 ^ 64
     → HasAt bytes (at + 4088 * (index / 255) + (8 + 16 * (index % 255))) (entry pair) → pair ≡ pair_at entries index
-pair_is bytes at index entries pair stands lt token_fits place_fits has =
+pair_is bytes at index entries pair stands lt token_fits offset_fits has =
     let p = pair_at entries index in
-    same_entry pair p token_fits place_fits (stands.fit index).0 (stands.fit index).1
+    same_entry pair p token_fits offset_fits (stands.fit index).0 (stands.fit index).1
     (same_at bytes (at + 4088 * (index / 255) + (8 + 16 * (index % 255))) (entry pair) (entry p) has (entry_stands bytes at index entries stands lt) (entry_length pair ∙ sym (entry_length p)))
 
 -- no leaves stand where the file ends before one of their pairs does
-pub short_spares : (v : View) (file : FileName) (at count index : ℕ) (f : ReadFault) → index < count → DamageShown v file
+pub no_false_short : (v : View) (file : FileName) (at count index : ℕ) (f : ReadFault) → index < count → DamageShown v file
     (ShowsEnd (at + 4088 * (index / 255) + (8 + 16 * (index % 255)) + 16) file) f → NoFalseLevelDamage v file 0 at count f
-short_spares v file at count index fault.Failed lt short = tt
-short_spares v file at count index fault.OutOfMemory lt short = tt
-short_spares v file at count index (fault.Damaged damage) lt short = λ bytes entries is stands long.
+no_false_short v file at count index fault.Failed lt short = tt
+no_false_short v file at count index fault.OutOfMemory lt short = tt
+no_false_short v file at count index (fault.Damaged damage) lt short = λ bytes entries is stands long.
     let less = (short bytes is).short in
     omega (arith, less, ends_within bytes at index entries stands (omega (arith, lt, long)))
 
@@ -170,25 +170,25 @@ tree_fits bytes tree pairs has some short long =
 node_in_tree : (Alone : ℕ → Type 0) (v : View) (file : FileName) (tree : TreeRef) (f : ReadFault) → ShownOf (IsNodeOf tree) v file f → DamageShown v file (ShowsTreeBy Alone file tree) f
 node_in_tree Alone v file tree f shown = shown_as (ShowsOf (IsNodeOf tree) file) (ShowsTreeBy Alone file tree) v file f (λ bytes damage is shows. in_node shows) shown
 
-pub long_spares : (v : View) (file : FileName) (tree : TreeRef) (f : ReadFault) →
+pub no_false_long : (v : View) (file : FileName) (tree : TreeRef) (f : ReadFault) →
     ((bytes : Bytes) → contents v file ≡ Some bytes → length bytes ≤ 2 ^ 62) → 0 < tree.pairs → (2 ^ 62 < tree.root) ⊎ (2 ^ 58 < tree.pairs) → NoFalseTreeDamage
     v file tree f
-long_spares v file tree fault.Failed short some long = tt
-long_spares v file tree fault.OutOfMemory short some long = tt
-long_spares v file tree (fault.Damaged damage) short some long = λ bytes pairs is has. tree_fits bytes tree pairs has some (short bytes is) long
+no_false_long v file tree fault.Failed short some long = tt
+no_false_long v file tree fault.OutOfMemory short some long = tt
+no_false_long v file tree (fault.Damaged damage) short some long = λ bytes pairs is has. tree_fits bytes tree pairs has some (short bytes is) long
 
-pub level_spares : (v : View) (file : FileName) (tree : TreeRef) (start : ℕ) (f : ReadFault) →
+pub no_false_level : (v : View) (file : FileName) (tree : TreeRef) (start : ℕ) (f : ReadFault) →
     ((bytes : Bytes) → contents v file ≡ Some bytes → length bytes ≤ 2 ^ 62) → 0 < tree.pairs → start ≡ tree.root - bytes_below_root tree.pairs tree.pairs →
     NoFalseLevelDamage v file 0 start tree.pairs f → NoFalseTreeDamage v file tree f
-level_spares v file tree start fault.Failed short some is no_false_damage = tt
-level_spares v file tree start fault.OutOfMemory short some is no_false_damage = tt
-level_spares v file tree start (fault.Damaged damage) short some is no_false_damage = λ bytes pairs reads has.
+no_false_level v file tree start fault.Failed short some is no_false_damage = tt
+no_false_level v file tree start fault.OutOfMemory short some is no_false_damage = tt
+no_false_level v file tree start (fault.Damaged damage) short some is no_false_damage = λ bytes pairs reads has.
     no_false_damage bytes pairs reads (subst (λ (n : ℕ). HasLevels bytes 0 n pairs) (sym is) (tree_stands bytes tree pairs has some (short bytes reads))) (count_is bytes tree pairs has)
 
-pub tree_spares_before : (a b : View) (was now : FileName) (tree : TreeRef) (f : ReadFault) → Changes Same a b → now ≡ was → NoFalseTreeDamage b now tree f → NoFalseTreeDamage a was tree f
-tree_spares_before a b was now tree fault.Failed change same no_false_damage = tt
-tree_spares_before a b was now tree fault.OutOfMemory change same no_false_damage = tt
-tree_spares_before a b was now tree (fault.Damaged damage) change same no_false_damage = λ bytes pairs is. no_false_damage bytes pairs (reads_still a b was now bytes change same is)
+pub no_false_tree_before : (a b : View) (was now : FileName) (tree : TreeRef) (f : ReadFault) → Changes Same a b → now ≡ was → NoFalseTreeDamage b now tree f → NoFalseTreeDamage a was tree f
+no_false_tree_before a b was now tree fault.Failed change same no_false_damage = tt
+no_false_tree_before a b was now tree fault.OutOfMemory change same no_false_damage = tt
+no_false_tree_before a b was now tree (fault.Damaged damage) change same no_false_damage = λ bytes pairs is. no_false_damage bytes pairs (reads_still a b was now bytes change same is)
 
 -- ---- the nodes of a tree
 
@@ -243,7 +243,7 @@ pub leaves_shown : (Alone : ℕ → Type 0) (v : View) (file : FileName) (tree :
 leaves_shown Alone v file tree begin f is shown = node_in_tree Alone v file tree f (subst (λ (n : ℕ). ShownOf (λ k. IsNodeFrom k 0 n tree.pairs) v file f) is shown)
 
 -- behind a search that ended there, an entry that the file hasn't begins a leaf
-pub begins_leaf : (bytes : Bytes) (tree : TreeRef) (begin count index : ℕ) → begin ≡ start tree → index ≡ count → index < tree.pairs → length bytes < pair_place tree
+pub begins_leaf : (bytes : Bytes) (tree : TreeRef) (begin count index : ℕ) → begin ≡ start tree → index ≡ count → index < tree.pairs → length bytes < pair_offset tree
     index + 16 → IsReached bytes begin tree.pairs count → BeginsLeaf tree index
 begins_leaf bytes tree begin count index is same lt short reached = ⊎_elim
     (λ begins. (begins.0, omega (arith, same, begins.1)))
@@ -256,7 +256,7 @@ begins_leaf bytes tree begin count index is same lt short reached = ⊎_elim
 pub gives_entry : (v : View) (file : FileName) (tree : TreeRef) (begin index : ℕ) (pair : Pair) → begin ≡ start tree → index < tree.pairs
     → pair.token < 2 ^ 64 → pair.place < 2 ^ 64 → ((bytes : Bytes) → contents v file ≡ Some bytes → HasAt bytes
     (begin + 4088 * (index / 255) + (8 + 16 * (index % 255))) (entry pair)) → ReadsEntry v file tree (index + 1) (Some pair)
-gives_entry v file tree begin index pair is lt token_fits place_fits stands = (
+gives_entry v file tree begin index pair is lt token_fits offset_fits stands = (
   index,
   refl,
   λ bytes reads. record {
@@ -264,7 +264,7 @@ gives_entry v file tree begin index pair is lt token_fits place_fits stands = (
     stands = subst
         (λ (n : ℕ). HasAt bytes (n + 4088 * (index / 255) + (8 + 16 * (index % 255))) (entry pair)) is (stands bytes reads);
     fit = pair_fits pair
-        token_fits place_fits;
+        token_fits offset_fits;
   },
 )
 
@@ -287,12 +287,12 @@ gave_header a b was now tree passed (Some pair) change same gives = λ leaf at b
 
 -- the page on which it ends is buffered
 pub near_entry : (page : Option ℕ) (tree : TreeRef) (begin index : ℕ) → begin ≡ start tree → page ≡ Some
-    ((begin + 4088 * (index / 255) + (8 + 16 * (index % 255)) + 15) / 4096) → page ≡ Some ((pair_place tree (index + 1 - 1) + 15) / 4096)
+    ((begin + 4088 * (index / 255) + (8 + 16 * (index % 255)) + 15) / 4096) → page ≡ Some ((pair_offset tree (index + 1 - 1) + 15) / 4096)
 near_entry page tree begin index is entry_buffered =
     let same : index ≡ index + 1 - 1 = omega arith in
     entry_buffered
     ∙ ap (λ (n : ℕ). Some ((n + 4088 * (index / 255) + (8 + 16 * (index % 255)) + 15) / 4096)) is
-    ∙ ap (λ (k : ℕ). Some ((pair_place tree k + 15) / 4096)) same
+    ∙ ap (λ (k : ℕ). Some ((pair_offset tree k + 15) / 4096)) same
 
 pub takes_pair : (pairs : List Pair) (index : ℕ) (pair : Pair) → index < length pairs → pair ≡ pair_at pairs index → StepsToPair pairs index (index + 1) (Some pair)
 takes_pair pairs index pair lt is = drop_more pairs index (record { token = 0; place = 0 }) lt ∙ ap (λ (p : Pair). p ∷ drop (index + 1) pairs) (sym is)

@@ -15,15 +15,15 @@ pub node_within : (count index : ℕ) → index < nodes count → 255 * index < 
 node_within count index lt = omega (arith, lt)
 
 -- where the next node stands
-pub next_place : (level at : ℕ) (entries : List Pair) (index : ℕ) → 255 * index < length entries → at + length (first_nodes level entries index) ≡ at + 4088 * index
-next_place level at entries index lt = ap (λ (n : ℕ). at + n) (first_nodes_length level entries index (omega arith))
+pub next_offset : (level at : ℕ) (entries : List Pair) (index : ℕ) → 255 * index < length entries → at + length (first_nodes level entries index) ≡ at + 4088 * index
+next_offset level at entries index lt = ap (λ (n : ℕ). at + n) (first_nodes_length level entries index (omega arith))
 
 pub first_written : (a : View) (file : FileName) (at level : ℕ) (entries : List Pair) → Reaches a file at → Writes a a file at (first_nodes level entries 0)
 first_written a file at level entries room = subst (λ (l : Bytes). Writes a a file at l) (sym (first_nodes_none level entries)) (writes_nothing a file at room)
 
 pub next_room : (a b : View) (file : FileName) (level at : ℕ) (entries : List Pair) (index : ℕ) → 255 * index < length entries → Writes a b file at
     (first_nodes level entries index) → Reaches b file (at + 4088 * index)
-next_room a b file level at entries index lt written = subst (λ (n : ℕ). Reaches b file n) (next_place level at entries index lt) written.reaches
+next_room a b file level at entries index lt written = subst (λ (n : ℕ). Reaches b file n) (next_offset level at entries index lt) written.reaches
 
 pub next_changes : (a b c : View) (file : FileName) (level at : ℕ) (entries : List Pair) (index : ℕ) → Writes a b file at
     (first_nodes level entries index) → ChangesFrom file (at + 4088 * index) b c → ChangesFrom file at a c
@@ -35,7 +35,7 @@ pub next_written : (a b c : View) (file : FileName) (level at : ℕ) (entries he
 next_written a b c file level at entries here index lt is room written more =
     subst (λ (l : Bytes). Writes a c file at l) (ap (λ (l : List Pair). first_nodes level entries index ++ node level l) is ∙ sym (first_nodes_more level entries index))
     (writes_on a b c file at (first_nodes level entries index) (node level here) room written
-    (subst (λ (n : ℕ). Writes b c file n (node level here)) (sym (next_place level at entries index lt)) more))
+    (subst (λ (n : ℕ). Writes b c file n (node level here)) (sym (next_offset level at entries index lt)) more))
 
 pub next_fits : (level at : ℕ) (entries here : List Pair) (index : ℕ) → 255 * index < length entries → here ≡ entries_of_node entries index → at + 4088 * index +
     length (node level here) ≤ 2 ^ 62 → at + length (first_nodes level entries (index + 1)) ≤ 2 ^ 62
@@ -46,7 +46,7 @@ next_fits level at entries here index lt is fits =
       ap length (first_nodes_more level entries index),
       length-append (first_nodes level entries index)
           (node level (entries_of_node entries index)),
-      next_place level at entries index lt,
+      next_offset level at entries index lt,
       ap (λ (l : List Pair). length (node level l)) is,
     )
 

@@ -120,10 +120,10 @@ same_number a b a_fits b_fits same = sym (from_be_bytes-to_be_bytes_8 a a_fits) 
 -- entries of the same bytes are the same
 pub same_entry : (a b : Pair) → a.token < 2 ^ 64 → a.place < 2 ^ 64 → b.token < 2 ^ 64 → b.place < 2 ^ 64 → entry a ≡ entry b → a ≡ b
 unfolding entry
-same_entry a b a_token a_place b_token b_place same =
+same_entry a b a_token a_offset b_token b_offset same =
     let tokens : a.token ≡ b.token = same_number a.token b.token a_token b_token (sym (take_at (to_be_bytes w64 a.token) (to_be_bytes w64 a.place) 8 refl) ∙ ap (λ (l : Bytes). take 8 l) same
     ∙ take_at (to_be_bytes w64 b.token) (to_be_bytes w64 b.place) 8 refl) in
-    let places : a.place ≡ b.place = same_number a.place b.place a_place b_place (sym (drop_at (to_be_bytes w64 a.token) (to_be_bytes w64 a.place) 8 refl) ∙ ap (λ (l : Bytes). drop 8 l) same
+    let places : a.place ≡ b.place = same_number a.place b.place a_offset b_offset (sym (drop_at (to_be_bytes w64 a.token) (to_be_bytes w64 a.place) 8 refl) ∙ ap (λ (l : Bytes). drop 8 l) same
     ∙ drop_at (to_be_bytes w64 b.token) (to_be_bytes w64 b.place) 8 refl) in
     ap (λ (n : ℕ). record { token = n; place = a.place }) tokens ∙ ap (λ (n : ℕ). record { token = b.token; place = n }) places
 
@@ -131,7 +131,7 @@ pub entry_reads : (bytes : Bytes) (level : ℕ) (entries : List Pair) (index tok
     index ≤ length bytes → token < 2 ^ 64 → place < 2 ^ 64
     → to_be_bytes w64 token ≡ take 8 (drop (8 + 16 * index) bytes) → to_be_bytes w64 place ≡ take 8 (drop (8 + 16 * index + 8) bytes) → record { token = token; place = place } ≡ pair_at entries index
 unfolding entry
-entry_reads bytes level entries index token place fit is le token_fits place_fits token_is place_is =
+entry_reads bytes level entries index token place fit is le token_fits offset_fits token_is place_is =
     let p = pair_at entries index in
     let rest = flat_map entry (drop (index + 1) entries) in
     let lt : index < length entries = omega (arith, le, ap length is, node_length level entries) in
@@ -143,7 +143,7 @@ entry_reads bytes level entries index token place fit is le token_fits place_fit
     in
     let tokens : token ≡ p.token = same_number token p.token token_fits (fit index).0
     (token_is ∙ ap (λ (l : Bytes). take 8 l) here ∙ take_at (to_be_bytes w64 p.token) (to_be_bytes w64 p.place ++ rest) 8 refl) in
-    let places : place ≡ p.place = same_number place p.place place_fits (fit index).1 (place_is ∙ ap (λ (l : Bytes). take 8 l) behind ∙ take_at (to_be_bytes w64 p.place) rest 8 refl) in
+    let places : place ≡ p.place = same_number place p.place offset_fits (fit index).1 (place_is ∙ ap (λ (l : Bytes). take 8 l) behind ∙ take_at (to_be_bytes w64 p.place) rest 8 refl) in
     ap (λ (n : ℕ). record { token = n; place = place }) tokens ∙ ap (λ (n : ℕ). record { token = p.token; place = n }) places
 
 -- two numbers that stand there are an entry

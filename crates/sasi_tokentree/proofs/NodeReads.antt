@@ -42,10 +42,10 @@ node_ends bytes level at entries has =
     )
 
 -- so no node stands where the file ends before
-pub early_spares : (v : View) (file : FileName) (level at count end : ℕ) (f : ReadFault) → end ≤ at + (8 + 16 * count) → DamageShown v file (ShowsEnd end file) f → NoFalseNodeDamage v file level at count f
-early_spares v file level at count end fault.Failed le early = tt
-early_spares v file level at count end fault.OutOfMemory le early = tt
-early_spares v file level at count end (fault.Damaged damage) le early = λ bytes entries is has long. let less = (early bytes is).short in omega (arith, le, less, long, node_ends bytes level at entries has)
+pub no_false_early : (v : View) (file : FileName) (level at count end : ℕ) (f : ReadFault) → end ≤ at + (8 + 16 * count) → DamageShown v file (ShowsEnd end file) f → NoFalseNodeDamage v file level at count f
+no_false_early v file level at count end fault.Failed le early = tt
+no_false_early v file level at count end fault.OutOfMemory le early = tt
+no_false_early v file level at count end (fault.Damaged damage) le early = λ bytes entries is has long. let less = (early bytes is).short in omega (arith, le, less, long, node_ends bytes level at entries has)
 
 -- what was read begins with its first eight bytes
 front_at : (bytes window : Bytes) (at : ℕ) → HasAt bytes at window → HasAt bytes at (take 8 window)

@@ -7,7 +7,7 @@ use Rattle.sasi_host.specs.declared.name.FileName.{FileName}
 use Rattle.sasi_host.specs.declared.fault.ReadFault.{ReadFault}
 use Rattle.sasi_host.specs.declared.fault.ReadFault.TheVariants as fault
 use Rattle.sasi_host.specs.Names.{Bytes}
-use Rattle.sasi_host.specs.View.{View, ReadsAtMost}
+use Rattle.sasi_host.specs.View.{View, ReadCost}
 use Rattle.sasi_host.proofs.CauseLaws.{reads_on, reads_within}
 use Rattle.sasi_host.specs.Disk.{Changes, Same}
 use Rattle.sasi_tokentree.specs.Format.{nodes, size, entries_of_node, above}
@@ -21,17 +21,17 @@ use Rattle.sasi_tokentree.proofs.StoredLevels.{stands_node, stands_above, stands
 pub part_size : (entries : List Pair) (node count here : ℕ) → length entries ≡ count → here ≡ min (count - 255 * node) 255 → length (entries_of_node entries node) ≡ here
 part_size entries node count here long is = omega (arith, part_length entries node, long, is)
 
-pub spares_part : (v : View) (file : FileName) (level at count node here : ℕ) (f : ReadFault) → 255 * node < count → here ≡ min (count - 255 * node)
+pub no_false_part : (v : View) (file : FileName) (level at count node here : ℕ) (f : ReadFault) → 255 * node < count → here ≡ min (count - 255 * node)
     255 → NoFalseNodeDamage v file level (at + 4088 * node) here f → NoFalseLevelDamage v file level at count f
-spares_part v file level at count node here fault.Failed lt is no_false_damage = tt
-spares_part v file level at count node here fault.OutOfMemory lt is no_false_damage = tt
-spares_part v file level at count node here (fault.Damaged damage) lt is no_false_damage = λ bytes entries reads stands long.
+no_false_part v file level at count node here fault.Failed lt is no_false_damage = tt
+no_false_part v file level at count node here fault.OutOfMemory lt is no_false_damage = tt
+no_false_part v file level at count node here (fault.Damaged damage) lt is no_false_damage = λ bytes entries reads stands long.
     no_false_damage bytes (entries_of_node entries node) reads (stands_node bytes level at entries node stands (omega (arith, lt, long))) (part_size entries node count here long is)
 
-pub spares_one : (v : View) (file : FileName) (level at count : ℕ) (f : ReadFault) → count ≤ 255 → NoFalseNodeDamage v file level at count f → NoFalseLevelDamage v file level at count f
-spares_one v file level at count fault.Failed le no_false_damage = tt
-spares_one v file level at count fault.OutOfMemory le no_false_damage = tt
-spares_one v file level at count (fault.Damaged damage) le no_false_damage = λ bytes entries reads stands long. no_false_damage bytes entries reads
+pub no_false_one : (v : View) (file : FileName) (level at count : ℕ) (f : ReadFault) → count ≤ 255 → NoFalseNodeDamage v file level at count f → NoFalseLevelDamage v file level at count f
+no_false_one v file level at count fault.Failed le no_false_damage = tt
+no_false_one v file level at count fault.OutOfMemory le no_false_damage = tt
+no_false_one v file level at count (fault.Damaged damage) le no_false_damage = λ bytes entries reads stands long. no_false_damage bytes entries reads
     (stands_one bytes level at entries stands (omega (arith, le, long))) long
 
 pub up : (bytes : Bytes) (level at count : ℕ) (entries : List Pair) → 255 < count → length entries ≡ count → HasLevels bytes level at entries →
@@ -42,16 +42,16 @@ up bytes level at count entries many long stands = subst (λ (n : ℕ). HasLevel
 pub up_length : (at count : ℕ) (entries : List Pair) → length entries ≡ count → length (above at entries) ≡ nodes count
 up_length at count entries long = first_above_length at entries (nodes (length entries)) ∙ ap nodes long
 
-pub spares_up : (v : View) (file : FileName) (level at count : ℕ) (f : ReadFault) → 255 < count → NoFalseLevelDamage v file (level + 1) (at + size count) (nodes count) f → NoFalseLevelDamage v file level at count f
-spares_up v file level at count fault.Failed many no_false_damage = tt
-spares_up v file level at count fault.OutOfMemory many no_false_damage = tt
-spares_up v file level at count (fault.Damaged damage) many no_false_damage = λ bytes entries reads stands long.
+pub no_false_up : (v : View) (file : FileName) (level at count : ℕ) (f : ReadFault) → 255 < count → NoFalseLevelDamage v file (level + 1) (at + size count) (nodes count) f → NoFalseLevelDamage v file level at count f
+no_false_up v file level at count fault.Failed many no_false_damage = tt
+no_false_up v file level at count fault.OutOfMemory many no_false_damage = tt
+no_false_up v file level at count (fault.Damaged damage) many no_false_damage = λ bytes entries reads stands long.
     no_false_damage bytes (above at entries) reads (up bytes level at count entries many long stands) (up_length at count entries long)
 
-pub spares_before : (a b : View) (was now : FileName) (level at count : ℕ) (f : ReadFault) → Changes Same a b → now ≡ was → NoFalseLevelDamage b now level at count f → NoFalseLevelDamage a was level at count f
-spares_before a b was now level at count fault.Failed change same no_false_damage = tt
-spares_before a b was now level at count fault.OutOfMemory change same no_false_damage = tt
-spares_before a b was now level at count (fault.Damaged damage) change same no_false_damage = λ bytes entries reads. no_false_damage bytes entries (reads_still a b was now bytes change same reads)
+pub no_false_before : (a b : View) (was now : FileName) (level at count : ℕ) (f : ReadFault) → Changes Same a b → now ≡ was → NoFalseLevelDamage b now level at count f → NoFalseLevelDamage a was level at count f
+no_false_before a b was now level at count fault.Failed change same no_false_damage = tt
+no_false_before a b was now level at count fault.OutOfMemory change same no_false_damage = tt
+no_false_before a b was now level at count (fault.Damaged damage) change same no_false_damage = λ bytes entries reads. no_false_damage bytes entries (reads_still a b was now bytes change same reads)
 
 -- ---- reads
 
@@ -61,13 +61,13 @@ one_level_reads (suc most) count some le = ⊎_elim (λ one. omega (arith, one_h
 
 -- the levels above and one node more
 pub more_level_reads : {S T : Type 0} (a b c : View) (most count : ℕ) (first : S) (second : Result T ReadFault) → 255 < count → count ≤ most
-    → ((bound : ℕ) → nodes count ≤ bound → ReadsAtMost (2 * height bound (nodes count)) a b (Ok first)) → ReadsAtMost 2 b c second → ReadsAtMost (2 * height most count) a c second
+    → ((bound : ℕ) → nodes count ≤ bound → ReadCost (2 * height bound (nodes count)) a b (Ok first)) → ReadCost 2 b c second → ReadCost (2 * height most count) a c second
 more_level_reads a b c zero count first second many le one two = absurd (omega arith)
 more_level_reads a b c (suc most) count first second many le one two =
     reads_on a b c (2 * height most (nodes count)) 2 (2 * height (suc most) count) first second (omega (arith, more_high most count many)) (one most (omega (arith, many, le))) two
 
 pub above_reads : {S : Type 0} (a b : View) (most count : ℕ) (first : Result S ReadFault) → 255 < count → count ≤ most
-    → ((bound : ℕ) → nodes count ≤ bound → ReadsAtMost (2 * height bound (nodes count)) a b first) → ReadsAtMost (2 * height most count) a b first
+    → ((bound : ℕ) → nodes count ≤ bound → ReadCost (2 * height bound (nodes count)) a b first) → ReadCost (2 * height most count) a b first
 above_reads a b zero count first many le one = absurd (omega arith)
 above_reads a b (suc most) count first many le one = reads_within a b (2 * height most (nodes count)) (2 * height (suc most) count) first
     (omega (arith, more_high most count many)) (one most (omega (arith, many, le)))

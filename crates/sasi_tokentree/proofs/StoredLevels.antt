@@ -170,10 +170,10 @@ none_below at entries token place other rising some none = record {
     zero_plus n = omega arith
 
 -- else those below are the ones before a node, and those below within it
-pub below_in : (at : ℕ) (entries : List Pair) (token above_place node count place : ℕ) → IsRising entries → 255 * node < length entries → IsLowerBound
-    (above at entries) token (node + 1) above_place → IsLowerBound (entries_of_node entries node) token count place
+pub below_in : (at : ℕ) (entries : List Pair) (token above_offset node count place : ℕ) → IsRising entries → 255 * node < length entries → IsLowerBound
+    (above at entries) token (node + 1) above_offset → IsLowerBound (entries_of_node entries node) token count place
     → IsLowerBound entries token (255 * node + count) place
-below_in at entries token above_place node count place rising within up found = record {
+below_in at entries token above_offset node count place rising within up found = record {
   counts = record {
     within = omega (arith, size, found.counts.within);
     below = λ index lt. ⊎_elim

@@ -23,16 +23,16 @@ pub data IsNodeFrom (node : Node) : ℕ → ℕ → ℕ → Type 0 where
   of_above : (level at count : ℕ) → 255 < count → IsNodeFrom node (level + 1) (at + size count) (nodes count) → IsNodeFrom node level at count
 
 -- whether a node can stand at this offset, in the part of a file from one offset to another: the smallest one has one entry
-abbrev pub is_node_place : ℕ → ℕ → ℕ → Bool
-is_node_place from to place = nat_le from place && nat_le (place + 24) to
+abbrev pub is_node_offset : ℕ → ℕ → ℕ → Bool
+is_node_offset from to place = nat_le from place && nat_le (place + 24) to
 
 -- where the first leaf of a tree begins
 abbrev pub start : TreeRef → ℕ
 start tree = tree.root - bytes_below_root tree.pairs tree.pairs
 
 -- the offset of the pair with this index: that of its leaf, and its offset there
-abbrev pub pair_place : TreeRef → ℕ → ℕ
-pair_place tree index = start tree + 4088 * (index / 255) + (8 + 16 * (index % 255))
+abbrev pub pair_offset : TreeRef → ℕ → ℕ
+pair_offset tree index = start tree + 4088 * (index / 255) + (8 + 16 * (index % 255))
 
 -- it is a node of the tree with this reference
 abbrev pub IsNodeOf : TreeRef → Node → Type 0
@@ -94,7 +94,7 @@ pub data ShowsTreeBy (Alone : ℕ → Type 0) (file : FileName) (tree : TreeRef)
   -- in a node, which is judged from its header on
   in_node : ShowsOf (IsNodeOf tree) file bytes damage → ShowsTreeBy Alone file tree bytes damage
   -- or it ends before a pair does that is read without the entries before it in its leaf
-  in_entry : (index : ℕ) → Alone index → index < tree.pairs → ShowsEnd (pair_place tree index + 16) file bytes damage → ShowsTreeBy Alone file tree bytes damage
+  in_entry : (index : ℕ) → Alone index → index < tree.pairs → ShowsEnd (pair_offset tree index + 16) file bytes damage → ShowsTreeBy Alone file tree bytes damage
 
 -- the only pair that a search reads alone begins a leaf below a root
 abbrev pub BeginsLeaf : TreeRef → ℕ → Type 0

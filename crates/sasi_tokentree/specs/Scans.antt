@@ -8,7 +8,7 @@ use Rattle.sasi_host.specs.View.{View, contents}
 use Rattle.sasi_host.specs.Buffered.{Buffered, unbuffered_pages}
 use Rattle.sasi_host.specs.Damages.{HasAt}
 use Rattle.sasi_tokentree.specs.Format.{entry, node_header, AreFit, HasTree}
-use Rattle.sasi_tokentree.specs.Damages.{pair_place, start}
+use Rattle.sasi_tokentree.specs.Damages.{pair_offset, start}
 use Rattle.sasi_tokentree.specs.Reads.{CountsBelow}
 
 -- the view of a scan: the buffered file, where the tree is, and how many of its pairs the scan has passed
@@ -32,7 +32,7 @@ pub record HasPassed (tree : TreeRef) (passed : ℕ) : Type 0 where
 -- behind a pair that was read, the page on which its entry ends is buffered
 abbrev pub IsEntryBuffered : PairScan → Option Pair → Type 0
 IsEntryBuffered w None = Unit {0}
-IsEntryBuffered w (Some pair) = w.buffered.page ≡ Some ((pair_place w.tree (w.passed - 1) + 15) / 4096)
+IsEntryBuffered w (Some pair) = w.buffered.page ≡ Some ((pair_offset w.tree (w.passed - 1) + 15) / 4096)
 
 -- the scan passes one pair, and gives none exactly at the end, where it stays as it is
 abbrev pub PassesOne : PairScan → PairScan → Option Pair → Type 0
@@ -42,7 +42,7 @@ PassesOne old new (Some pair) = (old.passed < old.tree.pairs) × (new.passed ≡
 -- the file has this pair as the entry with this index, even where the tree is damaged
 pub record HasEntry (bytes : Bytes) (tree : TreeRef) (index : ℕ) (pair : Pair) : Type 0 where
   pub within : index < tree.pairs
-  pub stands : HasAt bytes (pair_place tree index) (entry pair)
+  pub stands : HasAt bytes (pair_offset tree index) (entry pair)
   pub fit : AreFit (pair ∷ [])
 
 -- the pair read, if any, is the last of the passed entries
@@ -75,9 +75,9 @@ unfoldable pub header_read : ℕ → ℕ
 header_read index = if nat_eq (index % 255) 0 then 8 else 0
 
 -- where the entry with this index is read from
-abbrev pub read_place : TreeRef → ℕ → ℕ
-read_place tree index = pair_place tree index - header_read index
+abbrev pub read_from : TreeRef → ℕ → ℕ
+read_from tree index = pair_offset tree index - header_read index
 
 -- how many of the pages that it is read from aren't buffered
 abbrev pub entry_cost : Option ℕ → TreeRef → ℕ → ℕ
-entry_cost buffered tree index = unbuffered_pages buffered (read_place tree index) (16 + header_read index)
+entry_cost buffered tree index = unbuffered_pages buffered (read_from tree index) (16 + header_read index)

@@ -12,7 +12,7 @@ mod seek;
 mod tree;
 mod writing;
 
-pub use node_layout::{is_node_place, tree_size};
+pub use node_layout::{is_node_offset, tree_size};
 pub use order::is_rising;
 pub use sasi_types::{Pair, PairList, TreeRef};
 pub use tree::Tree;

@@ -3,7 +3,7 @@ ghost use Rattle.std.specs.Prelude.{◌≡◌, ℕ, ◌*◌, ◌^◌, ◌<◌, �
 ghost use Rattle.sasi_types.specs.declared.tree.Pair.{Pair};
 ghost use Rattle.sasi_tokentree.specs.Format.{nodes, entries_of_node, size, tree_bytes};
 ghost use Rattle.sasi_tokentree.specs.Heights.{levels_size};
-ghost use Rattle.sasi_tokentree.specs.Damages.{is_node_place};
+ghost use Rattle.sasi_tokentree.specs.Damages.{is_node_offset};
 
 use sasi_types::Pair;
 
@@ -17,8 +17,8 @@ pub const MAX_NODE_BYTES: u64 = 4088;
 const MIN_NODE_BYTES: u64 = 24;
 
 /// Whether a node can stand at this offset, in the part of a file from one offset to another.
-pub fn is_node_place(from: u64, to: u64, place: u64) -> bool
-    ensures { result ≡ is_node_place from to place }
+pub fn is_node_offset(from: u64, to: u64, place: u64) -> bool
+    ensures { result ≡ is_node_offset from to place }
 {
     from <= place && to >= MIN_NODE_BYTES && place <= to - MIN_NODE_BYTES
 }

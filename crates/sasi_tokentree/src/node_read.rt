@@ -1,7 +1,7 @@
 // Reads nodes of a tree from the file.
 ghost use Rattle.std.specs.Prelude.{◌≡◌, ◌+◌, ◌*◌, ◌/◌, ◌^◌, ◌<◌, ◌≤◌, List, ℕ, length, IfErr, IfOk, OnOk, Some};
 ghost use Rattle.sasi_types.specs.declared.tree.Pair.{Pair};
-ghost use Rattle.sasi_host.specs.View.{contents, ReadsAtMost};
+ghost use Rattle.sasi_host.specs.View.{contents, ReadCost};
 ghost use Rattle.sasi_host.specs.Buffered.{unbuffered_pages};
 ghost use Rattle.sasi_host.specs.Damages.{DamageShown, HasAt};
 ghost use Rattle.sasi_host.specs.PageReading.{CanReadOn, HasReadOn};
@@ -41,7 +41,7 @@ fn read_header<H: Host, P: PageReader>(
     ensures undamaged { IfErr result (NoFalseNodeDamage (H.view host.old) buffered.old.file node.level node.at node.count) }
     ensures read { HasReadOn (P.agrees pages.new) (P.covers pages.old) (P.covers pages.new) (H.view host.old) (H.view host.new) buffered.old buffered.new }
     ensures page { OnOk result (buffered.new.page ≡ Some ((node.at + 7) / 4096)) }
-    ensures causes { ReadsAtMost (unbuffered_pages buffered.old.page node.at 8) (H.view host.old) (H.view host.new) result }
+    ensures causes { ReadCost (unbuffered_pages buffered.old.page node.at 8) (H.view host.old) (H.view host.new) result }
 {
     buffered.read_into(host, pages, node.at, out)?;
     check_header(buffered.file(), node.at, node.level, node.count as u16, out)?;
@@ -67,7 +67,7 @@ fn read_node<H: Host, P: PageReader>(
     ensures damaged { IfErr result (ShownOf (λ n. n ≡ node) (H.view host.old) buffered.old.file) }
     ensures undamaged { IfErr result (NoFalseNodeDamage (H.view host.old) buffered.old.file node.level node.at node.count) }
     ensures read { HasReadOn (P.agrees pages.new) (P.covers pages.old) (P.covers pages.new) (H.view host.old) (H.view host.new) buffered.old buffered.new }
-    ensures causes { ReadsAtMost 2 (H.view host.old) (H.view host.new) result }
+    ensures causes { ReadCost 2 (H.view host.old) (H.view host.new) result }
 {
     let header = &mut out[..NODE_HEADER_BYTES];
     read_header(host, pages, buffered, node, header)?;
@@ -96,7 +96,7 @@ pub fn node_below<H: Host, P: PageReader>(
     ensures damaged { IfErr result (ShownOf (λ n. n ≡ record { level = level; at = at; count = count }) (H.view host.old) buffered.old.file) }
     ensures undamaged { IfErr result (NoFalseNodeDamage (H.view host.old) buffered.old.file level at count) }
     ensures read { HasReadOn (P.agrees pages.new) (P.covers pages.old) (P.covers pages.new) (H.view host.old) (H.view host.new) buffered.old buffered.new }
-    ensures causes { ReadsAtMost 2 (H.view host.old) (H.view host.new) result }
+    ensures causes { ReadCost 2 (H.view host.old) (H.view host.new) result }
 {
     let mut buffer = [0; 4088];
     let bytes = &mut buffer[..NODE_HEADER_BYTES + ENTRY_BYTES * count];
@@ -123,7 +123,7 @@ pub fn first_of_leaf<H: Host, P: PageReader>(
     ensures undamaged { IfErr result (NoFalseNodeDamage (H.view host.old) buffered.old.file 0 at count) }
     ensures read { HasReadOn (P.agrees pages.new) (P.covers pages.old) (P.covers pages.new) (H.view host.old) (H.view host.new) buffered.old buffered.new }
     ensures page { OnOk result (buffered.new.page ≡ Some ((at + 23) / 4096)) }
-    ensures causes { ReadsAtMost (unbuffered_pages buffered.old.page at 24) (H.view host.old) (H.view host.new) result }
+    ensures causes { ReadCost (unbuffered_pages buffered.old.page at 24) (H.view host.old) (H.view host.new) result }
 {
     let mut bytes = [0; 24];
     buffered.read_into(host, pages, at, &mut bytes)?;

@@ -1,11 +1,11 @@
 // Reads the pairs of a tree, one after another.
 ghost use Rattle.std.specs.Prelude.{◌≡◌, ◌⊎◌, ◌+◌, ◌-◌, ◌*◌, ◌/◌, ◌%◌, ◌^◌, ◌<◌, ◌≤◌, List, ℕ, min, IfErr, IfOk, OnOk, IsSome, IsTrue, None, Some, false};
-ghost use Rattle.sasi_host.specs.View.{contents, ReadsAtMost};
+ghost use Rattle.sasi_host.specs.View.{contents, ReadCost};
 ghost use Rattle.sasi_host.specs.Buffered.{unbuffered_pages};
 ghost use Rattle.sasi_host.specs.Damages.{HasAt, DamageShown, ShowsEnd};
 ghost use Rattle.sasi_host.specs.PageReading.{CanReadOn, HasReadOn};
 ghost use Rattle.sasi_tokentree.specs.Format.{entry, node_header};
-ghost use Rattle.sasi_tokentree.specs.Damages.{BeginsLeaf, IsNodeFrom, ShowsEndOr, ShowsTreeBy, pair_place};
+ghost use Rattle.sasi_tokentree.specs.Damages.{BeginsLeaf, IsNodeFrom, ShowsEndOr, ShowsTreeBy, pair_offset};
 ghost use Rattle.sasi_tokentree.specs.Heights.{height, bytes_below_root};
 ghost use Rattle.sasi_tokentree.specs.Reads.{NoFalseLevelDamage, NoFalseTreeDamage};
 ghost use Rattle.sasi_tokentree.specs.Scans.{HasPassed, PassesOne, ReadsEntry, ReadsFirstPair, ReadsHeader, ReadsNextPair, IsEntryBuffered, entry_cost, header_read};
@@ -62,7 +62,7 @@ fn offset_of(at: u64, index: u64) -> u64
 // The offset of the last of the passed pairs.
 pub fn last_offset(tree: TreeRef, passed: u64) -> u64
     requires { HasPassed tree passed }
-    ensures is { result ≡ pair_place tree (passed - 1) }
+    ensures is { result ≡ pair_offset tree (passed - 1) }
     ensures short { result < 2 ^ 63 + 2 ^ 60 }
 {
     offset_of(start_of(tree), passed - 1)
@@ -82,7 +82,7 @@ fn read_entry<H: Host, P: PageReader>(
     ensures damaged { IfErr result (DamageShown (H.view host.old) buffered.old.file (ShowsEnd (at + 4088 * (index / 255) + (8 + 16 * (index % 255)) + 16) buffered.old.file)) }
     ensures read { HasReadOn (P.agrees pages.new) (P.covers pages.old) (P.covers pages.new) (H.view host.old) (H.view host.new) buffered.old buffered.new }
     ensures page { IfOk result (λ _. buffered.new.page ≡ Some ((at + 4088 * (index / 255) + (8 + 16 * (index % 255)) + 15) / 4096)) }
-    ensures causes { ReadsAtMost (unbuffered_pages buffered.old.page (at + 4088 * (index / 255) + (8 + 16 * (index % 255))) 16) (H.view host.old) (H.view host.new) result }
+    ensures causes { ReadCost (unbuffered_pages buffered.old.page (at + 4088 * (index / 255) + (8 + 16 * (index % 255))) 16) (H.view host.old) (H.view host.new) result }
 {
     let mut bytes = [0; ENTRY_BYTES];
     buffered.read_into(host, pages, offset_of(at, index), &mut bytes)?;
@@ -110,7 +110,7 @@ fn read_first<H: Host, P: PageReader>(
     ensures undamaged { IfErr result (NoFalseLevelDamage (H.view host.old) buffered.old.file 0 at pairs) }
     ensures read { HasReadOn (P.agrees pages.new) (P.covers pages.old) (P.covers pages.new) (H.view host.old) (H.view host.new) buffered.old buffered.new }
     ensures page { OnOk result (buffered.new.page ≡ Some ((at + 4088 * leaf + 23) / 4096)) }
-    ensures causes { ReadsAtMost (unbuffered_pages buffered.old.page (at + 4088 * leaf) 24) (H.view host.old) (H.view host.new) result }
+    ensures causes { ReadCost (unbuffered_pages buffered.old.page (at + 4088 * leaf) 24) (H.view host.old) (H.view host.new) result }
 {
     let left = (pairs - MAX_ENTRIES as u64 * leaf).min(MAX_ENTRIES as u64);
     let place = at + MAX_NODE_BYTES * leaf;
@@ -137,7 +137,7 @@ fn read_pair<H: Host, P: PageReader>(
     ensures undamaged { IfErr result (NoFalseLevelDamage (H.view host.old) buffered.old.file 0 at pairs) }
     ensures read { HasReadOn (P.agrees pages.new) (P.covers pages.old) (P.covers pages.new) (H.view host.old) (H.view host.new) buffered.old buffered.new }
     ensures page { OnOk result (buffered.new.page ≡ Some ((at + 4088 * (index / 255) + (8 + 16 * (index % 255)) + 15) / 4096)) }
-    ensures causes { ReadsAtMost (unbuffered_pages buffered.old.page (at + 4088 * (index / 255) + (8 + 16 * (index % 255)) - header_read index) (16 + header_read index)) (H.view host.old) (H.view host.new) result }
+    ensures causes { ReadCost (unbuffered_pages buffered.old.page (at + 4088 * (index / 255) + (8 + 16 * (index % 255)) - header_read index) (16 + header_read index)) (H.view host.old) (H.view host.new) result }
 {
     if index % MAX_ENTRIES as u64 == 0 {
         let first = read_first(host, pages, buffered, at, pairs, index / MAX_ENTRIES as u64)?;
@@ -164,7 +164,7 @@ pub fn pair_from<H: Host, P: PageReader>(
     ensures read { HasReadOn (P.agrees pages.new) (P.covers pages.old) (P.covers pages.new) (H.view host.old) (H.view host.new) buffered.old buffered.new }
     ensures entry_buffered { IfOk result (λ found. IsEntryBuffered (record { buffered = buffered.new; tree = tree; passed = found.passed }) found.pair) }
     ensures passed { IfOk result (λ found. IsSome found.pair → HasPassed tree found.passed) }
-    ensures causes { ReadsAtMost (entry_cost buffered.old.page tree passed) (H.view host.old) (H.view host.new) result }
+    ensures causes { ReadCost (entry_cost buffered.old.page tree passed) (H.view host.old) (H.view host.new) result }
     ensures ends { IfOk result (λ found. PassesOne (record { buffered = buffered.old; tree = tree; passed = passed }) (record { buffered = buffered.new; tree = tree; passed = found.passed }) found.pair) }
     ensures ended { tree.pairs ≤ passed → (H.view host.new).reads ≡ (H.view host.old).reads }
 {
@@ -200,7 +200,7 @@ pub fn first_from<H: Host, P: PageReader>(
     ensures entry_buffered { IfOk result (λ found. IsEntryBuffered (record { buffered = buffered.new; tree = tree; passed = found.passed }) found.pair) }
     ensures passed { IfOk result (λ found. IsSome found.pair → HasPassed tree found.passed) }
     ensures ends { IfOk result (λ found. found.pair ≡ None → tree.pairs ≤ found.passed) }
-    ensures causes { (most : ℕ) → tree.pairs ≤ most → ReadsAtMost (2 * height most tree.pairs + 2) (H.view host.old) (H.view host.new) result }
+    ensures causes { (most : ℕ) → tree.pairs ≤ most → ReadCost (2 * height most tree.pairs + 2) (H.view host.old) (H.view host.new) result }
 {
     if tree.pairs == 0 {
         return Ok(ScannedPair {

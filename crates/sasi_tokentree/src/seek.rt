@@ -1,7 +1,7 @@
 // Searches a tree from the root down for the first pair at or after a token.
 ghost use Rattle.std.specs.Prelude.{◌≡◌, ◌+◌, ◌*◌, ◌^◌, ◌<◌, ◌≤◌, List, ℕ, length, IfErr, IfOk, OnOk, Some};
 ghost use Rattle.sasi_types.specs.declared.tree.Pair.{Pair};
-ghost use Rattle.sasi_host.specs.View.{contents, ReadsAtMost};
+ghost use Rattle.sasi_host.specs.View.{contents, ReadCost};
 ghost use Rattle.sasi_host.specs.PageReading.{CanReadOn, HasReadOn};
 ghost use Rattle.sasi_tokentree.specs.Format.{entries_of_node};
 ghost use Rattle.sasi_tokentree.specs.Heights.{level_limit, height, bytes_below_root};
@@ -47,7 +47,7 @@ pub fn count_below<H: Host, P: PageReader>(
     ensures damaged { IfErr result (ShownOf (λ n. IsNodeFrom n level at count) (H.view host.old) buffered.old.file) }
     ensures undamaged { IfErr result (NoFalseLevelDamage (H.view host.old) buffered.old.file level at count) }
     ensures read { HasReadOn (P.agrees pages.new) (P.covers pages.old) (P.covers pages.new) (H.view host.old) (H.view host.new) buffered.old buffered.new }
-    ensures causes { (most : ℕ) → count ≤ most → ReadsAtMost (2 * height most count) (H.view host.old) (H.view host.new) result }
+    ensures causes { (most : ℕ) → count ≤ most → ReadCost (2 * height most count) (H.view host.old) (H.view host.new) result }
 {
     if count <= MAX_ENTRIES {
         let below = node_below(host, pages, buffered, at, level, count, token)?;
@@ -95,7 +95,7 @@ fn count_in_node<H: Host, P: PageReader>(
     ensures damaged { IfErr result (ShownOf (λ n. IsNodeFrom n level at count) (H.view host.old) buffered.old.file) }
     ensures undamaged { IfErr result (NoFalseLevelDamage (H.view host.old) buffered.old.file level at count) }
     ensures read { HasReadOn (P.agrees pages.new) (P.covers pages.old) (P.covers pages.new) (H.view host.old) (H.view host.new) buffered.old buffered.new }
-    ensures causes { ReadsAtMost 2 (H.view host.old) (H.view host.new) result }
+    ensures causes { ReadCost 2 (H.view host.old) (H.view host.new) result }
 {
     let here = (count - MAX_ENTRIES * node).min(MAX_ENTRIES);
     let place = at + MAX_NODE_BYTES * node as u64;

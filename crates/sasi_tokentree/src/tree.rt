@@ -1,11 +1,11 @@
 // Scans a tree in a file, pair by pair.
 ghost use Rattle.std.specs.Prelude.{◌≡◌, ◌+◌, ◌-◌, ◌*◌, ◌^◌, ◌<◌, ◌≤◌, ℕ, [], IfErr, IfOk, IsSome, OnErr, None};
 ghost use Rattle.sasi_host.specs.declared.name.FileName.{FileName};
-ghost use Rattle.sasi_host.specs.View.{ReadsAtMost};
+ghost use Rattle.sasi_host.specs.View.{ReadCost};
 ghost use Rattle.sasi_host.specs.Damages.{DamageShown};
 ghost use Rattle.sasi_host.specs.PageReading.{CanReadOn, HasReadOn};
 ghost use Rattle.sasi_tokentree.specs.Heights.{height};
-ghost use Rattle.sasi_tokentree.specs.Damages.{BeginsLeaf, ShowsTreeBy, pair_place};
+ghost use Rattle.sasi_tokentree.specs.Damages.{BeginsLeaf, ShowsTreeBy, pair_offset};
 ghost use Rattle.sasi_tokentree.specs.Reads.{NoFalseTreeDamage};
 ghost use Rattle.sasi_tokentree.specs.Scans.{HasPassed, PassesOne, ReadsEntry, ReadsFirstPair, ReadsHeader, ReadsNextPair, IsEntryBuffered, entry_cost};
 
@@ -46,7 +46,7 @@ impl Tree {
     /// The offset of the pair that was read last.
     pub fn last_offset(&self) -> u64
         requires { HasPassed self.now.tree self.now.passed }
-        ensures is { result ≡ pair_place self.now.tree (self.now.passed - 1) }
+        ensures is { result ≡ pair_offset self.now.tree (self.now.passed - 1) }
         ensures short { result < 2 ^ 63 + 2 ^ 60 }
     {
         last_offset(self.tree, self.passed)
@@ -73,7 +73,7 @@ impl Tree {
         ensures passed { IfOk result (λ found. IsSome found → HasPassed self.new.tree self.new.passed) }
         // In any file there is none only where all pairs of the reference are passed.
         ensures ends { IfOk result (λ found. found ≡ None → self.new.tree.pairs ≤ self.new.passed) }
-        ensures causes { (most : ℕ) → self.old.tree.pairs ≤ most → ReadsAtMost (2 * height most self.old.tree.pairs + 2) (H.view host.old) (H.view host.new) result }
+        ensures causes { (most : ℕ) → self.old.tree.pairs ≤ most → ReadCost (2 * height most self.old.tree.pairs + 2) (H.view host.old) (H.view host.new) result }
         ensures tree { self.new.tree ≡ self.old.tree }
         ensures err { OnErr result (self.new.passed ≡ self.old.passed) }
     {
@@ -99,7 +99,7 @@ impl Tree {
         ensures read { HasReadOn (P.agrees pages.new) (P.covers pages.old) (P.covers pages.new) (H.view host.old) (H.view host.new) self.old.buffered self.new.buffered }
         ensures entry_buffered { IfOk result (IsEntryBuffered self.new) }
         ensures passed { IfOk result (λ found. IsSome found → HasPassed self.new.tree self.new.passed) }
-        ensures causes { ReadsAtMost (entry_cost self.old.buffered.page self.old.tree self.old.passed) (H.view host.old) (H.view host.new) result }
+        ensures causes { ReadCost (entry_cost self.old.buffered.page self.old.tree self.old.passed) (H.view host.old) (H.view host.new) result }
         ensures tree { self.new.tree ≡ self.old.tree }
         ensures err { OnErr result (self.new.passed ≡ self.old.passed) }
         // In any file it ends exactly where all pairs of the reference are passed.

@@ -26,9 +26,9 @@ use Rattle.std.proofs.lemmas.Bool.Decides.{leb_tells}
 use Rattle.sasi_tokentree.specs.Format.{HasTree}
 use Rattle.sasi_tokentree.specs.Scans.{HasEntry, HasPassed, PairScan, PassesOne, ReadsNextPair, StepsToPair}
 use Rattle.sasi_treemerge.specs.declared.merge.TreeMerge.{TreeMerge}
-use Rattle.sasi_treemerge.specs.declared.source.Source.{Source}
+use Rattle.sasi_treemerge.specs.declared.tree_source.TreeSource.{TreeSource}
 use Rattle.sasi_treemerge.specs.Sources.{is_before, source_cmp}
-use Rattle.sasi_treemerge.specs.Merges.{Adds, CanMerge, Gives, GoesOn, IsAtHead, IsLeast, IsPairOf, IsRead, IsReadable, IsSourceIn, IsSourceOf, IsStillGiven, IsStillRead, ReadsEach, StepsBy, TreesStay, is_left, left_in, left_of, sources_of, unread_in, unread_of}
+use Rattle.sasi_treemerge.specs.Merges.{Adds, AdvancesTo, CanMerge, Gives, IsAtHead, IsLeast, IsPairOf, IsRead, IsReadable, IsSourceIn, IsSourceOf, IsStillGiven, IsStillRead, ReadsEach, StepsBy, TreesStay, is_left, left_in, left_of, sources_of, unread_in, unread_of}
 use Rattle.sasi_treemerge.proofs.PairOrder.{first_least, not_before_on}
 
 -- ---- lists
@@ -54,8 +54,8 @@ contains_none xs y none has = omega (arith, has.1, ap length none)
 differ : true ≡ false → ⊥
 differ e = cc
 
-module _ (v : View) (file : FileName) (bytes : Bytes) (lists : List (List Pair)) (old new : List Source) (head : Pair) (steps : StepsBy v head old new)
-    (named : All (λ (s : Source). s.tree.value.buffered.file ≡ file) old) (reads : contents v file ≡ Some bytes) (each : All (IsSourceIn bytes lists) old) where
+module _ (v : View) (file : FileName) (bytes : Bytes) (lists : List (List Pair)) (old new : List TreeSource) (head : Pair) (steps : StepsBy v head old new)
+    (named : All (λ (s : TreeSource). s.tree.value.buffered.file ≡ file) old) (reads : contents v file ≡ Some bytes) (each : All (IsSourceIn bytes lists) old) where
   source_there : Contains old steps.source
   source_there = Contains-permutation (steps.source ∷ steps.others) old steps.source (IsPermutation-sym old (steps.source ∷ steps.others) steps.taken) (contains_first steps.source steps.others)
 
@@ -63,7 +63,7 @@ module _ (v : View) (file : FileName) (bytes : Bytes) (lists : List (List Pair))
   own = All-contains (IsSourceIn bytes lists) old steps.source each source_there
 
   own_reads : contents v steps.source.tree.value.buffered.file ≡ Some bytes
-  own_reads = ap (λ (n : FileName). contents v n) (All-contains (λ (s : Source). s.tree.value.buffered.file ≡ file) old steps.source named source_there) ∙ reads
+  own_reads = ap (λ (n : FileName). contents v n) (All-contains (λ (s : TreeSource). s.tree.value.buffered.file ≡ file) old steps.source named source_there) ∙ reads
 
   head_first : Contains own.pairs steps.source.head
   head_first =
@@ -83,51 +83,51 @@ module _ (v : View) (file : FileName) (bytes : Bytes) (lists : List (List Pair))
   head_least last floor gives pair of left =
       let still = gives.all of.pairs pair of.listed of.has left in
       let first = first_least of.pairs still.is.before still.source.tree.value.passed still.source.head pair still.is.tree.rising still.is.left still.gives in
-      let bound = All-contains (λ (s : Source). is_lt (source_cmp steps.source s) ≡ false) old still.source (All-from_recursion _ old steps.least) still.there in
+      let bound = All-contains (λ (s : TreeSource). is_lt (source_cmp steps.source s) ≡ false) old still.source (All-from_recursion _ old steps.least) still.there in
       ap (λ (p : Pair). is_before pair p) steps.head_is ∙ not_before_on pair still.source.head steps.source.head first bound
 
   -- what the next source of the same list is
-  next_is : (pairs : List Pair) (next : Source) → IsSourceOf bytes pairs steps.source → GoesOn v steps.source.tree.value (Some next) → IsSourceOf bytes pairs next
-  next_is pairs next is goes = record {
-    tree = subst (λ (t : TreeRef). HasTree bytes t pairs) (sym goes.0) is.tree;
+  next_is : (pairs : List Pair) (next : TreeSource) → IsSourceOf bytes pairs steps.source → AdvancesTo v steps.source.tree.value (Some next) → IsSourceOf bytes pairs next
+  next_is pairs next is advances = record {
+    tree = subst (λ (t : TreeRef). HasTree bytes t pairs) (sym advances.0) is.tree;
     before = steps.source.tree.value.passed;
-    left = goes.3 bytes pairs own_reads is.tree;
+    left = advances.3 bytes pairs own_reads is.tree;
   }
 
   others_each : All (IsSourceIn bytes lists) steps.others
   others_each = All-tail (IsSourceIn bytes lists) steps.source steps.others (All-permutation (IsSourceIn bytes lists) old (steps.source ∷ steps.others) steps.taken each)
 
   pub each_on : All (IsSourceIn bytes lists) new
-  each_on = from steps.next steps.goes steps.put
+  each_on = from steps.next steps.advances steps.put
     where
-      from : (next : Option Source) → GoesOn v steps.source.tree.value next → IsPermutation (option_to_list next ++ steps.others) new → All (IsSourceIn bytes lists) new
-      from None goes put = All-permutation (IsSourceIn bytes lists) steps.others new put others_each
-      from (Some next) goes put =
+      from : (next : Option TreeSource) → AdvancesTo v steps.source.tree.value next → IsPermutation (option_to_list next ++ steps.others) new → All (IsSourceIn bytes lists) new
+      from None advances put = All-permutation (IsSourceIn bytes lists) steps.others new put others_each
+      from (Some next) advances put =
           All-permutation (IsSourceIn bytes lists) (next ∷ steps.others) new put
-          (All-cons (IsSourceIn bytes lists) next steps.others (record { pairs = own.pairs; listed = own.listed; is = next_is own.pairs next own.is goes }) others_each)
+          (All-cons (IsSourceIn bytes lists) next steps.others (record { pairs = own.pairs; listed = own.listed; is = next_is own.pairs next own.is advances }) others_each)
 
-  other_there : (s : Source) → Contains steps.others s → Contains new s
+  other_there : (s : TreeSource) → Contains steps.others s → Contains new s
   other_there s has = Contains-permutation (option_to_list steps.next ++ steps.others) new s steps.put (Contains-append_right (option_to_list steps.next) steps.others s has)
 
   -- a pair of the source, other than its head, is still given by the next one
-  by_next : (pairs : List Pair) (pair : Pair) (next : Option Source) → IsSourceOf bytes pairs steps.source → GoesOn v steps.source.tree.value next → IsPermutation (option_to_list next ++ steps.others) new
+  by_next : (pairs : List Pair) (pair : Pair) (next : Option TreeSource) → IsSourceOf bytes pairs steps.source → AdvancesTo v steps.source.tree.value next → IsPermutation (option_to_list next ++ steps.others) new
       → Contains (drop steps.source.tree.value.passed pairs) pair → IsStillGiven bytes pairs new pair
-  by_next pairs pair None is goes put has = absurd (contains_none (drop steps.source.tree.value.passed pairs) pair (goes.1 bytes pairs own_reads is.tree) has)
-  by_next pairs pair (Some next) is goes put has = record {
+  by_next pairs pair None is advances put has = absurd (contains_none (drop steps.source.tree.value.passed pairs) pair (advances.1 bytes pairs own_reads is.tree) has)
+  by_next pairs pair (Some next) is advances put has = record {
     source = next;
     there = Contains-permutation (next ∷ steps.others) new next put (contains_first next steps.others);
-    is = next_is pairs next is goes;
-    gives = subst (λ (l : List Pair). Contains l pair) (goes.3 bytes pairs own_reads is.tree) has;
+    is = next_is pairs next is advances;
+    gives = subst (λ (l : List Pair). Contains l pair) (advances.3 bytes pairs own_reads is.tree) has;
   }
 
   still_given : (last_now : Option Pair) (floor_now : ℕ) → is_left last_now floor_now head ≡ false → (pairs : List Pair) (pair : Pair) → is_left last_now floor_now pair ≡ true → IsStillGiven bytes pairs old pair → IsStillGiven bytes pairs new pair
   still_given last_now floor_now gone pairs pair left was = ⊎_elim
       (λ this.
-      let is : IsSourceOf bytes pairs steps.source = subst (λ (s : Source). IsSourceOf bytes pairs s) (sym this) was.is in
-      let has : Contains (steps.source.head ∷ drop steps.source.tree.value.passed pairs) pair = subst (λ (s : Source). Contains (s.head ∷ drop s.tree.value.passed pairs) pair) (sym this) was.gives in
+      let is : IsSourceOf bytes pairs steps.source = subst (λ (s : TreeSource). IsSourceOf bytes pairs s) (sym this) was.is in
+      let has : Contains (steps.source.head ∷ drop steps.source.tree.value.passed pairs) pair = subst (λ (s : TreeSource). Contains (s.head ∷ drop s.tree.value.passed pairs) pair) (sym this) was.gives in
       ⊎_elim
       (λ first. absurd (differ (sym left ∙ ap (λ (p : Pair). is_left last_now floor_now p) (sym first ∙ sym steps.head_is) ∙ gone)))
-      (λ later. by_next pairs pair steps.next is steps.goes steps.put later)
+      (λ later. by_next pairs pair steps.next is steps.advances steps.put later)
       (contains_cases steps.source.head pair (drop steps.source.tree.value.passed pairs) has))
       (λ other. record { source = was.source; there = other_there was.source other; is = was.is; gives = was.gives })
       (contains_cases steps.source was.source steps.others (Contains-permutation old (steps.source ∷ steps.others) was.source steps.taken was.there))
@@ -138,7 +138,7 @@ module _ (v : View) (file : FileName) (bytes : Bytes) (lists : List (List Pair))
   gives_on last floor last_now floor_now gives fewer gone = record { each = each_on; all = λ pairs pair listed has left. still_given last_now floor_now gone pairs pair left (gives.all pairs pair listed has (fewer pair left)) }
 
 -- where no source is left, no pair is
-pub gives_none : (bytes : Bytes) (lists : List (List Pair)) (last : Option Pair) (floor : ℕ) (sources : List Source) → sources ≡ [] → Gives bytes lists last floor sources → IsLeast lists last floor None
+pub gives_none : (bytes : Bytes) (lists : List (List Pair)) (last : Option Pair) (floor : ℕ) (sources : List TreeSource) → sources ≡ [] → Gives bytes lists last floor sources → IsLeast lists last floor None
 gives_none bytes lists last floor sources none gives = λ pair of. by_test (is_left last floor pair) refl of
   where
     by_test : {pair : Pair} (test : Bool) → is_left last floor pair ≡ test → IsPairOf lists pair → is_left last floor pair ≡ false
@@ -150,23 +150,23 @@ gives_none bytes lists last floor sources none gives = λ pair of. by_test (is_l
 one_list : (pairs these : List Pair) → Contains (pairs ∷ []) these → these ≡ pairs
 one_list pairs these has = ⊎_elim (λ same. sym same) (λ none. absurd (contains_none [] these refl none)) (contains_cases pairs these [] has)
 
-pub adds_list : (v : View) (file : FileName) (bytes : Bytes) (lists : List (List Pair)) (last : Option Pair) (floor : ℕ) (list : TreeRef) (pairs : List Pair) (old new : List Source) → Adds v file list old new
+pub adds_list : (v : View) (file : FileName) (bytes : Bytes) (lists : List (List Pair)) (last : Option Pair) (floor : ℕ) (list : TreeRef) (pairs : List Pair) (old new : List TreeSource) → Adds v file list old new
     → contents v file ≡ Some bytes → HasTree bytes list pairs → Gives bytes lists last floor old → Gives bytes (lists ++ pairs ∷ []) last floor new
-adds_list v file bytes lists last floor list pairs old new adds reads tree gives = from adds.next adds.goes adds.put
+adds_list v file bytes lists last floor list pairs old new adds reads tree gives = from adds.next adds.advances adds.put
   where
     kept : All (IsSourceIn bytes (lists ++ pairs ∷ [])) old
     kept = All-weaker (IsSourceIn bytes lists) (IsSourceIn bytes (lists ++ pairs ∷ [])) (λ s is. record { pairs = is.pairs; listed = Contains-append_left lists (pairs ∷ []) is.pairs is.listed; is = is.is }) old gives.each
 
-    from : (next : Option Source) → GoesOn v (record { buffered = record { file = file; page = None; bytes = [] }; tree = list; passed = 0 }) next → IsPermutation (option_to_list next ++ old) new → Gives bytes (lists ++ pairs ∷ []) last floor new
-    from None goes put = record {
+    from : (next : Option TreeSource) → AdvancesTo v (record { buffered = record { file = file; page = None; bytes = [] }; tree = list; passed = 0 }) next → IsPermutation (option_to_list next ++ old) new → Gives bytes (lists ++ pairs ∷ []) last floor new
+    from None advances put = record {
       each = All-permutation (IsSourceIn bytes (lists ++ pairs ∷ [])) old new put kept;
       all = λ these pair listed has left. ⊎_elim
           (λ before. let was = gives.all these pair before has left in record { source = was.source; there = Contains-permutation old new was.source put was.there; is = was.is; gives = was.gives })
-          (λ this. absurd (contains_none these pair (one_list pairs these this ∙ goes.1 bytes pairs reads tree) has))
+          (λ this. absurd (contains_none these pair (one_list pairs these this ∙ advances.1 bytes pairs reads tree) has))
           (Contains-append_cases lists (pairs ∷ []) these listed);
     }
-    from (Some next) goes put =
-        let is : IsSourceOf bytes pairs next = record { tree = subst (λ (t : TreeRef). HasTree bytes t pairs) (sym goes.0) tree; before = 0; left = goes.3 bytes pairs reads tree } in
+    from (Some next) advances put =
+        let is : IsSourceOf bytes pairs next = record { tree = subst (λ (t : TreeRef). HasTree bytes t pairs) (sym advances.0) tree; before = 0; left = advances.3 bytes pairs reads tree } in
         record {
           each = All-permutation (IsSourceIn bytes (lists ++ pairs ∷ [])) (next ∷ old) new put
               (All-cons (IsSourceIn bytes (lists ++ pairs ∷ [])) next old (record { pairs = pairs; listed = Contains-push lists pairs; is = is }) kept);
@@ -182,28 +182,28 @@ adds_list v file bytes lists last floor list pairs old new adds reads tree gives
                 there = Contains-permutation (next ∷ old) new next put (contains_first next old);
                 is = subst (λ (l : List Pair). IsSourceOf bytes l next) (sym same) is;
                 gives = subst (λ (l : List Pair). Contains (next.head ∷ drop next.tree.value.passed l) pair) (sym same)
-                    (subst (λ (l : List Pair). Contains l pair) (goes.3 bytes pairs reads tree) (subst (λ (l : List Pair). Contains l pair) same has));
+                    (subst (λ (l : List Pair). Contains l pair) (advances.3 bytes pairs reads tree) (subst (λ (l : List Pair). Contains l pair) same has));
               })
               (Contains-append_cases lists (pairs ∷ []) these listed);
         }
 
 -- ---- how many pairs are left
 
-pub fewer_left : (v : View) (head : Pair) (old new : List Source) → StepsBy v head old new → All (λ (s : Source). s.tree.value.passed ≤ s.tree.value.tree.pairs) old → left_of new < left_of old
-fewer_left v head old new steps within = from steps.next steps.goes steps.put
+pub fewer_left : (v : View) (head : Pair) (old new : List TreeSource) → StepsBy v head old new → All (λ (s : TreeSource). s.tree.value.passed ≤ s.tree.value.tree.pairs) old → left_of new < left_of old
+fewer_left v head old new steps within = from steps.next steps.advances steps.put
   where
     gone : left_of steps.others + left_in steps.source ≡ left_of old
     gone = sum_by_popped left_in steps.source old steps.others steps.taken
 
-    from : (next : Option Source) → GoesOn v steps.source.tree.value next → IsPermutation (option_to_list next ++ steps.others) new → left_of new < left_of old
-    from None goes put = omega (arith, gone, sum_by-IsPermutation left_in steps.others new put)
-    from (Some next) goes put =
-        let less : left_in next < left_in steps.source = omega (arith, ap (λ (t : TreeRef). t.pairs) goes.0, goes.1, goes.2) in
+    from : (next : Option TreeSource) → AdvancesTo v steps.source.tree.value next → IsPermutation (option_to_list next ++ steps.others) new → left_of new < left_of old
+    from None advances put = omega (arith, gone, sum_by-IsPermutation left_in steps.others new put)
+    from (Some next) advances put =
+        let less : left_in next < left_in steps.source = omega (arith, ap (λ (t : TreeRef). t.pairs) advances.0, advances.1, advances.2) in
         omega (arith, gone, less, sum_by_pushed left_in next steps.others new put)
 
 -- ---- where the folder stays
 
-at_head_still : (a b : View) (file : FileName) (source : Source) → Changes Same a b → IsAtHead a file source → IsAtHead b file source
+at_head_still : (a b : View) (file : FileName) (source : TreeSource) → Changes Same a b → IsAtHead a file source → IsAtHead b file source
 at_head_still a b file source same is = record {
   passed = is.passed;
   stands = (is.stands.0, is.stands.1, λ bytes told. is.stands.2 bytes (sym (contents_same a b file same) ∙ told));
@@ -216,15 +216,15 @@ merge_still a b merge same can = record {
       (λ s is. record { named = is.named; buffered = buffered_after s.tree.value.buffered a b same is.buffered; at_head = at_head_still a b merge.file s same is.at_head }) (sources_of merge) can.each;
 }
 
--- ---- a scan goes on
+-- ---- a scan advances
 
-pub goes_none : (v : View) (scan after : PairScan) (found : Option Pair) → found ≡ None → ReadsNextPair v scan.buffered.file scan.tree scan.passed after.passed found → PassesOne scan after found → GoesOn v scan None
-goes_none v scan after found is reads ends =
+pub advances_to_none : (v : View) (scan after : PairScan) (found : Option Pair) → found ≡ None → ReadsNextPair v scan.buffered.file scan.tree scan.passed after.passed found → PassesOne scan after found → AdvancesTo v scan None
+advances_to_none v scan after found is reads ends =
     ((subst (λ (o : Option Pair). PassesOne scan after o) is ends).0, λ bytes pairs told has. (subst (λ (o : Option Pair). StepsToPair pairs scan.passed after.passed o) is (reads bytes pairs told has)).0)
 
-pub goes_some : (v : View) (scan : PairScan) (next : Source) (found : Option Pair) → found ≡ Some next.head → ReadsNextPair v scan.buffered.file scan.tree scan.passed next.tree.value.passed found
-    → next.tree.value.tree ≡ scan.tree → PassesOne scan next.tree.value found → (IsSome found → HasPassed next.tree.value.tree next.tree.value.passed) → GoesOn v scan (Some next)
-goes_some v scan next found is reads same ends passed =
+pub advances_to_some : (v : View) (scan : PairScan) (next : TreeSource) (found : Option Pair) → found ≡ Some next.head → ReadsNextPair v scan.buffered.file scan.tree scan.passed next.tree.value.passed found
+    → next.tree.value.tree ≡ scan.tree → PassesOne scan next.tree.value found → (IsSome found → HasPassed next.tree.value.tree next.tree.value.passed) → AdvancesTo v scan (Some next)
+advances_to_some v scan next found is reads same ends passed =
     let there : IsSome found = subst (λ (o : Option Pair). IsSome o) (sym is) refl in
     let within = (passed there).within in
     (same, (subst (λ (o : Option Pair). PassesOne scan next.tree.value o) is ends).1, omega (arith, within, ap (λ (t : TreeRef). t.pairs) same), λ bytes pairs told has. subst (λ (o : Option Pair). StepsToPair pairs scan.passed next.tree.value.passed o) is (reads bytes pairs told has))
@@ -232,18 +232,18 @@ goes_some v scan next found is reads same ends passed =
 -- ---- one source more or less
 
 -- the source that a scan gives
-pub source_readable : (v b : View) (file : FileName) (scan : PairScan) (found : Option Source) (source : Source) → Changes Same v b → found ≡ Some source → scan.buffered.file ≡ file → IfSome found (λ (s : Source). s.tree.value.buffered.file ≡ scan.buffered.file)
-    → IfSome found (λ (s : Source). IsBuffered s.tree.value.buffered b.files) → IfSome found (IsAtHead v scan.buffered.file) → IsReadable b file source
+pub source_readable : (v b : View) (file : FileName) (scan : PairScan) (found : Option TreeSource) (source : TreeSource) → Changes Same v b → found ≡ Some source → scan.buffered.file ≡ file → IfSome found (λ (s : TreeSource). s.tree.value.buffered.file ≡ scan.buffered.file)
+    → IfSome found (λ (s : TreeSource). IsBuffered s.tree.value.buffered b.files) → IfSome found (IsAtHead v scan.buffered.file) → IsReadable b file source
 source_readable v b file scan found source same is scanned named buffered at_head =
-    let here : source.tree.value.buffered.file ≡ scan.buffered.file = subst (λ (o : Option Source). IfSome o (λ (s : Source). s.tree.value.buffered.file ≡ scan.buffered.file)) is named in
-    let at : IsAtHead v scan.buffered.file source = subst (λ (o : Option Source). IfSome o (IsAtHead v scan.buffered.file)) is at_head in
+    let here : source.tree.value.buffered.file ≡ scan.buffered.file = subst (λ (o : Option TreeSource). IfSome o (λ (s : TreeSource). s.tree.value.buffered.file ≡ scan.buffered.file)) is named in
+    let at : IsAtHead v scan.buffered.file source = subst (λ (o : Option TreeSource). IfSome o (IsAtHead v scan.buffered.file)) is at_head in
     record {
       named = here ∙ scanned;
-      buffered = subst (λ (o : Option Source). IfSome o (λ (s : Source). IsBuffered s.tree.value.buffered b.files)) is buffered;
+      buffered = subst (λ (o : Option TreeSource). IfSome o (λ (s : TreeSource). IsBuffered s.tree.value.buffered b.files)) is buffered;
       at_head = at_head_still v b file source same (subst (λ (n : FileName). IsAtHead v n source) scanned at);
     }
 
-pub can_add : (a b : View) (merge new : TreeMerge) (source : Source) → CanMerge a merge → Changes Same a b → KeepsHeap source_cmp (sources_of merge) (sources_of new) → IsPermutation (source ∷ sources_of merge) (sources_of new) → new.file ≡ merge.file
+pub can_add : (a b : View) (merge new : TreeMerge) (source : TreeSource) → CanMerge a merge → Changes Same a b → KeepsHeap source_cmp (sources_of merge) (sources_of new) → IsPermutation (source ∷ sources_of merge) (sources_of new) → new.file ≡ merge.file
     → IsReadable b merge.file source → CanMerge b new
 can_add a b merge new source can same keeps put file readable =
     let now = merge_still a b merge same can in
@@ -253,10 +253,10 @@ can_add a b merge new source can same keeps put file readable =
           (All-permutation (IsReadable b merge.file) (source ∷ sources_of merge) (sources_of new) put (All-cons (IsReadable b merge.file) source (sources_of merge) readable now.each));
     }
 
-pub first_readable : (v : View) (merge : TreeMerge) (source : Source) (others : List Source) → CanMerge v merge → IsPermutation (sources_of merge) (source ∷ others) → IsReadable v merge.file source
+pub first_readable : (v : View) (merge : TreeMerge) (source : TreeSource) (others : List TreeSource) → CanMerge v merge → IsPermutation (sources_of merge) (source ∷ others) → IsReadable v merge.file source
 first_readable v merge source others can taken = All-head (IsReadable v merge.file) source others (All-permutation (IsReadable v merge.file) (sources_of merge) (source ∷ others) taken can.each)
 
-pub rest_can : (a b : View) (merge new : TreeMerge) (source : Source) → CanMerge a merge → Changes Same a b → IsPermutation (sources_of merge) (source ∷ sources_of new) → IsHeap source_cmp (sources_of new) → new.file ≡ merge.file → CanMerge b new
+pub rest_can : (a b : View) (merge new : TreeMerge) (source : TreeSource) → CanMerge a merge → Changes Same a b → IsPermutation (sources_of merge) (source ∷ sources_of new) → IsHeap source_cmp (sources_of new) → new.file ≡ merge.file → CanMerge b new
 rest_can a b merge new source can same taken heap file =
     let now = merge_still a b merge same can in
     record {
@@ -267,119 +267,119 @@ rest_can a b merge new source can same taken heap file =
 
 -- ---- reads
 
-pub add_reads : (before after : ℕ) (v : View) (scan : PairScan) (source : Source) (old new : List Source) → GoesOn v scan (Some source) → scan.passed ≡ 0 → IsPermutation (source ∷ old) new → after ≤ before + 2
+pub add_reads : (before after : ℕ) (v : View) (scan : PairScan) (source : TreeSource) (old new : List TreeSource) → AdvancesTo v scan (Some source) → scan.passed ≡ 0 → IsPermutation (source ∷ old) new → after ≤ before + 2
     → after + 2 * unread_of new ≤ before + 2 * unread_of old + 2 * scan.tree.pairs
-add_reads before after v scan source old new goes first put cost =
-    omega (arith, sum_by_pushed unread_in source old new put, ap (λ (t : TreeRef). t.pairs) goes.0, goes.1, goes.2, first, cost)
+add_reads before after v scan source old new advances first put cost =
+    omega (arith, sum_by_pushed unread_in source old new put, ap (λ (t : TreeRef). t.pairs) advances.0, advances.1, advances.2, first, cost)
 
-pub tree_pairs : (before after : ℕ) (v : View) (scan : PairScan) (list : TreeRef) (source : Source) (old new : List Source) {file : FileName} → scan ≡ record { buffered = record { file = file; page = None; bytes = [] }; tree = list; passed = 0 }
-    → GoesOn v scan (Some source) → IsPermutation (source ∷ old) new → after ≤ before + 2 → after + 2 * unread_of new ≤ before + 2 * unread_of old + 2 * list.pairs
-tree_pairs before after v scan list source old new is goes put cost =
-    omega (arith, add_reads before after v scan source old new goes (ap (λ (s : PairScan). s.passed) is) put cost, ap (λ (s : PairScan). s.tree.pairs) is)
+pub tree_pairs : (before after : ℕ) (v : View) (scan : PairScan) (list : TreeRef) (source : TreeSource) (old new : List TreeSource) {file : FileName} → scan ≡ record { buffered = record { file = file; page = None; bytes = [] }; tree = list; passed = 0 }
+    → AdvancesTo v scan (Some source) → IsPermutation (source ∷ old) new → after ≤ before + 2 → after + 2 * unread_of new ≤ before + 2 * unread_of old + 2 * list.pairs
+tree_pairs before after v scan list source old new is advances put cost =
+    omega (arith, add_reads before after v scan source old new advances (ap (λ (s : PairScan). s.passed) is) put cost, ap (λ (s : PairScan). s.tree.pairs) is)
 
-pub ended_reads : (before after : ℕ) (source : Source) (old others : List Source) → IsPermutation old (source ∷ others) → after ≤ before + 2 → (source.tree.value.tree.pairs ≤ source.tree.value.passed → after ≡ before)
+pub ended_reads : (before after : ℕ) (source : TreeSource) (old others : List TreeSource) → IsPermutation old (source ∷ others) → after ≤ before + 2 → (source.tree.value.tree.pairs ≤ source.tree.value.passed → after ≡ before)
     → after + 2 * unread_of others ≤ before + 2 * unread_of old
 ended_reads before after source old others taken cost ended = ⊎_elim
     (λ over. omega (arith, sum_by_popped unread_in source old others taken, ended over.1))
     (λ more. omega (arith, sum_by_popped unread_in source old others taken, more.1, cost))
     (leb_tells source.tree.value.tree.pairs source.tree.value.passed)
 
-pub step_reads : (before after : ℕ) (v : View) (source next : Source) (old others new : List Source) → IsPermutation old (source ∷ others) → IsPermutation (next ∷ others) new → GoesOn v source.tree.value (Some next) → after ≤ before + 2
+pub step_reads : (before after : ℕ) (v : View) (source next : TreeSource) (old others new : List TreeSource) → IsPermutation old (source ∷ others) → IsPermutation (next ∷ others) new → AdvancesTo v source.tree.value (Some next) → after ≤ before + 2
     → after + 2 * unread_of new ≤ before + 2 * unread_of old
-step_reads before after v source next old others new taken put goes cost =
-    omega (arith, sum_by_popped unread_in source old others taken, sum_by_pushed unread_in next others new put, ap (λ (t : TreeRef). t.pairs) goes.0, goes.1, goes.2, cost)
+step_reads before after v source next old others new taken put advances cost =
+    omega (arith, sum_by_popped unread_in source old others taken, sum_by_pushed unread_in next others new put, ap (λ (t : TreeRef). t.pairs) advances.0, advances.1, advances.2, cost)
 
 -- ---- damage
 
-pub head_shown : (v : View) (file : FileName) (source : Source) (old others : List Source) (f : ReadFault) → IsPermutation old (source ∷ others) → DamageShown v file (ShowsPairs file source.tree.value.tree) f → DamageShown v file (ShowsSources old file) f
+pub head_shown : (v : View) (file : FileName) (source : TreeSource) (old others : List TreeSource) (f : ReadFault) → IsPermutation old (source ∷ others) → DamageShown v file (ShowsPairs file source.tree.value.tree) f → DamageShown v file (ShowsSources old file) f
 head_shown v file source old others f taken shown =
     shown_as (ShowsPairs file source.tree.value.tree) (ShowsSources old file) v file f
     (λ bytes damage is shows. record { source = source; there = Contains-permutation (source ∷ others) old source (IsPermutation-sym old (source ∷ others) taken) (contains_first source others); shows = shows })
     shown
 
-pub head_spares : (v : View) (file : FileName) (source : Source) (old others : List Source) (f : ReadFault) → IsPermutation old (source ∷ others) → NoFalseSourceDamage v file source f → NoFalseDamageOf v file old f
-head_spares v file source old others fault.Failed taken right = tt
-head_spares v file source old others fault.OutOfMemory taken right = tt
-head_spares v file source old others (fault.Damaged damage) taken right = λ bytes lists is each.
+pub no_false_head : (v : View) (file : FileName) (source : TreeSource) (old others : List TreeSource) (f : ReadFault) → IsPermutation old (source ∷ others) → NoFalseSourceDamage v file source f → NoFalseDamageOf v file old f
+no_false_head v file source old others fault.Failed taken right = tt
+no_false_head v file source old others fault.OutOfMemory taken right = tt
+no_false_head v file source old others (fault.Damaged damage) taken right = λ bytes lists is each.
     (let own = All-contains (IsSourceIn bytes lists) old source each (Contains-permutation (source ∷ others) old source (IsPermutation-sym old (source ∷ others) taken) (contains_first source others)) in
     right bytes own.pairs is own.is)
 
 -- ---- trees
 
-pub trees_same : (sources : List Source) → TreesStay sources sources
-trees_same sources = All-weaker (Contains sources) (λ (s : Source). (was : Source) × Contains sources was × (s.tree.value.tree ≡ was.tree.value.tree)) (λ s has. (s, has, refl)) sources (All-contains_itself sources)
+pub trees_same : (sources : List TreeSource) → TreesStay sources sources
+trees_same sources = All-weaker (Contains sources) (λ (s : TreeSource). (was : TreeSource) × Contains sources was × (s.tree.value.tree ≡ was.tree.value.tree)) (λ s has. (s, has, refl)) sources (All-contains_itself sources)
 
-pub trees_on : (a b c : List Source) → TreesStay a b → TreesStay b c → TreesStay a c
+pub trees_on : (a b c : List TreeSource) → TreesStay a b → TreesStay b c → TreesStay a c
 trees_on a b c first second =
-    All-weaker (λ (s : Source). (was : Source) × Contains b was × (s.tree.value.tree ≡ was.tree.value.tree)) (λ (s : Source). (was : Source) × Contains a was × (s.tree.value.tree ≡ was.tree.value.tree))
-    (λ s has. (let before = All-contains (λ (t : Source). (was : Source) × Contains a was × (t.tree.value.tree ≡ was.tree.value.tree)) b has.0 first has.1 in (before.0, before.1, has.2 ∙ before.2))) c second
+    All-weaker (λ (s : TreeSource). (was : TreeSource) × Contains b was × (s.tree.value.tree ≡ was.tree.value.tree)) (λ (s : TreeSource). (was : TreeSource) × Contains a was × (s.tree.value.tree ≡ was.tree.value.tree))
+    (λ s has. (let before = All-contains (λ (t : TreeSource). (was : TreeSource) × Contains a was × (t.tree.value.tree ≡ was.tree.value.tree)) b has.0 first has.1 in (before.0, before.1, has.2 ∙ before.2))) c second
 
-next_tree : (v : View) (old : List Source) (source : Source) (next : Option Source) → GoesOn v source.tree.value next → Contains old source → All (λ (s : Source). (was : Source) × Contains old was × (s.tree.value.tree ≡ was.tree.value.tree)) (option_to_list next)
-next_tree v old source None goes there = All-nil (λ (s : Source). (was : Source) × Contains old was × (s.tree.value.tree ≡ was.tree.value.tree))
-next_tree v old source (Some next) goes there =
-    All-cons (λ (s : Source). (was : Source) × Contains old was × (s.tree.value.tree ≡ was.tree.value.tree)) next [] (source, there, goes.0) (All-nil (λ (s : Source). (was : Source) × Contains old was × (s.tree.value.tree ≡ was.tree.value.tree)))
+next_tree : (v : View) (old : List TreeSource) (source : TreeSource) (next : Option TreeSource) → AdvancesTo v source.tree.value next → Contains old source → All (λ (s : TreeSource). (was : TreeSource) × Contains old was × (s.tree.value.tree ≡ was.tree.value.tree)) (option_to_list next)
+next_tree v old source None advances there = All-nil (λ (s : TreeSource). (was : TreeSource) × Contains old was × (s.tree.value.tree ≡ was.tree.value.tree))
+next_tree v old source (Some next) advances there =
+    All-cons (λ (s : TreeSource). (was : TreeSource) × Contains old was × (s.tree.value.tree ≡ was.tree.value.tree)) next [] (source, there, advances.0) (All-nil (λ (s : TreeSource). (was : TreeSource) × Contains old was × (s.tree.value.tree ≡ was.tree.value.tree)))
 
-pub trees_step : (v : View) (head : Pair) (old new : List Source) → StepsBy v head old new → TreesStay old new
-trees_step v head old new steps = from steps.next steps.goes steps.put
+pub trees_step : (v : View) (head : Pair) (old new : List TreeSource) → StepsBy v head old new → TreesStay old new
+trees_step v head old new steps = from steps.next steps.advances steps.put
   where
-    from : (next : Option Source) → GoesOn v steps.source.tree.value next → IsPermutation (option_to_list next ++ steps.others) new → TreesStay old new
-    from next goes put =
-        let P = λ (s : Source). (was : Source) × Contains old was × (s.tree.value.tree ≡ was.tree.value.tree) in
-        let back = λ (s : Source) (has : Contains (steps.source ∷ steps.others) s). Contains-permutation (steps.source ∷ steps.others) old s (IsPermutation-sym old (steps.source ∷ steps.others) steps.taken) has in
+    from : (next : Option TreeSource) → AdvancesTo v steps.source.tree.value next → IsPermutation (option_to_list next ++ steps.others) new → TreesStay old new
+    from next advances put =
+        let P = λ (s : TreeSource). (was : TreeSource) × Contains old was × (s.tree.value.tree ≡ was.tree.value.tree) in
+        let back = λ (s : TreeSource) (has : Contains (steps.source ∷ steps.others) s). Contains-permutation (steps.source ∷ steps.others) old s (IsPermutation-sym old (steps.source ∷ steps.others) steps.taken) has in
         All-permutation P (option_to_list next ++ steps.others) new put
-        (All-append P (option_to_list next) steps.others (next_tree v old steps.source next goes (back steps.source (contains_first steps.source steps.others)))
+        (All-append P (option_to_list next) steps.others (next_tree v old steps.source next advances (back steps.source (contains_first steps.source steps.others)))
         (All-weaker (Contains steps.others) P (λ s has. (s, back s (contains_later steps.source s steps.others has), refl)) steps.others (All-contains_itself steps.others)))
 
-pub named_all : (v : View) (merge : TreeMerge) → CanMerge v merge → All (λ (s : Source). s.tree.value.buffered.file ≡ merge.file) (sources_of merge)
-named_all v merge can = All-weaker (IsReadable v merge.file) (λ (s : Source). s.tree.value.buffered.file ≡ merge.file) (λ s is. is.named) (sources_of merge) can.each
+pub named_all : (v : View) (merge : TreeMerge) → CanMerge v merge → All (λ (s : TreeSource). s.tree.value.buffered.file ≡ merge.file) (sources_of merge)
+named_all v merge can = All-weaker (IsReadable v merge.file) (λ (s : TreeSource). s.tree.value.buffered.file ≡ merge.file) (λ s is. is.named) (sources_of merge) can.each
 
-pub within_all : (v : View) (merge : TreeMerge) → CanMerge v merge → All (λ (s : Source). s.tree.value.passed ≤ s.tree.value.tree.pairs) (sources_of merge)
-within_all v merge can = All-weaker (IsReadable v merge.file) (λ (s : Source). s.tree.value.passed ≤ s.tree.value.tree.pairs) (λ s is. is.at_head.passed.within) (sources_of merge) can.each
+pub within_all : (v : View) (merge : TreeMerge) → CanMerge v merge → All (λ (s : TreeSource). s.tree.value.passed ≤ s.tree.value.tree.pairs) (sources_of merge)
+within_all v merge can = All-weaker (IsReadable v merge.file) (λ (s : TreeSource). s.tree.value.passed ≤ s.tree.value.tree.pairs) (λ s is. is.at_head.passed.within) (sources_of merge) can.each
 
 pub left_same : (last now : Option Pair) (floor floor_now : ℕ) (pair : Pair) → now ≡ last → floor_now ≡ floor → is_left now floor_now pair ≡ is_left last floor pair
 left_same last now floor floor_now pair same below = ap (λ (l : Option Pair). is_left l floor_now pair) same ∙ ap (λ (n : ℕ). is_left last n pair) below
 
 -- the damage of a source was that of one of the sources before, whose trees these are
-pub shown_of : (a b : View) (file now : FileName) (old new : List Source) (f : ReadFault) → TreesStay old new → Changes Same a b → now ≡ file → DamageShown b now (ShowsSources new now) f → DamageShown a file (ShowsSources old file) f
+pub shown_of : (a b : View) (file now : FileName) (old new : List TreeSource) (f : ReadFault) → TreesStay old new → Changes Same a b → now ≡ file → DamageShown b now (ShowsSources new now) f → DamageShown a file (ShowsSources old file) f
 shown_of a b file now old new f stay same named shown =
     shown_before (ShowsSources old file) a b file f same
     (shown_as (ShowsSources new file) (ShowsSources old file) b file f
-    (λ bytes damage is shows. (let was = All-contains (λ (s : Source). (t : Source) × Contains old t × (s.tree.value.tree ≡ t.tree.value.tree)) new shows.source stay shows.there in
+    (λ bytes damage is shows. (let was = All-contains (λ (s : TreeSource). (t : TreeSource) × Contains old t × (s.tree.value.tree ≡ t.tree.value.tree)) new shows.source stay shows.there in
     record { source = was.0; there = was.1; shows = subst (λ (t : TreeRef). ShowsPairs file t bytes damage) was.2 shows.shows }))
     (subst (λ (n : FileName). DamageShown b n (ShowsSources new n) f) named shown))
 
-pub spares_of : (a b : View) (file now : FileName) (old new : List Source) (f : ReadFault) → ((bytes : Bytes) (lists : List (List Pair)) → contents a file ≡ Some bytes → All (IsSourceIn bytes lists) old → All (IsSourceIn bytes lists) new)
+pub no_false_of : (a b : View) (file now : FileName) (old new : List TreeSource) (f : ReadFault) → ((bytes : Bytes) (lists : List (List Pair)) → contents a file ≡ Some bytes → All (IsSourceIn bytes lists) old → All (IsSourceIn bytes lists) new)
     → Changes Same a b → now ≡ file → NoFalseDamageOf b now new f → NoFalseDamageOf a file old f
-spares_of a b file now old new fault.Failed stay same named right = tt
-spares_of a b file now old new fault.OutOfMemory stay same named right = tt
-spares_of a b file now old new (fault.Damaged damage) stay same named right = λ bytes lists is each. right bytes lists (reads_still a b file now bytes same named is) (stay bytes lists is each)
+no_false_of a b file now old new fault.Failed stay same named right = tt
+no_false_of a b file now old new fault.OutOfMemory stay same named right = tt
+no_false_of a b file now old new (fault.Damaged damage) stay same named right = λ bytes lists is each. right bytes lists (reads_still a b file now bytes same named is) (stay bytes lists is each)
 
 -- ---- no entry is lost
 
-pub each_none : (v : View) (file : FileName) (sources : List Source) → ReadsEach v file sources sources
+pub each_none : (v : View) (file : FileName) (sources : List TreeSource) → ReadsEach v file sources sources
 each_none v file sources source index there low high = inr (source, there, refl, low)
 
-module _ (v u w : View) (file : FileName) (head : Pair) (mid new : List Source) (merge : TreeMerge) (steps : StepsBy w head mid new) (can : CanMerge u merge) (are : sources_of merge ≡ new) (file_is : merge.file ≡ file) (same : Changes Same v u) where
+module _ (v u w : View) (file : FileName) (head : Pair) (mid new : List TreeSource) (merge : TreeMerge) (steps : StepsBy w head mid new) (can : CanMerge u merge) (are : sources_of merge ≡ new) (file_is : merge.file ≡ file) (same : Changes Same v u) where
   -- the source with the least pair read its next entry, or is at its end
-  read_or_later : (index : ℕ) (next : Option Source) → GoesOn w steps.source.tree.value next → IsPermutation (option_to_list next ++ steps.others) new → steps.source.tree.value.passed ≤ index → index < steps.source.tree.value.tree.pairs
+  read_or_later : (index : ℕ) (next : Option TreeSource) → AdvancesTo w steps.source.tree.value next → IsPermutation (option_to_list next ++ steps.others) new → steps.source.tree.value.passed ≤ index → index < steps.source.tree.value.tree.pairs
       → IsRead v file steps.source.tree.value.tree index ⊎ IsStillRead new steps.source.tree.value.tree index
-  read_or_later index None goes put low high = absurd (omega (arith, goes.0, low, high))
-  read_or_later index (Some next) goes put low high = ⊎_elim
-      (λ later. inr (next, there, goes.0, omega (arith, goes.1, later.1)))
+  read_or_later index None advances put low high = absurd (omega (arith, advances.0, low, high))
+  read_or_later index (Some next) advances put low high = ⊎_elim
+      (λ later. inr (next, there, advances.0, omega (arith, advances.1, later.1)))
       (λ early.
-      let at : IsAtHead u file next = subst (λ (n : FileName). IsAtHead u n next) file_is (All-contains (IsReadable u merge.file) (sources_of merge) next can.each (subst (λ (l : List Source). Contains l next) (sym are) there)).at_head in
-      let one : at.stands.0 ≡ index = omega (arith, at.stands.1, goes.1, low, early.1) in
+      let at : IsAtHead u file next = subst (λ (n : FileName). IsAtHead u n next) file_is (All-contains (IsReadable u merge.file) (sources_of merge) next can.each (subst (λ (l : List TreeSource). Contains l next) (sym are) there)).at_head in
+      let one : at.stands.0 ≡ index = omega (arith, at.stands.1, advances.1, low, early.1) in
       inl (
         next.head,
         λ bytes is. subst (λ (n : ℕ). HasEntry bytes steps.source.tree.value.tree n next.head) one
-            (subst (λ (t : TreeRef). HasEntry bytes t at.stands.0 next.head) goes.0 (at.stands.2 bytes (contents_same v u file same ∙ is))),
+            (subst (λ (t : TreeRef). HasEntry bytes t at.stands.0 next.head) advances.0 (at.stands.2 bytes (contents_same v u file same ∙ is))),
       ))
       (leb_tells (steps.source.tree.value.passed + 1) index)
     where
       there : Contains new next
       there = Contains-permutation (next ∷ steps.others) new next put (contains_first next steps.others)
 
-  pub each_step : (old : List Source) → ReadsEach v file old mid → ReadsEach v file old new
+  pub each_step : (old : List TreeSource) → ReadsEach v file old mid → ReadsEach v file old new
   each_step old was source index there low high = ⊎_elim
       (λ read. inl read)
       (λ still.
@@ -387,10 +387,10 @@ module _ (v u w : View) (file : FileName) (head : Pair) (mid new : List Source) 
       let within : index < still.0.tree.value.tree.pairs = omega (arith, high, ap (λ (t : TreeRef). t.pairs) tree_is) in
       ⊎_elim
       (λ this.
-      let own_tree : steps.source.tree.value.tree ≡ source.tree.value.tree = ap (λ (s : Source). s.tree.value.tree) this ∙ tree_is in
-      let passed_is : steps.source.tree.value.passed ≡ still.0.tree.value.passed = ap (λ (s : Source). s.tree.value.passed) this in
+      let own_tree : steps.source.tree.value.tree ≡ source.tree.value.tree = ap (λ (s : TreeSource). s.tree.value.tree) this ∙ tree_is in
+      let passed_is : steps.source.tree.value.passed ≡ still.0.tree.value.passed = ap (λ (s : TreeSource). s.tree.value.passed) this in
       subst (λ (t : TreeRef). IsRead v file t index ⊎ IsStillRead new t index) own_tree
-      (read_or_later index steps.next steps.goes steps.put (omega (arith, passed_is, still.3)) (omega (arith, high, ap (λ (t : TreeRef). t.pairs) own_tree))))
+      (read_or_later index steps.next steps.advances steps.put (omega (arith, passed_is, still.3)) (omega (arith, high, ap (λ (t : TreeRef). t.pairs) own_tree))))
       (λ other. inr (still.0, Contains-permutation (option_to_list steps.next ++ steps.others) new still.0 steps.put (Contains-append_right (option_to_list steps.next) steps.others still.0 other), tree_is, still.3))
       (contains_cases steps.source still.0 steps.others (Contains-permutation mid (steps.source ∷ steps.others) still.0 steps.taken still.1)))
       (was source index there low high)

@@ -4,7 +4,7 @@ use Rattle.std.specs.declared.result.Result.TheVariants.{Ok, Err}
 use Rattle.sasi_host.specs.declared.name.FileName.{FileName}
 use Rattle.sasi_host.specs.declared.fault.ReadFault.{ReadFault}
 use Rattle.sasi_host.specs.declared.fault.ReadFault.TheVariants as fault
-use Rattle.sasi_host.specs.View.{View, IsThere, ReadsAtMost}
+use Rattle.sasi_host.specs.View.{View, IsThere, ReadCost}
 use Rattle.sasi_host.specs.Disk.{Changes, Same}
 use Rattle.sasi_host.proofs.ContentLaws.{contents_same, there_where}
 use Rattle.std.specs.declared.result.Result.{Result}
@@ -16,7 +16,7 @@ use Rattle.std.proofs.lemmas.Bool.Decides.{leb_tells}
 use Rattle.std.proofs.lemmas.List.Sorted.{sum_by_popped}
 use Rattle.std.specs.List.Sorted.{IsPermutation}
 use Rattle.sasi_host.proofs.CauseLaws.{fault_reads, ok_reads, reads_behind}
-use Rattle.sasi_treemerge.specs.declared.source.Source.{Source}
+use Rattle.sasi_treemerge.specs.declared.tree_source.TreeSource.{TreeSource}
 use Rattle.sasi_treemerge.specs.Merges.{unread_in, unread_of}
 
 pub there_same : (a b : View) (file : FileName) → Changes Same a b → IsThere a file → IsThere b file
@@ -31,10 +31,10 @@ pub record Pays (old new : View) (before after : ℕ) : Type 0 where
 pub pays_none : (v : View) (n : ℕ) → Pays v v n n
 pays_none v n = record { disk = refl; out = refl; reads = omega arith }
 
-pub pays_on : {T : Type 0} (a b c : View) (before mid after most : ℕ) (x : T) → Pays a b before mid → ReadsAtMost most b c (Ok x) → c.reads + 2 * after ≤ b.reads + 2 * mid → Pays a c before after
+pub pays_on : {T : Type 0} (a b c : View) (before mid after most : ℕ) (x : T) → Pays a b before mid → ReadCost most b c (Ok x) → c.reads + 2 * after ≤ b.reads + 2 * mid → Pays a c before after
 pays_on a b c before mid after most x first second less = record { disk = second.ok ∙ first.disk; out = second.out ∙ first.out; reads = omega (arith, first.reads, less) }
 
-pub pays_ok : {T : Type 0} (a b : View) (before after : ℕ) (x : T) → Pays a b before after → ReadsAtMost (2 * before) a b (Ok x)
+pub pays_ok : {T : Type 0} (a b : View) (before after : ℕ) (x : T) → Pays a b before after → ReadCost (2 * before) a b (Ok x)
 pays_ok a b before after x pays = record {
   disk = omega (arith, pays.disk);
   out = pays.out;
@@ -45,13 +45,13 @@ pays_ok a b before after x pays = record {
   damaged = tt;
 }
 
-pub pays_fault : {S T : Type 0} (a b c : View) (before mid : ℕ) (f : ReadFault) → Pays a b before mid → ReadsAtMost {T = S} (2 * mid) b c (Err f) → ReadsAtMost {T = T} (2 * before) a c (Err f)
+pub pays_fault : {S T : Type 0} (a b c : View) (before mid : ℕ) (f : ReadFault) → Pays a b before mid → ReadCost {T = S} (2 * mid) b c (Err f) → ReadCost {T = T} (2 * before) a c (Err f)
 pays_fault a b c before mid f first second =
     fault_reads a c (2 * before) (2 * before) f (omega arith) (reads_behind a b c (2 * mid) (2 * before) (Err f) first.disk first.out first.reads second)
 
 -- a step reads nothing where no pair is to be read
-pub head_causes : {T : Type 0} (a b : View) (source : Source) (old others : List Source) (result : Result T ReadFault) → IsPermutation old (source ∷ others) → ReadsAtMost 2 a b result
-    → (source.tree.value.tree.pairs ≤ source.tree.value.passed → b.reads ≡ a.reads) → ReadsAtMost (2 * unread_of old) a b result
+pub head_causes : {T : Type 0} (a b : View) (source : TreeSource) (old others : List TreeSource) (result : Result T ReadFault) → IsPermutation old (source ∷ others) → ReadCost 2 a b result
+    → (source.tree.value.tree.pairs ≤ source.tree.value.passed → b.reads ≡ a.reads) → ReadCost (2 * unread_of old) a b result
 head_causes a b source old others result taken causes ended = record {
   disk = causes.disk;
   out = causes.out;
@@ -65,17 +65,17 @@ head_causes a b source old others result taken causes ended = record {
   damaged = causes.damaged;
 }
 
-pub head_fails : {S T : Type 0} (a b : View) (source : Source) (old others : List Source) (f : ReadFault) → IsPermutation old (source ∷ others) → ReadsAtMost {T = S} 2 a b (Err f)
-    → (source.tree.value.tree.pairs ≤ source.tree.value.passed → b.reads ≡ a.reads) → ReadsAtMost {T = T} (2 * unread_of old) a b (Err f)
+pub head_fails : {S T : Type 0} (a b : View) (source : TreeSource) (old others : List TreeSource) (f : ReadFault) → IsPermutation old (source ∷ others) → ReadCost {T = S} 2 a b (Err f)
+    → (source.tree.value.tree.pairs ≤ source.tree.value.passed → b.reads ≡ a.reads) → ReadCost {T = T} (2 * unread_of old) a b (Err f)
 head_fails a b source old others f taken causes ended = fault_reads a b (2 * unread_of old) (2 * unread_of old) f (omega arith) (head_causes a b source old others (Err f) taken causes ended)
 
-pub head_gives : {S T : Type 0} (a b : View) (source : Source) (old others : List Source) (first : S) (x : T) → IsPermutation old (source ∷ others) → ReadsAtMost 2 a b (Ok first)
-    → (source.tree.value.tree.pairs ≤ source.tree.value.passed → b.reads ≡ a.reads) → ReadsAtMost (2 * unread_of old) a b (Ok x)
+pub head_gives : {S T : Type 0} (a b : View) (source : TreeSource) (old others : List TreeSource) (first : S) (x : T) → IsPermutation old (source ∷ others) → ReadCost 2 a b (Ok first)
+    → (source.tree.value.tree.pairs ≤ source.tree.value.passed → b.reads ≡ a.reads) → ReadCost (2 * unread_of old) a b (Ok x)
 head_gives a b source old others first x taken causes ended = ok_reads a b (2 * unread_of old) first x (head_causes a b source old others (Ok first) taken causes ended)
 
 -- and out of memory behind it is no failure of the host
-pub head_full : {S T : Type 0} (a b : View) (source : Source) (old others : List Source) (first : S) → IsPermutation old (source ∷ others) → ReadsAtMost 2 a b (Ok first)
-    → (source.tree.value.tree.pairs ≤ source.tree.value.passed → b.reads ≡ a.reads) → ReadsAtMost {T = T} (2 * unread_of old) a b (Err fault.OutOfMemory)
+pub head_full : {S T : Type 0} (a b : View) (source : TreeSource) (old others : List TreeSource) (first : S) → IsPermutation old (source ∷ others) → ReadCost 2 a b (Ok first)
+    → (source.tree.value.tree.pairs ≤ source.tree.value.passed → b.reads ≡ a.reads) → ReadCost {T = T} (2 * unread_of old) a b (Err fault.OutOfMemory)
 head_full a b source old others first taken causes ended =
     let all = head_causes a b source old others (Ok first) taken causes ended in
     record {

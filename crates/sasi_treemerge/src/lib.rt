@@ -3,7 +3,7 @@
 #![tactic(auto)]
 
 mod merge;
-mod source;
+mod tree_source;
 
 pub use merge::TreeMerge;
-pub use source::Source;
+pub use tree_source::TreeSource;

@@ -4,7 +4,7 @@ ghost use Rattle.std.specs.BinaryHeap.{IsHeap, KeepsHeap, heap_items};
 ghost use Rattle.std.specs.List.Sorted.{IsPermutation};
 ghost use Rattle.sasi_types.specs.declared.tree.Pair.{Pair as SpecPair};
 ghost use Rattle.sasi_host.specs.Names.{Bytes};
-ghost use Rattle.sasi_host.specs.View.{ReadsAtMost, contents};
+ghost use Rattle.sasi_host.specs.View.{ReadCost, contents};
 ghost use Rattle.sasi_host.specs.Damages.{DamageShown};
 ghost use Rattle.sasi_host.specs.PageReading.{CanRead, HasRead};
 ghost use Rattle.sasi_tokentree.specs.Damages.{ShowsTree};
@@ -13,7 +13,7 @@ ghost use Rattle.sasi_treemerge.specs.Sources.{source_cmp};
 ghost use Rattle.sasi_treemerge.specs.Merges.{Adds, CanMerge, Gives, IsLeast, ReadsEach, SpendsReads, Steps, TreesStay, is_left, last_after, sources_of, unread_of};
 ghost use Rattle.sasi_treemerge.specs.MergeDamages.{NoFalseDamageOf, ShowsSources};
 
-use crate::source::{Source, next_of, source_of};
+use crate::tree_source::{TreeSource, next_of, source_of};
 use sasi_host::{FileName, Host, PageReader, ReadFault};
 use sasi_tokentree::Tree;
 use sasi_types::{Pair, Token, TreeRef};
@@ -27,7 +27,7 @@ pub struct TreeMerge {
     /// The file of the trees.
     pub file: FileName,
     /// The trees that have a pair left.
-    pub sources: BinaryHeap<Source, Global>,
+    pub sources: BinaryHeap<TreeSource, Global>,
     /// The pair that was given last.
     pub last: Option<Pair>,
     /// Pairs of tokens below this one aren't given.
@@ -53,7 +53,7 @@ fn scan_of(alloc: Global, file: FileName, list: TreeRef) -> Result<Box<Tree>, Al
 }
 
 // Adds a source.
-fn put(sources: &mut BinaryHeap<Source, Global>, source: Source) -> Result<(), AllocError>
+fn put(sources: &mut BinaryHeap<TreeSource, Global>, source: TreeSource) -> Result<(), AllocError>
     ensures put { OnOk result (IsPermutation (source ∷ heap_items sources.old) (heap_items sources.new)) }
     ensures heap { OnOk result (KeepsHeap source_cmp (heap_items sources.old) (heap_items sources.new)) }
 {
@@ -93,7 +93,7 @@ impl TreeMerge {
         ensures damaged { IfErr result (DamageShown (H.view host.old) self.old.file (ShowsTree self.old.file list)) }
         ensures undamaged { IfErr result (NoFalseTreeDamage (H.view host.old) self.old.file list) }
         ensures read { HasRead (P.agrees pages.new) (P.covers pages.old) (P.covers pages.new) (H.view host.old) (H.view host.new) self.old.file }
-        ensures causes { ReadsAtMost 2 (H.view host.old) (H.view host.new) result }
+        ensures causes { ReadCost 2 (H.view host.old) (H.view host.new) result }
         ensures reads { SpendsReads (H.view host.old) (H.view host.new) (2 * unread_of (sources_of self.old) + 2 * list.pairs) (2 * unread_of (sources_of self.new)) result }
         ensures same { (self.new.file ≡ self.old.file) × (self.new.last ≡ self.old.last) × (self.new.floor ≡ self.old.floor) }
     {
@@ -120,7 +120,7 @@ impl TreeMerge {
         ensures damaged { IfErr result (DamageShown (H.view host.old) self.old.file (ShowsSources (sources_of self.old) self.old.file)) }
         ensures undamaged { IfErr result (NoFalseDamageOf (H.view host.old) self.old.file (sources_of self.old)) }
         ensures read { HasRead (P.agrees pages.new) (P.covers pages.old) (P.covers pages.new) (H.view host.old) (H.view host.new) self.old.file }
-        ensures causes { ReadsAtMost (2 * unread_of (sources_of self.old)) (H.view host.old) (H.view host.new) result }
+        ensures causes { ReadCost (2 * unread_of (sources_of self.old)) (H.view host.old) (H.view host.new) result }
         ensures reads { OnOk result ((H.view host.new).reads + 2 * unread_of (sources_of self.new) ≤ (H.view host.old).reads + 2 * unread_of (sources_of self.old)) }
         ensures same { (self.new.file ≡ self.old.file) × (self.new.last ≡ self.old.last) × (self.new.floor ≡ self.old.floor) }
     {
@@ -156,7 +156,7 @@ impl TreeMerge {
         ensures undamaged { IfErr result (NoFalseDamageOf (H.view host.old) self.old.file (sources_of self.old)) }
         ensures read { HasRead (P.agrees pages.new) (P.covers pages.old) (P.covers pages.new) (H.view host.old) (H.view host.new) self.old.file }
         // It makes at most two reads for each pair that becomes a head.
-        ensures causes { ReadsAtMost (2 * unread_of (sources_of self.old)) (H.view host.old) (H.view host.new) result }
+        ensures causes { ReadCost (2 * unread_of (sources_of self.old)) (H.view host.old) (H.view host.new) result }
         ensures reads { OnOk result ((H.view host.new).reads + 2 * unread_of (sources_of self.new) ≤ (H.view host.old).reads + 2 * unread_of (sources_of self.old)) }
         ensures file { self.new.file ≡ self.old.file }
         ensures floor { self.new.floor ≡ self.old.floor }

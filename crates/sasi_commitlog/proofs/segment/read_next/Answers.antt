@@ -4,7 +4,7 @@ use Rattle.sasi_host.specs.Names.{Bytes}
 use Rattle.sasi_gated.proofs.ReadCostLaws.{once_fails, once_gives, once_handed}
 use Rattle.sasi_formats.specs.Whole.{IsShownBy}
 use Rattle.sasi_commitlog.specs.Format.{payload_of, mutation_of, Tables, IsMutationOf}
-use Rattle.sasi_commitlog.proofs.ReadMutations.{on_damage, spared, closed_gate, none_left, opened_gate, first_read, first_left, record_shown}
+use Rattle.sasi_commitlog.proofs.ReadMutations.{on_damage, no_false_read, closed_gate, none_left, opened_gate, first_read, first_left, record_shown}
 use Rattle.sasi_commitlog.proofs.Payloads.{only_memory, payload_within}
 use Rattle.sasi_commitlog.proofs.segment.read_next.Goals as goal
 
@@ -17,7 +17,7 @@ pub returns-in_err-next-clause-undamaged : goal.returns-in_err-next-clause-undam
 returns-in_err-next-clause-undamaged g c =
     let p = err_from_is_err_and c.from_residual.result c.from_residual.ensures.1 in
     rw (p.1, p.2) (on_damage _ _ c.in_err-next.field-0.0
-    (λ damage spares done left told reading. spares (map payload_of done) (map payload_of left) told reading.reading) c.in_err-next.ensures.undamaged)
+    (λ damage no_false done left told reading. no_false (map payload_of done) (map payload_of left) told reading.reading) c.in_err-next.ensures.undamaged)
 
 pub returns-then-not-branch-clause-gate : goal.returns-then-not-branch-clause-gate
 returns-then-not-branch-clause-gate g c bytes done rest is gate =
@@ -67,7 +67,7 @@ returns-in-Err-clause-undamaged g c =
     let out = c.next.new.out.items in
     let shown = subst (λ (b : Bytes). IsShownBy (mutation_of c.args.tables.now) b c.in-Err.fault) c.deref.ensures.value
     (subst (λ (t : Tables). IsShownBy (mutation_of t) c.deref.result.now c.in-Err.fault) c.as_slice.ensures c.in-Err.ensures.shown) in
-    spared c.fault_in_file.result (λ done left told reading.
+    no_false_read c.fault_in_file.result (λ done left told reading.
     let first = first_left (g.H.Host.view c.next.new.host)
     (g.H.Host.view c.args.host.now) c.args.gated.now.file c.args.gated.now.at c.next.new.self.at c.args.tables.now done left
     c.in_ok-next.field-0 out c.if-not-branch.false reading

@@ -1,4 +1,4 @@
-use Rattle.sasi_cql.proofs.Parsing.{is_parser, one_parser, one_statement, one_place}
+use Rattle.sasi_cql.proofs.Parsing.{is_parser, one_parser, one_statement, one_offset}
 use Rattle.sasi_cql.proofs.grammar.grammar_is_parsed.Goals as goal
 
 pub returns-clause-parser : goal.returns-clause-parser
@@ -10,5 +10,5 @@ returns-clause-alone c = one_parser
 pub returns-clause-one_statement : goal.returns-clause-one_statement
 returns-clause-one_statement c = one_statement
 
-pub returns-clause-one_place : goal.returns-clause-one_place
-returns-clause-one_place c = one_place
+pub returns-clause-one_offset : goal.returns-clause-one_offset
+returns-clause-one_offset c = one_offset

@@ -1,4 +1,4 @@
-use Rattle.sasi_cql.proofs.Parsing.{gives_statement, gives_spelled, gives_written, gives_failure, gives_none, gives_place}
+use Rattle.sasi_cql.proofs.Parsing.{gives_statement, gives_spelled, gives_written, gives_failure, gives_none, gives_offset}
 use Rattle.sasi_cql.proofs.parser.parse.Goals as goal
 
 pub returns-clause-statement : goal.returns-clause-statement
@@ -16,5 +16,5 @@ returns-clause-fails c = gives_failure c.args.text.now c.parse_bytes.result (rw 
 pub returns-clause-refuses : goal.returns-clause-refuses
 returns-clause-refuses c = gives_none c.args.text.now c.parse_bytes.result (rw c.as_bytes.ensures.value at c.parse_bytes.ensures)
 
-pub returns-clause-place : goal.returns-clause-place
-returns-clause-place c = gives_place c.args.text.now c.parse_bytes.result (rw c.as_bytes.ensures.value at c.parse_bytes.ensures)
+pub returns-clause-syntax_offset : goal.returns-clause-syntax_offset
+returns-clause-syntax_offset c = gives_offset c.args.text.now c.parse_bytes.result (rw c.as_bytes.ensures.value at c.parse_bytes.ensures)

@@ -6,7 +6,7 @@ use Rattle.sasi_host.specs.View.{contents}
 use Rattle.sasi_host.specs.declared.name.FileName.{FileName}
 use Rattle.sasi_dataread.proofs.Laws.{footer_of}
 use Rattle.sasi_dataread.proofs.Ends.{numbers_encoded}
-use Rattle.sasi_dataread.proofs.Footers.{data_undamaged, end_shown, shown_spares}
+use Rattle.sasi_dataread.proofs.Footers.{data_undamaged, end_shown, no_false_shown}
 use Rattle.sasi_dataread.proofs.end.read_max_timestamp.Goals as goal
 
 pub returns-in_err-size-clause-damaged : goal.returns-in_err-size-clause-damaged
@@ -20,7 +20,7 @@ pub returns-in_err-size-clause-undamaged : goal.returns-in_err-size-clause-undam
 returns-in_err-size-clause-undamaged g c =
     let p = err_from_is_err_and c.from_residual.result c.from_residual.ensures.1 in
     let v = g.H.Host.view c.args.host.now in
-    rw (p.1, p.2) (shown_spares v c.args.file c.in_err-size.field-0.0 (λ bytes is. (g.met.H.Host.sound c.args.host.now).fits c.args.file bytes is) (end_shown v c.args.file c.in_err-size.field-0.0
+    rw (p.1, p.2) (no_false_shown v c.args.file c.in_err-size.field-0.0 (λ bytes is. (g.met.H.Host.sound c.args.host.now).fits c.args.file bytes is) (end_shown v c.args.file c.in_err-size.field-0.0
     (subst (λ (n : FileName). DamageShown v n (ShowsEnd 97 n) c.in_err-size.field-0.0) (ap (λ (h : Buffered). h.file) c.new-buffered.ensures) c.in_err-size.ensures.damaged)))
 
 pub returns-in_err-time-clause-damaged : goal.returns-in_err-time-clause-damaged

@@ -13,8 +13,8 @@ use Rattle.sasi_host.proofs.DamageLaws.{shown_before}
 use Rattle.sasi_tokentree.specs.Scans.{ReadsEntry, PairScan}
 use Rattle.sasi_dataread.proofs.Laws.{pairs_are}
 use Rattle.sasi_dataread.proofs.ReadChains.{causes_fault, causes_ok, passes_on, there_same}
-use Rattle.sasi_dataread.proofs.DataScan.{entry_before, entry_of, next_takes, open_same, partition_shown, tree_shown, tree_spares}
-use Rattle.sasi_dataread.proofs.Finding.{all_passed, first_causes, first_passes, found_here, here_costs, here_spares, none_here, one_more, searches_on, spares_before, stands_here, starts}
+use Rattle.sasi_dataread.proofs.DataScan.{entry_before, entry_of, no_false_tree, open_same, partition_shown, steps_to_next, tree_shown}
+use Rattle.sasi_dataread.proofs.Finding.{all_passed, first_causes, first_passes, found_here, here_costs, no_false_before, no_false_here, none_here, one_more, searches_on, stands_here, starts}
 use Rattle.sasi_dataread.proofs.find.find_partition.Goals as goal
 
 pub returns-in_err-next-clause-damaged : goal.returns-in_err-next-clause-damaged
@@ -27,7 +27,7 @@ returns-in_err-next-clause-damaged g c =
 pub returns-in_err-next-clause-undamaged : goal.returns-in_err-next-clause-undamaged
 returns-in_err-next-clause-undamaged g c =
     let p = err_from_is_err_and c.from_residual.result c.from_residual.ensures.1 in
-    rw (p.1, p.2) (tree_spares (g.H.Host.view c.args.host.now) c.args.opened.now c.tree-tree.result.buffered.file c.tree-tree.result.tree
+    rw (p.1, p.2) (no_false_tree (g.H.Host.view c.args.host.now) c.args.opened.now c.tree-tree.result.buffered.file c.tree-tree.result.tree
     c.in_err-next.field-0.0 (ap (λ (w : PairScan). w.buffered.file) c.tree-tree.ensures) (ap (λ (w : PairScan). w.tree) c.tree-tree.ensures)
     (λ bytes is. (g.met.H.Host.sound c.args.host.now).fits c.args.opened.now.file bytes is) c.in_err-next.ensures.undamaged)
 
@@ -78,7 +78,7 @@ pub returns-in_err-found-clause-undamaged : goal.returns-in_err-found-clause-und
 returns-in_err-found-clause-undamaged g c =
     let p = err_from_is_err_and c.from_residual-in_err-found.result c.from_residual-in_err-found.ensures.1 in
     rw (p.1, p.2) (
-    here_spares (g.H.Host.view c.args.host.now) _ c.args.opened.now c.in-Some.place c.in_err-found.field-0.0
+    no_false_here (g.H.Host.view c.args.host.now) _ c.args.opened.now c.in-Some.place c.in_err-found.field-0.0
     (λ partitioner content is have.
     stands_here partitioner content c.args.token c.args.key.now c.loop-turn._turn c.loop-turn.tree.passed c.in-Some.place _ _ c.loop-turn.next
     (c.loop-turn.invariant.searches c.args.opened.now.tree.pairs partitioner content (omega arith) is have) c.in-Some.ensures)
@@ -137,9 +137,9 @@ pub returns-in_err-next-2-clause-undamaged : goal.returns-in_err-next-2-clause-u
 returns-in_err-next-2-clause-undamaged g c =
     let p = err_from_is_err_and c.from_residual-in_err-next-2.result c.from_residual-in_err-next-2.ensures.1 in
     rw (p.1, p.2) (
-    spares_before (g.H.Host.view c.args.host.now) (g.H.Host.view c.partition_with_key.new.host) c.args.opened.now c.in_err-next-2.field-0.0
+    no_false_before (g.H.Host.view c.args.host.now) (g.H.Host.view c.partition_with_key.new.host) c.args.opened.now c.in_err-next-2.field-0.0
     (then_same _ _ _ Same c.loop-turn.invariant.read.changes c.partition_with_key.ensures.read.changes)
-    (tree_spares (g.H.Host.view c.partition_with_key.new.host) c.args.opened.now c.loop-turn.tree.buffered.file c.loop-turn.tree.tree c.in_err-next-2.field-0.0
+    (no_false_tree (g.H.Host.view c.partition_with_key.new.host) c.args.opened.now c.loop-turn.tree.buffered.file c.loop-turn.tree.tree c.in_err-next-2.field-0.0
     c.loop-turn.invariant.file c.loop-turn.invariant.tree (λ bytes is. (g.met.H.Host.sound c.partition_with_key.new.host).fits c.args.opened.now.file bytes
     is) c.in_err-next-2.ensures.undamaged)
     )
@@ -203,7 +203,7 @@ loop-turn-preserved g c =
           here.read.changes (here.searches most partitioner content le is have) c.in-Some.ensures c.in_ok-found.ensures.ok
           (sym c.if-is_some.ensures)
           (λ k p there at. let partition_pages = c.partition_with_key.ensures.reads partitioner content k p there at in omega (arith, partition_pages, cheap.reads))
-          (next_takes w c.args.opened.now c.loop-turn.tree.buffered.file c.loop-turn.tree.tree c.loop-turn.tree.passed c.next.new.self.passed
+          (steps_to_next w c.args.opened.now c.loop-turn.tree.buffered.file c.loop-turn.tree.tree c.loop-turn.tree.passed c.next.new.self.passed
           c.in_ok-next-2.next here.file here.tree (λ bytes reads. (g.met.H.Host.sound c.partition_with_key.new.host).fits file bytes reads)
           c.in_ok-next-2.ensures.ok partitioner content (open_same v w c.args.opened.now partitioner content change is) have);
     }

@@ -1,5 +1,5 @@
 use Rattle.std.proofs.lemmas.Result.{err_from_is_err_and}
-use Rattle.sasi_dataread.proofs.Footers.{data_undamaged, end_shown, shown_spares}
+use Rattle.sasi_dataread.proofs.Footers.{data_undamaged, end_shown, no_false_shown}
 use Rattle.sasi_dataread.proofs.footer.read_footer.Goals as goal
 
 pub returns-in_err-size-clause-damaged : goal.returns-in_err-size-clause-damaged
@@ -11,7 +11,7 @@ pub returns-in_err-size-clause-undamaged : goal.returns-in_err-size-clause-undam
 returns-in_err-size-clause-undamaged g c =
     let p = err_from_is_err_and c.from_residual.result c.from_residual.ensures.1 in
     let v = g.H.Host.view c.args.host.now in
-    rw (p.1, p.2) (shown_spares v c.args.file c.in_err-size.field-0.0 (λ bytes is. (g.met.H.Host.sound c.args.host.now).fits c.args.file bytes is) (end_shown v c.args.file c.in_err-size.field-0.0 c.in_err-size.ensures.damaged))
+    rw (p.1, p.2) (no_false_shown v c.args.file c.in_err-size.field-0.0 (λ bytes is. (g.met.H.Host.sound c.args.host.now).fits c.args.file bytes is) (end_shown v c.args.file c.in_err-size.field-0.0 c.in_err-size.ensures.damaged))
 
 pub returns-in_err-numbers-clause-damaged : goal.returns-in_err-numbers-clause-damaged
 returns-in_err-numbers-clause-damaged g c =

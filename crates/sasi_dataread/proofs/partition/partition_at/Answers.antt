@@ -7,7 +7,7 @@ use Rattle.sasi_formats.specs.Whole.{IsShownBy}
 use Rattle.sasi_host.specs.Damages.{HasAt, OnDamage}
 use Rattle.sasi_dataread.specs.Damages.{ShowsPartition}
 use Rattle.sasi_dataread.specs.Bodies.{length_prefixed}
-use Rattle.sasi_dataread.proofs.Bodies.{body_spares, fault_spares, fault_shown, placed}
+use Rattle.sasi_dataread.proofs.Bodies.{no_false_body, no_false_fault, fault_shown, placed}
 use Rattle.sasi_dataread.proofs.partition.partition_at.Goals as goal
 
 pub returns-in_err-bytes-clause-damaged : goal.returns-in_err-bytes-clause-damaged
@@ -18,7 +18,7 @@ returns-in_err-bytes-clause-damaged g c =
 pub returns-in_err-bytes-clause-undamaged : goal.returns-in_err-bytes-clause-undamaged
 returns-in_err-bytes-clause-undamaged g c =
     let p = err_from_is_err_and c.from_residual.result c.from_residual.ensures.1 in
-    rw (p.1, p.2) (body_spares (g.H.Host.view c.args.host.now) c.args.buffered.now.file c.args.types.now c.args.end c.args.place c.in_err-bytes.field-0.0 c.in_err-bytes.ensures.undamaged)
+    rw (p.1, p.2) (no_false_body (g.H.Host.view c.args.host.now) c.args.buffered.now.file c.args.types.now c.args.end c.args.place c.in_err-bytes.field-0.0 c.in_err-bytes.ensures.undamaged)
 
 pub fault_in_file-requires-clause-within : goal.fault_in_file-requires-clause-within
 fault_in_file-requires-clause-within g c =
@@ -36,6 +36,6 @@ returns-clause-damaged g c =
 
 pub returns-clause-undamaged : goal.returns-clause-undamaged
 returns-clause-undamaged g c =
-    fault_spares (g.H.Host.view c.args.host.now) c.args.buffered.now.file c.args.types.now c.args.end c.args.place c.in_ok-bytes.bytes.items
+    no_false_fault (g.H.Host.view c.args.host.now) c.args.buffered.now.file c.args.types.now c.args.end c.args.place c.in_ok-bytes.bytes.items
     c.in-Err.fault c.fault_in_file.result c.in_ok-bytes.ensures.length.short c.in_ok-bytes.ensures.ok
     (λ key part of is. c.in-Err.ensures.no_false_damage key part of (c.deref.ensures.value ∙ is)) c.fault_in_file.ensures.memory

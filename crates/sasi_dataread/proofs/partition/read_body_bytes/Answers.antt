@@ -6,7 +6,7 @@ use Rattle.sasi_host.specs.View.{contents}
 use Rattle.sasi_host.specs.Damages.{DamageShown, ShowsEnd}
 use Rattle.sasi_host.proofs.ContentLaws.{contents_same}
 use Rattle.sasi_host.proofs.DamageLaws.{shown_before}
-use Rattle.sasi_dataread.proofs.Bodies.{body_shown, sized_spares, cut_spares, sized_read, reads_cost, both_causes}
+use Rattle.sasi_dataread.proofs.Bodies.{body_shown, no_false_sized, no_false_cut, sized_read, reads_cost, both_causes}
 use Rattle.sasi_dataread.proofs.partition.read_body_bytes.Goals as goal
 
 pub returns-in_err-count-clause-damaged : goal.returns-in_err-count-clause-damaged
@@ -17,7 +17,7 @@ returns-in_err-count-clause-damaged g c types =
 pub returns-in_err-count-clause-undamaged : goal.returns-in_err-count-clause-undamaged
 returns-in_err-count-clause-undamaged g c =
     let p = err_from_is_err_and c.from_residual.result c.from_residual.ensures.1 in
-    rw (p.1, p.2) (sized_spares (g.H.Host.view c.args.host.now) c.args.buffered.now.file c.args.end c.args.place c.in_err-count.field-0.0 c.in_err-count.ensures.undamaged)
+    rw (p.1, p.2) (no_false_sized (g.H.Host.view c.args.host.now) c.args.buffered.now.file c.args.end c.args.place c.in_err-count.field-0.0 c.in_err-count.ensures.undamaged)
 
 pub returns-in_err-body-clause-damaged : goal.returns-in_err-body-clause-damaged
 returns-in_err-body-clause-damaged g c types =
@@ -32,7 +32,7 @@ returns-in_err-body-clause-damaged g c types =
 pub returns-in_err-body-clause-undamaged : goal.returns-in_err-body-clause-undamaged
 returns-in_err-body-clause-undamaged g c =
     let p = err_from_is_err_and c.from_residual-in_err-body.result c.from_residual-in_err-body.ensures.1 in
-    rw (p.1, p.2) (cut_spares _ _ c.args.buffered.now.file c.args.end c.args.place c.in_ok-count.count c.in_err-body.field-0.0
+    rw (p.1, p.2) (no_false_cut _ _ c.args.buffered.now.file c.args.end c.args.place c.in_ok-count.count c.in_err-body.field-0.0
     c.in_ok-count.ensures.length.short c.in_ok-count.ensures.ok c.read_length.ensures.read.changes
     (subst (λ (n : FileName). DamageShown (g.H.Host.view c.read_length.new.host) n (ShowsEnd (c.args.place + 4 + c.in_ok-count.count) n)
     c.in_err-body.field-0.0) c.read_length.ensures.read.file c.in_err-body.ensures.damaged))

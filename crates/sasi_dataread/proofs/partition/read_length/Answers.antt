@@ -6,7 +6,7 @@ use Rattle.sasi_host.specs.Damages.{HasAt, DamageShown, TellsSize}
 use Rattle.sasi_host.proofs.Offsets.{window_at}
 use Rattle.sasi_dataread.specs.Damages.ShowsPartition.{wrong_length}
 use Rattle.sasi_dataread.proofs.Numbers.{number_at}
-use Rattle.sasi_dataread.proofs.Bodies.{far_shown, far_spares, length_shown, length_spares}
+use Rattle.sasi_dataread.proofs.Bodies.{far_shown, length_shown, no_false_far, no_false_length}
 use Rattle.sasi_dataread.proofs.partition.read_length.Goals as goal
 
 pub returns-then-place-gt-MAX_FILE_SIZE-clause-damaged : goal.returns-then-place-gt-MAX_FILE_SIZE-clause-damaged
@@ -16,7 +16,7 @@ returns-then-place-gt-MAX_FILE_SIZE-clause-damaged g c types =
     (subst (λ (n : FileName). DamageShown (g.H.Host.view c.args.host.now) n (TellsSize n) c.unexpected_end.result) c.file-file.ensures c.unexpected_end.ensures.damaged)
 
 pub returns-then-place-gt-MAX_FILE_SIZE-clause-undamaged : goal.returns-then-place-gt-MAX_FILE_SIZE-clause-undamaged
-returns-then-place-gt-MAX_FILE_SIZE-clause-undamaged g c = far_spares (g.H.Host.view c.args.host.now) c.args.buffered.now.file c.args.end c.args.place
+returns-then-place-gt-MAX_FILE_SIZE-clause-undamaged g c = no_false_far (g.H.Host.view c.args.host.now) c.args.buffered.now.file c.args.end c.args.place
     c.unexpected_end.result (omega arith) (λ bytes is. (g.met.H.Host.sound c.args.host.now).fits c.args.buffered.now.file bytes is)
 
 pub returns-in_err-read_into-clause-damaged : goal.returns-in_err-read_into-clause-damaged
@@ -27,7 +27,7 @@ returns-in_err-read_into-clause-damaged g c types =
 pub returns-in_err-read_into-clause-undamaged : goal.returns-in_err-read_into-clause-undamaged
 returns-in_err-read_into-clause-undamaged g c =
     let p = err_from_is_err_and c.from_residual.result c.from_residual.ensures.1 in
-    rw (p.1, p.2) (length_spares (g.H.Host.view c.args.host.now) c.args.buffered.now.file c.args.end c.args.place c.in_err-read_into.field-0.0 c.in_err-read_into.ensures.damaged)
+    rw (p.1, p.2) (no_false_length (g.H.Host.view c.args.host.now) c.args.buffered.now.file c.args.end c.args.place c.in_err-read_into.field-0.0 c.in_err-read_into.ensures.damaged)
 
 pub returns-then-is_wrong_length-clause-damaged : goal.returns-then-is_wrong_length-clause-damaged
 returns-then-is_wrong_length-clause-damaged g c types bytes is =

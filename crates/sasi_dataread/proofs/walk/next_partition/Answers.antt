@@ -7,9 +7,9 @@ use Rattle.sasi_host.proofs.DamageLaws.{shown_before}
 use Rattle.sasi_tokentree.specs.Scans.{PassesOne, ReadsEntry, ReadsNextPair, IsEntryBuffered}
 use Rattle.sasi_tokentree.proofs.EntryPages.{entry_pages}
 use Rattle.sasi_dataread.proofs.Pairs.{none_left}
-use Rattle.sasi_dataread.proofs.Pages.{goes_nowhere}
+use Rattle.sasi_dataread.proofs.Pages.{reads_none}
 use Rattle.sasi_host.proofs.CauseLaws.{ok_reads, fault_reads, reads_on, reads_within}
-use Rattle.sasi_dataread.proofs.DataScan.{IsShort, all_pairs, walk_goes, walk_stops, walk_stops_behind, entry_of, partition_shown, tree_shown, next_takes, tree_spares, took_partition, place_spares}
+use Rattle.sasi_dataread.proofs.DataScan.{IsShort, all_pairs, scan_reads_once, scan_stops, scan_stops_behind, entry_of, partition_shown, tree_shown, steps_to_next, no_false_tree, steps_to_partition, no_false_offset}
 use Rattle.sasi_dataread.proofs.walk.next_partition.Goals as goal
 
 pub returns-in_err-next-clause-damaged : goal.returns-in_err-next-clause-damaged
@@ -21,7 +21,7 @@ returns-in_err-next-clause-damaged g c =
 pub returns-in_err-next-clause-undamaged : goal.returns-in_err-next-clause-undamaged
 returns-in_err-next-clause-undamaged g c =
     let p = err_from_is_err_and c.from_residual.result c.from_residual.ensures.1 in
-    rw (p.1, p.2) (tree_spares (g.H.Host.view c.args.host.now) c.args.opened.now c.args.tree.now.buffered.file c.args.tree.now.tree
+    rw (p.1, p.2) (no_false_tree (g.H.Host.view c.args.host.now) c.args.opened.now c.args.tree.now.buffered.file c.args.tree.now.tree
     c.in_err-next.field-0.0 c.requires.file c.requires.tree (λ bytes is. (g.met.H.Host.sound c.args.host.now).fits c.args.opened.now.file bytes
     is) c.in_err-next.ensures.undamaged)
 
@@ -29,7 +29,7 @@ pub returns-in-None-clause-ok : goal.returns-in-None-clause-ok
 returns-in-None-clause-ok g c partitioner content is have =
     let view = g.H.Host.view c.args.host.now in
     let gives = subst (λ (o : Option Pair). ReadsNextPair view c.args.tree.now.buffered.file c.args.tree.now.tree c.args.tree.now.passed c.next.new.self.passed o) c.in-None.is c.in_ok-next.ensures.ok in
-    let took = next_takes view c.args.opened.now c.args.tree.now.buffered.file c.args.tree.now.tree c.args.tree.now.passed c.next.new.self.passed None
+    let took = steps_to_next view c.args.opened.now c.args.tree.now.buffered.file c.args.tree.now.tree c.args.tree.now.passed c.next.new.self.passed None
     c.requires.file c.requires.tree (λ bytes reads. (g.met.H.Host.sound c.args.host.now).fits c.args.opened.now.file bytes reads) gives
     partitioner content is have in
     (none_left partitioner content c.args.tree.now.passed took.0, took.1)
@@ -48,9 +48,9 @@ returns-in_err-key-clause-undamaged g c =
     let p = err_from_is_err_and c.from_residual-in_err-key.result c.from_residual-in_err-key.ensures.1 in
     let view = g.H.Host.view c.args.host.now in
     let gives = subst (λ (o : Option Pair). ReadsNextPair view c.args.tree.now.buffered.file c.args.tree.now.tree c.args.tree.now.passed c.next.new.self.passed o) c.in-Some.is c.in_ok-next.ensures.ok in
-    rw (p.1, p.2) (place_spares view _ c.args.opened.now c.args.tree.now.passed c.next.new.self.passed c.in-Some.pair c.in_err-key.field-0.0
+    rw (p.1, p.2) (no_false_offset view _ c.args.opened.now c.args.tree.now.passed c.next.new.self.passed c.in-Some.pair c.in_err-key.field-0.0
     (λ partitioner content is have.
-    next_takes view c.args.opened.now c.args.tree.now.buffered.file c.args.tree.now.tree c.args.tree.now.passed c.next.new.self.passed
+    steps_to_next view c.args.opened.now c.args.tree.now.buffered.file c.args.tree.now.tree c.args.tree.now.passed c.next.new.self.passed
     (Some c.in-Some.pair) c.requires.file c.requires.tree (λ bytes reads. (g.met.H.Host.sound c.args.host.now).fits c.args.opened.now.file bytes
     reads) gives partitioner content is have)
     c.next.ensures.read.changes c.in_err-key.ensures.undamaged)
@@ -76,18 +76,18 @@ pub returns-in-None-clause-reads : goal.returns-in-None-clause-reads
 returns-in-None-clause-reads g c partitioner content is have sequential =
     let view = g.H.Host.view c.args.host.now in
     let gives = subst (λ (o : Option Pair). ReadsNextPair view c.args.tree.now.buffered.file c.args.tree.now.tree c.args.tree.now.passed c.next.new.self.passed o) c.in-None.is c.in_ok-next.ensures.ok in
-    let took = next_takes view c.args.opened.now c.args.tree.now.buffered.file c.args.tree.now.tree c.args.tree.now.passed c.next.new.self.passed None
+    let took = steps_to_next view c.args.opened.now c.args.tree.now.buffered.file c.args.tree.now.tree c.args.tree.now.passed c.next.new.self.passed None
     c.requires.file c.requires.tree (λ bytes reads. (g.met.H.Host.sound c.args.host.now).fits c.args.opened.now.file bytes reads) gives
     partitioner content is have in
     let same = (subst (λ (o : Option Pair). PassesOne c.args.tree.now c.next.new.self o) c.in-None.is c.in_ok-next.ensures.ends).1 in
     let ended = c.next.ensures.ended (all_pairs c.args.opened.now partitioner content c.args.tree.now.tree c.args.tree.now.passed is.of c.requires.tree took.0) in
-    goes_nowhere is.bytes content c.args.opened.now c.args.tree.now c.next.new.self c.args.buffered.now _ _ same (omega (arith, ended)) sequential
+    reads_none is.bytes content c.args.opened.now c.args.tree.now c.next.new.self c.args.buffered.now _ _ same (omega (arith, ended)) sequential
 
 pub returns-in_err-next-clause-reads : goal.returns-in_err-next-clause-reads
 returns-in_err-next-clause-reads g c partitioner content is have sequential =
     let p = err_from_is_err_and c.from_residual.result c.from_residual.ensures.1 in
     let v = g.H.Host.view c.args.host.now in
-    rw p.1 (walk_stops v (g.H.Host.view c.next.new.host) c.args.opened.now c.args.tree.now c.args.buffered.now partitioner content _ _ is have
+    rw p.1 (scan_stops v (g.H.Host.view c.next.new.host) c.args.opened.now c.args.tree.now c.args.buffered.now partitioner content _ _ is have
     (λ bytes reads. (g.met.H.Host.sound c.args.host.now).fits c.args.opened.now.file bytes reads) c.requires.tree sequential c.next.ensures.causes.reads c.next.ensures.ended)
 
 pub returns-in_err-key-clause-reads : goal.returns-in_err-key-clause-reads
@@ -98,8 +98,8 @@ returns-in_err-key-clause-reads g c partitioner content is have sequential =
     let tree = c.args.tree.now in
     let short : IsShort v opened.file = λ bytes reads. (g.met.H.Host.sound c.args.host.now).fits opened.file bytes reads in
     let gives = subst (λ (o : Option Pair). ReadsNextPair v tree.buffered.file tree.tree tree.passed c.next.new.self.passed o) c.in-Some.is c.in_ok-next.ensures.ok in
-    let took = next_takes v opened tree.buffered.file tree.tree tree.passed c.next.new.self.passed (Some c.in-Some.pair) c.requires.file c.requires.tree short gives partitioner content is have in
-    rw p.1 (walk_stops_behind v (g.H.Host.view c.next.new.host) opened tree c.args.buffered.now partitioner content _ _ is have short c.requires.tree sequential c.next.ensures.causes.reads
+    let took = steps_to_next v opened tree.buffered.file tree.tree tree.passed c.next.new.self.passed (Some c.in-Some.pair) c.requires.file c.requires.tree short gives partitioner content is have in
+    rw p.1 (scan_stops_behind v (g.H.Host.view c.next.new.host) opened tree c.args.buffered.now partitioner content _ _ is have short c.requires.tree sequential c.next.ensures.causes.reads
     c.next.new.self.passed c.in-Some.pair _ c.next.ensures.read.changes took c.partition_of_pair.ensures.reads)
 
 pub returns-in_err-key-clause-pairs_buffered : goal.returns-in_err-key-clause-pairs_buffered
@@ -129,10 +129,10 @@ returns-clause-reads g c partitioner content is have sequential =
     let tree = c.args.tree.now in
     let pair = c.in-Some.pair in
     let gives = subst (λ (o : Option Pair). ReadsNextPair v tree.buffered.file tree.tree tree.passed c.next.new.self.passed o) c.in-Some.is c.in_ok-next.ensures.ok in
-    let took = next_takes v opened tree.buffered.file tree.tree tree.passed c.next.new.self.passed (Some pair) c.requires.file c.requires.tree
+    let took = steps_to_next v opened tree.buffered.file tree.tree tree.passed c.next.new.self.passed (Some pair) c.requires.file c.requires.tree
     (λ bytes reads. (g.met.H.Host.sound c.args.host.now).fits opened.file bytes reads) gives partitioner content is have in
     let entry_buffered = subst (λ (o : Option Pair). IsEntryBuffered c.next.new.self o) c.in-Some.is c.in_ok-next.ensures.entry_buffered in
-    walk_goes v (g.H.Host.view c.next.new.host) opened tree c.next.new.self c.args.buffered.now c.partition_of_pair.new.buffered pair c.in_ok-key.key c.in_ok-key.part
+    scan_reads_once v (g.H.Host.view c.next.new.host) opened tree c.next.new.self c.args.buffered.now c.partition_of_pair.new.buffered pair c.in_ok-key.key c.in_ok-key.part
     partitioner content _ _ _ is have (λ bytes reads. (g.met.H.Host.sound c.args.host.now).fits opened.file bytes reads) c.next.ensures.read.changes took c.in_ok-key.ensures.ok c.requires.tree c.next.ensures.tree sequential
     c.next.ensures.causes.reads c.partition_of_pair.ensures.reads (subst (λ (o : Option Pair). PassesOne tree c.next.new.self o) c.in-Some.is
     c.in_ok-next.ensures.ends).1 entry_buffered c.in_ok-key.ensures.page
@@ -141,10 +141,10 @@ pub returns-clause-ok : goal.returns-clause-ok
 returns-clause-ok g c partitioner content is have =
     let view = g.H.Host.view c.args.host.now in
     let gives = subst (λ (o : Option Pair). ReadsNextPair view c.args.tree.now.buffered.file c.args.tree.now.tree c.args.tree.now.passed c.next.new.self.passed o) c.in-Some.is c.in_ok-next.ensures.ok in
-    let took = next_takes view c.args.opened.now c.args.tree.now.buffered.file c.args.tree.now.tree c.args.tree.now.passed c.next.new.self.passed
+    let took = steps_to_next view c.args.opened.now c.args.tree.now.buffered.file c.args.tree.now.tree c.args.tree.now.passed c.next.new.self.passed
     (Some c.in-Some.pair) c.requires.file c.requires.tree (λ bytes reads. (g.met.H.Host.sound c.args.host.now).fits c.args.opened.now.file bytes
     reads) gives partitioner content is have in
-    took_partition view _ c.args.opened.now c.args.tree.now.passed c.next.new.self.passed c.in-Some.pair c.in_ok-key.key c.in_ok-key.part partitioner
+    steps_to_partition view _ c.args.opened.now c.args.tree.now.passed c.next.new.self.passed c.in-Some.pair c.in_ok-key.key c.in_ok-key.part partitioner
     content is c.next.ensures.read.changes took c.in_ok-key.ensures.ok
 
 pub returns-in_err-key-clause-read : goal.returns-in_err-key-clause-read

@@ -2,7 +2,7 @@ use Rattle.std.proofs.Common.{◌+◌, length, arith, true, false}
 use Rattle.std.proofs.lemmas.Result.{err_from_is_err_and}
 use Rattle.sasi_gated.proofs.Costs.{once_to}
 use Rattle.sasi_gated.proofs.Opens.{on_damage_weaker}
-use Rattle.sasi_gated.proofs.Nexts.{read_closed, read_opened, not_too_long, undamaged, goes_on}
+use Rattle.sasi_gated.proofs.Nexts.{read_closed, read_opened, not_too_long, undamaged, reads_next}
 use Rattle.sasi_gated.proofs.next.read_next.Goals as goal
 
 pub returns-in_err-read_record-clause-undamaged : goal.returns-in_err-read_record-clause-undamaged
@@ -19,7 +19,7 @@ returns-then-not-branch-clause-gate g c bytes done rest is gate =
 
 pub returns-then-not-branch-clause-records : goal.returns-then-not-branch-clause-records
 returns-then-not-branch-clause-records g c done left told reading =
-    goes_on _ (g.H.Host.view c.read_record.new.host) c.args.buffered.now.file c.args.at done left
+    reads_next _ (g.H.Host.view c.read_record.new.host) c.args.buffered.now.file c.args.at done left
     (g.met.H.Host.sound c.args.host.now) told reading c.read_record.ensures.changes false c.args.at c.read_record.new.out.items
     (λ bytes before rest is gate. returns-then-not-branch-clause-gate g c bytes before rest is gate)
 
@@ -30,7 +30,7 @@ returns-clause-gate g c bytes done rest is gate =
 
 pub returns-clause-records : goal.returns-clause-records
 returns-clause-records g c done left told reading =
-    goes_on _ (g.H.Host.view c.read_record.new.host) c.args.buffered.now.file c.args.at done left
+    reads_next _ (g.H.Host.view c.read_record.new.host) c.args.buffered.now.file c.args.at done left
     (g.met.H.Host.sound c.args.host.now) told reading c.read_record.ensures.changes true (c.args.at + 5 + c.len.result) c.read_record.new.out.items
     (λ bytes before rest is gate. returns-clause-gate g c bytes before rest is gate)
 

@@ -31,4 +31,4 @@ pub returns-clause-once : goal.returns-clause-once
 returns-clause-once g c begins =
     part_once _ _ c.args.buffered.now.file c.args.buffered.now.page c.load_page.new.self.page c.args.at (c.args.at + c.min-count.result)
     c.in_ok-load_page.ensures.page (omega arith) (returns-clause-within g c)
-    (load_pages c.args.buffered.now.page c.args.at _ _ begins c.load_page.ensures.causes.reads c.load_page.ensures.spared)
+    (load_pages c.args.buffered.now.page c.args.at _ _ begins c.load_page.ensures.causes.reads c.load_page.ensures.same_page)

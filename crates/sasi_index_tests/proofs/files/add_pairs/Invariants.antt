@@ -1,4 +1,4 @@
-use Rattle.sasi_indexwrite.specs.Gathered.{AreUpTo}
+use Rattle.sasi_indexwrite.specs.TermsSoFar.{AreUpTo}
 use Rattle.sasi_index_tests.proofs.files.add_pairs.Given as goal
 
 abbrev pub invariant-loop-k : goal.invariant-loop-k

@@ -1,4 +1,4 @@
-use Rattle.sasi_indexwrite.specs.Gathered.{AreUpTo}
+use Rattle.sasi_indexwrite.specs.TermsSoFar.{AreUpTo}
 use Rattle.sasi_index_tests.proofs.ranges.add_ends_of_ints.Given as goal
 
 abbrev pub invariant-loop-number : goal.invariant-loop-number

@@ -1,7 +1,7 @@
 use Rattle.std.proofs.Common.{List, sym, subst}
 use Rattle.sasi_segments.specs.declared.posting.Posting.{Posting}
 use Rattle.sasi_types.specs.declared.list_kind.ListKind.TheVariants.{Stored}
-use Rattle.sasi_indexwrite.specs.Gathered.{AreUpTo}
+use Rattle.sasi_indexwrite.specs.TermsSoFar.{AreUpTo}
 use Rattle.sasi_indexwrite.proofs.Fillings.{added_up_to}
 use Rattle.sasi_indexbench.proofs.filled.add.Goals as goal
 

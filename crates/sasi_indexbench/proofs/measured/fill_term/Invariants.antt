@@ -1,4 +1,4 @@
-use Rattle.sasi_indexwrite.specs.Gathered.{AreUpTo}
+use Rattle.sasi_indexwrite.specs.TermsSoFar.{AreUpTo}
 use Rattle.sasi_indexbench.proofs.measured.fill_term.Given as goal
 
 abbrev pub invariant-loop-turn : goal.invariant-loop-turn

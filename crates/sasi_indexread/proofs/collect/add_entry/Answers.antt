@@ -4,7 +4,7 @@ use Rattle.sasi_host.proofs.ChangeLaws.{stays}
 use Rattle.sasi_host.proofs.DamageLaws.{shown_as}
 use Rattle.sasi_tokentree.specs.Damages.{ShowsTree}
 use Rattle.sasi_indexread.specs.Collects.{ShowsList}
-use Rattle.sasi_indexread.proofs.Scanning.{tree_spares}
+use Rattle.sasi_indexread.proofs.Scanning.{no_false_tree}
 use Rattle.sasi_indexread.proofs.collect.add_entry.Goals as goal
 
 pub returns-then-not-is_match-clause-read : goal.returns-then-not-is_match-clause-read
@@ -23,4 +23,4 @@ returns-in_err-add-in-Some-clause-damaged g c =
 pub returns-in_err-add-in-Some-clause-undamaged : goal.returns-in_err-add-in-Some-clause-undamaged
 returns-in_err-add-in-Some-clause-undamaged g c =
     let p = err_from_is_err_and c.from_residual.result c.from_residual.ensures.1 in
-    rw (p.1, p.2) (tree_spares (g.H.Host.view c.args.host.now) c.args.merge.now.file c.args.entry.now c.in-Some.list c.in_err-add-in-Some.field-0.0 c.in-Some.is c.in_err-add-in-Some.ensures.undamaged)
+    rw (p.1, p.2) (no_false_tree (g.H.Host.view c.args.host.now) c.args.merge.now.file c.args.entry.now c.in-Some.list c.in_err-add-in-Some.field-0.0 c.in-Some.is c.in_err-add-in-Some.ensures.undamaged)

@@ -18,7 +18,7 @@ use Rattle.sasi_indexread.specs.Collects.{AddsEntry}
 use Rattle.sasi_indexread.proofs.Collecting.{Collects}
 use Rattle.sasi_indexread.proofs.Counting.{Costs, costs_begin, costs_end, costs_on, entry_within, next_within, none_added}
 use Rattle.sasi_indexread.proofs.ReadChains.{spends_none, spends_on, there_same}
-use Rattle.sasi_indexread.proofs.Scanning.{blocks_shown, blocks_spare, comes_to_end, entry_listed, entry_there, gives_at, goes_further, list_shown, list_spares, passes_all, starts, stops_here}
+use Rattle.sasi_indexread.proofs.Scanning.{blocks_shown, collects_further, comes_to_end, entry_listed, entry_there, gives_at, list_shown, no_false_blocks, no_false_list, passes_all, starts, stops_here}
 use Rattle.sasi_indexread.proofs.collect.add_terms.Goals as goal
 
 pub returns-in_err-entry-clause-damaged : goal.returns-in_err-entry-clause-damaged
@@ -32,7 +32,7 @@ pub returns-in_err-entry-clause-undamaged : goal.returns-in_err-entry-clause-und
 returns-in_err-entry-clause-undamaged g c =
     let p = err_from_is_err_and c.from_residual.result c.from_residual.ensures.1 in
     let v = g.H.Host.view c.args.host.now in
-    rw (p.1, p.2) (blocks_spare v v c.args.index.now c.new-blocks.result.buffered.file c.new-blocks.result.blocks c.in_err-entry.field-0.0 (λ bytes is. (g.met.H.Host.sound c.args.host.now).fits c.args.index.now.file bytes is) (stays v)
+    rw (p.1, p.2) (no_false_blocks v v c.args.index.now c.new-blocks.result.buffered.file c.new-blocks.result.blocks c.in_err-entry.field-0.0 (λ bytes is. (g.met.H.Host.sound c.args.host.now).fits c.args.index.now.file bytes is) (stays v)
     (ap (λ (s : Scan). s.buffered.file) c.new-blocks.ensures ∙ c.file.ensures) (ap (λ (s : Scan). s.blocks) c.new-blocks.ensures ∙ c.blocks-2.ensures) c.in_err-entry.ensures.undamaged)
 
 pub loop-turn-init : goal.loop-turn-init
@@ -90,7 +90,7 @@ returns-in_err-add_entry-clause-undamaged g c =
     let here = c.loop-turn.invariant in
     let index = c.args.index.now in
     let m = c.args.merge.now in
-    rw (p.1, p.2) (list_spares v (g.H.Host.view c.loop-turn.host) index c.loop-turn.merge.file c.in-Some.found c.in_err-add_entry.field-0.0 (λ bytes is. (g.met.H.Host.sound c.args.host.now).fits index.file bytes is) here.read.changes here.named
+    rw (p.1, p.2) (no_false_list v (g.H.Host.view c.loop-turn.host) index c.loop-turn.merge.file c.in-Some.found c.in_err-add_entry.field-0.0 (λ bytes is. (g.met.H.Host.sound c.args.host.now).fits index.file bytes is) here.read.changes here.named
     (λ content on. entry_there v index c.args.op.now c.args.body.now (λ bytes is. (g.met.H.Host.sound c.args.host.now).fits index.file bytes is) c.requires.some content on m.last m.floor c.loop-turn._turn c.loop-turn.blocks.page c.loop-turn.blocks.index c.in-Some.found
     (sources_of c.loop-turn.merge)
     (subst (λ (o : Option TermEntry). Collects on.bytes content index.blocks c.args.op.now c.args.body.now m.last m.floor c.loop-turn._turn c.loop-turn.blocks.page c.loop-turn.blocks.index o (sources_of c.loop-turn.merge)) c.in-Some.is (here.collects content on)))
@@ -136,7 +136,7 @@ pub returns-in_err-entry-2-clause-undamaged : goal.returns-in_err-entry-2-clause
 returns-in_err-entry-2-clause-undamaged g c =
     let p = err_from_is_err_and c.from_residual-in_err-entry-2.result c.from_residual-in_err-entry-2.ensures.1 in
     let here = c.loop-turn.invariant in
-    rw (p.1, p.2) (blocks_spare (g.H.Host.view c.args.host.now) (g.H.Host.view c.add_entry.new.host) c.args.index.now c.loop-turn.blocks.buffered.file c.loop-turn.blocks.blocks c.in_err-entry-2.field-0.0
+    rw (p.1, p.2) (no_false_blocks (g.H.Host.view c.args.host.now) (g.H.Host.view c.add_entry.new.host) c.args.index.now c.loop-turn.blocks.buffered.file c.loop-turn.blocks.blocks c.in_err-entry-2.field-0.0
     (λ bytes is. (g.met.H.Host.sound c.args.host.now).fits c.args.index.now.file bytes is)
     (then_same _ _ _ Same here.read.changes c.add_entry.ensures.read.changes) here.blocks_file here.blocks_ref c.in_err-entry-2.ensures.undamaged)
 
@@ -175,7 +175,7 @@ loop-turn-preserved g c =
       stands = here_some v u index.file c.loop-turn.blocks.buffered.file c.loop-turn.blocks.page c.loop-turn.blocks.index c.next.new.self.page c.next.new.self.index c.in_ok-entry-2.entry
           (λ bytes is. reads_still v u index.file c.loop-turn.blocks.buffered.file bytes change here.blocks_file is) c.in_ok-entry-2.ensures.stands;
       collects = λ content on.
-          goes_further v index c.args.op.now c.args.body.now (λ bytes is. (g.met.H.Host.sound c.args.host.now).fits index.file bytes is) c.requires.some content on u m.last m.floor c.loop-turn._turn c.loop-turn.blocks.page c.loop-turn.blocks.index
+          collects_further v index c.args.op.now c.args.body.now (λ bytes is. (g.met.H.Host.sound c.args.host.now).fits index.file bytes is) c.requires.some content on u m.last m.floor c.loop-turn._turn c.loop-turn.blocks.page c.loop-turn.blocks.index
           c.next.new.self.page c.next.new.self.index c.in-Some.found c.in_ok-entry-2.entry old new c.loop-turn.merge.file c.loop-turn.blocks.buffered.file c.loop-turn.blocks.blocks here.blocks_file here.blocks_ref here.named w here.read.changes change
           (subst (λ (o : Option TermEntry). Collects on.bytes content index.blocks c.args.op.now c.args.body.now m.last m.floor c.loop-turn._turn c.loop-turn.blocks.page c.loop-turn.blocks.index o old) c.in-Some.is (here.collects content on))
           (subst (λ (b : Bool). AddsEntry w c.loop-turn.merge.file c.args.index.now.kind c.args.op.now c.args.body.now c.in-Some.found b old new) more c.in_ok-add_entry.ensures.ok) c.in_ok-entry-2.ensures.ok;

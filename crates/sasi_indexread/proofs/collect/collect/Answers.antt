@@ -8,8 +8,8 @@ use Rattle.sasi_indexread.specs.Damages.{ShowsIndex}
 use Rattle.sasi_indexread.proofs.Callers.{listed_still, open_still}
 use Rattle.sasi_indexread.proofs.Counting.{none_unread, spill_pairs}
 use Rattle.sasi_indexread.proofs.ReadChains.{read_both}
-use Rattle.sasi_indexread.proofs.Scanning.{spill_shown, spill_spares}
-use Rattle.sasi_indexread.proofs.Searching.{gives_before, listed_now, spares_before, spill_alone, spill_gives, spill_gives_now, spill_listed}
+use Rattle.sasi_indexread.proofs.Scanning.{no_false_spill, spill_shown}
+use Rattle.sasi_indexread.proofs.Searching.{gives_before, listed_now, no_false_before, spill_alone, spill_gives, spill_gives_now, spill_listed}
 use Rattle.sasi_indexread.proofs.collect.collect.Goals as goal
 
 pub returns-in_err-add-clause-damaged : goal.returns-in_err-add-clause-damaged
@@ -20,7 +20,7 @@ returns-in_err-add-clause-damaged g c =
 pub returns-in_err-add-clause-undamaged : goal.returns-in_err-add-clause-undamaged
 returns-in_err-add-clause-undamaged g c =
     let p = err_from_is_err_and c.from_residual.result c.from_residual.ensures.1 in
-    rw (p.1, p.2) (spill_spares (g.H.Host.view c.args.host.now) c.args.index.now c.args.merge.now.file c.spill.result c.in_err-add.field-0.0 (λ bytes is. (g.met.H.Host.sound c.args.host.now).fits c.args.index.now.file bytes is) c.requires.named c.spill.ensures
+    rw (p.1, p.2) (no_false_spill (g.H.Host.view c.args.host.now) c.args.index.now c.args.merge.now.file c.spill.result c.in_err-add.field-0.0 (λ bytes is. (g.met.H.Host.sound c.args.host.now).fits c.args.index.now.file bytes is) c.requires.named c.spill.ensures
     c.in_err-add.ensures.undamaged)
 
 pub returns-then-asks_none-clause-ok : goal.returns-then-asks_none-clause-ok
@@ -53,7 +53,7 @@ returns-in_err-add_terms-clause-damaged g c =
 pub returns-in_err-add_terms-clause-undamaged : goal.returns-in_err-add_terms-clause-undamaged
 returns-in_err-add_terms-clause-undamaged g c =
     let p = err_from_is_err_and c.from_residual-in_err-add_terms.result c.from_residual-in_err-add_terms.ensures.1 in
-    rw (p.1, p.2) (spares_before (g.H.Host.view c.args.host.now) (g.H.Host.view c.add.new.host) c.args.index.now c.in_err-add_terms.field-0.0 c.add.ensures.read.changes c.in_err-add_terms.ensures.undamaged)
+    rw (p.1, p.2) (no_false_before (g.H.Host.view c.args.host.now) (g.H.Host.view c.add.new.host) c.args.index.now c.in_err-add_terms.field-0.0 c.add.ensures.read.changes c.in_err-add_terms.ensures.undamaged)
 
 pub returns-in_err-add_terms-clause-read : goal.returns-in_err-add_terms-clause-read
 returns-in_err-add_terms-clause-read g c = read_both _ _ _ _ _ _ _ _ c.args.index.now.file c.args.merge.now.file c.args.index.now.file c.requires.named refl c.add.ensures.read c.add_terms.ensures.read

@@ -4,13 +4,13 @@ use Rattle.sasi_treemerge.specs.Merges.{sources_of}
 use Rattle.sasi_treemerge.proofs.Stepping.{read_next}
 use Rattle.sasi_indexread.specs.Searches.{searching}
 use Rattle.sasi_indexread.proofs.Counting.{left_then}
-use Rattle.sasi_indexread.proofs.Searching.{merge_shown, merge_spares, next_can, next_gives, open_spares, then_fails, then_goes}
+use Rattle.sasi_indexread.proofs.Searching.{merge_shown, next_can, next_gives, no_false_merge, no_false_open, then_fails, then_succeeds}
 use Rattle.sasi_indexread.proofs.search.next_pair.Goals as goal
 
 pub returns-in_err-keep_collected-clause-undamaged : goal.returns-in_err-keep_collected-clause-undamaged
 returns-in_err-keep_collected-clause-undamaged g c =
     let p = err_from_is_err_and c.from_residual.result c.from_residual.ensures.1 in
-    rw (p.1, p.2) (open_spares (g.H.Host.view c.args.host.now) (searching c.args.index.now c.args.op.now c.args.body.now c.args.is_collected.now c.args.merge.now) c.in_err-keep_collected.field-0.0 c.in_err-keep_collected.ensures.undamaged)
+    rw (p.1, p.2) (no_false_open (g.H.Host.view c.args.host.now) (searching c.args.index.now c.args.op.now c.args.body.now c.args.is_collected.now c.args.merge.now) c.in_err-keep_collected.field-0.0 c.in_err-keep_collected.ensures.undamaged)
 
 pub returns-in_err-found-clause-damaged : goal.returns-in_err-found-clause-damaged
 returns-in_err-found-clause-damaged g c =
@@ -23,7 +23,7 @@ pub returns-in_err-found-clause-undamaged : goal.returns-in_err-found-clause-und
 returns-in_err-found-clause-undamaged g c =
     let p = err_from_is_err_and c.from_residual-in_err-found.result c.from_residual-in_err-found.ensures.1 in
     let can = c.in_ok-keep_collected.ensures.search in
-    rw (p.1, p.2) (merge_spares (g.H.Host.view c.args.host.now) (g.H.Host.view c.keep_collected.new.host) c.args.index.now c.args.op.now c.args.body.now c.args.is_collected.now c.keep_collected.new.is_collected c.args.merge.now c.keep_collected.new.merge
+    rw (p.1, p.2) (no_false_merge (g.H.Host.view c.args.host.now) (g.H.Host.view c.keep_collected.new.host) c.args.index.now c.args.op.now c.args.body.now c.args.is_collected.now c.keep_collected.new.is_collected c.args.merge.now c.keep_collected.new.merge
     c.in_err-found.field-0.0 c.in_ok-keep_collected.ensures.collected can.named c.in_ok-keep_collected.ensures.ok c.in_err-found.ensures.undamaged)
 
 pub returns-in_err-found-clause-read : goal.returns-in_err-found-clause-read
@@ -53,7 +53,7 @@ returns-clause-read g c =
 
 pub returns-clause-causes : goal.returns-clause-causes
 returns-clause-causes g c =
-    then_goes (g.H.Host.view c.args.host.now) (g.H.Host.view c.keep_collected.new.host) (g.H.Host.view c.next.new.host) _ _ c.in_ok-keep_collected.field-0 c.in_ok-found.found c.in_ok-found.found c.in_ok-keep_collected.ensures.causes c.in_ok-found.ensures.causes
+    then_succeeds (g.H.Host.view c.args.host.now) (g.H.Host.view c.keep_collected.new.host) (g.H.Host.view c.next.new.host) _ _ c.in_ok-keep_collected.field-0 c.in_ok-found.found c.in_ok-found.found c.in_ok-keep_collected.ensures.causes c.in_ok-found.ensures.causes
 
 pub returns-clause-reads : goal.returns-clause-reads
 returns-clause-reads g c content was =

@@ -4,7 +4,7 @@ use Rattle.sasi_host.specs.Disk.{IsSynced}
 use Rattle.sasi_host.proofs.ChangeLaws.{touches_on}
 use Rattle.sasi_tokentree.specs.Format.{IsRising}
 use Rattle.sasi_indexwrite.specs.Format.{header_bytes}
-use Rattle.sasi_indexwrite.specs.Gathered.{gathered}
+use Rattle.sasi_indexwrite.specs.TermsSoFar.{gathered}
 use Rattle.sasi_indexwrite.proofs.Appends.{of_file}
 use Rattle.sasi_indexwrite.proofs.Grouping.{gathered_is}
 use Rattle.sasi_indexwrite.proofs.Making.{begin_room, begin_written, index_made}

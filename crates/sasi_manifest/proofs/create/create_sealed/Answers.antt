@@ -9,7 +9,7 @@ use Rattle.sasi_manifest.specs.declared.listing.Listing.{Listing}
 use Rattle.sasi_manifest.specs.Edits.{encoded}
 use Rattle.sasi_manifest.specs.Format.{IsRewritten}
 use Rattle.sasi_manifest.specs.OpenManifest.{Creates, IsUnsealed}
-use Rattle.sasi_manifest.specs.Listings.{IsWritable, after_all, edits_of, with_record_counted}
+use Rattle.sasi_manifest.specs.Listings.{FitsWidths, after_all, rewrite_edits, with_record_counted}
 use Rattle.sasi_manifest.proofs.CrashMoments.{unmade, unmade_touches, made_file, made_file_touches, made_both, made_both_touches, stands_made, room_made, new_builds, new_is_open}
 use Rattle.sasi_manifest.proofs.Records.{all_writable}
 use Rattle.sasi_manifest.proofs.create.create_sealed.Given.{Over}
@@ -32,7 +32,7 @@ moments g c made is unsealed =
 
 pub encode-requires-clause-writable : goal.encode-requires-clause-writable
 encode-requires-clause-writable g c =
-    subst (AllByRecursion IsWritable) (sym (c.deref.ensures.value ∙ c.in_ok-edits.ensures)) (all_writable None (edits_of c.args.listing.now) c.requires.apply)
+    subst (AllByRecursion FitsWidths) (sym (c.deref.ensures.value ∙ c.in_ok-edits.ensures)) (all_writable None (rewrite_edits c.args.listing.now) c.requires.apply)
 
 pub returns-in_err-edits-clause-any_moment : goal.returns-in_err-edits-clause-any_moment
 returns-in_err-edits-clause-any_moment g c made is unsealed = unmade (g.H.Host.view c.args.host.now) c.args.number made (g.met.H.Host.sound c.args.host.now) unsealed

@@ -2,7 +2,7 @@ use Rattle.std.proofs.Common.{◌++◌, length, arith, ◌∙◌, ap, append_ass
 use Rattle.std.specs.List.{flat_map}
 use Rattle.std.specs.Int.{to_be_bytes, w32}
 use Rattle.sasi_host.specs.Names.{Bytes}
-use Rattle.sasi_manifest.specs.Listings.{IsWritable}
+use Rattle.sasi_manifest.specs.Listings.{FitsWidths}
 use Rattle.sasi_manifest.proofs.EditBytes.{each_at, edit_bytes, edits_put, put_step}
 use Rattle.sasi_manifest.proofs.encode.put_edits.Goals as goal
 
@@ -13,11 +13,11 @@ loop-edit-init c = record {
 }
 
 pub put_edit-requires : goal.put_edit-requires
-put_edit-requires c = (each_at IsWritable c.args.edits.now c.loop-edit.edit-index c.edit-item.result (omega (arith, c.loop-edit-test.true)) c.edit-item.is c.loop-edit.invariant.writable).0
+put_edit-requires c = (each_at FitsWidths c.args.edits.now c.loop-edit.edit-index c.edit-item.result (omega (arith, c.loop-edit-test.true)) c.edit-item.is c.loop-edit.invariant.writable).0
 
 pub loop-edit-preserved : goal.loop-edit-preserved
 loop-edit-preserved c = record {
-  writable = (each_at IsWritable c.args.edits.now c.loop-edit.edit-index c.edit-item.result (omega (arith, c.loop-edit-test.true)) c.edit-item.is c.loop-edit.invariant.writable).1;
+  writable = (each_at FitsWidths c.args.edits.now c.loop-edit.edit-index c.edit-item.result (omega (arith, c.loop-edit-test.true)) c.edit-item.is c.loop-edit.invariant.writable).1;
   bytes = put_step edit_bytes c.args.edits.now c.loop-edit.edit-index c.edit-item.result c.loop-edit.out.items c.put_edit.new.out.items _ (omega (arith, c.loop-edit-test.true)) c.edit-item.is c.in_ok-put_edit.ensures c.loop-edit.invariant.bytes;
 }
 

@@ -10,8 +10,8 @@ use Rattle.sasi_manifest.specs.declared.listing.Listing.{Listing}
 use Rattle.sasi_formats.specs.Formats.{Encodes}
 use Rattle.sasi_manifest.specs.Edits.{edits}
 use Rattle.sasi_manifest.specs.Listings.{after_all, with_record_counted, length_of}
-use Rattle.sasi_manifest.specs.Reading.{ReadingGoesOn, IsDamageOfRecord}
-use Rattle.sasi_manifest.proofs.Opening.{shown_outside, shown_at_gate, shown_inside, shown_empty, goes_on_next, read_whole, reads_no_further, reads_within}
+use Rattle.sasi_manifest.specs.Reading.{IsReadingManifest, IsDamageOfRecord}
+use Rattle.sasi_manifest.proofs.Opening.{shown_outside, shown_at_gate, shown_inside, shown_empty, reading_next_record, read_whole, reads_no_further, reads_within}
 use Rattle.sasi_manifest.proofs.open.open_manifest.Goals as goal
 
 pub returns-in_err-gated-clause-damaged : goal.returns-in_err-gated-clause-damaged
@@ -54,7 +54,7 @@ loop-listed-preserved g c =
     let took = subst (λ (l : Bytes). (es : List Edit) × Encodes (edits c.loop-listed.listed) es l
     × (Some c.in_ok-take_record.field-0 ≡ with_record_counted l (after_all c.loop-listed.listed es))) c.deref.ensures.value
     c.in_ok-take_record.ensures.ok in
-    goes_on_next (g.H.Host.view c.args.host.now) (g.H.Host.view c.loop-listed.host)
+    reading_next_record (g.H.Host.view c.args.host.now) (g.H.Host.view c.loop-listed.host)
     (g.H.Host.view c.next.new.host) c.args.number c.loop-listed.gated c.next.new.self c.loop-listed.listed c.in_ok-take_record.field-0
     c.next.new.out.items took.0 c.loop-listed.invariant gate c.next.ensures.changes offset next.fits next.file
     next.usable next.causes.ok next.causes.out c.next.ensures.buffered (next.once c.loop-listed.invariant.once.sequential).ok took.1 took.2
@@ -65,7 +65,7 @@ returns-in-None-clause-damaged g c =
     (g.H.Host.view c.loop-listed.host) c.loop-listed.gated.file c.loop-listed.gated.at c.next.new.self.at more c.next.new.out.items)
     c.if-branch.false c.in_ok-next.ensures.gate in
     shown_empty (g.H.Host.view c.args.host.now) (g.H.Host.view c.loop-listed.host) c.args.number c.next.new.self.at c.loop-listed.gated c.next.new.out.items c.empty.result
-    (subst (λ (l : Option Listing). ReadingGoesOn (g.H.Host.view c.args.host.now)
+    (subst (λ (l : Option Listing). IsReadingManifest (g.H.Host.view c.args.host.now)
     (g.H.Host.view c.loop-listed.host) c.args.number c.loop-listed.gated l) c.in-None.is c.loop-listed.invariant) gate c.empty.ensures.file
     c.empty.ensures.at c.empty.ensures.rule c.empty.ensures.seen
 
@@ -78,7 +78,7 @@ returns-clause-ok g c =
     (g.H.Host.view c.loop-listed.host) c.loop-listed.gated.file c.loop-listed.gated.at c.next.new.self.at more c.next.new.out.items)
     c.if-branch.false c.in_ok-next.ensures.gate in
     read_whole (g.H.Host.view c.args.host.now) (g.H.Host.view c.loop-listed.host) c.args.number c.next.new.self.at c.loop-listed.gated c.in-Some.listing c.next.new.out.items
-    (subst (λ (l : Option Listing). ReadingGoesOn (g.H.Host.view c.args.host.now) (g.H.Host.view c.loop-listed.host) c.args.number c.loop-listed.gated l) c.in-Some.is c.loop-listed.invariant) gate
+    (subst (λ (l : Option Listing). IsReadingManifest (g.H.Host.view c.args.host.now) (g.H.Host.view c.loop-listed.host) c.args.number c.loop-listed.gated l) c.in-Some.is c.loop-listed.invariant) gate
 
 pub returns-clause-changes : goal.returns-clause-changes
 returns-clause-changes g c = then_same _ _ _ Same c.loop-listed.invariant.same c.next.ensures.changes

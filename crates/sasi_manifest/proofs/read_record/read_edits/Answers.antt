@@ -4,7 +4,7 @@ use Rattle.sasi_formats.specs.Reader.{Got, read}
 use Rattle.sasi_formats.specs.Gives.{FailsWith}
 use Rattle.sasi_manifest.specs.declared.listing.Listing.{Listing}
 use Rattle.sasi_manifest.specs.Edits.{edit}
-use Rattle.sasi_manifest.proofs.Records.{read_applies, reading_fails, reading_goes_on, reading_ends}
+use Rattle.sasi_manifest.proofs.Records.{read_applies, reading_fails, reading_next_edit, reading_ends}
 use Rattle.sasi_manifest.proofs.read_record.read_edits.Goals as goal
 
 pub returns-in_err-edit-clause-fails : goal.returns-in_err-edit-clause-fails
@@ -21,7 +21,7 @@ apply-requires c =
 
 pub loop-turn-preserved : goal.loop-turn-preserved
 loop-turn-preserved c =
-    reading_goes_on c.args.listed c.args.count c.args.reader.now (c.args.count - c.loop-turn._turn) (c.args.count - (c.loop-turn._turn + 1)) c.loop-turn.listed _ c.loop-turn.reader c.read_edit.new.reader c.in_ok-edit.edit
+    reading_next_edit c.args.listed c.args.count c.args.reader.now (c.args.count - c.loop-turn._turn) (c.args.count - (c.loop-turn._turn + 1)) c.loop-turn.listed _ c.loop-turn.reader c.read_edit.new.reader c.in_ok-edit.edit
     (omega (arith, c.loop-turn-test.true)) (subst (λ (l : Option Listing). read (edit l) c.loop-turn.reader ≡ Got c.in_ok-edit.edit c.read_edit.new.reader) c.as_ref.ensures.value c.in_ok-edit.ensures) c.in_ok-apply.ensures c.loop-turn.invariant
 
 pub returns-clause-ok : goal.returns-clause-ok

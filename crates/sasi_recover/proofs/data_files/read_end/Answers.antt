@@ -10,7 +10,7 @@ use Rattle.sasi_host.proofs.DamageLaws.{shown_before}
 use Rattle.sasi_dataread.specs.Damages.{ShowsHeaderOrFooter}
 use Rattle.sasi_dataread.specs.HeaderAndFooter.{EndsAsDataFile, TellsMaxTimestamp}
 use Rattle.sasi_dataread.specs.Reads.{NoFalseDataDamage}
-use Rattle.sasi_recover.proofs.DataEnds.{end_before, limited, spares_before, time_before}
+use Rattle.sasi_recover.proofs.DataEnds.{end_before, limited, no_false_before, time_before}
 use Rattle.sasi_recover.proofs.SyncedFolder.{synced_same, there_same}
 use Rattle.sasi_recover.proofs.data_files.read_end.Goals as goal
 
@@ -26,8 +26,8 @@ returns-in_err-time-clause-damaged g c =
 pub returns-in_err-time-clause-undamaged : goal.returns-in_err-time-clause-undamaged
 returns-in_err-time-clause-undamaged g c =
     let p = err_from_is_err_and c.from_residual-in_err-time.result c.from_residual-in_err-time.ensures.1 in
-    let spares = subst (λ (file : FileName). NoFalseDataDamage (g.H.Host.view c.sync.new.self) file c.in_err-time.field-0.0) c.data-file.ensures c.in_err-time.ensures.undamaged in
-    rw (p.1, p.2) (spares_before (g.H.Host.view c.args.host.now) (g.H.Host.view c.sync.new.self) c.sync.ensures.changes c.args.number c.in_err-time.field-0.0 spares)
+    let no_false = subst (λ (file : FileName). NoFalseDataDamage (g.H.Host.view c.sync.new.self) file c.in_err-time.field-0.0) c.data-file.ensures c.in_err-time.ensures.undamaged in
+    rw (p.1, p.2) (no_false_before (g.H.Host.view c.args.host.now) (g.H.Host.view c.sync.new.self) c.sync.ensures.changes c.args.number c.in_err-time.field-0.0 no_false)
 
 pub returns-in_err-time-clause-changes : goal.returns-in_err-time-clause-changes
 returns-in_err-time-clause-changes g c = then_same (g.H.Host.view c.args.host.now) (g.H.Host.view c.sync.new.self) (g.H.Host.view c.read_max_timestamp.new.host) Same c.sync.ensures.changes c.read_max_timestamp.ensures.changes

@@ -1,7 +1,7 @@
 use Rattle.std.proofs.Common.{◌≡◌, drop}
 use Rattle.std.specs.Prelude.{max}
-use Rattle.sasi_layout.specs.Layout.{greatest_file}
+use Rattle.sasi_layout.specs.Layout.{largest_file}
 use Rattle.sasi_recover.proofs.files.largest_in.Given as goal
 
 abbrev pub invariant-loop-file : goal.invariant-loop-file
-invariant-loop-file l = max l.largest (greatest_file (drop l.file-index l.files)) ≡ greatest_file l.files
+invariant-loop-file l = max l.largest (largest_file (drop l.file-index l.files)) ≡ largest_file l.files

@@ -5,7 +5,7 @@ use Rattle.sasi_host.specs.View.{View, IsThere}
 use Rattle.sasi_host.specs.Disk.{Changes, Lists, Same}
 use Rattle.sasi_host.proofs.ChangeLaws.{then_same}
 use Rattle.sasi_recover.specs.Opening.{IsRecordSynced}
-use Rattle.sasi_recover.proofs.SyncedFolder.{folder_same, lists_same, listed_settled, listed_there}
+use Rattle.sasi_recover.proofs.SyncedFolder.{folder_same, lists_same, listed_durable, listed_there}
 use Rattle.sasi_recover.proofs.folder_sync.sync_all.Goals as goal
 
 pub returns-in_err-names-clause-changes : goal.returns-in_err-names-clause-changes
@@ -42,7 +42,7 @@ returns-clause-names g c = lists_now (g.H.Host.view c.sync_folder.new.self) (g.H
 pub returns-clause-folder_durable : goal.returns-clause-folder_durable
 returns-clause-folder_durable g c =
     let now = g.H.Host.view c.sync_records.new.host in
-    listed_settled now c.in_ok-names.names.items (g.met.H.Host.sound c.sync_records.new.host)
+    listed_durable now c.in_ok-names.names.items (g.met.H.Host.sound c.sync_records.new.host)
     (lists_now (g.H.Host.view c.sync_folder.new.self) (g.H.Host.view c.list.new.self) now c.in_ok-names.names.items c.list.ensures.changes
     c.sync_records.ensures.changes c.in_ok-names.ensures.ok)
     (folder_same (g.H.Host.view c.list.new.self) now c.sync_records.ensures.changes

@@ -5,7 +5,7 @@ use Rattle.sasi_host.specs.Names.{log_name, manifest_name, seal_name}
 use Rattle.sasi_manifest.specs.declared.listing.Listing.{Listing}
 use Rattle.sasi_manifest.specs.Edits.{AllApply, encoded}
 use Rattle.sasi_manifest.specs.Format.{IsRewritten}
-use Rattle.sasi_manifest.specs.Listings.{edits_of}
+use Rattle.sasi_manifest.specs.Listings.{rewrite_edits}
 use Rattle.sasi_folder.proofs.FolderLaws.{kinds_apart}
 use Rattle.sasi_recover.specs.declared.opened.Opened.{Opened}
 use Rattle.sasi_recover.proofs.FirstFiles.{kept_first}
@@ -32,10 +32,10 @@ create-requires-2-clause-seal g c =
     (kinds_apart _ _ (omega arith)) c.create.ensures.changes) (c.requires.none (seal_name 1))
 
 pub create-requires-2-clause-apply : goal.create-requires-2-clause-apply
-create-requires-2-clause-apply g c = subst (λ (l : Listing). AllApply None (edits_of l)) (sym c.new-listing.ensures) (first_apply c.args.partitioner)
+create-requires-2-clause-apply g c = subst (λ (l : Listing). AllApply None (rewrite_edits l)) (sym c.new-listing.ensures) (first_apply c.args.partitioner)
 
 pub create-requires-2-clause-short : goal.create-requires-2-clause-short
-create-requires-2-clause-short g c = subst (λ (l : Listing). length (encoded (edits_of l)) ≤ 2 ^ 30) (sym c.new-listing.ensures)
+create-requires-2-clause-short g c = subst (λ (l : Listing). length (encoded (rewrite_edits l)) ≤ 2 ^ 30) (sym c.new-listing.ensures)
     (first_short c.args.partitioner)
 
 pub returns-in_err-manifest-clause-any_moment : goal.returns-in_err-manifest-clause-any_moment

@@ -13,8 +13,8 @@ use Rattle.sasi_recover.proofs.Differences.{causes_behind, host_causes, host_dif
 use Rattle.sasi_recover.proofs.FolderOpening.{files_same, never_differs, new_damage, new_moments, new_opens, new_serves, new_undamaged, same_moments_of, same_then_any, sealed_damage, sealed_differs, sealed_keeps, sealed_moments, sealed_opens, sealed_shape, unsealed_fresh, unsealed_keeps}
 use Rattle.sasi_recover.proofs.ReadsOfOpening.{store_behind}
 use Rattle.sasi_recover.proofs.SealedStore.{held_is_listed, listed_is_there}
-use Rattle.sasi_recover.proofs.Settling.{same_any}
-use Rattle.sasi_recover.proofs.SyncedFolder.{settled_fresh}
+use Rattle.sasi_recover.proofs.Checking.{same_any}
+use Rattle.sasi_recover.proofs.SyncedFolder.{durable_fresh}
 use Rattle.sasi_recover.proofs.ListedFiles.{foreign_unsealed, listed_same, listed_sealed, unsealed}
 use Rattle.sasi_recover.proofs.opening.open.Goals as goal
 
@@ -47,7 +47,7 @@ returns-in-None-clause-serves g c folder l files shape =
     let none = subst (λ (l : List FileName). IsHighestSeal l None) c.deref.ensures.value c.in-None.ensures in
     let new = unsealed_fresh b c.in_ok-names.names.items c.args.asked folder l c.in_ok-names.ensures.names files_b none shape in
     new_serves b (g.H.Host.view c.open_new.new.host) l _ c.open_new.result new.1 c.open_new.ensures.serves (ap (λ (o : Option Folder). is_some o) files_b)
-    (settled_fresh b folder (g.met.H.Host.sound c.sync_all.new.host) c.in_ok-names.ensures.folder_durable files_b new.0)
+    (durable_fresh b folder (g.met.H.Host.sound c.sync_all.new.host) c.in_ok-names.ensures.folder_durable files_b new.0)
 
 pub returns-in-None-clause-opens : goal.returns-in-None-clause-opens
 returns-in-None-clause-opens g c folder files =
@@ -65,7 +65,7 @@ returns-in-None-clause-safe g c =
       any_moment = λ folder l files shape. (
           let files_b = files_same a b folder c.sync_all.ensures.changes files in
           let new = unsealed_fresh b c.in_ok-names.names.items c.args.asked folder l c.in_ok-names.ensures.names files_b none shape in
-          let fresh = settled_fresh b folder (g.met.H.Host.sound c.sync_all.new.host) c.in_ok-names.ensures.folder_durable files_b new.0 in
+          let fresh = durable_fresh b folder (g.met.H.Host.sound c.sync_all.new.host) c.in_ok-names.ensures.folder_durable files_b new.0 in
           new_moments a b (g.H.Host.view c.open_new.new.host) c.args.asked l new.1 c.sync_all.ensures.changes (c.open_new.ensures.any_moment fresh));
       kept = λ folder number files sealed. absurd (unsealed b c.in_ok-names.names.items folder number c.in_ok-names.ensures.names (files_same a b folder c.sync_all.ensures.changes files) none sealed);
       foreign = λ folder files foreign. (
@@ -88,7 +88,7 @@ returns-in-None-clause-reports g c =
       undamaged = λ folder l files shape. (
           let files_b = files_same a b folder c.sync_all.ensures.changes files in
           let new = unsealed_fresh b c.in_ok-names.names.items c.args.asked folder l c.in_ok-names.ensures.names files_b none shape in
-          IfErr-weaker c.open_new.result _ _ (λ fault spares. new_undamaged b folder fault spares files_b new.0) c.open_new.ensures.undamaged);
+          IfErr-weaker c.open_new.result _ _ (λ fault no_false. new_undamaged b folder fault no_false files_b new.0) c.open_new.ensures.undamaged);
       differs = λ folder wanted kept files asks keeps apart. absurd (unsealed_keeps b c.in_ok-names.names.items folder kept c.in_ok-names.ensures.names (files_same a b folder c.sync_all.ensures.changes files) none keeps);
       differs_only = λ folder files. IfErr-weaker c.open_new.result _ _ (λ fault never. never_differs _ fault never) c.open_new.ensures.same;
     }

@@ -2,15 +2,15 @@ use Rattle.std.proofs.Common.{◌∙◌, ap, subst, sym}
 use Rattle.std.proofs.lemmas.Result.{err_from_is_err_and}
 use Rattle.sasi_host.specs.Damages.{OnDamage}
 use Rattle.sasi_host.specs.Disk.{Changes, Same}
-use Rattle.sasi_folder.specs.Damages.{ShowsListed}
-use Rattle.sasi_folder.specs.Stands.{IsSealed}
+use Rattle.sasi_folder.specs.Damages.{ShowsManifestOrListed}
+use Rattle.sasi_folder.specs.FolderContents.{IsSealed}
 use Rattle.sasi_manifest.specs.declared.listing.Listing.{Listing}
 use Rattle.sasi_recover.specs.declared.opened.Opened.{Opened}
 use Rattle.sasi_recover.proofs.Differences.{causes_behind, difference_causes, difference_only, difference_told, keeps_read, manifest_differs, kept_as_read, no_damage, ok_causes, open_damage, read_causes, read_differs}
 use Rattle.sasi_recover.proofs.FolderOpening.{files_same, manifest_is_read, moments_on, no_shape_damage, same_then_any, shape_damage}
 use Rattle.sasi_recover.proofs.ReadsOfOpening.{manifest_read, store_read}
-use Rattle.sasi_recover.proofs.Settling.{same_any, same_moments}
-use Rattle.sasi_recover.proofs.SyncedFolder.{lists_same, settled_same}
+use Rattle.sasi_recover.proofs.Checking.{same_any, same_moments}
+use Rattle.sasi_recover.proofs.SyncedFolder.{durable_same, lists_same}
 use Rattle.sasi_recover.proofs.ListedFiles.{listed_read, listed_same}
 use Rattle.sasi_recover.proofs.opening.open_sealed.Goals as goal
 
@@ -20,7 +20,7 @@ returns-in_err-manifest-clause-any_moment g c folder l logs files number has = s
 pub returns-in_err-manifest-clause-damaged : goal.returns-in_err-manifest-clause-damaged
 returns-in_err-manifest-clause-damaged g c folder files =
     let p = err_from_is_err_and c.from_residual.result c.from_residual.ensures.1 in
-    rw (p.1, p.2) (open_damage (ShowsListed folder c.args.number) c.in_err-manifest.field-0.0 (c.in_err-manifest.ensures.damaged folder files))
+    rw (p.1, p.2) (open_damage (ShowsManifestOrListed folder c.args.number) c.in_err-manifest.field-0.0 (c.in_err-manifest.ensures.damaged folder files))
 
 pub returns-in_err-manifest-clause-differs : goal.returns-in_err-manifest-clause-differs
 returns-in_err-manifest-clause-differs g c folder wanted kept files asks keeps apart =
@@ -55,7 +55,7 @@ returns-in_err-check_partitioner-clause-any_moment g c folder l logs files numbe
 pub returns-in_err-check_partitioner-clause-damaged : goal.returns-in_err-check_partitioner-clause-damaged
 returns-in_err-check_partitioner-clause-damaged g c folder files =
     let p = err_from_is_err_and c.from_residual-in_err-check_partitioner.result c.from_residual-in_err-check_partitioner.ensures.1 in
-    rw (p.1, p.2) (no_damage c.args.asked c.listing.result.now.partitioner (ShowsListed folder c.args.number) c.in_err-check_partitioner.field-0.0 c.in_err-check_partitioner.ensures.other)
+    rw (p.1, p.2) (no_damage c.args.asked c.listing.result.now.partitioner (ShowsManifestOrListed folder c.args.number) c.in_err-check_partitioner.field-0.0 c.in_err-check_partitioner.ensures.other)
 
 pub returns-in_err-check_partitioner-clause-undamaged : goal.returns-in_err-check_partitioner-clause-undamaged
 returns-in_err-check_partitioner-clause-undamaged g c folder l logs files number has =
@@ -91,7 +91,7 @@ open_listed-requires-clause-lists g c =
 
 pub open_listed-requires-clause-folder_durable : goal.open_listed-requires-clause-folder_durable
 open_listed-requires-clause-folder_durable g c =
-    settled_same (g.H.Host.view c.args.host.now) (g.H.Host.view c.read_manifest.new.host) c.read_manifest.ensures.changes c.requires.folder_durable
+    durable_same (g.H.Host.view c.args.host.now) (g.H.Host.view c.read_manifest.new.host) c.read_manifest.ensures.changes c.requires.folder_durable
 
 pub open_listed-requires-clause-read : goal.open_listed-requires-clause-read
 open_listed-requires-clause-read g c =
@@ -108,7 +108,7 @@ pub returns-in_err-opened-clause-damaged : goal.returns-in_err-opened-clause-dam
 returns-in_err-opened-clause-damaged g c folder files =
     let files_b = files_same (g.H.Host.view c.args.host.now) (g.H.Host.view c.read_manifest.new.host) folder c.read_manifest.ensures.changes files in
     let p = err_from_is_err_and c.from_residual-in_err-opened.result c.from_residual-in_err-opened.ensures.1 in
-    rw (p.1, p.2) (open_damage (ShowsListed folder c.args.number) c.in_err-opened.field-0.0 (subst (λ n. OnDamage (ShowsListed folder n) c.in_err-opened.field-0.0) c.in_ok-manifest.ensures.number (c.in_err-opened.ensures.damaged folder files_b)))
+    rw (p.1, p.2) (open_damage (ShowsManifestOrListed folder c.args.number) c.in_err-opened.field-0.0 (subst (λ n. OnDamage (ShowsManifestOrListed folder n) c.in_err-opened.field-0.0) c.in_ok-manifest.ensures.number (c.in_err-opened.ensures.damaged folder files_b)))
 
 pub returns-in_err-opened-clause-undamaged : goal.returns-in_err-opened-clause-undamaged
 returns-in_err-opened-clause-undamaged g c folder l logs files number has =

@@ -37,7 +37,7 @@ returns-in_ok-merge-in-Some-clause-merged g c =
           c.in_ok-mutation.field-0) c.requires.types read.mutations;
       file = read.file;
       usable = read.usable;
-      goes_on = λ more. read.goes_on some;
+      advances = λ more. read.advances some;
       fits = read.fits;
       room = λ none. cc;
     }
@@ -57,7 +57,7 @@ returns-in-None-clause-merged g c =
           c.in_ok-mutation.field-0) c.requires.types read.mutations;
       file = read.file;
       usable = read.usable;
-      goes_on = λ more. cc;
+      advances = λ more. cc;
       fits = read.fits;
       room = λ none. read.room c.in-None.is;
     }

@@ -41,7 +41,7 @@ returns-in_err-merge_next-clause-causes g c =
 pub merging-smaller : goal.merging-smaller
 merging-smaller g c =
     let next = c.in_ok-merge_next.ensures.merged in
-    omega (arith, next.goes_on c.if-branch.true, next.fits)
+    omega (arith, next.advances c.if-branch.true, next.fits)
 
 pub merging-preserved : goal.merging-preserved
 merging-preserved g c =

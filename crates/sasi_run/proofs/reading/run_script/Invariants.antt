@@ -5,7 +5,7 @@ use Rattle.sasi_run.proofs.reading.run_script.Given as goal
 
 abbrev pub invariant-reads : goal.invariant-reads
 invariant-reads g l = record {
-  goes : ReadsCrashSafe l.fn.session l.session (g.S.Source.view l.fn.script).left (g.S.Source.view l.script).left (g.H.Host.view l.fn.host)
+  crash_safe : ReadsCrashSafe l.fn.session l.session (g.S.Source.view l.fn.script).left (g.S.Source.view l.script).left (g.H.Host.view l.fn.host)
       (g.H.Host.view l.host) l.taken;
   few : l.taken ≤ 2 ^ 40;
   unfailed : NothingFailed (g.S.Source.view l.fn.script) (g.S.Source.view l.script) (g.H.Host.view l.fn.host) (g.H.Host.view l.host);

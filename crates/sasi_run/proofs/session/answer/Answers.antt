@@ -68,17 +68,17 @@ returns-clause-causes g c = record { ok = output_went _ _ _ _ (step_went _ _ _ c
 pub returns-clause-told : goal.returns-clause-told
 returns-clause-told g c = told_on _ _ _ c.step.ensures.changes.told c.emit_reply.ensures.emits.told
 
-pub returns-in_err-outcome-clause-spared : goal.returns-in_err-outcome-clause-spared
-returns-in_err-outcome-clause-spared g c w serves needs =
-    let spared = rw c.piece.ensures at c.step.ensures.spared in
-    ap (λ h. (g.H.Host.view h).calls) (spared _ (state_served _ _ w serves) needs)
+pub returns-in_err-outcome-clause-no_file_call : goal.returns-in_err-outcome-clause-no_file_call
+returns-in_err-outcome-clause-no_file_call g c w serves needs =
+    let no_file_call = rw c.piece.ensures at c.step.ensures.no_file_call in
+    ap (λ h. (g.H.Host.view h).calls) (no_file_call _ (state_served _ _ w serves) needs)
 
-pub returns-in_err-emit_reply-clause-spared : goal.returns-in_err-emit_reply-clause-spared
-returns-in_err-emit_reply-clause-spared g c w serves needs =
-    let spared = rw c.piece.ensures at c.step.ensures.spared in
-    c.emit_reply.ensures.causes.calls ∙ ap (λ h. (g.H.Host.view h).calls) (spared _ (state_served _ _ w serves) needs)
+pub returns-in_err-emit_reply-clause-no_file_call : goal.returns-in_err-emit_reply-clause-no_file_call
+returns-in_err-emit_reply-clause-no_file_call g c w serves needs =
+    let no_file_call = rw c.piece.ensures at c.step.ensures.no_file_call in
+    c.emit_reply.ensures.causes.calls ∙ ap (λ h. (g.H.Host.view h).calls) (no_file_call _ (state_served _ _ w serves) needs)
 
-pub returns-clause-spared : goal.returns-clause-spared
-returns-clause-spared g c w serves needs =
-    let spared = rw c.piece.ensures at c.step.ensures.spared in
-    c.emit_reply.ensures.causes.calls ∙ ap (λ h. (g.H.Host.view h).calls) (spared _ (state_served _ _ w serves) needs)
+pub returns-clause-no_file_call : goal.returns-clause-no_file_call
+returns-clause-no_file_call g c w serves needs =
+    let no_file_call = rw c.piece.ensures at c.step.ensures.no_file_call in
+    c.emit_reply.ensures.causes.calls ∙ ap (λ h. (g.H.Host.view h).calls) (no_file_call _ (state_served _ _ w serves) needs)

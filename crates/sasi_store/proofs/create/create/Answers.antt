@@ -4,24 +4,24 @@ use Rattle.std.proofs.Common.{Ok, ap, sym, subst, ◌∙◌, arith}
 use Rattle.std.proofs.lemmas.List.{length-map, map-append}
 use Rattle.std.proofs.lemmas.Result.{err_from_is_err_and}
 use Rattle.sasi_layout.specs.Moves.{Create}
-use Rattle.sasi_layout.specs.Serving.{StoreInHand}
+use Rattle.sasi_layout.specs.Serving.{StoreInMemory}
 use Rattle.sasi_manifest.proofs.EditBytes.{create_short}
 use Rattle.sasi_manifest.specs.Edits.{encoded}
 use Rattle.sasi_manifest.specs.Format.{IsNext}
 use Rattle.sasi_manifest.specs.declared.edit.Edit.{Edit}
 use Rattle.sasi_manifest.specs.declared.listing.Listing.{Listing}
 use Rattle.sasi_memtable.specs.MemtableView.{MemtableView}
-use Rattle.sasi_recover.specs.OpenedFolder.{table_in_hand}
+use Rattle.sasi_recover.specs.OpenedFolder.{opened_table}
 use Rattle.sasi_recover.specs.declared.opened.TableMap.{TableMap}
 use Rattle.sasi_schema.specs.Numbers.{RisesFrom}
 use Rattle.sasi_types.specs.declared.partitioner.Partitioner.{Partitioner}
 use Rattle.sasi_schema.specs.Defined.{definition}
 use Rattle.sasi_store.specs.MakesMoves.{MakesMoves}
-use Rattle.sasi_store.specs.StoreView.{hand_of}
+use Rattle.sasi_store.specs.StoreView.{memory_of}
 use Rattle.sasi_store.specs.Faults.{fault_of_call}
 use Rattle.sasi_store.specs.declared.fault.StepFault.TheVariants.{OutOfMemory}
-use Rattle.sasi_store.proofs.Creating.{create_made, create_stopped, edit_of, edits_for, hand_after_create, listed_after, nothing_held_yet}
-use Rattle.sasi_store.proofs.TablesInHand.{all_push, as_many, rises_push}
+use Rattle.sasi_store.proofs.Creating.{create_made, create_stopped, edit_of, edits_for, listed_after, memory_after_create, nothing_held_yet}
+use Rattle.sasi_store.proofs.TablesInMemory.{all_push, as_many, rises_push}
 use Rattle.sasi_store.proofs.MoveCauses.{call_failed, call_made, call_plain, made_then_full, makes_nothing}
 use Rattle.sasi_store.proofs.create.create.Goals as goal
 
@@ -29,11 +29,11 @@ pub returns-in_err-edits-clause-makes : goal.returns-in_err-edits-clause-makes
 returns-in_err-edits-clause-makes g c =
     let p = err_from_is_err_and c.from_residual.result c.from_residual.ensures.1 in
     let v = g.H.Host.view c.args.host.now in
-    rw (p.1, p.2) (makes_nothing (λ l. Create (definition c.args.table) ∷ []) v (g.met.H.Host.sound c.args.host.now) (hand_of c.args.parts.now) (hand_of c.args.parts.now) OutOfMemory tt tt (λ e. cc))
+    rw (p.1, p.2) (makes_nothing (λ l. Create (definition c.args.table) ∷ []) v (g.met.H.Host.sound c.args.host.now) (memory_of c.args.parts.now) (memory_of c.args.parts.now) OutOfMemory tt tt (λ e. cc))
 
 pub append-requires-clause-short : goal.append-requires-clause-short
 append-requires-clause-short g c =
-    let edits : c.in_ok-edits.edits ≡ edits_for (hand_of c.args.parts.now) c.args.table = c.in_ok-edits.ensures ∙ ap (λ (k : Listing). edit_of c.args.table k.last ∷ []) c.listing.ensures.listing in
+    let edits : c.in_ok-edits.edits ≡ edits_for (memory_of c.args.parts.now) c.args.table = c.in_ok-edits.ensures ∙ ap (λ (k : Listing). edit_of c.args.table k.last ∷ []) c.listing.ensures.listing in
     let t = c.args.table in
     let short = create_short c.args.parts.now.manifest.listing t.number t.name t.columns t.key c.args.parts.now.manifest.listing.last c.requires.creatable.applies in
     subst (λ (es : List Edit). length (encoded es) ≤ 2 ^ 30) (sym edits) (omega (arith, short))
@@ -43,8 +43,8 @@ returns-in_err-append-clause-makes g c =
     let p = err_from_is_err_and c.from_residual-in_err-append.result c.from_residual-in_err-append.ensures.1 in
     let a = g.H.Host.view c.args.host.now in
     let b = g.H.Host.view c.append.new.host in
-    let edits : c.in_ok-edits.edits ≡ edits_for (hand_of c.args.parts.now) c.args.table = c.in_ok-edits.ensures ∙ ap (λ (k : Listing). edit_of c.args.table k.last ∷ []) c.listing.ensures.listing in
-    rw (p.1, p.2) (create_stopped a b (g.met.H.Host.sound c.args.host.now) (hand_of c.args.parts.now) c.args.table c.requires.ready c.requires.creatable _ (fault_of_call c.in_err-append.field-0.0)
+    let edits : c.in_ok-edits.edits ≡ edits_for (memory_of c.args.parts.now) c.args.table = c.in_ok-edits.ensures ∙ ap (λ (k : Listing). edit_of c.args.table k.last ∷ []) c.listing.ensures.listing in
+    rw (p.1, p.2) (create_stopped a b (g.met.H.Host.sound c.args.host.now) (memory_of c.args.parts.now) c.args.table c.requires.ready c.requires.creatable _ (fault_of_call c.in_err-append.field-0.0)
     (λ next is. c.append.ensures.any_moment next (subst (λ (es : List Edit). IsNext c.args.parts.now.manifest.listing es next) (sym edits) is)) c.append.ensures.changes c.in_err-append.ensures.causes.reads (call_plain c.in_err-append.field-0.0)
     (call_failed a b c.in_err-append.field-0.0 c.in_err-append.ensures.causes))
 
@@ -53,8 +53,8 @@ returns-in_err-restore_table-clause-makes g c =
     let p = err_from_is_err_and c.from_residual-in_err-restore_table.result c.from_residual-in_err-restore_table.ensures.1 in
     let a = g.H.Host.view c.args.host.now in
     let b = g.H.Host.view c.append.new.host in
-    let edits : c.in_ok-edits.edits ≡ edits_for (hand_of c.args.parts.now) c.args.table = c.in_ok-edits.ensures ∙ ap (λ (k : Listing). edit_of c.args.table k.last ∷ []) c.listing.ensures.listing in
-    rw (p.1, p.2) (create_stopped a b (g.met.H.Host.sound c.args.host.now) (hand_of c.args.parts.now) c.args.table c.requires.ready c.requires.creatable _ OutOfMemory
+    let edits : c.in_ok-edits.edits ≡ edits_for (memory_of c.args.parts.now) c.args.table = c.in_ok-edits.ensures ∙ ap (λ (k : Listing). edit_of c.args.table k.last ∷ []) c.listing.ensures.listing in
+    rw (p.1, p.2) (create_stopped a b (g.met.H.Host.sound c.args.host.now) (memory_of c.args.parts.now) c.args.table c.requires.ready c.requires.creatable _ OutOfMemory
     (λ next is. c.append.ensures.any_moment next (subst (λ (es : List Edit). IsNext c.args.parts.now.manifest.listing es next) (sym edits) is)) c.append.ensures.changes c.in_ok-append.ensures.causes.reads tt
     (made_then_full a b _ c.in_ok-append.ensures.causes))
 
@@ -63,8 +63,8 @@ returns-in_err-push-clause-makes g c =
     let p = err_from_is_err_and c.from_residual-in_err-push.result c.from_residual-in_err-push.ensures.1 in
     let a = g.H.Host.view c.args.host.now in
     let b = g.H.Host.view c.append.new.host in
-    let edits : c.in_ok-edits.edits ≡ edits_for (hand_of c.args.parts.now) c.args.table = c.in_ok-edits.ensures ∙ ap (λ (k : Listing). edit_of c.args.table k.last ∷ []) c.listing.ensures.listing in
-    rw (p.1, p.2) (create_stopped a b (g.met.H.Host.sound c.args.host.now) (hand_of c.args.parts.now) c.args.table c.requires.ready c.requires.creatable _ OutOfMemory
+    let edits : c.in_ok-edits.edits ≡ edits_for (memory_of c.args.parts.now) c.args.table = c.in_ok-edits.ensures ∙ ap (λ (k : Listing). edit_of c.args.table k.last ∷ []) c.listing.ensures.listing in
+    rw (p.1, p.2) (create_stopped a b (g.met.H.Host.sound c.args.host.now) (memory_of c.args.parts.now) c.args.table c.requires.ready c.requires.creatable _ OutOfMemory
     (λ next is. c.append.ensures.any_moment next (subst (λ (es : List Edit). IsNext c.args.parts.now.manifest.listing es next) (sym edits) is)) c.append.ensures.changes c.in_ok-append.ensures.causes.reads tt
     (made_then_full a b _ c.in_ok-append.ensures.causes))
 
@@ -73,27 +73,27 @@ returns-clause-makes g c =
     let a = g.H.Host.view c.args.host.now in
     let b = g.H.Host.view c.append.new.host in
     let e = c.in_ok-append.ensures in
-    let edits : c.in_ok-edits.edits ≡ edits_for (hand_of c.args.parts.now) c.args.table = c.in_ok-edits.ensures ∙ ap (λ (k : Listing). edit_of c.args.table k.last ∷ []) c.listing.ensures.listing in
-    let listed : IsNext c.args.parts.now.manifest.listing (edits_for (hand_of c.args.parts.now) c.args.table) c.append.new.self.listing = subst (λ (es : List Edit). IsNext c.args.parts.now.manifest.listing es c.append.new.self.listing) edits e.listing in
-    let pushed : map table_in_hand c.push.new.tables.items ≡ map table_in_hand c.args.parts.now.tables.items ++ nothing_held_yet ∷ [] =
-    ap (map table_in_hand) c.in_ok-push.ensures ∙ map-append table_in_hand c.args.parts.now.tables.items _ ∙ ap (λ (m : MemtableView). map table_in_hand c.args.parts.now.tables.items ++ record { first = None; frozen = []; memtable = m.partitions } ∷ []) c.new.ensures in
+    let edits : c.in_ok-edits.edits ≡ edits_for (memory_of c.args.parts.now) c.args.table = c.in_ok-edits.ensures ∙ ap (λ (k : Listing). edit_of c.args.table k.last ∷ []) c.listing.ensures.listing in
+    let listed : IsNext c.args.parts.now.manifest.listing (edits_for (memory_of c.args.parts.now) c.args.table) c.append.new.self.listing = subst (λ (es : List Edit). IsNext c.args.parts.now.manifest.listing es c.append.new.self.listing) edits e.listing in
+    let pushed : map opened_table c.push.new.tables.items ≡ map opened_table c.args.parts.now.tables.items ++ nothing_held_yet ∷ [] =
+    ap (map opened_table) c.in_ok-push.ensures ∙ map-append opened_table c.args.parts.now.tables.items _ ∙ ap (λ (m : MemtableView). map opened_table c.args.parts.now.tables.items ++ record { first = None; frozen = []; memtable = m.partitions } ∷ []) c.new.ensures in
     let defined = c.in_ok-restore_table.ensures.ok in
-    let hand_is : hand_of (record c.args.parts.now { schema = c.restore_table.new.self; manifest = c.append.new.self; tables = c.push.new.tables }) ≡ hand_after_create c.args.table c.append.new.self (hand_of c.args.parts.now) =
-    λ i. record (hand_of c.args.parts.now) { definitions = defined i; manifest = c.append.new.self; tables = pushed i } in
-    subst (λ (s : StoreInHand). MakesMoves (λ l. Create (definition c.args.table) ∷ []) a b (hand_of c.args.parts.now) s (Ok tt)) (sym hand_is)
-    (create_made a b (g.met.H.Host.sound c.args.host.now) (hand_of c.args.parts.now) c.args.table c.requires.ready c.requires.creatable tt c.append.new.self
+    let memory_is : memory_of (record c.args.parts.now { schema = c.restore_table.new.self; manifest = c.append.new.self; tables = c.push.new.tables }) ≡ memory_after_create c.args.table c.append.new.self (memory_of c.args.parts.now) =
+    λ i. record (memory_of c.args.parts.now) { definitions = defined i; manifest = c.append.new.self; tables = pushed i } in
+    subst (λ (s : StoreInMemory). MakesMoves (λ l. Create (definition c.args.table) ∷ []) a b (memory_of c.args.parts.now) s (Ok tt)) (sym memory_is)
+    (create_made a b (g.met.H.Host.sound c.args.host.now) (memory_of c.args.parts.now) c.args.table c.requires.ready c.requires.creatable tt c.append.new.self
     (λ next is. e.any_moment next (subst (λ (es : List Edit). IsNext c.args.parts.now.manifest.listing es next) (sym edits) is)) e.changes e.number listed e.ok (e.room) e.usable e.causes.reads (call_made a b _ tt e.causes))
 
 pub returns-clause-parts : goal.returns-clause-parts
 returns-clause-parts g c =
     let a = g.H.Host.view c.args.host.now in
     let b = g.H.Host.view c.append.new.host in
-    let store = hand_of c.args.parts.now in
+    let store = memory_of c.args.parts.now in
     let listing = c.args.parts.now.manifest.listing in
     let old = c.args.parts.now.tables.items in
     let count = as_many listing.partitioner listing.floor listing.last store.definitions store.tables c.requires.ready.tables in
     let number : c.args.table.number ≡ 1 + length (map (λ (t : TableMap). t.number) old) =
-    omega (arith, count, length-map old table_in_hand, length-map old (λ (t : TableMap). t.number), c.requires.creatable.number) in
+    omega (arith, count, length-map old opened_table, length-map old (λ (t : TableMap). t.number), c.requires.creatable.number) in
     let edits : c.in_ok-edits.edits ≡ edits_for store c.args.table = c.in_ok-edits.ensures ∙ ap (λ (k : Listing). edit_of c.args.table k.last ∷ []) c.listing.ensures.listing in
     let listed : IsNext listing (edits_for store c.args.table) c.append.new.self.listing = subst (λ (es : List Edit). IsNext listing es c.append.new.self.listing) edits c.in_ok-append.ensures.listing in
     let same = (listed_after a b (g.met.H.Host.sound c.args.host.now) store c.args.table c.requires.ready c.requires.creatable c.append.new.self.listing listed).0 in

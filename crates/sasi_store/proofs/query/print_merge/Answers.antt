@@ -5,12 +5,12 @@ use Rattle.sasi_host.proofs.ChangeLaws.{stays, then_same}
 use Rattle.sasi_host.specs.Damages.{OnDamage}
 use Rattle.sasi_host.specs.Disk.{Same}
 use Rattle.sasi_host.specs.Names.{Folder}
-use Rattle.sasi_store.specs.Sources.{AreReady, IsListed, ShowsListed}
-use Rattle.sasi_store.specs.Paging.{GoReading, GoWithin}
+use Rattle.sasi_store.specs.Sources.{AreReady, IsListedSource, ShowsListed}
+use Rattle.sasi_store.specs.Paging.{MovesReading, MovesWithin}
 use Rattle.sasi_store.specs.Left.{PrintsNext}
-use Rattle.sasi_store.proofs.Pages.{gone_by, none_read, reads_go_on, stops_on}
+use Rattle.sasi_store.proofs.Pages.{gone_by, none_read, reads_joined, stops_on}
 use Rattle.sasi_store.proofs.Costs.{causes_behind, causes_memory, causes_of_fault, causes_ok, reads_same}
-use Rattle.sasi_store.proofs.Printing.{ends_on, goes_on, printing_begins, spares_on}
+use Rattle.sasi_store.proofs.Printing.{ends_on, no_false_on, printing_begins, printing_next}
 use Rattle.sasi_store.proofs.query.print_merge.Goals as goal
 
 pub loop-turn-init : goal.loop-turn-init
@@ -39,14 +39,14 @@ returns-in_err-print_next-clause-damaged g c files types listed =
     let f = c.in_err-print_next.field-0.0 in
     let p = err_from_is_err_and c.from_residual.result c.from_residual.ensures.1 in
     rw (p.1, p.2) (subst (λ (o : Option Folder). OnDamage (ShowsListed o files types) f) same
-    (c.in_err-print_next.ensures.damaged files types (subst (λ (o : Option Folder). AllByRecursion (IsListed o files types) c.loop-turn.sources.items) (sym same) (on.listed files types listed))))
+    (c.in_err-print_next.ensures.damaged files types (subst (λ (o : Option Folder). AllByRecursion (IsListedSource o files types) c.loop-turn.sources.items) (sym same) (on.listed files types listed))))
 
 pub returns-in_err-print_next-clause-undamaged : goal.returns-in_err-print_next-clause-undamaged
 returns-in_err-print_next-clause-undamaged g c partitioner lefts are rising =
     let view = g.H.Host.view in
     let on = c.loop-turn.invariant in
     let p = err_from_is_err_and c.from_residual.result c.from_residual.ensures.1 in
-    rw (p.1, p.2) (spares_on (view c.args.host.now) (view c.loop-turn.host) on.changes partitioner c.args.picked.now lefts c.loop-turn.heads c.loop-turn.sources.items c.args.reply.now c.loop-turn.reply c.loop-turn.rows
+    rw (p.1, p.2) (no_false_on (view c.args.host.now) (view c.loop-turn.host) on.changes partitioner c.args.picked.now lefts c.loop-turn.heads c.loop-turn.sources.items c.args.reply.now c.loop-turn.reply c.loop-turn.rows
     (on.printing partitioner lefts are rising) c.in_err-print_next.field-0.0 c.in_err-print_next.ensures.undamaged)
 
 pub returns-in_err-print_next-clause-changes : goal.returns-in_err-print_next-clause-changes
@@ -84,16 +84,16 @@ loop-turn-preserved g c =
     record {
       ready = subst (λ (o : Option Folder). AreReady o c.args.picked.now.key c.print_next.new.heads c.print_next.new.sources.items) same c.in_ok-print_next.ensures.ready;
       printing = λ p lefts are rising.
-          goes_on v w on.changes p c.args.picked.now lefts c.loop-turn.heads c.loop-turn.sources.items c.args.reply.now c.loop-turn.reply c.loop-turn.rows (on.printing p lefts are rising)
+          printing_next v w on.changes p c.args.picked.now lefts c.loop-turn.heads c.loop-turn.sources.items c.args.reply.now c.loop-turn.reply c.loop-turn.rows (on.printing p lefts are rising)
           c.print_next.new.heads c.print_next.new.sources.items c.print_next.new.reply c.in-Some.printed
           (λ q ls left rises. subst (λ (o : Option ℕ). PrintsNext w.files q c.args.picked.now ls c.print_next.new.heads c.print_next.new.sources.items c.loop-turn.reply c.print_next.new.reply o) c.in-Some.is (c.in_ok-print_next.ensures.ok q ls left rises));
       listed = λ files types listed.
-          subst (λ (o : Option Folder). AllByRecursion (IsListed o files types) c.print_next.new.sources.items) same
-          (c.in_ok-print_next.ensures.listed files types (subst (λ (o : Option Folder). AllByRecursion (IsListed o files types) c.loop-turn.sources.items) (sym same) (on.listed files types listed)));
+          subst (λ (o : Option Folder). AllByRecursion (IsListedSource o files types) c.print_next.new.sources.items) same
+          (c.in_ok-print_next.ensures.listed files types (subst (λ (o : Option Folder). AllByRecursion (IsListedSource o files types) c.loop-turn.sources.items) (sym same) (on.listed files types listed)));
       few = omega (arith, on.few, one);
       reads = λ p.
-          reads_go_on v.files p c.args.sources.now.items c.loop-turn.sources.items c.print_next.new.sources.items v.reads w.reads (view c.print_next.new.host).reads (on.reads p)
-          (subst (λ (o : Option Folder). GoReading o p c.loop-turn.sources.items c.print_next.new.sources.items w.reads (view c.print_next.new.host).reads) same (c.in_ok-print_next.ensures.reads p));
+          reads_joined v.files p c.args.sources.now.items c.loop-turn.sources.items c.print_next.new.sources.items v.reads w.reads (view c.print_next.new.host).reads (on.reads p)
+          (subst (λ (o : Option Folder). MovesReading o p c.loop-turn.sources.items c.print_next.new.sources.items w.reads (view c.print_next.new.host).reads) same (c.in_ok-print_next.ensures.reads p));
       changes = then_same _ _ _ Same on.changes c.print_next.ensures.changes;
       disk = c.in_ok-print_next.ensures.causes.ok ∙ on.disk;
       out = c.print_next.ensures.causes.out ∙ on.out;
@@ -116,8 +116,8 @@ pub returns-in-None-clause-reads : goal.returns-in-None-clause-reads
 returns-in-None-clause-reads g c p =
     let view = g.H.Host.view in
     let on = c.loop-turn.invariant in
-    reads_go_on (view c.args.host.now).files p c.args.sources.now.items c.loop-turn.sources.items c.print_next.new.sources.items (view c.args.host.now).reads (view c.loop-turn.host).reads (view c.print_next.new.host).reads (on.reads p)
-    (subst (λ (o : Option Folder). GoReading o p c.loop-turn.sources.items c.print_next.new.sources.items (view c.loop-turn.host).reads (view c.print_next.new.host).reads) (reads_same (view c.args.host.now) (view c.loop-turn.host) on.changes) (c.in_ok-print_next.ensures.reads p))
+    reads_joined (view c.args.host.now).files p c.args.sources.now.items c.loop-turn.sources.items c.print_next.new.sources.items (view c.args.host.now).reads (view c.loop-turn.host).reads (view c.print_next.new.host).reads (on.reads p)
+    (subst (λ (o : Option Folder). MovesReading o p c.loop-turn.sources.items c.print_next.new.sources.items (view c.loop-turn.host).reads (view c.print_next.new.host).reads) (reads_same (view c.args.host.now) (view c.loop-turn.host) on.changes) (c.in_ok-print_next.ensures.reads p))
 
 pub returns-in_err-print_next-clause-reads : goal.returns-in_err-print_next-clause-reads
 returns-in_err-print_next-clause-reads g c p paged =
@@ -125,7 +125,7 @@ returns-in_err-print_next-clause-reads g c p paged =
     let on = c.loop-turn.invariant in
     let q = err_from_is_err_and c.from_residual.result c.from_residual.ensures.1 in
     rw q.1 (stops_on (view c.args.host.now).files p c.args.sources.now.items c.loop-turn.sources.items c.print_next.new.sources.items (view c.args.host.now).reads (view c.loop-turn.host).reads (view c.print_next.new.host).reads c.print_next.result (on.reads p)
-    (subst (λ (o : Option Folder). GoWithin o p c.loop-turn.sources.items c.print_next.new.sources.items (view c.loop-turn.host).reads (view c.print_next.new.host).reads c.print_next.result) (reads_same (view c.args.host.now) (view c.loop-turn.host) on.changes) (c.print_next.ensures.reads p)) paged)
+    (subst (λ (o : Option Folder). MovesWithin o p c.loop-turn.sources.items c.print_next.new.sources.items (view c.loop-turn.host).reads (view c.print_next.new.host).reads c.print_next.result) (reads_same (view c.args.host.now) (view c.loop-turn.host) on.changes) (c.print_next.ensures.reads p)) paged)
 
 pub returns-clause-reads : goal.returns-clause-reads
 returns-clause-reads g c p paged =

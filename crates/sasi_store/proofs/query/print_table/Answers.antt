@@ -11,14 +11,14 @@ use Rattle.sasi_store.specs.Sources.{ShowsListed}
 use Rattle.sasi_store.proofs.Pages.{opened_within, whole_reads}
 use Rattle.sasi_store.proofs.Costs.{causes_behind, causes_of_fault, causes_ok, reads_same}
 use Rattle.sasi_store.proofs.Printing.{answer_is}
-use Rattle.sasi_store.proofs.Tables.{opening_spares_table, table_listed, table_printed, table_ready, table_spares}
+use Rattle.sasi_store.proofs.Tables.{no_false_opening_table, no_false_table, table_listed, table_printed, table_ready}
 use Rattle.sasi_store.proofs.query.print_table.Goals as goal
 
 pub returns-in_err-open_files-clause-undamaged : goal.returns-in_err-open_files-clause-undamaged
 returns-in_err-open_files-clause-undamaged g c =
     let view = g.H.Host.view in
     let p = err_from_is_err_and c.from_residual.result c.from_residual.ensures.1 in
-    rw (p.1, p.2) (opening_spares_table (view c.args.host.now) c.args.types.now c.args.files.now (map (λ (m : MemtableView). m.partitions) c.args.maps.now) c.args.maps.now c.in_err-open_files.field-0.0 refl c.in_err-open_files.ensures.undamaged)
+    rw (p.1, p.2) (no_false_opening_table (view c.args.host.now) c.args.types.now c.args.files.now (map (λ (m : MemtableView). m.partitions) c.args.maps.now) c.args.maps.now c.in_err-open_files.field-0.0 refl c.in_err-open_files.ensures.undamaged)
 
 pub print_merge-requires : goal.print_merge-requires
 print_merge-requires g c =
@@ -40,7 +40,7 @@ pub returns-in_err-rows-clause-undamaged : goal.returns-in_err-rows-clause-undam
 returns-in_err-rows-clause-undamaged g c =
     let view = g.H.Host.view in
     let p = err_from_is_err_and c.from_residual-in_err-rows.result c.from_residual-in_err-rows.ensures.1 in
-    rw (p.1, p.2) (table_spares (view c.args.host.now) (view c.open_files.new.host) c.open_files.ensures.changes c.args.types.now c.args.files.now c.args.maps.now c.open_files.new.heads c.open_files.new.sources.items c.add_maps.new.heads c.add_maps.new.sources.items
+    rw (p.1, p.2) (no_false_table (view c.args.host.now) (view c.open_files.new.host) c.open_files.ensures.changes c.args.types.now c.args.files.now c.args.maps.now c.open_files.new.heads c.open_files.new.sources.items c.add_maps.new.heads c.add_maps.new.sources.items
     c.in_ok-open_files.ensures.opened c.in_ok-add_maps.ensures.heads c.in_ok-add_maps.ensures.sources c.in_err-rows.field-0.0 c.in_err-rows.ensures.undamaged)
 
 pub returns-in_err-rows-clause-changes : goal.returns-in_err-rows-clause-changes

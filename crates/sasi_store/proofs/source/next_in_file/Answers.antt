@@ -1,5 +1,5 @@
 use Rattle.sasi_store.proofs.Pages.{scan_reads}
-use Rattle.sasi_store.proofs.Steps.{scan_spares, scan_steps}
+use Rattle.sasi_store.proofs.Steps.{no_false_scan, scan_steps}
 use Rattle.sasi_store.proofs.source.next_in_file.Goals as goal
 
 pub next-requires-clause-read : goal.next-requires-clause-read
@@ -15,7 +15,7 @@ pub returns-clause-damaged : goal.returns-clause-damaged
 returns-clause-damaged g c = c.next.ensures.damaged
 
 pub returns-clause-undamaged : goal.returns-clause-undamaged
-returns-clause-undamaged g c = scan_spares (g.H.Host.view c.args.host.now) c.args.scan.now c.next.result c.next.ensures.undamaged
+returns-clause-undamaged g c = no_false_scan (g.H.Host.view c.args.host.now) c.args.scan.now c.next.result c.next.ensures.undamaged
 
 pub returns-clause-changes : goal.returns-clause-changes
 returns-clause-changes g c = c.next.ensures.read.changes

@@ -5,11 +5,11 @@ use Rattle.sasi_host.proofs.ChangeLaws as changes
 use Rattle.sasi_host.specs.Disk.{Same}
 use Rattle.sasi_merge.specs.Merging.{with_token}
 use Rattle.sasi_host.specs.Names.{Folder}
-use Rattle.sasi_store.specs.Paging.{GoReading, GoWithin}
+use Rattle.sasi_store.specs.Paging.{MovesReading, MovesWithin}
 use Rattle.sasi_store.specs.Sources.{AreMoved}
-use Rattle.sasi_store.proofs.Pages.{none_read, reads_go_on, stops_on}
+use Rattle.sasi_store.proofs.Pages.{none_read, reads_joined, stops_on}
 use Rattle.sasi_store.proofs.Costs.{causes_behind, causes_of_fault, causes_ok, of_reads, reads_same}
-use Rattle.sasi_store.proofs.Advancing.{at_head, at_source, moving_shown, moving_spares, one_more, still_can}
+use Rattle.sasi_store.proofs.Advancing.{at_head, at_source, moving_shown, no_false_moving, one_more, still_can}
 use Rattle.sasi_store.proofs.sources.advance.Goals as goal
 
 pub loop-at-init : goal.loop-at-init
@@ -40,8 +40,8 @@ loop-at-preserved g c =
     record {
       moved = one_more (view c.args.host.now) (view c.loop-at.host) (with_token c.args.merge.now c.args.key.now) c.loop-at.at c.args.heads.now c.args.sources.now.items c.loop-at.heads c.loop-at.sources.items on.changes on.moved c.advance_at.new.heads c.advance_at.new.sources.items c.in_ok-advance_at.ensures.moved;
       reads = λ p.
-          reads_go_on (view c.args.host.now).files p c.args.sources.now.items c.loop-at.sources.items c.advance_at.new.sources.items (view c.args.host.now).reads (view c.loop-at.host).reads (view c.advance_at.new.host).reads (on.reads p)
-          (subst (λ (o : Option Folder). GoReading o p c.loop-at.sources.items c.advance_at.new.sources.items (view c.loop-at.host).reads (view c.advance_at.new.host).reads) (reads_same (view c.args.host.now) (view c.loop-at.host) on.changes) (c.in_ok-advance_at.ensures.reads p));
+          reads_joined (view c.args.host.now).files p c.args.sources.now.items c.loop-at.sources.items c.advance_at.new.sources.items (view c.args.host.now).reads (view c.loop-at.host).reads (view c.advance_at.new.host).reads (on.reads p)
+          (subst (λ (o : Option Folder). MovesReading o p c.loop-at.sources.items c.advance_at.new.sources.items (view c.loop-at.host).reads (view c.advance_at.new.host).reads) (reads_same (view c.args.host.now) (view c.loop-at.host) on.changes) (c.in_ok-advance_at.ensures.reads p));
       changes = then_same _ _ _ Same on.changes c.advance_at.ensures.changes;
       disk = c.in_ok-advance_at.ensures.causes.ok ∙ on.disk;
       out = c.advance_at.ensures.causes.out ∙ on.out;
@@ -60,7 +60,7 @@ returns-in_err-advance_at-clause-undamaged g c partitioner lefts are =
     let view = g.H.Host.view in
     let on = c.loop-at.invariant in
     let p = err_from_is_err_and c.from_residual.result c.from_residual.ensures.1 in
-    rw (p.1, p.2) (moving_spares (view c.args.host.now) (view c.loop-at.host) (with_token c.args.merge.now c.args.key.now) c.loop-at.at c.args.heads.now c.args.sources.now.items c.loop-at.heads c.loop-at.sources.items on.changes on.moved partitioner lefts c.in_err-advance_at.field-0.0 (omega (arith, on.end, c.loop-at-test.true)) c.in_err-advance_at.ensures.undamaged are)
+    rw (p.1, p.2) (no_false_moving (view c.args.host.now) (view c.loop-at.host) (with_token c.args.merge.now c.args.key.now) c.loop-at.at c.args.heads.now c.args.sources.now.items c.loop-at.heads c.loop-at.sources.items on.changes on.moved partitioner lefts c.in_err-advance_at.field-0.0 (omega (arith, on.end, c.loop-at-test.true)) c.in_err-advance_at.ensures.undamaged are)
 
 pub returns-in_err-advance_at-clause-changes : goal.returns-in_err-advance_at-clause-changes
 returns-in_err-advance_at-clause-changes g c = then_same _ _ _ Same c.loop-at.invariant.changes c.advance_at.ensures.changes
@@ -93,4 +93,4 @@ returns-in_err-advance_at-clause-reads g c p paged =
     let on = c.loop-at.invariant in
     let q = err_from_is_err_and c.from_residual.result c.from_residual.ensures.1 in
     rw q.1 (stops_on (view c.args.host.now).files p c.args.sources.now.items c.loop-at.sources.items c.advance_at.new.sources.items (view c.args.host.now).reads (view c.loop-at.host).reads (view c.advance_at.new.host).reads c.advance_at.result (on.reads p)
-    (subst (λ (o : Option Folder). GoWithin o p c.loop-at.sources.items c.advance_at.new.sources.items (view c.loop-at.host).reads (view c.advance_at.new.host).reads c.advance_at.result) (reads_same (view c.args.host.now) (view c.loop-at.host) on.changes) (c.advance_at.ensures.reads p)) paged)
+    (subst (λ (o : Option Folder). MovesWithin o p c.loop-at.sources.items c.advance_at.new.sources.items (view c.loop-at.host).reads (view c.advance_at.new.host).reads c.advance_at.result) (reads_same (view c.args.host.now) (view c.loop-at.host) on.changes) (c.advance_at.ensures.reads p)) paged)

@@ -4,7 +4,7 @@ use Rattle.sasi_host.proofs.ChangeLaws.{stays, then_same}
 use Rattle.sasi_host.specs.Disk.{Same}
 use Rattle.sasi_store.proofs.Pages.{next_reads, next_stops, opening_begins, opening_ends}
 use Rattle.sasi_store.proofs.Costs.{causes_behind, causes_of_fault, causes_ok, of_reads}
-use Rattle.sasi_store.proofs.Openings.{added_next, next_shown, next_spares, opened_all, still_there}
+use Rattle.sasi_store.proofs.Openings.{added_next, next_shown, no_false_next, opened_all, still_there}
 use Rattle.sasi_store.proofs.sources.open_files.Goals as goal
 
 pub loop-file-init : goal.loop-file-init
@@ -25,7 +25,7 @@ pub returns-in_err-open_source-clause-undamaged : goal.returns-in_err-open_sourc
 returns-in_err-open_source-clause-undamaged g c =
     let view = g.H.Host.view in
     let p = err_from_is_err_and c.from_residual.result c.from_residual.ensures.1 in
-    rw (p.1, p.2) (next_spares (view c.args.host.now) (view c.loop-file.host) c.args.types.now c.args.files.now c.loop-file.file-index c.file-item.result c.in_err-open_source.field-0.0 c.loop-file.invariant.changes c.loop-file-test.true c.file-item.is c.in_err-open_source.ensures.undamaged)
+    rw (p.1, p.2) (no_false_next (view c.args.host.now) (view c.loop-file.host) c.args.types.now c.args.files.now c.loop-file.file-index c.file-item.result c.in_err-open_source.field-0.0 c.loop-file.invariant.changes c.loop-file-test.true c.file-item.is c.in_err-open_source.ensures.undamaged)
 
 pub returns-in_err-open_source-clause-changes : goal.returns-in_err-open_source-clause-changes
 returns-in_err-open_source-clause-changes g c = then_same _ _ _ Same c.loop-file.invariant.changes c.open_source.ensures.changes

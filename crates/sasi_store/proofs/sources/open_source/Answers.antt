@@ -9,7 +9,7 @@ use Rattle.sasi_store.specs.declared.source.Source.TheVariants.{File}
 use Rattle.sasi_store.proofs.Pages.{open_reads, open_stops}
 use Rattle.sasi_store.proofs.Costs.{reads_same}
 use Rattle.sasi_store.proofs.Openings.{added_file}
-use Rattle.sasi_store.proofs.Steps.{first_shown, first_spares}
+use Rattle.sasi_store.proofs.Steps.{first_shown, no_false_first}
 use Rattle.sasi_store.proofs.sources.open_source.Goals as goal
 
 pub next-requires : goal.next-requires
@@ -32,7 +32,7 @@ returns-in_err-head-clause-undamaged g c =
     let v = view c.args.host.now in
     let f = c.in_err-head.field-0.0 in
     let p = err_from_is_err_and c.from_residual-in_err-head.result c.from_residual-in_err-head.ensures.1 in
-    rw (p.1, p.2) (first_spares v c.args.types.now c.args.file.now c.in_ok-scan.scan f c.in_ok-scan.ensures.opened
+    rw (p.1, p.2) (no_false_first v c.args.types.now c.args.file.now c.in_ok-scan.scan f c.in_ok-scan.ensures.opened
     (subst (λ (o : Option Folder). NoFalseSourceDamage o (File c.in_ok-scan.scan) f) (reads_same v (view c.open_file.new.host) c.open_file.ensures.changes) c.in_err-head.ensures.undamaged))
 
 pub returns-in_err-head-clause-changes : goal.returns-in_err-head-clause-changes

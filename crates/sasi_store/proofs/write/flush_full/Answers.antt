@@ -1,10 +1,10 @@
 use Rattle.std.proofs.Common.{◌-◌, ◌<◌, arith, length, refl, sym, ◌∙◌}
 use Rattle.sasi_layout.specs.Statements.{are_full}
-use Rattle.sasi_recover.specs.OpenedFolder.{table_in_hand}
-use Rattle.sasi_store.specs.StoreView.{hand_of}
+use Rattle.sasi_recover.specs.OpenedFolder.{opened_table}
+use Rattle.sasi_store.specs.StoreView.{memory_of}
 use Rattle.sasi_store.proofs.Composition.{full_holds, passes, passes_not}
-use Rattle.sasi_store.proofs.FlushingParts.{hand_at, holds_any}
-use Rattle.sasi_store.proofs.TablesInHand.{index_got}
+use Rattle.sasi_store.proofs.FlushingParts.{is_unflushed, memory_at}
+use Rattle.sasi_store.proofs.TablesInMemory.{index_got}
 use Rattle.sasi_store.proofs.write.flush_full.Goals as goal
 
 pub flush_table-requires-clause-held : goal.flush_table-requires-clause-held
@@ -13,7 +13,7 @@ flush_table-requires-clause-held g c =
     let inside : c.args.table - 1 < length c.args.parts.now.tables.items = omega (arith, there.some, there.inside) in
     let t = c.index.result.now in
     let got = index_got c.args.parts.now.tables.items (c.args.table - 1) t inside c.index.ensures in
-    holds_any c.args.parts.now c.args.table there.some t got (full_holds t.memtable.partitions (sym c.is_full.ensures ∙ c.if-is_full.true))
+    is_unflushed c.args.parts.now c.args.table there.some t got (full_holds t.memtable.partitions (sym c.is_full.ensures ∙ c.if-is_full.true))
 
 pub returns-then-is_full-clause-makes : goal.returns-then-is_full-clause-makes
 returns-then-is_full-clause-makes g c =
@@ -21,8 +21,8 @@ returns-then-is_full-clause-makes g c =
     let inside : c.args.table - 1 < length c.args.parts.now.tables.items = omega (arith, there.some, there.inside) in
     let t = c.index.result.now in
     let got = index_got c.args.parts.now.tables.items (c.args.table - 1) t inside c.index.ensures in
-    passes are_full c.args.table (g.H.Host.view c.args.host.now) (hand_of c.args.parts.now) (table_in_hand t) there.some (hand_at c.args.parts.now c.args.table t got) refl
-    (g.H.Host.view c.flush_table.new.host) (hand_of c.flush_table.new.parts) c.flush_table.result (sym c.is_full.ensures ∙ c.if-is_full.true) c.flush_table.ensures.makes
+    passes are_full c.args.table (g.H.Host.view c.args.host.now) (memory_of c.args.parts.now) (opened_table t) there.some (memory_at c.args.parts.now c.args.table t got) refl
+    (g.H.Host.view c.flush_table.new.host) (memory_of c.flush_table.new.parts) c.flush_table.result (sym c.is_full.ensures ∙ c.if-is_full.true) c.flush_table.ensures.makes
 
 pub returns-clause-makes : goal.returns-clause-makes
 returns-clause-makes g c =
@@ -30,7 +30,7 @@ returns-clause-makes g c =
     let inside : c.args.table - 1 < length c.args.parts.now.tables.items = omega (arith, there.some, there.inside) in
     let t = c.index.result.now in
     let got = index_got c.args.parts.now.tables.items (c.args.table - 1) t inside c.index.ensures in
-    passes_not are_full c.args.table (g.H.Host.view c.args.host.now) (hand_of c.args.parts.now) (table_in_hand t) there.some (hand_at c.args.parts.now c.args.table t got) refl
+    passes_not are_full c.args.table (g.H.Host.view c.args.host.now) (memory_of c.args.parts.now) (opened_table t) there.some (memory_at c.args.parts.now c.args.table t got) refl
     (g.met.H.Host.sound c.args.host.now) c.requires.ready (sym c.is_full.ensures ∙ c.if-is_full.false)
 
 pub returns-then-is_full-clause-knows : goal.returns-then-is_full-clause-knows

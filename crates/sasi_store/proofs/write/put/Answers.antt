@@ -3,13 +3,13 @@ use Rattle.std.proofs.Common.{Ok, ap, refl, sym, subst, ◌∙◌, ℕ}
 use Rattle.std.proofs.lemmas.Result.{err_from_is_err_and}
 use Rattle.sasi_types.specs.Token.{AreBytes}
 use Rattle.sasi_layout.specs.Moves.{Put}
-use Rattle.sasi_layout.specs.Serving.{StoreInHand}
+use Rattle.sasi_layout.specs.Serving.{StoreInMemory}
 use Rattle.sasi_store.specs.MakesMoves.{MakesMoves}
-use Rattle.sasi_store.specs.StoreView.{hand_of}
+use Rattle.sasi_store.specs.StoreView.{memory_of}
 use Rattle.sasi_store.specs.declared.fault.StepFault.TheVariants.{OutOfMemory}
 use Rattle.sasi_store.specs.Faults.{fault_of_call}
 use Rattle.sasi_store.proofs.MoveCauses.{call_failed, call_made, call_plain, made_then_full}
-use Rattle.sasi_store.proofs.Putting.{has_table, put_hand, put_made, put_of_parts, put_stopped, put_there}
+use Rattle.sasi_store.proofs.Putting.{has_table, put_made, put_memory, put_of_parts, put_stopped, put_there}
 use Rattle.sasi_store.proofs.write.put.Goals as goal
 
 pub merge-requires : goal.merge-requires
@@ -21,7 +21,7 @@ returns-in_err-append-clause-makes g c =
     let a = g.H.Host.view c.args.host.now in
     let b = g.H.Host.view c.append.new.host in
     let bytes = subst AreBytes c.bytes.ensures c.note_bytes.ensures in
-    rw (p.1, p.2) (put_stopped a b (g.met.H.Host.sound c.args.host.now) (hand_of c.args.parts.now) c.args.mutation c.requires.ready c.requires.writable bytes _ (fault_of_call c.in_err-append.field-0.0)
+    rw (p.1, p.2) (put_stopped a b (g.met.H.Host.sound c.args.host.now) (memory_of c.args.parts.now) c.args.mutation c.requires.ready c.requires.writable bytes _ (fault_of_call c.in_err-append.field-0.0)
     c.append.ensures.any_moment c.append.ensures.changes c.in_err-append.ensures.causes.reads (call_plain c.in_err-append.field-0.0) (call_failed a b c.in_err-append.field-0.0 c.in_err-append.ensures.causes))
 
 pub returns-in_err-time-clause-makes : goal.returns-in_err-time-clause-makes
@@ -30,7 +30,7 @@ returns-in_err-time-clause-makes g c =
     let a = g.H.Host.view c.args.host.now in
     let b = g.H.Host.view c.append.new.host in
     let bytes = subst AreBytes c.bytes.ensures c.note_bytes.ensures in
-    rw (p.1, p.2) (put_stopped a b (g.met.H.Host.sound c.args.host.now) (hand_of c.args.parts.now) c.args.mutation c.requires.ready c.requires.writable bytes _ OutOfMemory
+    rw (p.1, p.2) (put_stopped a b (g.met.H.Host.sound c.args.host.now) (memory_of c.args.parts.now) c.args.mutation c.requires.ready c.requires.writable bytes _ OutOfMemory
     c.append.ensures.any_moment c.append.ensures.changes c.in_ok-append.ensures.causes.reads tt (made_then_full a b _ c.in_ok-append.ensures.causes))
 
 pub returns-clause-makes : goal.returns-clause-makes
@@ -40,9 +40,9 @@ returns-clause-makes g c =
     let bytes = subst AreBytes c.bytes.ensures c.note_bytes.ensures in
     let there = has_table a c.args.parts.now c.args.mutation.table c.requires.writable.definition c.requires.ready c.requires.writable.some c.requires.writable.there in
     let e = c.in_ok-append.ensures in
-    subst (λ (s : StoreInHand). MakesMoves (λ l. Put c.args.mutation ∷ []) a b (hand_of c.args.parts.now) s (Ok tt))
-    (sym (put_hand c.args.parts.now c.args.mutation c.requires.parts there c.merge.new.tables.items c.in_ok-time.ensures.ok c.append.new.self _ (c.max-parts.ensures ∙ ap (λ (n : ℕ). max c.args.parts.now.max_timestamp n) c.in_ok-time.ensures.time)))
-    (put_made a b (g.met.H.Host.sound c.args.host.now) (hand_of c.args.parts.now) c.args.mutation c.requires.ready c.requires.writable bytes tt c.append.new.self
+    subst (λ (s : StoreInMemory). MakesMoves (λ l. Put c.args.mutation ∷ []) a b (memory_of c.args.parts.now) s (Ok tt))
+    (sym (put_memory c.args.parts.now c.args.mutation c.requires.parts there c.merge.new.tables.items c.in_ok-time.ensures.ok c.append.new.self _ (c.max-parts.ensures ∙ ap (λ (n : ℕ). max c.args.parts.now.max_timestamp n) c.in_ok-time.ensures.time)))
+    (put_made a b (g.met.H.Host.sound c.args.host.now) (memory_of c.args.parts.now) c.args.mutation c.requires.ready c.requires.writable bytes tt c.append.new.self
     e.any_moment e.changes e.ok e.file e.room e.usable e.causes.reads (call_made a b _ tt e.causes))
 
 pub returns-clause-parts : goal.returns-clause-parts

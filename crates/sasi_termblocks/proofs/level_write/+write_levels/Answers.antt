@@ -6,18 +6,18 @@ use Rattle.sasi_termblocks.specs.Writing.{AreShort}
 use Rattle.sasi_termblocks.proofs.LevelLaws.{fewer_above, level_as, more_end, more_top, more_written, one_ends, one_top, one_written}
 use Rattle.sasi_termblocks.proofs.level_write.+write_levels.Goals as goal
 
-pub returns-then-leasts-le1-clause-ok : goal.returns-then-leasts-le1-clause-ok
-returns-then-leasts-le1-clause-ok g t c items level = one_written _ _ c.args.file c.args.at items c.args.bytes.now c.args.leasts.now level c.in_ok-write_bytes.ensures.ok
+pub returns-then-first_terms-le1-clause-ok : goal.returns-then-first_terms-le1-clause-ok
+returns-then-first_terms-le1-clause-ok g t c items level = one_written _ _ c.args.file c.args.at items c.args.bytes.now c.args.first_terms.now level c.in_ok-write_bytes.ensures.ok
 
-pub returns-then-leasts-le1-clause-ends : goal.returns-then-leasts-le1-clause-ends
-returns-then-leasts-le1-clause-ends g t c items level = one_ends c.args.at items c.args.bytes.now c.args.leasts.now level (omega arith)
+pub returns-then-first_terms-le1-clause-ends : goal.returns-then-first_terms-le1-clause-ends
+returns-then-first_terms-le1-clause-ends g t c items level = one_ends c.args.at items c.args.bytes.now c.args.first_terms.now level (omega arith)
 
-pub returns-then-leasts-le1-clause-top : goal.returns-then-leasts-le1-clause-top
-returns-then-leasts-le1-clause-top g t c items level = one_top c.args.at items
+pub returns-then-first_terms-le1-clause-top : goal.returns-then-first_terms-le1-clause-top
+returns-then-first_terms-le1-clause-top g t c items level = one_top c.args.at items
 
 pub write_levels-requires : goal.write_levels-requires
 write_levels-requires g t c κs within =
-    let less = fewer_above c.args.at c.args.leasts.now c.deref-2.result.now c.requires.short (omega arith) (c.deref-2.ensures.value ∙ c.in_ok-level.ensures.level.terms_are) in (
+    let less = fewer_above c.args.at c.args.first_terms.now c.deref-2.result.now c.requires.short (omega arith) (c.deref-2.ensures.value ∙ c.in_ok-level.ensures.level.terms_are) in (
       omega (arith, less),
       (
         within,
@@ -41,23 +41,23 @@ returns-clause-changes g t c =
 
 pub returns-clause-ok : goal.returns-clause-ok
 returns-clause-ok g t c items level =
-    let above = level_as _ c.deref.result.now _ c.deref-2.result.now (pointers_to c.args.at c.args.leasts.now) c.deref.ensures.value c.deref-2.ensures.value c.in_ok-level.ensures.level in
-    more_written _ _ _ c.args.file c.args.at (c.args.at + length c.args.bytes.now) c.in_ok-above.above.levels items c.args.bytes.now c.args.leasts.now level refl
-    c.requires.room c.in_ok-write_bytes.ensures.ok (c.in_ok-above.ensures.ok (pointers_to c.args.at c.args.leasts.now) above)
+    let above = level_as _ c.deref.result.now _ c.deref-2.result.now (pointers_to c.args.at c.args.first_terms.now) c.deref.ensures.value c.deref-2.ensures.value c.in_ok-level.ensures.level in
+    more_written _ _ _ c.args.file c.args.at (c.args.at + length c.args.bytes.now) c.in_ok-above.above.levels items c.args.bytes.now c.args.first_terms.now level refl
+    c.requires.room c.in_ok-write_bytes.ensures.ok (c.in_ok-above.ensures.ok (pointers_to c.args.at c.args.first_terms.now) above)
 
 pub returns-clause-ends : goal.returns-clause-ends
 returns-clause-ends g t c items level =
-    let above = level_as _ c.deref.result.now _ c.deref-2.result.now (pointers_to c.args.at c.args.leasts.now) c.deref.ensures.value c.deref-2.ensures.value c.in_ok-level.ensures.level in
-    more_end c.args.at (c.args.at + length c.args.bytes.now) c.in_ok-above.above.levels items c.args.bytes.now c.args.leasts.now level refl (omega arith)
-    (c.in_ok-above.ensures.ends (pointers_to c.args.at c.args.leasts.now) above)
+    let above = level_as _ c.deref.result.now _ c.deref-2.result.now (pointers_to c.args.at c.args.first_terms.now) c.deref.ensures.value c.deref-2.ensures.value c.in_ok-level.ensures.level in
+    more_end c.args.at (c.args.at + length c.args.bytes.now) c.in_ok-above.above.levels items c.args.bytes.now c.args.first_terms.now level refl (omega arith)
+    (c.in_ok-above.ensures.ends (pointers_to c.args.at c.args.first_terms.now) above)
 
 pub returns-clause-top : goal.returns-clause-top
 returns-clause-top g t c items level =
-    let above = level_as _ c.deref.result.now _ c.deref-2.result.now (pointers_to c.args.at c.args.leasts.now) c.deref.ensures.value c.deref-2.ensures.value c.in_ok-level.ensures.level in
-    more_top c.args.at (c.args.at + length c.args.bytes.now) c.in_ok-above.above.levels c.in_ok-above.above.top items c.args.bytes.now c.args.leasts.now level refl
-    (c.in_ok-above.ensures.top (pointers_to c.args.at c.args.leasts.now) above)
+    let above = level_as _ c.deref.result.now _ c.deref-2.result.now (pointers_to c.args.at c.args.first_terms.now) c.deref.ensures.value c.deref-2.ensures.value c.in_ok-level.ensures.level in
+    more_top c.args.at (c.args.at + length c.args.bytes.now) c.in_ok-above.above.levels c.in_ok-above.above.top items c.args.bytes.now c.args.first_terms.now level refl
+    (c.in_ok-above.ensures.top (pointers_to c.args.at c.args.first_terms.now) above)
 
 pub returns-clause-few : goal.returns-clause-few
 returns-clause-few g t c =
-    let less = fewer_above c.args.at c.args.leasts.now c.deref-2.result.now c.requires.short (omega arith) (c.deref-2.ensures.value ∙ c.in_ok-level.ensures.level.terms_are) in
+    let less = fewer_above c.args.at c.args.first_terms.now c.deref-2.result.now c.requires.short (omega arith) (c.deref-2.ensures.value ∙ c.in_ok-level.ensures.level.terms_are) in
     omega (arith, less, c.in_ok-above.ensures.few)

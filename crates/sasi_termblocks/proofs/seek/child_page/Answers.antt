@@ -2,10 +2,10 @@ use Rattle.std.proofs.Common.{◌≡◌, ◌+◌, ◌-◌, ◌*◌, ℕ, ◌∙�
 use Rattle.sasi_host.specs.Names.{Bytes}
 use Rattle.sasi_host.specs.Damages.{HasAt}
 use Rattle.sasi_termblocks.specs.Windows.{IsFault}
-use Rattle.sasi_termblocks.specs.BlockFaults.{HasPlace}
+use Rattle.sasi_termblocks.specs.BlockFaults.{PointsTo}
 use Rattle.sasi_termblocks.specs.Damages.{BreaksPointers}
 use Rattle.sasi_termblocks.specs.Descents.{IsPageFor, high_page, low_page}
-use Rattle.sasi_termblocks.proofs.Children.{child_for, place_in, pointer_kept}
+use Rattle.sasi_termblocks.proofs.Children.{child_for, page_is_in, pointer_kept}
 use Rattle.sasi_termblocks.proofs.Shown.{lifted_shown}
 use Rattle.sasi_termblocks.proofs.Led.{led_on}
 use Rattle.sasi_termblocks.proofs.Steps.{leads_on}
@@ -34,19 +34,19 @@ returns-in-Ok-clause-led g c bytes is leads =
     let stands = subst (λ (w : Bytes). HasAt bytes (4096 * page) w) (sym c.loaded_block.ensures.is) (c.in_ok-load_block.ensures.is bytes is) in
     let below = c.in-Ok.ensures.ok.0 in
     let place = c.in-Ok.place in
-    let has = subst (λ (n : ℕ). HasPlace (low_page r level) n window (below - 1) place) c.range_of-range.ensures.high
-    (subst (λ (n : ℕ). HasPlace n c.range_of-range.result.high window (below - 1) place) c.range_of-range.ensures.low c.in-Ok.ensures.ok.2) in
+    let has = subst (λ (n : ℕ). PointsTo (low_page r level) n window (below - 1) place) c.range_of-range.ensures.high
+    (subst (λ (n : ℕ). PointsTo n c.range_of-range.result.high window (below - 1) place) c.range_of-range.ensures.low c.in-Ok.ensures.ok.2) in
     led_on bytes window r c.args.sought.now level page below place c.requires.level leads stands c.loaded_block.ensures.whole c.in-Ok.ensures.ok.1 has
 
 pub returns-in-Ok-clause-below : goal.returns-in-Ok-clause-below
 returns-in-Ok-clause-below g c =
     let entry = c.in-Ok.ensures.ok.2 in
-    omega (arith, (place_in _ _ c.in-Ok.place (pointer_kept _ _ c.loaded_block.result.now _ entry.0 c.in-Ok.place entry.1).1).above, c.range_of-range.ensures.low)
+    omega (arith, (page_is_in _ _ c.in-Ok.place (pointer_kept _ _ c.loaded_block.result.now _ entry.0 c.in-Ok.place entry.1).1).above, c.range_of-range.ensures.low)
 
 pub returns-in-Ok-clause-within : goal.returns-in-Ok-clause-within
 returns-in-Ok-clause-within g c =
     let entry = c.in-Ok.ensures.ok.2 in
-    omega (arith, (place_in _ _ c.in-Ok.place (pointer_kept _ _ c.loaded_block.result.now _ entry.0 c.in-Ok.place entry.1).1).below, c.range_of-range.ensures.high)
+    omega (arith, (page_is_in _ _ c.in-Ok.place (pointer_kept _ _ c.loaded_block.result.now _ entry.0 c.in-Ok.place entry.1).1).below, c.range_of-range.ensures.high)
 
 pub returns-in-Err-clause-damaged : goal.returns-in-Err-clause-damaged
 returns-in-Err-clause-damaged g c =

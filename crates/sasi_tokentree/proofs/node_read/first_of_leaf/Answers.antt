@@ -6,7 +6,7 @@ use Rattle.sasi_host.proofs.Offsets.{inner_at, window_at}
 use Rattle.sasi_tokentree.specs.Format.{entry}
 use Rattle.sasi_tokentree.specs.Reads.{IsInNode}
 use Rattle.sasi_tokentree.specs.declared.node_read.Node.{Node}
-use Rattle.sasi_tokentree.proofs.NodeReads.{early_spares, end_or_ends, header_at, node_head, node_shown}
+use Rattle.sasi_tokentree.proofs.NodeReads.{end_or_ends, header_at, no_false_early, node_head, node_shown}
 use Rattle.sasi_tokentree.proofs.node_read.first_of_leaf.Goals as goal
 
 pub returns-in_err-read_into-clause-damaged : goal.returns-in_err-read_into-clause-damaged
@@ -18,7 +18,7 @@ returns-in_err-read_into-clause-damaged g c =
 pub returns-in_err-read_into-clause-undamaged : goal.returns-in_err-read_into-clause-undamaged
 returns-in_err-read_into-clause-undamaged g c =
     let p = err_from_is_err_and c.from_residual.result c.from_residual.ensures.1 in
-    rw (p.1, p.2) (early_spares (g.H.Host.view c.args.host.now) c.args.buffered.now.file 0 c.args.at c.args.count (c.args.at + 24)
+    rw (p.1, p.2) (no_false_early (g.H.Host.view c.args.host.now) c.args.buffered.now.file 0 c.args.at c.args.count (c.args.at + 24)
     c.in_err-read_into.field-0.0 (omega (arith, c.requires.some)) c.in_err-read_into.ensures.damaged)
 
 pub returns-in_err-check_header-clause-damaged : goal.returns-in_err-check_header-clause-damaged

@@ -7,13 +7,13 @@ use Rattle.sasi_host.specs.Damages.{HasAt}
 use Rattle.sasi_host.proofs.Offsets.{window_at}
 use Rattle.sasi_tokentree.specs.declared.node_read.Node.{Node}
 use Rattle.sasi_tokentree.specs.Reads.{IsInNode}
-use Rattle.sasi_tokentree.proofs.NodeReads.{node_head, early_spares, header_ends, node_shown}
+use Rattle.sasi_tokentree.proofs.NodeReads.{node_head, no_false_early, header_ends, node_shown}
 use Rattle.sasi_tokentree.proofs.node_read.read_header.Goals as goal
 
 pub returns-in_err-read_into-clause-undamaged : goal.returns-in_err-read_into-clause-undamaged
 returns-in_err-read_into-clause-undamaged g c =
     let p = err_from_is_err_and c.from_residual.result c.from_residual.ensures.1 in
-    rw (p.1, p.2) (early_spares (g.H.Host.view c.args.host.now) c.args.buffered.now.file c.args.node.level c.args.node.at c.args.node.count (c.args.node.at + length c.args.out.now)
+    rw (p.1, p.2) (no_false_early (g.H.Host.view c.args.host.now) c.args.buffered.now.file c.args.node.level c.args.node.at c.args.node.count (c.args.node.at + length c.args.out.now)
     c.in_err-read_into.field-0.0 (omega (arith, c.requires.length)) c.in_err-read_into.ensures.damaged)
 
 pub returns-in_err-read_into-clause-damaged : goal.returns-in_err-read_into-clause-damaged

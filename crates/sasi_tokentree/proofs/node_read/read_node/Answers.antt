@@ -10,7 +10,7 @@ use Rattle.sasi_tokentree.specs.Format.{node_header}
 use Rattle.sasi_tokentree.specs.declared.node_read.Node.{Node}
 use Rattle.sasi_tokentree.proofs.Sizes.{head_length}
 use Rattle.sasi_tokentree.proofs.AfterRead.{reads_still}
-use Rattle.sasi_tokentree.proofs.NodeReads.{node_is, early_spares, entries_end, filled_behind, both_read}
+use Rattle.sasi_tokentree.proofs.NodeReads.{node_is, no_false_early, entries_end, filled_behind, both_read}
 use Rattle.sasi_tokentree.proofs.node_read.read_node.Goals as goal
 
 -- what the buffer then has
@@ -31,7 +31,7 @@ pub returns-in_err-read_into-clause-undamaged : goal.returns-in_err-read_into-cl
 returns-in_err-read_into-clause-undamaged g c =
     let p = err_from_is_err_and c.from_residual-in_err-read_into.result c.from_residual-in_err-read_into.ensures.1 in
     let end = c.args.node.at + (8 + 16 * c.args.node.count) in
-    rw (p.1, p.2) (early_spares (g.H.Host.view c.args.host.now) c.args.buffered.now.file c.args.node.level c.args.node.at c.args.node.count end c.in_err-read_into.field-0.0 (omega arith)
+    rw (p.1, p.2) (no_false_early (g.H.Host.view c.args.host.now) c.args.buffered.now.file c.args.node.level c.args.node.at c.args.node.count end c.in_err-read_into.field-0.0 (omega arith)
     (end_before _ _ c.args.buffered.now.file _ _ end c.in_err-read_into.field-0.0 c.read_header.ensures.read.changes c.read_header.ensures.read.file
     (omega (arith, c.requires.length)) c.in_err-read_into.ensures.damaged))
 

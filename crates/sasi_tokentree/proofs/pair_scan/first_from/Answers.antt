@@ -8,7 +8,7 @@ use Rattle.sasi_tokentree.specs.Heights.{height}
 use Rattle.sasi_tokentree.proofs.EntryPages.{entry_pages}
 use Rattle.sasi_tokentree.proofs.AfterRead.{reads_still, tree_shown_more, tree_shown_still}
 use Rattle.sasi_host.proofs.CauseLaws.{reads_on, ok_reads}
-use Rattle.sasi_tokentree.proofs.LeafPairs.{begins_leaf, long_spares, long_shown, leaves_shown, gave_entry, gave_header, level_spares, tree_spares_before, tree_stands_at, count_is, no_pairs, takes_none}
+use Rattle.sasi_tokentree.proofs.LeafPairs.{begins_leaf, no_false_long, long_shown, leaves_shown, gave_entry, gave_header, no_false_level, no_false_tree_before, tree_stands_at, count_is, no_pairs, takes_none}
 use Rattle.sasi_tokentree.proofs.pair_scan.first_from.Goals as goal
 
 pub returns-then-tree-eq0-clause-ok : goal.returns-then-tree-eq0-clause-ok
@@ -16,7 +16,7 @@ returns-then-tree-eq0-clause-ok g c bytes pairs is has = (0, no_pairs bytes c.ar
 
 pub returns-then-is_too_long-clause-undamaged : goal.returns-then-is_too_long-clause-undamaged
 returns-then-is_too_long-clause-undamaged g c =
-    long_spares (g.H.Host.view c.args.host.now) c.args.buffered.now.file c.args.tree c.unexpected_end.result
+    no_false_long (g.H.Host.view c.args.host.now) c.args.buffered.now.file c.args.tree c.unexpected_end.result
     (λ bytes is. (g.met.H.Host.sound c.args.host.now).fits c.args.buffered.now.file bytes is) (omega arith)
     (c.is_too_long.ensures.long c.if-is_too_long.true)
 
@@ -42,7 +42,7 @@ returns-clause-header g c = gave_header _ _ c.args.buffered.now.file _ c.args.tr
 pub returns-in_err-below-clause-undamaged : goal.returns-in_err-below-clause-undamaged
 returns-in_err-below-clause-undamaged g c =
     let p = err_from_is_err_and c.from_residual.result c.from_residual.ensures.1 in
-    rw (p.1, p.2) (level_spares (g.H.Host.view c.args.host.now) c.args.buffered.now.file c.args.tree c.start_of-start.result c.in_err-below.field-0.0
+    rw (p.1, p.2) (no_false_level (g.H.Host.view c.args.host.now) c.args.buffered.now.file c.args.tree c.start_of-start.result c.in_err-below.field-0.0
     (λ bytes is. (g.met.H.Host.sound c.args.host.now).fits c.args.buffered.now.file bytes is) (omega arith) c.start_of-start.ensures.is
     c.in_err-below.ensures.undamaged)
 
@@ -59,7 +59,7 @@ returns-in_err-found-clause-damaged g c =
 pub returns-in_err-found-clause-undamaged : goal.returns-in_err-found-clause-undamaged
 returns-in_err-found-clause-undamaged g c =
     let p = err_from_is_err_and c.from_residual-in_err-found.result c.from_residual-in_err-found.ensures.1 in
-    rw (p.1, p.2) (tree_spares_before _ _ c.args.buffered.now.file _ c.args.tree c.in_err-found.field-0.0 c.count_below.ensures.read.changes
+    rw (p.1, p.2) (no_false_tree_before _ _ c.args.buffered.now.file _ c.args.tree c.in_err-found.field-0.0 c.count_below.ensures.read.changes
     c.count_below.ensures.read.file c.in_err-found.ensures.undamaged)
 
 pub returns-clause-ok : goal.returns-clause-ok

@@ -4,7 +4,7 @@ use Rattle.sasi_host.proofs.PageReadingLaws.{reads_nothing}
 use Rattle.sasi_host.specs.declared.name.FileName.{FileName}
 use Rattle.sasi_host.specs.Damages.{DamageShown, TellsSize}
 use Rattle.sasi_host.proofs.CauseLaws.{fault_reads, ok_reads}
-use Rattle.sasi_tokentree.proofs.LeafPairs.{long_spares, long_shown, level_spares, pair_shown, pair_is, gives_entry, gives_header, near_entry, tree_stands_at, count_is, takes_pair, takes_none}
+use Rattle.sasi_tokentree.proofs.LeafPairs.{no_false_long, long_shown, no_false_level, pair_shown, pair_is, gives_entry, gives_header, near_entry, tree_stands_at, count_is, takes_pair, takes_none}
 use Rattle.sasi_tokentree.proofs.pair_scan.pair_from.Goals as goal
 
 pub returns-then-passed-tree-clause-ok : goal.returns-then-passed-tree-clause-ok
@@ -12,14 +12,14 @@ returns-then-passed-tree-clause-ok g c bytes pairs is has = takes_none bytes c.a
 
 pub returns-then-is_too_long-clause-undamaged : goal.returns-then-is_too_long-clause-undamaged
 returns-then-is_too_long-clause-undamaged g c =
-    long_spares (g.H.Host.view c.args.host.now) c.args.buffered.now.file c.args.tree c.unexpected_end.result
+    no_false_long (g.H.Host.view c.args.host.now) c.args.buffered.now.file c.args.tree c.unexpected_end.result
     (λ bytes is. (g.met.H.Host.sound c.args.host.now).fits c.args.buffered.now.file bytes is) (omega arith)
     (c.is_too_long.ensures.long c.if-is_too_long.true)
 
 pub returns-in_err-pair-clause-undamaged : goal.returns-in_err-pair-clause-undamaged
 returns-in_err-pair-clause-undamaged g c =
     let p = err_from_is_err_and c.from_residual.result c.from_residual.ensures.1 in
-    rw (p.1, p.2) (level_spares (g.H.Host.view c.args.host.now) c.args.buffered.now.file c.args.tree c.start_of-start.result
+    rw (p.1, p.2) (no_false_level (g.H.Host.view c.args.host.now) c.args.buffered.now.file c.args.tree c.start_of-start.result
     c.in_err-pair.field-0.0 (λ bytes is. (g.met.H.Host.sound c.args.host.now).fits c.args.buffered.now.file bytes is) (omega arith)
     c.start_of-start.ensures.is c.in_err-pair.ensures.undamaged)
 

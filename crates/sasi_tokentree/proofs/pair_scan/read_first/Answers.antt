@@ -5,7 +5,7 @@ use Rattle.sasi_tokentree.specs.Format.{node_header}
 use Rattle.sasi_tokentree.specs.Damages.{IsNodeFrom}
 use Rattle.sasi_tokentree.specs.declared.node_read.Node.{Node}
 use Rattle.sasi_tokentree.proofs.NodeReads.{end_or_more, node_of_level}
-use Rattle.sasi_tokentree.proofs.Seeks.{spares_part}
+use Rattle.sasi_tokentree.proofs.Seeks.{no_false_part}
 use Rattle.sasi_tokentree.proofs.pair_scan.read_first.Goals as goal
 
 pub returns-in_err-pair-clause-damaged : goal.returns-in_err-pair-clause-damaged
@@ -19,7 +19,7 @@ returns-in_err-pair-clause-damaged g c =
 pub returns-in_err-pair-clause-undamaged : goal.returns-in_err-pair-clause-undamaged
 returns-in_err-pair-clause-undamaged g c =
     let p = err_from_is_err_and c.from_residual.result c.from_residual.ensures.1 in
-    rw (p.1, p.2) (spares_part (g.H.Host.view c.args.host.now) c.args.buffered.now.file 0 c.args.at c.args.pairs c.args.leaf c.min-left.result
+    rw (p.1, p.2) (no_false_part (g.H.Host.view c.args.host.now) c.args.buffered.now.file 0 c.args.at c.args.pairs c.args.leaf c.min-left.result
     c.in_err-pair.field-0.0 c.requires.within (omega arith) c.in_err-pair.ensures.undamaged)
 
 pub returns-clause-header : goal.returns-clause-header

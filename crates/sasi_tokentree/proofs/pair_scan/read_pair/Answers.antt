@@ -2,16 +2,16 @@ use Rattle.std.proofs.Common.{◌≡◌, ℕ, ◌+◌, ◌*◌, ◌-◌, ◌/◌
 use Rattle.std.proofs.lemmas.Result.{err_from_is_err_and}
 use Rattle.sasi_types.specs.declared.tree.Pair.{Pair}
 use Rattle.sasi_host.specs.Damages.{HasAt}
-use Rattle.sasi_host.specs.View.{ReadsAtMost}
+use Rattle.sasi_host.specs.View.{ReadCost}
 use Rattle.sasi_tokentree.specs.Format.{entry, node_header}
 use Rattle.sasi_tokentree.proofs.EntryPages.{first_pages}
-use Rattle.sasi_tokentree.proofs.LeafPairs.{short_spares}
+use Rattle.sasi_tokentree.proofs.LeafPairs.{no_false_short}
 use Rattle.sasi_tokentree.proofs.pair_scan.read_pair.Goals as goal
 
 pub returns-in_err-first-clause-causes : goal.returns-in_err-first-clause-causes
 returns-in_err-first-clause-causes g c =
     let p = err_from_is_err_and c.from_residual.result c.from_residual.ensures.1 in
-    rw (p.1, p.2) (subst (λ (n : ℕ). ReadsAtMost {T = Pair} n (g.H.Host.view c.args.host.now) (g.H.Host.view c.read_first.new.host) (Err c.in_err-first.field-0.0))
+    rw (p.1, p.2) (subst (λ (n : ℕ). ReadCost {T = Pair} n (g.H.Host.view c.args.host.now) (g.H.Host.view c.read_first.new.host) (Err c.in_err-first.field-0.0))
     (first_pages c.args.buffered.now.page c.args.at c.args.index (omega arith)) c.in_err-first.ensures.causes)
 
 pub returns-then-index-eq0-clause-stands : goal.returns-then-index-eq0-clause-stands
@@ -25,10 +25,10 @@ returns-then-index-eq0-clause-header g c leaf at bytes is =
 
 pub returns-then-index-eq0-clause-causes : goal.returns-then-index-eq0-clause-causes
 returns-then-index-eq0-clause-causes g c =
-    subst (λ (n : ℕ). ReadsAtMost n (g.H.Host.view c.args.host.now) (g.H.Host.view c.read_first.new.host) (Ok c.in_ok-first.first))
+    subst (λ (n : ℕ). ReadCost n (g.H.Host.view c.args.host.now) (g.H.Host.view c.read_first.new.host) (Ok c.in_ok-first.first))
     (first_pages c.args.buffered.now.page c.args.at c.args.index (omega arith)) c.in_ok-first.ensures.causes
 
 pub returns-in_err-pair-clause-undamaged : goal.returns-in_err-pair-clause-undamaged
 returns-in_err-pair-clause-undamaged g c =
     let p = err_from_is_err_and c.from_residual-in_err-pair.result c.from_residual-in_err-pair.ensures.1 in
-    rw (p.1, p.2) (short_spares (g.H.Host.view c.args.host.now) c.args.buffered.now.file c.args.at c.args.pairs c.args.index c.in_err-pair.field-0.0 c.requires.within c.in_err-pair.ensures.damaged)
+    rw (p.1, p.2) (no_false_short (g.H.Host.view c.args.host.now) c.args.buffered.now.file c.args.at c.args.pairs c.args.index c.in_err-pair.field-0.0 c.requires.within c.in_err-pair.ensures.damaged)

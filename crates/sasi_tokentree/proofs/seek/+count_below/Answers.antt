@@ -9,13 +9,13 @@ use Rattle.sasi_tokentree.proofs.AfterRead.{reads_still, shown_still}
 use Rattle.sasi_tokentree.proofs.NodeReads.{shown_more, node_of_one}
 use Rattle.sasi_tokentree.proofs.StoredLevels.{stands_one, none_below, below_in}
 use Rattle.sasi_host.proofs.CauseLaws.{ok_reads, reads_within}
-use Rattle.sasi_tokentree.proofs.Seeks.{spares_one, spares_up, spares_before, up, up_length, one_level_reads, above_reads, more_level_reads, reached_in_one, reached_none}
+use Rattle.sasi_tokentree.proofs.Seeks.{no_false_one, no_false_up, no_false_before, up, up_length, one_level_reads, above_reads, more_level_reads, reached_in_one, reached_none}
 use Rattle.sasi_tokentree.proofs.seek.+count_below.Goals as goal
 
 pub returns-in_err-below-clause-undamaged : goal.returns-in_err-below-clause-undamaged
 returns-in_err-below-clause-undamaged g t c =
     let p = err_from_is_err_and c.from_residual.result c.from_residual.ensures.1 in
-    rw (p.1, p.2) (spares_one (g.H.Host.view c.args.host.now) c.args.buffered.now.file c.args.level c.args.at c.args.count c.in_err-below.field-0.0 (omega arith) c.in_err-below.ensures.undamaged)
+    rw (p.1, p.2) (no_false_one (g.H.Host.view c.args.host.now) c.args.buffered.now.file c.args.level c.args.at c.args.count c.in_err-below.field-0.0 (omega arith) c.in_err-below.ensures.undamaged)
 
 pub returns-in_err-below-clause-damaged : goal.returns-in_err-below-clause-damaged
 returns-in_err-below-clause-damaged g t c =
@@ -44,7 +44,7 @@ returns-then-count-le-MAX_ENTRIES-clause-causes g t c most le = reads_within _ _
 pub returns-in_err-above-clause-undamaged : goal.returns-in_err-above-clause-undamaged
 returns-in_err-above-clause-undamaged g t c =
     let p = err_from_is_err_and c.from_residual-in_err-above.result c.from_residual-in_err-above.ensures.1 in
-    rw (p.1, p.2) (spares_up (g.H.Host.view c.args.host.now) c.args.buffered.now.file c.args.level c.args.at c.args.count c.in_err-above.field-0.0
+    rw (p.1, p.2) (no_false_up (g.H.Host.view c.args.host.now) c.args.buffered.now.file c.args.level c.args.at c.args.count c.in_err-above.field-0.0
     (omega arith) (rw (c.level_size.ensures, c.node_count.ensures) at c.in_err-above.ensures.undamaged))
 
 pub returns-in_err-above-clause-causes : goal.returns-in_err-above-clause-causes
@@ -73,7 +73,7 @@ returns-in_err-below-2-clause-damaged g t c =
 pub returns-in_err-below-2-clause-undamaged : goal.returns-in_err-below-2-clause-undamaged
 returns-in_err-below-2-clause-undamaged g t c =
     let p = err_from_is_err_and c.from_residual-in_err-below-2.result c.from_residual-in_err-below-2.ensures.1 in
-    rw (p.1, p.2) (spares_before _ _ c.args.buffered.now.file _ c.args.level c.args.at c.args.count c.in_err-below-2.field-0.0
+    rw (p.1, p.2) (no_false_before _ _ c.args.buffered.now.file _ c.args.level c.args.at c.args.count c.in_err-below-2.field-0.0
     c.count_below.ensures.read.changes c.count_below.ensures.read.file c.in_err-below-2.ensures.undamaged)
 
 pub returns-in_err-below-2-clause-causes : goal.returns-in_err-below-2-clause-causes

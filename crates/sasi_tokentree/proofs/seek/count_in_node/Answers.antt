@@ -4,13 +4,13 @@ use Rattle.sasi_tokentree.specs.Format.{entries_of_node}
 use Rattle.sasi_tokentree.specs.Damages.{IsNodeFrom}
 use Rattle.sasi_tokentree.proofs.NodeReads.{shown_more, node_of_level}
 use Rattle.sasi_tokentree.proofs.StoredLevels.{stands_node}
-use Rattle.sasi_tokentree.proofs.Seeks.{part_size, spares_part, reached_in_node}
+use Rattle.sasi_tokentree.proofs.Seeks.{part_size, no_false_part, reached_in_node}
 use Rattle.sasi_tokentree.proofs.seek.count_in_node.Goals as goal
 
 pub returns-in_err-below-clause-undamaged : goal.returns-in_err-below-clause-undamaged
 returns-in_err-below-clause-undamaged g c =
     let p = err_from_is_err_and c.from_residual.result c.from_residual.ensures.1 in
-    rw (p.1, p.2) (spares_part (g.H.Host.view c.args.host.now) c.args.buffered.now.file c.args.level c.args.at c.args.count c.args.node c.min-here.result
+    rw (p.1, p.2) (no_false_part (g.H.Host.view c.args.host.now) c.args.buffered.now.file c.args.level c.args.at c.args.count c.args.node c.min-here.result
     c.in_err-below.field-0.0 c.requires.node (omega arith) c.in_err-below.ensures.undamaged)
 
 pub returns-in_err-below-clause-damaged : goal.returns-in_err-below-clause-damaged

@@ -1,5 +1,5 @@
 use Rattle.std.proofs.Common.{◌≡◌, map, drop}
-use Rattle.sasi_model.specs.Abbreviations.{first_of}
+use Rattle.sasi_model.specs.Abbreviations.{first_refusal}
 use Rattle.sasi_schema.specs.Defined.{definition}
 use Rattle.sasi_machine.specs.Rules.{name_rule}
 use Rattle.sasi_machine.proofs.name_rule.NameRule.check_names.Given as goal
@@ -8,4 +8,4 @@ use Rattle.sasi_machine.proofs.name_rule.NameRule.check_names.Given as goal
 abbrev pub invariant-loop-name : goal.invariant-loop-name
 invariant-loop-name l =
     let rule = name_rule l.self (definition l.table) in
-    first_of (map rule l.names) ≡ first_of (map rule (drop l.name-index l.names))
+    first_refusal (map rule l.names) ≡ first_refusal (map rule (drop l.name-index l.names))

@@ -1,14 +1,14 @@
 use Rattle.std.proofs.Common.{List, subst, sym}
 use Rattle.std.proofs.lemmas.Result.{err_from_is_err_and}
-use Rattle.sasi_layout.specs.Serving.{Serves, StoreInHand}
+use Rattle.sasi_layout.specs.Serving.{Serves, StoreInMemory}
 use Rattle.sasi_manifest.specs.OpenManifest.{ManifestState}
 use Rattle.sasi_machine.specs.Prepares.{IsStateOf}
 use Rattle.sasi_model.specs.State.{State}
-use Rattle.sasi_recover.specs.OpenedFolder.{in_hand}
+use Rattle.sasi_recover.specs.OpenedFolder.{opened_store}
 use Rattle.sasi_recover.specs.declared.opened.TableMap.{TableMap}
 use Rattle.sasi_store.specs.StoreView.{AreTables}
 use Rattle.sasi_store.proofs.Known.{opened_state, reports_on}
-use Rattle.sasi_store.proofs.TablesInHand.{opened_tables}
+use Rattle.sasi_store.proofs.TablesInMemory.{opened_tables}
 use Rattle.sasi_store.proofs.store.Store.open.Goals as goal
 
 pub returns-in_err-opened-clause-reports : goal.returns-in_err-opened-clause-reports
@@ -23,11 +23,11 @@ invariant_of-result g c usable =
 
 pub returns-clause-serves : goal.returns-clause-serves
 returns-clause-serves g c folder l files shape =
-    subst (λ (s : StoreInHand). Serves (g.H.Host.view c.open.new.host) s l) (sym c.in-Ok.ensures.hand) (c.in_ok-opened.ensures.serves folder l files shape)
+    subst (λ (s : StoreInMemory). Serves (g.H.Host.view c.open.new.host) s l) (sym c.in-Ok.ensures.memory) (c.in_ok-opened.ensures.serves folder l files shape)
 
 pub returns-clause-state : goal.returns-clause-state
 returns-clause-state g c =
-    subst (λ (h : StoreInHand). (s : State) × IsStateOf h.definitions h.max_timestamp s) (sym c.in-Ok.ensures.hand) (opened_state (in_hand c.in_ok-opened.opened) c.in_ok-opened.ensures.timed)
+    subst (λ (h : StoreInMemory). (s : State) × IsStateOf h.definitions h.max_timestamp s) (sym c.in-Ok.ensures.memory) (opened_state (opened_store c.in_ok-opened.opened) c.in_ok-opened.ensures.timed)
 
 pub returns-in_err-opened-clause-untouched : goal.returns-in_err-opened-clause-untouched
 returns-in_err-opened-clause-untouched g c =

@@ -1,6 +1,6 @@
 use Rattle.std.proofs.Common.{◌≡◌, arith, Ok, subst, Err}
 use Rattle.std.proofs.lemmas.Result.{err_from_is_err_and}
-use Rattle.sasi_host.specs.View.{ReadsAtMost}
+use Rattle.sasi_host.specs.View.{ReadCost}
 use Rattle.sasi_host.specs.Damages.{DamageShown}
 use Rattle.sasi_tokentree.specs.declared.pair_scan.ScannedPair.{ScannedPair}
 use Rattle.sasi_tokentree.specs.Damages.{ShowsTreeBy}
@@ -22,13 +22,13 @@ pub returns-in_err-found-clause-causes : goal.returns-in_err-found-clause-causes
 returns-in_err-found-clause-causes g c =
     let p = err_from_is_err_and c.from_residual.result c.from_residual.ensures.1 in
     rw (p.1, p.2) (fault_reads _ _ _ _ c.in_err-found.field-0.0 (omega arith)
-    (subst (λ (h : PairScan). ReadsAtMost {T = ScannedPair} (entry_cost h.buffered.page h.tree h.passed) (g.H.Host.view c.args.host.now)
+    (subst (λ (h : PairScan). ReadCost {T = ScannedPair} (entry_cost h.buffered.page h.tree h.passed) (g.H.Host.view c.args.host.now)
     (g.H.Host.view c.pair_from.new.host) (Err c.in_err-found.field-0.0)) c.self.view_is c.in_err-found.ensures.causes))
 
 pub returns-clause-causes : goal.returns-clause-causes
 returns-clause-causes g c =
     ok_reads _ _ _ c.in_ok-found.found _
-    (subst (λ (h : PairScan). ReadsAtMost (entry_cost h.buffered.page h.tree h.passed) (g.H.Host.view c.args.host.now)
+    (subst (λ (h : PairScan). ReadCost (entry_cost h.buffered.page h.tree h.passed) (g.H.Host.view c.args.host.now)
     (g.H.Host.view c.pair_from.new.host) (Ok c.in_ok-found.found)) c.self.view_is c.in_ok-found.ensures.causes)
 
 pub returns-clause-ends : goal.returns-clause-ends

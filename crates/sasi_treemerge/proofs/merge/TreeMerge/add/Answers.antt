@@ -1,8 +1,8 @@
 use Rattle.std.proofs.Common.{ap, arith, inl, refl, subst, Option, Some}
 use Rattle.sasi_host.proofs.ChangeLaws.{stays}
 use Rattle.sasi_tokentree.specs.Scans.{PairScan}
-use Rattle.sasi_treemerge.specs.declared.source.Source.{Source}
-use Rattle.sasi_treemerge.specs.Merges.{GoesOn}
+use Rattle.sasi_treemerge.specs.declared.tree_source.TreeSource.{TreeSource}
+use Rattle.sasi_treemerge.specs.Merges.{AdvancesTo}
 use Rattle.sasi_treemerge.proofs.Merging.{can_add, merge_still, source_readable, tree_pairs}
 use Rattle.sasi_treemerge.proofs.merge.TreeMerge.add.Goals as goal
 
@@ -22,7 +22,7 @@ returns-in_ok-put-in-Some-clause-reads g c =
     let v = g.H.Host.view c.args.host.now in
     omega (
       arith,
-      tree_pairs v.reads (g.H.Host.view c.source_of.new.host).reads v c.in_ok-tree.tree.value c.args.list c.in-Some.source _ _ c.in_ok-tree.ensures (subst (λ (o : Option Source). GoesOn v c.in_ok-tree.tree.value o) c.in-Some.is c.in_ok-source_of.ensures.ok) c.in_ok-put-in-Some.ensures.put
+      tree_pairs v.reads (g.H.Host.view c.source_of.new.host).reads v c.in_ok-tree.tree.value c.args.list c.in-Some.source _ _ c.in_ok-tree.ensures (subst (λ (o : Option TreeSource). AdvancesTo v c.in_ok-tree.tree.value o) c.in-Some.is c.in_ok-source_of.ensures.ok) c.in_ok-put-in-Some.ensures.put
           c.source_of.ensures.causes.reads,
     )
 
@@ -34,6 +34,6 @@ returns-in_ok-put-in-Some-clause-ok g c =
     let v = g.H.Host.view c.args.host.now in
     record {
       next = Some c.in-Some.source;
-      goes = subst (λ (s : PairScan). GoesOn v s (Some c.in-Some.source)) c.in_ok-tree.ensures (subst (λ (o : Option Source). GoesOn v c.in_ok-tree.tree.value o) c.in-Some.is c.in_ok-source_of.ensures.ok);
+      advances = subst (λ (s : PairScan). AdvancesTo v s (Some c.in-Some.source)) c.in_ok-tree.ensures (subst (λ (o : Option TreeSource). AdvancesTo v c.in_ok-tree.tree.value o) c.in-Some.is c.in_ok-source_of.ensures.ok);
       put = c.in_ok-put-in-Some.ensures.put;
     }

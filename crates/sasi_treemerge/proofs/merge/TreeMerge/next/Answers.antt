@@ -8,7 +8,7 @@ use Rattle.sasi_host.specs.View.{IsThere}
 use Rattle.std.proofs.Common.{inl}
 use Rattle.sasi_tokentree.proofs.AfterRead.{reads_still}
 use Rattle.sasi_treemerge.specs.Merges.{Gives, ReadsEach, Steps, is_left, sources_of}
-use Rattle.sasi_treemerge.proofs.Merging.{each_none, each_on, each_step, fewer_left, gives_none, gives_on, head_least, head_listed, left_same, named_all, shown_of, spares_of, trees_on, trees_same, trees_step, within_all}
+use Rattle.sasi_treemerge.proofs.Merging.{each_none, each_on, each_step, fewer_left, gives_none, gives_on, head_least, head_listed, left_same, named_all, no_false_of, shown_of, trees_on, trees_same, trees_step, within_all}
 use Rattle.sasi_treemerge.proofs.PairOrder.{last_gone, left_behind}
 use Rattle.sasi_treemerge.proofs.Stepping.{pays_none, pays_on, read_next, there_same}
 use Rattle.sasi_treemerge.proofs.merge.TreeMerge.next.Goals as goal
@@ -40,7 +40,7 @@ pub returns-in_err-pair-clause-undamaged : goal.returns-in_err-pair-clause-undam
 returns-in_err-pair-clause-undamaged g c =
     let p = err_from_is_err_and c.from_residual.result c.from_residual.ensures.1 in
     let here = c.loop-pair.invariant in
-    rw (p.1, p.2) (spares_of (g.H.Host.view c.args.host.now) _ c.args.self.now.file c.loop-pair.self.file (sources_of c.args.self.now) (sources_of c.loop-pair.self) c.in_err-pair.field-0.0 here.each here.read.changes here.file c.in_err-pair.ensures.undamaged)
+    rw (p.1, p.2) (no_false_of (g.H.Host.view c.args.host.now) _ c.args.self.now.file c.loop-pair.self.file (sources_of c.args.self.now) (sources_of c.loop-pair.self) c.in_err-pair.field-0.0 here.each here.read.changes here.file c.in_err-pair.ensures.undamaged)
 
 pub returns-in_err-pair-clause-read : goal.returns-in_err-pair-clause-read
 returns-in_err-pair-clause-read g c = let here = c.loop-pair.invariant in read_next _ _ _ _ _ _ _ _ c.args.self.now.file c.loop-pair.self.file here.file here.read c.take_head.ensures.read

@@ -1,10 +1,10 @@
 use Rattle.std.proofs.Common.{inl, refl, subst, Option}
 use Rattle.std.proofs.lemmas.Result.{err_from_is_err_and}
 use Rattle.sasi_host.proofs.ChangeLaws.{stays}
-use Rattle.sasi_treemerge.specs.declared.source.Source.{Source}
+use Rattle.sasi_treemerge.specs.declared.tree_source.TreeSource.{TreeSource}
 use Rattle.sasi_treemerge.specs.declared.merge.TreeMerge.{TreeMerge}
-use Rattle.sasi_treemerge.specs.Merges.{GoesOn, sources_of}
-use Rattle.sasi_treemerge.proofs.Merging.{can_add, ended_reads, first_readable, head_shown, head_spares, rest_can, source_readable, step_reads}
+use Rattle.sasi_treemerge.specs.Merges.{AdvancesTo, sources_of}
+use Rattle.sasi_treemerge.proofs.Merging.{can_add, ended_reads, first_readable, head_shown, no_false_head, rest_can, source_readable, step_reads}
 use Rattle.sasi_treemerge.proofs.Stepping.{head_fails, head_gives}
 use Rattle.sasi_treemerge.proofs.merge.TreeMerge.take_head.Goals as goal
 
@@ -21,7 +21,7 @@ pub returns-in_err-next_of-clause-undamaged : goal.returns-in_err-next_of-clause
 returns-in_err-next_of-clause-undamaged g c =
     let p = err_from_is_err_and c.from_residual.result c.from_residual.ensures.1 in
     let v = g.H.Host.view c.args.host.now in
-    rw (p.1, p.2) (head_spares v c.args.self.now.file c.in-Some.source (sources_of c.args.self.now) _ c.in_err-next_of.field-0.0 c.in-Some.ensures.permutation c.in_err-next_of.ensures.undamaged)
+    rw (p.1, p.2) (no_false_head v c.args.self.now.file c.in-Some.source (sources_of c.args.self.now) _ c.in_err-next_of.field-0.0 c.in-Some.ensures.permutation c.in_err-next_of.ensures.undamaged)
 
 pub returns-in-None-clause-merge : goal.returns-in-None-clause-merge
 returns-in-None-clause-merge g c =
@@ -45,7 +45,7 @@ pub returns-in_ok-put-in-Some-2-clause-reads : goal.returns-in_ok-put-in-Some-2-
 returns-in_ok-put-in-Some-2-clause-reads g c =
     let v = g.H.Host.view c.args.host.now in
     step_reads v.reads (g.H.Host.view c.next_of.new.host).reads v c.in-Some.source c.in-Some-2.next (sources_of c.args.self.now) _ _ c.in-Some.ensures.permutation c.in_ok-put-in-Some-2.ensures.put
-    (subst (λ (o : Option Source). GoesOn v c.in-Some.source.tree.value o) c.in-Some-2.is c.in_ok-next_of.ensures.ok) c.next_of.ensures.causes.reads
+    (subst (λ (o : Option TreeSource). AdvancesTo v c.in-Some.source.tree.value o) c.in-Some-2.is c.in_ok-next_of.ensures.ok) c.next_of.ensures.causes.reads
 
 pub returns-in_err-next_of-clause-causes : goal.returns-in_err-next_of-clause-causes
 returns-in_err-next_of-clause-causes g c =
