@@ -34,15 +34,24 @@ fn replies_behind(host: &MemHost, before: usize) -> &str {
     str::from_utf8(replies).unwrap_or("replies that are not UTF-8\n")
 }
 
-// Runs a command line, and gives its status.
+// Runs a command line, and gives its status. It borrows the words, so nothing that `run` promises is carried over their drop.
+fn status_over(
+    alloc: Global,
+    words: &[String],
+    source: &mut MemSource,
+    host: &mut MemHost,
+) -> Status {
+    run(alloc, words, source, host, Vec::new(alloc))
+}
+
+// Runs a command line of these words, and gives its status.
 fn status_of(
     alloc: Global,
     words: &[&str],
     source: &mut MemSource,
     host: &mut MemHost,
 ) -> Result<Status, AllocError> {
-    let words = strings(alloc, words)?;
-    Ok(run(alloc, &words, source, host, Vec::new(alloc)))
+    Ok(status_over(alloc, &strings(alloc, words)?, source, host))
 }
 
 // Runs a command line, and prints the replies and the status.
