@@ -6,6 +6,7 @@ pub mod EntryPages
 pub mod LevelSteps
 pub mod AfterRead
 pub mod NodeParts
+pub mod NodeCounts
 pub mod NodeReads
 pub mod StoredLevels
 pub mod Seeks

@@ -1,5 +1,5 @@
 -- What a reader of a tree gives, by the host's view.
-use Rattle.std.specs.Prelude.{◌≡◌, ◌≢◌, ◌⊎◌, ℕ, ◌+◌, ◌-◌, ◌*◌, ◌/◌, ◌%◌, ◌^◌, ◌<◌, ◌≤◌, List, ◌++◌, length, Some}
+use Rattle.std.specs.Prelude.{◌≡◌, ◌≢◌, ◌⊎◌, ℕ, ◌+◌, ◌-◌, ◌*◌, ◌/◌, ◌%◌, ◌^◌, ◌<◌, ◌≤◌, min, List, [], ◌∷◌, ◌++◌, length, Some}
 use Rattle.sasi_types.specs.declared.tree.Pair.{Pair}
 use Rattle.sasi_types.specs.declared.tree.TreeRef.{TreeRef}
 use Rattle.sasi_host.specs.declared.name.FileName.{FileName}
@@ -9,7 +9,7 @@ use Rattle.sasi_host.specs.declared.fault.ReadFault.{ReadFault}
 use Rattle.sasi_host.specs.Names.{Bytes}
 use Rattle.sasi_host.specs.Damages.{HasAt, OnDamage, seen_bytes}
 use Rattle.sasi_host.specs.View.{View, contents}
-use Rattle.sasi_tokentree.specs.Format.{pair_at, node, levels, IsRising, AreFit, HasTree}
+use Rattle.sasi_tokentree.specs.Format.{pair_at, entry, node_header, node, nodes, size, levels, IsBefore, IsRising, AreFit, HasTree}
 use Rattle.sasi_tokentree.specs.Damages.{NodeBreaks}
 
 -- ---- damage
@@ -57,6 +57,35 @@ pub record CountsBelow (entries : List Pair) (token count : ℕ) : Type 0 where
 pub record IsLowerBound (entries : List Pair) (token count place : ℕ) : Type 0 where
   pub counts : CountsBelow entries token count
   pub last : 0 < count → place ≡ (pair_at entries (count - 1)).place
+
+-- ---- what a search counts, in any file
+
+-- the file has this pair as the entry with this index of a node of so many entries
+pub record HasNodeEntry (bytes : Bytes) (at count index : ℕ) (pair : Pair) : Type 0 where
+  pub within : index < count
+  pub stands : HasAt bytes (at + (8 + 16 * index)) (entry pair)
+  pub fit : AreFit (pair ∷ [])
+
+-- As the file has a node, so many of its entries have tokens below this one, and the next entry, if there is one, hasn't. The header is right,
+-- and the entries rise up to that one.
+pub record CountsInNode (bytes : Bytes) (level at count token below : ℕ) : Type 0 where
+  pub header : HasAt bytes at (node_header level count)
+  pub within : below ≤ count
+  pub smaller : (index : ℕ) → index < below → (pair : Pair) × HasNodeEntry bytes at count index pair × (pair.token < token)
+  pub next : below < count → (pair : Pair) × HasNodeEntry bytes at count below pair × (token ≤ pair.token)
+  pub rising : (index : ℕ) → index < below → index + 1 < count → (last : Pair) × (pair : Pair) × HasNodeEntry bytes at count index last × HasNodeEntry bytes at count (index + 1) pair × IsBefore last pair
+
+-- from the root down the nodes count so many entries of a level as below a token
+pub data CountsDown (bytes : Bytes) (token : ℕ) : ℕ → ℕ → ℕ → ℕ → Type 0 where
+  -- a level of one node is the root
+  in_root : (level at count below : ℕ) → count ≤ 255 → CountsInNode bytes level at count token below → CountsDown bytes token level at count below
+  -- where the level above counts none, there are none
+  none_above : (level at count below : ℕ) → 255 < count → CountsDown bytes token (level + 1) (at + size count) (nodes count) 0 → below ≡ 0 → CountsDown bytes token level at count below
+  -- else its last one leads to a node: that node counts, and all entries before it are below
+  in_node : (level at count below node here : ℕ) → 255 < count → CountsDown bytes token (level + 1) (at + size count) (nodes count) (node + 1)
+      → CountsInNode bytes level (at + 4088 * node) (min (count - 255 * node) 255) token here → below ≡ 255 * node + here → CountsDown bytes token level at count below
+
+-- ---- how far the file reaches, and damage of a level
 
 -- the entry with this index of a level of so many begins a node below another one, or the file reaches to the end of the entry
 abbrev pub IsReached : Bytes → ℕ → ℕ → ℕ → Type 0

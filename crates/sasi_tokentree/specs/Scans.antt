@@ -1,5 +1,5 @@
 -- Scans of the pairs of a tree.
-use Rattle.std.specs.Prelude.{◌≡◌, ℕ, ◌+◌, ◌-◌, ◌*◌, ◌/◌, ◌%◌, ◌^◌, ◌<◌, ◌≤◌, nat_eq, if◌then◌else◌, min, List, [], ◌∷◌, drop, Option, None, Some}
+use Rattle.std.specs.Prelude.{◌≡◌, ◌⊎◌, ℕ, ◌+◌, ◌-◌, ◌*◌, ◌/◌, ◌%◌, ◌^◌, ◌<◌, ◌≤◌, nat_eq, if◌then◌else◌, min, List, [], ◌∷◌, drop, Option, None, Some}
 use Rattle.sasi_types.specs.declared.tree.Pair.{Pair}
 use Rattle.sasi_types.specs.declared.tree.TreeRef.{TreeRef}
 use Rattle.sasi_host.specs.declared.name.FileName.{FileName}
@@ -9,7 +9,7 @@ use Rattle.sasi_host.specs.Buffered.{Buffered, unbuffered_pages}
 use Rattle.sasi_host.specs.Damages.{HasAt}
 use Rattle.sasi_tokentree.specs.Format.{entry, node_header, AreFit, HasTree}
 use Rattle.sasi_tokentree.specs.Damages.{pair_offset, start}
-use Rattle.sasi_tokentree.specs.Reads.{CountsBelow}
+use Rattle.sasi_tokentree.specs.Reads.{CountsBelow, CountsDown}
 
 -- the view of a scan: the buffered file, where the tree is, and how many of its pairs the scan has passed
 pub record PairScan : Type 0 where
@@ -67,6 +67,13 @@ ReadsNextPair v file tree before after found = (bytes : Bytes) (pairs : List Pai
 abbrev pub ReadsFirstPair : View → FileName → TreeRef → ℕ → ℕ → Option Pair → Type 0
 ReadsFirstPair v file tree token after found =
     (bytes : Bytes) (pairs : List Pair) → contents v file ≡ Some bytes → HasTree bytes tree pairs → (count : ℕ) × CountsBelow pairs token count × StepsToPair pairs count after found
+
+-- In any file a search steps to the pair behind those that the nodes count as below a token. There is none only where these are all, or where the
+-- reference counts no pairs.
+abbrev pub StepsBehindCounted : View → FileName → TreeRef → ℕ → ℕ → Option Pair → Type 0
+StepsBehindCounted v file tree token passed None =
+    (tree.pairs ≤ passed) × ((bytes : Bytes) → contents v file ≡ Some bytes → (tree.pairs ≡ 0) ⊎ CountsDown bytes token 0 (start tree) tree.pairs passed)
+StepsBehindCounted v file tree token passed (Some pair) = (count : ℕ) × (passed ≡ count + 1) × ((bytes : Bytes) → contents v file ≡ Some bytes → CountsDown bytes token 0 (start tree) tree.pairs count)
 
 -- ---- what a scan reads
 

@@ -4,7 +4,7 @@ ghost use Rattle.std.specs.Int.{to_be_bytes, w64};
 ghost use Rattle.sasi_types.specs.declared.tree.Pair.{Pair};
 ghost use Rattle.sasi_host.specs.Damages.{HasAt};
 ghost use Rattle.sasi_tokentree.specs.Format.{pair_at, entry, node_header, node, AreFit, IsBefore, IsRising};
-ghost use Rattle.sasi_tokentree.specs.Reads.{IsLowerBound, IsInNode};
+ghost use Rattle.sasi_tokentree.specs.Reads.{CountsInNode, IsLowerBound, IsInNode};
 
 use crate::order::is_before;
 use sasi_fields::FieldReader;
@@ -88,6 +88,7 @@ pub fn find_below(
     requires place { at < 2 ^ 63 + 2 ^ 60 }
     ensures ok { IfOk result (λ below. (level : ℕ) (entries : List Pair) → AreFit entries → IsRising entries → bytes.now ≡ node level entries → IsLowerBound entries token below.count below.place) }
     ensures within { IfOk result (λ below. below.count ≤ count) }
+    ensures counts { IfOk result (λ below. (level : ℕ) → HasAt bytes.now 0 (node_header level count) → CountsInNode bytes.now level 0 count token below.count) }
     ensures seen { (level : ℕ) → HasAt bytes.now 0 (node_header level count) → IfErr result (IsInNode file at bytes.now level count) }
     ensures no_false_damage { IfErr result (λ _. (level : ℕ) (entries : List Pair) → AreFit entries → IsRising entries → bytes.now ≡ node level entries → ⊥) }
 {

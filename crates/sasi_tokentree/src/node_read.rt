@@ -7,7 +7,7 @@ ghost use Rattle.sasi_host.specs.Damages.{DamageShown, HasAt};
 ghost use Rattle.sasi_host.specs.PageReading.{CanReadOn, HasReadOn};
 ghost use Rattle.sasi_tokentree.specs.Format.{entry, node as encoded_node, node_header};
 ghost use Rattle.sasi_tokentree.specs.Damages.{ShownOf, ShowsEndOr};
-ghost use Rattle.sasi_tokentree.specs.Reads.{IsLowerBound, HasNode, NoFalseNodeDamage};
+ghost use Rattle.sasi_tokentree.specs.Reads.{CountsInNode, IsLowerBound, HasNode, NoFalseNodeDamage};
 
 use crate::node_decode::{
     ENTRY_BYTES, LowerBound, NODE_HEADER_BYTES, check_header, entry_in, find_below,
@@ -92,6 +92,7 @@ pub fn node_below<H: Host, P: PageReader>(
     ensures ok { IfOk result (λ below. (bytes : List ℕ) (entries : List Pair) → contents (H.view host.old) buffered.old.file ≡ Some bytes → HasNode bytes level at entries → length entries ≡ count
         → IsLowerBound entries token below.count below.place) }
     ensures within { IfOk result (λ below. below.count ≤ count) }
+    ensures counts { IfOk result (λ below. (bytes : List ℕ) → contents (H.view host.old) buffered.old.file ≡ Some bytes → CountsInNode bytes level at count token below.count) }
     ensures whole { OnOk result ((bytes : List ℕ) → contents (H.view host.old) buffered.old.file ≡ Some bytes → at + (8 + 16 * count) ≤ length bytes) }
     ensures damaged { IfErr result (ShownOf (λ n. n ≡ record { level = level; at = at; count = count }) (H.view host.old) buffered.old.file) }
     ensures undamaged { IfErr result (NoFalseNodeDamage (H.view host.old) buffered.old.file level at count) }

@@ -1,5 +1,5 @@
 // Reads the pairs of a tree, one after another.
-ghost use Rattle.std.specs.Prelude.{◌≡◌, ◌⊎◌, ◌+◌, ◌-◌, ◌*◌, ◌/◌, ◌%◌, ◌^◌, ◌<◌, ◌≤◌, List, ℕ, min, IfErr, IfOk, OnOk, IsSome, IsTrue, None, Some, false};
+ghost use Rattle.std.specs.Prelude.{◌≡◌, ◌⊎◌, ◌+◌, ◌-◌, ◌*◌, ◌/◌, ◌%◌, ◌^◌, ◌<◌, ◌≤◌, List, ℕ, min, IfErr, IfOk, OnOk, IsSome, IsTrue, Some, false};
 ghost use Rattle.sasi_host.specs.View.{contents, ReadCost};
 ghost use Rattle.sasi_host.specs.Buffered.{unbuffered_pages};
 ghost use Rattle.sasi_host.specs.Damages.{HasAt, DamageShown, ShowsEnd};
@@ -8,7 +8,7 @@ ghost use Rattle.sasi_tokentree.specs.Format.{entry, node_header};
 ghost use Rattle.sasi_tokentree.specs.Damages.{BeginsLeaf, IsNodeFrom, ShowsEndOr, ShowsTreeBy, pair_offset};
 ghost use Rattle.sasi_tokentree.specs.Heights.{height, bytes_below_root};
 ghost use Rattle.sasi_tokentree.specs.Reads.{NoFalseLevelDamage, NoFalseTreeDamage};
-ghost use Rattle.sasi_tokentree.specs.Scans.{HasPassed, PassesOne, ReadsEntry, ReadsFirstPair, ReadsHeader, ReadsNextPair, IsEntryBuffered, entry_cost, header_read};
+ghost use Rattle.sasi_tokentree.specs.Scans.{HasPassed, PassesOne, ReadsEntry, ReadsFirstPair, ReadsHeader, ReadsNextPair, StepsBehindCounted, IsEntryBuffered, entry_cost, header_read};
 
 use crate::node_decode::{ENTRY_BYTES, NODE_HEADER_BYTES, number_in};
 use crate::node_layout::{MAX_ENTRIES, MAX_NODE_BYTES};
@@ -199,7 +199,7 @@ pub fn first_from<H: Host, P: PageReader>(
     ensures read { HasReadOn (P.agrees pages.new) (P.covers pages.old) (P.covers pages.new) (H.view host.old) (H.view host.new) buffered.old buffered.new }
     ensures entry_buffered { IfOk result (λ found. IsEntryBuffered (record { buffered = buffered.new; tree = tree; passed = found.passed }) found.pair) }
     ensures passed { IfOk result (λ found. IsSome found.pair → HasPassed tree found.passed) }
-    ensures ends { IfOk result (λ found. found.pair ≡ None → tree.pairs ≤ found.passed) }
+    ensures ends { IfOk result (λ found. StepsBehindCounted (H.view host.old) buffered.old.file tree token found.passed found.pair) }
     ensures causes { (most : ℕ) → tree.pairs ≤ most → ReadCost (2 * height most tree.pairs + 2) (H.view host.old) (H.view host.new) result }
 {
     if tree.pairs == 0 {

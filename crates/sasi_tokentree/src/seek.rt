@@ -1,12 +1,12 @@
 // Searches a tree from the root down for the first pair at or after a token.
-ghost use Rattle.std.specs.Prelude.{◌≡◌, ◌+◌, ◌*◌, ◌^◌, ◌<◌, ◌≤◌, List, ℕ, length, IfErr, IfOk, OnOk, Some};
+ghost use Rattle.std.specs.Prelude.{◌≡◌, ◌+◌, ◌-◌, ◌*◌, ◌^◌, ◌<◌, ◌≤◌, List, ℕ, length, min, IfErr, IfOk, OnOk, Some};
 ghost use Rattle.sasi_types.specs.declared.tree.Pair.{Pair};
 ghost use Rattle.sasi_host.specs.View.{contents, ReadCost};
 ghost use Rattle.sasi_host.specs.PageReading.{CanReadOn, HasReadOn};
 ghost use Rattle.sasi_tokentree.specs.Format.{entries_of_node};
 ghost use Rattle.sasi_tokentree.specs.Heights.{level_limit, height, bytes_below_root};
 ghost use Rattle.sasi_tokentree.specs.Damages.{IsNodeFrom, ShownOf};
-ghost use Rattle.sasi_tokentree.specs.Reads.{IsLowerBound, IsReached, NoFalseLevelDamage, HasLevels};
+ghost use Rattle.sasi_tokentree.specs.Reads.{CountsDown, CountsInNode, IsLowerBound, IsReached, NoFalseLevelDamage, HasLevels};
 
 use crate::node_decode::LowerBound;
 use crate::node_layout::{MAX_ENTRIES, MAX_NODE_BYTES, level_size, node_count};
@@ -43,6 +43,7 @@ pub fn count_below<H: Host, P: PageReader>(
     ensures ok { IfOk result (λ below. (bytes : List ℕ) (entries : List Pair) → contents (H.view host.old) buffered.old.file ≡ Some bytes → HasLevels bytes level at entries → length entries ≡ count
         → IsLowerBound entries token below.count below.place) }
     ensures within { IfOk result (λ below. below.count ≤ count) }
+    ensures counts { IfOk result (λ below. (bytes : List ℕ) → contents (H.view host.old) buffered.old.file ≡ Some bytes → CountsDown bytes token level at count below.count) }
     ensures reached { IfOk result (λ below. (bytes : List ℕ) → contents (H.view host.old) buffered.old.file ≡ Some bytes → IsReached bytes at count below.count) }
     ensures damaged { IfErr result (ShownOf (λ n. IsNodeFrom n level at count) (H.view host.old) buffered.old.file) }
     ensures undamaged { IfErr result (NoFalseLevelDamage (H.view host.old) buffered.old.file level at count) }
@@ -91,6 +92,7 @@ fn count_in_node<H: Host, P: PageReader>(
     ensures ok { IfOk result (λ below. (bytes : List ℕ) (entries : List Pair) → contents (H.view host.old) buffered.old.file ≡ Some bytes → HasLevels bytes level at entries → length entries ≡ count
         → IsLowerBound (entries_of_node entries node) token below.count below.place) }
     ensures within { IfOk result (λ below. 255 * node + below.count ≤ count) }
+    ensures counts { IfOk result (λ below. (bytes : List ℕ) → contents (H.view host.old) buffered.old.file ≡ Some bytes → CountsInNode bytes level (at + 4088 * node) (min (count - 255 * node) 255) token below.count) }
     ensures reached { IfOk result (λ below. (bytes : List ℕ) → contents (H.view host.old) buffered.old.file ≡ Some bytes → 255 < count → IsReached bytes at count (255 * node + below.count)) }
     ensures damaged { IfErr result (ShownOf (λ n. IsNodeFrom n level at count) (H.view host.old) buffered.old.file) }
     ensures undamaged { IfErr result (NoFalseLevelDamage (H.view host.old) buffered.old.file level at count) }

@@ -7,7 +7,7 @@ ghost use Rattle.sasi_host.specs.PageReading.{CanReadOn, HasReadOn};
 ghost use Rattle.sasi_tokentree.specs.Heights.{height};
 ghost use Rattle.sasi_tokentree.specs.Damages.{BeginsLeaf, ShowsTreeBy, pair_offset};
 ghost use Rattle.sasi_tokentree.specs.Reads.{NoFalseTreeDamage};
-ghost use Rattle.sasi_tokentree.specs.Scans.{HasPassed, PassesOne, ReadsEntry, ReadsFirstPair, ReadsHeader, ReadsNextPair, IsEntryBuffered, entry_cost};
+ghost use Rattle.sasi_tokentree.specs.Scans.{HasPassed, PassesOne, ReadsEntry, ReadsFirstPair, ReadsHeader, ReadsNextPair, StepsBehindCounted, IsEntryBuffered, entry_cost};
 
 use crate::pair_scan::{first_from, last_offset, pair_from};
 use sasi_host::{BufferedFile, FileName, Host, PageReader, ReadFault};
@@ -71,8 +71,8 @@ impl Tree {
         ensures read { HasReadOn (P.agrees pages.new) (P.covers pages.old) (P.covers pages.new) (H.view host.old) (H.view host.new) self.old.buffered self.new.buffered }
         ensures entry_buffered { IfOk result (IsEntryBuffered self.new) }
         ensures passed { IfOk result (λ found. IsSome found → HasPassed self.new.tree self.new.passed) }
-        // In any file there is none only where all pairs of the reference are passed.
-        ensures ends { IfOk result (λ found. found ≡ None → self.new.tree.pairs ≤ self.new.passed) }
+        // In any file it is the one behind those that the nodes count as below, so there is none only where these are all.
+        ensures ends { IfOk result (λ found. StepsBehindCounted (H.view host.old) self.old.buffered.file self.old.tree token self.new.passed found) }
         ensures causes { (most : ℕ) → self.old.tree.pairs ≤ most → ReadCost (2 * height most self.old.tree.pairs + 2) (H.view host.old) (H.view host.new) result }
         ensures tree { self.new.tree ≡ self.old.tree }
         ensures err { OnErr result (self.new.passed ≡ self.old.passed) }

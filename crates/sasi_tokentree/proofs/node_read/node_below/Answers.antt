@@ -3,6 +3,7 @@ use Rattle.std.proofs.lemmas.Result.{err_from_is_err_and}
 use Rattle.sasi_host.specs.declared.name.FileName.{FileName}
 use Rattle.sasi_tokentree.specs.Reads.{IsInNode}
 use Rattle.sasi_tokentree.proofs.NodeReads.{node_shown}
+use Rattle.sasi_tokentree.proofs.NodeCounts.{counts_there}
 use Rattle.sasi_tokentree.proofs.node_read.node_below.Goals as goal
 
 pub returns-in_err-below-clause-damaged : goal.returns-in_err-below-clause-damaged
@@ -21,3 +22,8 @@ returns-in_err-below-clause-undamaged g c =
 
 pub returns-clause-ok : goal.returns-clause-ok
 returns-clause-ok g c bytes entries is has long = c.in_ok-below.ensures.ok c.args.level entries has.fit has.rising (c.in_ok-read_node.ensures.ok bytes entries is has long)
+
+pub returns-clause-counts : goal.returns-clause-counts
+returns-clause-counts g c bytes is =
+    counts_there bytes c.args.at c.read_node.new.out c.args.level c.args.count c.args.token c.in_ok-below.below.count (c.in_ok-read_node.ensures.is bytes is)
+    (c.in_ok-below.ensures.counts c.args.level c.in_ok-read_node.ensures.header)

@@ -1,4 +1,4 @@
-use Rattle.std.proofs.Common.{◌≡◌, Ok, ◌+◌, ◌*◌, subst, arith, Err}
+use Rattle.std.proofs.Common.{◌≡◌, Ok, ◌+◌, ◌*◌, inl, subst, arith, Err}
 use Rattle.std.proofs.lemmas.Result.{err_from_is_err_and}
 use Rattle.sasi_host.proofs.PageReadingLaws.{reads_nothing, reads_then}
 use Rattle.sasi_host.specs.declared.name.FileName.{FileName}
@@ -9,6 +9,7 @@ use Rattle.sasi_tokentree.proofs.EntryPages.{entry_pages}
 use Rattle.sasi_tokentree.proofs.AfterRead.{reads_still, tree_shown_more, tree_shown_still}
 use Rattle.sasi_host.proofs.CauseLaws.{reads_on, ok_reads}
 use Rattle.sasi_tokentree.proofs.LeafPairs.{begins_leaf, no_false_long, long_shown, leaves_shown, gave_entry, gave_header, no_false_level, no_false_tree_before, tree_stands_at, count_is, no_pairs, takes_none}
+use Rattle.sasi_tokentree.proofs.NodeCounts.{steps_behind}
 use Rattle.sasi_tokentree.proofs.pair_scan.first_from.Goals as goal
 
 pub returns-then-tree-eq0-clause-ok : goal.returns-then-tree-eq0-clause-ok
@@ -93,3 +94,11 @@ returns-in_err-found-clause-read g c = reads_then _ _ _ _ _ _ _ _ _ _ _ c.count_
 
 pub returns-clause-read : goal.returns-clause-read
 returns-clause-read g c = reads_then _ _ _ _ _ _ _ _ _ _ _ c.count_below.ensures.read c.pair_from.ensures.read
+
+pub returns-then-tree-eq0-clause-ends : goal.returns-then-tree-eq0-clause-ends
+returns-then-tree-eq0-clause-ends g c = (omega arith, λ bytes is. inl (omega arith))
+
+pub returns-clause-ends : goal.returns-clause-ends
+returns-clause-ends g c =
+    steps_behind (g.H.Host.view c.args.host.now) c.args.buffered.now.file c.args.tree c.args.token c.start_of-start.result c.count_below.new.buffered c.pair_from.new.buffered
+    c.in_ok-below.below.count c.in_ok-found.found.passed c.in_ok-found.found.pair c.start_of-start.ensures.is c.in_ok-below.ensures.counts c.in_ok-found.ensures.ends

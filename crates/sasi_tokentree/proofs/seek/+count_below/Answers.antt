@@ -1,8 +1,9 @@
-use Rattle.std.proofs.Common.{◌≡◌, ℕ, ◌+◌, ◌-◌, ◌<◌, Ok, Err, subst, arith}
+use Rattle.std.proofs.Common.{◌≡◌, ℕ, ◌+◌, ◌-◌, ◌*◌, ◌<◌, Ok, Err, refl, subst, arith}
 use Rattle.std.proofs.lemmas.Result.{err_from_is_err_and}
 use Rattle.sasi_host.proofs.PageReadingLaws.{reads_then}
-use Rattle.sasi_tokentree.specs.Format.{above}
-use Rattle.sasi_tokentree.specs.Reads.{IsLowerBound}
+use Rattle.sasi_tokentree.specs.Format.{above, nodes, size}
+use Rattle.sasi_tokentree.specs.Reads.{CountsDown, IsLowerBound}
+use Rattle.sasi_tokentree.specs.Reads.CountsDown.{in_root, none_above, in_node}
 use Rattle.sasi_tokentree.specs.Damages.{IsNodeFrom}
 use Rattle.sasi_tokentree.specs.Damages.IsNodeFrom.{of_above}
 use Rattle.sasi_tokentree.proofs.AfterRead.{reads_still, shown_still}
@@ -113,3 +114,21 @@ pub returns-clause-reached : goal.returns-clause-reached
 returns-clause-reached g t c bytes is =
     let now = reads_still _ _ c.args.buffered.now.file _ bytes c.count_below.ensures.read.changes c.count_below.ensures.read.file is in
     c.in_ok-below-2.ensures.reached bytes now (omega arith)
+
+pub returns-then-count-le-MAX_ENTRIES-clause-counts : goal.returns-then-count-le-MAX_ENTRIES-clause-counts
+returns-then-count-le-MAX_ENTRIES-clause-counts g t c bytes is = in_root c.args.level c.args.at c.args.count c.in_ok-below.below.count (omega arith) (c.in_ok-below.ensures.counts bytes is)
+
+pub returns-then-above-eq0-clause-counts : goal.returns-then-above-eq0-clause-counts
+returns-then-above-eq0-clause-counts g t c bytes is =
+    let up = rw (c.level_size.ensures, c.node_count.ensures) at c.in_ok-above.ensures.counts in
+    none_above c.args.level c.args.at c.args.count 0 (omega arith)
+    (subst (λ (n : ℕ). CountsDown bytes c.args.token (c.args.level + 1) (c.args.at + size c.args.count) (nodes c.args.count) n) c.if-above-eq0.true (up bytes is)) refl
+
+pub returns-clause-counts : goal.returns-clause-counts
+returns-clause-counts g t c bytes is =
+    let now = reads_still _ _ c.args.buffered.now.file _ bytes c.count_below.ensures.read.changes c.count_below.ensures.read.file is in
+    let up = rw (c.level_size.ensures, c.node_count.ensures) at c.in_ok-above.ensures.counts in
+    let node = c.in_ok-above.above.count - 1 in
+    let next : c.in_ok-above.above.count ≡ c.in_ok-above.above.count - 1 + 1 = omega arith in
+    in_node c.args.level c.args.at c.args.count (255 * node + c.in_ok-below-2.below.count) node c.in_ok-below-2.below.count (omega arith)
+    (subst (λ (n : ℕ). CountsDown bytes c.args.token (c.args.level + 1) (c.args.at + size c.args.count) (nodes c.args.count) n) next (up bytes is)) (c.in_ok-below-2.ensures.counts bytes now) refl

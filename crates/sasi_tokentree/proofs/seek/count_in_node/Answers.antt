@@ -1,7 +1,8 @@
-use Rattle.std.proofs.Common.{arith}
+use Rattle.std.proofs.Common.{◌≡◌, ℕ, ◌+◌, ◌-◌, ◌*◌, min, subst, arith}
 use Rattle.std.proofs.lemmas.Result.{err_from_is_err_and}
 use Rattle.sasi_tokentree.specs.Format.{entries_of_node}
 use Rattle.sasi_tokentree.specs.Damages.{IsNodeFrom}
+use Rattle.sasi_tokentree.specs.Reads.{CountsInNode}
 use Rattle.sasi_tokentree.proofs.NodeReads.{shown_more, node_of_level}
 use Rattle.sasi_tokentree.proofs.StoredLevels.{stands_node}
 use Rattle.sasi_tokentree.proofs.Seeks.{part_size, no_false_part, reached_in_node}
@@ -27,3 +28,8 @@ returns-clause-ok g c bytes entries is stands long =
 pub returns-clause-reached : goal.returns-clause-reached
 returns-clause-reached g c bytes is many =
     reached_in_node bytes c.args.at c.args.count c.args.node c.min-here.result c.in_ok-below.below.count many c.in_ok-below.ensures.within (omega arith) (c.in_ok-below.ensures.whole bytes is)
+
+pub returns-clause-counts : goal.returns-clause-counts
+returns-clause-counts g c bytes is =
+    let size : c.min-here.result ≡ min (c.args.count - 255 * c.args.node) 255 = omega arith in
+    subst (λ (n : ℕ). CountsInNode bytes c.args.level (c.args.at + 4088 * c.args.node) n c.args.token c.in_ok-below.below.count) size (c.in_ok-below.ensures.counts bytes is)

@@ -3,7 +3,7 @@ use Rattle.std.proofs.lemmas.Result.{err_from_is_err_and}
 use Rattle.sasi_host.specs.Damages.{DamageShown}
 use Rattle.sasi_tokentree.specs.Damages.{BeginsLeaf, ShowsTreeBy}
 use Rattle.sasi_tokentree.specs.Reads.{NoFalseTreeDamage}
-use Rattle.sasi_tokentree.specs.Scans.{ReadsEntry, ReadsFirstPair, ReadsHeader, PairScan}
+use Rattle.sasi_tokentree.specs.Scans.{ReadsEntry, ReadsFirstPair, ReadsHeader, StepsBehindCounted, PairScan}
 use Rattle.sasi_tokentree.proofs.tree.Tree.first.Goals as goal
 
 pub returns-in_err-found-clause-undamaged : goal.returns-in_err-found-clause-undamaged
@@ -28,3 +28,7 @@ returns-clause-ok g c = subst (λ (h : PairScan). ReadsFirstPair (g.H.Host.view 
 pub returns-clause-header : goal.returns-clause-header
 returns-clause-header g c = subst (λ (h : PairScan). ReadsHeader (g.H.Host.view c.args.host.now) h.buffered.file h.tree c.in_ok-found.found.passed
     c.in_ok-found.found.pair) c.self.view_is c.in_ok-found.ensures.header
+
+pub returns-clause-ends : goal.returns-clause-ends
+returns-clause-ends g c = subst (λ (h : PairScan). StepsBehindCounted (g.H.Host.view c.args.host.now) h.buffered.file h.tree c.args.token c.in_ok-found.found.passed
+    c.in_ok-found.found.pair) c.self.view_is c.in_ok-found.ensures.ends
