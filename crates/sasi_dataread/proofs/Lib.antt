@@ -8,5 +8,6 @@ pub mod Bodies
 pub mod Footers
 pub mod Opening
 pub mod DataScan
+pub mod Looking
 pub mod Finding
 pub mod Ends

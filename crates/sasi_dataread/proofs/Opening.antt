@@ -1,5 +1,5 @@
 -- A data file that was opened: what its partitions say of its content.
-use Rattle.std.proofs.Common.{◌≡◌, ◌⊎◌, ℕ, ◌+◌, ◌^◌, ◌<◌, ◌≤◌, ◌++◌, [], length, length-append, ◌∙◌, ap, subst, arith, ⊎_elim, Option, Some, IfOk, IfErr}
+use Rattle.std.proofs.Common.{◌≡◌, ◌⊎◌, ℕ, ◌+◌, ◌^◌, ◌<◌, ◌≤◌, ◌++◌, [], length, length-append, ◌∙◌, ap, subst, arith, ⊎_elim, Option, Some, IfOk, IfErr, OnOk}
 use Rattle.std.specs.Int.{to_be_bytes, w64}
 use Rattle.std.specs.declared.result.Result.{Result}
 use Rattle.std.specs.declared.result.Result.TheVariants.{Ok, Err}
@@ -7,6 +7,8 @@ use Rattle.sasi_host.specs.declared.fault.ReadFault.{ReadFault}
 use Rattle.sasi_host.specs.declared.fault.ReadFault.TheVariants as fault
 use Rattle.sasi_host.specs.Names.{Bytes}
 use Rattle.sasi_host.specs.View.{View, contents}
+use Rattle.sasi_host.specs.Disk.{Changes, Same}
+use Rattle.sasi_host.proofs.ContentLaws.{contents_same}
 use Rattle.sasi_types.specs.declared.partitioner.Partitioner.{Partitioner}
 use Rattle.sasi_model.specs.Cells.{Partition}
 use Rattle.sasi_body.specs.Body.{body, IsBodyOf}
@@ -23,8 +25,8 @@ use Rattle.sasi_dataread.specs.Damages.ShowsPair.{leads_nowhere, in_partition}
 use Rattle.sasi_datawrite.specs.Format.{Content, header, partitions}
 use Rattle.sasi_datawrite.proofs.Laws.{header_length}
 use Rattle.sasi_dataread.specs.Opened.{OpenDataFile, StandsAt}
-use Rattle.sasi_dataread.specs.Reads.{ReadsPartition, IsOpenOn, NoFalsePartitionDamage}
-use Rattle.sasi_dataread.specs.Bodies.{length_prefixed, partition_reads, IsPartitionOffset, NoFalseBodyDamage}
+use Rattle.sasi_dataread.specs.Reads.{ReadsPartition, IsOpenOn, IsStoredAt, NoFalsePartitionDamage}
+use Rattle.sasi_dataread.specs.Bodies.{length_prefixed, partition_reads, IsLength, IsPartitionOffset, NoFalseBodyDamage}
 use Rattle.sasi_dataread.proofs.Laws.{partition_stands, partition_typed, partition_within}
 use Rattle.sasi_dataread.proofs.Bodies.{sized_same}
 
@@ -94,7 +96,22 @@ reads_at v opened page place reads bound partitioner content key part is at =
     bound is.bytes (body key part) is.reads (partition_stands partitioner opened.types is.bytes content place key part is.data_file at)
     (omega (arith, body_short key part (partition_typed partitioner opened.types is.bytes content place key part is.data_file at).has))
 
+-- what is stored at an offset was stored there before, if nothing was done
+pub stored_before : (v w : View) (opened : OpenDataFile) (place : ℕ) (key : Bytes) (part : Partition) → Changes Same v w → IsStoredAt w opened place key part → IsStoredAt v opened place key part
+stored_before v w opened place key part change stored = record { in_table = stored.in_table; fits = stored.fits; stands = λ bytes is. stored.stands bytes (contents_same v w opened.file change ∙ is) }
+
+-- what holds in any case holds where a call succeeds
+pub where_ok : {T : Type 0} (P : Type 0) (result : Result T ReadFault) → P → OnOk result P
+where_ok P (Ok read) p = p
+where_ok P (Err f) p = tt
+
 -- ---- the same of a call's whole result, which speaks of a file by another name
+
+pub at_stored : (v : View) (opened : OpenDataFile) (other : FileName) (place : ℕ) (result : Result (Bytes × Partition) ReadFault) → other ≡ opened.file
+    → IfOk result (λ read. IsBodyOf opened.types read.0 read.1) → IfOk result (λ read. IsLength opened.end place (length (body read.0 read.1)))
+    → IfOk result (λ read. (bytes : Bytes) → contents v other ≡ Some bytes → HasAt bytes place (length_prefixed (body read.0 read.1))) → IfOk result (λ read. IsStoredAt v opened place read.0 read.1)
+at_stored v opened other place (Ok read) same of fits stands = record { in_table = of; fits = fits; stands = λ bytes is. stands bytes (ap (λ (n : FileName). contents v n) same ∙ is) }
+at_stored v opened other place (Err f) same of fits stands = tt
 
 pub at_ok : (v : View) (opened : OpenDataFile) (other : FileName) (place : ℕ) (result : Result (Bytes × Partition) ReadFault) → other ≡ opened.file → IfOk
     result (λ read. IsBodyOf opened.types read.0 read.1)

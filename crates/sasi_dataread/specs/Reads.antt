@@ -1,16 +1,20 @@
 -- What a reader of a data file gives, by the host's view.
-use Rattle.std.specs.Prelude.{◌≡◌, ℕ, List, ◌+◌, ◌≤◌, Some}
+use Rattle.std.specs.Prelude.{◌≡◌, ℕ, List, ◌+◌, ◌*◌, ◌≤◌, length, Some}
 use Rattle.sasi_types.specs.declared.column.ColumnType.{ColumnType}
 use Rattle.sasi_types.specs.declared.partitioner.Partitioner.{Partitioner}
+use Rattle.sasi_types.specs.declared.tree.Pair.{Pair}
 use Rattle.sasi_model.specs.Cells.{Partition}
 use Rattle.sasi_host.specs.declared.name.FileName.{FileName}
 use Rattle.sasi_host.specs.declared.fault.ReadFault.{ReadFault}
 use Rattle.sasi_host.specs.Names.{Bytes}
-use Rattle.sasi_host.specs.Damages.{OnDamage}
+use Rattle.sasi_host.specs.Damages.{HasAt, OnDamage}
 use Rattle.sasi_host.specs.View.{View, contents}
+use Rattle.sasi_body.specs.Body.{body, IsBodyOf}
+use Rattle.sasi_tokentree.specs.Scans.{HasEntry, HasLeafHeader}
 use Rattle.sasi_datawrite.specs.Format.{Content}
 use Rattle.sasi_datawrite.specs.Files.{IsDataFile}
 use Rattle.sasi_dataread.specs.Opened.{OpenDataFile, IsOpenedAs, StandsAt}
+use Rattle.sasi_dataread.specs.Bodies.{length_prefixed, IsLength, IsPartitionOffset}
 use Rattle.sasi_host.specs.Disk.{Changes, Same}
 
 -- the folder is unchanged, no call failed, and at most so many reads were made
@@ -47,3 +51,20 @@ NoFalsePartitionDamage v opened place = OnDamage (λ _. (partitioner : Partition
 -- the key read is that of the one at the offset
 abbrev pub ReadsKey : View → OpenDataFile → ℕ → Bytes → Type 0
 ReadsKey v opened place key = (partitioner : Partitioner) (content : Content) (k : Bytes) (p : Partition) → IsOpenOn v opened partitioner content → StandsAt content place k p → key ≡ k
+
+-- ---- in any file
+
+-- the file has this partition of the table at the offset, which ends where the partitions do, or before
+pub record IsStoredAt (v : View) (opened : OpenDataFile) (place : ℕ) (key : Bytes) (part : Partition) : Type 0 where
+  pub in_table : IsBodyOf opened.types key part
+  pub fits : IsLength opened.end place (length (body key part))
+  pub stands : (bytes : Bytes) → contents v opened.file ≡ Some bytes → HasAt bytes place (length_prefixed (body key part))
+
+-- the pair of the key tree with this index has the token, and leads to the partition; the first pair of a leaf stands behind the leaf's header
+pub record LeadsToPartition (v : View) (opened : OpenDataFile) (index token : ℕ) (key : Bytes) (part : Partition) : Type 0 where
+  pub pair : Pair
+  pub token_is : pair.token ≡ token
+  pub entry : (bytes : Bytes) → contents v opened.file ≡ Some bytes → HasEntry bytes opened.tree index pair
+  pub header : (leaf : ℕ) → index ≡ 255 * leaf → (bytes : Bytes) → contents v opened.file ≡ Some bytes → HasLeafHeader bytes opened.tree leaf
+  pub begins : IsPartitionOffset opened.end pair.place
+  pub stored : IsStoredAt v opened pair.place key part

@@ -1,5 +1,5 @@
 -- Scans of a data file.
-use Rattle.std.specs.Prelude.{◌≡◌, ℕ, [], ◌∷◌, drop, Option, None, Some}
+use Rattle.std.specs.Prelude.{◌≡◌, ℕ, ◌+◌, ◌<◌, ◌≤◌, [], ◌∷◌, drop, Option, None, Some}
 use Rattle.std.specs.List.{AllByRecursion}
 use Rattle.sasi_types.specs.declared.partitioner.Partitioner.{Partitioner}
 use Rattle.sasi_types.specs.Token.{token_of, AreBytes}
@@ -11,7 +11,7 @@ use Rattle.sasi_host.specs.Damages.{OnDamage}
 use Rattle.sasi_host.specs.View.{View}
 use Rattle.sasi_datawrite.specs.Format.{Content}
 use Rattle.sasi_dataread.specs.Opened.{OpenDataFile}
-use Rattle.sasi_dataread.specs.Reads.{IsOpenOn}
+use Rattle.sasi_dataread.specs.Reads.{IsOpenOn, LeadsToPartition}
 
 -- the view of a scan: the file, how many of its partitions it has passed, and the buffered pages of the key tree and of the
 -- partitions
@@ -37,3 +37,8 @@ ReadsNextPartition v opened before after found = (partitioner : Partitioner) (co
 -- damage is reported only where the file isn't the data file that was opened
 abbrev pub NoFalseOpenedDamage : View → OpenDataFile → ReadFault → Type 0
 NoFalseOpenedDamage v opened = OnDamage (λ _. (partitioner : Partitioner) (content : Content) → IsOpenOn v opened partitioner content → KeysAreBytes content → ⊥)
+
+-- In any file a scan passes one pair of the key tree, and gives the partition to which it leads, with the token of the pair. It gives none exactly where all pairs are passed.
+abbrev pub PassesPartition : View → OpenDataFile → ℕ → ℕ → Option (ℕ × Bytes × Partition) → Type 0
+PassesPartition v opened before after None = (opened.tree.pairs ≤ before) × (after ≡ before)
+PassesPartition v opened before after (Some found) = (before < opened.tree.pairs) × (after ≡ before + 1) × LeadsToPartition v opened before found.0 found.1 found.2

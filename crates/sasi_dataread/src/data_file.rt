@@ -13,12 +13,12 @@ ghost use Rattle.sasi_host.specs.PageReading.{CanRead, HasRead};
 ghost use Rattle.sasi_datawrite.specs.Format.{Content, header};
 ghost use Rattle.sasi_datawrite.specs.Files.{IsDataFile};
 ghost use Rattle.sasi_dataread.specs.Opened.{IsOpenedAs, StandsAt};
-ghost use Rattle.sasi_dataread.specs.Reads.{ReadsPartition, ReadsKey, IsOpenOn, NoFalseDataDamage, NoFalsePartitionDamage};
+ghost use Rattle.sasi_dataread.specs.Reads.{ReadsPartition, ReadsKey, IsOpenOn, IsStoredAt, NoFalseDataDamage, NoFalsePartitionDamage};
 ghost use Rattle.sasi_dataread.specs.Bodies.{partition_pages, partition_reads};
 ghost use Rattle.sasi_dataread.specs.Damages.{ShowsData, ShowsHeaderOrFooter, ShowsPartition};
 ghost use Rattle.sasi_dataread.specs.HeaderAndFooter.{HasHeaderAndFooter};
 ghost use Rattle.sasi_dataread.specs.Scans.{KeysAreBytes, NoFalseOpenedDamage};
-ghost use Rattle.sasi_dataread.specs.Finds.{FindsKey, token_reads};
+ghost use Rattle.sasi_dataread.specs.Finds.{FindsKey, FindsStored, MissesKey, token_reads};
 
 use crate::Walk;
 use crate::find::find_partition;
@@ -150,6 +150,7 @@ impl DataFile {
         requires named { buffered.old.file ≡ self.now.file }
         ensures ok { IfOk result (λ read. ReadsPartition (H.view host.old) self.now place read.0 read.1) }
         ensures in_table { IfOk result (λ read. IsBodyOf self.now.types read.0 read.1) }
+        ensures stands { IfOk result (λ read. IsStoredAt (H.view host.old) self.now place read.0 read.1) }
         ensures damaged { IfErr result (DamageShown (H.view host.old) self.now.file (ShowsPartition self.now.types self.now.end place self.now.file)) }
         ensures undamaged { IfErr result (NoFalsePartitionDamage (H.view host.old) self.now place) }
         ensures named { buffered.new.file ≡ self.now.file }
@@ -173,6 +174,8 @@ impl DataFile {
         requires read { CanRead (P.agrees pages.old) (H.view host.old) self.now.file }
         ensures ok { IfOk result (λ read. ReadsPartition (H.view host.old) self.now place read.0 read.1) }
         ensures in_table { IfOk result (λ read. IsBodyOf self.now.types read.0 read.1) }
+        // In any file it stands there.
+        ensures stands { IfOk result (λ read. IsStoredAt (H.view host.old) self.now place read.0 read.1) }
         ensures damaged { IfErr result (DamageShown (H.view host.old) self.now.file (ShowsPartition self.now.types self.now.end place self.now.file)) }
         ensures undamaged { IfErr result (NoFalsePartitionDamage (H.view host.old) self.now place) }
         ensures read { HasRead (P.agrees pages.new) (P.covers pages.old) (P.covers pages.new) (H.view host.old) (H.view host.new) self.now.file }
@@ -194,6 +197,8 @@ impl DataFile {
     ) -> Result<Key, ReadFault>
         requires read { CanRead (P.agrees pages.old) (H.view host.old) self.now.file }
         ensures ok { IfOk result (λ key. ReadsKey (H.view host.old) self.now place key) }
+        // In any file it is that of a partition of the table, which stands there.
+        ensures in_table { IfOk result (λ key. (part : Part) × IsStoredAt (H.view host.old) self.now place key part) }
         ensures damaged { IfErr result (DamageShown (H.view host.old) self.now.file (ShowsPartition self.now.types self.now.end place self.now.file)) }
         ensures undamaged { IfErr result (NoFalsePartitionDamage (H.view host.old) self.now place) }
         ensures read { HasRead (P.agrees pages.new) (P.covers pages.old) (P.covers pages.new) (H.view host.old) (H.view host.new) self.now.file }
@@ -216,6 +221,10 @@ impl DataFile {
     ) -> Result<Option<Partition>, ReadFault>
         requires read { CanRead (P.agrees pages.old) (H.view host.old) self.now.file }
         ensures ok { IfOk result (λ found. FindsKey (H.view host.old) self.now token key.now found) }
+        // In any file what is found is the partition of the key to which a pair with the token leads.
+        ensures stands { IfOk result (FindsStored (H.view host.old) self.now token key.now) }
+        // In any file with the key tree each pair with the token leads to another key where none is found.
+        ensures misses { IfOk result (MissesKey (H.view host.old) self.now token key.now) }
         ensures damaged { IfErr result (DamageShown (H.view host.old) self.now.file (ShowsData self.now)) }
         ensures undamaged { IfErr result (NoFalseOpenedDamage (H.view host.old) self.now) }
         ensures read { HasRead (P.agrees pages.new) (P.covers pages.old) (P.covers pages.new) (H.view host.old) (H.view host.new) self.now.file }

@@ -1,5 +1,5 @@
 // Searches for a partition by its key.
-ghost use Rattle.std.specs.Prelude.{◌≡◌, ◌+◌, ◌-◌, ◌*◌, ◌≤◌, ℕ, length, IfErr, IfOk};
+ghost use Rattle.std.specs.Prelude.{◌≡◌, ◌+◌, ◌-◌, ◌*◌, ◌≤◌, ℕ, length, IfErr, IfOk, OnOk};
 ghost use Rattle.sasi_types.specs.declared.partitioner.Partitioner.{Partitioner};
 ghost use Rattle.sasi_model.specs.Cells.{Partition as Part};
 ghost use Rattle.sasi_host.specs.Names.{Bytes};
@@ -13,10 +13,10 @@ ghost use Rattle.sasi_host.specs.PageReading.{CanRead, HasRead};
 ghost use Rattle.sasi_datawrite.specs.Format.{Content, header};
 ghost use Rattle.sasi_dataread.specs.Opened.{StandsAt};
 ghost use Rattle.sasi_dataread.specs.Reads.{IsOpenOn, NoFalsePartitionDamage};
-ghost use Rattle.sasi_dataread.specs.Bodies.{partition_reads};
+ghost use Rattle.sasi_dataread.specs.Bodies.{partition_reads, IsPartitionOffset};
 ghost use Rattle.sasi_dataread.specs.Damages.{ShowsData, ShowsPair};
 ghost use Rattle.sasi_dataread.specs.Scans.{KeysAreBytes, NoFalseOpenedDamage};
-ghost use Rattle.sasi_dataread.specs.Finds.{FindsKey, ReadsPartitionOfKey, LeadsTo, token_reads};
+ghost use Rattle.sasi_dataread.specs.Finds.{FindsKey, FindsStored, MissesKey, ReadsPartitionOfKey, ReadsStoredKey, LeadsTo, token_reads};
 
 use crate::DataFile;
 use crate::pair::partition_of_pair;
@@ -54,6 +54,8 @@ fn partition_with_key<H: Host, P: PageReader>(
     requires tree { tree.now.tree ≡ opened.now.tree }
     requires passed { HasPassed tree.now.tree tree.now.passed }
     ensures ok { IfOk result (λ found. ReadsPartitionOfKey (H.view host.old) opened.now place key.now found) }
+    ensures begins { OnOk result (IsPartitionOffset opened.now.end place) }
+    ensures stands { IfOk result (ReadsStoredKey (H.view host.old) opened.now place key.now) }
     ensures damaged { IfErr result (DamageShown (H.view host.old) opened.now.file (ShowsPair opened.now (tree.now.passed - 1) place)) }
     ensures undamaged { IfErr result (NoFalsePartitionDamage (H.view host.old) opened.now place) }
     ensures named { buffered.new.file ≡ opened.now.file }
@@ -80,6 +82,8 @@ pub fn find_partition<H: Host, P: PageReader>(
 ) -> Result<Option<Partition>, ReadFault>
     requires read { CanRead (P.agrees pages.old) (H.view host.old) opened.now.file }
     ensures ok { IfOk result (λ found. FindsKey (H.view host.old) opened.now token key.now found) }
+    ensures stands { IfOk result (FindsStored (H.view host.old) opened.now token key.now) }
+    ensures misses { IfOk result (MissesKey (H.view host.old) opened.now token key.now) }
     ensures damaged { IfErr result (DamageShown (H.view host.old) opened.now.file (ShowsData opened.now)) }
     ensures undamaged { IfErr result (NoFalseOpenedDamage (H.view host.old) opened.now) }
     ensures read { HasRead (P.agrees pages.new) (P.covers pages.old) (P.covers pages.new) (H.view host.old) (H.view host.new) opened.now.file }

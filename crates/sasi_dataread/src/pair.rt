@@ -1,5 +1,5 @@
 // Reads the partitions to which the pairs of the key tree lead.
-ghost use Rattle.std.specs.Prelude.{◌≡◌, ◌⊎◌, ◌+◌, ◌-◌, ◌/◌, ◌<◌, ◌≤◌, length, IfErr, IfOk, IsTrue, Some, false};
+ghost use Rattle.std.specs.Prelude.{◌≡◌, ◌⊎◌, ◌+◌, ◌-◌, ◌/◌, ◌<◌, ◌≤◌, length, IfErr, IfOk, OnOk, IsTrue, Some, false};
 ghost use Rattle.sasi_types.specs.declared.partitioner.Partitioner.{Partitioner};
 ghost use Rattle.sasi_model.specs.Cells.{Partition as Part};
 ghost use Rattle.sasi_host.specs.Names.{Bytes};
@@ -11,7 +11,7 @@ ghost use Rattle.sasi_body.specs.Body.{body, IsBodyOf};
 ghost use Rattle.sasi_tokentree.specs.Scans.{HasPassed};
 ghost use Rattle.sasi_datawrite.specs.Format.{Content};
 ghost use Rattle.sasi_dataread.specs.Opened.{StandsAt};
-ghost use Rattle.sasi_dataread.specs.Reads.{ReadsPartition, IsOpenOn, NoFalsePartitionDamage};
+ghost use Rattle.sasi_dataread.specs.Reads.{ReadsPartition, IsOpenOn, IsStoredAt, NoFalsePartitionDamage};
 ghost use Rattle.sasi_dataread.specs.Bodies.{partition_reads, IsPartitionOffset};
 ghost use Rattle.sasi_dataread.specs.Damages.{ShowsPair};
 
@@ -56,6 +56,8 @@ pub fn partition_of_pair<H: Host, P: PageReader>(
     requires passed { HasPassed tree.now.tree tree.now.passed }
     ensures ok { IfOk result (λ read. ReadsPartition (H.view host.old) opened.now place read.0 read.1) }
     ensures in_table { IfOk result (λ read. IsBodyOf opened.now.types read.0 read.1) }
+    ensures begins { OnOk result (IsPartitionOffset opened.now.end place) }
+    ensures stands { IfOk result (λ read. IsStoredAt (H.view host.old) opened.now place read.0 read.1) }
     ensures damaged { IfErr result (DamageShown (H.view host.old) opened.now.file (ShowsPair opened.now (tree.now.passed - 1) place)) }
     ensures undamaged { IfErr result (NoFalsePartitionDamage (H.view host.old) opened.now place) }
     ensures named { buffered.new.file ≡ opened.now.file }

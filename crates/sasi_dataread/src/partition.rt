@@ -156,6 +156,7 @@ pub fn partition_at<H: Host, P: PageReader>(
     requires read { CanReadOn (P.agrees pages.old) (H.view host.old) buffered.old }
     ensures ok { IfOk result (λ read. (bytes : Bytes) → contents (H.view host.old) buffered.old.file ≡ Some bytes → HasAt bytes place (length_prefixed (body read.0 read.1))) }
     ensures in_table { IfOk result (λ read. IsBodyOf types.now read.0 read.1) }
+    ensures length { IfOk result (λ read. IsLength end place (length (body read.0 read.1))) }
     ensures damaged { IfErr result (DamageShown (H.view host.old) buffered.old.file (ShowsPartition types.now end place buffered.old.file)) }
     ensures undamaged { IfErr result (NoFalseBodyDamage (H.view host.old) buffered.old.file types.now end place) }
     ensures read { HasReadOn (P.agrees pages.new) (P.covers pages.old) (P.covers pages.new) (H.view host.old) (H.view host.new) buffered.old buffered.new }

@@ -1,5 +1,5 @@
 // Scans a data file, partition by partition.
-ghost use Rattle.std.specs.Prelude.{◌≡◌, [], IfErr, IfOk, IfSome, None};
+ghost use Rattle.std.specs.Prelude.{◌≡◌, ◌⊎◌, ◌+◌, [], IfErr, IfOk, IfSome, OnErr, None};
 ghost use Rattle.sasi_host.specs.declared.name.FileName.{FileName};
 ghost use Rattle.sasi_host.specs.View.{ReadCost};
 ghost use Rattle.sasi_host.specs.Damages.{DamageShown};
@@ -8,7 +8,7 @@ ghost use Rattle.sasi_host.specs.PageReading.{CanRead, HasRead};
 ghost use Rattle.sasi_body.specs.Body.{IsBodyOf};
 ghost use Rattle.sasi_dataread.specs.ReadCosts.{ScansPagesOnce, scan_of};
 ghost use Rattle.sasi_dataread.specs.Damages.{ShowsData};
-ghost use Rattle.sasi_dataread.specs.Scans.{ReadsNextPartition, NoFalseOpenedDamage};
+ghost use Rattle.sasi_dataread.specs.Scans.{PassesPartition, ReadsNextPartition, NoFalseOpenedDamage};
 
 use crate::DataFile;
 use crate::pair::partition_of_pair;
@@ -67,6 +67,9 @@ impl Walk {
         ensures ok { IfOk result (λ found. ReadsNextPartition (H.view host.old) self.old.opened self.old.passed self.new.passed found) }
         // In any file it has a body in the table.
         ensures in_table { IfOk result (λ found. IfSome found (λ one. IsBodyOf self.old.opened.types one.1 one.2)) }
+        // In any file it is that to which the next pair of the key tree leads, and none exactly where all pairs are passed.
+        ensures passes { IfOk result (PassesPartition (H.view host.old) self.old.opened self.old.passed self.new.passed) }
+        ensures err { OnErr result ((self.new.passed ≡ self.old.passed) ⊎ (self.new.passed ≡ self.old.passed + 1)) }
         ensures damaged { IfErr result (DamageShown (H.view host.old) self.old.opened.file (ShowsData self.old.opened)) }
         ensures undamaged { IfErr result (NoFalseOpenedDamage (H.view host.old) self.old.opened) }
         ensures read { HasRead (P.agrees pages.new) (P.covers pages.old) (P.covers pages.new) (H.view host.old) (H.view host.new) self.old.opened.file }
@@ -105,6 +108,8 @@ fn next_partition<H: Host, P: PageReader>(
     requires buffered { IsBuffered buffered.old (H.view host.old).files }
     ensures ok { IfOk result (λ found. ReadsNextPartition (H.view host.old) opened.now tree.old.passed tree.new.passed found) }
     ensures in_table { IfOk result (λ found. IfSome found (λ one. IsBodyOf opened.now.types one.1 one.2)) }
+    ensures passes { IfOk result (PassesPartition (H.view host.old) opened.now tree.old.passed tree.new.passed) }
+    ensures err { OnErr result ((tree.new.passed ≡ tree.old.passed) ⊎ (tree.new.passed ≡ tree.old.passed + 1)) }
     ensures damaged { IfErr result (DamageShown (H.view host.old) opened.now.file (ShowsData opened.now)) }
     ensures undamaged { IfErr result (NoFalseOpenedDamage (H.view host.old) opened.now) }
     ensures read { HasRead (P.agrees pages.new) (P.covers pages.old) (P.covers pages.new) (H.view host.old) (H.view host.new) opened.now.file }

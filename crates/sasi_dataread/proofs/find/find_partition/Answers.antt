@@ -11,10 +11,12 @@ use Rattle.sasi_tokentree.specs.Damages.{BeginsLeaf}
 use Rattle.sasi_tokentree.specs.Heights.{height}
 use Rattle.sasi_host.proofs.DamageLaws.{shown_before}
 use Rattle.sasi_tokentree.specs.Scans.{ReadsEntry, PairScan}
+use Rattle.sasi_tokentree.proofs.LeafPairs.{count_is}
 use Rattle.sasi_dataread.proofs.Laws.{pairs_are}
 use Rattle.sasi_dataread.proofs.ReadChains.{causes_fault, causes_ok, passes_on, there_same}
 use Rattle.sasi_dataread.proofs.DataScan.{entry_before, entry_of, no_false_tree, open_same, partition_shown, steps_to_next, tree_shown}
 use Rattle.sasi_dataread.proofs.Finding.{all_passed, first_causes, first_passes, found_here, here_costs, no_false_before, no_false_here, none_here, one_more, searches_on, stands_here, starts}
+use Rattle.sasi_dataread.proofs.Looking.{found_there, header_before, header_of, is_found, looks_first, looks_on, misses_all, misses_there, next_there}
 use Rattle.sasi_dataread.proofs.find.find_partition.Goals as goal
 
 pub returns-in_err-next-clause-damaged : goal.returns-in_err-next-clause-damaged
@@ -51,6 +53,10 @@ loop-turn-init g c =
       passed = c.in_ok-next.ensures.passed;
       entry = entry_of v c.args.opened.now c.tree-tree.result.buffered.file c.tree-tree.result.tree c.first.new.self.passed c.in_ok-next.next file_is
           (ap (λ (t : PairScan). t.tree) c.tree-tree.ensures) c.in_ok-next.ensures.stands;
+      leaf_header = header_of v c.args.opened.now c.tree-tree.result.buffered.file c.tree-tree.result.tree c.first.new.self.passed c.in_ok-next.next file_is
+          (ap (λ (t : PairScan). t.tree) c.tree-tree.ensures) c.in_ok-next.ensures.header;
+      looks = looks_first v c.args.opened.now c.tree-tree.result.buffered.file c.tree-tree.result.tree c.args.token c.args.key.now c.first.new.self.passed
+          c.in_ok-next.next file_is (ap (λ (t : PairScan). t.tree) c.tree-tree.ensures) c.in_ok-next.ensures.ok;
       searches = starts v w c.args.opened.now c.tree-tree.result c.args.token c.args.key.now c.first.new.self.passed c.in_ok-next.next c.first.result
           c.tree-tree.ensures (λ bytes is. (g.met.H.Host.sound c.args.host.now).fits c.args.opened.now.file bytes is) c.in_ok-next.ensures.ok
           c.first.ensures.causes;
@@ -64,6 +70,11 @@ returns-in_default-clause-ok g c partitioner content is have same =
 
 pub returns-in_default-clause-reads : goal.returns-in_default-clause-reads
 returns-in_default-clause-reads g c most partitioner content le is have = let s = c.loop-turn.invariant.searches most partitioner content le is have in omega (arith, s.costs)
+
+pub returns-in_default-clause-misses : goal.returns-in_default-clause-misses
+returns-in_default-clause-misses g c bytes pairs is has none =
+    misses_there (g.H.Host.view c.args.host.now) c.args.opened.now c.args.token c.args.key.now pairs c.loop-turn._turn c.loop-turn.tree.passed c.loop-turn.next has.rising
+    (c.loop-turn.invariant.looks bytes pairs is has) c.in_default.ensures
 
 pub returns-in_err-found-clause-damaged : goal.returns-in_err-found-clause-damaged
 returns-in_err-found-clause-damaged g c =
@@ -107,6 +118,14 @@ returns-then-is_some-clause-ok g c partitioner content is have same =
     found_here (g.H.Host.view c.args.host.now) _ c.args.opened.now partitioner content c.args.token c.args.key.now c.loop-turn._turn
     c.loop-turn.tree.passed c.in-Some.place _ _ c.loop-turn.next c.in_ok-found.found is c.loop-turn.invariant.read.changes
     (c.loop-turn.invariant.searches c.args.opened.now.tree.pairs partitioner content (omega arith) is have) c.in-Some.ensures c.in_ok-found.ensures.ok (sym c.if-is_some.ensures) same
+
+pub returns-then-is_some-clause-stands : goal.returns-then-is_some-clause-stands
+returns-then-is_some-clause-stands g c =
+    found_there (g.H.Host.view c.args.host.now) _ c.args.opened.now c.args.token c.in-Some.place c.args.key.now c.loop-turn.tree.passed c.loop-turn.next c.in_ok-found.found
+    c.loop-turn.invariant.read.changes c.in-Some.ensures c.loop-turn.invariant.entry c.loop-turn.invariant.leaf_header c.in_ok-found.ensures.begins c.in_ok-found.ensures.stands
+
+pub returns-then-is_some-clause-misses : goal.returns-then-is_some-clause-misses
+returns-then-is_some-clause-misses g c bytes pairs is has none = absurd (is_found c.in_ok-found.found (sym c.if-is_some.ensures) none)
 
 pub returns-then-is_some-clause-causes : goal.returns-then-is_some-clause-causes
 returns-then-is_some-clause-causes g c most le =
@@ -197,6 +216,15 @@ loop-turn-preserved g c =
       entry = entry_of v c.args.opened.now c.loop-turn.tree.buffered.file c.loop-turn.tree.tree c.next.new.self.passed c.in_ok-next-2.next here.file
           here.tree (entry_before v w c.loop-turn.tree.buffered.file c.loop-turn.tree.tree c.next.new.self.passed c.in_ok-next-2.next change
           c.in_ok-next-2.ensures.stands);
+      leaf_header = header_of v c.args.opened.now c.loop-turn.tree.buffered.file c.loop-turn.tree.tree c.next.new.self.passed c.in_ok-next-2.next here.file
+          here.tree (header_before v w c.loop-turn.tree.buffered.file c.loop-turn.tree.tree c.next.new.self.passed c.in_ok-next-2.next change
+          c.in_ok-next-2.ensures.header);
+      looks = λ bytes pairs is has.
+          looks_on v _ c.args.opened.now c.args.token c.args.key.now pairs c.loop-turn._turn c.loop-turn.tree.passed c.in-Some.place c.next.new.self.passed
+          c.loop-turn.next c.in_ok-next-2.next c.in_ok-found.found here.read.changes (here.looks bytes pairs is has) c.in-Some.ensures c.in_ok-found.ensures.stands
+          (sym c.if-is_some.ensures)
+          (next_there v w c.args.opened.now c.loop-turn.tree.buffered.file c.loop-turn.tree.tree c.loop-turn.tree.passed c.next.new.self.passed
+          c.in_ok-next-2.next here.file here.tree change c.in_ok-next-2.ensures.ok bytes pairs is has);
       searches = λ most partitioner content le is have.
           searches_on v _ c.args.opened.now partitioner content c.args.token c.args.key.now c.loop-turn._turn c.loop-turn.tree.passed c.in-Some.place
           _ _ c.next.new.self.passed (g.H.Host.view c.next.new.host).reads c.loop-turn.next c.in_ok-next-2.next c.in_ok-found.found is
@@ -213,6 +241,11 @@ returns-clause-ok g c partitioner content is have same =
     all_passed partitioner content c.args.token c.args.key.now c.loop-turn._turn c.loop-turn.tree.passed c.loop-turn.next _ _
     (c.loop-turn.invariant.searches c.args.opened.now.tree.pairs partitioner content (omega arith) is have)
     (omega (arith, ap (λ (t : TreeRef). t.pairs) is.of.tree, pairs_are partitioner content)) same
+
+pub returns-clause-misses : goal.returns-clause-misses
+returns-clause-misses g c bytes pairs is has none =
+    misses_all (g.H.Host.view c.args.host.now) c.args.opened.now c.args.token c.args.key.now pairs c.loop-turn._turn c.loop-turn.tree.passed c.loop-turn.next
+    (c.loop-turn.invariant.looks bytes pairs is has) (omega (arith, count_is bytes c.args.opened.now.tree pairs has))
 
 pub returns-clause-reads : goal.returns-clause-reads
 returns-clause-reads g c most partitioner content le is have = let s = c.loop-turn.invariant.searches most partitioner content le is have in omega (arith, s.costs)

@@ -1,15 +1,19 @@
-use Rattle.std.proofs.Common.{◌≡◌, ◌+◌, ◌*◌, ◌≤◌, ℕ, length, IsSome}
+use Rattle.std.proofs.Common.{◌≡◌, ◌+◌, ◌*◌, ◌≤◌, ℕ, List, length, IsSome, Some}
 use Rattle.sasi_types.specs.declared.partitioner.Partitioner.{Partitioner}
-use Rattle.sasi_host.specs.View.{IsThere}
+use Rattle.sasi_types.specs.declared.tree.Pair.{Pair}
+use Rattle.sasi_host.specs.Names.{Bytes}
+use Rattle.sasi_host.specs.View.{IsThere, contents}
 use Rattle.sasi_host.specs.PageReading.{HasRead}
 use Rattle.sasi_host.specs.Buffered.{IsBuffered}
+use Rattle.sasi_tokentree.specs.Format.{HasTree}
 use Rattle.sasi_tokentree.specs.Heights.{height}
-use Rattle.sasi_tokentree.specs.Scans.{HasPassed, ReadsEntry, IsEntryBuffered}
+use Rattle.sasi_tokentree.specs.Scans.{HasPassed, ReadsEntry, ReadsHeader, IsEntryBuffered}
 use Rattle.sasi_datawrite.specs.Format.{Content, header}
 use Rattle.sasi_dataread.specs.Reads.{IsOpenOn, ReadsWithin}
 use Rattle.sasi_dataread.specs.Scans.{KeysAreBytes}
 use Rattle.sasi_dataread.specs.Finds.{token_reads}
 use Rattle.sasi_dataread.proofs.Finding.{Searches}
+use Rattle.sasi_dataread.proofs.Looking.{Looks}
 use Rattle.sasi_dataread.proofs.find.find_partition.Given as goal
 
 abbrev pub invariant-loop-turn : goal.invariant-loop-turn
@@ -28,6 +32,8 @@ invariant-loop-turn g l =
       tree : l.tree.tree ≡ l.opened.tree;
       passed : IsSome l.next → HasPassed l.tree.tree l.tree.passed;
       entry : ReadsEntry (view l.fn.host) l.opened.file l.opened.tree l.tree.passed l.next;
+      leaf_header : ReadsHeader (view l.fn.host) l.opened.file l.opened.tree l.tree.passed l.next;
+      looks : (bytes : Bytes) (pairs : List Pair) → contents (view l.fn.host) l.opened.file ≡ Some bytes → HasTree bytes l.opened.tree pairs → Looks (view l.fn.host) l.opened l.token l.key pairs l._turn l.tree.passed l.next;
       searches : (most : ℕ) (partitioner : Partitioner) (content : Content) → pairs ≤ most → IsOpenOn (view l.fn.host) l.opened partitioner content → KeysAreBytes content
           → Searches partitioner content l.token l.key l._turn l.tree.passed l.next (view l.host).reads
           ((view l.fn.host).reads + (2 * height most pairs + 2 + token_reads partitioner l.token (length header) content));

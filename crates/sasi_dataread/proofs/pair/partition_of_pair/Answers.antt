@@ -3,7 +3,7 @@ use Rattle.sasi_host.proofs.PageReadingLaws.{read_of, reads_nothing}
 use Rattle.sasi_types.specs.declared.tree.TreeRef.{TreeRef}
 use Rattle.sasi_tokentree.specs.Damages.{pair_offset}
 use Rattle.sasi_dataread.specs.Bodies.{IsPartitionOffset}
-use Rattle.sasi_dataread.proofs.Opening.{no_false_nowhere, nowhere_shown, there_shown}
+use Rattle.sasi_dataread.proofs.Opening.{no_false_nowhere, nowhere_shown, there_shown, where_ok}
 use Rattle.sasi_dataread.proofs.pair.partition_of_pair.Goals as goal
 
 pub returns-then-is_wrong_offset-clause-damaged : goal.returns-then-is_wrong_offset-clause-damaged
@@ -25,3 +25,8 @@ returns-clause-damaged g c =
 
 pub returns-then-is_wrong_offset-clause-read : goal.returns-then-is_wrong_offset-clause-read
 returns-then-is_wrong_offset-clause-read g c = read_of _ _ _ _ _ _ _ _ c.requires.named (reads_nothing _ _ _ _ c.requires.read.agrees c.requires.buffered)
+
+pub returns-clause-begins : goal.returns-clause-begins
+returns-clause-begins g c =
+    where_ok (IsPartitionOffset c.args.opened.now.end c.args.place) c.at_buffered.result
+    (subst (λ (e : ℕ). IsPartitionOffset e c.args.place) c.end.ensures (c.is_wrong_offset.ensures.place c.if-is_wrong_offset.false))

@@ -1,15 +1,17 @@
-use Rattle.std.proofs.Common.{◌≡◌, Option, None, Some, Ok, Err, subst, arith}
+use Rattle.std.proofs.Common.{◌≡◌, Option, None, Some, Ok, Err, ap, inl, inr, subst, arith}
 use Rattle.std.proofs.lemmas.Result.{err_from_is_err_and}
 use Rattle.sasi_host.proofs.PageReadingLaws.{read_of, read_then}
 use Rattle.sasi_types.specs.declared.tree.Pair.{Pair}
+use Rattle.sasi_types.specs.declared.tree.TreeRef.{TreeRef}
 use Rattle.sasi_host.proofs.BufferedLaws.{buffered_after}
 use Rattle.sasi_host.proofs.DamageLaws.{shown_before}
-use Rattle.sasi_tokentree.specs.Scans.{PassesOne, ReadsEntry, ReadsNextPair, IsEntryBuffered}
+use Rattle.sasi_tokentree.specs.Scans.{PairScan, PassesOne, ReadsEntry, ReadsHeader, ReadsNextPair, IsEntryBuffered}
 use Rattle.sasi_tokentree.proofs.EntryPages.{entry_pages}
 use Rattle.sasi_dataread.proofs.Pairs.{none_left}
 use Rattle.sasi_dataread.proofs.Pages.{reads_none}
 use Rattle.sasi_host.proofs.CauseLaws.{ok_reads, fault_reads, reads_on, reads_within}
 use Rattle.sasi_dataread.proofs.DataScan.{IsShort, all_pairs, scan_reads_once, scan_stops, scan_stops_behind, entry_of, partition_shown, tree_shown, steps_to_next, no_false_tree, steps_to_partition, no_false_offset}
+use Rattle.sasi_dataread.proofs.Looking.{header_of, leads_there}
 use Rattle.sasi_dataread.proofs.walk.next_partition.Goals as goal
 
 pub returns-in_err-next-clause-damaged : goal.returns-in_err-next-clause-damaged
@@ -33,6 +35,39 @@ returns-in-None-clause-ok g c partitioner content is have =
     c.requires.file c.requires.tree (λ bytes reads. (g.met.H.Host.sound c.args.host.now).fits c.args.opened.now.file bytes reads) gives
     partitioner content is have in
     (none_left partitioner content c.args.tree.now.passed took.0, took.1)
+
+pub returns-in_err-next-clause-err : goal.returns-in_err-next-clause-err
+returns-in_err-next-clause-err g c =
+    let p = err_from_is_err_and c.from_residual.result c.from_residual.ensures.1 in
+    rw p.1 (inl c.in_err-next.ensures.err)
+
+pub returns-in-None-clause-passes : goal.returns-in-None-clause-passes
+returns-in-None-clause-passes g c =
+    let one = subst (λ (o : Option Pair). PassesOne c.args.tree.now c.next.new.self o) c.in-None.is c.in_ok-next.ensures.ends in
+    (omega (arith, one.0, ap (λ (t : TreeRef). t.pairs) c.requires.tree), ap (λ (w : PairScan). w.passed) one.1)
+
+pub returns-in_err-key-clause-err : goal.returns-in_err-key-clause-err
+returns-in_err-key-clause-err g c =
+    let p = err_from_is_err_and c.from_residual-in_err-key.result c.from_residual-in_err-key.ensures.1 in
+    let one = subst (λ (o : Option Pair). PassesOne c.args.tree.now c.next.new.self o) c.in-Some.is c.in_ok-next.ensures.ends in
+    rw p.1 (inr one.1)
+
+pub returns-clause-passes : goal.returns-clause-passes
+returns-clause-passes g c =
+    let v = g.H.Host.view c.args.host.now in
+    let opened = c.args.opened.now in
+    let tree = c.args.tree.now in
+    let pair = c.in-Some.pair in
+    let after = c.next.new.self.passed in
+    let one = subst (λ (o : Option Pair). PassesOne tree c.next.new.self o) c.in-Some.is c.in_ok-next.ensures.ends in
+    let entry = subst (λ (o : Option Pair). ReadsEntry v tree.buffered.file tree.tree after o) c.in-Some.is c.in_ok-next.ensures.stands in
+    let header = subst (λ (o : Option Pair). ReadsHeader v tree.buffered.file tree.tree after o) c.in-Some.is c.in_ok-next.ensures.header in (
+      omega (arith, one.0, ap (λ (t : TreeRef). t.pairs) c.requires.tree),
+      one.1,
+      leads_there v (g.H.Host.view c.next.new.host) opened tree.passed after pair c.in_ok-key.key c.in_ok-key.part one.1
+          (entry_of v opened tree.buffered.file tree.tree after (Some pair) c.requires.file c.requires.tree entry)
+          (header_of v opened tree.buffered.file tree.tree after (Some pair) c.requires.file c.requires.tree header) c.next.ensures.read.changes c.in_ok-key.ensures.begins c.in_ok-key.ensures.stands,
+    )
 
 pub returns-in_err-key-clause-damaged : goal.returns-in_err-key-clause-damaged
 returns-in_err-key-clause-damaged g c =

@@ -6,10 +6,10 @@ use Rattle.sasi_body.specs.Body.{body}
 use Rattle.sasi_host.specs.Damages.{DamageShown}
 use Rattle.sasi_datawrite.specs.Format.{Content}
 use Rattle.sasi_dataread.specs.Opened.{OpenDataFile, StandsAt}
-use Rattle.sasi_dataread.specs.Reads.{ReadsPartition, IsOpenOn, NoFalsePartitionDamage}
+use Rattle.sasi_dataread.specs.Reads.{ReadsPartition, IsOpenOn, IsStoredAt, NoFalsePartitionDamage}
 use Rattle.sasi_dataread.specs.Bodies.{partition_reads}
 use Rattle.sasi_dataread.specs.Damages.{ShowsPartition}
-use Rattle.sasi_dataread.proofs.Opening.{at_damaged, at_ok, at_reads, at_undamaged}
+use Rattle.sasi_dataread.proofs.Opening.{at_damaged, at_ok, at_reads, at_stored, at_undamaged}
 use Rattle.sasi_dataread.proofs.data_file.DataFile.at_buffered.Goals as goal
 
 pub returns-clause-ok : goal.returns-clause-ok
@@ -20,6 +20,15 @@ returns-clause-ok g c =
     subst (λ (o : OpenDataFile). IfOk c.partition_at.result (λ read. ReadsPartition view o c.args.place read.0 read.1)) c.self.view_is
     (at_ok view (record { file = file.file; types = file.types; tree = file.tree; max_timestamp = file.max_timestamp; end = file.end }) c.args.buffered.now.file
     c.args.place c.partition_at.result named c.partition_at.ensures.in_table c.partition_at.ensures.ok)
+
+pub returns-clause-stands : goal.returns-clause-stands
+returns-clause-stands g c =
+    let view = g.H.Host.view c.args.host.now in
+    let file = c.self.inside in
+    let named : c.args.buffered.now.file ≡ file.file = c.requires.named ∙ sym (ap (λ (o : OpenDataFile). o.file) c.self.view_is) in
+    subst (λ (o : OpenDataFile). IfOk c.partition_at.result (λ read. IsStoredAt view o c.args.place read.0 read.1)) c.self.view_is
+    (at_stored view (record { file = file.file; types = file.types; tree = file.tree; max_timestamp = file.max_timestamp; end = file.end }) c.args.buffered.now.file
+    c.args.place c.partition_at.result named c.partition_at.ensures.in_table c.partition_at.ensures.length c.partition_at.ensures.ok)
 
 pub returns-clause-damaged : goal.returns-clause-damaged
 returns-clause-damaged g c =
