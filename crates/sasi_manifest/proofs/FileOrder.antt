@@ -1,6 +1,6 @@
 -- Files in the order of their numbers: searches, and where a file is put.
 use Rattle.std.proofs.Common.{◌≡◌, ℕ, zero, suc, ◌+◌, ◌-◌, ◌<◌, ◌≤◌, Bool, true, false, not, cond, if◌then◌else◌, List, [], ◌∷◌, ◌++◌, length, map, set, get_or, slice_get, Some, refl, sym, ◌∙◌, ap, subst, arith}
-use Rattle.std.specs.Prelude.{◌||◌, nat_eq, nat_le, nat_lt}
+use Rattle.std.specs.Prelude.{◌==◌, ◌||◌, nat_eq, nat_le, nat_lt}
 use Rattle.std.specs.List.{AllByRecursion, position_or_len}
 use Rattle.std.specs.List.Sorted.{IsNonDecreasingBy, IsPartitionPoint}
 use Rattle.std.specs.Option.{option_map_or}
@@ -47,9 +47,16 @@ in_order_less removed files order = in_order_without removed 0 files order
 pub files_replaced : (removed : List ℕ) (added files : List ListedFile) → AreInOrder 0 files → AreInOrder 0 (with_files added (without removed files))
 files_replaced removed added files order = in_order_all added (without removed files) (in_order_less removed files order)
 
+no_numbers : (removed : List ℕ) → (length removed == 0) ≡ true → removed ≡ []
+no_numbers [] none = refl
+no_numbers (n ∷ removed) none = absurd (omega (arith, is_zero (length (n ∷ removed)) none))
+  where
+    is_zero : (count : ℕ) → (count == 0) ≡ true → count ≡ 0
+    is_zero count is = grind (arith, nat_tests)
+
 -- where no number is removed, all files stay
-pub all_stay : (removed : List ℕ) (files : List ListedFile) → removed ≡ [] → without removed files ≡ files
-all_stay removed files none = ap (λ (l : List ℕ). without l files) none ∙ stay files
+pub all_stay : (removed : List ℕ) (files : List ListedFile) → (length removed == 0) ≡ true → without removed files ≡ files
+all_stay removed files none = ap (λ (l : List ℕ). without l files) (no_numbers removed none) ∙ stay files
   where
     stay : (files : List ListedFile) → without [] files ≡ files
     stay [] = refl

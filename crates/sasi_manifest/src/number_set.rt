@@ -1,5 +1,5 @@
 // Numbers of data files that are looked up.
-ghost use Rattle.std.specs.Prelude.{◌≡◌, ◌++◌, ◌∷◌, [], IfOk, true};
+ghost use Rattle.std.specs.Prelude.{◌≡◌, ◌==◌, ◌++◌, ◌∷◌, [], length, IfOk};
 ghost use Rattle.sasi_manifest.specs.ListedFiles.{is_among};
 
 use crate::files::NumberList;
@@ -50,7 +50,7 @@ impl NumberSet {
 
     /// Whether it has no numbers.
     pub fn is_empty(&self) -> bool
-        ensures { result ≡ true → self.now ≡ [] }
+        ensures { result ≡ (length self.now == 0) }
     {
         self.numbers.as_slice().is_empty()
     }

@@ -1,4 +1,4 @@
-use Rattle.std.proofs.Common.{◌≡◌, length, Some, arith, ap, sym, ◌∙◌, subst}
+use Rattle.std.proofs.Common.{◌≡◌, length, Some, arith, ap, sym, subst}
 use Rattle.sasi_host.specs.Names.{Bytes}
 use Rattle.sasi_host.specs.Disk.{Changes, LeftWith, FileChange}
 use Rattle.sasi_host.proofs.ChangeLaws.{untouched}
