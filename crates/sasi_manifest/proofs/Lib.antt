@@ -1,5 +1,6 @@
 pub mod Applying
 pub mod Replacing
+pub mod Rewriting
 pub mod Positions
 pub mod EditBytes
 pub mod FileOrder

@@ -39,7 +39,7 @@ use Rattle.sasi_manifest.proofs.Consistency.{record_consistent}
 use Rattle.sasi_manifest.specs.Format.{RecordsLeadTo}
 use Rattle.sasi_manifest.specs.Damages.{IsLengthDamage, IsManifestDamage, NoFalseManifestDamage}
 use Rattle.sasi_manifest.proofs.Laws.{leads_on, manifest_undamaged}
-use Rattle.sasi_manifest.specs.Reading.{IsReadingManifest, IsOffsetWithin, IsDamageOfRecord, ReadsWhole, ReadsListing, StandsWhereKept}
+use Rattle.sasi_manifest.specs.Reading.{IsReadingManifest, IsOffsetWithin, IsDamageOfRecord, ReadsWhole, ReadsListing, ReadsUpTo, StandsWhereKept}
 use Rattle.sasi_manifest.proofs.Records.{record_applies, sizes_stay, something_listed}
 use Rattle.sasi_manifest.proofs.CrashMoments.{counted_sizes}
 
@@ -177,6 +177,16 @@ pub reads_within : (a b c : View) (n : ℕ) (old new : Handle) (listed : Option 
 reads_within a b c n old new listed on file once =
     subst (λ (f : FileName). ReadsWithinPages a c f) (file ∙ on.file)
     (opens_within a c new (opens_on a b c old new (contents_same a b old.file on.same) file on.once once))
+
+-- and up to the gate at which the reading ends
+up_to : (a c : View) (file : FileName) (page : Option ℕ) (at : ℕ) → ReadsEachOnce a c file None page at → ReadsUpTo a c at
+up_to a c file None at once = omega (arith, once.pages)
+up_to a c file (Some page) at once = omega (arith, once.pages, once.sequential page refl)
+
+pub reads_up_to : (a b c : View) (n : ℕ) (old new : Handle) (listed : Option Listing) → IsReadingManifest a b n old listed → new.file ≡ old.file
+    → ReadsEachOnce b c old.file old.buffered.page new.buffered.page new.at → ReadsUpTo a c new.at
+reads_up_to a b c n old new listed on file once =
+    up_to a c new.file new.buffered.page new.at (opens_on a b c old new (contents_same a b old.file on.same) file on.once once)
 
 pub reads_no_further : (a b c : View) (n : ℕ) (old : Handle) (listed : Option Listing) → IsReadingManifest a b n old listed
     → ReadsNoFurther b c old.file old.buffered.page old.at → ReadsWithinPages a c (manifest_name n)

@@ -17,7 +17,14 @@ RecordsLeadTo from (payload ∷ payloads) to = (es : List Edit) × IsEncoded (ed
 abbrev pub IsManifest : ℕ → Bytes → Listing → Type 0
 IsManifest number bytes listing = (records : List Bytes) × IsGated (manifest_name number) bytes records × RecordsLeadTo None records (Some listing)
 
--- the listing of a manifest that was written anew: the same tables, in one record
+-- both have the same partitioner and live segments, and the same tables with their files
+pub record ListsSame (listing other : Listing) : Type 0 where
+  pub partitioner : other.partitioner ≡ listing.partitioner
+  pub floor : other.floor ≡ listing.floor
+  pub last : other.last ≡ listing.last
+  pub tables : other.tables ≡ listing.tables
+
+-- the listing of a manifest that was written anew: the edits that build up this one, in one record
 abbrev pub IsRewritten : Listing → Listing → Type 0
 IsRewritten listing rewritten = Some rewritten ≡ with_record_counted (encoded (rewrite_edits listing)) (after_all None (rewrite_edits listing))
 

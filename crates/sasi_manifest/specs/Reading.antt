@@ -1,5 +1,5 @@
 -- What reading a manifest gives.
-use Rattle.std.specs.Prelude.{◌≡◌, ℕ, ◌+◌, ◌≤◌, ◌^◌, IsTrue, List, Option, Some, None}
+use Rattle.std.specs.Prelude.{◌≡◌, ℕ, ◌+◌, ◌/◌, ◌≤◌, ◌^◌, IsTrue, List, Option, Some, None}
 use Rattle.sasi_host.specs.declared.damage.Damage.{Damage}
 use Rattle.sasi_host.specs.Names.{Bytes, manifest_name}
 use Rattle.sasi_host.specs.View.{View, IsThere, IsTold, contents}
@@ -60,6 +60,10 @@ ReadsWhole v number at listing = (bytes : Bytes) → contents v (manifest_name n
 -- the manifest as it reads lists this
 abbrev pub ReadsListing : View → ℕ → Listing → Type 0
 ReadsListing v number listing = (bytes : Bytes) → contents v (manifest_name number) ≡ Some bytes → IsManifest number bytes listing
+
+-- at most the pages up to the one of this offset were read, each once
+abbrev pub ReadsUpTo : View → View → ℕ → Type 0
+ReadsUpTo old new at = new.reads ≤ old.reads + (at / 4096 + 1)
 
 -- where the file is durable, the manifest is durable too
 abbrev pub StandsWhereKept : View → View → ℕ → ℕ → Listing → Type 0

@@ -92,7 +92,7 @@ impl ListedTables {
         is_file_of(&self.items, table, number)
     }
 
-    /// The files of the table with this number; none where there is no such table.
+    /// The files of the table with this number, from 1 on; none where there is no such table.
     pub fn files_of(&self, table: TableNumber) -> &[ListedFile]
         ensures { result.now ≡ files_of self.now table }
     {

@@ -9,9 +9,9 @@ ghost use Rattle.sasi_manifest.specs.declared.listing.Listing.{Listing as AListi
 ghost use Rattle.sasi_manifest.specs.Consistent.{IsConsistent};
 ghost use Rattle.sasi_manifest.specs.Damages.{IsManifestDamage, NoFalseManifestDamage};
 ghost use Rattle.sasi_manifest.specs.Edits.{AllApply, encoded};
-ghost use Rattle.sasi_manifest.specs.Format.{IsManifest, IsNext, IsRewritten};
+ghost use Rattle.sasi_manifest.specs.Format.{IsManifest, IsNext, IsRewritten, ListsSame};
 ghost use Rattle.sasi_manifest.specs.Listings.{rewrite_edits};
-ghost use Rattle.sasi_manifest.specs.Reading.{ReadsListing, StandsWhereKept};
+ghost use Rattle.sasi_manifest.specs.Reading.{ReadsListing, ReadsUpTo, StandsWhereKept};
 ghost use Rattle.sasi_manifest.specs.OpenManifest.{Creates, IsEither, IsUnsealed, ManifestStands, ChangesOnlyManifest};
 
 use crate::append::append_edits;
@@ -81,6 +81,8 @@ impl Manifest {
         ensures ok { IfOk result (λ m. ManifestStands (H.view host.new) number m.at m.listing) }
         ensures sealed { OnOk result (IsUnsealed (H.view host.old) number → IsFileDurable (H.view host.new) (seal_name number) []) }
         ensures listing { IfOk result (λ m. IsRewritten listing.now m.listing) }
+        // So it lists the same, if edits can have made the listing.
+        ensures same { IfOk result (λ m. IsConsistent listing.now → ListsSame listing.now m.listing) }
         ensures any_moment { (made : AListing) → IsRewritten listing.now made → IsUnsealed (H.view host.old) number → Changes (Creates number made) (H.view host.old) (H.view host.new) }
         ensures changes { Changes (ChangesOnlyManifest number) (H.view host.old) (H.view host.new) }
         ensures room { IfOk result (λ m. Reaches (H.view host.new) (manifest_name number) (m.at + 1)) }
@@ -115,6 +117,8 @@ impl Manifest {
         ensures number { IfOk result (λ m. m.number ≡ number) }
         ensures usable { IfOk result (λ m. IsTrue m.usable) }
         ensures reads { ReadsWithinPages (H.view host.old) (H.view host.new) (manifest_name number) }
+        // Nothing is read behind the page of the closed gate, on every host.
+        ensures pages { IfOk result (λ m. ReadsUpTo (H.view host.old) (H.view host.new) m.at) }
         ensures causes { ReadingCauses (H.view host.old) (H.view host.new) result }
     {
         let opened = open_manifest(alloc, host, number)?;

@@ -15,7 +15,7 @@ ghost use Rattle.sasi_formats.specs.Formats.{Encodes};
 ghost use Rattle.sasi_formats.specs.Whole.{IsShownBy};
 ghost use Rattle.sasi_manifest.specs.Edits.{edits};
 ghost use Rattle.sasi_manifest.specs.Listings.{after_all, with_record_counted, length_of, records_of};
-ghost use Rattle.sasi_manifest.specs.Reading.{IsOffsetWithin, IsDamageOfRecord, ReadsWhole};
+ghost use Rattle.sasi_manifest.specs.Reading.{IsOffsetWithin, IsDamageOfRecord, ReadsUpTo, ReadsWhole};
 ghost use Rattle.sasi_manifest.specs.OpenManifest.{IsOpenManifest};
 
 use crate::Listing;
@@ -39,6 +39,7 @@ pub fn open_manifest<H: Host>(
     ensures damaged { IfErr result (IsManifestDamage (H.view host.old) number) }
     ensures changes { Changes Same (H.view host.old) (H.view host.new) }
     ensures reads { ReadsWithinPages (H.view host.old) (H.view host.new) (manifest_name number) }
+    ensures pages { IfOk result (λ o. ReadsUpTo (H.view host.old) (H.view host.new) o.gated.at) }
     ensures causes { ReadingCauses (H.view host.old) (H.view host.new) result }
 {
     let mut gated = Gated::open(host, FileName::manifest(number))?;

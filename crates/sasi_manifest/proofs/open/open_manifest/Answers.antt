@@ -11,7 +11,7 @@ use Rattle.sasi_formats.specs.Formats.{Encodes}
 use Rattle.sasi_manifest.specs.Edits.{edits}
 use Rattle.sasi_manifest.specs.Listings.{after_all, with_record_counted, length_of}
 use Rattle.sasi_manifest.specs.Reading.{IsReadingManifest, IsDamageOfRecord}
-use Rattle.sasi_manifest.proofs.Opening.{shown_outside, shown_at_gate, shown_inside, shown_empty, reading_next_record, read_whole, reads_no_further, reads_within}
+use Rattle.sasi_manifest.proofs.Opening.{shown_outside, shown_at_gate, shown_inside, shown_empty, reading_next_record, read_whole, reads_no_further, reads_up_to, reads_within}
 use Rattle.sasi_manifest.proofs.open.open_manifest.Goals as goal
 
 pub returns-in_err-gated-clause-damaged : goal.returns-in_err-gated-clause-damaged
@@ -110,4 +110,10 @@ pub returns-clause-reads : goal.returns-clause-reads
 returns-clause-reads g c =
     let on = c.loop-listed.invariant in
     reads_within (g.H.Host.view c.args.host.now) (g.H.Host.view c.loop-listed.host) (g.H.Host.view c.next.new.host) c.args.number c.loop-listed.gated
+    c.next.new.self c.loop-listed.listed on c.next.ensures.file (c.in_ok-next.ensures.once on.once.sequential).ok
+
+pub returns-clause-pages : goal.returns-clause-pages
+returns-clause-pages g c =
+    let on = c.loop-listed.invariant in
+    reads_up_to (g.H.Host.view c.args.host.now) (g.H.Host.view c.loop-listed.host) (g.H.Host.view c.next.new.host) c.args.number c.loop-listed.gated
     c.next.new.self c.loop-listed.listed on c.next.ensures.file (c.in_ok-next.ensures.once on.once.sequential).ok
