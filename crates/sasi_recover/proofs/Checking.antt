@@ -3,7 +3,7 @@ use Rattle.std.proofs.Common.{◌≡◌, ◌⊎◌, ℕ, zero, suc, Bool, true, 
 use Rattle.std.specs.Prelude.{◌||◌, nat_eq}
 use Rattle.std.specs.FinMap.{get}
 use Rattle.std.proofs.lemmas.Bool.Decides.{nat_tests}
-use Rattle.std.proofs.lemmas.List.Elements.{All-contains, All-weaker}
+use Rattle.std.proofs.lemmas.List.Elements.{All-contains, All-weaker, Contains-append_right}
 use Rattle.sasi_host.specs.declared.damage.Damage.{Damage}
 use Rattle.sasi_host.specs.declared.fault.ReadFault.{ReadFault}
 use Rattle.sasi_host.specs.declared.fault.ReadFault.TheVariants.{Damaged, Failed, OutOfMemory}
@@ -29,7 +29,7 @@ use Rattle.sasi_recover.specs.Deletion.{Deletes, keeps}
 use Rattle.sasi_recover.specs.Opening.{IsFolderDurable, KeepsStore}
 use Rattle.sasi_recover.specs.OpenedFolder.{AnyFolderChange}
 use Rattle.sasi_recover.specs.Replaying.{LiveSegmentsExist}
-use Rattle.sasi_recover.specs.SealedFolder.{AreListedFiles, AreNamed, IsChecked, IsManifestRead, ReportsMissingListed, kept_with}
+use Rattle.sasi_recover.specs.SealedFolder.{AreListedFiles, AreNamed, IsChecked, IsManifestRead, ReportsMissingData, ReportsMissingListed, kept_with}
 use Rattle.sasi_recover.proofs.Damaged.{missing_from, segment_missing}
 use Rattle.sasi_recover.proofs.DeletedFiles.{deletes_data, deletes_kept, deletes_store, keeps_data}
 use Rattle.sasi_recover.proofs.KeptShapes.{bytes_of_file, file_of_shape, holds_of, shape_where_kept, synced_durable, synced_shape}
@@ -54,6 +54,10 @@ of_among (x ∷ xs) n is = by (nat_eq n x) refl is (λ others. of_among xs n oth
     by : (b : Bool) → nat_eq n x ≡ b → (b || is_among xs n) ≡ true → (is_among xs n ≡ true → Contains xs n) → Contains (x ∷ xs) n
     by true here is others = (zero, omega arith, (let same : n ≡ x = grind (arith, nat_tests) in sym same))
     by false other is others = let rest = others is in (suc rest.0, omega (arith, rest.1), rest.2)
+
+-- the missing one is in the list
+missing_listed : (names : List FileName) (files : List ℕ) (damage : Damage) (one : ReportsMissingData names files damage) → Contains files one.number
+missing_listed names files damage one = subst (λ (l : List ℕ). Contains l one.number) (sym one.listed) (Contains-append_right one.before (one.number ∷ one.behind) one.number (zero, omega arith, refl))
 
 -- ---- one opening
 
@@ -113,8 +117,8 @@ module _ (a : View) (names : List FileName) (m : ManifestState) (numbers : List 
     pub nothing_missing : (damage : Damage) → ReportsMissingListed names m.listing.floor m.listing.last numbers damage → ⊥
     nothing_missing damage (inl segment) = segments_listed a names l.used.manifest lists folder (listing_of l) logs files (holds_of folder l logs has) m.listing damage
         (subst (λ n. ReadsListing a n m.listing) (sym number) read.reads) segment
-    nothing_missing damage (inr one) =
-        let file = file_of_shape folder l logs one.number has (shape_has one.number one.listed) in
+    nothing_missing damage (inr (there, one)) =
+        let file = file_of_shape folder l logs one.number has (shape_has one.number (missing_listed names numbers damage one)) in
         one.missing.absent (held_is_listed a names folder (data_name one.number) lists files (ap (λ (o : Option Bytes). is_some o) (bytes_of_file folder l.partitioner one.number file)))
 
     -- nor has one a damaged end
@@ -155,9 +159,9 @@ module _ (a : View) (names : List FileName) (m : ManifestState) (numbers : List 
 
     pub missing_shown : (damage : Damage) → ReportsMissingListed names m.listing.floor m.listing.last numbers damage → ShowsManifestOrListed folder m.number damage
     missing_shown damage (inl segment) = segment_missing a folder files names lists m.number m.listing damage read.there read.reads segment
-    missing_shown damage (inr one) =
+    missing_shown damage (inr (there, one)) =
         broken_data manifest_bytes.0 m.listing manifest_bytes.1 (read.reads manifest_bytes.0 (reads_of a folder (manifest_name m.number) manifest_bytes.0 files manifest_bytes.1))
-        (missing_data one.number (is_of_list one.number one.listed) (missing_from a folder files names lists (data_name one.number) damage one.missing))
+        (missing_data one.number (is_of_list one.number (missing_listed names numbers damage one)) (missing_from a folder files names lists (data_name one.number) damage one.missing))
 
     pub ends_shown : (fault : ReadFault) → ((n : ℕ) → Contains numbers n → IsThere a (data_name n)) → ShowsEndDamage a numbers fault → OnDamage (ShowsManifestOrListed folder m.number) fault
     ends_shown Failed there shown = tt

@@ -1,5 +1,5 @@
 -- A folder with a seal: which damage is reported of a file that is missing.
-use Rattle.std.specs.Prelude.{◌≡◌, ◌⊎◌, ℕ, ◌+◌, ◌≤◌, ◌<◌, All, Bool, false, IsTrue, List, [], Contains, Some}
+use Rattle.std.specs.Prelude.{◌≡◌, ◌⊎◌, ℕ, ◌+◌, ◌≤◌, ◌<◌, All, Bool, false, IsTrue, List, [], ◌∷◌, ◌++◌, Contains, Some}
 use Rattle.std.specs.List.Sorted.{IsNonDecreasing}
 use Rattle.sasi_host.specs.declared.damage.Damage.{Damage}
 use Rattle.sasi_host.specs.declared.damage.FormatRule.TheVariants.{Missing}
@@ -37,15 +37,19 @@ pub record ReportsMissingSegment (names : List FileName) (floor last : ℕ) (dam
   pub earlier : (number : ℕ) → floor ≤ number → number < segment → Contains names (log_name number)
   pub missing : ReportsMissing names (log_name segment) damage
 
--- or one of these data files
+-- or the first of these data files that isn't among them
 pub record ReportsMissingData (names : List FileName) (files : List ℕ) (damage : Damage) : Type 0 where
   pub number : ℕ
-  pub listed : Contains files number
+  pub before : List ℕ
+  pub behind : List ℕ
+  pub listed : files ≡ before ++ number ∷ behind
+  pub earlier : All (λ n. Contains names (data_name n)) before
   pub missing : ReportsMissing names (data_name number) damage
 
--- a live segment or a data file
+-- a live segment, or a data file where these are there
 abbrev pub ReportsMissingListed : List FileName → ℕ → ℕ → List ℕ → Damage → Type 0
-ReportsMissingListed names floor last files damage = ReportsMissingSegment names floor last damage ⊎ ReportsMissingData names files damage
+ReportsMissingListed names floor last files damage =
+    ReportsMissingSegment names floor last damage ⊎ (((segment : ℕ) → floor ≤ segment → segment ≤ last → Contains names (log_name segment)) × ReportsMissingData names files damage)
 
 -- ---- what is there
 
