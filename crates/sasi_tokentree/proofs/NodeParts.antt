@@ -15,7 +15,7 @@ use Rattle.sasi_host.proofs.Offsets.{window_at, at_window, first_at, both_at}
 use Rattle.sasi_tokentree.specs.Format.{pair_at, entry, node_header, node, IsBefore, IsRising, AreFit}
 use Rattle.sasi_tokentree.proofs.Sizes.{entry_length, head_length, node_length}
 use Rattle.sasi_tokentree.specs.Damages.{IsHeaderPart, NodeBreaks}
-use Rattle.sasi_tokentree.specs.Reads.{IsInNode, IsLowerBound}
+use Rattle.sasi_tokentree.specs.Reads.{CountsBelow, IsInNode}
 use Rattle.sasi_host.specs.Damages.{seen_bytes, HasAt, IsOther}
 
 -- ---- what is seen
@@ -182,30 +182,24 @@ do_not_fall entries rising first (suc more) lt =
     let same : first + more + 1 ≡ first + suc more = omega arith in
     omega (arith, before, step, ap (λ (k : ℕ). (pair_at entries k).token) same)
 
-pub found_at : (level count token index : ℕ) (bytes : Bytes) (entries : List Pair) (last pair : Pair) → length bytes ≡ 8 + 16 * count → bytes ≡ node
+pub found_at : (level count token index : ℕ) (bytes : Bytes) (entries : List Pair) (pair : Pair) → length bytes ≡ 8 + 16 * count → bytes ≡ node
     level entries → IsRising entries → index < count → pair ≡ pair_at entries index → token ≤ pair.token
-    → ((k : ℕ) → k < index → (pair_at entries k).token < token) → (0 < index → last ≡ pair_at entries (index - 1)) → IsLowerBound entries token index last.place
-found_at level count token index bytes entries last pair long is rising lt pair_is reached below last_is = record {
-  counts = record {
-    within = omega (arith, long, ap length is, node_length level entries);
-    below = below;
-    above = λ k le k_lt.
-        let more = do_not_fall entries rising index (k - index) (omega arith) in
-        let same : index + (k - index) ≡ k = omega arith in
-        omega (arith, more, reached, ap (λ (p : Pair). p.token) pair_is, ap (λ (n : ℕ). (pair_at entries n).token) same);
-  };
-  last = λ some. ap (λ (p : Pair). p.place) (last_is some);
+    → ((k : ℕ) → k < index → (pair_at entries k).token < token) → CountsBelow entries token index
+found_at level count token index bytes entries pair long is rising lt pair_is reached below = record {
+  within = omega (arith, long, ap length is, node_length level entries);
+  below = below;
+  above = λ k le k_lt.
+      let more = do_not_fall entries rising index (k - index) (omega arith) in
+      let same : index + (k - index) ≡ k = omega arith in
+      omega (arith, more, reached, ap (λ (p : Pair). p.token) pair_is, ap (λ (n : ℕ). (pair_at entries n).token) same);
 }
 
-pub found_all : (level count token : ℕ) (bytes : Bytes) (entries : List Pair) (last : Pair) → length bytes ≡ 8 + 16 * count → bytes ≡ node level entries
-    → ((k : ℕ) → k < count → (pair_at entries k).token < token) → (0 < count → last ≡ pair_at entries (count - 1)) → IsLowerBound entries token count last.place
-found_all level count token bytes entries last long is below last_is = record {
-  counts = record {
-    within = omega (arith, long, ap length is, node_length level entries);
-    below = below;
-    above = λ k le k_lt. absurd (omega (arith, long, ap length is, node_length level entries));
-  };
-  last = λ some. ap (λ (p : Pair). p.place) (last_is some);
+pub found_all : (level count token : ℕ) (bytes : Bytes) (entries : List Pair) → length bytes ≡ 8 + 16 * count → bytes ≡ node level entries
+    → ((k : ℕ) → k < count → (pair_at entries k).token < token) → CountsBelow entries token count
+found_all level count token bytes entries long is below = record {
+  within = omega (arith, long, ap length is, node_length level entries);
+  below = below;
+  above = λ k le k_lt. absurd (omega (arith, long, ap length is, node_length level entries));
 }
 
 -- entries that rise aren't out of order

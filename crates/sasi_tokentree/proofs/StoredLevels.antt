@@ -7,7 +7,7 @@ use Rattle.sasi_types.specs.declared.tree.Pair.{Pair}
 use Rattle.sasi_host.specs.Names.{Bytes}
 use Rattle.sasi_tokentree.specs.Format.{pair_at, node, nodes, size, entries_of_node, first_nodes, level_bytes, entry_for, first_above, above, levels, IsBefore, IsRising, AreFit}
 use Rattle.sasi_tokentree.proofs.Sizes.{first_nodes_length, level_length, part_length, first_above_length, one_level, more_levels}
-use Rattle.sasi_tokentree.specs.Reads.{HasNode, HasLevels, IsLowerBound}
+use Rattle.sasi_tokentree.specs.Reads.{CountsBelow, HasNode, HasLevels}
 use Rattle.sasi_tokentree.proofs.NodeParts.{do_not_fall}
 
 -- ---- a node of a level
@@ -152,62 +152,54 @@ stands_above bytes level at entries stands many = from stands.most refl
 -- ---- counts over levels
 
 -- where no entry of the level above is below, none is
-pub none_below : (at : ℕ) (entries : List Pair) (token place other : ℕ) → IsRising entries → 0 < length entries → IsLowerBound (above at entries) token 0 place → IsLowerBound entries token 0 other
-none_below at entries token place other rising some none = record {
-  counts = record {
-    within = omega arith;
-    below = λ index lt. absurd (omega (arith, lt));
-    above = λ index le lt.
-        let count = nodes (length entries) in
-        let first = none.counts.above 0 (omega arith) (omega (arith, first_above_length at entries count, some)) in
-        let more = do_not_fall entries rising 0 index (omega (arith, lt)) in
-        omega (arith, first, more, ap (λ (p : Pair). p.token) (above_at at entries 0 count (omega (arith, some))), ap (λ (n : ℕ). (pair_at entries n).token) (zero_plus index));
-  };
-  last = λ lt. absurd (omega (arith, lt));
+pub none_below : (at : ℕ) (entries : List Pair) (token : ℕ) → IsRising entries → 0 < length entries → CountsBelow (above at entries) token 0 → CountsBelow entries token 0
+none_below at entries token rising some none = record {
+  within = omega arith;
+  below = λ index lt. absurd (omega (arith, lt));
+  above = λ index le lt.
+      let count = nodes (length entries) in
+      let first = none.above 0 (omega arith) (omega (arith, first_above_length at entries count, some)) in
+      let more = do_not_fall entries rising 0 index (omega (arith, lt)) in
+      omega (arith, first, more, ap (λ (p : Pair). p.token) (above_at at entries 0 count (omega (arith, some))), ap (λ (n : ℕ). (pair_at entries n).token) (zero_plus index));
 }
   where
     zero_plus : (n : ℕ) → 0 + n ≡ n
     zero_plus n = omega arith
 
 -- else those below are the ones before a node, and those below within it
-pub below_in : (at : ℕ) (entries : List Pair) (token above_offset node count place : ℕ) → IsRising entries → 255 * node < length entries → IsLowerBound
-    (above at entries) token (node + 1) above_offset → IsLowerBound (entries_of_node entries node) token count place
-    → IsLowerBound entries token (255 * node + count) place
-below_in at entries token above_offset node count place rising within up found = record {
-  counts = record {
-    within = omega (arith, size, found.counts.within);
-    below = λ index lt. ⊎_elim
-        (λ early.
-        let more = do_not_fall entries rising index (255 * node - index) (omega (arith, early.1, within)) in
-        let same : index + (255 * node - index) ≡ 255 * node = omega (arith, early.1) in
-        omega (arith, more, begun, ap (λ (n : ℕ). (pair_at entries n).token) same))
-        (λ late.
-        let here = found.counts.below (index - 255 * node) (omega (arith, late.1, lt)) in
-        let same : 255 * node + (index - 255 * node) ≡ index = omega (arith, late.1) in
-        omega (
-          arith,
-          here,
-          ap (λ (p : Pair). p.token) (part_at entries node (index - 255 * node)
-              (omega (arith, late.1, lt, found.counts.within, size))),
-          ap (λ (n : ℕ). (pair_at entries n).token) same,
-        ))
-        (leb_tells index (255 * node));
-    above = λ index le lt. ⊎_elim
-        (λ later.
-        let next = up.counts.above (node + 1) (omega arith) (omega (arith, later.1, lt, first_above_length at entries all)) in
-        let more = do_not_fall entries rising (255 * (node + 1)) (index - 255 * (node + 1)) (omega (arith, later.1, lt)) in
-        let same : 255 * (node + 1) + (index - 255 * (node + 1)) ≡ index = omega (arith, later.1) in
-        omega (arith, next, more, ap (λ (p : Pair). p.token) (above_at at entries (node + 1) all (omega (arith, later.1, lt))), ap (λ (n : ℕ). (pair_at entries n).token) same))
-        (λ here.
-        let k = index - 255 * node in
-        let same : 255 * node + k ≡ index = omega (arith, le) in
-        let reached = found.counts.above k (omega (arith, le)) (omega (arith, here.1, lt, size, le)) in
-        omega (arith, reached, ap (λ (p : Pair). p.token) (part_at entries node k (omega (arith, here.1, le))), ap (λ (n : ℕ). (pair_at entries n).token) same))
-        (leb_tells (255 * (node + 1)) index);
-  };
-  last = λ some.
-      let same : 255 * node + (count - 1) ≡ 255 * node + count - 1 = omega (arith, some_found) in
-      found.last some_found ∙ ap (λ (p : Pair). p.place) (part_at entries node (count - 1) (omega (arith, size, found.counts.within, some_found))) ∙ ap (λ (n : ℕ). (pair_at entries n).place) same;
+pub below_in : (at : ℕ) (entries : List Pair) (token node count : ℕ) → IsRising entries → 255 * node < length entries → CountsBelow
+    (above at entries) token (node + 1) → CountsBelow (entries_of_node entries node) token count
+    → CountsBelow entries token (255 * node + count)
+below_in at entries token node count rising within up found = record {
+  within = omega (arith, size, found.within);
+  below = λ index lt. ⊎_elim
+      (λ early.
+      let more = do_not_fall entries rising index (255 * node - index) (omega (arith, early.1, within)) in
+      let same : index + (255 * node - index) ≡ 255 * node = omega (arith, early.1) in
+      omega (arith, more, begun, ap (λ (n : ℕ). (pair_at entries n).token) same))
+      (λ late.
+      let here = found.below (index - 255 * node) (omega (arith, late.1, lt)) in
+      let same : 255 * node + (index - 255 * node) ≡ index = omega (arith, late.1) in
+      omega (
+        arith,
+        here,
+        ap (λ (p : Pair). p.token) (part_at entries node (index - 255 * node)
+            (omega (arith, late.1, lt, found.within, size))),
+        ap (λ (n : ℕ). (pair_at entries n).token) same,
+      ))
+      (leb_tells index (255 * node));
+  above = λ index le lt. ⊎_elim
+      (λ later.
+      let next = up.above (node + 1) (omega arith) (omega (arith, later.1, lt, first_above_length at entries all)) in
+      let more = do_not_fall entries rising (255 * (node + 1)) (index - 255 * (node + 1)) (omega (arith, later.1, lt)) in
+      let same : 255 * (node + 1) + (index - 255 * (node + 1)) ≡ index = omega (arith, later.1) in
+      omega (arith, next, more, ap (λ (p : Pair). p.token) (above_at at entries (node + 1) all (omega (arith, later.1, lt))), ap (λ (n : ℕ). (pair_at entries n).token) same))
+      (λ here.
+      let k = index - 255 * node in
+      let same : 255 * node + k ≡ index = omega (arith, le) in
+      let reached = found.above k (omega (arith, le)) (omega (arith, here.1, lt, size, le)) in
+      omega (arith, reached, ap (λ (p : Pair). p.token) (part_at entries node k (omega (arith, here.1, le))), ap (λ (n : ℕ). (pair_at entries n).token) same))
+      (leb_tells (255 * (node + 1)) index);
 }
   where
     all : ℕ
@@ -217,13 +209,7 @@ below_in at entries token above_offset node count place rising within up found =
     size = part_length entries node
 
     begun : (pair_at entries (255 * node)).token < token
-    begun = omega (arith, up.counts.below node (omega arith), ap (λ (p : Pair). p.token) (above_at at entries node all (omega (arith, within))))
-
-    some_found : 0 < count
-    some_found = ⊎_elim (λ yes. omega (arith, yes.1)) (λ no.
-        let reached = found.counts.above 0 (omega (arith, no.1)) (omega (arith, size, within)) in
-        let same : 255 * node + 0 ≡ 255 * node = omega arith in
-        absurd (omega (arith, reached, begun, ap (λ (p : Pair). p.token) (part_at entries node 0 (omega arith)), ap (λ (n : ℕ). (pair_at entries n).token) same))) (leb_tells 1 count)
+    begun = omega (arith, up.below node (omega arith), ap (λ (p : Pair). p.token) (above_at at entries node all (omega (arith, within))))
 
 -- a level of one node is that node
 pub stands_one : (bytes : Bytes) (level at : ℕ) (entries : List Pair) → HasLevels bytes level at entries → length entries ≤ 255 → HasNode bytes level at entries

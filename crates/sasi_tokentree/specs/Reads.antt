@@ -53,11 +53,6 @@ pub record CountsBelow (entries : List Pair) (token count : ℕ) : Type 0 where
   pub below : (index : ℕ) → index < count → (pair_at entries index).token < token
   pub above : (index : ℕ) → count ≤ index → index < length entries → token ≤ (pair_at entries index).token
 
--- of these entries so many have tokens below this one, and this is the place of the last of them
-pub record IsLowerBound (entries : List Pair) (token count place : ℕ) : Type 0 where
-  pub counts : CountsBelow entries token count
-  pub last : 0 < count → place ≡ (pair_at entries (count - 1)).place
-
 -- ---- what a search counts, in any file
 
 -- the file has this pair as the entry with this index of a node of so many entries

@@ -4,7 +4,7 @@ ghost use Rattle.std.specs.Int.{to_be_bytes, w64};
 ghost use Rattle.sasi_types.specs.declared.tree.Pair.{Pair};
 ghost use Rattle.sasi_host.specs.Damages.{HasAt};
 ghost use Rattle.sasi_tokentree.specs.Format.{pair_at, entry, node_header, node, AreFit, IsBefore, IsRising};
-ghost use Rattle.sasi_tokentree.specs.Reads.{CountsInNode, IsLowerBound, IsInNode};
+ghost use Rattle.sasi_tokentree.specs.Reads.{CountsBelow, CountsInNode, IsInNode};
 
 use crate::order::is_before;
 use sasi_fields::FieldReader;
@@ -16,13 +16,6 @@ pub const NODE_HEADER_BYTES: usize = 8;
 
 // The bytes of an entry.
 pub const ENTRY_BYTES: usize = 16;
-
-// How many entries have tokens below a given one, and the place of the last of them.
-#[derive(Clone, Copy)]
-pub struct LowerBound {
-    pub count: usize,
-    pub place: u64,
-}
 
 // Checks the header of a node of this level and number of entries.
 pub fn check_header(
@@ -82,13 +75,13 @@ pub fn find_below(
     count: usize,
     bytes: &[u8],
     token: Token,
-) -> Result<LowerBound, Damage>
+) -> Result<usize, Damage>
     requires whole { length bytes.now ≡ 8 + 16 * count }
     requires most { count ≤ 255 }
     requires place { at < 2 ^ 63 + 2 ^ 60 }
-    ensures ok { IfOk result (λ below. (level : ℕ) (entries : List Pair) → AreFit entries → IsRising entries → bytes.now ≡ node level entries → IsLowerBound entries token below.count below.place) }
-    ensures within { IfOk result (λ below. below.count ≤ count) }
-    ensures counts { IfOk result (λ below. (level : ℕ) → HasAt bytes.now 0 (node_header level count) → CountsInNode bytes.now level 0 count token below.count) }
+    ensures ok { IfOk result (λ below. (level : ℕ) (entries : List Pair) → AreFit entries → IsRising entries → bytes.now ≡ node level entries → CountsBelow entries token below) }
+    ensures within { IfOk result (λ below. below ≤ count) }
+    ensures counts { IfOk result (λ below. (level : ℕ) → HasAt bytes.now 0 (node_header level count) → CountsInNode bytes.now level 0 count token below) }
     ensures seen { (level : ℕ) → HasAt bytes.now 0 (node_header level count) → IfErr result (IsInNode file at bytes.now level count) }
     ensures no_false_damage { IfErr result (λ _. (level : ℕ) (entries : List Pair) → AreFit entries → IsRising entries → bytes.now ≡ node level entries → ⊥) }
 {
@@ -101,15 +94,9 @@ pub fn find_below(
             return Err(found(file, at + offset as u64, FormatRule::Order, seen));
         }
         if token <= pair.token {
-            return Ok(LowerBound {
-                count: index,
-                place: last.place,
-            });
+            return Ok(index);
         }
         last = pair;
     }
-    Ok(LowerBound {
-        count,
-        place: last.place,
-    })
+    Ok(count)
 }

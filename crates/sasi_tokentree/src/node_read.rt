@@ -7,11 +7,9 @@ ghost use Rattle.sasi_host.specs.Damages.{DamageShown, HasAt};
 ghost use Rattle.sasi_host.specs.PageReading.{CanReadOn, HasReadOn};
 ghost use Rattle.sasi_tokentree.specs.Format.{entry, node as encoded_node, node_header};
 ghost use Rattle.sasi_tokentree.specs.Damages.{ShownOf, ShowsEndOr};
-ghost use Rattle.sasi_tokentree.specs.Reads.{CountsInNode, IsLowerBound, HasNode, NoFalseNodeDamage};
+ghost use Rattle.sasi_tokentree.specs.Reads.{CountsBelow, CountsInNode, HasNode, NoFalseNodeDamage};
 
-use crate::node_decode::{
-    ENTRY_BYTES, LowerBound, NODE_HEADER_BYTES, check_header, entry_in, find_below,
-};
+use crate::node_decode::{ENTRY_BYTES, NODE_HEADER_BYTES, check_header, entry_in, find_below};
 use sasi_host::{BufferedFile, Host, PageReader, ReadFault};
 use sasi_types::{Pair, Token};
 
@@ -85,14 +83,14 @@ pub fn node_below<H: Host, P: PageReader>(
     level: u8,
     count: usize,
     token: Token,
-) -> Result<LowerBound, ReadFault>
+) -> Result<usize, ReadFault>
     requires read { CanReadOn (P.agrees pages.old) (H.view host.old) buffered.old }
     requires place { at < 2 ^ 63 + 2 ^ 60 }
     requires most { count ≤ 255 }
     ensures ok { IfOk result (λ below. (bytes : List ℕ) (entries : List Pair) → contents (H.view host.old) buffered.old.file ≡ Some bytes → HasNode bytes level at entries → length entries ≡ count
-        → IsLowerBound entries token below.count below.place) }
-    ensures within { IfOk result (λ below. below.count ≤ count) }
-    ensures counts { IfOk result (λ below. (bytes : List ℕ) → contents (H.view host.old) buffered.old.file ≡ Some bytes → CountsInNode bytes level at count token below.count) }
+        → CountsBelow entries token below) }
+    ensures within { IfOk result (λ below. below ≤ count) }
+    ensures counts { IfOk result (λ below. (bytes : List ℕ) → contents (H.view host.old) buffered.old.file ≡ Some bytes → CountsInNode bytes level at count token below) }
     ensures whole { OnOk result ((bytes : List ℕ) → contents (H.view host.old) buffered.old.file ≡ Some bytes → at + (8 + 16 * count) ≤ length bytes) }
     ensures damaged { IfErr result (ShownOf (λ n. n ≡ record { level = level; at = at; count = count }) (H.view host.old) buffered.old.file) }
     ensures undamaged { IfErr result (NoFalseNodeDamage (H.view host.old) buffered.old.file level at count) }

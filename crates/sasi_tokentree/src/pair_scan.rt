@@ -213,6 +213,6 @@ pub fn first_from<H: Host, P: PageReader>(
     }
     let start = start_of(tree);
     let below = count_below(host, pages, buffered, start, 0, tree.pairs as usize, token)?;
-    let found = pair_from(host, pages, buffered, tree, below.count as u64)?;
+    let found = pair_from(host, pages, buffered, tree, below as u64)?;
     Ok(found)
 }

@@ -6,9 +6,8 @@ ghost use Rattle.sasi_host.specs.PageReading.{CanReadOn, HasReadOn};
 ghost use Rattle.sasi_tokentree.specs.Format.{entries_of_node};
 ghost use Rattle.sasi_tokentree.specs.Heights.{level_limit, height, bytes_below_root};
 ghost use Rattle.sasi_tokentree.specs.Damages.{IsNodeFrom, ShownOf};
-ghost use Rattle.sasi_tokentree.specs.Reads.{CountsDown, CountsInNode, IsLowerBound, IsReached, NoFalseLevelDamage, HasLevels};
+ghost use Rattle.sasi_tokentree.specs.Reads.{CountsBelow, CountsDown, CountsInNode, IsReached, NoFalseLevelDamage, HasLevels};
 
-use crate::node_decode::LowerBound;
 use crate::node_layout::{MAX_ENTRIES, MAX_NODE_BYTES, level_size, node_count};
 use crate::node_read::node_below;
 use sasi_host::{BufferedFile, Host, PageReader, ReadFault};
@@ -35,16 +34,16 @@ pub fn count_below<H: Host, P: PageReader>(
     level: u8,
     count: usize,
     token: Token,
-) -> Result<LowerBound, ReadFault>
+) -> Result<usize, ReadFault>
     requires read { CanReadOn (P.agrees pages.old) (H.view host.old) buffered.old }
     requires some { 0 < count }
     requires most { count ≤ level_limit level }
     requires place { at + 17 * count < 2 ^ 63 + 2 ^ 60 }
     ensures ok { IfOk result (λ below. (bytes : List ℕ) (entries : List Pair) → contents (H.view host.old) buffered.old.file ≡ Some bytes → HasLevels bytes level at entries → length entries ≡ count
-        → IsLowerBound entries token below.count below.place) }
-    ensures within { IfOk result (λ below. below.count ≤ count) }
-    ensures counts { IfOk result (λ below. (bytes : List ℕ) → contents (H.view host.old) buffered.old.file ≡ Some bytes → CountsDown bytes token level at count below.count) }
-    ensures reached { IfOk result (λ below. (bytes : List ℕ) → contents (H.view host.old) buffered.old.file ≡ Some bytes → IsReached bytes at count below.count) }
+        → CountsBelow entries token below) }
+    ensures within { IfOk result (λ below. below ≤ count) }
+    ensures counts { IfOk result (λ below. (bytes : List ℕ) → contents (H.view host.old) buffered.old.file ≡ Some bytes → CountsDown bytes token level at count below) }
+    ensures reached { IfOk result (λ below. (bytes : List ℕ) → contents (H.view host.old) buffered.old.file ≡ Some bytes → IsReached bytes at count below) }
     ensures damaged { IfErr result (ShownOf (λ n. IsNodeFrom n level at count) (H.view host.old) buffered.old.file) }
     ensures undamaged { IfErr result (NoFalseLevelDamage (H.view host.old) buffered.old.file level at count) }
     ensures read { HasReadOn (P.agrees pages.new) (P.covers pages.old) (P.covers pages.new) (H.view host.old) (H.view host.new) buffered.old buffered.new }
@@ -64,15 +63,12 @@ pub fn count_below<H: Host, P: PageReader>(
         node_count(count),
         token,
     )?;
-    if above.count == 0 {
-        return Ok(LowerBound { count: 0, place: 0 });
+    if above == 0 {
+        return Ok(0);
     }
-    let node = above.count - 1;
+    let node = above - 1;
     let below = count_in_node(host, pages, buffered, at, level, count, node, token)?;
-    Ok(LowerBound {
-        count: MAX_ENTRIES * node + below.count,
-        place: below.place,
-    })
+    Ok(MAX_ENTRIES * node + below)
 }
 
 // How many entries of one node of a level have tokens below this one.
@@ -85,15 +81,15 @@ fn count_in_node<H: Host, P: PageReader>(
     count: usize,
     node: usize,
     token: Token,
-) -> Result<LowerBound, ReadFault>
+) -> Result<usize, ReadFault>
     requires read { CanReadOn (P.agrees pages.old) (H.view host.old) buffered.old }
     requires node { 255 * node < count }
     requires place { at + 17 * count < 2 ^ 63 + 2 ^ 60 }
     ensures ok { IfOk result (λ below. (bytes : List ℕ) (entries : List Pair) → contents (H.view host.old) buffered.old.file ≡ Some bytes → HasLevels bytes level at entries → length entries ≡ count
-        → IsLowerBound (entries_of_node entries node) token below.count below.place) }
-    ensures within { IfOk result (λ below. 255 * node + below.count ≤ count) }
-    ensures counts { IfOk result (λ below. (bytes : List ℕ) → contents (H.view host.old) buffered.old.file ≡ Some bytes → CountsInNode bytes level (at + 4088 * node) (min (count - 255 * node) 255) token below.count) }
-    ensures reached { IfOk result (λ below. (bytes : List ℕ) → contents (H.view host.old) buffered.old.file ≡ Some bytes → 255 < count → IsReached bytes at count (255 * node + below.count)) }
+        → CountsBelow (entries_of_node entries node) token below) }
+    ensures within { IfOk result (λ below. 255 * node + below ≤ count) }
+    ensures counts { IfOk result (λ below. (bytes : List ℕ) → contents (H.view host.old) buffered.old.file ≡ Some bytes → CountsInNode bytes level (at + 4088 * node) (min (count - 255 * node) 255) token below) }
+    ensures reached { IfOk result (λ below. (bytes : List ℕ) → contents (H.view host.old) buffered.old.file ≡ Some bytes → 255 < count → IsReached bytes at count (255 * node + below)) }
     ensures damaged { IfErr result (ShownOf (λ n. IsNodeFrom n level at count) (H.view host.old) buffered.old.file) }
     ensures undamaged { IfErr result (NoFalseLevelDamage (H.view host.old) buffered.old.file level at count) }
     ensures read { HasReadOn (P.agrees pages.new) (P.covers pages.old) (P.covers pages.new) (H.view host.old) (H.view host.new) buffered.old buffered.new }

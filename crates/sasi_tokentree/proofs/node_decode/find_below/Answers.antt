@@ -3,7 +3,7 @@ use borrow.Author.Count.{below_more}
 use Rattle.sasi_types.specs.declared.tree.Pair.{Pair}
 use Rattle.sasi_host.specs.Damages.{HasAt}
 use Rattle.sasi_tokentree.specs.Format.{pair_at, entry}
-use Rattle.sasi_tokentree.specs.Reads.{IsLowerBound}
+use Rattle.sasi_tokentree.specs.Reads.{CountsBelow}
 use Rattle.sasi_tokentree.proofs.NodeParts.{disorder_in, pairs_fit, found_at, found_all, no_disorder}
 use Rattle.sasi_tokentree.proofs.NodeCounts.{counts_all, counts_to, entry_read, one_after, one_smaller}
 use Rattle.sasi_tokentree.proofs.node_decode.find_below.Goals as goal
@@ -25,17 +25,15 @@ returns-then-is_out_of_order-clause-no_false_damage c level entries fit rising i
 
 pub returns-then-token-pair-clause-ok : goal.returns-then-token-pair-clause-ok
 returns-then-token-pair-clause-ok c level entries fit rising is =
-    found_at level c.args.count c.args.token c.loop-index.index c.args.bytes.now entries c.loop-index.last c.entry_in-pair.result c.requires.whole is
-    rising (omega arith) (c.entry_in-pair.ensures.is level entries fit is) (omega arith)
-    (c.loop-index.invariant.below level entries fit is) (c.loop-index.invariant.last level entries fit is)
+    found_at level c.args.count c.args.token c.loop-index.index c.args.bytes.now entries c.entry_in-pair.result c.requires.whole is
+    rising (omega arith) (c.entry_in-pair.ensures.is level entries fit is) (omega arith) (c.loop-index.invariant.below level entries fit is)
 
 pub returns-clause-ok : goal.returns-clause-ok
 returns-clause-ok c level entries fit rising is =
     let all : c.loop-index.index ≡ c.args.count = omega arith in
-    subst (λ (n : ℕ). IsLowerBound entries c.args.token n c.loop-index.last.place) all
-    (found_all level c.loop-index.index c.args.token c.args.bytes.now entries c.loop-index.last
-    (c.requires.whole ∙ ap (λ (n : ℕ). 8 + 16 * n) (sym all)) is (c.loop-index.invariant.below level entries fit is)
-    (c.loop-index.invariant.last level entries fit is))
+    subst (λ (n : ℕ). CountsBelow entries c.args.token n) all
+    (found_all level c.loop-index.index c.args.token c.args.bytes.now entries
+    (c.requires.whole ∙ ap (λ (n : ℕ). 8 + 16 * n) (sym all)) is (c.loop-index.invariant.below level entries fit is))
 
 pub loop-index-init : goal.loop-index-init
 loop-index-init c = record {

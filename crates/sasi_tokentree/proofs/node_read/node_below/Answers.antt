@@ -25,5 +25,5 @@ returns-clause-ok g c bytes entries is has long = c.in_ok-below.ensures.ok c.arg
 
 pub returns-clause-counts : goal.returns-clause-counts
 returns-clause-counts g c bytes is =
-    counts_there bytes c.args.at c.read_node.new.out c.args.level c.args.count c.args.token c.in_ok-below.below.count (c.in_ok-read_node.ensures.is bytes is)
+    counts_there bytes c.args.at c.read_node.new.out c.args.level c.args.count c.args.token c.in_ok-below.below (c.in_ok-read_node.ensures.is bytes is)
     (c.in_ok-below.ensures.counts c.args.level c.in_ok-read_node.ensures.header)

@@ -51,7 +51,7 @@ pub returns-in_err-found-clause-damaged : goal.returns-in_err-found-clause-damag
 returns-in_err-found-clause-damaged g c =
     let p = err_from_is_err_and c.from_residual-in_err-found.result c.from_residual-in_err-found.ensures.1 in
     let v = g.H.Host.view c.args.host.now in
-    let count = c.in_ok-below.below.count in
+    let count = c.in_ok-below.below in
     rw (p.1, p.2) (tree_shown_more (λ index. index ≡ count) (BeginsLeaf c.args.tree) v c.args.buffered.now.file c.args.tree c.in_err-found.field-0.0
     (λ bytes index is same lt short. begins_leaf bytes c.args.tree c.start_of-start.result count index c.start_of-start.ensures.is same lt short (c.in_ok-below.ensures.reached bytes is))
     (tree_shown_still (λ index. index ≡ count) v _ c.args.buffered.now.file _ c.args.tree c.in_err-found.field-0.0 c.count_below.ensures.read.changes
@@ -68,21 +68,21 @@ returns-clause-ok g c bytes pairs is has =
     let short = (g.met.H.Host.sound c.args.host.now).fits c.args.buffered.now.file bytes is in
     let stands = tree_stands_at bytes c.args.tree pairs c.start_of-start.result has (omega arith) short c.start_of-start.ensures.is in
     let now = reads_still _ _ c.args.buffered.now.file _ bytes c.count_below.ensures.read.changes c.count_below.ensures.read.file is in (
-      c.in_ok-below.below.count,
-      (c.in_ok-below.ensures.ok bytes pairs is stands (count_is bytes c.args.tree pairs has)).counts,
+      c.in_ok-below.below,
+      c.in_ok-below.ensures.ok bytes pairs is stands (count_is bytes c.args.tree pairs has),
       c.in_ok-found.ensures.ok bytes pairs now has,
     )
 
 pub returns-in_err-found-clause-causes : goal.returns-in_err-found-clause-causes
 returns-in_err-found-clause-causes g c most le =
     let p = err_from_is_err_and c.from_residual-in_err-found.result c.from_residual-in_err-found.ensures.1 in
-    let two = entry_pages c.count_below.new.buffered.page c.args.tree c.in_ok-below.below.count in
+    let two = entry_pages c.count_below.new.buffered.page c.args.tree c.in_ok-below.below in
     rw (p.1, p.2) (reads_on _ _ _ (2 * height most c.args.tree.pairs) _ (2 * height most c.args.tree.pairs + 2) c.in_ok-below.below
     (Err c.in_err-found.field-0.0) (omega (arith, two)) (c.in_ok-below.ensures.causes most le) c.in_err-found.ensures.causes)
 
 pub returns-clause-causes : goal.returns-clause-causes
 returns-clause-causes g c most le =
-    let two = entry_pages c.count_below.new.buffered.page c.args.tree c.in_ok-below.below.count in
+    let two = entry_pages c.count_below.new.buffered.page c.args.tree c.in_ok-below.below in
     ok_reads _ _ _ c.in_ok-found.found _ (reads_on _ _ _ (2 * height most c.args.tree.pairs) _ (2 * height most c.args.tree.pairs + 2)
     c.in_ok-below.below (Ok c.in_ok-found.found) (omega (arith, two)) (c.in_ok-below.ensures.causes most le) c.in_ok-found.ensures.causes)
 
@@ -101,4 +101,4 @@ returns-then-tree-eq0-clause-ends g c = (omega arith, λ bytes is. inl (omega ar
 pub returns-clause-ends : goal.returns-clause-ends
 returns-clause-ends g c =
     steps_behind (g.H.Host.view c.args.host.now) c.args.buffered.now.file c.args.tree c.args.token c.start_of-start.result c.count_below.new.buffered c.pair_from.new.buffered
-    c.in_ok-below.below.count c.in_ok-found.found.passed c.in_ok-found.found.pair c.start_of-start.ensures.is c.in_ok-below.ensures.counts c.in_ok-found.ensures.ends
+    c.in_ok-below.below c.in_ok-found.found.passed c.in_ok-found.found.pair c.start_of-start.ensures.is c.in_ok-below.ensures.counts c.in_ok-found.ensures.ends

@@ -2,7 +2,7 @@ use Rattle.std.proofs.Common.{◌≡◌, ℕ, ◌+◌, ◌-◌, ◌*◌, ◌<◌
 use Rattle.std.proofs.lemmas.Result.{err_from_is_err_and}
 use Rattle.sasi_host.proofs.PageReadingLaws.{reads_then}
 use Rattle.sasi_tokentree.specs.Format.{above, nodes, size}
-use Rattle.sasi_tokentree.specs.Reads.{CountsDown, IsLowerBound}
+use Rattle.sasi_tokentree.specs.Reads.{CountsBelow, CountsDown}
 use Rattle.sasi_tokentree.specs.Reads.CountsDown.{in_root, none_above, in_node}
 use Rattle.sasi_tokentree.specs.Damages.{IsNodeFrom}
 use Rattle.sasi_tokentree.specs.Damages.IsNodeFrom.{of_above}
@@ -58,8 +58,7 @@ returns-then-above-eq0-clause-ok g t c bytes entries is stands long =
     let many : 255 < c.args.count = omega arith in
     let gives = rw (c.level_size.ensures, c.node_count.ensures) at c.in_ok-above.ensures.ok in
     let found = gives bytes (above c.args.at entries) is (up bytes c.args.level c.args.at c.args.count entries many long stands) (up_length c.args.at c.args.count entries long) in
-    none_below c.args.at entries c.args.token c.in_ok-above.above.place 0 stands.rising stands.some
-    (subst (λ (n : ℕ). IsLowerBound (above c.args.at entries) c.args.token n c.in_ok-above.above.place) c.if-above-eq0.true found)
+    none_below c.args.at entries c.args.token stands.rising stands.some (subst (λ (n : ℕ). CountsBelow (above c.args.at entries) c.args.token n) c.if-above-eq0.true found)
 
 pub returns-then-above-eq0-clause-causes : goal.returns-then-above-eq0-clause-causes
 returns-then-above-eq0-clause-causes g t c most le =
@@ -89,9 +88,9 @@ returns-clause-ok g t c bytes entries is stands long =
     let now = reads_still _ _ c.args.buffered.now.file _ bytes c.count_below.ensures.read.changes c.count_below.ensures.read.file is in
     let gives = rw (c.level_size.ensures, c.node_count.ensures) at c.in_ok-above.ensures.ok in
     let found = gives bytes (above c.args.at entries) is (up bytes c.args.level c.args.at c.args.count entries many long stands) (up_length c.args.at c.args.count entries long) in
-    let next : c.in_ok-above.above.count ≡ c.in_ok-above.above.count - 1 + 1 = omega arith in
-    below_in c.args.at entries c.args.token c.in_ok-above.above.place (c.in_ok-above.above.count - 1) _ _ stands.rising (omega (arith, long, c.in_ok-above.ensures.within, c.node_count.ensures))
-    (subst (λ (n : ℕ). IsLowerBound (above c.args.at entries) c.args.token n c.in_ok-above.above.place) next found) (c.in_ok-below-2.ensures.ok bytes entries now stands long)
+    let next : c.in_ok-above.above ≡ c.in_ok-above.above - 1 + 1 = omega arith in
+    below_in c.args.at entries c.args.token (c.in_ok-above.above - 1) _ stands.rising (omega (arith, long, c.in_ok-above.ensures.within, c.node_count.ensures))
+    (subst (λ (n : ℕ). CountsBelow (above c.args.at entries) c.args.token n) next found) (c.in_ok-below-2.ensures.ok bytes entries now stands long)
 
 pub returns-clause-causes : goal.returns-clause-causes
 returns-clause-causes g t c most le =
@@ -105,7 +104,7 @@ pub returns-clause-read : goal.returns-clause-read
 returns-clause-read g t c = reads_then _ _ _ _ _ _ _ _ _ _ _ c.count_below.ensures.read c.count_in_node.ensures.read
 
 pub returns-then-count-le-MAX_ENTRIES-clause-reached : goal.returns-then-count-le-MAX_ENTRIES-clause-reached
-returns-then-count-le-MAX_ENTRIES-clause-reached g t c bytes is = reached_in_one bytes c.args.at c.args.count c.in_ok-below.below.count (omega arith) (c.in_ok-below.ensures.whole bytes is)
+returns-then-count-le-MAX_ENTRIES-clause-reached g t c bytes is = reached_in_one bytes c.args.at c.args.count c.in_ok-below.below (omega arith) (c.in_ok-below.ensures.whole bytes is)
 
 pub returns-then-above-eq0-clause-reached : goal.returns-then-above-eq0-clause-reached
 returns-then-above-eq0-clause-reached g t c bytes is = reached_none bytes c.args.at c.args.count (omega arith)
@@ -116,7 +115,7 @@ returns-clause-reached g t c bytes is =
     c.in_ok-below-2.ensures.reached bytes now (omega arith)
 
 pub returns-then-count-le-MAX_ENTRIES-clause-counts : goal.returns-then-count-le-MAX_ENTRIES-clause-counts
-returns-then-count-le-MAX_ENTRIES-clause-counts g t c bytes is = in_root c.args.level c.args.at c.args.count c.in_ok-below.below.count (omega arith) (c.in_ok-below.ensures.counts bytes is)
+returns-then-count-le-MAX_ENTRIES-clause-counts g t c bytes is = in_root c.args.level c.args.at c.args.count c.in_ok-below.below (omega arith) (c.in_ok-below.ensures.counts bytes is)
 
 pub returns-then-above-eq0-clause-counts : goal.returns-then-above-eq0-clause-counts
 returns-then-above-eq0-clause-counts g t c bytes is =
@@ -128,7 +127,7 @@ pub returns-clause-counts : goal.returns-clause-counts
 returns-clause-counts g t c bytes is =
     let now = reads_still _ _ c.args.buffered.now.file _ bytes c.count_below.ensures.read.changes c.count_below.ensures.read.file is in
     let up = rw (c.level_size.ensures, c.node_count.ensures) at c.in_ok-above.ensures.counts in
-    let node = c.in_ok-above.above.count - 1 in
-    let next : c.in_ok-above.above.count ≡ c.in_ok-above.above.count - 1 + 1 = omega arith in
-    in_node c.args.level c.args.at c.args.count (255 * node + c.in_ok-below-2.below.count) node c.in_ok-below-2.below.count (omega arith)
+    let node = c.in_ok-above.above - 1 in
+    let next : c.in_ok-above.above ≡ c.in_ok-above.above - 1 + 1 = omega arith in
+    in_node c.args.level c.args.at c.args.count (255 * node + c.in_ok-below-2.below) node c.in_ok-below-2.below (omega arith)
     (subst (λ (n : ℕ). CountsDown bytes c.args.token (c.args.level + 1) (c.args.at + size c.args.count) (nodes c.args.count) n) next (up bytes is)) (c.in_ok-below-2.ensures.counts bytes now) refl

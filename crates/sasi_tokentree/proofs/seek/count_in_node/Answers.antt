@@ -27,9 +27,9 @@ returns-clause-ok g c bytes entries is stands long =
 
 pub returns-clause-reached : goal.returns-clause-reached
 returns-clause-reached g c bytes is many =
-    reached_in_node bytes c.args.at c.args.count c.args.node c.min-here.result c.in_ok-below.below.count many c.in_ok-below.ensures.within (omega arith) (c.in_ok-below.ensures.whole bytes is)
+    reached_in_node bytes c.args.at c.args.count c.args.node c.min-here.result c.in_ok-below.below many c.in_ok-below.ensures.within (omega arith) (c.in_ok-below.ensures.whole bytes is)
 
 pub returns-clause-counts : goal.returns-clause-counts
 returns-clause-counts g c bytes is =
     let size : c.min-here.result ≡ min (c.args.count - 255 * c.args.node) 255 = omega arith in
-    subst (λ (n : ℕ). CountsInNode bytes c.args.level (c.args.at + 4088 * c.args.node) n c.args.token c.in_ok-below.below.count) size (c.in_ok-below.ensures.counts bytes is)
+    subst (λ (n : ℕ). CountsInNode bytes c.args.level (c.args.at + 4088 * c.args.node) n c.args.token c.in_ok-below.below) size (c.in_ok-below.ensures.counts bytes is)
