@@ -44,3 +44,14 @@ fn tables_in_memory_answer_statements(rt: HostRuntime) {
     let mut reply = Reply::new(rt.alloc());
     check_steps(&rt, &mut machine, &mut reply);
 }
+
+#[test]
+fn piece_that_is_not_utf8_is_refused_at_its_offset(rt: HostRuntime) {
+    let mut machine = Machine::new(rt.alloc(), Partitioner::Lead8);
+    let mut reply = Reply::new(rt.alloc());
+    let outcome = machine
+        .step(b"SELECT \xff;", PieceEnd::Whole, &mut reply)
+        .expect(&rt, "memory");
+    let want = "error 3 NotUtf8 at 7\n".as_bytes();
+    assert!(rt; outcome == Outcome::Refused(3) && reply.bytes() == want);
+}
