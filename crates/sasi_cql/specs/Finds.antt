@@ -32,6 +32,11 @@ abbrev pub FindsBehind : Reading (Unit {0}) → Result (Bor (List ℕ)) Halt →
 FindsBehind reading (Ok behind) = reading ≡ Got tt (tokens behind.now)
 FindsBehind reading (Err why) = Halts reading why
 
+-- likewise of a value in front of words and signs
+abbrev pub FindsWith : {A : Type 0} → A → Reading (Unit {0}) → Result (A × Bor (List ℕ)) Halt → Type 0
+FindsWith value reading (Ok r) = (r.0 ≡ value) × (reading ≡ Got tt (tokens r.1.now))
+FindsWith value reading (Err why) = Halts reading why
+
 -- likewise of a value behind which nothing stands
 abbrev pub FindsAll : {A : Type 0} → Reading A → Result A Halt → Type 0
 FindsAll reading (Ok value) = reading ≡ Got value []

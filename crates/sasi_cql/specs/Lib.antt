@@ -1,4 +1,5 @@
 pub mod Finds
 pub mod ModelTokens
+pub mod Parts
 pub mod SplitterState
 pub mod TableItems

@@ -4,7 +4,7 @@ ghost use Rattle.sasi_model.specs.Tokens.{same_token, tokens};
 ghost use Rattle.sasi_model.specs.FormReader.{after, read};
 ghost use Rattle.sasi_model.specs.Forms.{One};
 ghost use Rattle.sasi_model.specs.Statements.{literal, name, number, string, test_of, these, type};
-ghost use Rattle.sasi_cql.specs.Finds.{Finds, FindsBehind, HasToken, IsBehind, IsFirst};
+ghost use Rattle.sasi_cql.specs.Finds.{Finds, FindsBehind, FindsWith, HasToken, IsBehind, IsFirst};
 ghost use Rattle.sasi_cql.specs.ModelTokens.{model_token};
 ghost use Rattle.sasi_cql.specs.declared.halt.Halt.TheVariants.{Stuck};
 
@@ -83,6 +83,18 @@ pub fn expect<'a>(wanted: &[Token], text: &'a [u8]) -> Result<&'a [u8], Halt>
         Some(behind) => expect(others, behind),
         None => Err(stuck(text)),
     }
+}
+
+/// The value, if these words and signs come after it. What holds memory is handed on, so that no exit of a reader has it to drop.
+pub fn followed<'a, T: Drop>(
+    value: T,
+    wanted: &[Token],
+    text: &'a [u8],
+) -> Result<(T, &'a [u8]), Halt>
+    ensures { FindsWith value (read (these (map model_token wanted.now)) (tokens text.now)) result }
+{
+    let behind = expect(wanted, text)?;
+    Ok((value, behind))
 }
 
 /// name

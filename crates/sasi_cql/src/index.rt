@@ -3,8 +3,9 @@ ghost use Rattle.sasi_model.specs.Tokens.{tokens};
 ghost use Rattle.sasi_model.specs.FormReader.{read};
 ghost use Rattle.sasi_model.specs.Statements.{index, index_name, options};
 ghost use Rattle.sasi_cql.specs.Finds.{Finds};
+ghost use Rattle.sasi_cql.specs.Parts.{class, column_indexed};
 
-use crate::front::{after, expect, read_name, read_string};
+use crate::front::{after, expect, followed, read_name, read_string};
 use crate::halt::Halt;
 use crate::list::read_list;
 use crate::token::Token;
@@ -19,8 +20,7 @@ fn read_index_name<'a>(alloc: Global, text: &'a [u8]) -> Result<(Option<Name>, &
         return Ok((None, behind));
     }
     let (name, behind) = read_name(alloc, text)?;
-    let behind = expect(&[Token::Word(b"on")], behind)?;
-    Ok((Some(name), behind))
+    followed(Some(name), &[Token::Word(b"on")], behind)
 }
 
 // [WITH OPTIONS = { string : string {, string : string} }]
@@ -35,8 +35,30 @@ fn read_options<'a>(alloc: Global, text: &'a [u8]) -> Result<(Options, &'a [u8])
         behind,
     )?;
     let (options, behind) = read_list::<(Text, Text)>(alloc, &Token::Comma, behind)?;
-    let behind = expect(&[Token::CloseBrace], behind)?;
-    Ok((options, behind))
+    followed(options, &[Token::CloseBrace], behind)
+}
+
+// ) USING string [WITH OPTIONS = { .. }]
+fn read_class<'a>(alloc: Global, text: &'a [u8]) -> Result<((Text, Options), &'a [u8]), Halt>
+    ensures { Finds (read class (tokens text.now)) result }
+{
+    let behind = expect(&[Token::Close, Token::Word(b"using")], text)?;
+    let (class, behind) = read_string(alloc, behind)?;
+    let (options, behind) = read_options(alloc, behind)?;
+    Ok(((class, options), behind))
+}
+
+// ( name ) USING string [WITH OPTIONS = { .. }]
+fn read_column<'a>(
+    alloc: Global,
+    text: &'a [u8],
+) -> Result<((Name, (Text, Options)), &'a [u8]), Halt>
+    ensures { Finds (read column_indexed (tokens text.now)) result }
+{
+    let behind = expect(&[Token::Open], text)?;
+    let (column, behind) = read_name(alloc, behind)?;
+    let (class, behind) = read_class(alloc, behind)?;
+    Ok(((column, class), behind))
 }
 
 /// INDEX [name] ON name ( name ) USING string [WITH OPTIONS = { .. }], after CREATE CUSTOM or BEGIN CREATE CUSTOM
@@ -50,11 +72,7 @@ pub fn read_index<'a>(
     let behind = expect(&[Token::Word(b"index")], text)?;
     let (name, behind) = read_index_name(alloc, behind)?;
     let (table, behind) = read_name(alloc, behind)?;
-    let behind = expect(&[Token::Open], behind)?;
-    let (column, behind) = read_name(alloc, behind)?;
-    let behind = expect(&[Token::Close, Token::Word(b"using")], behind)?;
-    let (class, behind) = read_string(alloc, behind)?;
-    let (options, behind) = read_options(alloc, behind)?;
+    let ((column, (class, options)), behind) = read_column(alloc, behind)?;
     let statement = Statement::CreateIndex {
         name,
         table,

@@ -2,7 +2,7 @@
 ghost use Rattle.std.specs.Prelude.{false};
 ghost use Rattle.sasi_model.specs.Statements.{equation, literal, name, option, relation};
 
-use crate::front::{after, expect, read_literal, read_name, read_string, read_test};
+use crate::front::{after, followed, read_literal, read_name, read_string, read_test};
 use crate::halt::Halt;
 use crate::list::Item;
 use crate::part::read_equation;
@@ -81,7 +81,7 @@ impl Item for (Text, Text) {
         text: &'a [u8],
     ) -> Result<((Text, Text), &'a [u8]), Halt> {
         let (option, behind) = read_string(alloc, text)?;
-        let behind = expect(&[Token::Colon], behind)?;
+        let (option, behind) = followed(option, &[Token::Colon], behind)?;
         let (value, behind) = read_string(alloc, behind)?;
         Ok(((option, value), behind))
     }

@@ -11,7 +11,7 @@ ghost use Rattle.sasi_model.specs.WellFormed.{IsWellFormed};
 ghost use Rattle.sasi_cql.specs.Finds.{Finds, FindsAll, IsResult};
 
 use crate::fault::ParseFault;
-use crate::front::{expect, has_token, stuck};
+use crate::front::{followed, has_token, stuck};
 use crate::halt::Halt;
 use crate::offset::offset_of_last;
 use crate::statement::read_statement;
@@ -24,18 +24,17 @@ fn read_piece<'a>(alloc: Global, text: &'a [u8]) -> Result<(Statement, &'a [u8])
     ensures { Finds (read piece (tokens text.now)) result }
 {
     let (statement, behind) = read_statement(alloc, text)?;
-    let behind = expect(&[Token::Semicolon], behind)?;
-    Ok((statement, behind))
+    followed(statement, &[Token::Semicolon], behind)
 }
 
-// The statement, if no token comes after it.
-fn ended(statement: Statement, text: &[u8]) -> Result<Statement, Halt>
-    ensures { FindsAll (ended (Got statement (tokens text.now))) result }
+// The value, if no token comes after it.
+fn ended<T: Drop>(value: T, text: &[u8]) -> Result<T, Halt>
+    ensures { FindsAll (ended (Got value (tokens text.now))) result }
 {
     if has_token(text) {
         return Err(stuck(text));
     }
-    Ok(statement)
+    Ok(value)
 }
 
 fn read_whole(alloc: Global, text: &[u8]) -> Result<Statement, Halt>

@@ -4,7 +4,7 @@ ghost use Rattle.sasi_model.specs.FormReader.{read};
 ghost use Rattle.sasi_model.specs.Statements.{equation, index_named, key_given, names, time};
 ghost use Rattle.sasi_cql.specs.Finds.{Finds};
 
-use crate::front::{after, expect, read_literal, read_name, read_number};
+use crate::front::{after, expect, followed, read_literal, read_name, read_number};
 use crate::halt::Halt;
 use crate::list::read_list;
 use crate::token::Token;
@@ -35,7 +35,7 @@ pub fn read_equation<'a>(alloc: Global, text: &'a [u8]) -> Result<((Name, Litera
     ensures { Finds (read equation (tokens text.now)) result }
 {
     let (column, behind) = read_name(alloc, text)?;
-    let behind = expect(&[Token::Equal], behind)?;
+    let (column, behind) = followed(column, &[Token::Equal], behind)?;
     let (value, behind) = read_literal(alloc, behind)?;
     Ok(((column, value), behind))
 }

@@ -3,8 +3,9 @@ ghost use Rattle.sasi_model.specs.Tokens.{tokens};
 ghost use Rattle.sasi_model.specs.FormReader.{read};
 ghost use Rattle.sasi_model.specs.Statements.{asked, filtering, limit, relations, select};
 ghost use Rattle.sasi_cql.specs.Finds.{Finds};
+ghost use Rattle.sasi_cql.specs.Parts.{bounds, conditions};
 
-use crate::front::{after, expect, read_name, read_number};
+use crate::front::{after, expect, followed, read_name, read_number};
 use crate::halt::Halt;
 use crate::list::read_list;
 use crate::part::read_names;
@@ -55,16 +56,35 @@ fn read_filtering<'a>(text: &'a [u8]) -> Result<(bool, &'a [u8]), Halt>
     Ok((true, behind))
 }
 
+// [LIMIT integer] [ALLOW FILTERING]
+fn read_bounds<'a>(text: &'a [u8]) -> Result<((Option<Number>, bool), &'a [u8]), Halt>
+    ensures { Finds (read bounds (tokens text.now)) result }
+{
+    let (limit, behind) = read_limit(text)?;
+    let (filtering, behind) = read_filtering(behind)?;
+    Ok(((limit, filtering), behind))
+}
+
+// [WHERE relation {AND relation}] [LIMIT integer] [ALLOW FILTERING]
+fn read_conditions<'a>(
+    alloc: Global,
+    text: &'a [u8],
+) -> Result<((Relations, (Option<Number>, bool)), &'a [u8]), Halt>
+    ensures { Finds (read conditions (tokens text.now)) result }
+{
+    let (relations, behind) = read_relations(alloc, text)?;
+    let (bounds, behind) = read_bounds(behind)?;
+    Ok(((relations, bounds), behind))
+}
+
 /// (* | name {, name}) FROM name [WHERE relation {AND relation}] [LIMIT integer] [ALLOW FILTERING], after SELECT
 pub fn read_select<'a>(alloc: Global, text: &'a [u8]) -> Result<(Select, &'a [u8]), Halt>
     ensures { Finds (read select (tokens text.now)) result }
 {
     let (columns, behind) = read_asked(alloc, text)?;
-    let behind = expect(&[Token::Word(b"from")], behind)?;
+    let (columns, behind) = followed(columns, &[Token::Word(b"from")], behind)?;
     let (table, behind) = read_name(alloc, behind)?;
-    let (relations, behind) = read_relations(alloc, behind)?;
-    let (limit, behind) = read_limit(behind)?;
-    let (filtering, behind) = read_filtering(behind)?;
+    let ((relations, (limit, filtering)), behind) = read_conditions(alloc, behind)?;
     let select = Select {
         columns,
         table,

@@ -3,8 +3,9 @@ ghost use Rattle.sasi_model.specs.Tokens.{tokens};
 ghost use Rattle.sasi_model.specs.FormReader.{read};
 ghost use Rattle.sasi_model.specs.Statements.{created, on_cursors, statement};
 ghost use Rattle.sasi_cql.specs.Finds.{Finds};
+ghost use Rattle.sasi_cql.specs.Parts.{opened};
 
-use crate::front::{after, expect, read_name, read_number, stuck};
+use crate::front::{after, expect, followed, read_name, read_number, stuck};
 use crate::halt::Halt;
 use crate::index::read_index;
 use crate::part::read_index_named;
@@ -29,15 +30,23 @@ fn read_created<'a>(alloc: Global, text: &'a [u8]) -> Result<(Statement, &'a [u8
     Err(stuck(text))
 }
 
+// name AS SELECT .., after OPEN
+fn read_open<'a>(alloc: Global, text: &'a [u8]) -> Result<(Statement, &'a [u8]), Halt>
+    ensures { Finds (read opened (tokens text.now)) result }
+{
+    let (cursor, behind) = read_name(alloc, text)?;
+    let wanted = [Token::Word(b"as"), Token::Word(b"select")];
+    let (cursor, behind) = followed(cursor, &wanted, behind)?;
+    let (select, behind) = read_select(alloc, behind)?;
+    Ok((Statement::OpenCursor { cursor, select }, behind))
+}
+
 // OPEN .. | FETCH .. | CLOSE .., and the others
 fn read_on_cursors<'a>(alloc: Global, text: &'a [u8]) -> Result<(Statement, &'a [u8]), Halt>
     ensures { Finds (read on_cursors (tokens text.now)) result }
 {
     if let Some(behind) = after(&Token::Word(b"open"), text) {
-        let (cursor, behind) = read_name(alloc, behind)?;
-        let behind = expect(&[Token::Word(b"as"), Token::Word(b"select")], behind)?;
-        let (select, behind) = read_select(alloc, behind)?;
-        return Ok((Statement::OpenCursor { cursor, select }, behind));
+        return read_open(alloc, behind);
     }
     if let Some(behind) = after(&Token::Word(b"fetch"), text) {
         let (count, behind) = read_number(behind)?;

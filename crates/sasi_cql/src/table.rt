@@ -6,7 +6,7 @@ ghost use Rattle.sasi_model.specs.Statements.{declaration, plain_column, says_ke
 ghost use Rattle.sasi_cql.specs.Finds.{Finds};
 
 use crate::declarations::Declarations;
-use crate::front::{after, expect, read_name, read_type};
+use crate::front::{after, expect, followed, read_name, read_type};
 use crate::halt::Halt;
 use crate::list::{Item, read_list};
 use crate::token::Token;
@@ -29,16 +29,18 @@ fn read_declaration<'a>(alloc: Global, text: &'a [u8]) -> Result<(Declaration, &
     if let Some(behind) = after(&Token::Word(b"primary"), text) {
         let behind = expect(&[Token::Word(b"key"), Token::Open], behind)?;
         let (key, behind) = read_name(alloc, behind)?;
-        let behind = expect(&[Token::Close], behind)?;
-        return Ok((Declaration::Key(key), behind));
+        return followed(Declaration::Key(key), &[Token::Close], behind);
     }
     let (column, behind) = read_name(alloc, text)?;
     let (kind, behind) = read_type(behind)?;
     let Some(behind) = after(&Token::Word(b"primary"), behind) else {
         return Ok((Declaration::Column(column, kind), behind));
     };
-    let behind = expect(&[Token::Word(b"key")], behind)?;
-    Ok((Declaration::KeyColumn(column, kind), behind))
+    followed(
+        Declaration::KeyColumn(column, kind),
+        &[Token::Word(b"key")],
+        behind,
+    )
 }
 
 impl Item for Declaration {
@@ -83,9 +85,9 @@ pub fn read_table<'a>(alloc: Global, text: &'a [u8]) -> Result<(Statement, &'a [
     ensures { Finds (read table (tokens text.now)) result }
 {
     let (table, behind) = read_name(alloc, text)?;
-    let behind = expect(&[Token::Open], behind)?;
+    let (table, behind) = followed(table, &[Token::Open], behind)?;
     let (declared, behind) = read_list::<Declaration>(alloc, &Token::Comma, behind)?;
-    let behind = expect(&[Token::Close], behind)?;
+    let ((table, declared), behind) = followed((table, declared), &[Token::Close], behind)?;
     let (columns, keys) = declared.split(alloc)?;
     let statement = Statement::CreateTable {
         table,

@@ -3,13 +3,14 @@ ghost use Rattle.sasi_model.specs.Tokens.{tokens};
 ghost use Rattle.sasi_model.specs.FormReader.{read};
 ghost use Rattle.sasi_model.specs.Statements.{begun, on_files, stepped, traced};
 ghost use Rattle.sasi_cql.specs.Finds.{Finds};
+ghost use Rattle.sasi_cql.specs.Parts.{units};
 
 use crate::front::{after, expect, read_name, read_number, stuck};
 use crate::halt::Halt;
 use crate::index::read_index;
 use crate::part::read_index_named;
 use crate::token::Token;
-use sasi_types::Statement;
+use sasi_types::{Name, Number, Statement};
 use std::alloc::Global;
 
 // COMPACT name | REBUILD INDEX name | CREATE CUSTOM INDEX .., after BEGIN
@@ -31,18 +32,25 @@ fn read_begun<'a>(alloc: Global, text: &'a [u8]) -> Result<(Statement, &'a [u8])
     Err(stuck(text))
 }
 
+// name integer
+fn read_units<'a>(alloc: Global, text: &'a [u8]) -> Result<((Name, Number), &'a [u8]), Halt>
+    ensures { Finds (read units (tokens text.now)) result }
+{
+    let (name, behind) = read_name(alloc, text)?;
+    let (units, behind) = read_number(behind)?;
+    Ok(((name, units), behind))
+}
+
 // COMPACT name integer | INDEX name integer, after STEP
 fn read_stepped<'a>(alloc: Global, text: &'a [u8]) -> Result<(Statement, &'a [u8]), Halt>
     ensures { Finds (read stepped (tokens text.now)) result }
 {
     if let Some(behind) = after(&Token::Word(b"compact"), text) {
-        let (table, behind) = read_name(alloc, behind)?;
-        let (units, behind) = read_number(behind)?;
+        let ((table, units), behind) = read_units(alloc, behind)?;
         return Ok((Statement::StepCompact { table, units }, behind));
     }
     if let Some(behind) = after(&Token::Word(b"index"), text) {
-        let (index, behind) = read_name(alloc, behind)?;
-        let (units, behind) = read_number(behind)?;
+        let ((index, units), behind) = read_units(alloc, behind)?;
         return Ok((Statement::StepIndex { index, units }, behind));
     }
     Err(stuck(text))

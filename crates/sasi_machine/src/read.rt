@@ -58,9 +58,8 @@ fn built(statement: Statement) -> ParsedPiece
     ensures reads { model_piece result ≡ piece_parsed (Parses statement) }
     ensures written { IsWellFormed statement → IsReadFrom result }
 {
-    if is_built(&statement) {
-        ParsedPiece::Says(statement)
-    } else {
-        ParsedPiece::Bad(Refusal::NotBuilt)
+    match is_built(&statement).then_some(statement) {
+        Some(statement) => ParsedPiece::Says(statement),
+        None => ParsedPiece::Bad(Refusal::NotBuilt),
     }
 }

@@ -32,7 +32,7 @@ pub fn statement_mutation(
             columns,
             values,
             time,
-        } => insert(builder, schema, table, columns, values, time),
+        } => insert(builder, schema, table, &columns, &values, time),
         Statement::Update {
             table,
             time,
@@ -43,7 +43,7 @@ pub fn statement_mutation(
             builder,
             schema,
             table,
-            sets,
+            &sets,
             KeyRelation { column: key, value },
             time,
         ),
@@ -57,7 +57,7 @@ pub fn statement_mutation(
             builder,
             schema,
             table,
-            columns,
+            &columns,
             KeyRelation { column: key, value },
             time,
         ),
@@ -69,13 +69,13 @@ fn insert(
     builder: &MutationBuilder,
     schema: &Schema,
     table: Name,
-    columns: Names,
-    values: Literals,
+    columns: &Names,
+    values: &Literals,
     time: Option<Number>,
 ) -> Result<Mutation, Fault>
     requires { builder.now.max_timestamp ≤ time_limit }
-    ensures answers { Answers refusal_of_fault (rules schema.now builder.now.max_timestamp (Insert table columns values time)) result }
-    ensures write { IfOk result (IsWrite schema.now builder.now.max_timestamp (Insert table columns values time)) }
+    ensures answers { Answers refusal_of_fault (rules schema.now builder.now.max_timestamp (Insert table columns.now values.now time)) result }
+    ensures write { IfOk result (IsWrite schema.now builder.now.max_timestamp (Insert table columns.now values.now time)) }
 {
     match schema.table(&table) {
         None => Err(Fault::Refused(Refusal::NoTable(table))),
@@ -91,13 +91,13 @@ fn update(
     builder: &MutationBuilder,
     schema: &Schema,
     table: Name,
-    sets: Sets,
+    sets: &Sets,
     relation: KeyRelation,
     time: Option<Number>,
 ) -> Result<Mutation, Fault>
     requires { builder.now.max_timestamp ≤ time_limit }
-    ensures answers { Answers refusal_of_fault (rules schema.now builder.now.max_timestamp (Update table time sets relation.column relation.value)) result }
-    ensures write { IfOk result (IsWrite schema.now builder.now.max_timestamp (Update table time sets relation.column relation.value)) }
+    ensures answers { Answers refusal_of_fault (rules schema.now builder.now.max_timestamp (Update table time sets.now relation.column relation.value)) result }
+    ensures write { IfOk result (IsWrite schema.now builder.now.max_timestamp (Update table time sets.now relation.column relation.value)) }
 {
     match schema.table(&table) {
         None => Err(Fault::Refused(Refusal::NoTable(table))),
@@ -112,13 +112,13 @@ fn delete(
     builder: &MutationBuilder,
     schema: &Schema,
     table: Name,
-    columns: Names,
+    columns: &Names,
     relation: KeyRelation,
     time: Option<Number>,
 ) -> Result<Mutation, Fault>
     requires { builder.now.max_timestamp ≤ time_limit }
-    ensures answers { Answers refusal_of_fault (rules schema.now builder.now.max_timestamp (Delete table columns time relation.column relation.value)) result }
-    ensures write { IfOk result (IsWrite schema.now builder.now.max_timestamp (Delete table columns time relation.column relation.value)) }
+    ensures answers { Answers refusal_of_fault (rules schema.now builder.now.max_timestamp (Delete table columns.now time relation.column relation.value)) result }
+    ensures write { IfOk result (IsWrite schema.now builder.now.max_timestamp (Delete table columns.now time relation.column relation.value)) }
 {
     match schema.table(&table) {
         None => Err(Fault::Refused(Refusal::NoTable(table))),
