@@ -1,5 +1,5 @@
 //! Tests of `sasi_run` and of what it stands on: what crashes and faults of whole runs in memory leave, the tables in memory alone,
-//! and what stores and manifests say of their calls. Cases that are text or bytes alone are the data of `sasi_scripts`.
+//! what stores and manifests say of their calls, and the lines of statuses. Cases that are text or bytes alone are the data of `sasi_scripts`.
 #![tactic(auto)]
 
 #[cfg(test)]
@@ -10,6 +10,8 @@ mod crashes;
 mod machine;
 #[cfg(test)]
 mod manifests;
+#[cfg(test)]
+mod messages;
 #[cfg(test)]
 mod runs;
 #[cfg(test)]

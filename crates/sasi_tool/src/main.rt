@@ -2,14 +2,10 @@
 //! is proved of what a real file or a terminal holds.
 #![tactic(auto)]
 
-mod message;
-#[cfg(test)]
-mod tests;
-
-use crate::message::Message;
 use sasi_analyzers::{Analyzer, Whole, Words};
 use sasi_filehost::{FileHost, FileSource};
 use sasi_host::{MemHost, MemSource};
+use sasi_message::Message;
 use sasi_run::{Status, command, run};
 use std::alloc::{AllocError, Global};
 use std::env;
@@ -34,7 +30,18 @@ fn run_nothing(alloc: Global, words: &[String]) -> Status {
     run(alloc, words, &mut script, &mut host, Vec::new(alloc))
 }
 
-// Runs a script file over a folder of real files.
+// Runs a script file over a folder of real files. It borrows them, so nothing that `run` promises is carried over their drop.
+fn run_over(
+    alloc: Global,
+    words: &[String],
+    script: &mut FileSource,
+    host: &mut FileHost,
+    analyzers: Vec<Box<dyn Analyzer>>,
+) -> Status {
+    run(alloc, words, script, host, analyzers)
+}
+
+// Opens the folder and the script file of a command line, and runs it.
 fn run_files(
     rt: HostRuntime,
     words: &[String],
@@ -47,7 +54,7 @@ fn run_files(
     let mut analyzers: Vec<Box<dyn Analyzer>> = Vec::new(alloc);
     analyzers.push(Box::new(alloc, Whole::new())?)?;
     analyzers.push(Box::new(alloc, Words::new(alloc))?)?;
-    Ok(run(alloc, words, &mut script, &mut host, analyzers))
+    Ok(run_over(alloc, words, &mut script, &mut host, analyzers))
 }
 
 // Runs the words of the command line.

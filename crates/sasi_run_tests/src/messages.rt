@@ -1,6 +1,6 @@
 // The lines on standard error.
-use crate::message::Message;
 use sasi_host::{Damage, FileName, FormatRule, Kind, found};
+use sasi_message::Message;
 use sasi_run::{NumberKind, Status};
 use sasi_types::Partitioner;
 use std::alloc::Global;

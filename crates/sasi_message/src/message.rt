@@ -6,7 +6,7 @@ use sasi_types::Partitioner;
 use std::fmt;
 
 /// The line on standard error, empty where there is none.
-#[derive(Clone, Copy, Debug)]
+#[derive(Clone, Copy)]
 pub struct Message(pub Status);
 
 impl fmt::Display for Message {
@@ -68,7 +68,7 @@ fn write_spent<W: fmt::Write>(f: &mut fmt::Formatter<W>, kind: NumberKind) -> fm
 }
 
 // The seen bytes in hexadecimal.
-#[derive(Clone, Copy, Debug)]
+#[derive(Clone, Copy)]
 struct SeenText(Seen);
 
 impl fmt::Display for SeenText {
