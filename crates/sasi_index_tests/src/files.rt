@@ -2,7 +2,7 @@
 ghost use Rattle.sasi_indexwrite.specs.TermsSoFar.{AreUpTo};
 
 use crate::fixture::{FILE, add, lowest, write};
-use crate::searches::{add_bigints, add_long_terms, add_numbers, check_all, edges};
+use crate::searches::{bigints, check_all, edges, long_terms, numbers};
 use sasi_host::MemHost;
 use sasi_segments::{Gather, Posting};
 use sasi_terms::Op;
@@ -18,6 +18,11 @@ fn summary(rt: &impl Abort, host: &MemHost) -> (usize, u64) {
         sum = sum.wrapping_mul(31).wrapping_add(u64::from(*byte));
     }
     (bytes.len(), sum)
+}
+
+// The file has so many bytes, with this checksum.
+fn check_summary(rt: &impl Abort, host: MemHost, size: usize, sum: u64) {
+    assert!(rt; summary(rt, &host) == (size, sum));
 }
 
 // The file has these bytes at the offset.
@@ -49,6 +54,7 @@ fn no_postings(rt: HostRuntime) {
         )
     );
     assert!(rt; summary(&rt, &host).0 == 4168);
+    drop(host);
 }
 
 #[test]
@@ -73,7 +79,7 @@ fn one_posting(rt: HostRuntime) {
     let entry =
         b"\x00\x01\x00\x04\x00\x01x\x01\x00\x00\x00\x00\x00\x00\x00\x10\x00\x00\x00\x00\x00\x00\x00\x01";
     assert!(rt; has_at(&rt, &host, 4096, entry));
-    assert!(rt; summary(&rt, &host) == (8264, 6691731470373201816));
+    check_summary(&rt, host, 8264, 6691731470373201816);
 }
 
 // Adds so many pairs of a term.
@@ -170,7 +176,7 @@ fn many_postings(rt: HostRuntime) {
         256,
     );
     let host = write(&rt, alloc, ColumnType::Text, gather);
-    assert!(rt; summary(&rt, &host) == (41032, 11704208124933860585));
+    check_summary(&rt, host, 41032, 11704208124933860585);
 }
 
 // A file of one term with so many pairs, or of none.
@@ -198,6 +204,7 @@ fn check_list(rt: &impl Abort, alloc: Global, count: u64, size: usize, sum: u64)
     for op in [Op::Eq, Op::Prefix, Op::Suffix, Op::Contains] {
         check_all(rt, alloc, &mut host, op, b"\xff", count);
     }
+    drop(host);
 }
 
 #[test]
@@ -213,35 +220,26 @@ fn lists_of_many_sizes(rt: HostRuntime) {
 #[test]
 fn four_levels_of_pointers(rt: HostRuntime) {
     let alloc = rt.alloc();
-    let mut last = lowest(alloc);
-    let mut gather = Gather::new(alloc, 1, 1);
-    add_long_terms(&rt, alloc, &mut gather, &mut last);
-    let host = write(&rt, alloc, ColumnType::Text, gather);
-    assert!(rt; summary(&rt, &host) == (221256, 6676431636921583305));
+    let host = long_terms(&rt, alloc);
+    check_summary(&rt, host, 221256, 6676431636921583305);
 }
 
 #[test]
 fn numbers_on_both_sides_of_zero(rt: HostRuntime) {
     let alloc = rt.alloc();
-    let mut last = lowest(alloc);
-    let mut gather = Gather::new(alloc, 1, 1);
-    add_numbers(&rt, alloc, &mut gather, &mut last);
-    let host = write(&rt, alloc, ColumnType::Int, gather);
-    assert!(rt; summary(&rt, &host) == (8264, 15654618548924623919));
+    let host = numbers(&rt, alloc);
+    check_summary(&rt, host, 8264, 15654618548924623919);
 }
 
 #[test]
 fn large_numbers_on_both_sides_of_zero(rt: HostRuntime) {
     let alloc = rt.alloc();
-    let mut last = lowest(alloc);
-    let mut gather = Gather::new(alloc, 1, 1);
-    add_bigints(&rt, alloc, &mut gather, &mut last);
-    let host = write(&rt, alloc, ColumnType::BigInt, gather);
-    assert!(rt; summary(&rt, &host) == (8264, 405403911846547172));
+    let host = bigints(&rt, alloc);
+    check_summary(&rt, host, 8264, 405403911846547172);
 }
 
 #[test]
 fn shortest_and_longest_terms(rt: HostRuntime) {
     let host = edges(&rt, rt.alloc());
-    assert!(rt; summary(&rt, &host) == (8264, 17448122307951287475));
+    check_summary(&rt, host, 8264, 17448122307951287475);
 }

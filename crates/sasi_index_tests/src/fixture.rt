@@ -10,7 +10,7 @@ ghost use Rattle.sasi_indexwrite.specs.TermsSoFar.{AreSortedPostings, AreUpTo, I
 use sasi_host::{FileName, Kind, MemHost};
 use sasi_indexwrite::write_index;
 use sasi_segments::{Gather, Posting};
-use sasi_types::{ColumnType, IndexDef, ListKind, Mode, Name, Pair, Rule, Term};
+use sasi_types::{ColumnType, IndexDef, ListKind, Mode, Name, Pair, Rule, Term, Token};
 use std::alloc::Global;
 use std::process::Abort;
 
@@ -44,7 +44,7 @@ fn check(rt: &impl Abort, last: &Posting, next: &Posting)
 }
 
 /// Adds a posting.
-fn put(rt: &impl Abort, gather: &mut Gather, next: &Posting)
+fn gather_posting(rt: &impl Abort, gather: &mut Gather, next: &Posting)
     requires { IsPosting next.now }
     ensures { gather.new.postings ≡ inserted posting_cmp next.now gather.old.postings }
 {
@@ -69,7 +69,7 @@ pub fn add(
     let term = Term::new(term.to_vec(alloc).expect(rt, "memory"));
     let next = Posting { list, term, pair };
     check(rt, last, &next);
-    put(rt, gather, &next);
+    gather_posting(rt, gather, &next);
     *last = next;
 }
 
@@ -99,4 +99,50 @@ pub fn write(rt: &impl Abort, alloc: Global, kind: ColumnType, gather: Gather) -
     let def = definition(rt, alloc, kind);
     write_index(alloc, &mut host, FILE, &def, gather).expect(rt, "written");
     host
+}
+
+/// Adds a pair with this token.
+pub fn put(
+    rt: &impl Abort,
+    alloc: Global,
+    gather: &mut Gather,
+    last: &mut Posting,
+    list: ListKind,
+    term: &[u8],
+    token: Token,
+)
+    requires { AreUpTo gather.old.postings last.old }
+    ensures { AreUpTo gather.new.postings last.new }
+{
+    let place = token.wrapping_add(16);
+    add(rt, alloc, gather, last, list, term, Pair { token, place });
+}
+
+/// A pair of a term: its list, the term, and its token.
+pub type Row<'a> = (ListKind, &'a [u8], Token);
+
+/// Adds the pairs.
+fn add_rows(
+    rt: &impl Abort,
+    alloc: Global,
+    gather: &mut Gather,
+    last: &mut Posting,
+    rows: &[Row<'_>],
+)
+    requires { AreUpTo gather.old.postings last.old }
+    ensures { AreUpTo gather.new.postings last.new }
+{
+    for (list, term, token) in rows {
+        put(rt, alloc, gather, last, *list, term, *token);
+    }
+}
+
+/// A file of these pairs, which are in their order.
+pub fn file_of(rt: &impl Abort, alloc: Global, kind: ColumnType, rows: &[Row<'_>]) -> MemHost
+    requires { kind ≢ Uuid }
+{
+    let mut last = lowest(alloc);
+    let mut gather = Gather::new(alloc, 1, 1);
+    add_rows(rt, alloc, &mut gather, &mut last, rows);
+    write(rt, alloc, kind, gather)
 }

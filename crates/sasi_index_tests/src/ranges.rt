@@ -1,10 +1,7 @@
 // Searches of indexes of numbers for ranges.
-ghost use Rattle.sasi_indexwrite.specs.TermsSoFar.{AreUpTo};
-
-use crate::fixture::{lowest, write};
-use crate::searches::{add_bigints, add_numbers, next, put, search};
+use crate::fixture::{Row, file_of};
+use crate::searches::{bigints, next, numbers, search};
 use sasi_host::MemHost;
-use sasi_segments::{Gather, Posting};
 use sasi_terms::{Op, bigint_term, int_term};
 use sasi_types::{ColumnType, ListKind, Token};
 use std::alloc::Global;
@@ -24,9 +21,9 @@ fn check_range(rt: &impl Abort, alloc: Global, host: &mut MemHost, range: Range)
 }
 
 /// Each range gives its tokens.
-fn check_ranges(rt: &impl Abort, alloc: Global, host: &mut MemHost, ranges: &[Range]) {
+fn check_ranges(rt: &impl Abort, alloc: Global, mut host: MemHost, ranges: &[Range]) {
     for range in ranges {
-        check_range(rt, alloc, host, *range);
+        check_range(rt, alloc, &mut host, *range);
     }
 }
 
@@ -51,35 +48,24 @@ const RANGES: [Range; 14] = [
 #[test]
 fn ranges_give_their_ints(rt: HostRuntime) {
     let alloc = rt.alloc();
-    let mut last = lowest(alloc);
-    let mut gather = Gather::new(alloc, 1, 1);
-    add_numbers(&rt, alloc, &mut gather, &mut last);
-    let mut host = write(&rt, alloc, ColumnType::Int, gather);
-    check_ranges(&rt, alloc, &mut host, &RANGES);
+    check_ranges(&rt, alloc, numbers(&rt, alloc), &RANGES);
 }
 
 #[test]
 fn ranges_give_their_bigints(rt: HostRuntime) {
     let alloc = rt.alloc();
-    let mut last = lowest(alloc);
-    let mut gather = Gather::new(alloc, 1, 1);
-    add_bigints(&rt, alloc, &mut gather, &mut last);
-    let mut host = write(&rt, alloc, ColumnType::BigInt, gather);
-    check_ranges(&rt, alloc, &mut host, &RANGES);
+    check_ranges(&rt, alloc, bigints(&rt, alloc), &RANGES);
 }
 
-// The least and the greatest int, and those at zero, with their tokens.
-const INTS: [(i32, Token); 4] = [(i32::MIN, 0), (-1, 1), (0, 2), (i32::MAX, 3)];
-
-/// Adds these ints.
-fn add_ends_of_ints(rt: &impl Abort, alloc: Global, gather: &mut Gather, last: &mut Posting)
-    requires { AreUpTo gather.old.postings last.old }
-    ensures { AreUpTo gather.new.postings last.new }
-{
-    for (number, token) in INTS {
-        let term = int_term(number);
-        put(rt, alloc, gather, last, ListKind::Stored, &term, token);
-    }
+/// A file of the least and the greatest int, and of those at zero.
+fn ends_of_ints(rt: &impl Abort, alloc: Global) -> MemHost {
+    let rows: [Row<'_>; 4] = [
+        (ListKind::Stored, &int_term(i32::MIN), 0),
+        (ListKind::Stored, &int_term(-1), 1),
+        (ListKind::Stored, &int_term(0), 2),
+        (ListKind::Stored, &int_term(i32::MAX), 3),
+    ];
+    file_of(rt, alloc, ColumnType::Int, &rows)
 }
 
 // Ranges of these ints.
@@ -98,25 +84,18 @@ const RANGES_OF_INTS: [Range; 9] = [
 #[test]
 fn ranges_give_the_ends_of_ints(rt: HostRuntime) {
     let alloc = rt.alloc();
-    let mut last = lowest(alloc);
-    let mut gather = Gather::new(alloc, 1, 1);
-    add_ends_of_ints(&rt, alloc, &mut gather, &mut last);
-    let mut host = write(&rt, alloc, ColumnType::Int, gather);
-    check_ranges(&rt, alloc, &mut host, &RANGES_OF_INTS);
+    check_ranges(&rt, alloc, ends_of_ints(&rt, alloc), &RANGES_OF_INTS);
 }
 
-// The least and the greatest bigint, and those at zero, with their tokens.
-const BIGINTS: [(i64, Token); 4] = [(i64::MIN, 0), (-1, 1), (0, 2), (i64::MAX, 3)];
-
-/// Adds these bigints.
-fn add_ends_of_bigints(rt: &impl Abort, alloc: Global, gather: &mut Gather, last: &mut Posting)
-    requires { AreUpTo gather.old.postings last.old }
-    ensures { AreUpTo gather.new.postings last.new }
-{
-    for (number, token) in BIGINTS {
-        let term = bigint_term(number);
-        put(rt, alloc, gather, last, ListKind::Stored, &term, token);
-    }
+/// A file of the least and the greatest bigint, and of those at zero.
+fn ends_of_bigints(rt: &impl Abort, alloc: Global) -> MemHost {
+    let rows: [Row<'_>; 4] = [
+        (ListKind::Stored, &bigint_term(i64::MIN), 0),
+        (ListKind::Stored, &bigint_term(-1), 1),
+        (ListKind::Stored, &bigint_term(0), 2),
+        (ListKind::Stored, &bigint_term(i64::MAX), 3),
+    ];
+    file_of(rt, alloc, ColumnType::BigInt, &rows)
 }
 
 // Ranges of these bigints.
@@ -132,9 +111,5 @@ const RANGES_OF_BIGINTS: [Range; 6] = [
 #[test]
 fn ranges_give_the_ends_of_bigints(rt: HostRuntime) {
     let alloc = rt.alloc();
-    let mut last = lowest(alloc);
-    let mut gather = Gather::new(alloc, 1, 1);
-    add_ends_of_bigints(&rt, alloc, &mut gather, &mut last);
-    let mut host = write(&rt, alloc, ColumnType::BigInt, gather);
-    check_ranges(&rt, alloc, &mut host, &RANGES_OF_BIGINTS);
+    check_ranges(&rt, alloc, ends_of_bigints(&rt, alloc), &RANGES_OF_BIGINTS);
 }

@@ -3,7 +3,7 @@ ghost use Rattle.sasi_host.specs.Memory.{host_view, memory_host};
 ghost use Rattle.sasi_indexwrite.specs.TermsSoFar.{AreUpTo};
 ghost use Rattle.sasi_index_tests.specs.Searching.{IsSearchOf};
 
-use crate::fixture::{FILE, add, lowest, write};
+use crate::fixture::{FILE, Row, file_of, lowest, put, write};
 use sasi_host::{Direct, MemHost};
 use sasi_indexread::{IndexFile, Search};
 use sasi_segments::{Gather, Posting};
@@ -66,6 +66,16 @@ fn check(
     assert!(rt; next(rt, host, &mut found).is_none());
 }
 
+/// What is searched for, and the tokens that it gives.
+type Case<'a> = (Op, &'a [u8], &'a [Token]);
+
+/// Each search gives its tokens.
+fn check_each(rt: &impl Abort, alloc: Global, mut host: MemHost, cases: &[Case<'_>]) {
+    for (op, body, tokens) in cases {
+        check(rt, alloc, &mut host, *op, body, tokens);
+    }
+}
+
 /// A search gives so many pairs of the token 5, from the place 16 on, and then none.
 pub fn check_all(
     rt: &impl Abort,
@@ -83,127 +93,44 @@ pub fn check_all(
     assert!(rt; next_pair(rt, host, &mut found).is_none());
 }
 
-/// Adds a pair with this token.
-pub fn put(
-    rt: &impl Abort,
-    alloc: Global,
-    gather: &mut Gather,
-    last: &mut Posting,
-    list: ListKind,
-    term: &[u8],
-    token: Token,
-)
-    requires { AreUpTo gather.old.postings last.old }
-    ensures { AreUpTo gather.new.postings last.new }
-{
-    let place = token.wrapping_add(16);
-    add(rt, alloc, gather, last, list, term, Pair { token, place });
-}
+/// The pairs of a few terms.
+const FEW: [Row<'static>; 10] = [
+    (ListKind::Stored, b"", 9),
+    (ListKind::Stored, b"blue", 4),
+    (ListKind::Stored, b"red", 1),
+    (ListKind::Stored, b"red", 5),
+    (ListKind::Stored, b"red", 7),
+    (ListKind::Stored, b"redder", 2),
+    (ListKind::Stored, b"redder", 5),
+    (ListKind::Stored, b"sred", 3),
+    (ListKind::Spill, b"", 6),
+    (ListKind::Spill, b"", 7),
+];
 
-/// A file of a few terms.
+/// A file of these.
 fn few(rt: &impl Abort, alloc: Global) -> MemHost {
-    let mut last = lowest(alloc);
-    let mut gather = Gather::new(alloc, 1, 1);
-    put(rt, alloc, &mut gather, &mut last, ListKind::Stored, b"", 9);
-    put(
-        rt,
-        alloc,
-        &mut gather,
-        &mut last,
-        ListKind::Stored,
-        b"blue",
-        4,
-    );
-    put(
-        rt,
-        alloc,
-        &mut gather,
-        &mut last,
-        ListKind::Stored,
-        b"red",
-        1,
-    );
-    put(
-        rt,
-        alloc,
-        &mut gather,
-        &mut last,
-        ListKind::Stored,
-        b"red",
-        5,
-    );
-    put(
-        rt,
-        alloc,
-        &mut gather,
-        &mut last,
-        ListKind::Stored,
-        b"red",
-        7,
-    );
-    put(
-        rt,
-        alloc,
-        &mut gather,
-        &mut last,
-        ListKind::Stored,
-        b"redder",
-        2,
-    );
-    put(
-        rt,
-        alloc,
-        &mut gather,
-        &mut last,
-        ListKind::Stored,
-        b"redder",
-        5,
-    );
-    put(
-        rt,
-        alloc,
-        &mut gather,
-        &mut last,
-        ListKind::Stored,
-        b"sred",
-        3,
-    );
-    put(rt, alloc, &mut gather, &mut last, ListKind::Spill, b"", 6);
-    put(rt, alloc, &mut gather, &mut last, ListKind::Spill, b"", 7);
-    write(rt, alloc, ColumnType::Text, gather)
+    file_of(rt, alloc, ColumnType::Text, &FEW)
 }
 
 #[test]
 fn each_operator_finds_its_terms(rt: HostRuntime) {
     let alloc = rt.alloc();
-    let mut host = few(&rt, alloc);
-    check(&rt, alloc, &mut host, Op::Eq, b"red", &[1, 5, 6, 7]);
-    check(&rt, alloc, &mut host, Op::Eq, b"re", &[6, 7]);
-    check(&rt, alloc, &mut host, Op::Eq, b"", &[6, 7, 9]);
-    check(&rt, alloc, &mut host, Op::Prefix, b"red", &[1, 2, 5, 6, 7]);
-    check(
-        &rt,
-        alloc,
-        &mut host,
-        Op::Prefix,
-        b"",
-        &[1, 2, 3, 4, 5, 6, 7, 9],
-    );
-    check(&rt, alloc, &mut host, Op::Prefix, b"z", &[6, 7]);
-    check(&rt, alloc, &mut host, Op::Suffix, b"red", &[1, 3, 5, 6, 7]);
-    check(
-        &rt,
-        alloc,
-        &mut host,
-        Op::Contains,
-        b"ed",
-        &[1, 2, 3, 5, 6, 7],
-    );
     let range = Op::Range {
         least: 0,
         greatest: 9,
     };
-    check(&rt, alloc, &mut host, range, b"", &[6, 7]);
+    let cases: [Case<'_>; 9] = [
+        (Op::Eq, b"red", &[1, 5, 6, 7]),
+        (Op::Eq, b"re", &[6, 7]),
+        (Op::Eq, b"", &[6, 7, 9]),
+        (Op::Prefix, b"red", &[1, 2, 5, 6, 7]),
+        (Op::Prefix, b"", &[1, 2, 3, 4, 5, 6, 7, 9]),
+        (Op::Prefix, b"z", &[6, 7]),
+        (Op::Suffix, b"red", &[1, 3, 5, 6, 7]),
+        (Op::Contains, b"ed", &[1, 2, 3, 5, 6, 7]),
+        (range, b"", &[6, 7]),
+    ];
+    check_each(&rt, alloc, few(&rt, alloc), &cases);
 }
 
 #[test]
@@ -218,6 +145,8 @@ fn skips_drop_the_pairs_below(rt: HostRuntime) {
     assert!(rt; next(&rt, &mut host, &mut found) == Some(9));
     assert!(rt; next(&rt, &mut host, &mut found).is_none());
     assert!(rt; next(&rt, &mut host, &mut found).is_none());
+    drop(found);
+    drop(host);
 }
 
 /// The tokens of the numbers from -10 to 9.
@@ -226,7 +155,7 @@ const TOKENS: [Token; 20] = [
 ];
 
 /// Adds the numbers from -10 to 9, with the tokens from 0 on.
-pub fn add_numbers(rt: &impl Abort, alloc: Global, gather: &mut Gather, last: &mut Posting)
+fn add_numbers(rt: &impl Abort, alloc: Global, gather: &mut Gather, last: &mut Posting)
     requires { AreUpTo gather.old.postings last.old }
     ensures { AreUpTo gather.new.postings last.new }
 {
@@ -244,38 +173,38 @@ pub fn add_numbers(rt: &impl Abort, alloc: Global, gather: &mut Gather, last: &m
     }
 }
 
+/// A file of these ints.
+pub fn numbers(rt: &impl Abort, alloc: Global) -> MemHost {
+    let mut last = lowest(alloc);
+    let mut gather = Gather::new(alloc, 1, 1);
+    add_numbers(rt, alloc, &mut gather, &mut last);
+    write(rt, alloc, ColumnType::Int, gather)
+}
+
 #[test]
 fn ranges_find_their_numbers(rt: HostRuntime) {
     let alloc = rt.alloc();
-    let mut last = lowest(alloc);
-    let mut gather = Gather::new(alloc, 1, 1);
-    add_numbers(&rt, alloc, &mut gather, &mut last);
-    let mut host = write(&rt, alloc, ColumnType::Int, gather);
     let some = Op::Range {
         least: -3,
         greatest: 1,
     };
-    check(&rt, alloc, &mut host, some, b"", &[7, 8, 9, 10, 11]);
     let none = Op::Range {
         least: 3,
         greatest: 1,
     };
-    check(&rt, alloc, &mut host, none, b"", &[]);
-    check(&rt, alloc, &mut host, Op::Eq, b"\x7f\xff\xff\xff", &[9]);
-    check(&rt, alloc, &mut host, Op::Prefix, b"\x80", &TOKENS[10..]);
-    check(&rt, alloc, &mut host, Op::Suffix, b"\xff\xfe", &[8]);
-    check(
-        &rt,
-        alloc,
-        &mut host,
-        Op::Contains,
-        b"\xff\xff",
-        &TOKENS[..10],
-    );
+    let cases: [Case<'_>; 6] = [
+        (some, b"", &[7, 8, 9, 10, 11]),
+        (none, b"", &[]),
+        (Op::Eq, b"\x7f\xff\xff\xff", &[9]),
+        (Op::Prefix, b"\x80", &TOKENS[10..]),
+        (Op::Suffix, b"\xff\xfe", &[8]),
+        (Op::Contains, b"\xff\xff", &TOKENS[..10]),
+    ];
+    check_each(&rt, alloc, numbers(&rt, alloc), &cases);
 }
 
 /// Adds the numbers from -10 to 9 as terms of eight bytes, with the tokens from 0 on.
-pub fn add_bigints(rt: &impl Abort, alloc: Global, gather: &mut Gather, last: &mut Posting)
+fn add_bigints(rt: &impl Abort, alloc: Global, gather: &mut Gather, last: &mut Posting)
     requires { AreUpTo gather.old.postings last.old }
     ensures { AreUpTo gather.new.postings last.new }
 {
@@ -285,87 +214,65 @@ pub fn add_bigints(rt: &impl Abort, alloc: Global, gather: &mut Gather, last: &m
     }
 }
 
+/// A file of these bigints.
+pub fn bigints(rt: &impl Abort, alloc: Global) -> MemHost {
+    let mut last = lowest(alloc);
+    let mut gather = Gather::new(alloc, 1, 1);
+    add_bigints(rt, alloc, &mut gather, &mut last);
+    write(rt, alloc, ColumnType::BigInt, gather)
+}
+
 #[test]
 fn ranges_find_their_large_numbers(rt: HostRuntime) {
     let alloc = rt.alloc();
-    let mut last = lowest(alloc);
-    let mut gather = Gather::new(alloc, 1, 1);
-    add_bigints(&rt, alloc, &mut gather, &mut last);
-    let mut host = write(&rt, alloc, ColumnType::BigInt, gather);
     let some = Op::Range {
         least: -3,
         greatest: 1,
     };
-    check(&rt, alloc, &mut host, some, b"", &[7, 8, 9, 10, 11]);
     let high = Op::Range {
         least: 8,
         greatest: i64::MAX,
     };
-    check(&rt, alloc, &mut host, high, b"", &[18, 19]);
     let one = b"\x7f\xff\xff\xff\xff\xff\xff\xff";
-    check(&rt, alloc, &mut host, Op::Eq, one, &[9]);
-    check(&rt, alloc, &mut host, Op::Prefix, b"\x80", &TOKENS[10..]);
-    check(&rt, alloc, &mut host, Op::Suffix, b"\xff\xfe", &[8]);
-    check(
-        &rt,
-        alloc,
-        &mut host,
-        Op::Contains,
-        b"\xff\xff",
-        &TOKENS[..10],
-    );
+    let cases: [Case<'_>; 6] = [
+        (some, b"", &[7, 8, 9, 10, 11]),
+        (high, b"", &[18, 19]),
+        (Op::Eq, one, &[9]),
+        (Op::Prefix, b"\x80", &TOKENS[10..]),
+        (Op::Suffix, b"\xff\xfe", &[8]),
+        (Op::Contains, b"\xff\xff", &TOKENS[..10]),
+    ];
+    check_each(&rt, alloc, bigints(&rt, alloc), &cases);
 }
 
 /// The shortest and the longest terms, and pairs of two lists that alternate.
 pub fn edges(rt: &impl Abort, alloc: Global) -> MemHost {
-    let mut last = lowest(alloc);
-    let mut gather = Gather::new(alloc, 1, 1);
-    put(rt, alloc, &mut gather, &mut last, ListKind::Stored, b"", 5);
-    put(rt, alloc, &mut gather, &mut last, ListKind::Stored, b"a", 1);
-    put(rt, alloc, &mut gather, &mut last, ListKind::Stored, b"a", 3);
-    put(rt, alloc, &mut gather, &mut last, ListKind::Stored, b"a", 7);
     let long = [97; 1024];
-    put(
-        rt,
-        alloc,
-        &mut gather,
-        &mut last,
-        ListKind::Stored,
-        &long,
-        2,
-    );
-    put(
-        rt,
-        alloc,
-        &mut gather,
-        &mut last,
-        ListKind::Stored,
-        &long,
-        3,
-    );
-    put(
-        rt,
-        alloc,
-        &mut gather,
-        &mut last,
-        ListKind::Stored,
-        &long,
-        8,
-    );
-    write(rt, alloc, ColumnType::Text, gather)
+    let rows: [Row<'_>; 7] = [
+        (ListKind::Stored, b"", 5),
+        (ListKind::Stored, b"a", 1),
+        (ListKind::Stored, b"a", 3),
+        (ListKind::Stored, b"a", 7),
+        (ListKind::Stored, &long, 2),
+        (ListKind::Stored, &long, 3),
+        (ListKind::Stored, &long, 8),
+    ];
+    file_of(rt, alloc, ColumnType::Text, &rows)
 }
 
 #[test]
 fn shortest_and_longest_terms_are_found(rt: HostRuntime) {
     let alloc = rt.alloc();
-    let mut host = edges(&rt, alloc);
-    check(&rt, alloc, &mut host, Op::Eq, b"", &[5]);
-    check(&rt, alloc, &mut host, Op::Eq, b"a", &[1, 3, 7]);
-    check(&rt, alloc, &mut host, Op::Eq, &[97; 1024], &[2, 3, 8]);
-    check(&rt, alloc, &mut host, Op::Eq, &[97; 1023], &[]);
-    check(&rt, alloc, &mut host, Op::Prefix, b"a", &[1, 2, 3, 7, 8]);
-    check(&rt, alloc, &mut host, Op::Suffix, &[97; 1024], &[2, 3, 8]);
-    check(&rt, alloc, &mut host, Op::Contains, b"a", &[1, 2, 3, 7, 8]);
+    let cases: [Case<'_>; 7] = [
+        (Op::Eq, b"", &[5]),
+        (Op::Eq, b"a", &[1, 3, 7]),
+        (Op::Eq, &[97; 1024], &[2, 3, 8]),
+        (Op::Eq, &[97; 1023], &[]),
+        (Op::Prefix, b"a", &[1, 2, 3, 7, 8]),
+        (Op::Suffix, &[97; 1024], &[2, 3, 8]),
+        (Op::Contains, b"a", &[1, 2, 3, 7, 8]),
+    ];
+    check_each(&rt, alloc, edges(&rt, alloc), &cases);
 }
 
 /// A term of 40 bytes with this number.
@@ -394,13 +301,18 @@ fn add_many(rt: &impl Abort, alloc: Global, gather: &mut Gather, last: &mut Post
     }
 }
 
+/// A file of these terms.
+fn many(rt: &impl Abort, alloc: Global) -> MemHost {
+    let mut last = lowest(alloc);
+    let mut gather = Gather::new(alloc, 1, 1);
+    add_many(rt, alloc, &mut gather, &mut last);
+    write(rt, alloc, ColumnType::Text, gather)
+}
+
 #[test]
 fn each_of_many_terms_is_found(rt: HostRuntime) {
     let alloc = rt.alloc();
-    let mut last = lowest(alloc);
-    let mut gather = Gather::new(alloc, 1, 1);
-    add_many(&rt, alloc, &mut gather, &mut last);
-    let mut host = write(&rt, alloc, ColumnType::Text, gather);
+    let mut host = many(&rt, alloc);
     for k in 0..2000 {
         let token = k * 7 % 2000;
         check(&rt, alloc, &mut host, Op::Eq, &nth_term(k), &[token]);
@@ -408,6 +320,7 @@ fn each_of_many_terms_is_found(rt: HostRuntime) {
     check(&rt, alloc, &mut host, Op::Eq, &nth_term(2000), &[]);
     let prefix = [0, 0, 0, 0, 0, 0, 0, 9];
     check(&rt, alloc, &mut host, Op::Prefix, &prefix, &[63]);
+    drop(host);
 }
 
 /// The longest term with this number.
@@ -418,7 +331,7 @@ fn long_term(k: u64) -> [u8; 1024] {
 }
 
 /// Adds 100 terms of 1,024 bytes: three to a block, so there are four levels of pointers above them.
-pub fn add_long_terms(rt: &impl Abort, alloc: Global, gather: &mut Gather, last: &mut Posting)
+fn add_long_terms(rt: &impl Abort, alloc: Global, gather: &mut Gather, last: &mut Posting)
     requires { AreUpTo gather.old.postings last.old }
     ensures { AreUpTo gather.new.postings last.new }
 {
@@ -427,13 +340,18 @@ pub fn add_long_terms(rt: &impl Abort, alloc: Global, gather: &mut Gather, last:
     }
 }
 
+/// A file of these terms.
+pub fn long_terms(rt: &impl Abort, alloc: Global) -> MemHost {
+    let mut last = lowest(alloc);
+    let mut gather = Gather::new(alloc, 1, 1);
+    add_long_terms(rt, alloc, &mut gather, &mut last);
+    write(rt, alloc, ColumnType::Text, gather)
+}
+
 #[test]
 fn terms_below_many_levels_are_found(rt: HostRuntime) {
     let alloc = rt.alloc();
-    let mut last = lowest(alloc);
-    let mut gather = Gather::new(alloc, 1, 1);
-    add_long_terms(&rt, alloc, &mut gather, &mut last);
-    let mut host = write(&rt, alloc, ColumnType::Text, gather);
+    let mut host = long_terms(&rt, alloc);
     for k in 0..100 {
         check(&rt, alloc, &mut host, Op::Eq, &long_term(k), &[k]);
     }
@@ -442,4 +360,5 @@ fn terms_below_many_levels_are_found(rt: HostRuntime) {
     check(&rt, alloc, &mut host, Op::Prefix, &part, &[99]);
     check(&rt, alloc, &mut host, Op::Contains, &part, &[99]);
     check(&rt, alloc, &mut host, Op::Suffix, b"b", &[]);
+    drop(host);
 }
