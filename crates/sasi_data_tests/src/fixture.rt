@@ -106,6 +106,7 @@ fn push<O: FlushObserver>(
     let token = Partitioner::Lead8.token(key.bytes());
     assert!(rt; last <= token, "tokens rise");
     writer.push(host, watch, &key, &part).expect(rt, "pushed");
+    drop((key, part));
     token
 }
 

@@ -1,4 +1,5 @@
 //! Tests of memtables, merges, formats, bodies, token trees and data files: their bytes, what is read of them, and damaged ones.
+//! A host is dropped by `drop`, which is proved once, and not at the end of each function.
 #![tactic(auto)]
 
 #[cfg(test)]

@@ -21,6 +21,7 @@ fn pushed(rt: &impl Abort, alloc: Global, host: &mut MemHost) -> PairWriter
     let (key, part) = partition_of(rt, alloc, &INSERTED);
     let mut writer = PairWriter::begin(alloc, host, 7, Partitioner::Lead8).expect(rt, "begun");
     writer.push(host, &key, &part).expect(rt, "pushed");
+    drop((key, part));
     writer
 }
 
@@ -41,7 +42,9 @@ fn crash_leaves_a_sealed_file(rt: HostRuntime) {
         bytes: BytePick::Ones,
     };
     let left = host.crash(pick).expect(&rt, "a crash");
+    drop(host);
     assert!(rt; left.bytes(DATA) == Some(ONE.as_slice()));
+    drop(left);
 }
 
 // Creates, fills and seals a data file of one partition. Tells whether each call succeeded.
@@ -54,6 +57,7 @@ fn is_sealed(rt: &impl Abort, alloc: Global, host: &mut MemHost) -> bool {
     if writer.push(host, &key, &part).is_err() {
         return false;
     }
+    drop((key, part));
     writer.seal(host, &PartNumbers::new(alloc)).is_ok()
 }
 
@@ -62,6 +66,7 @@ fn check_failing(rt: &impl Abort, alloc: Global, failing: u64) {
     let mut host = MemHost::new(alloc);
     host.fail_disk(vec![in alloc; failing].expect(rt, "memory for a number"));
     assert!(rt; is_sealed(rt, alloc, &mut host) == (failing > CALLS));
+    drop(host);
 }
 
 // The calls that make a durable data file of one partition: it is created, its header, the partition and the key tree are
@@ -81,6 +86,7 @@ fn file_that_is_given_up_is_gone(rt: HostRuntime) {
     let writer = pushed(&rt, rt.alloc(), &mut host);
     writer.give_up(&mut host).expect(&rt, "deleted");
     assert!(rt; host.bytes(DATA).is_none());
+    drop(host);
 }
 
 // A writer whose first push failed.
@@ -92,6 +98,7 @@ fn failed(rt: &impl Abort, alloc: Global, host: &mut MemHost) -> PairWriter
     let (key, part) = partition_of(rt, alloc, &INSERTED);
     let mut writer = PairWriter::begin(alloc, host, 7, Partitioner::Lead8).expect(rt, "begun");
     let result = writer.push(host, &key, &part);
+    drop((key, part));
     assert!(rt; result == Err(PairFault::Failed));
     writer
 }
@@ -103,4 +110,5 @@ fn file_of_a_failed_push_is_given_up(rt: HostRuntime) {
     assert!(rt; host.bytes(DATA).is_some());
     writer.give_up(&mut host).expect(&rt, "deleted");
     assert!(rt; host.bytes(DATA).is_none());
+    drop(host);
 }

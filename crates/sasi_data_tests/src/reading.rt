@@ -99,7 +99,9 @@ pub fn body_at(
     requires { opened.now.file ≡ DATA }
 {
     let (key, part) = read_at(rt, alloc, host, opened, place);
-    body_of(rt, alloc, &key, &part)
+    let body = body_of(rt, alloc, &key, &part);
+    drop((key, part));
+    body
 }
 
 /// The key at offset 16 is k1, and the body there is that of the one partition.
@@ -118,12 +120,15 @@ fn partition_is_read_at_its_offset(rt: HostRuntime) {
     let data = open_whole(&rt, rt.alloc(), &mut host);
     assert!(rt; (data.partitions(), data.max_timestamp()) == (1, 5));
     check_partition(&rt, rt.alloc(), &mut host, &data);
+    drop(data);
+    drop(host);
 }
 
 /// Whether the file of one partition has the key.
 fn check_find(rt: &impl Abort, alloc: Global, token: Token, key: &[u8], is_there: bool) {
     let mut host = host_of(rt, alloc, &ONE);
     assert!(rt; find_in(rt, alloc, &mut host, token, key) == Ok(is_there));
+    drop(host);
 }
 
 #[test]

@@ -19,7 +19,9 @@ fn damage_at(rt: &impl Abort, bytes: &[u8], from: usize, to: usize, rule: Format
 /// Whether a file of these bytes has key k1, or the damage.
 fn find_one(rt: &impl Abort, alloc: Global, bytes: &[u8]) -> Result<bool, Damage> {
     let mut host = host_of(rt, alloc, bytes);
-    find_in(rt, alloc, &mut host, TOKEN, b"k1")
+    let found = find_in(rt, alloc, &mut host, TOKEN, b"k1");
+    drop(host);
+    found
 }
 
 /// The file of one partition, cut to this size, is damaged.
@@ -86,7 +88,10 @@ fn damage_of(rt: &impl Abort, bytes: &[u8], at: usize) -> Option<Damage> {
 fn body_in(rt: &impl Abort, alloc: Global, bytes: &[u8]) -> Vec<u8> {
     let mut host = host_of(rt, alloc, bytes);
     let data = open_whole(rt, alloc, &mut host);
-    body_at(rt, alloc, &mut host, &data, 16)
+    let body = body_at(rt, alloc, &mut host, &data, 16);
+    drop(data);
+    drop(host);
+    body
 }
 
 /// A file of these bytes, of which this one was changed, is damaged there, or has another partition.

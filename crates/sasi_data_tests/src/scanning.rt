@@ -84,6 +84,7 @@ fn check_next(rt: &impl Abort, alloc: Global, host: &mut MemHost, scan: &mut Wal
 {
     let (token, key, part) = next(rt, alloc, host, scan).expect(rt, "a partition");
     check_nth(rt, token, &key, &part, k);
+    drop((key, part));
 }
 
 /// A scan gives the partitions in order, and then none.
@@ -107,6 +108,8 @@ fn scan_reads_each_page_once(rt: HostRuntime) {
     assert!(rt; host.reads() == 2);
     check_scan(&rt, alloc, &mut host, &data);
     assert!(rt; host.reads() == 7);
+    drop(data);
+    drop(host);
 }
 
 /// Whether the file has the key.
@@ -157,4 +160,6 @@ fn keys_of_shared_tokens_are_found(rt: HostRuntime) {
         check_key(&rt, alloc, &mut host, &data, k);
     }
     check_find(&rt, alloc, &mut host, &data, u64::MAX, &[0xff; 8], false);
+    drop(data);
+    drop(host);
 }

@@ -31,32 +31,48 @@ pub fn pairs_of(rt: &impl Abort, alloc: Global, count: u64, step: u64) -> PairLi
     pairs
 }
 
-/// Writes the tree of these pairs at an offset of a new file.
-pub fn write_tree(
-    rt: &impl Abort,
-    alloc: Global,
-    host: &mut MemHost,
-    at: usize,
-    pairs: &PairList,
-) -> TreeRef {
-    let zeros = vec![in alloc; 0; at].expect(rt, "memory for zeros");
-    host.put(FILE, &zeros).expect(rt, "memory for a file");
-    assert!(rt; is_rising(pairs), "the pairs rise");
-    assert!(rt; host.bytes(FILE).expect(rt, "a file").len() >= at);
-    write(alloc, host, FILE, at as u64, pairs).expect(rt, "written")
-}
-
-/// A file of these bytes.
+/// A host with a file of these bytes.
 pub fn host_of(rt: &impl Abort, alloc: Global, bytes: &[u8]) -> MemHost {
     let mut host = MemHost::new(alloc);
     host.put(FILE, bytes).expect(rt, "memory for a file");
     host
 }
 
-/// The bytes of a file that has the tree of 256 pairs at its start, and the tree.
-pub fn two_leaves(rt: &impl Abort, alloc: Global) -> (Vec<u8>, TreeRef) {
-    let mut host = MemHost::new(alloc);
-    let tree = write_tree(rt, alloc, &mut host, 0, &pairs_of(rt, alloc, 256, 2));
+/// A host with a file of so many zeros.
+fn host_of_zeros(rt: &impl Abort, alloc: Global, count: usize) -> MemHost {
+    let zeros = vec![in alloc; 0; count].expect(rt, "memory for zeros");
+    host_of(rt, alloc, &zeros)
+}
+
+/// Writes the tree of these pairs at an offset of the file.
+fn write_at(
+    rt: &impl Abort,
+    alloc: Global,
+    host: &mut MemHost,
+    at: usize,
+    pairs: &PairList,
+) -> TreeRef {
+    assert!(rt; is_rising(pairs), "the pairs rise");
+    assert!(rt; host.bytes(FILE).expect(rt, "a file").len() >= at);
+    write(alloc, host, FILE, at as u64, pairs).expect(rt, "written")
+}
+
+/// A host with a file that has the tree of so many pairs at an offset, and the tree.
+pub fn tree_at(
+    rt: &impl Abort,
+    alloc: Global,
+    at: usize,
+    count: u64,
+    step: u64,
+) -> (MemHost, TreeRef) {
+    let mut host = host_of_zeros(rt, alloc, at);
+    let tree = write_at(rt, alloc, &mut host, at, &pairs_of(rt, alloc, count, step));
+    (host, tree)
+}
+
+/// The bytes of a file that has the tree of so many pairs at its start, and the tree.
+pub fn tree_bytes(rt: &impl Abort, alloc: Global, count: u64) -> (Vec<u8>, TreeRef) {
+    let (host, tree) = tree_at(rt, alloc, 0, count, 2);
     let bytes = host.bytes(FILE).expect(rt, "a file");
     (bytes.to_vec(alloc).expect(rt, "memory for bytes"), tree)
 }

@@ -5,7 +5,7 @@ ghost use Rattle.sasi_host.specs.Memory.{host_view, memory_host};
 ghost use Rattle.sasi_data_tests.specs.declared.tree_fixture.TheConstants.{FILE};
 
 use crate::fixture::changed;
-use crate::tree_fixture::{FILE, host_of, nth_pair, pairs_of, two_leaves, write_tree};
+use crate::tree_fixture::{FILE, host_of, nth_pair, tree_at, tree_bytes};
 use sasi_host::{Damage, Direct, FormatRule, MemHost, ReadFault, Seen};
 use sasi_tokentree::{Pair, Tree, TreeRef};
 use std::alloc::Global;
@@ -25,7 +25,7 @@ fn checksum(bytes: &[u8]) -> u64 {
 
 #[test]
 fn two_leaves_lie_below_a_root(rt: HostRuntime) {
-    let (bytes, tree) = two_leaves(&rt, rt.alloc());
+    let (bytes, tree) = tree_bytes(&rt, rt.alloc(), 256);
     assert!(rt; (tree.root, bytes.len()) == (4112, 4152));
     let leaf: [u8; 24] = [
         0, 0, 0, 255, 0, 0, 0, 0, 0, 0, 0, 0, 0, 0, 0, 7, 0, 0, 0, 0, 0, 0, 3, 232,
@@ -82,12 +82,12 @@ fn check_tree(
     sum: u64,
     pages: u64,
 ) {
-    let mut host = MemHost::new(alloc);
-    let tree = write_tree(rt, alloc, &mut host, at, &pairs_of(rt, alloc, count, step));
+    let (mut host, tree) = tree_at(rt, alloc, at, count, step);
     assert!(rt; (tree.root, tree.pairs) == (root, count));
     check_bytes(rt, &host, at, size, sum);
     check_pairs(rt, &mut host, tree, step);
     assert!(rt; host.reads() == pages);
+    drop(host);
 }
 
 #[test]
@@ -135,10 +135,11 @@ fn check_seek(
     token: u64,
     index: Option<u64>,
 ) {
-    let mut host = MemHost::new(alloc);
-    let tree = write_tree(rt, alloc, &mut host, 0, &pairs_of(rt, alloc, count, step));
+    let (mut host, tree) = tree_at(rt, alloc, 0, count, step);
     let pair = index.map(|k| nth_pair(k, step));
-    assert!(rt; seek(rt, &mut host, tree, token) == Ok(pair), "at {token}");
+    let found = seek(rt, &mut host, tree, token);
+    drop(host);
+    assert!(rt; found == Ok(pair), "at {token}");
 }
 
 #[test]
@@ -182,14 +183,28 @@ fn damage(at: u64, rule: FormatRule, bytes: [u8; 8], len: u8) -> Damage {
     }
 }
 
+/// A search in a file of these bytes has this damage. Gives how many pages were read.
+fn check_damage(
+    rt: &impl Abort,
+    alloc: Global,
+    bytes: &[u8],
+    tree: TreeRef,
+    damage: Damage,
+    case: usize,
+) -> u64 {
+    let mut host = host_of(rt, alloc, bytes);
+    let found = seek(rt, &mut host, tree, 400);
+    let reads = host.reads();
+    drop(host);
+    assert!(rt; found == Err(damage), "case {case}");
+    reads
+}
+
 /// With this byte changed, the tree of two leaves has this damage.
 fn check_changed(rt: &impl Abort, alloc: Global, offset: usize, byte: u8, damage: Damage) {
-    let (bytes, tree) = two_leaves(rt, alloc);
-    let mut host = host_of(rt, alloc, &changed(rt, alloc, &bytes, offset, byte));
-    assert!(rt;
-        seek(rt, &mut host, tree, 400) == Err(damage),
-        "at {offset}"
-    );
+    let (whole, tree) = tree_bytes(rt, alloc, 256);
+    let bytes = changed(rt, alloc, &whole, offset, byte);
+    check_damage(rt, alloc, &bytes, tree, damage, offset);
 }
 
 // Bytes of the tree that are changed: the offset, the new byte, and the damage that is seen.
@@ -247,27 +262,22 @@ fn damage_is_reported(rt: HostRuntime) {
 
 #[test]
 fn cut_tree_is_too_short(rt: HostRuntime) {
-    let alloc = rt.alloc();
-    let (bytes, tree) = two_leaves(&rt, alloc);
-    let mut cut = host_of(&rt, alloc, bytes.get(..4151).expect(&rt, "a front"));
+    let (bytes, tree) = tree_bytes(&rt, rt.alloc(), 256);
+    let front = bytes.get(..4151).expect(&rt, "a front");
     let short = damage(4151, FormatRule::Short, [0, 0, 0, 0, 0, 0, 16, 55], 8);
-    assert!(rt; seek(&rt, &mut cut, tree, 400) == Err(short));
-    assert!(rt; cut.reads() == 1);
+    assert!(rt; check_damage(&rt, rt.alloc(), front, tree, short, 4151) == 1);
 }
 
-/// A file of these bytes, with this count of entries at an offset, cut to this size.
-fn cut_host(
+/// The bytes, with this count of entries at an offset.
+fn with_count(
     rt: &impl Abort,
     alloc: Global,
     bytes: &[u8],
     at: usize,
-    count: [u8; 2],
-    size: usize,
-) -> MemHost {
-    let [high, low] = count;
+    [high, low]: [u8; 2],
+) -> Vec<u8> {
     let half = changed(rt, alloc, bytes, at, high);
-    let whole = changed(rt, alloc, &half, at.saturating_add(1), low);
-    host_of(rt, alloc, whole.get(..size).expect(rt, "a front"))
+    changed(rt, alloc, &half, at.saturating_add(1), low)
 }
 
 // The number of pairs of a tree, and the offset of its root's count.
@@ -288,14 +298,10 @@ fn check_cut(
     size: usize,
     damage: Damage,
 ) {
-    let mut host = MemHost::new(alloc);
-    let tree = write_tree(rt, alloc, &mut host, 0, &pairs_of(rt, alloc, pairs, 2));
-    let bytes = host.bytes(FILE).expect(rt, "a file");
-    let mut cut = cut_host(rt, alloc, bytes, at, count, size);
-    assert!(rt;
-        seek(rt, &mut cut, tree, 400) == Err(damage),
-        "{count:?} in {size}"
-    );
+    let (whole, tree) = tree_bytes(rt, alloc, pairs);
+    let bytes = with_count(rt, alloc, &whole, at, count);
+    let front = bytes.get(..size).expect(rt, "a front");
+    check_damage(rt, alloc, front, tree, damage, size);
 }
 
 /// The damage of a file that ends here.

@@ -98,7 +98,9 @@ fn check_file<O: FlushObserver>(
     bytes: &[u8],
 ) {
     let mut host = MemHost::new(alloc);
-    let data = write_bodies(rt, alloc, &mut host, watch, &bodies_of(rt, alloc, bodies));
+    let copies = bodies_of(rt, alloc, bodies);
+    let data = write_bodies(rt, alloc, &mut host, watch, &copies);
+    drop(copies);
     let expected = DataRef {
         number: 7,
         partitions: bodies.len() as u64,
@@ -106,6 +108,7 @@ fn check_file<O: FlushObserver>(
     };
     assert!(rt; data == expected);
     assert!(rt; host.bytes(DATA) == Some(bytes));
+    drop(host);
 }
 
 #[test]
