@@ -80,4 +80,6 @@ fn buffered_page_is_not_read_again(rt: HostRuntime) {
     let past_end = read(&rt, &mut host, &mut file, 9000, &mut [0; 5000]);
     assert!(rt; past_end == Err(ReadFault::Damaged(short)));
     assert!(rt; host.reads() == 3);
+    drop(file);
+    drop(host);
 }

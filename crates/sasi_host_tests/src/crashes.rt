@@ -43,6 +43,7 @@ fn check_crash(rt: &impl Abort, host: &MemHost, bytes: BytePick, left: &[u8]) {
     let names = NamePick::AsSynced;
     let crashed = host.crash(Pick { names, bytes }).expect(rt, "memory");
     assert!(rt; crashed.bytes(FILE) == Some(left));
+    drop(crashed);
 }
 
 #[test]
@@ -52,6 +53,7 @@ fn crash_leaves_synced_bytes_and_a_pick_of_others(rt: HostRuntime) {
     check_crash(&rt, &host, BytePick::AsSynced, b"abcd");
     check_crash(&rt, &host, BytePick::Zeros, b"ab\0\0\0\0");
     check_crash(&rt, &host, BytePick::Ones, b"ab\xff\xff\xff\xff");
+    drop(host);
 }
 
 /// A write over the file fails.
@@ -69,4 +71,5 @@ fn failed_write_changes_nothing(rt: HostRuntime) {
     sync(&rt, &mut host);
     fail_write(&rt, &mut host);
     assert!(rt; host.bytes(FILE) == Some(b"abcd".as_slice()));
+    drop(host);
 }

@@ -87,6 +87,7 @@ fn check_reads(rt: &impl Abort, alloc: Global, count: u64, gate: &[u8], reads: u
     let mut host = host_with(rt, alloc, count as usize, gate);
     assert!(rt; count_records(rt, alloc, &mut host) == count);
     assert!(rt; host.reads() == reads);
+    drop(host);
 }
 
 #[test]
@@ -122,4 +123,6 @@ fn fault_makes_it_unusable(rt: HostRuntime) {
     assert!(rt; next(&rt, &mut host, &mut gated, &mut out));
     assert!(rt; out.as_slice() == b"fifteen letters".as_slice());
     check_fault(&rt, &mut host, &mut gated, &mut out);
+    drop(gated);
+    drop(host);
 }

@@ -48,6 +48,7 @@ fn host_fails_where_it_is_told_to(rt: HostRuntime) {
         assert!(rt; host.emitted() == emitted);
     }
     assert!(rt; host.refused() == 0);
+    drop(host);
 }
 
 const LOG: FileName = FileName {
@@ -69,6 +70,7 @@ fn file_has_its_size(rt: HostRuntime) {
     let mut host = host_with_log(&rt, rt.alloc());
     assert!(rt; host.bytes(LOG).is_some());
     assert!(rt; host.size(LOG) == Ok(6));
+    drop(host);
 }
 
 /// A read at this offset gives so many bytes, and the buffer has these then.
@@ -99,4 +101,5 @@ fn files_are_read_from_any_offset(rt: HostRuntime) {
         check_read(&rt, &mut host, at, &mut buf, count, bytes);
     }
     assert!(rt; host.reads() == 4);
+    drop(host);
 }

@@ -272,6 +272,8 @@ fn second_host_reads_what_was_written(rt: HostRuntime) {
     check_names(&rt, rt.alloc(), &mut second);
     check_data(&rt, &mut second, &bytes);
     check_deletion(&rt, &mut second);
+    drop(second);
+    drop(host);
     fs::remove_dir_all(&rt, FOLDER).expect(&rt, "a deletion");
 }
 
@@ -300,6 +302,8 @@ fn each_call_fails_after_a_failed_sync(rt: HostRuntime) {
     check_failed(&rt, rt.alloc(), &mut host);
     let mut second = FileHost::at(rt, "sasi_failed_sync_test").expect(&rt, "memory");
     check_second(&rt, &mut second);
+    drop(second);
+    drop(host);
     fs::remove_dir_all(&rt, "sasi_failed_sync_test").expect(&rt, "a deletion");
 }
 
