@@ -1,9 +1,13 @@
-use Rattle.std.proofs.Common.{◌≡◌, ◌+◌, ◌*◌, sym, ◌∙◌, ap, subst, arith, Option, Ok, Err}
+use Rattle.std.proofs.Common.{◌≡◌, ◌+◌, ◌*◌, sym, ◌∙◌, ap, subst, arith, IsSome, Option, None, Ok, Err, refl}
 use Rattle.std.proofs.lemmas.Result.{err_from_is_err_and}
+use Rattle.sasi_host.proofs.CauseLaws.{fault_reads}
 use Rattle.sasi_host.proofs.PageReadingLaws.{read_of, read_then}
 use Rattle.sasi_types.specs.declared.tree.Pair.{Pair}
 use Rattle.sasi_types.specs.declared.tree.TreeRef.{TreeRef}
 use Rattle.sasi_host.specs.Disk.{Same}
+use Rattle.sasi_host.specs.Names.{Bytes}
+use Rattle.sasi_host.specs.View.{IsThere, ReadCost}
+use Rattle.sasi_host.specs.declared.name.FileName.{FileName}
 use Rattle.sasi_host.proofs.ChangeLaws.{then_same}
 use Rattle.sasi_host.specs.Buffered.{Buffered, IsBuffered}
 use Rattle.sasi_host.proofs.BufferedLaws.{buffered_after}
@@ -18,6 +22,76 @@ use Rattle.sasi_dataread.proofs.DataScan.{entry_before, entry_of, no_false_tree,
 use Rattle.sasi_dataread.proofs.Finding.{all_passed, first_causes, first_passes, found_here, here_costs, no_false_before, no_false_here, none_here, one_more, searches_on, stands_here, starts}
 use Rattle.sasi_dataread.proofs.Looking.{found_there, header_before, header_of, is_found, looks_first, looks_on, misses_all, misses_there, next_there}
 use Rattle.sasi_dataread.proofs.find.find_partition.Goals as goal
+
+pub first-requires : goal.first-requires
+first-requires g c =
+    let v = g.H.Host.view c.args.host.now in
+    record {
+      read = record {
+        there = subst (λ (t : PairScan). IsThere v t.buffered.file) (sym c.tree-tree.ensures) c.requires.read.there;
+        agrees = c.requires.read.agrees;
+        buffered = subst (λ (t : PairScan). IsBuffered t.buffered v.files) (sym c.tree-tree.ensures) (λ page bytes is. absurd (cc));
+      };
+    }
+
+pub next-requires : goal.next-requires
+next-requires g c =
+    let v = g.H.Host.view c.loop-turn.host in
+    let w = g.H.Host.view c.partition_with_key.new.host in
+    let here = c.loop-turn.invariant in
+    let change = c.partition_with_key.ensures.read.changes in
+    record {
+      read = record {
+        there = subst (λ (f : FileName). IsThere w f) (sym here.file) (there_same v w c.args.opened.now.file change here.there);
+        agrees = c.partition_with_key.ensures.read.agrees;
+        buffered = buffered_after c.loop-turn.tree.buffered v w change here.pairs_buffered;
+      };
+    }
+
+pub partition_with_key-requires : goal.partition_with_key-requires
+partition_with_key-requires g c =
+    let here = c.loop-turn.invariant in
+    record {
+      read = record { there = here.there; agrees = here.read.agrees };
+      buffered = here.buffered;
+      named = here.named;
+      tree = here.tree;
+      passed = here.passed (subst (λ (o : Option Pair). IsSome o) (sym c.in-Some.ensures) refl);
+    }
+
+pub returns-in_err-next-clause-read : goal.returns-in_err-next-clause-read
+returns-in_err-next-clause-read g c = read_of _ _ _ _ _ _ _ _ (ap (λ (t : PairScan). t.buffered.file) c.tree-tree.ensures) c.first.ensures.read
+
+pub returns-in_err-next-clause-causes : goal.returns-in_err-next-clause-causes
+returns-in_err-next-clause-causes g c most le =
+    let p = err_from_is_err_and c.from_residual.result c.from_residual.ensures.1 in
+    let v = g.H.Host.view c.args.host.now in
+    let w = g.H.Host.view c.first.new.host in
+    let n = 2 * height most c.args.opened.now.tree.pairs + 2 in
+    rw (p.1, p.2) (
+    fault_reads v w n (n + 2051 * c.args.opened.now.tree.pairs) c.in_err-next.field-0.0 (omega arith)
+    (first_causes v w c.args.opened.now c.tree-tree.result (Err c.in_err-next.field-0.0) c.tree-tree.ensures c.in_err-next.ensures.causes most le)
+    )
+
+pub returns-in_err-next-clause-reads : goal.returns-in_err-next-clause-reads
+returns-in_err-next-clause-reads g c most partitioner content le is have =
+    let here = first_causes (g.H.Host.view c.args.host.now) (g.H.Host.view c.first.new.host) c.args.opened.now c.tree-tree.result c.first.result c.tree-tree.ensures
+    c.first.ensures.causes most le in
+    omega (arith, here.reads)
+
+pub returns-in_default-clause-read : goal.returns-in_default-clause-read
+returns-in_default-clause-read g c = c.loop-turn.invariant.read
+
+pub returns-in_default-clause-causes : goal.returns-in_default-clause-causes
+returns-in_default-clause-causes g c most le =
+    causes_ok _ _ (2 * height most c.args.opened.now.tree.pairs + 2 + 2051 * c.loop-turn._turn) _ None (c.loop-turn.invariant.passes most le) (omega (arith, c.loop-turn-test.true))
+
+pub returns-clause-read : goal.returns-clause-read
+returns-clause-read g c = c.loop-turn.invariant.read
+
+pub returns-clause-causes : goal.returns-clause-causes
+returns-clause-causes g c most le =
+    causes_ok _ _ (2 * height most c.args.opened.now.tree.pairs + 2 + 2051 * c.loop-turn._turn) _ None (c.loop-turn.invariant.passes most le) (omega (arith, c.loop-turn.auto._turn-end))
 
 pub returns-in_err-next-clause-damaged : goal.returns-in_err-next-clause-damaged
 returns-in_err-next-clause-damaged g c =
