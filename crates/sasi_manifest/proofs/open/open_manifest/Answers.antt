@@ -1,7 +1,14 @@
-use Rattle.std.proofs.Common.{arith, ◌≡◌, ◌+◌, ◌-◌, Bool, Some, Option, List, length, subst, if◌then◌else◌}
+use Rattle.std.proofs.Common.{arith, ◌≡◌, ◌+◌, ◌-◌, ◌^◌, ◌≤◌, ◌≢◌, Bool, Ok, Err, Some, Option, List, length, sym, ◌∙◌, subst, if◌then◌else◌}
 use Rattle.std.proofs.lemmas.Result.{err_from_is_err_and}
 use Rattle.sasi_host.specs.Names.{Bytes}
 use Rattle.sasi_host.specs.Disk.{Same}
+use Rattle.sasi_host.specs.View.{IsThere, View}
+use Rattle.sasi_host.specs.declared.fault.ReadFault.{ReadFault}
+use Rattle.sasi_host.specs.declared.fault.ReadFault.TheVariants as fault
+use Rattle.sasi_host.specs.declared.name.FileName.{FileName}
+use Rattle.sasi_host.specs.View.{Reaches}
+use Rattle.sasi_gated.specs.Causes.{ReadingCauses}
+use Rattle.sasi_gated.proofs.CauseLaws.{reading_behind, reading_handed}
 use Rattle.sasi_host.proofs.ChangeLaws.{then_same}
 use Rattle.sasi_gated.specs.Reads.{ReadsGate}
 use Rattle.sasi_host.specs.Damages.{OnDamage}
@@ -13,6 +20,68 @@ use Rattle.sasi_manifest.specs.Listings.{after_all, with_record_counted, length_
 use Rattle.sasi_manifest.specs.Reading.{IsReadingManifest, IsDamageOfRecord}
 use Rattle.sasi_manifest.proofs.Opening.{shown_outside, shown_at_gate, shown_inside, shown_empty, reading_next_record, read_whole, reads_no_further, reads_up_to, reads_within}
 use Rattle.sasi_manifest.proofs.open.open_manifest.Goals as goal
+
+-- an error that no call on the host causes
+other_causes : {T : Type 0} (a b : View) (f : ReadFault) → b.disk_faults ≡ a.disk_faults → b.out_faults ≡ a.out_faults → f ≢ fault.Failed → ReadingCauses {T = T} a b (Err f)
+other_causes a b f disk out not_failed = record { disk = omega (arith, disk); out = out; ok = tt; failed = λ is. absurd (not_failed is); memory = λ is. disk; damaged = λ damage is. disk }
+
+ok_causes : {T : Type 0} (a b : View) (x : T) → b.disk_faults ≡ a.disk_faults → b.out_faults ≡ a.out_faults → ReadingCauses a b (Ok x)
+ok_causes a b x disk out = record { disk = omega (arith, disk); out = out; ok = disk; failed = tt; memory = tt; damaged = tt }
+
+pub open-requires : goal.open-requires
+open-requires g c = subst (λ (n : FileName). IsThere (g.H.Host.view c.args.host.now) n) (sym c.manifest.ensures) c.requires
+
+pub next-requires : goal.next-requires
+next-requires g c =
+    let on = c.loop-listed.invariant in
+    record { there = subst (λ (n : FileName). IsThere (g.H.Host.view c.loop-listed.host) n) (sym on.file) on.there; usable = on.usable; buffered = on.buffered }
+
+pub take_record-requires : goal.take_record-requires
+take_record-requires g c =
+    let on = c.loop-listed.invariant in
+    record {
+      records = omega (arith, on.few_records, on.fits);
+      length = omega (arith, on.reaches, on.fits);
+      some = omega (arith, on.reaches);
+      short = subst (λ (l : Bytes). length l ≤ 2 ^ 30) (sym c.deref.ensures.value) c.in_ok-next.ensures.short;
+    }
+
+pub returns-in_err-gated-clause-changes : goal.returns-in_err-gated-clause-changes
+returns-in_err-gated-clause-changes g c = c.open.ensures.changes
+
+pub returns-in_err-gated-clause-causes : goal.returns-in_err-gated-clause-causes
+returns-in_err-gated-clause-causes g c =
+    let p = err_from_is_err_and c.from_residual.result c.from_residual.ensures.1 in
+    rw (p.1, p.2) (reading_handed _ _ c.in_err-gated.field-0.0 c.in_err-gated.ensures.causes)
+
+pub returns-in_err-next-clause-causes : goal.returns-in_err-next-clause-causes
+returns-in_err-next-clause-causes g c =
+    let on = c.loop-listed.invariant in
+    let p = err_from_is_err_and c.from_residual-in_err-next.result c.from_residual-in_err-next.ensures.1 in
+    rw (p.1, p.2) (reading_handed _ _ c.in_err-next.field-0.0 (reading_behind _ (g.H.Host.view c.loop-listed.host) _ (Err c.in_err-next.field-0.0) on.disk on.out c.in_err-next.ensures.causes))
+
+pub returns-in_err-take_record-clause-causes : goal.returns-in_err-take_record-clause-causes
+returns-in_err-take_record-clause-causes g c =
+    let on = c.loop-listed.invariant in
+    let causes = c.in_ok-next.ensures.causes in
+    let p = err_from_is_err_and c.from_residual-in_err-take_record.result c.from_residual-in_err-take_record.ensures.1 in
+    rw (p.1, p.2) (other_causes _ _ c.in_err-take_record.field-0.0 (causes.ok ∙ on.disk) (causes.out ∙ on.out) c.in_err-take_record.ensures.not_failed)
+
+pub returns-in-None-clause-causes : goal.returns-in-None-clause-causes
+returns-in-None-clause-causes g c =
+    let on = c.loop-listed.invariant in
+    let causes = c.in_ok-next.ensures.causes in
+    other_causes _ _ (fault.Damaged c.empty.result) (causes.ok ∙ on.disk) (causes.out ∙ on.out) (λ is. let never : fault.Damaged c.empty.result ≡ fault.Failed = is in cc)
+
+pub returns-clause-causes : goal.returns-clause-causes
+returns-clause-causes g c =
+    let on = c.loop-listed.invariant in
+    let causes = c.in_ok-next.ensures.causes in
+    ok_causes _ _ _ (causes.ok ∙ on.disk) (causes.out ∙ on.out)
+
+pub returns-clause-room : goal.returns-clause-room
+returns-clause-room g c =
+    subst (λ (n : FileName). Reaches (g.H.Host.view c.next.new.host) n (c.next.new.self.at + 1)) (c.next.ensures.file ∙ c.loop-listed.invariant.file) (c.in_ok-next.ensures.room c.if-branch.false)
 
 pub returns-in_err-gated-clause-damaged : goal.returns-in_err-gated-clause-damaged
 returns-in_err-gated-clause-damaged g c =
