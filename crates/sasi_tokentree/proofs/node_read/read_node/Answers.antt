@@ -1,11 +1,14 @@
-use Rattle.std.proofs.Common.{◌≡◌, ℕ, ◌+◌, ◌*◌, ◌-◌, [], ◌++◌, length, drop, refl, sym, ◌∙◌, ap, subst, arith, length-append}
+use Rattle.std.proofs.Common.{◌≡◌, ℕ, ◌+◌, ◌*◌, ◌-◌, ◌≤◌, ◌/◌, Option, Some, Ok, Err, [], ◌++◌, length, drop, refl, rules, sym, ◌∙◌, ap, subst, arith, length-append}
+use Rattle.std.proofs.lemmas.Bool.Decides.{nat_tests}
 use Rattle.std.proofs.lemmas.Result.{err_from_is_err_and}
 use borrow.Rule.Slice.PartMut.{put_mid}
 use Rattle.sasi_host.specs.Names.{Bytes}
 use Rattle.sasi_host.specs.Damages.{HasAt}
+use Rattle.sasi_host.specs.Buffered.{unbuffered_pages}
+use Rattle.sasi_host.proofs.CauseLaws.{fault_reads, ok_reads, reads_on}
 use Rattle.sasi_host.proofs.PageReadingLaws.{reads_then}
 use Rattle.sasi_host.proofs.Offsets.{at_ends}
-use Rattle.sasi_host.proofs.Pages.{end_before}
+use Rattle.sasi_host.proofs.Pages.{end_before, there_on}
 use Rattle.sasi_tokentree.specs.Format.{node_header}
 use Rattle.sasi_tokentree.specs.declared.node_read.Node.{Node}
 use Rattle.sasi_tokentree.proofs.Sizes.{head_length}
@@ -17,6 +20,59 @@ use Rattle.sasi_tokentree.proofs.node_read.read_node.Goals as goal
 out_is : (header old out : Bytes) (level count : ℕ) → header ≡ node_header level count → put_mid 8 (length (header ++ drop 8 old) - 8)
     (header ++ drop 8 old) out ≡ node_header level count ++ out
 out_is header old out level count is = filled_behind header old out _ (ap length is ∙ head_length level count) refl ∙ ap (λ (l : Bytes). l ++ out) is
+
+-- a header and the entries behind it are on two pages at most
+two_pages : (buffered : Option ℕ) (at long : ℕ) → long ≤ 4080 → unbuffered_pages buffered at 8 + unbuffered_pages (Some ((at + 7) / 4096)) (at + 8) long ≤ 2
+two_pages buffered at long most = grind (arith, nat_tests)
+
+two_reads : (buffered page : Option ℕ) (at long : ℕ) → page ≡ Some ((at + 7) / 4096) → long ≤ 4080 → unbuffered_pages buffered at 8 + unbuffered_pages page (at + 8) long ≤ 2
+two_reads buffered page at long is most = subst (λ (p : Option ℕ). unbuffered_pages buffered at 8 + unbuffered_pages p (at + 8) long ≤ 2) (sym is) (two_pages buffered at long most)
+
+one_header : (buffered : Option ℕ) (at : ℕ) → unbuffered_pages buffered at 8 ≤ 2
+one_header buffered at = omega arith
+
+pub read_header-requires : goal.read_header-requires
+read_header-requires g c = record { read = c.requires.read; place = c.requires.place; most = c.requires.most; length = search rules }
+
+pub read_into-requires : goal.read_into-requires
+read_into-requires g c =
+    let read = c.read_header.ensures.read in
+    record {
+      there = there_on _ _ c.args.buffered.now.file _ read.changes read.file c.requires.read.there;
+      agrees = read.agrees;
+      buffered = read.buffered;
+      offset = omega (arith, c.requires.length, c.requires.place, c.requires.most);
+    }
+
+pub returns-in_err-read_header-clause-damaged : goal.returns-in_err-read_header-clause-damaged
+returns-in_err-read_header-clause-damaged g c =
+    let p = err_from_is_err_and c.from_residual.result c.from_residual.ensures.1 in
+    rw (p.1, p.2) c.in_err-read_header.ensures.damaged
+
+pub returns-in_err-read_header-clause-undamaged : goal.returns-in_err-read_header-clause-undamaged
+returns-in_err-read_header-clause-undamaged g c =
+    let p = err_from_is_err_and c.from_residual.result c.from_residual.ensures.1 in
+    rw (p.1, p.2) c.in_err-read_header.ensures.undamaged
+
+pub returns-in_err-read_header-clause-read : goal.returns-in_err-read_header-clause-read
+returns-in_err-read_header-clause-read g c = c.read_header.ensures.read
+
+pub returns-in_err-read_into-clause-causes : goal.returns-in_err-read_into-clause-causes
+returns-in_err-read_into-clause-causes g c =
+    let p = err_from_is_err_and c.from_residual-in_err-read_into.result c.from_residual-in_err-read_into.ensures.1 in
+    let f = c.in_err-read_into.field-0.0 in
+    rw (p.1, p.2) (fault_reads _ _ 2 2 f (omega arith) (reads_on _ _ _ (unbuffered_pages c.args.buffered.now.page c.args.node.at 8) _ 2 _ (Err f)
+    (two_reads c.args.buffered.now.page _ c.args.node.at _ c.in_ok-read_header.ensures.page (omega (arith, c.requires.length, c.requires.most))) c.in_ok-read_header.ensures.causes c.in_err-read_into.ensures.causes))
+
+pub returns-in_err-read_header-clause-causes : goal.returns-in_err-read_header-clause-causes
+returns-in_err-read_header-clause-causes g c =
+    let p = err_from_is_err_and c.from_residual.result c.from_residual.ensures.1 in
+    rw (p.1, p.2) (fault_reads _ _ _ 2 c.in_err-read_header.field-0.0 (one_header c.args.buffered.now.page c.args.node.at) c.in_err-read_header.ensures.causes)
+
+pub returns-clause-causes : goal.returns-clause-causes
+returns-clause-causes g c =
+    ok_reads _ _ 2 _ _ (reads_on _ _ _ (unbuffered_pages c.args.buffered.now.page c.args.node.at 8) _ 2 _ _
+    (two_reads c.args.buffered.now.page _ c.args.node.at _ c.in_ok-read_header.ensures.page (omega (arith, c.requires.length, c.requires.most))) c.in_ok-read_header.ensures.causes c.in_ok-read_into.ensures.causes)
 
 pub returns-in_err-read_into-clause-damaged : goal.returns-in_err-read_into-clause-damaged
 returns-in_err-read_into-clause-damaged g c =
