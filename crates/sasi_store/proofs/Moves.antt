@@ -37,6 +37,10 @@ all_at P [] at x all is = absurd (let no : None ≡ Some x = is in cc)
 all_at P (y ∷ ys) zero x all is = let same : y ≡ x = cc in subst P same all.0
 all_at P (y ∷ ys) (suc at) x all is = all_at P ys at x all.1 is
 
+-- what holds of one holds of whatever stands there
+pub at_one : {X : Type 0} (P : X → Type 0) (xs : List X) (at : ℕ) (x : X) → slice_get xs at ≡ Some x → P x → (y : X) → slice_get xs at ≡ Some y → P y
+at_one P xs at x there p y is = let same : x ≡ y = cc in subst P same p
+
 -- ---- one source more
 
 module _ (seen : Option Folder) (key : DecoratedKey) where
