@@ -8,31 +8,31 @@ fn check_step(
     rt: &impl Abort,
     machine: &mut Machine,
     reply: &mut Reply,
-    piece: &str,
+    piece: &[u8],
     outcome: Outcome,
     want: &str,
 ) {
     let found = machine
-        .step(piece.as_bytes(), PieceEnd::Whole, reply)
+        .step(piece, PieceEnd::Whole, reply)
         .expect(rt, "memory");
     assert!(rt;
         found == outcome && reply.bytes() == want.as_bytes(),
-        "{piece}"
+        "not {want}"
     );
 }
 
 /// A table, a row, a change of the row, a statement that is refused, and what is there then.
 fn check_steps(rt: &impl Abort, machine: &mut Machine, reply: &mut Reply) {
-    let create = "CREATE TABLE t (k text PRIMARY KEY, a text);";
+    let create = b"CREATE TABLE t (k text PRIMARY KEY, a text);";
     check_step(rt, machine, reply, create, Outcome::Done, "ok\n");
-    let insert = "INSERT INTO t (k, a) VALUES ('k1', 'x');";
+    let insert = b"INSERT INTO t (k, a) VALUES ('k1', 'x');";
     check_step(rt, machine, reply, insert, Outcome::Done, "ok\n");
-    let update = "UPDATE t SET a = 'y' WHERE k = 'k1';";
+    let update = b"UPDATE t SET a = 'y' WHERE k = 'k1';";
     check_step(rt, machine, reply, update, Outcome::Done, "ok\n");
-    let refused = "INSERT INTO u (k) VALUES ('k1');";
+    let refused = b"INSERT INTO u (k) VALUES ('k1');";
     let no_table = "error 4 NoTable u\n";
     check_step(rt, machine, reply, refused, Outcome::Refused(4), no_table);
-    let select = "SELECT * FROM t;";
+    let select = b"SELECT * FROM t;";
     let row = "'k1' | 'y'\n(1 rows)\n";
     check_step(rt, machine, reply, select, Outcome::Done, row);
 }
@@ -49,9 +49,14 @@ fn tables_in_memory_answer_statements(rt: HostRuntime) {
 fn piece_that_is_not_utf8_is_refused_at_its_offset(rt: HostRuntime) {
     let mut machine = Machine::new(rt.alloc(), Partitioner::Lead8);
     let mut reply = Reply::new(rt.alloc());
-    let outcome = machine
-        .step(b"SELECT \xff;", PieceEnd::Whole, &mut reply)
-        .expect(&rt, "memory");
-    let want = "error 3 NotUtf8 at 7\n".as_bytes();
-    assert!(rt; outcome == Outcome::Refused(3) && reply.bytes() == want);
+    let piece = b"SELECT \xff;";
+    let want = "error 3 NotUtf8 at 7\n";
+    check_step(
+        &rt,
+        &mut machine,
+        &mut reply,
+        piece,
+        Outcome::Refused(3),
+        want,
+    );
 }
