@@ -3,10 +3,11 @@ use Rattle.sasi_schema.specs.Faults.{limit_refusal}
 use Rattle.sasi_model.specs.Refusals as rules
 use Rattle.sasi_model.specs.Abbreviations as model
 use Rattle.sasi_machine.specs.declared.refusal.Refusal.{Refusal}
-use Rattle.sasi_machine.specs.declared.refusal.Refusal.TheVariants.{StatementTooLong, NotUtf8, NoTable, TableExists, NoColumn, ColumnRepeated, WrongType, NumberRange, KeyMissing, KeyEmpty, ValueTooLong, TimestampRange, ClockSpent, TooMany, ScriptEnds, NotBuilt}
+use Rattle.sasi_machine.specs.declared.refusal.Refusal.TheVariants.{Syntax, StatementTooLong, NotUtf8, NoTable, TableExists, NoColumn, ColumnRepeated, WrongType, NumberRange, KeyMissing, KeyEmpty, ValueTooLong, TimestampRange, ClockSpent, TooMany, ScriptEnds, NotBuilt}
 
 -- the model's refusal of that name
 abbrev pub refusal_of : Refusal → rules.Refusal
+refusal_of (Syntax offset) = model.Syntax offset
 refusal_of StatementTooLong = model.StatementTooLong
 refusal_of (NotUtf8 offset) = model.NotUtf8 offset
 refusal_of (NoTable name) = model.NoTable name

@@ -6,7 +6,7 @@ ghost use Rattle.uuid.specs.Text.{hyphenated_text, lower};
 ghost use Rattle.sasi_model.specs.Lines.{printed, refusal_line, value_printed};
 ghost use Rattle.sasi_model.specs.Abbreviations.{ok_line, row_line, count_line, text_printed, row_text, refusal_text};
 ghost use Rattle.sasi_machine.specs.Refusal.{refusal_of};
-ghost use Rattle.sasi_machine.specs.declared.refusal.Refusal.TheVariants.{NotUtf8};
+ghost use Rattle.sasi_machine.specs.declared.refusal.Refusal.TheVariants.{NotUtf8, Syntax};
 
 use crate::Refusal;
 use itoa::{Buffer, Integer};
@@ -110,13 +110,23 @@ fn push_number<I: Integer>(reply: &mut Vec<u8>, number: I) -> Result<(), AllocEr
     Ok(())
 }
 
+// Adds the name of a refusal, and the offset that it is about.
+fn push_offset(reply: &mut Vec<u8>, reason: &[u8], offset: usize) -> Result<(), AllocError>
+    ensures ok { OnOk result (reply.new.items ≡ reply.old.items ++ (reason.now ++ decimal offset)) }
+{
+    reply.extend_from_slice(reason)?;
+    push_number(reply, offset)
+}
+
 // Adds the rest after the number of a refusal.
 fn push_reason(reply: &mut Vec<u8>, refusal: &Refusal) -> Result<(), AllocError>
     ensures ok { OnOk result (reply.new.items ≡ reply.old.items ++ refusal_text (refusal_of refusal.now)) }
 {
+    if let Refusal::Syntax(offset) = refusal {
+        return push_offset(reply, b"Syntax at ", *offset);
+    }
     if let Refusal::NotUtf8(offset) = refusal {
-        reply.extend_from_slice(b"NotUtf8 at ")?;
-        return push_number(reply, *offset);
+        return push_offset(reply, b"NotUtf8 at ", *offset);
     }
     let (reason, name) = reason_of(refusal);
     reply.extend_from_slice(reason)?;
@@ -126,9 +136,10 @@ fn push_reason(reply: &mut Vec<u8>, refusal: &Refusal) -> Result<(), AllocError>
 
 // The name of a refusal, and the name that it is about.
 fn reason_of(refusal: &Refusal) -> (&[u8], &[u8])
-    ensures { ((offset : ℕ) → refusal.now ≢ NotUtf8 offset) → result.0.now ++ result.1.now ≡ refusal_text (refusal_of refusal.now) }
+    ensures { ((offset : ℕ) → refusal.now ≢ Syntax offset) → ((offset : ℕ) → refusal.now ≢ NotUtf8 offset) → result.0.now ++ result.1.now ≡ refusal_text (refusal_of refusal.now) }
 {
     match refusal {
+        Refusal::Syntax(_) => (b"Syntax", b""),
         Refusal::StatementTooLong => (b"StatementTooLong 1048576", b""),
         Refusal::NotUtf8(_) => (b"NotUtf8", b""),
         Refusal::NoTable(name) => (b"NoTable ", name.bytes()),

@@ -48,7 +48,7 @@ fn read_whole(alloc: Global, piece: &[u8]) -> Result<ParsedPiece, AllocError>
     };
     match parse(alloc, text) {
         Ok(statement) => Ok(built(statement)),
-        Err(ParseFault::Syntax { .. }) => Ok(ParsedPiece::Bad(Refusal::NotBuilt)),
+        Err(ParseFault::Syntax { at }) => Ok(ParsedPiece::Bad(Refusal::Syntax(at))),
         Err(ParseFault::OutOfMemory) => Err(AllocError),
     }
 }

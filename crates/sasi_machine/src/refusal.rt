@@ -8,6 +8,8 @@ use sasi_types::Name;
 /// Why a piece is refused.
 #[derive(Drop)]
 pub enum Refusal {
+    /// The offset at which the piece stops being a statement.
+    Syntax(usize),
     StatementTooLong,
     /// The length of the longest prefix that is UTF-8.
     NotUtf8(usize),
@@ -35,6 +37,7 @@ impl Refusal {
         ensures { result ≡ refusal_number (refusal_of self.now) }
     {
         match self {
+            Refusal::Syntax(_) => 1,
             Refusal::StatementTooLong => 2,
             Refusal::NotUtf8(_) => 3,
             Refusal::NoTable(_) => 4,

@@ -217,6 +217,9 @@ gives_key d given = list_any (λ g. is_key_value d g.0 g.1) given
 
 -- ---- the refusals by their names
 
+abbrev pub Syntax : ℕ → Refusal
+Syntax offset = (1, codes "Syntax at " ++ decimal offset)
+
 abbrev pub StatementTooLong : Refusal
 StatementTooLong = (2, codes "StatementTooLong 1048576")
 

@@ -9,6 +9,7 @@ pub mod Parsers
 pub mod Cells
 pub mod State
 pub mod Changes
+pub mod IndexTerms
 pub mod WellFormed
 pub mod Stored
 pub mod Refusals

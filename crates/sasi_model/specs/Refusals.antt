@@ -49,10 +49,10 @@ is_built (Query select) = is_plain select
 is_built (Flush table) = true
 is_built statement = false
 
--- A statement that isn't built is refused. So is a text without a statement, with the same refusal until more is built.
+-- A statement that isn't built is refused, and so is a text without a statement.
 abbrev pub piece_parsed : Parsed → ParsedPiece
 piece_parsed (Parses statement) = if is_built statement then Says statement else Bad (90, codes "NotBuilt")
-piece_parsed (FailsAt at) = Bad (90, codes "NotBuilt")
+piece_parsed (FailsAt at) = Bad (1, codes "Syntax at " ++ decimal at)
 
 -- as this parser parses it; a text that isn't UTF-8 is refused with the length of its longest prefix that is
 unfoldable pub read_by : Parser → Piece → ParsedPiece

@@ -22,5 +22,5 @@ returns-in-Ok-parse-clause-written c = c.built.ensures.written c.in-Ok-parse.ens
 
 pub returns-in-Err-Syntax-clause-reads : goal.returns-in-Err-Syntax-clause-reads
 returns-in-Err-Syntax-clause-reads c =
-    read_text c.args.piece.now (FailsAt c.in-Err-Syntax.field-0-0) (rw c.as_slice.ensures at (sym c.eq.ensures ∙ c.if-eq.false)) c.in-Ok.ensures.cases.1
-    (rw c.in-Ok.ensures.cases.0 at (c.in-Err-Syntax.ensures.fails c.in-Err-Syntax.field-0-0 (ap Err c.in-Err-Syntax.field-0-is)))
+    read_text c.args.piece.now (FailsAt c.in-Err-Syntax.at) (rw c.as_slice.ensures at (sym c.eq.ensures ∙ c.if-eq.false)) c.in-Ok.ensures.cases.1
+    (rw c.in-Ok.ensures.cases.0 at (c.in-Err-Syntax.ensures.fails c.in-Err-Syntax.at (ap Err c.in-Err-Syntax.field-0-is)))
