@@ -1,4 +1,4 @@
-//! Tests of memtables, merges, formats, bodies, token trees and data files: their bytes, what is read of them, and damaged ones.
+//! Tests of memtables, merges, formats, bodies, token trees, data files and the indexes of manifests: their bytes, what is read of them, and damaged ones.
 //! A host is dropped by `drop`, which is proved once, and not at the end of each function.
 #![tactic(auto)]
 
@@ -8,6 +8,8 @@ mod bodies;
 mod fixture;
 #[cfg(test)]
 mod formats;
+#[cfg(test)]
+mod manifests;
 #[cfg(test)]
 mod memtables;
 #[cfg(test)]

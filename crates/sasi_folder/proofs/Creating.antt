@@ -3,10 +3,10 @@ use Rattle.std.specs.Prelude.{◌≡◌, ℕ, suc, ◌≤◌, ◌<◌, Bool, tru
 use Rattle.std.proofs.Common.{sym, ap, subst, ◌∙◌, arith}
 use Rattle.std.proofs.lemmas.Bool.Decides.{nat_tests}
 use Rattle.std.proofs.lemmas.List.{length-map}
-use Rattle.std.specs.List.{AllByRecursion, list_any}
+use Rattle.std.specs.List.{AllByRecursion, find, list_any}
 use Rattle.sasi_types.specs.declared.statement.Statement.TheVariants.{CreateTable}
 use Rattle.sasi_model.specs.Statements.{same}
-use Rattle.sasi_model.specs.State.{Column, Definition, State, definition_of, position_in}
+use Rattle.sasi_model.specs.State.{Column, Definition, State, position_in}
 use Rattle.sasi_model.specs.Abbreviations.{definitions, key_position, one_more, NoColumn, first_refusal}
 use Rattle.sasi_model.specs.Refusals.{RefusalRule, create_rules, names_in, refusal, repeat_rules}
 use Rattle.sasi_model.specs.WellFormed.{IsWellFormed, IsWellFormedColumn}
@@ -22,10 +22,10 @@ use Rattle.sasi_manifest.specs.Naming.{AreApart, AreNames}
 
 -- ---- rules that don't apply
 
-abbrev IsOut : RefusalRule → Type 0
+abbrev pub IsOut : RefusalRule → Type 0
 IsOut rule = rule.0 ≡ false
 
-none_applies : (rules : List RefusalRule) → first_refusal rules ≡ None → AllByRecursion IsOut rules
+pub none_applies : (rules : List RefusalRule) → first_refusal rules ≡ None → AllByRecursion IsOut rules
 none_applies [] is = tt
 none_applies (rule ∷ rules) is =
     elim rule.0 as (λ b. rule.0 ≡ b → (if b then Some rule.1 else first_refusal rules) ≡ None → IsOut rule × AllByRecursion IsOut rules) [
@@ -33,7 +33,7 @@ none_applies (rule ∷ rules) is =
       | false ↦ λ e none. (e, none_applies rules none)
     ] refl is
 
-apart_at : {A : Type 0} (P : A → Type 0) (xs ys : List A) → AllByRecursion P (xs ++ ys) → AllByRecursion P xs × AllByRecursion P ys
+pub apart_at : {A : Type 0} (P : A → Type 0) (xs ys : List A) → AllByRecursion P (xs ++ ys) → AllByRecursion P xs × AllByRecursion P ys
 apart_at P [] ys all = (tt, all)
 apart_at P (x ∷ xs) ys all = let rest = apart_at P xs ys all.1 in ((all.0, rest.0), rest.1)
 
@@ -53,12 +53,13 @@ same_sym [] (y ∷ ys) = refl
 same_sym (x ∷ xs) [] = refl
 same_sym (x ∷ xs) (y ∷ ys) = rw (eq_sym x y, same_sym xs ys) refl
 
-free_of : (name : List ℕ) (ds : List Definition) → is_some (definition_of name ds) ≡ false → list_any (same name) (map (λ (d : Definition). d.name) ds) ≡ false
-free_of name [] none = refl
-free_of name (d ∷ ds) none =
-    elim (same d.name name) as (λ b. same d.name name ≡ b → is_some (if b then Some d else definition_of name ds) ≡ false → (same name d.name || list_any (same name) (map (λ (d : Definition). d.name) ds)) ≡ false) [
+-- a name under which nothing is found is none of the names
+pub free_of : {A : Type 0} (name_of : A → List ℕ) (name : List ℕ) (xs : List A) → is_some (find (λ (x : A). same (name_of x) name) xs) ≡ false → list_any (same name) (map name_of xs) ≡ false
+free_of name_of name [] none = refl
+free_of {A} name_of name (x ∷ xs) none =
+    elim (same (name_of x) name) as (λ b. same (name_of x) name ≡ b → is_some (if b then Some x else find (λ (x : A). same (name_of x) name) xs) ≡ false → (same name (name_of x) || list_any (same name) (map name_of xs)) ≡ false) [
       | true ↦ λ e is. cc
-      | false ↦ λ e is. (let other : same name d.name ≡ false = same_sym name d.name ∙ e in let rest = free_of name ds is in rw (other, rest) refl)
+      | false ↦ λ e is. (let other : same name (name_of x) ≡ false = same_sym name (name_of x) ∙ e in let rest = free_of name_of name xs is in rw (other, rest) refl)
     ] refl none
 
 names_listed : (tables : List ListedDefinition) → map (λ (d : Definition). d.name) (listed_definitions tables) ≡ listed_names tables
@@ -88,7 +89,7 @@ placed name (c ∷ columns) there =
       | false ↦ λ is. one_more_below (position_in name columns) (length columns) (placed name columns is)
     ] there
 
-not_false : (b : Bool) → not b ≡ false → b ≡ true
+pub not_false : (b : Bool) → not b ≡ false → b ≡ true
 not_false true is = refl
 not_false false is = cc
 
@@ -115,7 +116,7 @@ can_create listing s table columns keys known same_tables written taken =
     let key = key_inside columns keys repeated.1.0 missing.0 in
     let count : length (definitions s.tables) ≡ length listing.tables = ap length same_tables ∙ length-map listing.tables (λ (t : ListedDefinition). t.definition) in
     let few = below_limit (length (definitions s.tables)) 256 repeated.1.1.0 in
-    let free = free_of table (definitions s.tables) all.0 in
+    let free = free_of (λ (d : Definition). d.name) table (definitions s.tables) all.0 in
     create_applies listing (suc (length listing.tables)) table columns (key_position columns keys) listing.last (record {
       next = refl;
       few = omega (arith, few, count);

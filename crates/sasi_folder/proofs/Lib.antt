@@ -3,3 +3,4 @@ pub mod FolderLaws
 pub mod FolderChanges
 pub mod Recording
 pub mod Creating
+pub mod Defining

@@ -12,14 +12,15 @@ use Rattle.sasi_cells.specs.declared.mutation.Mutation.{Mutation}
 use Rattle.sasi_cells.proofs.Laws.Maps.{merged_apart, merged_onto_both, put_merged, replaced_last}
 use Rattle.sasi_cells.proofs.Laws.Maps as maps
 use Rattle.sasi_model.specs.Cells.{Partition}
-use Rattle.sasi_model.specs.Changes.{changed_behind, changed_tables, with_new_table}
-use Rattle.sasi_model.specs.State.{Definition, State, Table, apply, decorated}
+use Rattle.sasi_model.specs.Changes.{at_number, changed_behind, changed_tables, state_with_index, table_with_index, with_new_table}
+use Rattle.sasi_model.specs.State.{Definition, Index, State, Table, apply, decorated}
 use Rattle.sasi_model.specs.Abbreviations.{Partitions}
-use Rattle.sasi_manifest.specs.Listings.{at_number}
 use Rattle.sasi_manifest.specs.ListedDefinition.{ListedDefinition}
 use Rattle.sasi_manifest.proofs.Replacing.{unchanged}
 use Rattle.sasi_layout.specs.Layout.{File, Layout, TableParts, bare, bare_table, listed_of, listing_of, state_of, table_of, unflushed}
-use Rattle.sasi_layout.specs.Moves.{Create, Flush, Freeze, Move, Put, after_create, after_flush, after_freeze, after_moves, after_put, flush_table, flushed_file, freeze_table, moved, moved_state, new_parts, put_table, states}
+use Rattle.sasi_layout.specs.Moves.{Create, Define, Flush, Freeze, Move, Put, IsLegal, AreLegal, after_create, after_define, define_table, after_flush, after_freeze, after_moves, after_put, flush_table, flushed_file, freeze_table, moved, moved_state, new_parts, put_table, states}
+use Rattle.sasi_layout.specs.NumbersInOrder.{HasNumbersInOrder}
+use Rattle.sasi_layout.proofs.MovesInOrder.{moved_in_order}
 use Rattle.sasi_layout.proofs.Numbered.{seen_at, seen_twice, unseen_at}
 
 -- ---- a put
@@ -88,18 +89,25 @@ pub create_state : (d : Definition) (l : Layout) → state_of (after_create d l)
 create_state d l = ap (λ (ts : List Table). record { partitioner = l.partitioner; tables = ts })
     (map-append table_of l.tables (new_parts d l.last ∷ []) ∙ ap (λ (t : Table). map table_of l.tables ++ t ∷ []) (new_seen d l.last))
 
+-- ---- an index
+
+pub define_state : (table : ℕ) (index : Index) (l : Layout) → state_of (after_define table index l) ≡ state_with_index (state_of l) table index
+define_state table index l = ap (λ (ts : List Table). record { partitioner = l.partitioner; tables = ts })
+    (seen_at table_of (define_table (suc l.used.index) index) (table_with_index index) (λ t. refl) 1 table l.tables)
+
 -- ---- moves
 
-pub moved_is : (m : Move) (l : Layout) → state_of (moved m l) ≡ moved_state m (state_of l)
-moved_is (Put m) l = put_state m l
-moved_is (Freeze table) l = freeze_state table l
-moved_is (Flush table) l = flush_state table l
-moved_is (Create d) l = create_state d l
+pub moved_is : (m : Move) (l : Layout) → HasNumbersInOrder l → state_of (moved m l) ≡ moved_state m (state_of l)
+moved_is (Put m) l in_order = put_state m l
+moved_is (Freeze table) l in_order = freeze_state table l
+moved_is (Flush table) l in_order = flush_state table l
+moved_is (Create d) l in_order = create_state d l
+moved_is (Define table index) l in_order = define_state table index l
 
 -- The state after moves is that of the moves.
-pub moves_state : (ms : List Move) (l : Layout) → state_of (after_moves ms l) ≡ states ms (state_of l)
-moves_state [] l = refl
-moves_state (m ∷ ms) l = moves_state ms (moved m l) ∙ ap (λ (s : State). states ms s) (moved_is m l)
+pub moves_state : (ms : List Move) (l : Layout) → AreLegal ms l → HasNumbersInOrder l → state_of (after_moves ms l) ≡ states ms (state_of l)
+moves_state [] l legal in_order = refl
+moves_state (m ∷ ms) l legal in_order = moves_state ms (moved m l) legal.1 (moved_in_order m l legal.0 in_order) ∙ ap (λ (s : State). states ms s) (moved_is m l in_order)
 
 pub moves_both : (ms ns : List Move) (l : Layout) → after_moves (ms ++ ns) l ≡ after_moves ns (after_moves ms l)
 moves_both [] ns l = refl

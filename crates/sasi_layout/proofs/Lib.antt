@@ -1,4 +1,5 @@
 pub mod Numbered
+pub mod ClassLaws
 pub mod LayoutLaws
 pub mod ListingLaws
 pub mod MovesInOrder
@@ -19,6 +20,7 @@ pub mod NewFiles
 pub mod OneContent
 pub mod OneShape
 pub mod StatementLaws
+pub mod Defines
 pub mod KeptLaws
 pub mod TimeLaws
 pub mod Fewer

@@ -57,7 +57,7 @@ flush_listed high last t in_order =
 
 -- what is listed of the tables after a flush
 pub flushed_tables : (table : ℕ) (l : Layout) → HasNumbersInOrder l → (listing_of (after_flush table l)).tables ≡ at_number 1 table (replaced [] (new_listed_file (suc l.used.«data») ∷ []) (suc l.last)) (listing_of l).tables
-flushed_tables table l in_order = seen_where listed_of (flush_table (suc l.used.«data») (suc l.last)) (HasFilesInOrder l.used.«data» l.last) (replaced [] (new_listed_file (suc l.used.«data») ∷ []) (suc l.last)) (flush_listed l.used.«data» l.last) 1 table l.tables in_order
+flushed_tables table l in_order = seen_where listed_of (flush_table (suc l.used.«data») (suc l.last)) (HasFilesInOrder l.used.«data» l.last) (replaced [] (new_listed_file (suc l.used.«data») ∷ []) (suc l.last)) (flush_listed l.used.«data» l.last) 1 table l.tables in_order.files
 
 -- A flush is one record of the manifest.
 pub flush_is_next : (table : ℕ) (l : Layout) → HasNumbersInOrder l → IsNext (listing_of l) (flush_edits table l) (listing_of (after_flush table l))
@@ -70,5 +70,8 @@ pub created_tables : (d : Definition) (l : Layout) → (listing_of (after_create
 created_tables d l = map-append listed_of l.tables (new_parts d l.last ∷ [])
 
 -- A new table is one record too.
-pub create_is_next : (d : Definition) (l : Layout) → IsNext (listing_of l) (create_edits d l) (listing_of (after_create d l))
-create_is_next d l = ap (λ (ts : List ListedDefinition). Some (record (listing_of (after_create d l)) { tables = ts })) (created_tables d l)
+pub create_is_next : (d : Definition) (l : Layout) → d.indexes ≡ [] → IsNext (listing_of l) (create_edits d l) (listing_of (after_create d l))
+create_is_next d l none =
+    let bare_parts : listed_of (new_parts d l.last) ≡ listed_of (new_parts (record d { indexes = [] }) l.last) = λ i. listed_of (new_parts (record d { indexes = none i }) l.last) in
+    ap (λ (ts : List ListedDefinition). Some (record (listing_of (after_create d l)) { tables = ts }))
+    (created_tables d l ∙ ap (λ (one : ListedDefinition). (listing_of l).tables ++ one ∷ []) bare_parts)

@@ -1,26 +1,26 @@
 -- Each move leaves the numbers of a layout in order.
-use Rattle.std.specs.Prelude.{◌≡◌, ◌≤◌, ℕ, suc, List, [], ◌∷◌, ◌++◌, map, refl}
-use Rattle.std.proofs.Common.{sym, subst, arith}
-use Rattle.std.proofs.lemmas.List.{map-append}
+use Rattle.std.specs.Prelude.{◌≡◌, ◌≤◌, ◌+◌, ℕ, suc, List, [], ◌∷◌, ◌++◌, length, map, refl}
+use Rattle.std.proofs.Common.{sym, ap, ◌∙◌, subst, arith}
+use Rattle.std.proofs.lemmas.List.{length-append, map-append}
 use Rattle.std.specs.List.{AllByRecursion}
-use Rattle.sasi_cells.specs.declared.mutation.Mutation.{Mutation}
-use Rattle.sasi_model.specs.State.{Definition}
+use Rattle.sasi_model.specs.State.{Definition, Index}
 use Rattle.sasi_manifest.specs.declared.files.ListedFile.{ListedFile}
-use Rattle.sasi_manifest.specs.Listings.{at_number}
+use Rattle.sasi_manifest.specs.ListedDefinition.{ListedDefinition}
+use Rattle.sasi_model.specs.Changes.{at_number}
 use Rattle.sasi_layout.specs.Layout.{File, Layout, TableParts, listed_of}
-use Rattle.sasi_layout.specs.Moves.{Create, Flush, Freeze, Move, Put, after_create, after_flush, after_freeze, after_put, after_moves, flush_table, flushed_file, freeze_table, moved, new_parts, put_table}
-use Rattle.sasi_layout.specs.NumbersInOrder.{HasFilesInOrder, HasNumbersInOrder, Rising}
+use Rattle.sasi_layout.specs.Moves.{AreLegal, Create, Define, Flush, Freeze, IsLegal, Move, Put, after_create, after_define, define_table, after_flush, after_moves, flush_table, flushed_file, freeze_table, moved, new_parts, put_table}
+use Rattle.sasi_layout.specs.NumbersInOrder.{HasFilesInOrder, HasIndexesNumbered, HasNumbersInOrder, Rising}
 use Rattle.sasi_layout.proofs.Numbered.{all_changed, unseen_at}
 
 -- ---- by the tables' parts
 
-to_parts : (high last : ℕ) (ts : List TableParts) → AllByRecursion (HasFilesInOrder high last) (map listed_of ts) → AllByRecursion (λ t. HasFilesInOrder high last (listed_of t)) ts
-to_parts high last [] all = tt
-to_parts high last (t ∷ ts) all = (all.0, to_parts high last ts all.1)
+to_parts : (P : ListedDefinition → Type 0) (ts : List TableParts) → AllByRecursion P (map listed_of ts) → AllByRecursion (λ t. P (listed_of t)) ts
+to_parts P [] all = tt
+to_parts P (t ∷ ts) all = (all.0, to_parts P ts all.1)
 
-of_parts : (high last : ℕ) (ts : List TableParts) → AllByRecursion (λ t. HasFilesInOrder high last (listed_of t)) ts → AllByRecursion (HasFilesInOrder high last) (map listed_of ts)
-of_parts high last [] all = tt
-of_parts high last (t ∷ ts) all = (all.0, of_parts high last ts all.1)
+of_parts : (P : ListedDefinition → Type 0) (ts : List TableParts) → AllByRecursion (λ t. P (listed_of t)) ts → AllByRecursion P (map listed_of ts)
+of_parts P [] all = tt
+of_parts P (t ∷ ts) all = (all.0, of_parts P ts all.1)
 
 all_push : {A : Type 0} (P : A → Type 0) (xs : List A) (x : A) → AllByRecursion P xs → P x → AllByRecursion P (xs ++ x ∷ [])
 all_push P [] x all is = (is, tt)
@@ -36,36 +36,82 @@ rising_push : (low high : ℕ) (fs : List ListedFile) (g : ListedFile) → Risin
 rising_push low high [] g rise is = (omega (arith, rise, is), omega (arith, is))
 rising_push low high (f ∷ fs) g rise is = (rise.0, rising_push f.number high fs g rise.1 is)
 
+numbers_higher : (a b : ℕ) (ns : List ℕ) → a ≤ b → AllByRecursion (λ (n : ℕ). n ≤ a) ns → AllByRecursion (λ (n : ℕ). n ≤ b) ns
+numbers_higher a b [] le within = tt
+numbers_higher a b (n ∷ ns) le within = (omega (arith, le, within.0), numbers_higher a b ns le within.1)
+
 -- ---- moves
 
-put_in_order : (m : Mutation) (l : Layout) → HasNumbersInOrder l → HasNumbersInOrder (after_put m l)
-put_in_order m l in_order = subst (AllByRecursion (HasFilesInOrder l.used.«data» l.last)) (sym (unseen_at listed_of (put_table l.partitioner l.last m) (λ t. refl) 1 m.table l.tables)) in_order
+-- a change of a table's parts that lists the same
+unlisted_in_order : (l : Layout) (table : ℕ) (f : TableParts → TableParts) → ((t : TableParts) → listed_of (f t) ≡ listed_of t) → HasNumbersInOrder l → HasNumbersInOrder (record l { tables = at_number 1 table f l.tables })
+unlisted_in_order l table f same in_order =
+    let listed : map listed_of (at_number 1 table f l.tables) ≡ map listed_of l.tables = unseen_at listed_of f same 1 table l.tables in
+    record {
+      files = subst (AllByRecursion (HasFilesInOrder l.used.«data» l.last)) (sym listed) in_order.files;
+      indexes = subst (AllByRecursion (HasIndexesNumbered l.used.index)) (sym listed) in_order.indexes;
+    }
 
-freeze_in_order : (table : ℕ) (l : Layout) → HasNumbersInOrder l → HasNumbersInOrder (after_freeze table l)
-freeze_in_order table l in_order = subst (AllByRecursion (HasFilesInOrder l.used.«data» l.last)) (sym (unseen_at listed_of freeze_table (λ t. refl) 1 table l.tables)) in_order
+flush_files : (high last : ℕ) (t : TableParts) → HasFilesInOrder high last (listed_of t) → HasFilesInOrder (suc high) (suc last) (listed_of (flush_table (suc high) (suc last) t))
+flush_files high last t is = record {
+  rise = subst (Rising 0 (suc high)) (sym (map-append (λ (f : File). f.listed) t.files (flushed_file (suc high) t ∷ []))) (rising_push 0 high (map (λ (f : File). f.listed) t.files) (record { number = suc high; parts = [] }) is.rise refl);
+  since = omega arith;
+}
 
 flush_in_order : (table : ℕ) (l : Layout) → HasNumbersInOrder l → HasNumbersInOrder (after_flush table l)
 flush_in_order table l in_order =
     let high : ℕ = l.used.«data» in
-    of_parts (suc high) (suc l.last) (at_number 1 table (flush_table (suc high) (suc l.last)) l.tables)
-    (all_changed (λ t. HasFilesInOrder high l.last (listed_of t)) (λ t. HasFilesInOrder (suc high) (suc l.last) (listed_of t)) (flush_table (suc high) (suc l.last))
-    (λ t is. record {
-      rise = subst (Rising 0 (suc high)) (sym (map-append (λ (f : File). f.listed) t.files (flushed_file (suc high) t ∷ []))) (rising_push 0 high (map (λ (f : File). f.listed) t.files) (record { number = suc high; parts = [] }) is.rise refl);
-      since = omega arith;
-    })
-    (λ t is. record { rise = rising_higher 0 high (suc high) (map (λ (f : File). f.listed) t.files) (omega arith) is.rise; since = omega (arith, is.since) })
-    1 table l.tables (to_parts high l.last l.tables in_order))
+    let flushed = at_number 1 table (flush_table (suc high) (suc l.last)) l.tables in
+    record {
+      files = of_parts (HasFilesInOrder (suc high) (suc l.last)) flushed
+          (all_changed (λ t. HasFilesInOrder high l.last (listed_of t)) (λ t. HasFilesInOrder (suc high) (suc l.last) (listed_of t)) (flush_table (suc high) (suc l.last))
+          (λ t is. flush_files high l.last t is)
+          (λ t is. record { rise = rising_higher 0 high (suc high) (map (λ (f : File). f.listed) t.files) (omega arith) is.rise; since = omega (arith, is.since) })
+          1 table l.tables (to_parts (HasFilesInOrder high l.last) l.tables in_order.files));
+      indexes = of_parts (HasIndexesNumbered l.used.index) flushed
+          (all_changed (λ t. HasIndexesNumbered l.used.index (listed_of t)) (λ t. HasIndexesNumbered l.used.index (listed_of t)) (flush_table (suc high) (suc l.last))
+          (λ t is. record { counted = is.counted; within = is.within }) (λ t is. is) 1 table l.tables (to_parts (HasIndexesNumbered l.used.index) l.tables in_order.indexes));
+    }
 
-create_in_order : (d : Definition) (l : Layout) → HasNumbersInOrder l → HasNumbersInOrder (after_create d l)
-create_in_order d l in_order = of_parts l.used.«data» l.last (l.tables ++ new_parts d l.last ∷ [])
-    (all_push (λ t. HasFilesInOrder l.used.«data» l.last (listed_of t)) l.tables (new_parts d l.last) (to_parts l.used.«data» l.last l.tables in_order) (record { rise = omega arith; since = omega arith }))
+create_in_order : (d : Definition) (l : Layout) → d.indexes ≡ [] → HasNumbersInOrder l → HasNumbersInOrder (after_create d l)
+create_in_order d l none in_order = record {
+  files = of_parts (HasFilesInOrder l.used.«data» l.last) (l.tables ++ new_parts d l.last ∷ [])
+      (all_push (λ t. HasFilesInOrder l.used.«data» l.last (listed_of t)) l.tables (new_parts d l.last) (to_parts (HasFilesInOrder l.used.«data» l.last) l.tables in_order.files) (record { rise = omega arith; since = omega arith }));
+  indexes = of_parts (HasIndexesNumbered l.used.index) (l.tables ++ new_parts d l.last ∷ [])
+      (all_push (λ t. HasIndexesNumbered l.used.index (listed_of t)) l.tables (new_parts d l.last) (to_parts (HasIndexesNumbered l.used.index) l.tables in_order.indexes) (record { counted = ap length (sym none); within = tt }));
+}
 
-pub moved_in_order : (m : Move) (l : Layout) → HasNumbersInOrder l → HasNumbersInOrder (moved m l)
-moved_in_order (Put m) l in_order = put_in_order m l in_order
-moved_in_order (Freeze table) l in_order = freeze_in_order table l in_order
-moved_in_order (Flush table) l in_order = flush_in_order table l in_order
-moved_in_order (Create d) l in_order = create_in_order d l in_order
+define_indexes : (high : ℕ) (index : Index) (t : TableParts) → HasIndexesNumbered high (listed_of t) → HasIndexesNumbered (suc high) (listed_of (define_table (suc high) index t))
+define_indexes high index t is = record {
+  counted = length-append t.numbers (suc high ∷ []) ∙ ap (λ n. n + 1) is.counted ∙ sym (length-append t.definition.indexes (index ∷ []));
+  within = all_push (λ (n : ℕ). n ≤ suc high) t.numbers (suc high) (numbers_higher high (suc high) t.numbers (omega arith) is.within) (omega arith);
+}
 
-pub moves_in_order : (ms : List Move) (l : Layout) → HasNumbersInOrder l → HasNumbersInOrder (after_moves ms l)
-moves_in_order [] l in_order = in_order
-moves_in_order (m ∷ ms) l in_order = moves_in_order ms (moved m l) (moved_in_order m l in_order)
+define_in_order : (table : ℕ) (index : Index) (l : Layout) → HasNumbersInOrder l → HasNumbersInOrder (after_define table index l)
+define_in_order table index l in_order =
+    let high : ℕ = l.used.index in
+    let defined = at_number 1 table (define_table (suc high) index) l.tables in
+    record {
+      files = of_parts (HasFilesInOrder l.used.«data» l.last) defined
+          (all_changed (λ t. HasFilesInOrder l.used.«data» l.last (listed_of t)) (λ t. HasFilesInOrder l.used.«data» l.last (listed_of t)) (define_table (suc high) index)
+          (λ t is. record { rise = is.rise; since = is.since }) (λ t is. is) 1 table l.tables (to_parts (HasFilesInOrder l.used.«data» l.last) l.tables in_order.files));
+      indexes = of_parts (HasIndexesNumbered (suc high)) defined
+          (all_changed (λ t. HasIndexesNumbered high (listed_of t)) (λ t. HasIndexesNumbered (suc high) (listed_of t)) (define_table (suc high) index)
+          (λ t is. define_indexes high index t is)
+          (λ t is. record { counted = is.counted; within = numbers_higher high (suc high) t.numbers (omega arith) is.within }) 1 table l.tables (to_parts (HasIndexesNumbered high) l.tables in_order.indexes));
+    }
+
+pub moved_in_order : (m : Move) (l : Layout) → IsLegal m l → HasNumbersInOrder l → HasNumbersInOrder (moved m l)
+moved_in_order (Put m) l legal in_order = unlisted_in_order l m.table (put_table l.partitioner l.last m) (λ t. refl) in_order
+moved_in_order (Freeze table) l legal in_order = unlisted_in_order l table freeze_table (λ t. refl) in_order
+moved_in_order (Flush table) l legal in_order = flush_in_order table l in_order
+moved_in_order (Create d) l legal in_order = create_in_order d l legal in_order
+moved_in_order (Define table index) l legal in_order = define_in_order table index l in_order
+
+pub moves_in_order : (ms : List Move) (l : Layout) → AreLegal ms l → HasNumbersInOrder l → HasNumbersInOrder (after_moves ms l)
+moves_in_order [] l legal in_order = in_order
+moves_in_order (m ∷ ms) l legal in_order = moves_in_order ms (moved m l) legal.1 (moved_in_order m l legal.0 in_order)
+
+-- the first ones of legal moves are legal
+pub legal_front : (ms more : List Move) (l : Layout) → AreLegal (ms ++ more) l → AreLegal ms l
+legal_front [] more l legal = tt
+legal_front (m ∷ ms) more l legal = (legal.0, legal_front ms more (moved m l) legal.1)

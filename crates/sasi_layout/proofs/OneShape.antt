@@ -51,13 +51,14 @@ module _ (x : Folder) (p : Partitioner) where
   table_same : (floor n : ℕ) (logs : List (List Mutation)) (t u : TableParts) → listed_of t ≡ listed_of u → IsShaped x p floor n logs t → IsShaped x p floor n logs u → t ≡ u
   table_same floor n logs t u listed first second =
       let definition : t.definition ≡ u.definition = ap (λ (l : ListedDefinition). l.definition) listed in
+      let numbers : t.numbers ≡ u.numbers = ap (λ (l : ListedDefinition). l.numbers) listed in
       let since : t.since ≡ u.since = ap (λ (l : ListedDefinition). l.since) listed in
       let there : AllByRecursion (HasFile x p t.definition) u.files = subst (λ (d : Definition). AllByRecursion (HasFile x p d) u.files) (sym definition) second.files in
       let files : t.files ≡ u.files = files_same t.definition t.files u.files (ap (λ (l : ListedDefinition). l.files) listed) first.files there in
       let frozen : t.frozen ≡ u.frozen = first.idle ∙ sym second.idle in
       let memtable : t.memtable ≡ u.memtable = first.memtable ∙ ap (λ s. replay p n s floor map_.empty logs) since ∙ sym second.memtable in
       let least : t.first ≡ u.first = first.first ∙ ap (λ s. first_in n s floor logs) since ∙ sym second.first in
-      λ i. record { definition = definition i; since = since i; first = least i; files = files i; frozen = frozen i; memtable = memtable i }
+      λ i. record { definition = definition i; numbers = numbers i; since = since i; first = least i; files = files i; frozen = frozen i; memtable = memtable i }
 
   tables_same : (floor n : ℕ) (logs : List (List Mutation)) (ts us : List TableParts) → map listed_of ts ≡ map listed_of us → AreShaped x p floor n logs ts → AreShaped x p floor n logs us → ts ≡ us
   tables_same floor n logs [] [] listed first second = refl

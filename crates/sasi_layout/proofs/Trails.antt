@@ -26,7 +26,8 @@ use Rattle.sasi_layout.specs.Between.{Between}
 use Rattle.sasi_layout.specs.Flushed.{HasFlushed, HasNew, logs_after, ListsEither}
 use Rattle.sasi_layout.specs.Frames.{AgreeOn}
 use Rattle.sasi_layout.specs.Layout.{Layout, TableParts, bare, listed_of, listing_of, state_of}
-use Rattle.sasi_layout.specs.Moves.{after_put, after_flush, after_create, Move, Put, Flush, Freeze, Create, moved, after_moves, states}
+use Rattle.sasi_layout.proofs.MovesInOrder.{legal_front}
+use Rattle.sasi_layout.specs.Moves.{AreLegal, after_put, after_flush, after_create, Move, Put, Flush, Freeze, Create, moved, after_moves, states}
 use Rattle.sasi_layout.specs.Shape.{HasShape, IsOfShape, StandsSealed}
 use Rattle.sasi_layout.specs.NumbersInOrder.{HasFilesInOrder, HasNumbersInOrder}
 
@@ -38,11 +39,13 @@ sinces high last (t ∷ ts) in_order = (in_order.0.since, sinces high last ts in
 
 -- no table begins after the log
 pub since_last : (l : Layout) → HasNumbersInOrder l → AllByRecursion (λ (t : TableParts). t.since ≤ l.last) l.tables
-since_last l in_order = sinces l.used.«data» l.last l.tables in_order
+since_last l in_order = sinces l.used.«data» l.last l.tables in_order.files
 
 -- a folder between moves stands for the state after some first part of them
-pub between_stands : (l : Layout) (moves : List Move) (folder : Folder) → (b : Between l moves folder) → StandsSealed folder (states b.done (state_of l))
-between_stands l moves folder b = record { shape = bare (after_moves b.done l); has = b.shape; state_is = sym (bare_state (after_moves b.done l) ∙ moves_state b.done l) }
+pub between_stands : (l : Layout) (moves : List Move) (folder : Folder) → AreLegal moves l → HasNumbersInOrder l → (b : Between l moves folder) → StandsSealed folder (states b.done (state_of l))
+between_stands l moves folder legal in_order b =
+    let done : AreLegal b.done l = legal_front b.done b.rest l (subst (λ (ms : List Move). AreLegal ms l) b.parts legal) in
+    record { shape = bare (after_moves b.done l); has = b.shape; state_is = sym (bare_state (after_moves b.done l) ∙ moves_state b.done l done in_order) }
 
 -- ---- moments
 

@@ -1,5 +1,5 @@
 -- What a store holds, part by part: in files that the manifest lists, and in maps that aren't in a file yet.
-use Rattle.std.specs.Prelude.{◌≡◌, ℕ, max, List, [], ◌∷◌, ◌++◌, map, Option}
+use Rattle.std.specs.Prelude.{◌≡◌, ℕ, suc, max, nat_eq, if◌then◌else◌, List, [], ◌∷◌, ◌++◌, map, Option, None, Some}
 use Rattle.sasi_types.specs.declared.partitioner.Partitioner.{Partitioner}
 use Rattle.sasi_cells.specs.Maps.{merged}
 use Rattle.sasi_model.specs.State.{Definition, State, Table}
@@ -7,6 +7,7 @@ use Rattle.sasi_model.specs.Abbreviations.{Partitions}
 use Rattle.sasi_manifest.specs.declared.files.ListedFile.{ListedFile}
 use Rattle.sasi_manifest.specs.declared.listing.Listing.{Listing}
 use Rattle.sasi_manifest.specs.ListedDefinition.{ListedDefinition}
+use Rattle.sasi_manifest.specs.Listings.{largest_index}
 
 -- ---- a layout
 
@@ -18,6 +19,8 @@ pub record File : Type 0 where
 -- the parts of a table
 pub record TableParts : Type 0 where
   pub definition : Definition
+  -- the numbers of its indexes, in order
+  pub numbers : List ℕ
   -- the first segment of the log that can have mutations of the table
   pub since : ℕ
   -- the least live segment from there on that has one
@@ -48,10 +51,15 @@ pub record Layout : Type 0 where
   pub tables : List TableParts
   pub used : Used
 
+-- the item of a number, where the numbers rise from this one on
+abbrev pub numbered : {A : Type 0} → ℕ → ℕ → List A → Option A
+numbered n number [] = None
+numbered n number (x ∷ xs) = if nat_eq n number then Some x else numbered (suc n) number xs
+
 -- ---- what the manifest lists of it
 
 abbrev pub listed_of : TableParts → ListedDefinition
-listed_of t = record { definition = t.definition; since = t.since; files = map (λ (f : File). f.listed) t.files }
+listed_of t = record { definition = t.definition; numbers = t.numbers; since = t.since; files = map (λ (f : File). f.listed) t.files }
 
 abbrev pub listing_of : Layout → Listing
 listing_of l = record { partitioner = l.partitioner; floor = l.floor; last = l.last; records = l.records; length = l.length; tables = map listed_of l.tables }
@@ -85,7 +93,7 @@ largest_data (t ∷ ts) = max (largest_file t.files) (largest_data ts)
 
 -- the largest numbers that are listed, under the manifest of this number
 abbrev pub used_in : ℕ → Listing → Used
-used_in manifest listing = record { manifest = manifest; log = listing.last; «data» = largest_data listing.tables; index = 0; part = 0 }
+used_in manifest listing = record { manifest = manifest; log = listing.last; «data» = largest_data listing.tables; index = largest_index listing.tables; part = 0 }
 
 -- no map is frozen
 abbrev pub IsIdle : TableParts → Type 0

@@ -9,5 +9,6 @@ pub mod Frames
 pub mod Flushed
 pub mod Between
 pub mod Serving
+pub mod Classes
 pub mod Worlds
 pub mod Running

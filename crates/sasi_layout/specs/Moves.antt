@@ -1,18 +1,20 @@
 -- The moves of a layout: a mutation is put, a memtable is frozen, what isn't flushed becomes a file, and a table is created.
-use Rattle.std.specs.Prelude.{ℕ, suc, ◌+◌, min, nat_eq, if◌then◌else◌, List, [], ◌∷◌, ◌++◌, length, Option, None, Some}
+use Rattle.std.specs.Prelude.{◌≡◌, ℕ, suc, ◌+◌, min, nat_eq, if◌then◌else◌, List, [], ◌∷◌, ◌++◌, length, Option, None, Some, ⊤}
 use Rattle.std.specs.FinMap as map_
 use Rattle.sasi_types.specs.declared.partitioner.Partitioner.{Partitioner}
+use Rattle.std.specs.Option.{option_map_or}
 use Rattle.sasi_cells.specs.Maps.{merged, put}
 use Rattle.sasi_cells.specs.Mutations.{state_with_mutation}
 use Rattle.sasi_cells.specs.declared.mutation.Mutation.{Mutation}
-use Rattle.sasi_model.specs.Changes.{with_new_table}
-use Rattle.sasi_model.specs.State.{Definition, State, decorated}
+use Rattle.sasi_types.specs.declared.index_def.IndexDef.{IndexDef}
+use Rattle.sasi_model.specs.Abbreviations.{kind_of}
+use Rattle.sasi_model.specs.Changes.{at_number, state_with_index, with_new_table}
+use Rattle.sasi_model.specs.State.{Definition, Index, State, decorated, with_index}
 use Rattle.sasi_manifest.specs.declared.edit.Edit.{Edit}
-use Rattle.sasi_manifest.specs.declared.edit.Edit.TheVariants.{CreateTable, Replace}
+use Rattle.sasi_manifest.specs.declared.edit.Edit.TheVariants.{CreateIndex, CreateTable, Replace}
 use Rattle.sasi_manifest.specs.declared.files.ListedFile.{ListedFile}
 use Rattle.sasi_manifest.specs.Edits.{encoded}
-use Rattle.sasi_manifest.specs.Listings.{at_number}
-use Rattle.sasi_layout.specs.Layout.{File, Layout, TableParts, unflushed}
+use Rattle.sasi_layout.specs.Layout.{File, Layout, TableParts, numbered, unflushed}
 
 -- the first, and else the second
 abbrev pub or_else : Option ℕ → Option ℕ → Option ℕ
@@ -83,7 +85,7 @@ after_flush table l = record l {
 
 -- a table without parts, whose mutations come in this segment or later
 abbrev pub new_parts : Definition → ℕ → TableParts
-new_parts d last = record { definition = d; since = last; first = None; files = []; frozen = []; memtable = map_.empty }
+new_parts d last = record { definition = d; numbers = []; since = last; first = None; files = []; frozen = []; memtable = map_.empty }
 
 -- the manifest's record of a new table
 abbrev pub create_edits : Definition → Layout → List Edit
@@ -92,6 +94,28 @@ create_edits d l = CreateTable (suc (length l.tables)) d.name d.columns d.key l.
 -- there is one more table
 abbrev pub after_create : Definition → Layout → Layout
 after_create d l = record l { records = l.records + 1; length = l.length + (5 + length (encoded (create_edits d l))); tables = l.tables ++ new_parts d l.last ∷ [] }
+
+-- ---- define
+
+abbrev pub define_table : ℕ → Index → TableParts → TableParts
+define_table number index t = record t { definition = with_index index t.definition; numbers = t.numbers ++ number ∷ [] }
+
+-- the index on a table of this number and definition, under a number of its own
+abbrev pub index_def : ℕ → ℕ → Index → Definition → IndexDef
+index_def number table index d = record { number = number; table = table; name = index.name; column = index.column; kind = kind_of d index.column; mode = index.mode; rule = index.rule }
+
+-- the manifest's record of it
+abbrev pub define_edits : ℕ → Index → Layout → List Edit
+define_edits table index l = option_map_or (λ t. CreateIndex (index_def (suc l.used.index) table index t.definition) ∷ []) (numbered 1 table l.tables) []
+
+-- an index is defined on the table, under the next index number
+abbrev pub after_define : ℕ → Index → Layout → Layout
+after_define table index l = record l {
+  records = l.records + 1;
+  length = l.length + (5 + length (encoded (define_edits table index l)));
+  tables = at_number 1 table (define_table (suc l.used.index) index) l.tables;
+  used = record l.used { index = suc l.used.index };
+}
 
 -- ---- moves
 
@@ -102,12 +126,15 @@ pub data Move : Type 0 where
   -- the number of the table
   Flush : ℕ → Move
   Create : Definition → Move
+  -- the number of the table, and its new index
+  Define : ℕ → Index → Move
 
 abbrev pub moved : Move → Layout → Layout
 moved (Put m) l = after_put m l
 moved (Freeze table) l = after_freeze table l
 moved (Flush table) l = after_flush table l
 moved (Create d) l = after_create d l
+moved (Define table index) l = after_define table index l
 
 abbrev pub after_moves : List Move → Layout → Layout
 after_moves [] l = l
@@ -119,10 +146,27 @@ moved_state (Put m) s = state_with_mutation s m
 moved_state (Freeze table) s = s
 moved_state (Flush table) s = s
 moved_state (Create d) s = with_new_table s d
+moved_state (Define table index) s = state_with_index s table index
 
 abbrev pub states : List Move → State → State
 states [] s = s
 states (m ∷ ms) s = states ms (moved_state m s)
+
+-- ---- legal moves
+
+-- a new table has no index
+abbrev pub IsLegal : Move → Layout → Type 0
+IsLegal (Put m) l = ⊤
+IsLegal (Freeze table) l = ⊤
+IsLegal (Flush table) l = ⊤
+IsLegal (Create d) l = d.indexes ≡ []
+IsLegal (Define table index) l = ⊤
+
+abbrev pub AreLegal : List Move → Layout → Type 0
+AreLegal [] l = ⊤
+AreLegal (m ∷ ms) l = IsLegal m l × AreLegal ms (moved m l)
+
+-- ---- records
 
 -- the edits of the manifest's record of a move; none where it lists nothing
 abbrev pub move_edits : Layout → Move → List Edit
@@ -130,3 +174,4 @@ move_edits l (Put m) = []
 move_edits l (Freeze table) = []
 move_edits l (Flush table) = flush_edits table l
 move_edits l (Create d) = create_edits d l
+move_edits l (Define table index) = define_edits table index l

@@ -1,5 +1,5 @@
 -- What holds of every layout that a store goes through, by numbers alone.
-use Rattle.std.specs.Prelude.{◌<◌, ◌≤◌, ℕ, List, [], ◌∷◌}
+use Rattle.std.specs.Prelude.{◌≡◌, ◌<◌, ◌≤◌, ℕ, List, [], ◌∷◌, length}
 use Rattle.std.specs.List.{AllByRecursion}
 use Rattle.sasi_manifest.specs.declared.files.ListedFile.{ListedFile}
 use Rattle.sasi_manifest.specs.ListedDefinition.{ListedDefinition}
@@ -14,6 +14,12 @@ pub record HasFilesInOrder (high last : ℕ) (t : ListedDefinition) : Type 0 whe
   pub rise : Rising 0 high t.files
   pub since : t.since ≤ last
 
--- Files rise by number up to the last used one, and no table begins after the log.
-abbrev pub HasNumbersInOrder : Layout → Type 0
-HasNumbersInOrder l = AllByRecursion (HasFilesInOrder l.used.«data» l.last) (listing_of l).tables
+-- each index has a number, up to the last used one
+pub record HasIndexesNumbered (high : ℕ) (t : ListedDefinition) : Type 0 where
+  pub counted : length t.numbers ≡ length t.definition.indexes
+  pub within : AllByRecursion (λ (n : ℕ). n ≤ high) t.numbers
+
+-- Files rise by number up to the last used one, indexes have numbers up to the last used one, and no table begins after the log.
+pub record HasNumbersInOrder (l : Layout) : Type 0 where
+  pub files : AllByRecursion (HasFilesInOrder l.used.«data» l.last) (listing_of l).tables
+  pub indexes : AllByRecursion (HasIndexesNumbered l.used.index) (listing_of l).tables

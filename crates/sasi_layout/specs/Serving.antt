@@ -12,6 +12,7 @@ use Rattle.sasi_host.specs.Disk.{Each}
 use Rattle.sasi_gated.specs.Handles.{Handle}
 use Rattle.sasi_model.specs.Abbreviations.{Partitions, TIME_LIMIT, types_of}
 use Rattle.sasi_model.specs.Cells.{Partition}
+use Rattle.sasi_model.specs.Refusals.{Known}
 use Rattle.sasi_model.specs.State.{Definition, decorated, max_timestamp}
 use Rattle.sasi_model.specs.Stored.{IsBodyOf, column_types}
 use Rattle.sasi_cells.specs.declared.mutation.Mutation.{Mutation}
@@ -23,7 +24,7 @@ use Rattle.sasi_layout.specs.Kept.{HasExactly, HasKept, Kept}
 use Rattle.sasi_layout.specs.Layout.{Layout, TableParts, Used, bare, listing_of, state_of}
 use Rattle.sasi_layout.specs.Shape.{HasShape, IsOfShape}
 use Rattle.sasi_layout.specs.Statements.{definitions_of}
-use Rattle.sasi_layout.specs.NumbersInOrder.{HasFilesInOrder, HasNumbersInOrder}
+use Rattle.sasi_layout.specs.NumbersInOrder.{HasFilesInOrder, HasIndexesNumbered, HasNumbersInOrder}
 
 -- ---- a store in memory
 
@@ -45,6 +46,10 @@ pub record StoreInMemory : Type 0 where
 
 abbrev pub table_in_memory : TableParts → TableInMemory
 table_in_memory t = record { first = t.first; frozen = t.frozen; memtable = t.memtable }
+
+-- what it judges a piece by
+abbrev pub known_in_memory : StoreInMemory → Known
+known_in_memory store = record { tables = store.definitions; max_timestamp = store.max_timestamp }
 
 abbrev pub kept_by : StoreInMemory → Kept
 kept_by store = record { manifest = store.manifest.number; listing = store.manifest.listing }
@@ -90,6 +95,7 @@ pub record AreNumbered (manifest : ManifestState) (used : Used) : Type 0 where
   pub manifest_is : used.manifest ≡ manifest.number
   pub log_is : used.log ≡ manifest.listing.last
   pub files : AllByRecursion (HasFilesInOrder used.«data» manifest.listing.last) manifest.listing.tables
+  pub indexes : AllByRecursion (HasIndexesNumbered used.index) manifest.listing.tables
   pub fits : used.«data» < 2 ^ 32
 
 -- The store can make a change, whatever is known of the folder's contents: calls on the host find the names that they need, and no other file is there.

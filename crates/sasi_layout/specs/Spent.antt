@@ -3,7 +3,7 @@ use Rattle.std.specs.Prelude.{ℕ, ◌-◌, ◌^◌, nat_eq, if◌then◌else◌
 use Rattle.sasi_layout.specs.declared.number_kind.NumberKind.{NumberKind}
 use Rattle.sasi_layout.specs.declared.number_kind.NumberKind.TheVariants as kinds
 use Rattle.sasi_layout.specs.Layout.{Layout}
-use Rattle.sasi_layout.specs.Moves.{Create, Flush, Freeze, Move, Put, moved}
+use Rattle.sasi_layout.specs.Moves.{Create, Define, Flush, Freeze, Move, Put, moved}
 
 -- the kinds of which a move draws the next number, in this order, with the last used one
 abbrev pub draws : Layout → Move → List (NumberKind × ℕ)
@@ -11,6 +11,7 @@ draws l (Put m) = []
 draws l (Freeze table) = []
 draws l (Flush table) = (kinds.Data, l.used.«data») ∷ (kinds.Log, l.used.log) ∷ []
 draws l (Create d) = []
+draws l (Define table index) = (kinds.Index, l.used.index) ∷ []
 
 -- the first kind of which no number is left, and else another
 abbrev pub first_spent : List (NumberKind × ℕ) → Option NumberKind → Option NumberKind

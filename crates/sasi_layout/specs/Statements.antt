@@ -5,18 +5,14 @@ use Rattle.std.specs.Option.{option_map_or}
 use Rattle.std.specs.FinMap as map_
 use Rattle.sasi_memtable.specs.Sizes.{byte_count, cell_count}
 use Rattle.sasi_model.specs.Abbreviations.{Partitions}
-use Rattle.sasi_model.specs.Asked.{Asked, NoChange, Creates, Writes, Flushes, parsed_asks}
+use Rattle.sasi_model.specs.Asked.{Asked, NoChange, Creates, Defines, Writes, Flushes, parsed_asks}
 use Rattle.sasi_model.specs.Parsers.{Parser, grammar_parser}
 use Rattle.sasi_model.specs.Pieces.{Piece}
-use Rattle.sasi_model.specs.Refusals.{read_by}
+use Rattle.sasi_model.specs.Refusals.{Known, read_by}
 use Rattle.sasi_model.specs.State.{Definition, max_timestamp}
+pub use Rattle.sasi_layout.specs.Layout.{numbered}
 use Rattle.sasi_layout.specs.Layout.{Layout, state_of, unflushed}
-use Rattle.sasi_layout.specs.Moves.{Create, Flush, Move, Put, after_put}
-
--- the item of a number, where the numbers rise from this one on
-abbrev pub numbered : {A : Type 0} → ℕ → ℕ → List A → Option A
-numbered n number [] = None
-numbered n number (x ∷ xs) = if nat_eq n number then Some x else numbered (suc n) number xs
+use Rattle.sasi_layout.specs.Moves.{Create, Define, Flush, Move, Put, after_put}
 
 -- there is a partition in one of the maps
 abbrev pub any_partition : List Partitions → Bool
@@ -38,6 +34,7 @@ flush_where test table l = if tests_unflushed test table l then Flush table ∷ 
 abbrev pub moves_asked : Layout → Asked → List Move
 moves_asked l NoChange = []
 moves_asked l (Creates d) = Create d ∷ []
+moves_asked l (Defines table index) = Define table index ∷ []
 moves_asked l (Writes table key change) =
     Put (record { table = table; key = key; change = change }) ∷ flush_where are_full table (after_put (record { table = table; key = key; change = change }) l)
 moves_asked l (Flushes table) = flush_where any_partition table l
@@ -46,9 +43,13 @@ moves_asked l (Flushes table) = flush_where any_partition table l
 abbrev pub definitions_of : Layout → List Definition
 definitions_of l = map (λ t. t.definition) l.tables
 
+-- what a piece is judged by
+abbrev pub known_in : Layout → Known
+known_in l = record { tables = definitions_of l; max_timestamp = max_timestamp (state_of l) }
+
 -- the moves of a piece, as this parser parses it
 abbrev pub moves_by : Parser → Layout → Piece → List Move
-moves_by parser l piece = moves_asked l (parsed_asks (definitions_of l) (max_timestamp (state_of l)) (read_by parser piece))
+moves_by parser l piece = moves_asked l (parsed_asks (known_in l) (read_by parser piece))
 
 -- as the parser of the grammar does
 abbrev pub moves_of : Layout → Piece → List Move

@@ -1,6 +1,8 @@
 pub mod CheckSteps
 pub mod Accepted
 pub mod Assigning
+pub mod KnownStates
+pub mod DefinedIndexes
 pub mod MaxTimestamps
 pub mod KeyLiterals
 pub mod Passed

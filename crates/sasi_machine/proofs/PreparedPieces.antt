@@ -1,6 +1,5 @@
 -- What the calls of a preparation give.
-use Rattle.std.proofs.Common.{◌≡◌, ◌++◌, ◌-◌, ◌<◌, ◌≤◌, ℕ, List, [], length, get_or, slice_get, Option, Some, None, Result, Ok, Err, IfOk, OnOk, refl, sym, ap, subst, ◌∙◌, arith}
-use Rattle.std.specs.FinMap as fin
+use Rattle.std.proofs.Common.{◌≡◌, ◌++◌, ◌-◌, ◌<◌, ℕ, List, [], length, get_or, slice_get, Option, Some, None, Result, Ok, Err, IfOk, OnOk, sym, ap, subst, ◌∙◌}
 use Rattle.std.specs.Option.{option_map, option_map_or}
 use Rattle.std.proofs.lemmas.Option.{get_or_from_slice_get}
 use Rattle.sasi_types.specs.declared.partitioner.Partitioner.{Partitioner}
@@ -8,10 +7,10 @@ use Rattle.sasi_types.specs.declared.column.ColumnType.{ColumnType}
 use Rattle.sasi_types.specs.declared.statement.Select.{Select}
 use Rattle.sasi_types.specs.declared.statement.Statement.TheVariants.{Query}
 use Rattle.sasi_memtable.specs.MemtableView.{MemtableView}
-use Rattle.sasi_model.specs.Abbreviations.{first_refusal, key_type}
-use Rattle.sasi_model.specs.Lines.{refusal_line, rows_lines}
+use Rattle.sasi_model.specs.Abbreviations.{first_refusal}
+use Rattle.sasi_model.specs.Lines.{refusal_line}
 use Rattle.sasi_model.specs.Pieces.{Piece}
-use Rattle.sasi_model.specs.Refusals.{Bad, Nothing, Refusal, RefusalRule, read}
+use Rattle.sasi_model.specs.Refusals.{Bad, Known, Nothing, Refusal, RefusalRule, read}
 use Rattle.sasi_model.specs.State as model
 use Rattle.sasi_model.specs.State.{Definition, State, definition_of}
 use Rattle.sasi_model.specs.Step.{StepResult, step, step_as, step_by}
@@ -23,14 +22,14 @@ use Rattle.sasi_machine.specs.Outcome.{outcome_of}
 use Rattle.sasi_machine.specs.Prepares.{HasRows, IsPrepared, IsStateOf, Prepares, StepsTo, answer_rows, lines_of}
 use Rattle.sasi_machine.specs.Selections.{PreparesRows}
 use Rattle.sasi_machine.specs.StatementSteps.{IsRefused}
-use Rattle.sasi_machine.specs.TableRows.{KeysStored, rows_picked}
+use Rattle.sasi_machine.specs.TableRows.{KeysStored}
 use Rattle.sasi_machine.specs.Tables.{IsMachineState, state_of}
 use Rattle.sasi_machine.specs.declared.outcome.Outcome.{Outcome}
 use Rattle.sasi_machine.specs.declared.outcome.Outcome.TheVariants.{Done}
 use Rattle.sasi_machine.specs.declared.prepared.Prepared.{Prepared}
 use Rattle.sasi_machine.specs.declared.prepared.Selection.{Selection}
+use Rattle.sasi_machine.proofs.KnownStates.{is_state_of}
 use Rattle.sasi_machine.proofs.StatementPreparing.{select_asks}
-use Rattle.sasi_machine.proofs.StatementStepping.{is_state_of}
 use Rattle.sasi_machine.proofs.TablesOfMemtables.{memtable_at, memtable_inside}
 
 -- ---- refusals
@@ -42,10 +41,10 @@ refused_first (Some r) rules reply_old reply_new outcome first refused = subst (
 
 -- ---- SELECT
 
-pub rows_any : {E : Type 0} (ds : List Definition) (select : Select) (found : Option Table) (reply_old reply_new : List ℕ) (result : Result Prepared E) → option_map definition found ≡ definition_of select.table ds → option_map (λ (t : Table). t.number) found ≡ number_of_table select.table ds
-    → IfOk result (λ prepared. PreparesRows found select.table select.columns reply_old reply_new prepared) → IfOk result (λ prepared. (max_time : ℕ) → IsPrepared ds max_time (Query select) reply_old reply_new prepared)
-rows_any ds select found reply_old reply_new (Ok prepared) defined numbered prepares = λ max_time. select_asks ds max_time select found reply_old reply_new prepared defined numbered prepares
-rows_any ds select found reply_old reply_new (Err e) defined numbered prepares = tt
+pub rows_any : {E : Type 0} (known : Known) (select : Select) (found : Option Table) (reply_old reply_new : List ℕ) (result : Result Prepared E) → option_map definition found ≡ definition_of select.table known.tables → option_map (λ (t : Table). t.number) found ≡ number_of_table select.table known.tables
+    → IfOk result (λ prepared. PreparesRows found select.table select.columns reply_old reply_new prepared) → IfOk result (λ prepared. (max_time : ℕ) → IsPrepared (record known { max_timestamp = max_time }) (Query select) reply_old reply_new prepared)
+rows_any known select found reply_old reply_new (Ok prepared) defined numbered prepares = λ max_time. select_asks (record known { max_timestamp = max_time }) select found reply_old reply_new prepared defined numbered prepares
+rows_any known select found reply_old reply_new (Err e) defined numbered prepares = tt
 
 -- ---- pieces without a statement
 
@@ -72,7 +71,7 @@ bad_steps s piece r cleared reply outcome bad empty reply_is outcome_is =
 -- ---- the machine
 
 pub at_state : {E : Type 0} (p : Partitioner) (ds : List Definition) (cs : List MemtableView) (g : ℕ) (s : State) (piece : Piece) (reply : List ℕ) (result : Result Prepared E) → state_of p ds cs ≡ s → IsMachineState p ds cs g
-    → IfOk result (λ prepared. (s : State) → IsStateOf ds g s → Prepares s piece reply prepared) → IfOk result (λ prepared. Prepares s piece reply prepared)
+    → IfOk result (λ prepared. (s : State) → IsStateOf (record { tables = ds; max_timestamp = g }) s → Prepares s piece reply prepared) → IfOk result (λ prepared. Prepares s piece reply prepared)
 at_state p ds cs g s piece reply (Ok prepared) is kept prepares = subst (λ (s : State). Prepares s piece reply prepared) is (prepares (state_of p ds cs) (is_state_of p ds cs g kept))
 at_state p ds cs g s piece reply (Err e) is kept prepares = tt
 

@@ -1,5 +1,5 @@
 -- What statements prepare.
-use Rattle.std.proofs.Common.{◌≡◌, drop, is_some, ℕ, zero, suc, ◌+◌, ◌-◌, ◌<◌, ◌≤◌, List, [], ◌∷◌, ◌++◌, length, map, set, slice_get, Option, Some, None, Result, Ok, Err, IfOk, refl, sym, ap, subst, ◌∙◌, arith}
+use Rattle.std.proofs.Common.{◌≡◌, drop, is_some, ℕ, zero, suc, ◌+◌, ◌-◌, ◌<◌, List, [], ◌∷◌, ◌++◌, length, map, set, slice_get, Option, Some, None, Result, Ok, Err, IfOk, refl, sym, ap, subst, ◌∙◌, arith}
 use Rattle.std.specs.Prelude.{max}
 use Rattle.std.specs.FinMap as fin
 use Rattle.std.specs.Option.{option_map, option_map_or}
@@ -8,45 +8,48 @@ use Rattle.sasi_types.specs.declared.partitioner.Partitioner.{Partitioner}
 use Rattle.sasi_types.specs.declared.partitioner.Partitioner.TheVariants.{Lead8}
 use Rattle.sasi_types.specs.declared.statement.Select.{Select}
 use Rattle.sasi_types.specs.declared.statement.Statement.{Statement}
-use Rattle.sasi_types.specs.declared.statement.Statement.TheVariants.{CreateTable, Flush, Query}
+use Rattle.sasi_types.specs.declared.statement.Statement.TheVariants.{CreateTable, CreateIndex, Flush, Query}
 use Rattle.sasi_cells.proofs.Laws.Times.{body_limit}
 use Rattle.sasi_cells.specs.Rows.{IsStored}
 use Rattle.sasi_cells.specs.declared.picked.PickedColumn.{PickedColumn}
 use Rattle.sasi_model.specs.Asked as ask
 use Rattle.sasi_model.specs.Asked.{Asked, asks, parsed_asks}
 use Rattle.sasi_model.specs.Cells.{Partition, max_timestamp_of}
-use Rattle.sasi_model.specs.Abbreviations.{key_position, max_timestamp_of_tables, definitions, ok_line, selected_lines, TIME_LIMIT, NoTable, TableExists, first_refusal, new_definition, key_type, types_of}
+use Rattle.sasi_model.specs.Abbreviations.{key_position, max_timestamp_of_tables, definitions, ok_line, selected_lines, NoTable, TableExists, first_refusal, new_definition, key_type, types_of}
 use Rattle.sasi_model.specs.Stored.{IsBodyOf, IsValueOf, column_types}
 use Rattle.sasi_model.specs.WellFormed.{IsWellFormed}
 use Rattle.sasi_types.specs.declared.column.ColumnType.{ColumnType}
 use Rattle.sasi_types.specs.declared.column.ColumnType.TheVariants as types
 use Rattle.sasi_machine.proofs.StatementBodies.{change_fits}
-use Rattle.sasi_model.specs.Changes.{changed_tables, empty_table, with_new_table}
+use Rattle.sasi_model.specs.Changes.{changed_tables, empty_table, state_with_index, with_new_table}
 use Rattle.sasi_model.specs.Lines.{rows_lines}
 use Rattle.sasi_model.specs.Pieces.{Piece}
-use Rattle.sasi_model.specs.Refusals.{Refusal, RefusalRule, Says, create_rules, flush_rules, read, refusal, rules, select_rules}
+use Rattle.sasi_model.specs.Refusals.{Known, Refusal, RefusalRule, Says, create_rules, flush_rules, known_of, read, refusal, rules, select_rules}
 use Rattle.sasi_model.specs.State as model
 use Rattle.sasi_model.specs.State.{Column, Definition, State, definition_of, max_timestamp, decorated}
-use Rattle.sasi_model.specs.Step.{StepResult, answer_of, live_rows, primary_key, selected_columns, step, step_as, step_by, tables_after}
+use Rattle.sasi_model.specs.Step.{StepResult, answer_of, live_rows, primary_key, selected_columns, step, step_as, step_by}
 use Rattle.sasi_schema.specs.Answers.{IsFirstRefusal}
 use Rattle.sasi_schema.specs.Defined.{definition}
 use Rattle.sasi_schema.specs.Numbers.{number_of_table}
+use Rattle.sasi_schema.specs.SchemaViews.{index_of_new}
+use Rattle.sasi_schema.specs.declared.index.NewIndex.{NewIndex}
 use Rattle.sasi_schema.specs.declared.table.Table.{Table}
 use Rattle.sasi_machine.specs.declared.outcome.Outcome.{Outcome}
 use Rattle.sasi_machine.specs.declared.prepared.Prepared.{Prepared}
-use Rattle.sasi_machine.specs.declared.prepared.Prepared.TheVariants.{Answered, Create, Write as Writes, Flush as Flushes, Select as Selects}
+use Rattle.sasi_machine.specs.declared.prepared.Prepared.TheVariants.{Answered, Create, Define, Write as Writes, Flush as Flushes, Select as Selects}
 use Rattle.sasi_machine.specs.declared.prepared.Selection.{Selection}
 use Rattle.sasi_cells.specs.declared.mutation.Mutation.{Mutation}
 use Rattle.sasi_memtable.specs.MemtableView.{MemtableView, empty_memtable}
 use Rattle.sasi_machine.specs.Outcome.{outcome_of}
 use Rattle.sasi_machine.specs.Picks.{pick}
 use Rattle.sasi_cells.specs.Mutations.{state_with_mutation}
-use Rattle.sasi_machine.specs.Prepares.{CreatesTable, FlushesTable, HasRows, HasTable, IsApplicable, IsNewTable, IsPrepared, IsPreparedFor, IsQuery, IsSelect, IsStateOf, IsTimeless, Prepares, StatementPrepares, SelectsRows, StepsTo, WritesTo, answer_rows, asked_by, lines_of}
+use Rattle.sasi_machine.specs.Prepares.{CreatesTable, DefinesIndex, FlushesTable, HasRows, HasTable, IsAddable, IsApplicable, IsNewTable, IsPrepared, IsPreparedFor, IsQuery, IsSelect, IsStateOf, IsTimeless, Prepares, StatementPrepares, SelectsRows, StepsTo, WritesTo, answer_rows, asked_by, lines_of}
 use Rattle.sasi_machine.specs.Selections.{IsSelection, PreparesRows}
 use Rattle.sasi_machine.specs.TableRows.{KeysStored, rows_picked}
-use Rattle.sasi_machine.specs.Tables.{AreMemtables, IsMachineState, HasMemtableFor, IsWrittenAt, state_of, table_with, tables_of, written}
+use Rattle.sasi_machine.specs.Tables.{AreMemtables, IsMachineState, HasMemtableFor, IsWrittenAt, state_of, tables_of, written}
 use Rattle.sasi_machine.specs.StatementSteps.{IsRefused, StatementStepsTo}
 use Rattle.sasi_machine.specs.Writes.{IsWrite, IsWriting, table_named}
+use Rattle.sasi_machine.proofs.KnownStates.{definitions_are, knows}
 use Rattle.sasi_machine.proofs.MaxTimestamps.{max_timestamp_put, max_timestamp_set}
 use Rattle.sasi_machine.proofs.NumberedTables.{number_some, table_numbered}
 use Rattle.sasi_machine.proofs.Picked.{rows_by_numbers}
@@ -60,25 +63,25 @@ use Rattle.sasi_machine.proofs.StatementStepping.{answers_ok, asked_numbered, cr
 -- ---- CREATE TABLE
 
 -- as many tables as definitions
-tables_counted : (s : State) (ds : List Definition) (g : ℕ) → IsStateOf ds g s → length ds ≡ length s.tables
-tables_counted s ds g is = ap length (sym is.definitions_are) ∙ length-map s.tables (λ t. t.definition)
+tables_counted : (s : State) (known : Known) → IsStateOf known s → length known.tables ≡ length s.tables
+tables_counted s known is = ap length (sym (definitions_are known s is)) ∙ length-map s.tables (λ t. t.definition)
 
-create_asked : (ds : List Definition) (g : ℕ) (table : List ℕ) (columns : List Column) (keys : List (List ℕ)) (t : Table) → primary_key columns keys ≡ Some (key_position columns keys) → definition t ≡ new_definition table columns keys
-    → option_map_or (λ key. ask.Creates (record { name = table; columns = columns; key = key })) (primary_key columns keys) ask.NoChange ≡ ask.Creates (definition t)
-create_asked ds g table columns keys t found is = ap (λ (o : Option ℕ). option_map_or (λ key. ask.Creates (record { name = table; columns = columns; key = key })) o ask.NoChange) found ∙ ap ask.Creates (sym is)
+create_asked : (table : List ℕ) (columns : List Column) (keys : List (List ℕ)) (t : Table) → primary_key columns keys ≡ Some (key_position columns keys) → definition t ≡ new_definition table columns keys
+    → option_map_or (λ key. ask.Creates (record { name = table; columns = columns; key = key; indexes = [] })) (primary_key columns keys) ask.NoChange ≡ ask.Creates (definition t)
+create_asked table columns keys t found is = ap (λ (o : Option ℕ). option_map_or (λ key. ask.Creates (record { name = table; columns = columns; key = key; indexes = [] })) o ask.NoChange) found ∙ ap ask.Creates (sym is)
 
-pub create_asks : (ds : List Definition) (g : ℕ) (table : List ℕ) (columns : List Column) (keys : List (List ℕ)) (t : Table) (reply_old reply_new : List ℕ) → first_refusal (create_rules ds table columns keys) ≡ None
-    → definition t ≡ new_definition table columns keys → t.number ≡ length ds + 1 → reply_new ≡ reply_old ++ ok_line → IsPrepared ds g (CreateTable table columns keys) reply_old reply_new (Create t)
-create_asks ds g table columns keys t reply_old reply_new none is number reply_is =
-    let found = (allowed ds table columns keys none).key_found in
+pub create_asks : (known : Known) (table : List ℕ) (columns : List Column) (keys : List (List ℕ)) (t : Table) (reply_old reply_new : List ℕ) → first_refusal (create_rules known.tables table columns keys) ≡ None
+    → definition t ≡ new_definition table columns keys → t.number ≡ length known.tables + 1 → reply_new ≡ reply_old ++ ok_line → IsPrepared known (CreateTable table columns keys) reply_old reply_new (Create t)
+create_asks known table columns keys t reply_old reply_new none is number reply_is =
+    let found = (allowed known.tables table columns keys none).key_found in
     let statement = CreateTable table columns keys in
     record {
-      asked_is = taken_asks ds g statement none ∙ create_asked ds g table columns keys t found is;
+      asked_is = taken_asks known statement none ∙ create_asked table columns keys t found is;
       of_state = λ s of. (
-        takes s statement (with_new_table s (definition t)) reply_old reply_new (outcome_of None) (not_refused s ds g statement of none)
+        takes s statement (with_new_table s (definition t)) reply_old reply_new (outcome_of None) (not_refused s known statement of none)
             (ap (with_new_table s) is ∙ ap (λ (tables : List model.Table). record { partitioner = s.partitioner; tables = tables }) (created_tables s table columns keys found))
             reply_is refl,
-        (not_refused s ds g statement of none, is, number ∙ ap (λ n. n + 1) (tables_counted s ds g of)),
+        (not_refused s known statement of none, is, number ∙ ap (λ n. n + 1) (tables_counted s known of)),
       );
     }
 
@@ -96,19 +99,19 @@ written_tables p ds cs w c held some got = by w.table (omega arith) some
         let same : at ≡ w.table - 1 = omega arith in
         rw same (changed_at ds cs (w.table - 1) (decorated p w.key) w.change c held got (written p w c) refl)
 
-pub write_asks : (ds : List Definition) (g : ℕ) (statement : Statement) (w : Mutation) (reply_old reply_new : List ℕ) → IsWriting statement → IsWrite ds g statement w → first_refusal (rules ds g statement) ≡ None
-    → reply_new ≡ reply_old ++ ok_line → IsPrepared ds g statement reply_old reply_new (Writes w)
-write_asks ds g statement w reply_old reply_new writing write none reply_is = record {
-  asked_is = taken_asks ds g statement none ∙ write_asked ds g statement w writing write none;
+pub write_asks : (known : Known) (statement : Statement) (w : Mutation) (reply_old reply_new : List ℕ) → IsWriting statement → IsWrite known statement w → first_refusal (rules known statement) ≡ None
+    → reply_new ≡ reply_old ++ ok_line → IsPrepared known statement reply_old reply_new (Writes w)
+write_asks known statement w reply_old reply_new writing write none reply_is = record {
+  asked_is = taken_asks known statement none ∙ write_asked known statement w writing write none;
   of_state = λ s of. (
-    takes s statement (state_with_mutation s w) reply_old reply_new (outcome_of None) (not_refused s ds g statement of none)
-        (ap (λ (tables : List model.Table). record { partitioner = s.partitioner; tables = tables }) (write_tables s ds g statement w of writing write none))
+    takes s statement (state_with_mutation s w) reply_old reply_new (outcome_of None) (not_refused s known statement of none)
+        (ap (λ (tables : List model.Table). record { partitioner = s.partitioner; tables = tables }) (write_tables s known statement w of writing write none))
         (reply_is ∙ ap (λ line. reply_old ++ line) (sym (answers_ok s statement writing)))
         refl,
     record {
       writing = writing;
-      taken = not_refused s ds g statement of none;
-      write = subst (λ (tables : List Definition). IsWrite tables (max_timestamp s) statement w) (sym of.definitions_are) (subst (λ (time : ℕ). IsWrite ds time statement w) (sym of.max_time_is) write);
+      taken = not_refused s known statement of none;
+      write = subst (λ (k : Known). IsWrite k statement w) (sym of) write;
     },
   );
 }
@@ -118,24 +121,24 @@ write_asks ds g statement w reply_old reply_new writing write none reply_is = re
 found_flush : (ds : List Definition) (table : List ℕ) (d : Definition) → definition_of table ds ≡ Some d → first_refusal (flush_rules table (definition_of table ds)) ≡ None
 found_flush ds table d found = ap (λ (o : Option Definition). first_refusal (flush_rules table o)) found
 
-pub flush_asks : (ds : List Definition) (g : ℕ) (table : List ℕ) (number : ℕ) (d : Definition) (reply_old reply_new : List ℕ) → number_of_table table ds ≡ Some number → definition_of table ds ≡ Some d
-    → reply_new ≡ reply_old ++ ok_line → IsPrepared ds g (Flush table) reply_old reply_new (Flushes number)
-flush_asks ds g table number d reply_old reply_new numbered found reply_is =
-    let none = found_flush ds table d found in
+pub flush_asks : (known : Known) (table : List ℕ) (number : ℕ) (d : Definition) (reply_old reply_new : List ℕ) → number_of_table table known.tables ≡ Some number → definition_of table known.tables ≡ Some d
+    → reply_new ≡ reply_old ++ ok_line → IsPrepared known (Flush table) reply_old reply_new (Flushes number)
+flush_asks known table number d reply_old reply_new numbered found reply_is =
+    let none = found_flush known.tables table d found in
     record {
-      asked_is = taken_asks ds g (Flush table) none ∙ asked_numbered table (λ n d. ask.Flushes n) ds number d numbered found;
+      asked_is = taken_asks known (Flush table) none ∙ asked_numbered table (λ n d. ask.Flushes n) known.tables number d numbered found;
       of_state = λ s of.
-          let here : number_of_table table (definitions s.tables) ≡ Some number = ap (number_of_table table) of.definitions_are ∙ numbered in
-          let t = table_numbered table s.tables number d here (ap (definition_of table) of.definitions_are ∙ found) in (
-            takes s (Flush table) s reply_old reply_new (outcome_of None) (not_refused s ds g (Flush table) of none) refl reply_is refl,
-            (not_refused s ds g (Flush table) of none, here, record { some = number_some table ds number numbered; inside = omega (arith, t.inside, number_some table ds number numbered) }),
+          let here : number_of_table table (definitions s.tables) ≡ Some number = ap (number_of_table table) (definitions_are known s of) ∙ numbered in
+          let t = table_numbered table s.tables number d here (ap (definition_of table) (definitions_are known s of) ∙ found) in (
+            takes s (Flush table) s reply_old reply_new (outcome_of None) (not_refused s known (Flush table) of none) refl reply_is refl,
+            (not_refused s known (Flush table) of none, here, record { some = number_some table known.tables number numbered; inside = omega (arith, t.inside, number_some table known.tables number numbered) }),
           );
     }
 
 -- no table of the name
-pub flush_refused : (ds : List Definition) (g : ℕ) (table : List ℕ) (reply_old reply_new : List ℕ) (outcome : Outcome) → definition_of table ds ≡ None → IsRefused (Some (NoTable table)) reply_old reply_new outcome → IsPrepared ds g (Flush table) reply_old reply_new (Answered outcome)
-flush_refused ds g table reply_old reply_new outcome absent refused =
-    refuses ds g (Flush table) (Some (NoTable table)) reply_old reply_new outcome (ap (λ (o : Option Definition). first_refusal (flush_rules table o)) absent) refused
+pub flush_refused : (known : Known) (table : List ℕ) (reply_old reply_new : List ℕ) (outcome : Outcome) → definition_of table known.tables ≡ None → IsRefused (Some (NoTable table)) reply_old reply_new outcome → IsPrepared known (Flush table) reply_old reply_new (Answered outcome)
+flush_refused known table reply_old reply_new outcome absent refused =
+    refuses known (Flush table) (Some (NoTable table)) reply_old reply_new outcome (ap (λ (o : Option Definition). first_refusal (flush_rules table o)) absent) refused
 
 -- ---- SELECT
 
@@ -158,41 +161,42 @@ answer_is s d select rows t found named there is selection =
     ∙ ap (λ (columns : List PickedColumn). rows_lines (rows_picked rows.picked.key columns entries)) (sym selection.columns_are)
     ∙ ap (λ (o : Option model.Table). option_map_or (λ t. lines_of rows t.partitions) o []) (sym there)
 
-pub select_asks : (ds : List Definition) (g : ℕ) (select : Select) (found : Option Table) (reply_old reply_new : List ℕ) (prepared : Prepared) → option_map definition found ≡ definition_of select.table ds → option_map (λ (t : Table). t.number) found ≡ number_of_table select.table ds
-    → PreparesRows found select.table select.columns reply_old reply_new prepared → IsPrepared ds g (Query select) reply_old reply_new prepared
-select_asks ds g select found reply_old reply_new (Answered outcome) defined numbered prepares =
+pub select_asks : (known : Known) (select : Select) (found : Option Table) (reply_old reply_new : List ℕ) (prepared : Prepared) → option_map definition found ≡ definition_of select.table known.tables → option_map (λ (t : Table). t.number) found ≡ number_of_table select.table known.tables
+    → PreparesRows found select.table select.columns reply_old reply_new prepared → IsPrepared known (Query select) reply_old reply_new prepared
+select_asks known select found reply_old reply_new (Answered outcome) defined numbered prepares =
     let refused = first_refusal (select_rules select.table select.columns (option_map definition found)) in
-    refuses ds g (Query select) refused reply_old reply_new outcome (subst (λ (o : Option Definition). IsFirstRefusal refused (select_rules select.table select.columns o)) defined (first_is (select_rules select.table select.columns (option_map definition found)))) prepares
-select_asks ds g select None reply_old reply_new (Selects rows) defined numbered prepares = absurd prepares.2
-select_asks ds g select (Some t) reply_old reply_new (Selects rows) defined numbered prepares =
-    let none : first_refusal (rules ds g (Query select)) ≡ None = subst (λ (o : Option Definition). first_refusal (select_rules select.table select.columns o) ≡ None) defined prepares.0 in
+    refuses known (Query select) refused reply_old reply_new outcome (subst (λ (o : Option Definition). IsFirstRefusal refused (select_rules select.table select.columns o)) defined (first_is (select_rules select.table select.columns (option_map definition found)))) prepares
+select_asks known select None reply_old reply_new (Selects rows) defined numbered prepares = absurd prepares.2
+select_asks known select (Some t) reply_old reply_new (Selects rows) defined numbered prepares =
+    let none : first_refusal (rules known (Query select)) ≡ None = subst (λ (o : Option Definition). first_refusal (select_rules select.table select.columns o) ≡ None) defined prepares.0 in
     record {
-      asked_is = taken_asks ds g (Query select) none;
+      asked_is = taken_asks known (Query select) none;
       of_state = λ s of.
-          let at = table_numbered select.table s.tables t.number (definition t) (ap (number_of_table select.table) of.definitions_are ∙ sym numbered) (ap (definition_of select.table) of.definitions_are ∙ sym defined) in
+          let at = table_numbered select.table s.tables t.number (definition t) (ap (number_of_table select.table) (definitions_are known s of) ∙ sym numbered) (ap (definition_of select.table) (definitions_are known s of) ∙ sym defined) in
           let there : slice_get s.tables (rows.table - 1) ≡ Some at.table = ap (λ (n : ℕ). slice_get s.tables (n - 1)) prepares.2.number ∙ at.there in (
             prepares.1,
             (
-              not_refused s ds g (Query select) of none,
+              not_refused s known (Query select) of none,
               answer_is s (definition t) select rows t at.table at.found there at.definition_is prepares.2,
               record {
-                some = omega (arith, number_some select.table ds t.number (sym numbered), prepares.2.number);
+                some = omega (arith, number_some select.table known.tables t.number (sym numbered), prepares.2.number);
                 table = at.table;
                 there = there;
                 key = prepares.2.key ∙ ap key_type (sym at.definition_is);
               },
-              ap (number_of_table select.table) of.definitions_are ∙ sym numbered ∙ ap Some (sym prepares.2.number),
+              ap (number_of_table select.table) (definitions_are known s of) ∙ sym numbered ∙ ap Some (sym prepares.2.number),
             ),
           );
     }
-select_asks ds g select found reply_old reply_new (Create t) defined numbered prepares = absurd prepares
-select_asks ds g select found reply_old reply_new (Writes w) defined numbered prepares = absurd prepares
-select_asks ds g select found reply_old reply_new (Flushes table) defined numbered prepares = absurd prepares
+select_asks known select found reply_old reply_new (Create t) defined numbered prepares = absurd prepares
+select_asks known select found reply_old reply_new (Define new) defined numbered prepares = absurd prepares
+select_asks known select found reply_old reply_new (Writes w) defined numbered prepares = absurd prepares
+select_asks known select found reply_old reply_new (Flushes table) defined numbered prepares = absurd prepares
 
 -- whatever the largest timestamp
-pub for_any : {E : Type 0} (ds : List Definition) (g : ℕ) (statement : Statement) (reply_old reply_new : List ℕ) (result : Result Prepared E) → IfOk result (λ prepared. (max_time : ℕ) → IsPrepared ds max_time statement reply_old reply_new prepared) → IfOk result (IsPreparedFor ds g statement reply_old reply_new)
-for_any ds g statement reply_old reply_new (Ok prepared) of = record { now = of g; timeless = λ timeless other. of other }
-for_any ds g statement reply_old reply_new (Err e) of = tt
+pub for_any : {E : Type 0} (known : Known) (statement : Statement) (reply_old reply_new : List ℕ) (result : Result Prepared E) → IfOk result (λ prepared. (max_time : ℕ) → IsPrepared (record known { max_timestamp = max_time }) statement reply_old reply_new prepared) → IfOk result (IsPreparedFor known statement reply_old reply_new)
+for_any known statement reply_old reply_new (Ok prepared) of = record { now = of known.max_timestamp; timeless = λ timeless other. of other }
+for_any known statement reply_old reply_new (Err e) of = tt
 
 -- ---- what is done
 
@@ -215,10 +219,10 @@ writes_fit s statement w well writes =
     let ds = definitions s.tables in
     let write = writes.write in
     let d = write.definition in
-    let none = no_rule s ds (max_timestamp s) statement (record { definitions_are = refl; max_time_is = refl }) writes.taken in
+    let none = no_rule s (known_of s) statement refl writes.taken in
     let change = write.written.change in
     let fits = change_fits d (max_timestamp s) statement write.written.time writes.writing well write.key_is_there write.few write.written.time_is.above
-    write.written.time_is.limit (found_rules ds (max_timestamp s) statement d writes.writing write.found none) in
+    write.written.time_is.limit (found_rules (known_of s) statement d writes.writing write.found none) in
     let t = table_numbered (table_named statement) s.tables w.table d write.number write.found in
     record {
       some = number_some (table_named statement) ds w.table write.number;
@@ -306,12 +310,18 @@ flush_there : (s : State) (statement : Statement) (table : ℕ) → FlushesTable
 flush_there s (Flush name) table flushes = flushes.2
 flush_there s statement table flushes = absurd flushes
 
+index_there : (s : State) (statement : Statement) (new : NewIndex) → DefinesIndex s statement new → IsAddable s new
+index_there s (CreateIndex name table column class options stepped) new defines = defines.2
+index_there s statement new defines = absurd defines
+
 pub prepares : (s : State) (piece : Piece) (statement : Statement) (reply_old reply : List ℕ) (prepared : Prepared) → read piece ≡ Says statement → IsWellFormed statement → reply_old ≡ []
     → StatementPrepares s statement reply_old reply prepared → Prepares s piece reply prepared
 prepares s piece statement reply_old reply (Answered outcome) says well empty asks =
     steps s piece statement s reply_old reply outcome says empty asks
 prepares s piece statement reply_old reply (Create t) says well empty asks =
     (steps s piece statement (with_new_table s (definition t)) reply_old reply (outcome_of None) says empty asks.0, (statement, says, well, asks.1), makes_next s statement t asks.1)
+prepares s piece statement reply_old reply (Define new) says well empty asks =
+    (steps s piece statement (state_with_index s new.table (index_of_new new)) reply_old reply (outcome_of None) says empty asks.0, (statement, says, well, asks.1), index_there s statement new asks.1)
 prepares s piece statement reply_old reply (Writes w) says well empty asks =
     (steps s piece statement (state_with_mutation s w) reply_old reply (outcome_of None) says empty asks.0, (statement, says, well, asks.1), writes_fit s statement w well asks.1)
 prepares s piece statement reply_old reply (Flushes table) says well empty asks =
@@ -319,15 +329,15 @@ prepares s piece statement reply_old reply (Flushes table) says well empty asks 
 prepares s piece statement reply_old reply (Selects rows) says well empty asks =
     (steps s piece statement s [] (answer_rows s rows) (outcome_of None) says refl (rows_step s statement rows asks.1), asks.0 ∙ empty, rows_there s statement rows asks.1, (statement, says, well, asks.1))
 
-pub piece_prepares : {E : Type 0} (ds : List Definition) (g : ℕ) (piece : Piece) (statement : Statement) (reply_old reply : List ℕ) (result : Result Prepared E) → read piece ≡ Says statement → IsWellFormed statement → reply_old ≡ []
-    → IfOk result (IsPreparedFor ds g statement reply_old reply) → IfOk result (λ prepared. (s : State) → IsStateOf ds g s → Prepares s piece reply prepared)
-piece_prepares ds g piece statement reply_old reply (Ok prepared) says well empty asks = λ s is. prepares s piece statement reply_old reply prepared says well empty (asks.now.of_state s is)
-piece_prepares ds g piece statement reply_old reply (Err e) says well empty asks = tt
+pub piece_prepares : {E : Type 0} (known : Known) (piece : Piece) (statement : Statement) (reply_old reply : List ℕ) (result : Result Prepared E) → read piece ≡ Says statement → IsWellFormed statement → reply_old ≡ []
+    → IfOk result (IsPreparedFor known statement reply_old reply) → IfOk result (λ prepared. (s : State) → IsStateOf known s → Prepares s piece reply prepared)
+piece_prepares known piece statement reply_old reply (Ok prepared) says well empty asks = λ s is. prepares s piece statement reply_old reply prepared says well empty (asks.now.of_state s is)
+piece_prepares known piece statement reply_old reply (Err e) says well empty asks = tt
 
-pub piece_asks : {E : Type 0} (ds : List Definition) (g : ℕ) (piece : Piece) (statement : Statement) (reply_old reply : List ℕ) (result : Result Prepared E) → read piece ≡ Says statement
-    → IfOk result (IsPreparedFor ds g statement reply_old reply) → IfOk result (λ prepared. asks ds g piece ≡ asked_by prepared)
-piece_asks ds g piece statement reply_old reply (Ok prepared) says is = ap (parsed_asks ds g) says ∙ is.now.asked_is
-piece_asks ds g piece statement reply_old reply (Err e) says is = tt
+pub piece_asks : {E : Type 0} (known : Known) (piece : Piece) (statement : Statement) (reply_old reply : List ℕ) (result : Result Prepared E) → read piece ≡ Says statement
+    → IfOk result (IsPreparedFor known statement reply_old reply) → IfOk result (λ prepared. asks known piece ≡ asked_by prepared)
+piece_asks known piece statement reply_old reply (Ok prepared) says is = ap (parsed_asks known) says ∙ is.now.asked_is
+piece_asks known piece statement reply_old reply (Err e) says is = tt
 
 -- ---- one more table
 
@@ -341,11 +351,11 @@ pub created_state : (p : Partitioner) (ds : List Definition) (cs : List Memtable
     (ds ++ d ∷ []) (cs ++ empty_memtable p ∷ []) ≡ with_new_table (state_of p ds cs) d
 created_state p ds cs g d kept = ap (λ (tables : List model.Table). record { partitioner = p; tables = tables }) (tables_push ds cs d (empty_memtable p) kept.held)
 
-pub piece_timeless : {E : Type 0} (ds : List Definition) (g : ℕ) (piece : Piece) (statement : Statement) (reply_old reply : List ℕ) (result : Result Prepared E) → read piece ≡ Says statement → IsWellFormed statement → reply_old ≡ []
-    → IfOk result (IsPreparedFor ds g statement reply_old reply) → IfOk result (λ prepared. IsTimeless prepared → (s : State) → definitions s.tables ≡ ds → Prepares s piece reply prepared)
-piece_timeless ds g piece statement reply_old reply (Ok prepared) says well empty asks =
-    λ timeless s are. prepares s piece statement reply_old reply prepared says well empty ((asks.timeless timeless (max_timestamp s)).of_state s (record { definitions_are = are; max_time_is = refl }))
-piece_timeless ds g piece statement reply_old reply (Err e) says well empty asks = tt
+pub piece_timeless : {E : Type 0} (known : Known) (piece : Piece) (statement : Statement) (reply_old reply : List ℕ) (result : Result Prepared E) → read piece ≡ Says statement → IsWellFormed statement → reply_old ≡ []
+    → IfOk result (IsPreparedFor known statement reply_old reply) → IfOk result (λ prepared. IsTimeless prepared → (s : State) → definitions s.tables ≡ known.tables → Prepares s piece reply prepared)
+piece_timeless known piece statement reply_old reply (Ok prepared) says well empty asks =
+    λ timeless s are. prepares s piece statement reply_old reply prepared says well empty ((asks.timeless timeless (max_timestamp s)).of_state s (knows (record known { max_timestamp = max_timestamp s }) s are refl))
+piece_timeless known piece statement reply_old reply (Err e) says well empty asks = tt
 
 -- definitions, as empty tables
 pub empty_definitions : (ds : List Definition) → definitions (map empty_table ds) ≡ ds
@@ -356,16 +366,17 @@ rows_query : (s : State) (statement : Statement) (rows : Selection) → SelectsR
 rows_query s (Query select) rows selects = tt
 rows_query s statement rows selects = absurd selects
 
-query_of : (ds : List Definition) (g : ℕ) (statement : Statement) (reply_old reply : List ℕ) (prepared : Prepared) → IsPreparedFor ds g statement reply_old reply prepared → IsSelect prepared → IsQuery (Says statement)
-query_of ds g statement reply_old reply (Selects rows) asks select =
-    let s : State = record { partitioner = Lead8; tables = map empty_table ds } in
-    rows_query s statement rows ((asks.timeless tt (max_timestamp s)).of_state s (record { definitions_are = empty_definitions ds; max_time_is = refl })).1
-query_of ds g statement reply_old reply (Answered outcome) asks select = absurd select
-query_of ds g statement reply_old reply (Create t) asks select = absurd select
-query_of ds g statement reply_old reply (Writes w) asks select = absurd select
-query_of ds g statement reply_old reply (Flushes table) asks select = absurd select
+query_of : (known : Known) (statement : Statement) (reply_old reply : List ℕ) (prepared : Prepared) → IsPreparedFor known statement reply_old reply prepared → IsSelect prepared → IsQuery (Says statement)
+query_of known statement reply_old reply (Selects rows) asks select =
+    let s : State = record { partitioner = Lead8; tables = map empty_table known.tables } in
+    rows_query s statement rows ((asks.timeless tt (max_timestamp s)).of_state s (knows (record known { max_timestamp = max_timestamp s }) s (empty_definitions known.tables) refl)).1
+query_of known statement reply_old reply (Answered outcome) asks select = absurd select
+query_of known statement reply_old reply (Create t) asks select = absurd select
+query_of known statement reply_old reply (Define new) asks select = absurd select
+query_of known statement reply_old reply (Writes w) asks select = absurd select
+query_of known statement reply_old reply (Flushes table) asks select = absurd select
 
-pub piece_selects : {E : Type 0} (ds : List Definition) (g : ℕ) (piece : Piece) (statement : Statement) (reply_old reply : List ℕ) (result : Result Prepared E) → read piece ≡ Says statement
-    → IfOk result (IsPreparedFor ds g statement reply_old reply) → IfOk result (λ prepared. IsSelect prepared → IsQuery (read piece))
-piece_selects ds g piece statement reply_old reply (Ok prepared) says asks = λ select. subst IsQuery (sym says) (query_of ds g statement reply_old reply prepared asks select)
-piece_selects ds g piece statement reply_old reply (Err e) says asks = tt
+pub piece_selects : {E : Type 0} (known : Known) (piece : Piece) (statement : Statement) (reply_old reply : List ℕ) (result : Result Prepared E) → read piece ≡ Says statement
+    → IfOk result (IsPreparedFor known statement reply_old reply) → IfOk result (λ prepared. IsSelect prepared → IsQuery (read piece))
+piece_selects known piece statement reply_old reply (Ok prepared) says asks = λ select. subst IsQuery (sym says) (query_of known statement reply_old reply prepared asks select)
+piece_selects known piece statement reply_old reply (Err e) says asks = tt

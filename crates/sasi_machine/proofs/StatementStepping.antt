@@ -1,14 +1,11 @@
 -- The steps of statements over a state of which the definitions and the largest timestamp are known: of those that are refused,
 -- and of those that are not.
-use Rattle.std.proofs.Common.{◌≡◌, false, true, is_some, ℕ, zero, suc, ◌+◌, ◌-◌, ◌<◌, ◌≤◌, List, [], ◌∷◌, ◌++◌, length, map, slice_get, Option, Some, None, refl, sym, ap, subst, ◌∙◌, inl, inr, arith}
+use Rattle.std.proofs.Common.{◌≡◌, false, true, is_some, ℕ, zero, suc, ◌+◌, ◌-◌, ◌<◌, List, [], ◌∷◌, ◌++◌, Option, Some, None, refl, sym, ap, subst, ◌∙◌, inl, inr, arith}
 use Rattle.std.specs.FinMap as fin
 use Rattle.std.specs.Option.{option_and_then, option_map, option_map_or}
 use Rattle.sasi_types.specs.declared.partitioner.Partitioner.{Partitioner}
-use Rattle.sasi_types.specs.declared.literal.Literal.{Literal}
-use Rattle.sasi_types.specs.declared.value.Value.{Value}
-use Rattle.sasi_types.specs.Value.{stored}
 use Rattle.sasi_types.specs.declared.statement.Statement.{Statement}
-use Rattle.sasi_types.specs.declared.statement.Statement.TheVariants.{CreateTable, Insert, Update, Delete, Query, Flush}
+use Rattle.sasi_types.specs.declared.statement.Statement.TheVariants.{CreateTable, Insert, Update, Delete}
 use Rattle.sasi_model.specs.Asked as ask
 use Rattle.sasi_model.specs.Asked.{Asked, asked_of, key_given, parsed_asks, statement_asks, write_of}
 use Rattle.sasi_model.specs.Cells.{Partition}
@@ -16,10 +13,9 @@ use Rattle.sasi_model.specs.Changes.{changed_behind, changed_tables, empty_table
 use Rattle.sasi_model.specs.Statements.{same}
 use Rattle.sasi_types.specs.declared.decorated_key.DecoratedKey.{DecoratedKey}
 use Rattle.sasi_types.specs.DecoratedKey.{decorated_cmp}
-use Rattle.sasi_model.specs.State.{Column, Definition, State, Table, apply, definition_of, max_timestamp, decorated, table_of, with_table}
+use Rattle.sasi_model.specs.State.{Column, Definition, State, Table, apply, definition_of, max_timestamp, decorated, with_table}
 use Rattle.sasi_model.specs.Abbreviations.{definitions, key_position, max_timestamp_of_tables, stored_of, ok_line, first_refusal, new_definition, key_type}
-use Rattle.sasi_model.specs.Refusals.{Refusal, RefusalRule, Says, refusal, rules}
-use Rattle.sasi_model.specs.Lines.{refusal_line}
+use Rattle.sasi_model.specs.Refusals.{Known, Refusal, Says, known_of, refusal, rules}
 use Rattle.sasi_model.specs.Step.{answer_of, applied, execute, decorated_given, primary_key, tables_after, timestamp, value_given}
 use Rattle.sasi_schema.specs.Answers.{IsFirstRefusal}
 use Rattle.sasi_schema.specs.Numbers.{IsKeyAt, number_of_table}
@@ -31,45 +27,40 @@ use Rattle.sasi_memtable.specs.MemtableView.{MemtableView, empty_memtable}
 use Rattle.sasi_machine.specs.Outcome.{outcome_of}
 use Rattle.sasi_machine.specs.Prepares.{IsPrepared, IsStateOf}
 use Rattle.sasi_machine.specs.TableRows.{KeysStored}
-use Rattle.sasi_machine.specs.Tables.{IsMachineState, state_of, table_with, tables_of}
+use Rattle.sasi_machine.specs.Tables.{IsMachineState, table_with, tables_of}
 use Rattle.sasi_machine.specs.StatementSteps.{IsRefused, StatementStepsTo}
 use Rattle.sasi_machine.specs.Writes.{IsWrite, IsWriting, change_in, key_in, table_named, time_in}
+use Rattle.sasi_machine.proofs.KnownStates.{definitions_are, max_time_is}
 use Rattle.sasi_machine.proofs.MaxTimestamps.{max_timestamp_push, nothing_held}
 use Rattle.sasi_machine.proofs.NumberedTables.{first_or_later, number_some, table_numbered}
-use Rattle.sasi_machine.proofs.TablesOfMemtables.{definitions_of, memtables_push, tables_push, under_push}
+use Rattle.sasi_machine.proofs.TablesOfMemtables.{memtables_push, tables_push, under_push}
 use Rattle.sasi_machine.proofs.WrittenKeys.{decorated_in, found_rules, given_in, key_asked, key_in_accepted}
 
 -- ---- whatever the statement
 
--- the machine's state is one of its definitions and its largest timestamp
-pub is_state_of : (p : Partitioner) (ds : List Definition) (cs : List MemtableView) (g : ℕ) → IsMachineState p ds cs g → IsStateOf ds g (state_of p ds cs)
-unfolding max_timestamp
-is_state_of p ds cs g kept = record { definitions_are = definitions_of ds cs kept.held; max_time_is = sym kept.max_timestamp_is }
+-- the rules are tried on what is known of the state
+pub rules_are : (s : State) (known : Known) (statement : Statement) → IsStateOf known s → rules (known_of s) statement ≡ rules known statement
+rules_are s known statement is = ap (λ (k : Known). rules k statement) is
 
--- the rules are tried on the definitions and the largest timestamp
-pub rules_are : (s : State) (ds : List Definition) (g : ℕ) (statement : Statement) → IsStateOf ds g s → rules (definitions s.tables) (max_timestamp s) statement ≡ rules ds g statement
-rules_are s ds g statement is =
-    ap (λ (tables : List Definition). rules tables (max_timestamp s) statement) is.definitions_are ∙ ap (λ (time : ℕ). rules ds time statement) is.max_time_is
-
-pub not_refused : (s : State) (ds : List Definition) (g : ℕ) (statement : Statement) → IsStateOf ds g s → first_refusal (rules ds g statement) ≡ None → refusal s statement ≡ None
+pub not_refused : (s : State) (known : Known) (statement : Statement) → IsStateOf known s → first_refusal (rules known statement) ≡ None → refusal s statement ≡ None
 unfolding refusal
-not_refused s ds g statement is none = ap first_refusal (rules_are s ds g statement is) ∙ none
+not_refused s known statement is none = ap first_refusal (rules_are s known statement is) ∙ none
 
-is_refusal : (s : State) (ds : List Definition) (g : ℕ) (statement : Statement) (r : Refusal) → IsStateOf ds g s → first_refusal (rules ds g statement) ≡ Some r → refusal s statement ≡ Some r
+is_refusal : (s : State) (known : Known) (statement : Statement) (r : Refusal) → IsStateOf known s → first_refusal (rules known statement) ≡ Some r → refusal s statement ≡ Some r
 unfolding refusal
-is_refusal s ds g statement r is first = ap first_refusal (rules_are s ds g statement is) ∙ first
+is_refusal s known statement r is first = ap first_refusal (rules_are s known statement is) ∙ first
 
-pub no_rule : (s : State) (ds : List Definition) (g : ℕ) (statement : Statement) → IsStateOf ds g s → refusal s statement ≡ None → first_refusal (rules ds g statement) ≡ None
+pub no_rule : (s : State) (known : Known) (statement : Statement) → IsStateOf known s → refusal s statement ≡ None → first_refusal (rules known statement) ≡ None
 unfolding refusal
-no_rule s ds g statement is none = sym (ap first_refusal (rules_are s ds g statement is)) ∙ none
+no_rule s known statement is none = sym (ap first_refusal (rules_are s known statement is)) ∙ none
 
 -- a statement that is refused
-pub refuses : (ds : List Definition) (g : ℕ) (statement : Statement) (refused : Option Refusal) (reply_old reply_new : List ℕ) (outcome : Outcome)
-    → IsFirstRefusal refused (rules ds g statement) → IsRefused refused reply_old reply_new outcome → IsPrepared ds g statement reply_old reply_new (Answered outcome)
-refuses ds g statement None reply_old reply_new outcome first refused = absurd refused
-refuses ds g statement (Some r) reply_old reply_new outcome first refused = record {
-  asked_is = ap (λ (o : Option Refusal). option_map_or (λ _. ask.NoChange) o (statement_asks ds g statement)) first;
-  of_state = λ s is. rw (is_refusal s ds g statement r is first) (record { state_is = refl; reply_is = refused.0; outcome_is = refused.1 });
+pub refuses : (known : Known) (statement : Statement) (refused : Option Refusal) (reply_old reply_new : List ℕ) (outcome : Outcome)
+    → IsFirstRefusal refused (rules known statement) → IsRefused refused reply_old reply_new outcome → IsPrepared known statement reply_old reply_new (Answered outcome)
+refuses known statement None reply_old reply_new outcome first refused = absurd refused
+refuses known statement (Some r) reply_old reply_new outcome first refused = record {
+  asked_is = ap (λ (o : Option Refusal). option_map_or (λ _. ask.NoChange) o (statement_asks known statement)) first;
+  of_state = λ s is. rw (is_refusal s known statement r is first) (record { state_is = refl; reply_is = refused.0; outcome_is = refused.1 });
 }
 
 -- a statement that isn't
@@ -79,8 +70,8 @@ pub takes : (s : State) (statement : Statement) (new : State) (reply_old reply_n
 takes s statement new reply_old reply_new outcome none new_is reply_is outcome_is = rw none (record { state_is = new_is; reply_is = reply_is; outcome_is = outcome_is })
 
 -- what it asks
-pub taken_asks : (ds : List Definition) (g : ℕ) (statement : Statement) → first_refusal (rules ds g statement) ≡ None → parsed_asks ds g (Says statement) ≡ statement_asks ds g statement
-taken_asks ds g statement none = ap (λ (o : Option Refusal). option_map_or (λ _. ask.NoChange) o (statement_asks ds g statement)) none
+pub taken_asks : (known : Known) (statement : Statement) → first_refusal (rules known statement) ≡ None → parsed_asks known (Says statement) ≡ statement_asks known statement
+taken_asks known statement none = ap (λ (o : Option Refusal). option_map_or (λ _. ask.NoChange) o (statement_asks known statement)) none
 
 -- ---- what is asked of a named table
 
@@ -121,10 +112,10 @@ record IsWriteFor (g : ℕ) (statement : Statement) (w : Mutation) (d : Definiti
   key_is : w.key ≡ stored_of (value_given (key_type d) (key_in d statement))
   change_is : w.change ≡ change_in d time statement
 
-write_for : (ds : List Definition) (g : ℕ) (statement : Statement) (w : Mutation) → IsWriting statement → (write : IsWrite ds g statement w) → first_refusal (rules ds g statement) ≡ None → IsWriteFor g statement w write.definition
-write_for ds g statement w writing write none = record {
+write_for : (known : Known) (statement : Statement) (w : Mutation) → IsWriting statement → (write : IsWrite known statement w) → first_refusal (rules known statement) ≡ None → IsWriteFor known.max_timestamp statement w write.definition
+write_for known statement w writing write none = record {
   at = write.key_is_there;
-  accepted = key_in_accepted write.definition g statement writing write.key_is_there (found_rules ds g statement write.definition writing write.found none);
+  accepted = key_in_accepted write.definition known.max_timestamp statement writing write.key_is_there (found_rules known statement write.definition writing write.found none);
   time = write.written.time;
   time_is = write.written.time_is.is;
   key_is = write.written.change.key_is;
@@ -161,34 +152,34 @@ behind_is : (number : ℕ) (key : DecoratedKey) (change : Partition) (ts : List 
 behind_is zero key change ts some = absurd (omega (arith, some))
 behind_is (suc before) key change ts some = let e : before ≡ suc before - 1 = omega arith in ap (λ (k : ℕ). changed_behind k key change ts) e
 
-pub write_tables : (s : State) (ds : List Definition) (g : ℕ) (statement : Statement) (w : Mutation) → IsStateOf ds g s → IsWriting statement → IsWrite ds g statement w → first_refusal (rules ds g statement) ≡ None
+pub write_tables : (s : State) (known : Known) (statement : Statement) (w : Mutation) → IsStateOf known s → IsWriting statement → IsWrite known statement w → first_refusal (rules known statement) ≡ None
     → changed_tables w.table (decorated s.partitioner w.key) w.change s.tables ≡ tables_after s statement
-write_tables s ds g statement w is writing write none =
+write_tables s known statement w is writing write none =
     let name = table_named statement in
     let key = decorated s.partitioner w.key in
-    let number : number_of_table name (definitions s.tables) ≡ Some w.table = ap (number_of_table name) is.definitions_are ∙ write.number in
-    let found : definition_of name (definitions s.tables) ≡ Some write.definition = ap (definition_of name) is.definitions_are ∙ write.found in
+    let number : number_of_table name (definitions s.tables) ≡ Some w.table = ap (number_of_table name) (definitions_are known s is) ∙ write.number in
+    let found : definition_of name (definitions s.tables) ≡ Some write.definition = ap (definition_of name) (definitions_are known s is) ∙ write.found in
     let t = table_numbered name s.tables w.table write.definition number found in
     let f : IsWriteFor (max_timestamp s) statement w t.table.definition = subst (IsWriteFor (max_timestamp s) statement w) (sym t.definition_is)
-    (subst (λ (time : ℕ). IsWriteFor time statement w write.definition) (sym is.max_time_is) (write_for ds g statement w writing write none)) in
-    behind_is w.table key w.change s.tables (number_some name ds w.table write.number)
+    (subst (λ (time : ℕ). IsWriteFor time statement w write.definition) (sym (max_time_is known s is)) (write_for known statement w writing write none)) in
+    behind_is w.table key w.change s.tables (number_some name known.tables w.table write.number)
     ∙ sym (writes_table s statement writing ∙ t.changed (change_of s.partitioner (max_timestamp s) statement) key w.change (written_table s.partitioner (max_timestamp s) statement w t.table writing f))
 
 -- what it asks
-asks_write : (ds : List Definition) (g : ℕ) (statement : Statement) → IsWriting statement → statement_asks ds g statement ≡ asked_of 1 (table_named statement) (λ n d. write_of n (option_and_then (key_given d) (given_in d statement)) (option_map (λ time. change_in d time statement) (timestamp g (time_in statement)))) ds
-asks_write ds g (Insert table columns values time) is = refl
-asks_write ds g (Update table time sets key value) is = refl
-asks_write ds g (Delete table columns time key value) is = refl
-asks_write ds g statement is = absurd is
+asks_write : (known : Known) (statement : Statement) → IsWriting statement → statement_asks known statement ≡ asked_of 1 (table_named statement) (λ n d. write_of n (option_and_then (key_given d) (given_in d statement)) (option_map (λ time. change_in d time statement) (timestamp known.max_timestamp (time_in statement)))) known.tables
+asks_write known (Insert table columns values time) is = refl
+asks_write known (Update table time sets key value) is = refl
+asks_write known (Delete table columns time key value) is = refl
+asks_write known statement is = absurd is
 
-pub write_asked : (ds : List Definition) (g : ℕ) (statement : Statement) (w : Mutation) → IsWriting statement → IsWrite ds g statement w → first_refusal (rules ds g statement) ≡ None → statement_asks ds g statement ≡ ask.Writes w.table w.key w.change
-write_asked ds g statement w writing write none =
+pub write_asked : (known : Known) (statement : Statement) (w : Mutation) → IsWriting statement → IsWrite known statement w → first_refusal (rules known statement) ≡ None → statement_asks known statement ≡ ask.Writes w.table w.key w.change
+write_asked known statement w writing write none =
     let d = write.definition in
-    let f = write_for ds g statement w writing write none in
-    asks_write ds g statement writing
-    ∙ asked_numbered (table_named statement) (λ n d. write_of n (option_and_then (key_given d) (given_in d statement)) (option_map (λ time. change_in d time statement) (timestamp g (time_in statement)))) ds w.table d write.number write.found
-    ∙ ap (λ (k : Option (List ℕ)). write_of w.table k (option_map (λ time. change_in d time statement) (timestamp g (time_in statement)))) (key_asked d statement writing f.at f.accepted ∙ ap Some (sym f.key_is))
-    ∙ ap (write_of w.table (Some w.key)) (changes_are g statement w d f)
+    let f = write_for known statement w writing write none in
+    asks_write known statement writing
+    ∙ asked_numbered (table_named statement) (λ n d. write_of n (option_and_then (key_given d) (given_in d statement)) (option_map (λ time. change_in d time statement) (timestamp known.max_timestamp (time_in statement)))) known.tables w.table d write.number write.found
+    ∙ ap (λ (k : Option (List ℕ)). write_of w.table k (option_map (λ time. change_in d time statement) (timestamp known.max_timestamp (time_in statement)))) (key_asked d statement writing f.at f.accepted ∙ ap Some (sym f.key_is))
+    ∙ ap (write_of w.table (Some w.key)) (changes_are known.max_timestamp statement w d f)
 
 -- ---- CREATE TABLE
 
@@ -212,4 +203,4 @@ pushed p cs room new c same push is = push ∙ ap (λ (cs : List MemtableView). 
 pub created_tables : (s : State) (table : List ℕ) (columns : List Column) (keys : List (List ℕ)) → primary_key columns keys ≡ Some (key_position columns keys)
     → s.tables ++ empty_table (new_definition table columns keys) ∷ [] ≡ tables_after s (CreateTable table columns keys)
 created_tables s table columns keys found =
-    ap (λ (o : Option ℕ). option_map_or (λ key. s.tables ++ empty_table (record { name = table; columns = columns; key = key }) ∷ []) o s.tables) (sym found)
+    ap (λ (o : Option ℕ). option_map_or (λ key. s.tables ++ empty_table (record { name = table; columns = columns; key = key; indexes = [] }) ∷ []) o s.tables) (sym found)

@@ -12,7 +12,7 @@ use Rattle.sasi_types.specs.declared.value.Value.{Value}
 use Rattle.sasi_types.specs.Value.{stored}
 use Rattle.sasi_model.specs.Asked as asked
 use Rattle.sasi_model.specs.State.{Column, Definition, decorated, definition_of}
-use Rattle.sasi_model.specs.Refusals.{RefusalRule, no_column, repeat_rules, rules}
+use Rattle.sasi_model.specs.Refusals.{Known, RefusalRule, no_column, repeat_rules, rules}
 use Rattle.sasi_model.specs.Abbreviations.{first_refusal, stored_of, key_type}
 use Rattle.sasi_model.specs.Step.{decorated_given, given_key, value_given}
 use Rattle.sasi_schema.specs.Numbers.{IsKeyAt}
@@ -27,12 +27,12 @@ use Rattle.sasi_machine.proofs.KeyRules.{insert_rules_are}
 use Rattle.sasi_machine.proofs.StatementBodies.{write_rules}
 
 -- the rules of the write are those of its table
-pub found_rules : (ds : List Definition) (g : ℕ) (statement : Statement) (d : Definition) → IsWriting statement → definition_of
-    (table_named statement) ds ≡ Some d → first_refusal (rules ds g statement) ≡ None → first_refusal (write_rules g statement d) ≡ None
-found_rules ds g (Insert table columns values time) d writing found none = rw found at none
-found_rules ds g (Update table time sets key value) d writing found none = rw found at none
-found_rules ds g (Delete table columns time key value) d writing found none = rw found at none
-found_rules ds g statement d writing found none = absurd writing
+pub found_rules : (known : Known) (statement : Statement) (d : Definition) → IsWriting statement → definition_of
+    (table_named statement) known.tables ≡ Some d → first_refusal (rules known statement) ≡ None → first_refusal (write_rules known.max_timestamp statement d) ≡ None
+found_rules known (Insert table columns values time) d writing found none = rw found at none
+found_rules known (Update table time sets key value) d writing found none = rw found at none
+found_rules known (Delete table columns time key value) d writing found none = rw found at none
+found_rules known statement d writing found none = absurd writing
 
 pub key_in_accepted : (d : Definition) (g : ℕ) (statement : Statement) → IsWriting statement → IsKeyAt d.key d.columns → first_refusal
     (write_rules g statement d) ≡ None → IsKeyLiteral (key_type d) (key_in d statement)

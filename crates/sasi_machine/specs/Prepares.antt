@@ -1,25 +1,27 @@
--- What a piece prepares: an answer alone, a new table, a mutation, a flush, or rows to print.
+-- What a piece prepares: an answer alone, a new table, a new index, a mutation, a flush, or rows to print.
 use Rattle.std.specs.Prelude.{◌≡◌, ℕ, ◌+◌, ◌-◌, ◌<◌, ◌≤◌, List, length, slice_get, [], None, Some, ⊤}
 use Rattle.std.specs.FinMap as map_
 use Rattle.std.specs.Option.{option_map_or}
 use Rattle.sasi_types.specs.declared.column.ColumnType.{ColumnType}
 use Rattle.sasi_types.specs.declared.statement.Statement.{Statement}
-use Rattle.sasi_types.specs.declared.statement.Statement.TheVariants.{CreateTable, Flush, Query}
+use Rattle.sasi_types.specs.declared.statement.Statement.TheVariants.{CreateTable, CreateIndex, Flush, Query}
 use Rattle.sasi_cells.specs.declared.mutation.Mutation.{Mutation}
-use Rattle.sasi_cells.specs.declared.picked.Picked.{Picked}
 use Rattle.sasi_cells.specs.Mutations.{state_with_mutation}
 use Rattle.sasi_schema.specs.Defined.{definition}
+use Rattle.sasi_schema.specs.IndexFacts.{IsIndexIn}
 use Rattle.sasi_schema.specs.Numbers.{number_of_table}
+use Rattle.sasi_schema.specs.SchemaViews.{IsNewIndex, SchemaView, index_of_new, numbered_def}
+use Rattle.sasi_schema.specs.declared.index.NewIndex.{NewIndex}
 use Rattle.sasi_schema.specs.declared.table.Table.{Table}
 use Rattle.sasi_model.specs.Lines.{rows_lines}
 use Rattle.sasi_model.specs.Pieces.{Piece}
 use Rattle.sasi_model.specs.State as model
-use Rattle.sasi_model.specs.State.{Definition, State, definition_of, max_timestamp}
+use Rattle.sasi_model.specs.State.{State, definition_of}
 use Rattle.sasi_model.specs.Asked as ask
-use Rattle.sasi_model.specs.Asked.{Asked, asks, parsed_asks}
+use Rattle.sasi_model.specs.Asked.{Asked, parsed_asks}
 use Rattle.sasi_model.specs.Abbreviations.{Partitions, definitions, key_type, new_definition}
-use Rattle.sasi_model.specs.Changes.{with_new_table}
-use Rattle.sasi_model.specs.Refusals.{ParsedPiece, Says, read, refusal}
+use Rattle.sasi_model.specs.Changes.{state_with_index, with_new_table}
+use Rattle.sasi_model.specs.Refusals.{Known, ParsedPiece, Says, known_of, read, refusal}
 use Rattle.sasi_model.specs.Step.{answer_of, step}
 use Rattle.sasi_model.specs.Stored.{IsBodyOf, column_types}
 use Rattle.sasi_model.specs.WellFormed.{IsWellFormed}
@@ -29,13 +31,16 @@ use Rattle.sasi_machine.specs.TableRows.{rows_picked}
 use Rattle.sasi_machine.specs.Writes.{IsWrite, IsWriting}
 use Rattle.sasi_machine.specs.declared.outcome.Outcome.{Outcome}
 use Rattle.sasi_machine.specs.declared.prepared.Prepared.{Prepared}
-use Rattle.sasi_machine.specs.declared.prepared.Prepared.TheVariants.{Answered, Create, Write as Writes, Flush as Flushes, Select as Selects}
+use Rattle.sasi_machine.specs.declared.prepared.Prepared.TheVariants.{Answered, Create, Define, Write as Writes, Flush as Flushes, Select as Selects}
 use Rattle.sasi_machine.specs.declared.prepared.Selection.{Selection}
 
--- what is prepared depends on no more of a state than its definitions and its largest timestamp
-pub record IsStateOf (tables : List Definition) (max_time : ℕ) (s : State) : Type 0 where
-  pub definitions_are : definitions s.tables ≡ tables
-  pub max_time_is : max_timestamp s ≡ max_time
+-- what is known of a state with this schema and this largest timestamp
+abbrev pub known_by : SchemaView → ℕ → Known
+known_by schema max_timestamp = record { tables = schema.definitions; max_timestamp = max_timestamp }
+
+-- what is prepared depends on no more of a state than what is known of it
+abbrev pub IsStateOf : Known → State → Type 0
+IsStateOf known s = known_of s ≡ known
 
 -- ---- what can be done to a state
 
@@ -53,6 +58,10 @@ pub record IsApplicable (s : State) (w : Mutation) : Type 0 where
   pub types_are : column_types table.definition ≡ Some types
   pub body : IsBodyOf types w.key w.change
 
+-- the index can be added to its table, under whatever number
+abbrev pub IsAddable : State → NewIndex → Type 0
+IsAddable s new = (number : ℕ) → IsIndexIn (definitions s.tables) (numbered_def number new)
+
 -- there is a table of this number
 pub record HasTable (s : State) (number : ℕ) : Type 0 where
   pub some : 0 < number
@@ -65,11 +74,16 @@ abbrev pub CreatesTable : State → Statement → Table → Type 0
 CreatesTable s (CreateTable table columns keys) t = (refusal s (CreateTable table columns keys) ≡ None) × (definition t ≡ new_definition table columns keys) × (t.number ≡ length s.tables + 1)
 CreatesTable s statement t = ⊥
 
+-- the statement isn't refused, and defines this index
+abbrev pub DefinesIndex : State → Statement → NewIndex → Type 0
+DefinesIndex s (CreateIndex name table column class options stepped) new = (refusal s (CreateIndex name table column class options stepped) ≡ None) × IsNewIndex (definitions s.tables) name table column options new × IsAddable s new
+DefinesIndex s statement new = ⊥
+
 -- the statement isn't refused, and writes this mutation
 pub record WritesTo (s : State) (statement : Statement) (w : Mutation) : Type 0 where
   pub writing : IsWriting statement
   pub taken : refusal s statement ≡ None
-  pub write : IsWrite (definitions s.tables) (max_timestamp s) statement w
+  pub write : IsWrite (known_of s) statement w
 
 -- the statement isn't refused, and flushes the table of this number
 abbrev pub FlushesTable : State → Statement → ℕ → Type 0
@@ -100,6 +114,7 @@ SelectsRows s statement rows = ⊥
 abbrev pub StatementPrepares : State → Statement → List ℕ → List ℕ → Prepared → Type 0
 StatementPrepares s statement reply_old reply_new (Answered outcome) = StatementStepsTo s statement s reply_old reply_new outcome
 StatementPrepares s statement reply_old reply_new (Create t) = StatementStepsTo s statement (with_new_table s (definition t)) reply_old reply_new (outcome_of None) × CreatesTable s statement t
+StatementPrepares s statement reply_old reply_new (Define new) = StatementStepsTo s statement (state_with_index s new.table (index_of_new new)) reply_old reply_new (outcome_of None) × DefinesIndex s statement new
 StatementPrepares s statement reply_old reply_new (Writes w) = StatementStepsTo s statement (state_with_mutation s w) reply_old reply_new (outcome_of None) × WritesTo s statement w
 StatementPrepares s statement reply_old reply_new (Flushes table) = StatementStepsTo s statement s reply_old reply_new (outcome_of None) × FlushesTable s statement table
 StatementPrepares s statement reply_old reply_new (Selects rows) = (reply_new ≡ reply_old) × SelectsRows s statement rows
@@ -108,27 +123,29 @@ StatementPrepares s statement reply_old reply_new (Selects rows) = (reply_new �
 abbrev pub asked_by : Prepared → Asked
 asked_by (Answered outcome) = ask.NoChange
 asked_by (Create t) = ask.Creates (definition t)
+asked_by (Define new) = ask.Defines new.table (index_of_new new)
 asked_by (Writes w) = ask.Writes w.table w.key w.change
 asked_by (Flushes table) = ask.Flushes table
 asked_by (Selects rows) = ask.NoChange
 
--- what a statement prepares over tables of these definitions, where this is the largest timestamp of their state
-pub record IsPrepared (tables : List Definition) (max_time : ℕ) (statement : Statement) (reply_old reply_new : List ℕ) (prepared : Prepared) : Type 0 where
-  pub asked_is : parsed_asks tables max_time (Says statement) ≡ asked_by prepared
-  pub of_state : (s : State) → IsStateOf tables max_time s → StatementPrepares s statement reply_old reply_new prepared
+-- what a statement prepares, by what is known of the state
+pub record IsPrepared (known : Known) (statement : Statement) (reply_old reply_new : List ℕ) (prepared : Prepared) : Type 0 where
+  pub asked_is : parsed_asks known (Says statement) ≡ asked_by prepared
+  pub of_state : (s : State) → IsStateOf known s → StatementPrepares s statement reply_old reply_new prepared
 
--- a new table, a flush and rows don't depend on the time
+-- a new table, a new index, a flush and rows don't depend on the time
 abbrev pub IsTimeless : Prepared → Type 0
 IsTimeless (Answered outcome) = ⊥
 IsTimeless (Create t) = ⊤
+IsTimeless (Define new) = ⊤
 IsTimeless (Writes w) = ⊥
 IsTimeless (Flushes table) = ⊤
 IsTimeless (Selects rows) = ⊤
 
 -- the same, where what doesn't depend on the time is prepared whatever the largest timestamp
-pub record IsPreparedFor (tables : List Definition) (max_time : ℕ) (statement : Statement) (reply_old reply_new : List ℕ) (prepared : Prepared) : Type 0 where
-  pub now : IsPrepared tables max_time statement reply_old reply_new prepared
-  pub timeless : IsTimeless prepared → (other : ℕ) → IsPrepared tables other statement reply_old reply_new prepared
+pub record IsPreparedFor (known : Known) (statement : Statement) (reply_old reply_new : List ℕ) (prepared : Prepared) : Type 0 where
+  pub now : IsPrepared known statement reply_old reply_new prepared
+  pub timeless : IsTimeless prepared → (other : ℕ) → IsPrepared (record known { max_timestamp = other }) statement reply_old reply_new prepared
 
 -- ---- what a piece asks for
 
@@ -156,6 +173,7 @@ SaysOne piece P = (statement : Statement) × (read piece ≡ Says statement) × 
 abbrev pub Prepares : State → Piece → List ℕ → Prepared → Type 0
 Prepares s piece reply (Answered outcome) = StepsTo s piece s reply outcome
 Prepares s piece reply (Create t) = StepsTo s piece (with_new_table s (definition t)) reply (outcome_of None) × SaysOne piece (λ statement. CreatesTable s statement t) × IsNewTable s t
+Prepares s piece reply (Define new) = StepsTo s piece (state_with_index s new.table (index_of_new new)) reply (outcome_of None) × SaysOne piece (λ statement. DefinesIndex s statement new) × IsAddable s new
 Prepares s piece reply (Writes w) = StepsTo s piece (state_with_mutation s w) reply (outcome_of None) × SaysOne piece (λ statement. WritesTo s statement w) × IsApplicable s w
 Prepares s piece reply (Flushes table) = StepsTo s piece s reply (outcome_of None) × SaysOne piece (λ statement. FlushesTable s statement table) × HasTable s table
 Prepares s piece reply (Selects rows) = StepsTo s piece s (answer_rows s rows) (outcome_of None) × (reply ≡ []) × HasRows s rows × SaysOne piece (λ statement. SelectsRows s statement rows)

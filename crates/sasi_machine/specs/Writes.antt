@@ -8,6 +8,7 @@ use Rattle.sasi_types.specs.declared.statement.Statement.{Statement}
 use Rattle.sasi_types.specs.declared.statement.Statement.TheVariants.{Insert, Update, Delete}
 use Rattle.sasi_cells.specs.Rows.{IsStored}
 use Rattle.sasi_model.specs.Cells.{Partition, empty_partition}
+use Rattle.sasi_model.specs.Refusals.{Known}
 use Rattle.sasi_model.specs.State.{Definition, definition_of}
 use Rattle.sasi_model.specs.Step.{delete_change, insert_change, value_given}
 use Rattle.sasi_model.specs.Abbreviations.{key_literal, update_change, stored_of, COLUMN_LIMIT, key_type}
@@ -69,10 +70,10 @@ pub record IsWriteTo (max_timestamp : ℕ) (d : Definition) (statement : Stateme
   pub change : IsChange d (key_in d statement) (change_in d time statement) mutation
 
 -- what the statement writes, to the table that it names
-pub record IsWrite (tables : List Definition) (max_timestamp : ℕ) (statement : Statement) (w : Mutation) : Type 0 where
+pub record IsWrite (known : Known) (statement : Statement) (w : Mutation) : Type 0 where
   pub definition : Definition
-  pub found : definition_of (table_named statement) tables ≡ Some definition
+  pub found : definition_of (table_named statement) known.tables ≡ Some definition
   pub key_is_there : IsKeyAt definition.key definition.columns
   pub few : length definition.columns ≤ COLUMN_LIMIT
-  pub number : number_of_table (table_named statement) tables ≡ Some w.table
-  pub written : IsWriteTo max_timestamp definition statement w
+  pub number : number_of_table (table_named statement) known.tables ≡ Some w.table
+  pub written : IsWriteTo known.max_timestamp definition statement w

@@ -21,6 +21,7 @@ pub fn is_built(statement: &Statement) -> bool
         | Statement::Update { .. }
         | Statement::Delete { .. }
         | Statement::Flush { .. } => true,
+        Statement::CreateIndex { stepped, .. } => !*stepped,
         Statement::Query { select } => is_plain(select),
         _ => false,
     }

@@ -31,10 +31,15 @@ impl Fault {
     {
         match fault {
             SchemaFault::OutOfMemory => Fault::OutOfMemory,
+            SchemaFault::NoTable(name) => Fault::Refused(Refusal::NoTable(name)),
             SchemaFault::TableExists(name) => Fault::Refused(Refusal::TableExists(name)),
             SchemaFault::NoColumn(name) => Fault::Refused(Refusal::NoColumn(name)),
             SchemaFault::ColumnRepeated(name) => Fault::Refused(Refusal::ColumnRepeated(name)),
             SchemaFault::KeyMissing(name) => Fault::Refused(Refusal::KeyMissing(name)),
+            SchemaFault::IndexExists(name) => Fault::Refused(Refusal::IndexExists(name)),
+            SchemaFault::BadOption(option) => Fault::Refused(Refusal::BadOption(option)),
+            SchemaFault::BadUsing => Fault::Refused(Refusal::BadUsing),
+            SchemaFault::ModeType(column) => Fault::Refused(Refusal::ModeType(column)),
             SchemaFault::TooMany(limit) => Fault::Refused(Refusal::TooMany(limit)),
         }
     }

@@ -8,6 +8,7 @@ mod built;
 mod change;
 mod check;
 mod fault;
+mod index;
 mod key;
 mod literal_rule;
 mod literals;

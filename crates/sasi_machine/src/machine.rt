@@ -2,12 +2,13 @@
 ghost use Rattle.std.specs.Prelude.{◌≡◌, ◌++◌, IfOk, OnOk, OnErr};
 ghost use Rattle.sasi_model.specs.Pieces.{piece_of};
 ghost use Rattle.sasi_model.specs.Abbreviations.{empty_state};
-ghost use Rattle.sasi_model.specs.Changes.{with_new_table};
+ghost use Rattle.sasi_model.specs.Changes.{state_with_index, with_new_table};
 ghost use Rattle.sasi_model.specs.Step.{step};
 ghost use Rattle.sasi_schema.specs.Defined.{definition};
+ghost use Rattle.sasi_schema.specs.SchemaViews.{index_of_new};
 ghost use Rattle.sasi_machine.specs.Outcome.{outcome_of};
 ghost use Rattle.sasi_cells.specs.Mutations.{state_with_mutation};
-ghost use Rattle.sasi_machine.specs.Prepares.{HasRows, IsApplicable, IsNewTable, Prepares, answer_rows};
+ghost use Rattle.sasi_machine.specs.Prepares.{HasRows, IsAddable, IsApplicable, IsNewTable, Prepares, answer_rows};
 
 use crate::memtables::{add_within, merge_into, reserve_one};
 use crate::prepared::{Prepared, Selection};
@@ -16,7 +17,7 @@ use crate::table_rows::print_rows;
 use crate::{Outcome, Reply};
 use sasi_cells::Mutation;
 use sasi_memtable::Memtable;
-use sasi_schema::{Schema, Table};
+use sasi_schema::{NewIndex, Schema, Table};
 use sasi_types::{Partitioner, PieceEnd};
 use std::alloc::{AllocError, Global};
 use std::marker::Model;
@@ -41,9 +42,9 @@ impl Model for Machine {
 
     ghost use Rattle.sasi_machine.specs.Tables.{IsMachineState, state_of};
 
-    ghost view = { λ a. state_of a.partitioner a.schema a.memtables.items };
+    ghost view = { λ a. state_of a.partitioner a.schema.definitions a.memtables.items };
 
-    ghost invariant = { λ a. IsMachineState a.partitioner a.schema a.memtables.items a.max_timestamp };
+    ghost invariant = { λ a. IsMachineState a.partitioner a.schema.definitions a.memtables.items a.max_timestamp };
 }
 
 impl Machine {
@@ -83,6 +84,10 @@ impl Machine {
             Prepared::Answered(outcome) => Ok(outcome),
             Prepared::Create(table) => {
                 self.create_table(table)?;
+                Ok(Outcome::Done)
+            }
+            Prepared::Define(new) => {
+                self.define_index(new)?;
                 Ok(Outcome::Done)
             }
             Prepared::Write(mutation) => {
@@ -135,6 +140,18 @@ impl Machine {
         self.schema.restore_table(table)?;
         let memtable = Memtable::new(self.alloc, self.partitioner);
         add_within(&mut self.memtables, memtable);
+        Ok(())
+    }
+
+    /// Defines an index that was prepared, under the next number.
+    pub fn define_index(&mut self, new: NewIndex) -> Result<(), AllocError>
+        requires { IsAddable self.old new }
+        ensures ok { OnOk result (self.new ≡ state_with_index self.old new.table (index_of_new new)) }
+        ensures err { OnErr result (self.new ≡ self.old) }
+    {
+        // A machine alone has no answer of its own for numbers that are spent: it says out of memory.
+        let number = self.schema.last_index().checked_add(1).ok_or(AllocError)?;
+        self.schema.restore_index(new.numbered(number))?;
         Ok(())
     }
 

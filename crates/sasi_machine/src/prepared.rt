@@ -1,7 +1,7 @@
 // Prepared pieces.
 use crate::Outcome;
 use sasi_cells::{Mutation, Picked};
-use sasi_schema::Table;
+use sasi_schema::{NewIndex, Table};
 use sasi_types::TableNumber;
 
 /// What is left to do for a piece, once its reply is known.
@@ -11,6 +11,8 @@ pub enum Prepared {
     Answered(Outcome),
     /// A table to create.
     Create(Table),
+    /// An index to define, under a number that it has yet to get.
+    Define(NewIndex),
     /// A mutation to apply.
     Write(Mutation),
     /// A table to flush.

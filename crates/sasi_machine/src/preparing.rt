@@ -7,11 +7,12 @@ ghost use Rattle.sasi_model.specs.Pieces.{piece_of};
 ghost use Rattle.sasi_model.specs.Abbreviations.{definitions};
 ghost use Rattle.sasi_model.specs.Refusals.{is_built, read as parsed};
 ghost use Rattle.sasi_model.specs.State.{State};
-ghost use Rattle.sasi_machine.specs.Prepares.{IsPrepared, IsPreparedFor, IsQuery, IsSelect, IsStateOf, IsTimeless, Prepares, asked_by};
+ghost use Rattle.sasi_machine.specs.Prepares.{IsPrepared, IsPreparedFor, IsQuery, IsSelect, IsStateOf, IsTimeless, Prepares, asked_by, known_by};
 ghost use Rattle.sasi_machine.specs.Writes.{IsWriting};
 
 use crate::builder::MutationBuilder;
 use crate::fault::Fault;
+use crate::index::prepare_index;
 use crate::prepared::Prepared;
 use crate::read::{ParsedPiece, read};
 use crate::reply_refusal::{reply_fault, reply_refusal};
@@ -33,10 +34,10 @@ pub fn prepare(
     reply: &mut Reply,
 ) -> Result<Prepared, AllocError>
     requires { max_timestamp ≤ time_limit }
-    ensures asked { IfOk result (λ prepared. asks schema.now max_timestamp (piece_of end piece.now) ≡ asked_by prepared) }
-    ensures prepares { IfOk result (λ prepared. (s : State) → IsStateOf schema.now max_timestamp s → Prepares s (piece_of end piece.now) reply.new prepared) }
+    ensures asked { IfOk result (λ prepared. asks (known_by schema.now max_timestamp) (piece_of end piece.now) ≡ asked_by prepared) }
+    ensures prepares { IfOk result (λ prepared. (s : State) → IsStateOf (known_by schema.now max_timestamp) s → Prepares s (piece_of end piece.now) reply.new prepared) }
     // What doesn't depend on the time is prepared for each state with these definitions.
-    ensures timeless { IfOk result (λ prepared. IsTimeless prepared → (s : State) → definitions s.tables ≡ schema.now → Prepares s (piece_of end piece.now) reply.new prepared) }
+    ensures timeless { IfOk result (λ prepared. IsTimeless prepared → (s : State) → definitions s.tables ≡ schema.now.definitions → Prepares s (piece_of end piece.now) reply.new prepared) }
     ensures selects { IfOk result (λ prepared. IsSelect prepared → IsQuery (parsed (piece_of end piece.now))) }
 {
     reply.clear();
@@ -65,7 +66,7 @@ fn prepare_statement(
 ) -> Result<Prepared, AllocError>
     requires limit { builder.now.max_timestamp ≤ time_limit }
     requires built { is_built statement ≡ true }
-    ensures { IfOk result (IsPreparedFor schema.now builder.now.max_timestamp statement reply.old reply.new) }
+    ensures { IfOk result (IsPreparedFor (known_by schema.now builder.now.max_timestamp) statement reply.old reply.new) }
 {
     match statement {
         Statement::CreateTable {
@@ -73,6 +74,22 @@ fn prepare_statement(
             columns,
             keys,
         } => prepare_table(builder.alloc, schema, &table, &columns, &keys, reply),
+        Statement::CreateIndex {
+            name,
+            table,
+            column,
+            class,
+            options,
+            ..
+        } => prepare_index(
+            schema,
+            name.as_ref(),
+            &table,
+            &column,
+            &class,
+            &options,
+            reply,
+        ),
         Statement::Query { select } => prepare_select(builder.alloc, schema, &select, reply),
         Statement::Flush { table } => prepare_flush(schema, table, reply),
         write => prepare_mutation(builder, schema, write, reply),
@@ -87,7 +104,7 @@ fn prepare_table(
     keys: &Names,
     reply: &mut Reply,
 ) -> Result<Prepared, AllocError>
-    ensures { IfOk result (λ prepared. (max_time : ℕ) → IsPrepared schema.now max_time (CreateTable table.now columns.now keys.now) reply.old reply.new prepared) }
+    ensures { IfOk result (λ prepared. (max_time : ℕ) → IsPrepared (known_by schema.now max_time) (CreateTable table.now columns.now keys.now) reply.old reply.new prepared) }
 {
     let columns = columns.unpack(alloc)?;
     let keys = keys.unpack(alloc)?;
@@ -102,7 +119,7 @@ fn prepare_definition(
     keys: &[Name],
     reply: &mut Reply,
 ) -> Result<Prepared, AllocError>
-    ensures { IfOk result (λ prepared. (max_time : ℕ) → IsPrepared schema.now max_time (CreateTable table.now columns.now keys.now) reply.old reply.new prepared) }
+    ensures { IfOk result (λ prepared. (max_time : ℕ) → IsPrepared (known_by schema.now max_time) (CreateTable table.now columns.now keys.now) reply.old reply.new prepared) }
 {
     match schema.prepare_table(table, columns, keys) {
         Ok(table) => {
@@ -117,7 +134,7 @@ fn prepare_definition(
 }
 
 fn prepare_flush(schema: &Schema, table: Name, reply: &mut Reply) -> Result<Prepared, AllocError>
-    ensures { IfOk result (λ prepared. (max_time : ℕ) → IsPrepared schema.now max_time (Flush table) reply.old reply.new prepared) }
+    ensures { IfOk result (λ prepared. (max_time : ℕ) → IsPrepared (known_by schema.now max_time) (Flush table) reply.old reply.new prepared) }
 {
     match schema.table(&table) {
         Some(table) => {
@@ -140,7 +157,7 @@ fn prepare_mutation(
 ) -> Result<Prepared, AllocError>
     requires limit { builder.now.max_timestamp ≤ time_limit }
     requires writing { IsWriting statement }
-    ensures { IfOk result (IsPreparedFor schema.now builder.now.max_timestamp statement reply.old reply.new) }
+    ensures { IfOk result (IsPreparedFor (known_by schema.now builder.now.max_timestamp) statement reply.old reply.new) }
 {
     match statement_mutation(builder, schema, statement) {
         Ok(mutation) => {

@@ -4,7 +4,7 @@ ghost use Rattle.std.specs.List.{flat_map};
 ghost use Rattle.std.specs.Fmt.{decimal, signed_decimal};
 ghost use Rattle.uuid.specs.Text.{hyphenated_text, lower};
 ghost use Rattle.sasi_model.specs.Lines.{printed, refusal_line, value_printed};
-ghost use Rattle.sasi_model.specs.Abbreviations.{ok_line, row_line, count_line, text_printed, row_text, refusal_text};
+ghost use Rattle.sasi_model.specs.Abbreviations.{ok_line, row_line, count_line, text_printed, row_text, refusal_text, BadOption};
 ghost use Rattle.sasi_machine.specs.Refusal.{refusal_of};
 ghost use Rattle.sasi_machine.specs.declared.refusal.Refusal.TheVariants.{NotUtf8, Syntax};
 
@@ -151,12 +151,26 @@ fn reason_of(refusal: &Refusal) -> (&[u8], &[u8])
         Refusal::KeyMissing(name) => (b"KeyMissing ", name.bytes()),
         Refusal::KeyEmpty(name) => (b"KeyEmpty ", name.bytes()),
         Refusal::ValueTooLong(name) => (b"ValueTooLong ", name.bytes()),
+        Refusal::IndexExists(name) => (b"IndexExists ", name.bytes()),
+        Refusal::BadOption(option) => bad_option(option.bytes()),
+        Refusal::BadUsing => (b"BadOption using", b""),
+        Refusal::ModeType(name) => (b"ModeType ", name.bytes()),
         Refusal::TimestampRange => (b"TimestampRange", b""),
         Refusal::ClockSpent => (b"ClockSpent", b""),
         Refusal::TooMany(Limit::Tables) => (b"TooMany tables 256", b""),
         Refusal::TooMany(Limit::Columns) => (b"TooMany columns 64", b""),
         Refusal::ScriptEnds => (b"Unfinished", b""),
         Refusal::NotBuilt => (b"NotBuilt", b""),
+    }
+}
+
+// An option that is an empty text isn't shown.
+fn bad_option(option: &[u8]) -> (&[u8], &[u8])
+    ensures { result.0.now ++ result.1.now ≡ refusal_text (BadOption option.now) }
+{
+    match option {
+        [] => (b"BadOption", b""),
+        option => (b"BadOption ", option),
     }
 }
 

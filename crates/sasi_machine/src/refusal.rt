@@ -3,7 +3,7 @@ ghost use Rattle.std.specs.Prelude.{◌≡◌};
 ghost use Rattle.sasi_model.specs.Abbreviations.{refusal_number};
 
 use sasi_schema::Limit;
-use sasi_types::Name;
+use sasi_types::{Name, Text};
 
 /// Why a piece is refused.
 #[derive(Drop)]
@@ -22,6 +22,14 @@ pub enum Refusal {
     KeyMissing(Name),
     KeyEmpty(Name),
     ValueTooLong(Name),
+    /// The name of the index that is there.
+    IndexExists(Name),
+    /// The option, as it is written.
+    BadOption(Text),
+    /// The class behind USING.
+    BadUsing,
+    /// The column that can't have such an index.
+    ModeType(Name),
     TimestampRange,
     ClockSpent,
     TooMany(Limit),
@@ -49,6 +57,9 @@ impl Refusal {
             Refusal::KeyMissing(_) => 10,
             Refusal::KeyEmpty(_) => 11,
             Refusal::ValueTooLong(_) => 12,
+            Refusal::IndexExists(_) => 13,
+            Refusal::BadOption(_) | Refusal::BadUsing => 15,
+            Refusal::ModeType(_) => 16,
             Refusal::TimestampRange => 20,
             Refusal::ClockSpent => 21,
             Refusal::TooMany(_) => 24,

@@ -5,7 +5,7 @@ ghost use Rattle.sasi_model.specs.Refusals.{select_rules};
 ghost use Rattle.sasi_schema.specs.Answers.{Answers};
 ghost use Rattle.sasi_schema.specs.Defined.{definition};
 ghost use Rattle.sasi_machine.specs.Faults.{refusal_of_fault};
-ghost use Rattle.sasi_machine.specs.Prepares.{IsPrepared};
+ghost use Rattle.sasi_machine.specs.Prepares.{IsPrepared, known_by};
 ghost use Rattle.sasi_machine.specs.Selections.{PreparesRows};
 
 use crate::fault::Fault;
@@ -25,7 +25,7 @@ pub fn prepare_select(
     select: &Select,
     reply: &mut Reply,
 ) -> Result<Prepared, AllocError>
-    ensures { IfOk result (λ prepared. (max_time : ℕ) → IsPrepared schema.now max_time (Query select.now) reply.old reply.new prepared) }
+    ensures { IfOk result (λ prepared. (max_time : ℕ) → IsPrepared (known_by schema.now max_time) (Query select.now) reply.old reply.new prepared) }
 {
     match schema.table(&select.table) {
         None => refuse_table(alloc, select, reply),

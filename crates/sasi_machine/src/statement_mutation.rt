@@ -5,6 +5,7 @@ ghost use Rattle.sasi_model.specs.Refusals.{rules};
 ghost use Rattle.sasi_model.specs.Abbreviations.{TIME_LIMIT as time_limit};
 ghost use Rattle.sasi_schema.specs.Answers.{Answers};
 ghost use Rattle.sasi_machine.specs.Faults.{refusal_of_fault};
+ghost use Rattle.sasi_machine.specs.Prepares.{known_by};
 ghost use Rattle.sasi_machine.specs.Writes.{IsWrite, IsWriting};
 
 use crate::Refusal;
@@ -23,8 +24,8 @@ pub fn statement_mutation(
 ) -> Result<Mutation, Fault>
     requires limit { builder.now.max_timestamp ≤ time_limit }
     requires writing { IsWriting statement }
-    ensures answers { Answers refusal_of_fault (rules schema.now builder.now.max_timestamp statement) result }
-    ensures write { IfOk result (IsWrite schema.now builder.now.max_timestamp statement) }
+    ensures answers { Answers refusal_of_fault (rules (known_by schema.now builder.now.max_timestamp) statement) result }
+    ensures write { IfOk result (IsWrite (known_by schema.now builder.now.max_timestamp) statement) }
 {
     match statement {
         Statement::Insert {
@@ -74,8 +75,8 @@ fn insert(
     time: Option<Number>,
 ) -> Result<Mutation, Fault>
     requires { builder.now.max_timestamp ≤ time_limit }
-    ensures answers { Answers refusal_of_fault (rules schema.now builder.now.max_timestamp (Insert table columns.now values.now time)) result }
-    ensures write { IfOk result (IsWrite schema.now builder.now.max_timestamp (Insert table columns.now values.now time)) }
+    ensures answers { Answers refusal_of_fault (rules (known_by schema.now builder.now.max_timestamp) (Insert table columns.now values.now time)) result }
+    ensures write { IfOk result (IsWrite (known_by schema.now builder.now.max_timestamp) (Insert table columns.now values.now time)) }
 {
     match schema.table(&table) {
         None => Err(Fault::Refused(Refusal::NoTable(table))),
@@ -96,8 +97,8 @@ fn update(
     time: Option<Number>,
 ) -> Result<Mutation, Fault>
     requires { builder.now.max_timestamp ≤ time_limit }
-    ensures answers { Answers refusal_of_fault (rules schema.now builder.now.max_timestamp (Update table time sets.now relation.column relation.value)) result }
-    ensures write { IfOk result (IsWrite schema.now builder.now.max_timestamp (Update table time sets.now relation.column relation.value)) }
+    ensures answers { Answers refusal_of_fault (rules (known_by schema.now builder.now.max_timestamp) (Update table time sets.now relation.column relation.value)) result }
+    ensures write { IfOk result (IsWrite (known_by schema.now builder.now.max_timestamp) (Update table time sets.now relation.column relation.value)) }
 {
     match schema.table(&table) {
         None => Err(Fault::Refused(Refusal::NoTable(table))),
@@ -117,8 +118,8 @@ fn delete(
     time: Option<Number>,
 ) -> Result<Mutation, Fault>
     requires { builder.now.max_timestamp ≤ time_limit }
-    ensures answers { Answers refusal_of_fault (rules schema.now builder.now.max_timestamp (Delete table columns.now time relation.column relation.value)) result }
-    ensures write { IfOk result (IsWrite schema.now builder.now.max_timestamp (Delete table columns.now time relation.column relation.value)) }
+    ensures answers { Answers refusal_of_fault (rules (known_by schema.now builder.now.max_timestamp) (Delete table columns.now time relation.column relation.value)) result }
+    ensures write { IfOk result (IsWrite (known_by schema.now builder.now.max_timestamp) (Delete table columns.now time relation.column relation.value)) }
 {
     match schema.table(&table) {
         None => Err(Fault::Refused(Refusal::NoTable(table))),

@@ -20,48 +20,21 @@ use Rattle.sasi_formats.specs.Codings.{when_is}
 use Rattle.sasi_formats.specs.Fields.{◌&◌, number, in_range}
 use Rattle.sasi_formats.proofs.Fitting.{both_true, when_true, number_fits, fits_number, checked_fits, fits_checked, range_fits, fits_range}
 use Rattle.sasi_manifest.specs.declared.edit.Edit.{Edit}
-use Rattle.sasi_manifest.specs.declared.edit.Edit.TheVariants.{Start, CreateTable, Replace}
+use Rattle.sasi_manifest.specs.declared.edit.Edit.TheVariants.{Start, CreateTable, CreateIndex, Replace}
 use Rattle.sasi_manifest.specs.declared.files.ListedFile.{ListedFile}
 use Rattle.sasi_manifest.specs.declared.files.PartNumber.{PartNumber}
 use Rattle.sasi_manifest.specs.declared.listing.Listing.{Listing}
-use Rattle.sasi_manifest.specs.Edits.{name, type, partitioner, shape, edit, replace, Applies, are_within, files_of, is_current, is_last, is_new, last_segment, later_tag, live_segments, new_file_format, new_files, parts, removed_number, removed_numbers}
+use Rattle.sasi_manifest.specs.Edits.{is_later_tag, name, type, partitioner, shape, edit, replace, Applies, are_within, files_of, is_current, is_last, is_new, last_segment, later_tag, live_segments, new_file_format, new_files, parts, removed_number, removed_numbers}
 use Rattle.sasi_manifest.specs.ListedDefinition.{ListedDefinition}
 use Rattle.sasi_manifest.specs.Abbreviations.{column, is_open_name, listed_names}
 use Rattle.sasi_manifest.specs.Listings.{CanStart, FitsWidths}
 use Rattle.sasi_manifest.specs.Naming.{IsName, IsFree, AreNames, AreApart}
-
--- ---- names and types
-
-not_any : (b : Bool) → not b ≡ true → b ≡ false
-not_any true h = absurd cc
-not_any false h = refl
-
-open_name_fits : (taken : List Bytes) (n : Bytes) → IsName n → IsFree taken n → Fits (name taken) n
-open_name_fits taken n is free =
-    let open_name : is_open_name taken n ≡ true = ap (λ (b : Bool). b && not (list_any (same n) taken)) is.word ∙ ap not free in
-    (range_fits w8 1 48 (length n) (omega (arith, is.short)) is.some is.short, when_true (is_open_name taken n) n open_name)
-
-record FitsName (taken : List Bytes) (n : Bytes) : Type 0 where
-  pub is : IsName n
-  pub free : IsFree taken n
-
-fits_name : (taken : List Bytes) (n : Bytes) → Fits (name taken) n → FitsName taken n
-fits_name taken n h =
-    let range = fits_range w8 1 48 (length n) h.0 in
-    let tests = both_true (list_all is_word_byte n) (not (list_any (same n) taken)) (when_is (is_open_name taken n) n n h.1).0 in
-    record { is = record { some = range.above; short = range.below; word = tests.0 }; free = not_any (list_any (same n) taken) tests.1 }
-
-type_fits : (t : ColumnType) → Fits type t
-type_fits types.Text = (number_fits w8 0 (omega arith), refl)
-type_fits types.Int = (number_fits w8 1 (omega arith), refl)
-type_fits types.BigInt = (number_fits w8 2 (omega arith), refl)
-type_fits types.Uuid = (number_fits w8 3 (omega arith), refl)
+use Rattle.sasi_manifest.proofs.Defining.{applies_index, no_index}
+use Rattle.sasi_manifest.proofs.NameFits.{FitsName, fits_name, open_name_fits, type_fits}
 
 partitioner_fits : (p : Partitioner) → Fits partitioner p
 partitioner_fits Lead8 = (number_fits w8 0 (omega arith), refl)
 partitioner_fits Murmur3 = (number_fits w8 1 (omega arith), refl)
-
--- ---- columns
 
 names_with : (before : List Column) (c : Column) → names_in before ++ c.0 ∷ [] ≡ names_in (before ++ c ∷ [])
 names_with before c = sym (map-append (λ (c : Column). c.0) before (c ∷ []))
@@ -104,12 +77,12 @@ applies_start p floor last h =
     record { floor_some = first.above; ordered = search (rules, checked_is.1); last_fits = second.fits }
 
 -- a tag after the start
-later_fits : (n : ℕ) → n < 2 ^ 8 → (n == 2 || n == 5) ≡ true → Fits later_tag n
-later_fits n small is = checked_fits rule.Number 1 (λ n. n == 2 || n == 5) (number w8) n (number_fits w8 n small) is
+later_fits : (n : ℕ) → n < 2 ^ 8 → is_later_tag n ≡ true → Fits later_tag n
+later_fits n small is = checked_fits rule.Number 1 is_later_tag (number w8) n (number_fits w8 n small) is
 
 pub no_start : (listing : Listing) (p : Partitioner) (floor last : ℕ) → Applies (Some listing) (Start p floor last) → ⊥
 unfolding edit
-no_start listing p floor last h = let tag = fits_checked rule.Number 1 (λ n. n == 2 || n == 5) (number w8) 1 h.0.0 in let no : false ≡ true = tag.1 in cc
+no_start listing p floor last h = let tag = fits_checked rule.Number 1 is_later_tag (number w8) 1 h.0.0 in let no : false ≡ true = tag.1 in cc
 
 pub no_create : (number : ℕ) (name : Bytes) (columns : List Column) (key since : ℕ) → Applies None (CreateTable number name columns key since) → ⊥
 unfolding edit
@@ -123,6 +96,7 @@ no_replace table removed added since floor last h = let range = fits_range w8 1 
 pub first_is_start : (e : Edit) → Applies None e → ((p : Partitioner) (floor last : ℕ) → e ≡ Start p floor last → ⊥) → ⊥
 first_is_start (Start p floor last) h not = not p floor last refl
 first_is_start (CreateTable number title columns position since) h not = no_create number title columns position since h
+first_is_start (CreateIndex def) h not = no_index def h
 first_is_start (Replace table removed added since floor last) h not = no_replace table removed added since floor last h
 
 -- ---- a new table
@@ -328,6 +302,8 @@ writable None (CreateTable number title columns position since) h = absurd (no_c
 writable (Some listing) (CreateTable number title columns position since) h =
     let can = applies_create listing number title columns position since h in
     (can.name_fits.short, can.few_columns, can.column_names)
+writable None (CreateIndex def) h = absurd (no_index def h)
+writable (Some listing) (CreateIndex def) h = (let can = applies_index listing def h in can.name_is.short)
 writable None (Replace table removed added since floor last) h = absurd (no_replace table removed added since floor last h)
 writable (Some listing) (Replace table removed added since floor last) h =
     let can = applies_replace listing table removed added since floor last h in

@@ -4,7 +4,10 @@ use Rattle.std.proofs.lemmas.List.{drop_all, drop_more}
 use Rattle.std.specs.List.{AllByRecursion, flat_map, sum_by}
 use Rattle.std.proofs.lemmas.List.Sums.{sum_by-cons}
 use Rattle.std.specs.Int.{to_be_bytes, w8, w16, w32}
-use Rattle.sasi_types.specs.Codes.{type_code}
+use Rattle.sasi_types.specs.Codes.{mode_code, type_code}
+use Rattle.sasi_types.specs.declared.index_def.IndexDef.{IndexDef}
+use Rattle.sasi_types.specs.declared.rule.Rule.{Rule}
+use Rattle.sasi_types.specs.declared.rule.Rule.TheVariants.{Whole, Words}
 use Rattle.sasi_types.specs.declared.partitioner.Partitioner.{Partitioner}
 use Rattle.sasi_host.specs.Names.{Bytes}
 use Rattle.sasi_model.specs.State.{Column}
@@ -12,17 +15,18 @@ use Rattle.sasi_model.specs.Refusals.{names_in}
 use Rattle.sasi_formats.specs.Formats.{encoded_items}
 use Rattle.sasi_formats.specs.Formats as formats
 use Rattle.sasi_manifest.specs.declared.edit.Edit.{Edit}
-use Rattle.sasi_manifest.specs.declared.edit.Edit.TheVariants.{Start, CreateTable, Replace}
+use Rattle.sasi_manifest.specs.declared.edit.Edit.TheVariants.{Start, CreateTable, CreateIndex, Replace}
 use Rattle.sasi_manifest.specs.declared.files.ListedFile.{ListedFile}
 use Rattle.sasi_manifest.specs.declared.files.PartNumber.{PartNumber}
 use Rattle.sasi_manifest.specs.declared.listing.Listing.{Listing}
-use Rattle.sasi_manifest.specs.Edits.{columns, edit, edits, encoded, Applies, new_file_format, new_files, parts, replace, files_of, part, removed_number, removed_numbers}
+use Rattle.sasi_manifest.specs.Edits.{columns, create_index, edit, edits, folding, rule_code, encoded, Applies, new_file_format, new_files, parts, replace, files_of, part, removed_number, removed_numbers}
 use Rattle.sasi_manifest.specs.ListedDefinition.{ListedDefinition}
 use Rattle.sasi_manifest.specs.ListedFiles.{file_length}
 use Rattle.sasi_manifest.specs.Abbreviations.{column}
 use Rattle.sasi_manifest.specs.Listings.{after_all}
 use Rattle.sasi_manifest.specs.Naming.{AreNames, IsName}
 use Rattle.sasi_manifest.proofs.Applying.{applies_create}
+use Rattle.sasi_manifest.proofs.Defining.{applies_index}
 
 -- items that are encoded alike after any others
 items_flat : {A : Type 0} (item : List A → A → Bytes) (f : A → Bytes) → ((before : List A) (a : A) → item before a ≡ f a) → (before items : List A) → encoded_items item before items ≡ flat_map f items
@@ -77,10 +81,11 @@ edit_bytes e = formats.encoded (edit None) e
 
 -- are the same whatever is listed
 same_edit : (from : Option Listing) (e : Edit) → formats.encoded (edit from) e ≡ edit_bytes e
-unfolding edit
+unfolding edit create_index
 same_edit None e = refl
 same_edit (Some listing) (Start _ _ _) = refl
 same_edit (Some listing) (CreateTable _ _ _ _ _) = refl
+same_edit (Some listing) (CreateIndex _) = refl
 same_edit (Some listing) (Replace table removed added since floor last) =
     ap (λ (l : Bytes). to_be_bytes w8 5 ++ l) (replace_bytes listing.tables table removed added since floor last ∙ sym (replace_bytes [] table removed added since floor last))
 
@@ -112,6 +117,18 @@ unfolding edit
 create_length number name all key since =
     let last = to_be_bytes w16 key ++ to_be_bytes w32 since in
     omega (arith, length-append name (formats.encoded columns all ++ last), length-append (formats.encoded columns all) last)
+
+rule_length : (r : Option Rule) → length (formats.encoded (folding (rule_code r)) r) ≡ 1
+rule_length None = refl
+rule_length (Some (Whole fold)) = refl
+rule_length (Some (Words fold)) = refl
+
+-- that of an edit that adds an index
+pub index_length : (def : IndexDef) → length (edit_bytes (CreateIndex def)) ≡ 15 + length def.name
+unfolding edit create_index
+index_length def =
+    let last = formats.encoded (folding (rule_code def.rule)) def.rule in
+    omega (arith, rule_length def.rule, length-append def.name (to_be_bytes w16 def.column ++ (to_be_bytes w8 (mode_code def.mode) ++ (to_be_bytes w8 (rule_code def.rule) ++ last))))
 
 columns_size : (all : List Column) → AreNames (names_in all) → length (flat_map column_bytes all) ≤ 50 * length all
 columns_size [] names = omega arith
@@ -154,7 +171,12 @@ replace_length table removed added since floor last =
       files_length added,
     )
 
--- is small
+-- are small
+pub index_short : (listing : Listing) (def : IndexDef) → Applies (Some listing) (CreateIndex def) → length (encoded (CreateIndex def ∷ [])) ≤ 4096
+index_short listing def applies =
+    let can = applies_index listing def applies in
+    omega (arith, can.name_is.short, encoded_length (CreateIndex def ∷ []), length-append (edit_bytes (CreateIndex def)) [], index_length def)
+
 pub create_short : (listing : Listing) (number : ℕ) (name : Bytes) (all : List Column) (key since : ℕ) → Applies (Some listing) (CreateTable number name all key since) → length (encoded (CreateTable number name all key since ∷ [])) ≤ 4096
 create_short listing number name all key since applies =
     let can = applies_create listing number name all key since applies in
@@ -174,6 +196,7 @@ some_byte : (e : Edit) → 1 ≤ length (edit_bytes e)
 unfolding edit
 some_byte (Start _ _ _) = omega arith
 some_byte (CreateTable _ _ _ _ _) = omega arith
+some_byte (CreateIndex _) = omega arith
 some_byte (Replace _ _ _ _ _ _) = omega arith
 
 many_bytes : (es : List Edit) → length es ≤ length (flat_map edit_bytes es)

@@ -19,13 +19,14 @@ use Rattle.sasi_formats.proofs.Fitting.{fits_range, range_fits}
 use Rattle.sasi_formats.proofs.ItemSteps.{SoFar, items_begin, items_more, items_fail, items_end}
 use Rattle.sasi_formats.proofs.WholeLaws.{reads_all}
 use Rattle.sasi_manifest.specs.declared.edit.Edit.{Edit}
-use Rattle.sasi_manifest.specs.declared.edit.Edit.TheVariants.{Start, CreateTable, Replace}
+use Rattle.sasi_manifest.specs.declared.edit.Edit.TheVariants.{Start, CreateTable, CreateIndex, Replace}
 use Rattle.sasi_manifest.specs.declared.listing.Listing.{Listing}
 use Rattle.sasi_manifest.specs.Edits.{edit, edits, encoded, Applies, AllApply}
 use Rattle.sasi_manifest.specs.ReadEdits.{read_edits}
-use Rattle.sasi_manifest.specs.Abbreviations.{created_table, started, with_listed_table}
+use Rattle.sasi_manifest.specs.Abbreviations.{created_table, started, with_defined_index, with_listed_table}
 use Rattle.sasi_manifest.specs.Listings.{FitsWidths, after, after_all, at_number, replaced, with_record_counted, records_of, length_of}
 use Rattle.sasi_manifest.proofs.Applying.{no_start, no_create, no_replace, writable}
+use Rattle.sasi_manifest.proofs.Defining.{no_index}
 use Rattle.sasi_manifest.proofs.EditBytes.{edits_few, same_record}
 
 -- ---- edits that apply one after another
@@ -161,15 +162,18 @@ still_listed : (listing : Listing) (es : List Edit) → ApplyInTurn (Some listin
 still_listed listing [] all none = cc
 still_listed listing (Start p floor last ∷ es) all none = absurd (no_start listing p floor last all.0)
 still_listed listing (CreateTable n name columns key since ∷ es) all none = still_listed (with_listed_table (created_table name columns key since) listing) es all.1 none
+still_listed listing (CreateIndex def ∷ es) all none = still_listed (with_defined_index def listing) es all.1 none
 still_listed listing (Replace table removed added since floor last ∷ es) all none = still_listed (record listing { floor = floor; last = last; tables = at_number 1 table (replaced removed added since) listing.tables }) es all.1 none
 
 listed_in_turn : (from : Option Listing) (es : List Edit) → ApplyInTurn from es → 1 ≤ length es → after_all from es ≡ None → ⊥
 listed_in_turn from [] all some none = omega (arith, some)
 listed_in_turn None (Start p floor last ∷ es) all some none = still_listed (started p floor last) es all.1 none
 listed_in_turn None (CreateTable n name columns key since ∷ es) all some none = absurd (no_create n name columns key since all.0)
+listed_in_turn None (CreateIndex def ∷ es) all some none = absurd (no_index def all.0)
 listed_in_turn None (Replace table removed added since floor last ∷ es) all some none = absurd (no_replace table removed added since floor last all.0)
 listed_in_turn (Some listing) (Start p floor last ∷ es) all some none = absurd (no_start listing p floor last all.0)
 listed_in_turn (Some listing) (CreateTable n name columns key since ∷ es) all some none = still_listed (with_listed_table (created_table name columns key since) listing) es all.1 none
+listed_in_turn (Some listing) (CreateIndex def ∷ es) all some none = still_listed (with_defined_index def listing) es all.1 none
 listed_in_turn (Some listing) (Replace table removed added since floor last ∷ es) all some none = still_listed (record listing { floor = floor; last = last; tables = at_number 1 table (replaced removed added since) listing.tables }) es all.1 none
 
 -- edits list something
@@ -180,9 +184,11 @@ sizes_in_turn : (from : Option Listing) (es : List Edit) → ApplyInTurn from es
 sizes_in_turn from [] all = (refl, refl)
 sizes_in_turn None (Start p floor last ∷ es) all = sizes_in_turn (Some (started p floor last)) es all.1
 sizes_in_turn None (CreateTable n name columns key since ∷ es) all = absurd (no_create n name columns key since all.0)
+sizes_in_turn None (CreateIndex def ∷ es) all = absurd (no_index def all.0)
 sizes_in_turn None (Replace table removed added since floor last ∷ es) all = absurd (no_replace table removed added since floor last all.0)
 sizes_in_turn (Some listing) (Start p floor last ∷ es) all = absurd (no_start listing p floor last all.0)
 sizes_in_turn (Some listing) (CreateTable n name columns key since ∷ es) all = sizes_in_turn (Some (with_listed_table (created_table name columns key since) listing)) es all.1
+sizes_in_turn (Some listing) (CreateIndex def ∷ es) all = sizes_in_turn (Some (with_defined_index def listing)) es all.1
 sizes_in_turn (Some listing) (Replace table removed added since floor last ∷ es) all = sizes_in_turn (Some (record listing { floor = floor; last = last; tables = at_number 1 table (replaced removed added since) listing.tables })) es all.1
 
 -- edits count no record

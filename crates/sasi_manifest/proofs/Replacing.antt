@@ -20,7 +20,7 @@ both : (a b : Bool) → a && b ≡ true → (a ≡ true) × (b ≡ true)
 both true b is = (refl, is)
 both false b is = cc
 
-either_false : (a b : Bool) → (a || b) ≡ false → (a ≡ false) × (b ≡ false)
+pub either_false : (a b : Bool) → (a || b) ≡ false → (a ≡ false) × (b ≡ false)
 either_false true b is = cc
 either_false false b is = (refl, is)
 
@@ -48,7 +48,7 @@ join_or true false c = refl
 join_or false true c = refl
 join_or false false c = refl
 
-same_number : (m n : ℕ) → nat_eq m n ≡ true → m ≡ n
+pub same_number : (m n : ℕ) → nat_eq m n ≡ true → m ≡ n
 same_number m n is = search (rules, is)
 
 -- ---- items by their numbers
@@ -58,7 +58,7 @@ abbrev pub At : {A : Type 0} → ℕ → ℕ → (A → Type 0) → List A → T
 At n number P [] = Unit {0}
 At n number P (x ∷ xs) = (nat_eq n number ≡ true → P x) × At (suc n) number P xs
 
-all_at : {A : Type 0} (P Q : A → Type 0) (f : A → A) → ((x : A) → P x → Q (f x)) → ((x : A) → P x → Q x) → (n number : ℕ) (xs : List A) → AllByRecursion P xs → AllByRecursion Q (at_number n number f xs)
+pub all_at : {A : Type 0} (P Q : A → Type 0) (f : A → A) → ((x : A) → P x → Q (f x)) → ((x : A) → P x → Q x) → (n number : ℕ) (xs : List A) → AllByRecursion P xs → AllByRecursion Q (at_number n number f xs)
 all_at P Q f changed kept n number [] all = tt
 all_at P Q f changed kept n number (x ∷ xs) all =
     (elim (nat_eq n number) as (λ b. Q (if b then f x else x)) [ true ↦ changed x all.0 | false ↦ kept x all.0 ], all_at P Q f changed kept (suc n) number xs all.1)
@@ -247,7 +247,7 @@ no_more true false h = (let never = h refl in cc)
 no_more false b h = omega arith
 
 -- the table that changes has the file only where it had it
-same_owners : (n table first : ℕ) (f : ListedDefinition → ListedDefinition) (tables : List ListedDefinition) → At first table (λ t. has_file (f t).files n ≡ true → has_file t.files n ≡ true) tables
+pub same_owners : (n table first : ℕ) (f : ListedDefinition → ListedDefinition) (tables : List ListedDefinition) → At first table (λ t. has_file (f t).files n ≡ true → has_file t.files n ≡ true) tables
     → owners n (at_number first table f tables) ≤ owners n tables
 same_owners n table first f [] all = omega arith
 same_owners n table first f (t ∷ tables) all =
@@ -276,7 +276,7 @@ at_map : {A : Type 0} (P Q : A → Type 0) → ((x : A) → P x → Q x) → (n 
 at_map P Q h n number [] all = tt
 at_map P Q h n number (x ∷ xs) all = (λ is. h x (all.0 is), at_map P Q h (suc n) number xs all.1)
 
-at_each : {A : Type 0} (P : A → Type 0) → ((x : A) → P x) → (n number : ℕ) (xs : List A) → At n number P xs
+pub at_each : {A : Type 0} (P : A → Type 0) → ((x : A) → P x) → (n number : ℕ) (xs : List A) → At n number P xs
 at_each P h n number [] = tt
 at_each P h n number (x ∷ xs) = (λ _. h x, at_each P h (suc n) number xs)
 

@@ -1,24 +1,29 @@
 -- Edits after their tags.
-use Rattle.std.proofs.Common.{◌≡◌, ℕ, Bool, true, false, [], None, Some, Result, length, take, refl, ap, ◌∙◌, arith, rules}
+use Rattle.std.proofs.Common.{◌≡◌, ◌≤◌, ℕ, zero, suc, Bool, true, false, [], ◌∷◌, Option, None, Some, Result, length, take, refl, ap, ◌∙◌, arith, rules}
 use Rattle.std.specs.Int.{w8}
+use Rattle.sasi_types.specs.declared.column.ColumnType.{ColumnType}
+use Rattle.sasi_types.specs.declared.rule.Rule.{Rule}
+use Rattle.sasi_types.specs.declared.rule.Rule.TheVariants.{Whole, Words}
+use Rattle.sasi_model.specs.Indexes.{is_text}
 use Rattle.sasi_fields.specs.Reading.{Reading}
 use Rattle.sasi_host.specs.declared.damage.FormatRule.TheVariants as rule
 use Rattle.sasi_formats.specs.Codings.{own_tag}
 use Rattle.sasi_formats.specs.Formats.{Format}
-use Rattle.sasi_formats.specs.Fields.{◌&◌, in_range, number}
+use Rattle.sasi_formats.specs.Fields.{◌&◌, fixed, flag, in_range, number}
 use Rattle.sasi_formats.specs.Gives.{FailsWith, Gives}
 use Rattle.sasi_formats.specs.Reader.{Corruption, Short, Long, Outcome, Got, Failed, ◌>>=◌, outcome_as, tried, read}
 use Rattle.sasi_formats.specs.declared.fault.FormatFault.{FormatFault}
 use Rattle.sasi_formats.specs.declared.fault.FormatFault.TheVariants as fault
 use Rattle.sasi_formats.proofs.Agreement.{reads_exactly}
 use Rattle.sasi_formats.proofs.Encoding.{fits}
-use Rattle.sasi_formats.proofs.Fitting.{fits_checked, fits_range}
+use Rattle.sasi_formats.proofs.Fitting.{both_true, fits_checked, fits_range}
 use Rattle.sasi_formats.proofs.Tags.{tagged_gives}
 use Rattle.sasi_manifest.specs.declared.edit.Edit.{Edit}
+use Rattle.sasi_manifest.specs.declared.edit.Edit.TheVariants.{CreateIndex}
 use Rattle.sasi_manifest.specs.declared.listing.Listing.{Listing}
-use Rattle.sasi_manifest.specs.Edits.{by_tag, create, create_of, edit, later_tag, new_table, partitioner, replace, replace_of, replacement, start, start_of, tag_of}
+use Rattle.sasi_manifest.specs.Edits.{analysis, by_tag, create, create_index, create_of, edit, folding, is_later_tag, is_rule_code, later_tag, new_index_def, rule_byte, rule_code, new_table, partitioner, replace, replace_of, replacement, start, start_of, tag_of}
 use Rattle.sasi_manifest.specs.Abbreviations.{segments}
-use Rattle.std.specs.Prelude.{◌==◌, ◌||◌}
+use Rattle.std.specs.Prelude.{◌==◌, ◌||◌, nat_le}
 
 -- a range of one number
 one_number : (least n : ℕ) (s t : Reading) → read (in_range w8 least least) s ≡ Got n t → n ≡ least
@@ -27,18 +32,19 @@ one_number least n s t got =
     let range = fits_range w8 least least n (fits (in_range w8 least least) n next.field next.is) in
     omega (arith, range.above, range.below)
 
--- a tag that is another than 2
-other_tag : (n : ℕ) → (n == 2 || n == 5) ≡ true → (n == 2) ≡ false → n ≡ 5
-other_tag n is other = by (n == 2) (n == 5) is other (λ five. search (rules, five))
+-- a tag that is another than 2 and 3
+other_tag : (n : ℕ) → is_later_tag n ≡ true → (n == 2) ≡ false → (n == 3) ≡ false → n ≡ 5
+other_tag n is other more = by (n == 2) (n == 3) (n == 5) is other more (λ five. search (rules, five))
   where
-    by : (two five : Bool) → (two || five) ≡ true → two ≡ false → (five ≡ true → n ≡ 5) → n ≡ 5
-    by true five is other h = (let no : true ≡ false = other in cc)
-    by false five is other h = h is
+    by : (two three five : Bool) → (two || (three || five)) ≡ true → two ≡ false → three ≡ false → (five ≡ true → n ≡ 5) → n ≡ 5
+    by true three five is other more h = (let no : true ≡ false = other in cc)
+    by false true five is other more h = (let no : true ≡ false = more in cc)
+    by false false five is other more h = h is
 
-the_later : (n : ℕ) (s t : Reading) → read later_tag s ≡ Got n t → (n == 2 || n == 5) ≡ true
+the_later : (n : ℕ) (s t : Reading) → read later_tag s ≡ Got n t → is_later_tag n ≡ true
 the_later n s t got =
     let next = (reads_exactly later_tag s t n).0 got in
-    (fits_checked rule.Number 1 (λ n. n == 2 || n == 5) (number w8) n (fits later_tag n next.field next.is)).1
+    (fits_checked rule.Number 1 is_later_tag (number w8) n (fits later_tag n next.field next.is)).1
 
 abbrev tried_edit : (ℕ → Format Edit) → Reading → Outcome ℕ → Outcome Edit
 tried_edit next s tag = (tag >>= λ n t. outcome_as (λ e. (n, e)) (read (next n) t)) >>= λ both behind. tried (own_tag tag_of both) rule.Number (length s.done) (take 1 s.left) behind
@@ -77,8 +83,35 @@ unfolding edit
 create_gives listing n s t u result is got h =
     tagged_gives later_tag tag_of (by_tag listing.tables listing.last) 2 s t (got ∙ ap (λ (m : ℕ). Got m t) is) create_of (λ _. refl) (read (new_table listing.tables listing.last) t) refl result u h
 
+-- a new index after its tag
+pub index_gives : (listing : Listing) (n : ℕ) (s t u : Reading) (result : Result Edit FormatFault) → n ≡ 3 → read later_tag s ≡ Got n t → Gives (read (create_index listing.tables) t) result u → Gives (read (edit (Some listing)) s) result u
+unfolding edit create_index
+index_gives listing n s t u result is got h =
+    tagged_gives later_tag tag_of (by_tag listing.tables listing.last) 3 s t (got ∙ ap (λ (m : ℕ). Got m t) is) CreateIndex (λ _. refl) (read (new_index_def listing.tables) t) refl result u h
+
 -- files in the place of others after their tag
-pub replace_gives : (listing : Listing) (n : ℕ) (s t u : Reading) (result : Result Edit FormatFault) → (n == 2) ≡ false → read later_tag s ≡ Got n t → Gives (read (replace listing.tables) t) result u → Gives (read (edit (Some listing)) s) result u
+pub replace_gives : (listing : Listing) (n : ℕ) (s t u : Reading) (result : Result Edit FormatFault) → (n == 2) ≡ false → (n == 3) ≡ false → read later_tag s ≡ Got n t → Gives (read (replace listing.tables) t) result u → Gives (read (edit (Some listing)) s) result u
 unfolding edit replace
-replace_gives listing n s t u result other got h =
-    tagged_gives later_tag tag_of (by_tag listing.tables listing.last) 5 s t (got ∙ ap (λ (m : ℕ). Got m t) (other_tag n (the_later n s t got) other)) replace_of (λ _. refl) (read (replacement listing.tables) t) refl result u h
+replace_gives listing n s t u result other more got h =
+    tagged_gives later_tag tag_of (by_tag listing.tables listing.last) 5 s t (got ∙ ap (λ (m : ℕ). Got m t) (other_tag n (the_later n s t got) other more)) replace_of (λ _. refl) (read (replacement listing.tables) t) refl result u h
+
+-- ---- how a column is indexed
+
+-- a rule after its byte
+pub rule_gives : (type : ColumnType) (n : ℕ) (s t u : Reading) (result : Result (Option Rule) FormatFault) → read (rule_byte type) s ≡ Got n t → Gives (read (folding n) t) result u → Gives (read (analysis type) s) result u
+rule_gives type n s t u result got h = by n (rule_codes (is_text type) n (rule_read type n s t got)) got h
+  where
+    rule_read : (type : ColumnType) (n : ℕ) (s t : Reading) → read (rule_byte type) s ≡ Got n t → is_rule_code (is_text type) n ≡ true
+    rule_read type n s t got =
+        let next = (reads_exactly (rule_byte type) s t n).0 got in
+        (fits_checked rule.Number 1 (is_rule_code (is_text type)) (number w8) n (fits (rule_byte type) n next.field next.is)).1
+
+    rule_codes : (of_text : Bool) (n : ℕ) → is_rule_code of_text n ≡ true → n ≤ 2
+    rule_codes true n is = search (rules, (both_true (nat_le 1 n) (nat_le n 2) is).1)
+    rule_codes false n is = (let none : n ≡ 0 = search (rules, is) in omega (arith, none))
+
+    by : (n : ℕ) → n ≤ 2 → read (rule_byte type) s ≡ Got n t → Gives (read (folding n) t) result u → Gives (read (analysis type) s) result u
+    by zero few got h = tagged_gives (rule_byte type) rule_code folding 0 s t got (λ (_ : Unit {0}). None) (λ _. refl) (read (fixed rule.Number (0 ∷ [])) t) refl result u h
+    by (suc zero) few got h = tagged_gives (rule_byte type) rule_code folding 1 s t got (λ fold. Some (Whole fold)) (λ _. refl) (read flag t) refl result u h
+    by (suc (suc zero)) few got h = tagged_gives (rule_byte type) rule_code folding 2 s t got (λ fold. Some (Words fold)) (λ _. refl) (read flag t) refl result u h
+    by (suc (suc (suc n))) few got h = absurd (omega (arith, few))

@@ -1,31 +1,39 @@
 -- The format of a record: edits one after another. The fields that an edit may have depend on what is listed before it.
-use Rattle.std.specs.Prelude.{ℕ, suc, ◌+◌, ◌-◌, ◌^◌, ◌==◌, Bool, true, false, not, ◌&&◌, ◌||◌, nat_eq, nat_lt, nat_le, min, List, [], ◌∷◌, length, map, slice_get, Option, None, Some, refl}
+use Rattle.std.specs.Prelude.{ℕ, suc, ◌+◌, ◌-◌, ◌^◌, ◌==◌, Bool, true, false, not, ◌&&◌, ◌||◌, nat_eq, nat_lt, nat_le, min, zero, List, [], ◌∷◌, length, map, slice_get, Option, None, Some, is_some, unwrap_or, refl}
 use Rattle.std.specs.Int.{w8, w16, w32}
-use Rattle.std.specs.List.{list_any, list_all}
+use Rattle.std.specs.List.{list_any, list_all, flat_map}
 use Rattle.std.specs.Option.{option_map_or}
-use Rattle.sasi_types.specs.Codes.{type_code}
+use Rattle.sasi_types.specs.Codes.{mode_code, type_code}
+use Rattle.sasi_types.specs.Rule.{folds}
 use Rattle.sasi_types.specs.declared.column.ColumnType.{ColumnType}
 use Rattle.sasi_types.specs.declared.column.ColumnType.TheVariants as types
+use Rattle.sasi_types.specs.declared.index_def.IndexDef.{IndexDef}
+use Rattle.sasi_types.specs.declared.mode.Mode.{Mode}
+use Rattle.sasi_types.specs.declared.mode.Mode.TheVariants as modes
+use Rattle.sasi_types.specs.declared.rule.Rule.{Rule}
+use Rattle.sasi_types.specs.declared.rule.Rule.TheVariants.{Whole, Words}
 use Rattle.sasi_types.specs.declared.partitioner.Partitioner.{Partitioner}
 use Rattle.sasi_types.specs.declared.partitioner.Partitioner.TheVariants.{Lead8, Murmur3}
 use Rattle.sasi_host.specs.Names.{Bytes}
 use Rattle.sasi_host.specs.declared.damage.FormatRule.TheVariants as rule
-use Rattle.sasi_model.specs.State.{Column}
+use Rattle.sasi_model.specs.Abbreviations.{kind_of}
+use Rattle.sasi_model.specs.Indexes.{index_on, indexes_of, is_text, mode_fits}
+use Rattle.sasi_model.specs.State.{Column, Definition}
 use Rattle.sasi_model.specs.Refusals.{names_in}
 use Rattle.sasi_model.specs.Statements.{same}
 use Rattle.sasi_model.specs.Tokens.{is_word_byte}
 use Rattle.sasi_formats.specs.Formats.{Format, Sized, Then, Decoded, Counted, Fits, fit_items}
 use Rattle.sasi_formats.specs.Formats as formats
 use Rattle.sasi_formats.specs.Codings.{one_of, passing}
-use Rattle.sasi_formats.specs.Fields.{◌&◌, number, in_range, checked, mapped, tagged, select}
+use Rattle.sasi_formats.specs.Fields.{◌&◌, number, in_range, checked, mapped, tagged, select, fixed, flag}
 use Rattle.sasi_manifest.specs.declared.edit.Edit.{Edit}
-use Rattle.sasi_manifest.specs.declared.edit.Edit.TheVariants.{Start, CreateTable, Replace}
+use Rattle.sasi_manifest.specs.declared.edit.Edit.TheVariants.{Start, CreateTable, CreateIndex, Replace}
 use Rattle.sasi_manifest.specs.declared.files.ListedFile.{ListedFile}
 use Rattle.sasi_manifest.specs.declared.files.PartNumber.{PartNumber}
 use Rattle.sasi_manifest.specs.declared.listing.Listing.{Listing}
 use Rattle.sasi_manifest.specs.ListedDefinition.{ListedDefinition}
 use Rattle.sasi_manifest.specs.ListedFiles.{has_file, is_among}
-use Rattle.sasi_manifest.specs.Listings.{after_all}
+use Rattle.sasi_manifest.specs.Listings.{after_all, listed_definitions}
 
 -- ---- names and types
 
@@ -86,6 +94,119 @@ create_fields _ = (0, ([], ([], (0, 0))))
 abbrev pub create : List ListedDefinition → ℕ → Format Edit
 create tables last = mapped create_of create_fields (λ _. refl) (new_table tables last)
 
+-- ---- a new index
+
+-- the numbers and the names of all indexes
+abbrev pub index_numbers : List ListedDefinition → List ℕ
+index_numbers tables = flat_map (λ t. t.numbers) tables
+
+abbrev pub index_names : List Definition → List Bytes
+index_names ds = map (λ i. i.name) (indexes_of ds)
+
+-- the definition of the table with this number, without columns where there is none
+abbrev pub definition_at : List Definition → ℕ → Definition
+definition_at ds table = unwrap_or (slice_get ds (table - 1)) (record { name = []; columns = []; key = 0; indexes = [] })
+
+-- a number that isn't one of these
+abbrev pub index_number : List ℕ → Format ℕ
+index_number taken = checked rule.Number 4 (λ n. not (is_among taken n)) (in_range w32 1 (2 ^ 32 - 1))
+
+-- The type of the column is one that can have an index, and PREFIX is for each of those. The column has none yet.
+abbrev pub is_open_column : Definition → ℕ → Bool
+is_open_column d column = mode_fits modes.Prefix (kind_of d column) && not (is_some (index_on column d.indexes))
+
+-- the number of a regular column
+abbrev pub indexed_column : Definition → Format ℕ
+indexed_column d = checked rule.Number 2 (is_open_column d) (in_range w16 1 (length d.columns - 1))
+
+-- the byte that names a mode
+abbrev pub any_mode : Format Mode
+any_mode = Decoded rule.Number 1 (one_of mode_code (modes.Prefix ∷ modes.Contains ∷ modes.Sparse ∷ [])) (number w8)
+
+-- a mode that an index on a column of this type can have
+abbrev pub mode : ColumnType → Format Mode
+mode type = checked rule.Number 1 (λ m. mode_fits m type) any_mode
+
+-- the byte that says whether a value is its own term, a text is one, or each of its words is
+abbrev pub rule_code : Option Rule → ℕ
+rule_code None = 0
+rule_code (Some (Whole fold)) = 1
+rule_code (Some (Words fold)) = 2
+
+-- a text has a rule, and a number none
+abbrev pub is_rule_code : Bool → ℕ → Bool
+is_rule_code true code = nat_le 1 code && nat_le code 2
+is_rule_code false code = code == 0
+
+abbrev pub rule_byte : ColumnType → Format ℕ
+rule_byte type = checked rule.Number 1 (is_rule_code (is_text type)) (number w8)
+
+-- whether a rule folds letters
+abbrev pub fold_of : Option Rule → Bool
+fold_of None = false
+fold_of (Some rule) = folds rule
+
+-- the byte that says so, after the one of the rule
+abbrev pub folding : ℕ → Format (Option Rule)
+folding zero = mapped (λ _. None) (λ _. tt) (λ _. refl) (fixed rule.Number (0 ∷ []))
+folding (suc zero) = mapped (λ fold. Some (Whole fold)) fold_of (λ _. refl) flag
+folding (suc (suc n)) = mapped (λ fold. Some (Words fold)) fold_of (λ _. refl) flag
+
+abbrev pub analysis : ColumnType → Format (Option Rule)
+analysis type = tagged (rule_byte type) rule_code folding
+
+-- how a column of this type is indexed
+abbrev pub indexing : ColumnType → Format (Mode × Option Rule)
+indexing type = mode type & analysis type
+
+-- a column of a table, and how it is indexed
+abbrev pub on_column : Definition → Format (ℕ × (Mode × Option Rule))
+on_column d = Then (indexed_column d) (λ column. indexing (kind_of d column))
+
+-- a name that isn't one of these, and the column
+abbrev pub named_index : List Bytes → Definition → Format (Bytes × (ℕ × (Mode × Option Rule)))
+named_index names d = name names & on_column d
+
+abbrev pub IndexFields : Type 0
+IndexFields = ℕ × (ℕ × (Bytes × (ℕ × (Mode × Option Rule))))
+
+-- the number of the index, that of one of the tables, and the rest
+abbrev pub index_format : List ℕ → List Bytes → List Definition → Format IndexFields
+index_format numbers names ds = index_number numbers & Then (in_range w32 1 (length ds)) (λ table. named_index names (definition_at ds table))
+
+-- the type of the column isn't in the bytes
+abbrev pub index_def_of : List Definition → IndexFields → IndexDef
+index_def_of ds f = record {
+  number = f.0;
+  table = f.1.0;
+  name = f.1.1.0;
+  column = f.1.1.1.0;
+  kind = kind_of (definition_at ds f.1.0) f.1.1.1.0;
+  mode = f.1.1.1.1.0;
+  rule = f.1.1.1.1.1;
+}
+
+abbrev pub index_fields : IndexDef → IndexFields
+index_fields def = (def.number, (def.table, (def.name, (def.column, (def.mode, def.rule)))))
+
+-- The definition of an index of one of these tables, where these numbers and names are taken.
+abbrev pub index_def : List ℕ → List Bytes → List Definition → Format IndexDef
+index_def numbers names ds = mapped (index_def_of ds) index_fields (λ _. refl) (index_format numbers names ds)
+
+abbrev pub no_def : IndexDef
+no_def = record { number = 0; table = 0; name = []; column = 0; kind = types.Text; mode = modes.Prefix; rule = None }
+
+abbrev pub def_of_edit : Edit → IndexDef
+def_of_edit (CreateIndex def) = def
+def_of_edit _ = no_def
+
+-- its number and its name are new over all tables
+abbrev pub new_index_def : List ListedDefinition → Format IndexDef
+new_index_def tables = index_def (index_numbers tables) (index_names (listed_definitions tables)) (listed_definitions tables)
+
+unfoldable pub create_index : List ListedDefinition → Format Edit
+create_index tables = mapped CreateIndex def_of_edit (λ _. refl) (new_index_def tables)
+
 -- ---- files in the place of others
 
 -- the files of the table with this number
@@ -103,7 +224,7 @@ removed_number files before = checked rule.Number 4 (is_current files before) (n
 abbrev pub removed_numbers : List ListedFile → Format (List ℕ)
 removed_numbers files = Counted (number w32) (removed_number files)
 
--- a part of an index; no index is defined yet, so no number names one
+-- a part of an index; no index file is listed yet, so no number names one
 abbrev pub part : Format PartNumber
 part = mapped (λ p. record { index = p.0; part = p.1 }) (λ p. (p.index, p.part)) (λ _. refl)
     (checked rule.Number 4 (λ _. false) (number w32) & in_range w32 1 (2 ^ 32 - 1))
@@ -184,15 +305,19 @@ replace tables = mapped replace_of replace_fields (λ _. refl) (replacement tabl
 abbrev pub tag_of : Edit → ℕ
 tag_of (Start _ _ _) = 1
 tag_of (CreateTable _ _ _ _ _) = 2
+tag_of (CreateIndex _) = 3
 tag_of (Replace _ _ _ _ _ _) = 5
 
 -- the tags that a manifest has after its start
+abbrev pub is_later_tag : ℕ → Bool
+is_later_tag n = n == 2 || (n == 3 || n == 5)
+
 abbrev pub later_tag : Format ℕ
-later_tag = checked rule.Number 1 (λ n. n == 2 || n == 5) (number w8)
+later_tag = checked rule.Number 1 is_later_tag (number w8)
 
 -- the edit with this tag
 abbrev pub by_tag : List ListedDefinition → ℕ → ℕ → Format Edit
-by_tag tables last n = select (n == 1) start (select (n == 2) (create tables last) (replace tables))
+by_tag tables last n = select (n == 1) start (select (n == 2) (create tables last) (select (n == 3) (create_index tables) (replace tables)))
 
 -- An edit after this listing; before the first edit there is none. A manifest begins with its start, and no other edit is one.
 unfoldable pub edit : Option Listing → Format Edit

@@ -10,6 +10,8 @@ use Rattle.sasi_manifest.specs.ListedFiles.{coded_file}
 -- its number is its position in the listing, from 1
 pub record ListedDefinition : Type 0 where
   pub definition : Definition
+  -- the numbers of its indexes, in order
+  pub numbers : List ℕ
   -- the first segment of the log that can have mutations of it
   pub since : ℕ
   -- its data files, rising by number
@@ -17,5 +19,5 @@ pub record ListedDefinition : Type 0 where
 
 abbrev pub listed_code : Coded ListedDefinition
 listed_code =
-    code_by (Definition × (ℕ × List ListedFile)) (coded× coded_definition (coded× coded_ℕ (coded_list coded_file)))
-    (λ t. (t.definition, (t.since, t.files))) (λ c. record { definition = c.0; since = c.1.0; files = c.1.1 }) (λ _. refl)
+    code_by (Definition × (List ℕ × (ℕ × List ListedFile))) (coded× coded_definition (coded× (coded_list coded_ℕ) (coded× coded_ℕ (coded_list coded_file))))
+    (λ t. (t.definition, (t.numbers, (t.since, t.files)))) (λ c. record { definition = c.0; numbers = c.1.0; since = c.1.1.0; files = c.1.1.1 }) (λ _. refl)

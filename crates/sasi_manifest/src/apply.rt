@@ -1,15 +1,16 @@
 // The effect of edits on a listing.
 ghost use Rattle.std.specs.Prelude.{◌≡◌, ◌+◌, ◌<◌, ◌≤◌, ◌++◌, ◌∷◌, [], length, Some, IfOk, OnErr, OnOk};
-ghost use Rattle.sasi_schema.specs.Defined.{definition};
+ghost use Rattle.sasi_schema.specs.Defined.{definition, numbers_of};
+ghost use Rattle.sasi_schema.specs.IndexFacts.{IsIndexIn};
 ghost use Rattle.sasi_manifest.specs.Naming.{IsFree};
 ghost use Rattle.sasi_manifest.specs.Edits.{AllApply, Applies};
-ghost use Rattle.sasi_manifest.specs.Listings.{after, after_all, at_number, replaced};
+ghost use Rattle.sasi_manifest.specs.Listings.{after, after_all, at_number, listed_definitions, listed_with_index, replaced};
 ghost use Rattle.sasi_manifest.specs.Abbreviations.{listed_names, started, with_listed_table};
 
 use crate::{Edit, ListedFile, ListedTables, Listing};
 use sasi_host::{DataNumber, SegmentNumber};
 use sasi_schema::Table;
-use sasi_types::{Partitioner, TableNumber};
+use sasi_types::{IndexDef, IndexList, Partitioner, TableNumber};
 use std::alloc::{AllocError, Global};
 
 /// Applies edits one after another; a manifest has no listing before its first edit.
@@ -74,8 +75,10 @@ pub fn change(alloc: Global, listing: &mut Listing, edit: &Edit) -> Result<(), A
             since,
         } => {
             let (name, columns) = (name.copy(alloc)?, columns.copy(alloc)?);
-            add_table(listing, Table::new(*number, name, columns, *key), *since)
+            let table = Table::new(*number, name, columns, *key, IndexList::new(alloc));
+            add_table(listing, table, *since)
         }
+        Edit::CreateIndex { def } => add_index(listing, def.copy(alloc)?),
         Edit::Replace {
             table,
             removed,
@@ -116,6 +119,15 @@ fn replace_files(
     listing.tables.replace(alloc, table, removed, added, since)
 }
 
+// Defines an index on its table.
+fn add_index(listing: &mut Listing, def: IndexDef) -> Result<(), AllocError>
+    requires { IsIndexIn (listed_definitions listing.old.tables) def }
+    ensures ok { OnOk result (listing.new ≡ record listing.old { tables = at_number 1 def.table (listed_with_index def) listing.old.tables }) }
+    ensures err { OnErr result (listing.new ≡ listing.old) }
+{
+    listing.tables.define(def)
+}
+
 // The listing of a start: no tables, and no record yet.
 fn started(
     alloc: Global,
@@ -139,7 +151,7 @@ fn add_table(listing: &mut Listing, table: Table, since: SegmentNumber) -> Resul
     requires number { table.number ≡ length listing.old.tables + 1 }
     requires few { length listing.old.tables < 256 }
     requires free { IsFree (listed_names listing.old.tables) table.name }
-    ensures ok { OnOk result (listing.new ≡ with_listed_table (record { definition = definition table; since = since; files = [] }) listing.old) }
+    ensures ok { OnOk result (listing.new ≡ with_listed_table (record { definition = definition table; numbers = numbers_of table; since = since; files = [] }) listing.old) }
     ensures err { OnErr result (listing.new ≡ listing.old) }
 {
     listing.tables.push(table, since)

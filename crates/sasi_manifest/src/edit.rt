@@ -1,7 +1,7 @@
 // Edits of a manifest.
 use crate::files::{ListedFiles, NumberList};
 use sasi_host::SegmentNumber;
-use sasi_types::{Columns, Name, Partitioner, TableNumber};
+use sasi_types::{Columns, IndexDef, Name, Partitioner, TableNumber};
 
 /// A change of the listing of a manifest.
 #[derive(Drop)]
@@ -20,6 +20,10 @@ pub enum Edit {
         columns: Columns,
         key: u16,
         since: SegmentNumber,
+    },
+    /// An index of a table. The type of its column isn't in the bytes.
+    CreateIndex {
+        def: IndexDef,
     },
     /// Data files of a table that take the place of others. From then on `since` is the table's first segment, and `floor` and `last`
     /// are the first and the last live one.

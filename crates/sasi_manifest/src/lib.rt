@@ -5,6 +5,7 @@
 
 mod append;
 mod apply;
+mod column_types;
 mod columns;
 mod create;
 mod edit;
@@ -12,6 +13,7 @@ mod edit_list;
 mod encode;
 mod file_list;
 mod files;
+mod index_list;
 mod listed;
 mod listing;
 mod manifest;
@@ -21,9 +23,11 @@ mod open;
 mod put;
 mod read_edit;
 mod read_files;
+mod read_index;
 mod read_record;
 mod read_replace;
 mod rewrite;
+mod rewrite_indexes;
 mod seal;
 mod size;
 mod table_list;

@@ -1,16 +1,18 @@
 // The tables that a manifest lists.
 ghost use Rattle.std.specs.Prelude.{◌≡◌, ◌++◌, ◌∷◌, ◌<◌, ◌≤◌, ◌+◌, [], length, map, IfOk, OnOk, OnErr};
-ghost use Rattle.sasi_schema.specs.Defined.{definition};
+ghost use Rattle.sasi_schema.specs.Defined.{definition, numbers_of};
 ghost use Rattle.sasi_schema.specs.Numbers.{RisesFrom};
 ghost use Rattle.sasi_manifest.specs.Naming.{AreApart, IsFree};
 
 use crate::files::{ListedFile, ListedFiles};
+use crate::index_list::{is_index_listed, is_index_named, largest_index};
 use crate::table_list::{
-    are_within, copies, files_at, is_file_listed, is_file_of, is_listed, replace_at,
+    are_within, copies, define_at, files_at, is_file_listed, is_file_of, is_listed, replace_at,
+    table_at,
 };
 use sasi_host::{DataNumber, SegmentNumber};
 use sasi_schema::Table;
-use sasi_types::TableNumber;
+use sasi_types::{IndexDef, IndexNumber, TableNumber};
 use std::alloc::{AllocError, Global};
 use std::marker::Model;
 
@@ -48,11 +50,12 @@ impl Model for ListedTables {
 impl ListedTables {
     ghost use Rattle.std.specs.List.{list_any};
     ghost use Rattle.sasi_model.specs.Statements.{same};
+    ghost use Rattle.sasi_schema.specs.IndexFacts.{IsIndexIn};
     ghost use Rattle.sasi_manifest.specs.ListedTables.{listed};
     ghost use Rattle.sasi_manifest.specs.Abbreviations.{listed_names};
-    ghost use Rattle.sasi_manifest.specs.Edits.{are_within, files_of};
-    ghost use Rattle.sasi_manifest.specs.ListedFiles.{has_file};
-    ghost use Rattle.sasi_manifest.specs.Listings.{at_number, replaced};
+    ghost use Rattle.sasi_manifest.specs.Edits.{are_within, definition_at, files_of, index_names, index_numbers};
+    ghost use Rattle.sasi_manifest.specs.ListedFiles.{has_file, is_among};
+    ghost use Rattle.sasi_manifest.specs.Listings.{at_number, largest_index, listed_definitions, listed_with_index, replaced};
 
     /// No tables.
     pub fn new(alloc: Global) -> ListedTables
@@ -99,6 +102,36 @@ impl ListedTables {
         files_at(&self.items, table)
     }
 
+    /// The table with this number, from 1 on.
+    pub fn table(&self, table: TableNumber) -> &Table
+        requires some { 0 < table }
+        requires within { table ≤ length self.now }
+        ensures { definition result.now ≡ definition_at (listed_definitions self.now) table }
+    {
+        table_at(&self.items, table)
+    }
+
+    /// Whether an index of one of the tables has the number.
+    pub fn has_index(&self, number: IndexNumber) -> bool
+        ensures { result ≡ is_among (index_numbers self.now) number }
+    {
+        is_index_listed(number, &self.items)
+    }
+
+    /// Whether an index of one of the tables has the name.
+    pub fn has_index_name(&self, name: &[u8]) -> bool
+        ensures { result ≡ list_any (same name.now) (index_names (listed_definitions self.now)) }
+    {
+        is_index_named(name, &self.items)
+    }
+
+    /// The largest number of an index, 0 where there is none.
+    pub fn largest_index(&self) -> IndexNumber
+        ensures { result ≡ largest_index self.now }
+    {
+        largest_index(&self.items)
+    }
+
     /// Whether no table but this one begins after the segment.
     pub fn are_within(&self, table: TableNumber, last: SegmentNumber) -> bool
         ensures { result ≡ are_within last table 1 self.now }
@@ -123,12 +156,21 @@ impl ListedTables {
         replace_at(alloc, &mut self.items, table, removed, added, since)
     }
 
+    /// Adds an index behind the others of its table.
+    pub fn define(&mut self, def: IndexDef) -> Result<(), AllocError>
+        requires { IsIndexIn (listed_definitions self.old) def }
+        ensures ok { OnOk result (self.new ≡ at_number 1 def.table (listed_with_index def) self.old) }
+        ensures err { OnErr result (self.new ≡ self.old) }
+    {
+        define_at(&mut self.items, def)
+    }
+
     /// Adds a table at the end.
     pub fn push(&mut self, table: Table, since: SegmentNumber) -> Result<(), AllocError>
         requires number { table.number ≡ length self.old + 1 }
         requires few { length self.old < 256 }
         requires free { IsFree (listed_names self.old) table.name }
-        ensures ok { OnOk result (self.new ≡ self.old ++ record { definition = definition table; since = since; files = [] } ∷ []) }
+        ensures ok { OnOk result (self.new ≡ self.old ++ record { definition = definition table; numbers = numbers_of table; since = since; files = [] } ∷ []) }
         ensures err { OnErr result (self.new ≡ self.old) }
     {
         let files = ListedFiles::new(*self.items.allocator());

@@ -6,7 +6,7 @@ ghost use Rattle.sasi_host.specs.Names.{manifest_name, seal_name};
 ghost use Rattle.sasi_host.specs.Sequential.{ReadsWithinPages};
 ghost use Rattle.sasi_gated.specs.Causes.{ReadingCauses};
 ghost use Rattle.sasi_manifest.specs.declared.listing.Listing.{Listing as AListing};
-ghost use Rattle.sasi_manifest.specs.Consistent.{IsConsistent};
+ghost use Rattle.sasi_manifest.specs.Consistent.{HasIndexesInOrder, IsConsistent};
 ghost use Rattle.sasi_manifest.specs.Damages.{IsManifestDamage, NoFalseManifestDamage};
 ghost use Rattle.sasi_manifest.specs.Edits.{AllApply, encoded};
 ghost use Rattle.sasi_manifest.specs.Format.{IsManifest, IsNext, IsRewritten, ListsSame};
@@ -81,8 +81,8 @@ impl Manifest {
         ensures ok { IfOk result (λ m. ManifestStands (H.view host.new) number m.at m.listing) }
         ensures sealed { OnOk result (IsUnsealed (H.view host.old) number → IsFileDurable (H.view host.new) (seal_name number) []) }
         ensures listing { IfOk result (λ m. IsRewritten listing.now m.listing) }
-        // So it lists the same, if edits can have made the listing.
-        ensures same { IfOk result (λ m. IsConsistent listing.now → ListsSame listing.now m.listing) }
+        // So it lists the same, if edits can have made the listing, and each table's indexes came in the order of their numbers.
+        ensures same { IfOk result (λ m. IsConsistent listing.now → HasIndexesInOrder listing.now → ListsSame listing.now m.listing) }
         ensures any_moment { (made : AListing) → IsRewritten listing.now made → IsUnsealed (H.view host.old) number → Changes (Creates number made) (H.view host.old) (H.view host.new) }
         ensures changes { Changes (ChangesOnlyManifest number) (H.view host.old) (H.view host.new) }
         ensures room { IfOk result (λ m. Reaches (H.view host.new) (manifest_name number) (m.at + 1)) }

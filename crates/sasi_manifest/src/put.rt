@@ -2,9 +2,10 @@
 ghost use Rattle.std.specs.Prelude.{◌≡◌, ◌++◌, ◌<◌, ◌≤◌, ◌^◌, [], length, None, OnOk};
 ghost use Rattle.std.specs.Int.{to_be_bytes, w32};
 ghost use Rattle.std.specs.List.{AllByRecursion};
+ghost use Rattle.sasi_types.specs.declared.column.ColumnType.TheVariants.{Text};
 ghost use Rattle.sasi_model.specs.Refusals.{names_in};
 ghost use Rattle.sasi_formats.specs.Formats.{encoded};
-ghost use Rattle.sasi_manifest.specs.Edits.{edit as edit_format, columns as columns_format, name as name_format, new_file_format, new_files, partitioner_code, parts as parts_format, removed_numbers};
+ghost use Rattle.sasi_manifest.specs.Edits.{analysis, edit as edit_format, fold_of, index_def, rule_code, columns as columns_format, name as name_format, new_file_format, new_files, partitioner_code, parts as parts_format, removed_numbers};
 ghost use Rattle.sasi_manifest.specs.Abbreviations.{column as column_format};
 ghost use Rattle.sasi_manifest.specs.Naming.{AreNames};
 ghost use Rattle.sasi_manifest.specs.Listings.{FitsWidths};
@@ -12,11 +13,11 @@ ghost use Rattle.sasi_manifest.specs.Listings.{FitsWidths};
 use crate::{Edit, ListedFile, PartNumber};
 use sasi_fields::{put_bytes, put_u8, put_u16, put_u32};
 use sasi_host::{DataNumber, SegmentNumber};
-use sasi_types::{ColumnType, Name, Partitioner};
+use sasi_types::{ColumnType, IndexDef, Name, Partitioner, Rule};
 use std::alloc::AllocError;
 
 /// Appends an edit: its tag and its fields.
-#[tactic(auto, unfolding(crate::specs::Edits::edit, crate::specs::Edits::replace))]
+#[tactic(auto, unfolding(crate::specs::Edits::edit, crate::specs::Edits::create_index, crate::specs::Edits::replace))]
 pub fn put_edit(out: &mut Vec<u8>, edit: &Edit) -> Result<(), AllocError>
     requires { FitsWidths edit.now }
     ensures { OnOk result (out.new.items ≡ out.old.items ++ encoded (edit_format None) edit.now) }
@@ -46,6 +47,10 @@ pub fn put_edit(out: &mut Vec<u8>, edit: &Edit) -> Result<(), AllocError>
             put_u16(out, *key)?;
             put_u32(out, *since)
         }
+        Edit::CreateIndex { def } => {
+            put_u8(out, 3)?;
+            put_index(out, def)
+        }
         Edit::Replace {
             table,
             removed,
@@ -60,6 +65,48 @@ pub fn put_edit(out: &mut Vec<u8>, edit: &Edit) -> Result<(), AllocError>
             put_files(out, added.as_slice())?;
             put_segments(out, *since, *floor, *last)
         }
+    }
+}
+
+// Appends the numbers of an index and its table, its name, its column, and how that is indexed.
+fn put_index(out: &mut Vec<u8>, def: &IndexDef) -> Result<(), AllocError>
+    requires { length def.now.name ≤ 48 }
+    ensures { OnOk result (out.new.items ≡ out.old.items ++ encoded (index_def [] [] []) def.now) }
+{
+    put_u32(out, def.number)?;
+    put_u32(out, def.table)?;
+    put_name(out, &def.name)?;
+    put_u16(out, def.column)?;
+    put_u8(out, def.mode.code())?;
+    put_rule(out, def.rule)
+}
+
+// Appends the byte of a rule, and whether it folds letters.
+fn put_rule(out: &mut Vec<u8>, rule: Option<Rule>) -> Result<(), AllocError>
+    ensures { OnOk result (out.new.items ≡ out.old.items ++ encoded (analysis Text) rule) }
+{
+    put_u8(out, rule_code(rule))?;
+    put_u8(out, fold_of(rule).into())
+}
+
+// The byte of a rule.
+fn rule_code(rule: Option<Rule>) -> u8
+    ensures { result ≡ rule_code rule }
+{
+    match rule {
+        None => 0,
+        Some(Rule::Whole { .. }) => 1,
+        Some(Rule::Words { .. }) => 2,
+    }
+}
+
+// Whether a rule folds letters.
+fn fold_of(rule: Option<Rule>) -> bool
+    ensures { result ≡ fold_of rule }
+{
+    match rule {
+        None => false,
+        Some(rule) => rule.folds(),
     }
 }
 

@@ -7,6 +7,7 @@ ghost use Rattle.sasi_manifest.specs.Edits.{create, edit, later_tag, partitioner
 ghost use Rattle.sasi_manifest.specs.Abbreviations.{segments};
 
 use crate::columns::{read_columns, read_key};
+use crate::read_index::read_create_index;
 use crate::read_replace::read_replace;
 use crate::text::read_table_name;
 use crate::{Edit, Listing};
@@ -53,6 +54,9 @@ fn read_later(
     if tag == 2 {
         return read_create(alloc, reader, listing);
     }
+    if tag == 3 {
+        return read_create_index(alloc, reader, &listing.tables);
+    }
     read_replace(alloc, reader, &listing.tables)
 }
 
@@ -62,7 +66,7 @@ fn read_later_tag(reader: &mut FieldReader) -> Result<u8, FormatFault>
 {
     let start = FieldStart::of(reader);
     let tag = read_u8(reader)?;
-    if tag != 2 && tag != 5 {
+    if tag != 2 && tag != 3 && tag != 5 {
         return Err(start.broken(FormatRule::Number, 1));
     }
     Ok(tag)

@@ -175,7 +175,7 @@ fn read_parts(alloc: Global, reader: &mut FieldReader) -> Result<PartNumbers, Fo
     read_items(alloc, reader, usize::from(count), &ReadPart)
 }
 
-// Reads a part of an index. None is defined yet, so its number names none.
+// Reads a part of an index. No index file is listed yet, so its number names none.
 #[derive(Drop)]
 struct ReadPart;
 

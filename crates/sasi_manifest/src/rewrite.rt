@@ -4,12 +4,13 @@ ghost use Rattle.sasi_manifest.specs.ListedTables.{listed};
 ghost use Rattle.sasi_manifest.specs.Listings.{create_edit, file_edits, files_edit, rewrite_edits, table_edits};
 
 use crate::file_list::copy_files;
+use crate::rewrite_indexes::push_indexes;
 use crate::{Edit, ListedFiles, ListedTable, Listing, NumberList};
 use sasi_host::SegmentNumber;
 use sasi_types::TableNumber;
 use std::alloc::{AllocError, Global};
 
-/// The start, then the tables in order, then their files.
+/// The start, then the tables in order, then the indexes of all tables in the order of their numbers, then the files of each table.
 pub fn rewrite_edits(alloc: Global, listing: &Listing) -> Result<Vec<Edit>, AllocError>
     ensures { IfOk result (λ edits. edits.items ≡ rewrite_edits listing.now) }
 {
@@ -21,6 +22,7 @@ pub fn rewrite_edits(alloc: Global, listing: &Listing) -> Result<Vec<Edit>, Allo
         last: listing.last,
     })?;
     push_tables(alloc, &mut edits, tables)?;
+    push_indexes(alloc, &mut edits, tables)?;
     push_files(alloc, &mut edits, listing.floor, listing.last, tables)?;
     Ok(edits)
 }

@@ -20,15 +20,23 @@ pub fn edits_size(edits: &[Edit]) -> u64
     size
 }
 
-#[tactic(auto, unfolding(crate::specs::Edits::edit, crate::specs::Edits::replace))]
+#[tactic(auto, unfolding(crate::specs::Edits::edit, crate::specs::Edits::create_index, crate::specs::Edits::replace))]
 fn edit_size(edit: &Edit) -> u64
     ensures { result ≡ min (length (formats.encoded (edit_format None) edit.now)) (2 ^ 64 - 1) }
 {
     match edit {
         Edit::Start { .. } => 10,
         Edit::CreateTable { name, columns, .. } => create_size(name, columns),
+        Edit::CreateIndex { def } => index_size(&def.name),
         Edit::Replace { removed, added, .. } => replace_size(removed, added),
     }
+}
+
+// A tag, two numbers, the length of the name, the name, a column and three bytes.
+fn index_size(name: &Name) -> u64
+    ensures { result ≡ min (15 + length name.now) (2 ^ 64 - 1) }
+{
+    (name.bytes().len() as u64).saturating_add(15)
 }
 
 // A tag, the number of the table, two counts, the data numbers and the files, and three segments.

@@ -2,18 +2,33 @@
 ghost use Rattle.std.specs.Prelude.{◌≡◌, ◌-◌, ◌<◌, ◌≤◌, length, map, slice_get, slice_set, Some, IfOk, OnOk, OnErr};
 ghost use Rattle.std.specs.List.{AllByRecursion, list_any};
 ghost use Rattle.sasi_model.specs.Statements.{same};
-ghost use Rattle.sasi_manifest.specs.Edits.{are_within, files_of};
+ghost use Rattle.sasi_manifest.specs.Edits.{are_within, definition_at, files_of};
 ghost use Rattle.sasi_manifest.specs.ListedFiles.{AreInOrder, has_file};
-ghost use Rattle.sasi_manifest.specs.ListedTables.{IsReplacedAt, listed};
+ghost use Rattle.sasi_manifest.specs.ListedTables.{IsDefinedAt, IsReplacedAt, listed};
 ghost use Rattle.sasi_manifest.specs.Abbreviations.{listed_names};
+ghost use Rattle.sasi_manifest.specs.Listings.{listed_definitions};
+ghost use Rattle.sasi_schema.specs.Defined.{definition};
+ghost use Rattle.sasi_schema.specs.IndexFacts.{IsIndexIn};
+ghost use Rattle.sasi_schema.specs.Numbers.{RisesFrom};
 
 use crate::ListedTable;
 use crate::file_list::{copy_files, has_file};
 use crate::files::{ListedFile, ListedFiles};
 use crate::number_set::NumberSet;
 use sasi_host::{DataNumber, SegmentNumber};
-use sasi_types::TableNumber;
+use sasi_schema::Table;
+use sasi_types::{IndexDef, TableNumber};
 use std::alloc::{AllocError, Global};
+
+/// The table with this number, from 1 on.
+pub fn table_at(tables: &[ListedTable], table: TableNumber) -> &Table
+    requires some { 0 < table }
+    requires within { table ≤ length tables.now }
+    ensures { definition result.now ≡ definition_at (listed_definitions (map listed tables.now)) table }
+{
+    let at = table as usize - 1;
+    &tables[at].table
+}
 
 /// Whether one of the tables has the name.
 pub fn is_listed(name: &[u8], tables: &[ListedTable]) -> bool
@@ -94,6 +109,17 @@ pub fn replace_at(
     changed.files.replace(&removed, added)?;
     changed.since = since;
     Ok(())
+}
+
+/// Adds an index behind the others of its table.
+pub fn define_at(tables: &mut Vec<ListedTable>, def: IndexDef) -> Result<(), AllocError>
+    requires rises { RisesFrom 1 (map (λ t. t.table.number) tables.old.items) }
+    requires index { IsIndexIn (listed_definitions (map listed tables.old.items)) def }
+    ensures ok { OnOk result (IsDefinedAt def tables.old.items tables.new.items) }
+    ensures err { OnErr result (tables.new.items ≡ tables.old.items) }
+{
+    let changed = &mut tables[def.table as usize - 1];
+    changed.table.add_index(def)
 }
 
 /// A copy of the tables.

@@ -6,8 +6,9 @@ ghost use Rattle.sasi_model.specs.Statements.{same};
 ghost use Rattle.sasi_model.specs.Tokens.{is_word_byte};
 ghost use Rattle.sasi_formats.specs.Reader.{read};
 ghost use Rattle.sasi_formats.specs.Gives.{Gives};
-ghost use Rattle.sasi_manifest.specs.Edits.{name};
+ghost use Rattle.sasi_manifest.specs.Edits.{index_names, name};
 ghost use Rattle.sasi_manifest.specs.Abbreviations.{is_open_name, listed_names};
+ghost use Rattle.sasi_manifest.specs.Listings.{listed_definitions};
 
 use crate::ListedTables;
 use sasi_fields::FieldReader;
@@ -53,6 +54,23 @@ pub fn read_table_name(
     Ok(Name::new(text.to_vec(alloc)?))
 }
 
+/// Reads the name of an index, which no index of a listed table has.
+pub fn read_index_name(
+    alloc: Global,
+    reader: &mut FieldReader,
+    tables: &ListedTables,
+) -> Result<Name, FormatFault>
+    ensures { Gives (read (name (index_names (listed_definitions tables.now))) reader.old) result reader.new }
+{
+    let size = read_u8_in_range(reader, 1, NAME_LIMIT)?;
+    let at = reader.offset();
+    let text = take(reader, usize::from(size))?;
+    if !is_open_index(text, tables) {
+        return Err(broken(FormatRule::Text, at, text));
+    }
+    Ok(Name::new(text.to_vec(alloc)?))
+}
+
 // Whether the text is a name that no column has.
 fn is_open_column(text: &[u8], columns: &[(Name, ColumnType)]) -> bool
     ensures { result ≡ is_open_name (names_in columns.now) text.now }
@@ -65,6 +83,13 @@ fn is_open_table(text: &[u8], tables: &ListedTables) -> bool
     ensures { result ≡ is_open_name (listed_names tables.now) text.now }
 {
     is_word(text) && !tables.has(text)
+}
+
+// Whether the text is a name that no index has.
+fn is_open_index(text: &[u8], tables: &ListedTables) -> bool
+    ensures { result ≡ is_open_name (index_names (listed_definitions tables.now)) text.now }
+{
+    is_word(text) && !tables.has_index_name(text)
 }
 
 fn is_column(text: &[u8], columns: &[(Name, ColumnType)]) -> bool

@@ -55,6 +55,13 @@ impl Memtable {
         }
     }
 
+    /// What makes the tokens of the keys.
+    pub fn partitioner(&self) -> Partitioner
+        ensures { result ≡ self.now.partitioner }
+    {
+        self.partitioner
+    }
+
     /// Merges a copy of a change into the partition of a key. Out of memory leaves the memtable unchanged.
     pub fn put(&mut self, key: &Key, change: &Partition) -> Result<(), AllocError>
         ensures ok { OnOk result (self.new ≡ with_change self.old key.now change.now) }

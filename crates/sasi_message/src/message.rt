@@ -2,7 +2,7 @@
 use sasi_filehost::NameText;
 use sasi_host::{Damage, Seen};
 use sasi_run::{NumberKind, Status};
-use sasi_types::Partitioner;
+use sasi_types::{Class, Partitioner};
 use std::fmt;
 
 /// The line on standard error, empty where there is none.
@@ -19,6 +19,7 @@ impl fmt::Display for Message {
             Status::OutputFault => write!(f, "output failed"),
             Status::OutOfMemory => write!(f, "out of memory"),
             Status::Damaged(damage) => write_damage(f, damage),
+            Status::AnalyzerMissing(class) => write_missing(f, class_name(class)),
             Status::PartitionerDiffers { asked, kept } => {
                 write_partitioners(f, partitioner_name(asked), partitioner_name(kept))
             }
@@ -38,6 +39,18 @@ fn write_damage<W: fmt::Write>(f: &mut fmt::Formatter<W>, damage: Damage) -> fmt
     let file = NameText(file);
     let seen = SeenText(seen);
     write!(f, "damaged {file} at {at} rule {rule:?} seen {seen}")
+}
+
+fn write_missing<W: fmt::Write>(f: &mut fmt::Formatter<W>, class: &str) -> fmt::Result {
+    write!(f, "no analyzer for {class}")
+}
+
+// The class in full, as a statement names it.
+fn class_name(class: Class) -> &'static str {
+    match class {
+        Class::NonTokenizing => "org.apache.cassandra.index.sasi.analyzer.NonTokenizingAnalyzer",
+        Class::Standard => "org.apache.cassandra.index.sasi.analyzer.StandardAnalyzer",
+    }
 }
 
 fn write_partitioners<W: fmt::Write>(

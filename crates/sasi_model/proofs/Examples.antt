@@ -1,14 +1,21 @@
 -- The definitions, computed on scripts and texts whose meaning is known.
-use Rattle.std.proofs.Common.{◌≡◌, pos, negsuc, true, false, [], ◌∷◌, codes, Some, None, refl}
+use Rattle.std.proofs.Common.{◌≡◌, ℕ, pos, negsuc, true, false, List, [], ◌∷◌, codes, Option, Some, None, refl}
 use Rattle.uuid.proofs.OnLiterals.{uuid_on_literals}
+use Rattle.sasi_types.specs.declared.class.Class.TheVariants.{NonTokenizing, Standard}
 use Rattle.sasi_types.specs.declared.column.ColumnType.TheVariants as types
 use Rattle.sasi_types.specs.declared.literal.Literal.TheVariants as literals
 use Rattle.sasi_types.specs.declared.literal.Number.TheVariants.{Fits, Wide}
+use Rattle.sasi_types.specs.declared.mode.Mode.TheVariants as modes
 use Rattle.sasi_types.specs.declared.relation.Test.TheVariants as tests
+use Rattle.sasi_types.specs.declared.rule.Rule.TheVariants.{Whole as WholeText, Words}
 use Rattle.sasi_types.specs.declared.statement.Statement.TheVariants.{CreateTable, CreateIndex, Insert, Update, Delete, Query, OpenCursor, Fetch, StepIndex}
 use Rattle.sasi_model.specs.Pieces.{Whole, Unfinished, pieces}
 use Rattle.sasi_model.specs.Tokens.{Word, QuotedName, Quoted, Integer, Uuid, Open, Close, Comma, Star, Equal, Less, LessEqual, More, MoreEqual, Colon, OpenBrace, CloseBrace, Semicolon, Unknown, tokens, uuid_in_front, other_lexeme, lexeme, is_separator}
 use Rattle.sasi_model.specs.FormReader.{read_items}
+use Rattle.sasi_model.specs.Abbreviations.{first_refusal}
+use Rattle.sasi_model.specs.Indexes.{IndexOption, class_given, default_name, index_class, index_name, is_allowed, mode_given, rule_given}
+use Rattle.sasi_model.specs.Refusals.{Refusal, index_rules}
+use Rattle.sasi_model.specs.State.{Definition}
 use Rattle.sasi_model.specs.Parsers.{Parses, FailsAt, grammar_parser}
 
 -- ---- pieces
@@ -183,3 +190,132 @@ too_few_tokens = refl
 open_string : grammar_parser (codes "SHOW FILES 'a;") ≡ FailsAt 11
 unfolding grammar_parser read_items is_separator lexeme uuid_in_front other_lexeme
 open_string = refl
+
+-- ---- indexes
+
+default_name_of_an_index : default_name (codes "t") (codes "a") ≡ codes "t_a_idx"
+default_name_of_an_index = refl
+
+-- a table's name of 44 bytes
+default_name_that_is_cut : default_name (codes "a_table_whose_name_is_of_forty_four_bytes_xx") (codes "a") ≡ codes "a_table_whose_name_is_of_forty_four_bytes_xx_a_i"
+default_name_that_is_cut = refl
+
+given_name_is_taken : index_name (Some (codes "i")) (codes "t") (codes "a") ≡ codes "i"
+given_name_is_taken = refl
+
+mode_in_any_case : mode_given ((codes "mode", codes "Contains") ∷ []) ≡ modes.Contains
+mode_in_any_case = refl
+
+mode_that_is_none_is_prefix : mode_given ((codes "Mode", codes "SPARSE") ∷ []) ≡ modes.Prefix
+mode_that_is_none_is_prefix = refl
+
+class_without_option : class_given ((codes "mode", codes "prefix") ∷ []) ≡ Some NonTokenizing
+class_without_option = refl
+
+class_by_its_option : class_given ((codes "analyzer_class", codes "org.apache.cassandra.index.sasi.analyzer.StandardAnalyzer") ∷ []) ≡ Some Standard
+class_by_its_option = refl
+
+unknown_class : class_given ((codes "analyzer_class", codes "StandardAnalyzer") ∷ []) ≡ None
+unknown_class = refl
+
+-- which options each type can have
+mode_of_a_number : is_allowed types.Int (Some NonTokenizing) (codes "mode", codes "sparse") ≡ true
+mode_of_a_number = refl
+
+no_such_mode : is_allowed types.Text (Some NonTokenizing) (codes "mode", codes "suffix") ≡ false
+no_such_mode = refl
+
+class_of_a_number : is_allowed types.Int (Some Standard) (codes "analyzer_class", codes "org.apache.cassandra.index.sasi.analyzer.StandardAnalyzer") ≡ false
+class_of_a_number = refl
+
+class_of_a_text : is_allowed types.Text (Some Standard) (codes "analyzer_class", codes "org.apache.cassandra.index.sasi.analyzer.StandardAnalyzer") ≡ true
+class_of_a_text = refl
+
+unknown_class_of_a_text : is_allowed types.Text None (codes "analyzer_class", codes "x") ≡ false
+unknown_class_of_a_text = refl
+
+analyzed_number : is_allowed types.BigInt (Some NonTokenizing) (codes "analyzed", codes "true") ≡ true
+analyzed_number = refl
+
+analyzed_is_a_flag : is_allowed types.Text (Some NonTokenizing) (codes "analyzed", codes "TRUE") ≡ false
+analyzed_is_a_flag = refl
+
+case_of_a_whole_text : is_allowed types.Text (Some NonTokenizing) (codes "case_sensitive", codes "false") ≡ true
+case_of_a_whole_text = refl
+
+case_of_words : is_allowed types.Text (Some Standard) (codes "case_sensitive", codes "false") ≡ false
+case_of_words = refl
+
+case_of_a_number : is_allowed types.Int (Some NonTokenizing) (codes "case_sensitive", codes "false") ≡ false
+case_of_a_number = refl
+
+lower_case_of_words : is_allowed types.Text (Some Standard) (codes "tokenization_normalize_lowercase", codes "true") ≡ true
+lower_case_of_words = refl
+
+lower_case_of_a_whole_text : is_allowed types.Text (Some NonTokenizing) (codes "tokenization_normalize_lowercase", codes "true") ≡ false
+lower_case_of_a_whole_text = refl
+
+words_without_stemming : is_allowed types.Text (Some Standard) (codes "tokenization_enable_stemming", codes "false") ≡ true
+words_without_stemming = refl
+
+words_with_stemming : is_allowed types.Text (Some Standard) (codes "tokenization_enable_stemming", codes "true") ≡ false
+words_with_stemming = refl
+
+no_such_option : is_allowed types.Text (Some NonTokenizing) (codes "Mode", codes "prefix") ≡ false
+no_such_option = refl
+
+-- how terms are made
+text_kept_whole : rule_given types.Text [] ≡ Some (WholeText false)
+text_kept_whole = refl
+
+text_folded : rule_given types.Text ((codes "case_sensitive", codes "false") ∷ []) ≡ Some (WholeText true)
+text_folded = refl
+
+words_folded : rule_given types.Text ((codes "tokenization_normalize_lowercase", codes "true") ∷ (codes "analyzer_class", codes "org.apache.cassandra.index.sasi.analyzer.StandardAnalyzer") ∷ []) ≡ Some (Words true)
+words_folded = refl
+
+number_without_rule : rule_given types.Int [] ≡ None
+number_without_rule = refl
+
+-- a table with a text, its key and a number, and an index on the number
+abbrev indexed : Definition
+indexed = record {
+  name = codes "t";
+  columns = (codes "a", types.Text) ∷ (codes "k", types.Text) ∷ (codes "b", types.Int) ∷ [];
+  key = 1;
+  indexes = record { name = codes "i"; column = 2; mode = modes.Prefix; rule = None } ∷ [];
+}
+
+-- the refusal of an index on it
+abbrev index_refused : Option (List ℕ) → List ℕ → List ℕ → List IndexOption → Option Refusal
+index_refused name column class options = first_refusal (index_rules (indexed ∷ []) name (codes "t") column class options (Some indexed))
+
+no_such_column : index_refused (Some (codes "i")) (codes "x") (codes "c") ((codes "o", []) ∷ []) ≡ Some (6, codes "NoColumn x")
+no_such_column = refl
+
+name_is_taken : index_refused (Some (codes "i")) (codes "a") (codes "c") ((codes "o", []) ∷ []) ≡ Some (13, codes "IndexExists i")
+name_is_taken = refl
+
+column_is_indexed : index_refused None (codes "b") (codes "c") ((codes "o", []) ∷ []) ≡ Some (13, codes "IndexExists i")
+column_is_indexed = refl
+
+other_class_behind_using : index_refused None (codes "k") (codes "c") ((codes "o", []) ∷ []) ≡ Some (15, codes "BadOption using")
+other_class_behind_using = refl
+
+option_before_mode : index_refused None (codes "k") index_class ((codes "mode", codes "sparse") ∷ (codes "o", []) ∷ []) ≡ Some (15, codes "BadOption o")
+option_before_mode = refl
+
+option_without_name : index_refused None (codes "a") index_class (([], []) ∷ []) ≡ Some (15, codes "BadOption")
+option_without_name = refl
+
+repeated_option : index_refused None (codes "a") index_class ((codes "mode", codes "prefix") ∷ (codes "mode", codes "prefix") ∷ []) ≡ Some (15, codes "BadOption mode")
+repeated_option = refl
+
+index_on_the_key : index_refused None (codes "k") index_class [] ≡ Some (16, codes "ModeType k")
+index_on_the_key = refl
+
+sparse_text : index_refused None (codes "a") index_class ((codes "mode", codes "sparse") ∷ []) ≡ Some (16, codes "ModeType a")
+sparse_text = refl
+
+allowed_index : index_refused None (codes "a") index_class [] ≡ None
+allowed_index = refl

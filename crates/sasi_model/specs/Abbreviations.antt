@@ -22,7 +22,7 @@ use Rattle.sasi_model.specs.Cells.{Partition, largest, max_timestamp_of, value_c
 use Rattle.sasi_model.specs.State.{Column, Definition, State, Table, key_column, number_at, number_of_column}
 use Rattle.sasi_model.specs.Pieces.{begins}
 use Rattle.sasi_model.specs.Tokens.{Lexeme, Uuid, is_digit, is_word_byte, lower_byte}
-use Rattle.sasi_model.specs.Refusals.{Refusal, RefusalRule, is_key_value, is_text_with}
+use Rattle.sasi_model.specs.Refusals.{Refusal, RefusalRule, detail, is_key_value, is_text_with}
 use Rattle.sasi_model.specs.Lines.{line, printed, rows_lines}
 use Rattle.sasi_model.specs.Step.{StepResult, cells_set, execute, given_key, live_rows, primary_key, refused_step, selected_columns, value_given}
 
@@ -54,6 +54,10 @@ key_type d = type_or_text (key_column d)
 -- the types of a table's columns: the key's first, and then those of the regular columns in order
 abbrev pub types_of : Definition → List ColumnType
 types_of d = key_type d ∷ map (λ column. column.1) (remove d.columns d.key)
+
+-- the type of the column with a number, the key's for 0; text where there is no such column
+abbrev pub kind_of : Definition → ℕ → ColumnType
+kind_of d column = unwrap_or (slice_get (types_of d) column) types.Text
 
 -- the position of the key column, 0 where there is none
 abbrev pub key_position : List Column → List (List ℕ) → ℕ
@@ -136,7 +140,7 @@ update_change d time sets = record { deleted = 0; cells = cells_set d time sets 
 
 -- the table that a CREATE TABLE creates: its key column is the one with PRIMARY KEY
 abbrev pub new_definition : List ℕ → List Column → List (List ℕ) → Definition
-new_definition name columns keys = record { name = name; columns = columns; key = key_position columns keys }
+new_definition name columns keys = record { name = name; columns = columns; key = key_position columns keys; indexes = [] }
 
 -- a live marker
 abbrev pub marker : ℕ → Cell
@@ -252,6 +256,18 @@ KeyEmpty name = (11, codes "KeyEmpty " ++ name)
 
 abbrev pub ValueTooLong : List ℕ → Refusal
 ValueTooLong name = (12, codes "ValueTooLong " ++ name)
+
+abbrev pub IndexExists : List ℕ → Refusal
+IndexExists name = (13, codes "IndexExists " ++ name)
+
+abbrev pub BadOption : List ℕ → Refusal
+BadOption option = (15, codes "BadOption" ++ detail option)
+
+abbrev pub BadUsing : Refusal
+BadUsing = (15, codes "BadOption using")
+
+abbrev pub ModeType : List ℕ → Refusal
+ModeType column = (16, codes "ModeType " ++ column)
 
 abbrev pub TimestampRange : Refusal
 TimestampRange = (20, codes "TimestampRange")

@@ -1,10 +1,10 @@
 -- Changes of a state by the numbers of its tables, as the commit log has them: a new table, or a change that is merged into
 -- the partition of a key.
-use Rattle.std.specs.Prelude.{ℕ, zero, suc, List, [], ◌∷◌, ◌++◌}
+use Rattle.std.specs.Prelude.{ℕ, zero, suc, nat_eq, if◌then◌else◌, List, [], ◌∷◌, ◌++◌}
 use Rattle.std.specs.FinMap as map_
 use Rattle.sasi_types.specs.declared.decorated_key.DecoratedKey.{DecoratedKey}
 use Rattle.sasi_model.specs.Cells.{Partition}
-use Rattle.sasi_model.specs.State.{Definition, State, Table, apply}
+use Rattle.sasi_model.specs.State.{Definition, Index, State, Table, apply, with_index}
 
 -- the empty table of this definition
 abbrev pub empty_table : Definition → Table
@@ -12,7 +12,7 @@ empty_table d = record { definition = d; partitions = map_.empty }
 
 -- the state with one more table
 abbrev pub with_new_table : State → Definition → State
-with_new_table s d = record { partitioner = s.partitioner; tables = s.tables ++ empty_table d ∷ [] }
+with_new_table s d = record s { tables = s.tables ++ empty_table d ∷ [] }
 
 -- the tables after a change of a partition of the table at this index
 abbrev pub changed_behind : ℕ → DecoratedKey → Partition → List Table → List Table
@@ -27,4 +27,18 @@ changed_tables (suc before) decorated_key change ts = changed_behind before deco
 
 -- the state after a change of a partition of the table with this number
 abbrev pub after_change : State → ℕ → DecoratedKey → Partition → State
-after_change s number decorated_key change = record { partitioner = s.partitioner; tables = changed_tables number decorated_key change s.tables }
+after_change s number decorated_key change = record s { tables = changed_tables number decorated_key change s.tables }
+
+-- ---- indexes
+
+-- the list with the item of this number changed, from the number of its first item on
+abbrev pub at_number : {A : Type 0} → ℕ → ℕ → (A → A) → List A → List A
+at_number n number change [] = []
+at_number n number change (x ∷ xs) = (if nat_eq n number then change x else x) ∷ at_number (suc n) number change xs
+
+abbrev pub table_with_index : Index → Table → Table
+table_with_index index t = record t { definition = with_index index t.definition }
+
+-- the state with one index more on the table with this number
+abbrev pub state_with_index : State → ℕ → Index → State
+state_with_index s number index = record s { tables = at_number 1 number (table_with_index index) s.tables }

@@ -1,7 +1,7 @@
 -- Codes of values, by which proofs tell values apart. Nothing here says what a script means.
-use Rattle.std.specs.Prelude.{◌≡◌, ℕ, ℤ, pos, zero, suc, List, [], Option, refl}
+use Rattle.std.specs.Prelude.{◌≡◌, Bool, ℕ, ℤ, pos, zero, suc, List, [], Option, refl}
 use Rattle.std.specs.FinMap as map_
-use Rattle.std.specs.Coded.{Coded, code_by, coded×, coded_ℕ, coded_ℤ, coded_list, coded_option}
+use Rattle.std.specs.Coded.{Coded, code_by, coded×, coded_ℕ, coded_ℤ, coded_bool, coded_list, coded_option}
 use Rattle.sasi_types.specs.declared.cell.Cell.{Cell}
 use Rattle.sasi_types.specs.declared.column.ColumnType.{ColumnType}
 use Rattle.sasi_types.specs.declared.column.ColumnType.TheVariants as types
@@ -11,7 +11,12 @@ use Rattle.sasi_types.specs.declared.decorated_key.DecoratedKey.{DecoratedKey}
 use Rattle.sasi_types.specs.declared.value.Value.{Value}
 use Rattle.sasi_types.specs.declared.value.Value.TheVariants as values
 use Rattle.sasi_model.specs.Cells.{Cells, Partition}
-use Rattle.sasi_model.specs.State.{Column, Definition, Table, State}
+use Rattle.sasi_types.specs.Codes.{mode_code}
+use Rattle.sasi_types.specs.declared.mode.Mode.{Mode}
+use Rattle.sasi_types.specs.declared.mode.Mode.TheVariants as modes
+use Rattle.sasi_types.specs.declared.rule.Rule.{Rule}
+use Rattle.sasi_types.specs.declared.rule.Rule.TheVariants as rules
+use Rattle.sasi_model.specs.State.{Column, Definition, Index, Table, State}
 use Rattle.sasi_model.specs.Abbreviations.{Partitions}
 
 abbrev pub ValueCode : Type 0
@@ -80,10 +85,43 @@ coded_column_type = code_by ℕ coded_ℕ column_type_number column_type_of colu
 abbrev pub coded_columns : Coded (List Column)
 coded_columns = coded_list (coded× coded_bytes coded_column_type)
 
+abbrev pub mode_of : ℕ → Mode
+mode_of zero = modes.Prefix
+mode_of (suc zero) = modes.Contains
+mode_of (suc (suc n)) = modes.Sparse
+
+abbrev pub mode_again : (mode : Mode) → mode_of (mode_code mode) ≡ mode
+mode_again modes.Prefix = refl
+mode_again modes.Contains = refl
+mode_again modes.Sparse = refl
+
+abbrev pub rule_code : Rule → ℕ × Bool
+rule_code (rules.Whole fold) = (0, fold)
+rule_code (rules.Words fold) = (1, fold)
+
+abbrev pub rule_of : ℕ → Bool → Rule
+rule_of zero fold = rules.Whole fold
+rule_of (suc n) fold = rules.Words fold
+
+abbrev pub rule_again : (rule : Rule) → rule_of (rule_code rule).0 (rule_code rule).1 ≡ rule
+rule_again (rules.Whole fold) = refl
+rule_again (rules.Words fold) = refl
+
+abbrev pub coded_mode : Coded Mode
+coded_mode = code_by ℕ coded_ℕ mode_code mode_of mode_again
+
+abbrev pub coded_rule : Coded Rule
+coded_rule = code_by (ℕ × Bool) (coded× coded_ℕ coded_bool) rule_code (λ c. rule_of c.0 c.1) rule_again
+
+abbrev pub coded_index : Coded Index
+coded_index =
+    code_by (List ℕ × (ℕ × (Mode × Option Rule))) (coded× coded_bytes (coded× coded_ℕ (coded× coded_mode (coded_option coded_rule))))
+    (λ i. (i.name, (i.column, (i.mode, i.rule)))) (λ c. record { name = c.0; column = c.1.0; mode = c.1.1.0; rule = c.1.1.1 }) (λ _. refl)
+
 abbrev pub coded_definition : Coded Definition
 coded_definition =
-    code_by (List ℕ × (List Column × ℕ)) (coded× coded_bytes (coded× coded_columns coded_ℕ))
-    (λ d. (d.name, (d.columns, d.key))) (λ c. record { name = c.0; columns = c.1.0; key = c.1.1 }) (λ _. refl)
+    code_by (List ℕ × (List Column × (ℕ × List Index))) (coded× coded_bytes (coded× coded_columns (coded× coded_ℕ (coded_list coded_index))))
+    (λ d. (d.name, (d.columns, (d.key, d.indexes)))) (λ c. record { name = c.0; columns = c.1.0; key = c.1.1.0; indexes = c.1.1.1 }) (λ _. refl)
 
 abbrev pub coded_table : Coded Table
 coded_table =

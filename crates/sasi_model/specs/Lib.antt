@@ -8,6 +8,7 @@ pub mod Faults
 pub mod Parsers
 pub mod Cells
 pub mod State
+pub mod Indexes
 pub mod Changes
 pub mod IndexTerms
 pub mod WellFormed
@@ -16,5 +17,8 @@ pub mod Refusals
 pub mod Lines
 pub mod Step
 pub mod Asked
+pub mod Relations
+pub mod Conditions
+pub mod Filters
 pub mod Abbreviations
 pub mod Codes

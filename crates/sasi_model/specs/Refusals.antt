@@ -16,11 +16,13 @@ use Rattle.sasi_types.specs.declared.literal.Number.{Number}
 use Rattle.sasi_types.specs.declared.literal.Number.TheVariants.{Fits, Wide}
 use Rattle.sasi_types.specs.declared.statement.Statement.{Statement}
 use Rattle.sasi_types.specs.declared.statement.Select.{Select}
-use Rattle.sasi_types.specs.declared.statement.Statement.TheVariants.{CreateTable, Insert, Update, Delete, Query, Flush}
+use Rattle.sasi_types.specs.declared.class.Class.{Class}
+use Rattle.sasi_types.specs.declared.statement.Statement.TheVariants.{CreateTable, CreateIndex, Insert, Update, Delete, Query, Flush}
 use Rattle.sasi_model.specs.Pieces.{Piece, Whole, TooLong, Unfinished}
 use Rattle.sasi_model.specs.Tokens.{same}
 use Rattle.sasi_model.specs.Parsers.{Parsed, Parses, FailsAt, Parser, grammar_parser}
-use Rattle.sasi_model.specs.State.{Column, State, Definition, definition_of, position_in, key_column, number_of_column, max_timestamp}
+use Rattle.sasi_model.specs.State.{Column, State, Definition, Index, definition_of, position_in, key_column, number_of_column, max_timestamp}
+use Rattle.sasi_model.specs.Indexes.{IndexOption, class_given, index_class, index_name, index_named, index_on, is_allowed, mode_fits, mode_given}
 
 -- the number of a refusal, and its name with what it is about
 abbrev pub Refusal : Type 0
@@ -42,6 +44,7 @@ is_plain select = length select.relations == 0 && not (is_some select.limit) && 
 -- what is built of the grammar
 abbrev pub is_built : Statement → Bool
 is_built (CreateTable table columns keys) = true
+is_built (CreateIndex name table column class options stepped) = not stepped
 is_built (Insert table columns values time) = true
 is_built (Update table time sets key value) = true
 is_built (Delete table columns time key value) = true
@@ -66,6 +69,16 @@ read_by parser (Whole text) =
 -- as the parser of the grammar does
 abbrev pub read : Piece → ParsedPiece
 read = read_by grammar_parser
+
+-- ---- what a piece is judged by
+
+-- the definitions of the tables, and the largest timestamp of the state
+pub record Known : Type 0 where
+  pub tables : List Definition
+  pub max_timestamp : ℕ
+
+abbrev pub known_of : State → Known
+known_of s = record { tables = map (λ t. t.definition) s.tables; max_timestamp = max_timestamp s }
 
 -- ---- rules
 
@@ -219,16 +232,56 @@ abbrev pub flush_rules : List ℕ → Option Definition → List RefusalRule
 flush_rules table None = (true, (4, codes "NoTable " ++ table)) ∷ []
 flush_rules table (Some d) = []
 
--- the rules for these tables and this largest timestamp of the state; none for a statement that isn't built
-abbrev pub rules : List Definition → ℕ → Statement → List RefusalRule
-rules tables max_timestamp (CreateTable table columns keys) = create_rules tables table columns keys
-rules tables max_timestamp (Insert table columns values time) = insert_rules max_timestamp table columns (zip columns values) time (definition_of table tables)
-rules tables max_timestamp (Update table time sets key value) = update_rules max_timestamp table sets key value time (definition_of table tables)
-rules tables max_timestamp (Delete table columns time key value) = delete_rules max_timestamp table columns key value time (definition_of table tables)
-rules tables max_timestamp (Query select) = select_rules select.table select.columns (definition_of select.table tables)
-rules tables max_timestamp (Flush table) = flush_rules table (definition_of table tables)
-rules tables max_timestamp statement = []
+-- ---- CREATE CUSTOM INDEX
+
+-- a text behind the name of a refusal, and nothing behind it for an empty one
+abbrev pub detail : List ℕ → List ℕ
+detail [] = []
+detail (b ∷ bs) = 32 ∷ b ∷ bs
+
+-- an index is there already
+abbrev pub index_exists : Option Index → RefusalRule
+index_exists found = (is_some found, (13, codes "IndexExists " ++ option_map_or (λ i. i.name) found []))
+
+-- an option that stands before, or that the index can't have
+abbrev pub option_rules : ColumnType → Option Class → List (List ℕ) → List IndexOption → List RefusalRule
+option_rules type class before [] = []
+option_rules type class before (option ∷ options) =
+    (list_any (same option.0) before || not (is_allowed type class option), (15, codes "BadOption" ++ detail option.0)) ∷ option_rules type class (before ++ option.0 ∷ []) options
+
+-- the class behind USING
+abbrev pub using_rule : List ℕ → RefusalRule
+using_rule class = (not (same class index_class), (15, codes "BadOption using"))
+
+-- the key has no index, and each mode is for some types
+abbrev pub mode_rule : List ℕ → ℕ → ColumnType → List IndexOption → RefusalRule
+mode_rule column number type options = (number == 0 || not (mode_fits (mode_given options) type), (16, codes "ModeType " ++ column))
+
+-- the rules of an index of this name on a column, by its number and type if the table has it
+abbrev pub index_column_rules : List Definition → Definition → List ℕ → List ℕ → List ℕ → List IndexOption → Option ℕ → Option ColumnType → List RefusalRule
+index_column_rules tables d name column class options (Some number) (Some type) =
+    index_exists (index_named name tables) ∷ index_exists (index_on number d.indexes)
+    ∷ using_rule class ∷ (option_rules type (class_given options) [] options ++ mode_rule column number type options ∷ [])
+index_column_rules tables d name column class options number type = []
+
+abbrev pub index_rules : List Definition → Option (List ℕ) → List ℕ → List ℕ → List ℕ → List IndexOption → Option Definition → List RefusalRule
+index_rules tables name table column class options None = (true, (4, codes "NoTable " ++ table)) ∷ []
+index_rules tables name table column class options (Some d) =
+    no_column d column ∷ index_column_rules tables d (index_name name table column) column class options (number_of_column d column) (type_of_column d column)
+
+-- ---- the rules of a statement
+
+-- by what is known; none for a statement that isn't built
+abbrev pub rules : Known → Statement → List RefusalRule
+rules known (CreateTable table columns keys) = create_rules known.tables table columns keys
+rules known (CreateIndex name table column class options stepped) = index_rules known.tables name table column class options (definition_of table known.tables)
+rules known (Insert table columns values time) = insert_rules known.max_timestamp table columns (zip columns values) time (definition_of table known.tables)
+rules known (Update table time sets key value) = update_rules known.max_timestamp table sets key value time (definition_of table known.tables)
+rules known (Delete table columns time key value) = delete_rules known.max_timestamp table columns key value time (definition_of table known.tables)
+rules known (Query select) = select_rules select.table select.columns (definition_of select.table known.tables)
+rules known (Flush table) = flush_rules table (definition_of table known.tables)
+rules known statement = []
 
 -- that of the first rule that applies
 unfoldable pub refusal : State → Statement → Option Refusal
-refusal s statement = lookup (λ applies. applies) (rules (map (λ t. t.definition) s.tables) (max_timestamp s) statement)
+refusal s statement = lookup (λ applies. applies) (rules (known_of s) statement)

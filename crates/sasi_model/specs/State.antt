@@ -1,10 +1,12 @@
 -- The state of a script: tables in the order of their creation, each a finite map from keys to partitions. The map is
 -- ordered by the tokens of the keys, then by their bytes. Every answer has this order.
-use Rattle.std.specs.Prelude.{ℕ, suc, ◌==◌, nat_lt, slice_get, map, List, [], ◌∷◌, Option, None, Some, if◌then◌else◌, unwrap_or}
+use Rattle.std.specs.Prelude.{ℕ, suc, ◌==◌, nat_lt, slice_get, map, List, [], ◌∷◌, ◌++◌, Option, None, Some, if◌then◌else◌, unwrap_or}
 use Rattle.std.specs.FinMap as map_
 use Rattle.std.specs.List.{find}
 use Rattle.std.specs.Option.{option_map}
 use Rattle.sasi_types.specs.declared.column.ColumnType.{ColumnType}
+use Rattle.sasi_types.specs.declared.mode.Mode.{Mode}
+use Rattle.sasi_types.specs.declared.rule.Rule.{Rule}
 use Rattle.sasi_types.specs.declared.partitioner.Partitioner.{Partitioner}
 use Rattle.sasi_types.specs.declared.decorated_key.DecoratedKey.{DecoratedKey}
 use Rattle.sasi_types.specs.DecoratedKey.{decorated_cmp}
@@ -16,13 +18,24 @@ use Rattle.sasi_model.specs.Cells.{Partition, empty_partition, largest, merge, m
 abbrev pub Column : Type 0
 Column = List ℕ × ColumnType
 
--- the definition of a table by a CREATE TABLE
+-- the definition of an index by a CREATE CUSTOM INDEX
+pub record Index : Type 0 where
+  pub name : List ℕ
+  -- the number of the indexed column, from 1
+  pub column : ℕ
+  pub mode : Mode
+  -- how terms are made of a text; none for a number
+  pub rule : Option Rule
+
+-- the definition of a table by a CREATE TABLE, with the indexes that are defined on it
 pub record Definition : Type 0 where
   pub name : List ℕ
   -- in declared order, the key column among them
   pub columns : List Column
   -- the position of the key column, from 0
   pub key : ℕ
+  -- in the order of their creation
+  pub indexes : List Index
 
 pub record Table : Type 0 where
   pub definition : Definition
@@ -31,6 +44,10 @@ pub record Table : Type 0 where
 pub record State : Type 0 where
   pub partitioner : Partitioner
   pub tables : List Table
+
+-- the definition with one index more
+abbrev pub with_index : Index → Definition → Definition
+with_index index d = record d { indexes = d.indexes ++ index ∷ [] }
 
 -- ---- tables
 

@@ -18,11 +18,12 @@ use Rattle.sasi_types.specs.declared.value.Value.{Value}
 use Rattle.sasi_types.specs.declared.value.Value.TheVariants.{Text, Int, BigInt, Uuid}
 use Rattle.sasi_types.specs.Value.{stored}
 use Rattle.sasi_types.specs.declared.statement.Statement.{Statement}
-use Rattle.sasi_types.specs.declared.statement.Statement.TheVariants.{CreateTable, Insert, Update, Delete, Query}
+use Rattle.sasi_types.specs.declared.statement.Statement.TheVariants.{CreateTable, CreateIndex, Insert, Update, Delete, Query, Flush}
 use Rattle.sasi_model.specs.Pieces.{Piece}
 use Rattle.sasi_model.specs.Cells.{Cells, Partition, is_live, value_at}
-use Rattle.sasi_model.specs.State.{Column, Definition, Table, State, decorated, table_of, with_table, position_in, number_of_column, key_column, apply, max_timestamp}
-use Rattle.sasi_model.specs.Changes.{empty_table}
+use Rattle.sasi_model.specs.State.{Column, Definition, Index, Table, State, decorated, table_of, with_table, position_in, number_of_column, key_column, apply, max_timestamp}
+use Rattle.sasi_model.specs.Indexes.{IndexOption, index_made, index_name}
+use Rattle.sasi_model.specs.Changes.{empty_table, table_with_index}
 use Rattle.sasi_model.specs.Parsers.{Parser, grammar_parser}
 use Rattle.sasi_model.specs.Refusals.{Refusal, ParsedPiece, Nothing, Says, Bad, read_by, refusal, type_of_column, is_key_value}
 use Rattle.sasi_model.specs.Lines.{line, rows_lines, refusal_line}
@@ -113,20 +114,34 @@ abbrev pub written : State → List ℕ → Option Number → (Definition → Op
 written s table time key change = with_table table (λ t. applied (option_and_then (decorated_given s.partitioner t.definition) (key t.definition))
     (option_map (change t.definition) (timestamp (max_timestamp s) time)) t) s.tables
 
--- an UPDATE writes the cells alone; any other statement than these writes nothing
+-- the index that a CREATE CUSTOM INDEX defines on a table, if the table has the column
+abbrev pub index_given : Definition → Option (List ℕ) → List ℕ → List ℕ → List IndexOption → Option Index
+index_given d name table column options = index_made (index_name name table column) (number_of_column d column) (type_of_column d column) options
+
+-- an UPDATE writes the cells alone; a SELECT and a FLUSH write nothing, and no other statement is built
 abbrev pub tables_after : State → Statement → List Table
 tables_after s (CreateTable table columns keys) =
-    option_map_or (λ key. s.tables ++ empty_table (record { name = table; columns = columns; key = key }) ∷ []) (primary_key columns keys) s.tables
+    option_map_or (λ key. s.tables ++ empty_table (record { name = table; columns = columns; key = key; indexes = [] }) ∷ []) (primary_key columns keys) s.tables
+tables_after s (CreateIndex name table column class options stepped) = with_table table (λ t. option_map_or (λ index. table_with_index index t) (index_given t.definition name table column options) t) s.tables
 tables_after s (Insert table columns values time) =
     written s table time (λ d. given_key d (zip columns values)) (λ d time. insert_change d time (zip columns values))
 tables_after s (Update table time sets key value) = written s table time (λ d. Some value) (λ d time. record { deleted = 0; cells = cells_set d time sets })
 tables_after s (Delete table columns time key value) = written s table time (λ d. Some value) (λ d time. delete_change d time columns)
+tables_after s (Query select) = s.tables
+tables_after s (Flush table) = s.tables
 tables_after s statement = s.tables
 
+-- a SELECT answers its rows, and each other statement that is built `ok`
 abbrev pub answer_of : State → Statement → List ℕ
 answer_of s (Query select) = option_map_or (λ t. rows_lines (live_rows t.definition (selected_columns t.definition select.columns)
     (map_.entries t.partitions))) (table_of select.table s.tables) []
-answer_of s statement = line (codes "ok")
+answer_of s (CreateTable table columns keys) = line (codes "ok")
+answer_of s (CreateIndex name table column class options stepped) = line (codes "ok")
+answer_of s (Insert table columns values time) = line (codes "ok")
+answer_of s (Update table time sets key value) = line (codes "ok")
+answer_of s (Delete table columns time key value) = line (codes "ok")
+answer_of s (Flush table) = line (codes "ok")
+answer_of s statement = []
 
 -- ---- one piece
 

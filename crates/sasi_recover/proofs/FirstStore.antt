@@ -191,6 +191,7 @@ module _ (p : Partitioner) (opened : Opened) (first : IsFirst p opened) where
       manifest_is = ap (λ (n : Numbers). n.manifest) first.4 ∙ sym first.1;
       log_is = ap (λ (n : Numbers). n.log) first.4 ∙ ap (λ (l : Listing). l.last) (sym listing_is);
       files = rw listing_is tt;
+      indexes = rw listing_is tt;
       fits = omega (arith, ap (λ (n : Numbers). n.«data») first.4);
     };
     timestamp = omega (arith, first.5);
@@ -221,7 +222,7 @@ module _ (p : Partitioner) (opened : Opened) (first : IsFirst p opened) where
       ) in
       record {
         told = told;
-        in_order = tt;
+        in_order = record { files = tt; indexes = tt };
         definitions = rw listing_is refl;
         tables = rw first.3 refl;
         used = rw first.4 refl;

@@ -37,7 +37,9 @@ use Rattle.sasi_manifest.specs.Damages.{NoFalseManifestDamage}
 use Rattle.sasi_manifest.specs.Format.{IsManifest}
 use Rattle.sasi_recover.specs.declared.fault.OpenFault.{OpenFault}
 use Rattle.sasi_recover.specs.declared.fault.OpenFault.TheVariants as fault
-use Rattle.sasi_recover.specs.Faults.{OnDiffers, OnOpenDamage, open_fault_of}
+use Rattle.sasi_types.specs.declared.class.Class.{Class}
+use Rattle.sasi_recover.specs.Faults.{OnDiffers, OnMissing, OnOpenDamage, open_fault_of}
+use Rattle.sasi_recover.specs.Promises.{LacksClass, LacksUnder}
 use Rattle.sasi_recover.proofs.Damaged.{foreign_shown}
 use Rattle.sasi_recover.proofs.OpenedState.{firsts_fresh}
 use Rattle.sasi_folder.specs.Damages.{FolderShows, ShowsManifestOrListed}
@@ -53,7 +55,7 @@ use Rattle.sasi_recover.specs.SealedFolder.{AreListedFiles, IsChecked, IsManifes
 use Rattle.sasi_recover.proofs.DeletedFiles.{deletes_kept, deletes_store, keeps_data, keeps_manifest, keeps_seal, keeps_segment, unless_kept}
 use Rattle.sasi_recover.proofs.KeptFiles.{has_kept, keeps_is}
 use Rattle.sasi_recover.proofs.KeptShapes.{bytes_of_file, file_of_shape, shape_where_kept}
-use Rattle.sasi_recover.proofs.OpenedStore.{consistent_in_order, data_fits, definitions_are, maps_in_memory, shape_bare, shape_in_order, tables_ready}
+use Rattle.sasi_recover.proofs.OpenedStore.{consistent_in_order, data_fits, definitions_are, indexes_numbered, maps_in_memory, shape_bare, shape_in_order, tables_ready}
 use Rattle.sasi_recover.proofs.PerTable.{maps_of, replayed_maps}
 use Rattle.sasi_recover.proofs.SealedStore.{bytes_there, contents_left, held_is_listed, listed_is_there, manifest_room, manifest_stands, reads_of}
 use Rattle.sasi_recover.proofs.Checking.{among_of, among_shape, listing_is, of_among, shape_has}
@@ -212,6 +214,7 @@ module _ (a c : View) (m : ManifestState) (numbers : List ℕ) (time : ℕ) (nam
       manifest_is = refl;
       log_is = refl;
       files = consistent_in_order m.listing _ read.consistent (omega arith);
+      indexes = indexes_numbered _ m.listing.tables read.consistent.indexes (omega arith);
       fits = data_fits m.listing.tables read.consistent.files;
     });
     timestamp = omega (arith, greatest_is, checked.tells.limit, is_replay.limit);
@@ -349,18 +352,21 @@ new_damage v folder names files lists fault.Failed none foreign = tt
 new_damage v folder names files lists fault.OutOfMemory none foreign = tt
 new_damage v folder names files lists (fault.Damaged damage) none foreign = foreign_shown v folder files names lists (read_fault.Damaged damage) none foreign
 new_damage v folder names files lists (fault.PartitionerDiffers asked kept) none foreign = tt
+new_damage v folder names files lists (fault.AnalyzerMissing class) none foreign = tt
 
 pub new_undamaged : (v : View) (folder : Folder) (f : OpenFault) → OnOpenDamage (λ _. NoFalseFreshDamage v) f → v.files ≡ Some folder → IsFresh folder → OnOpenDamage (λ _. ⊥) f
 new_undamaged v folder fault.Failed no_false files fresh = tt
 new_undamaged v folder fault.OutOfMemory no_false files fresh = tt
 new_undamaged v folder (fault.Damaged damage) no_false files fresh = no_false folder files fresh
 new_undamaged v folder (fault.PartitionerDiffers asked kept) no_false files fresh = tt
+new_undamaged v folder (fault.AnalyzerMissing class) no_false files fresh = tt
 
 pub never_differs : (P : Partitioner → Partitioner → Type 0) (f : OpenFault) → OnDiffers (λ wanted kept. ⊥) f → OnDiffers P f
 never_differs P fault.Failed never = tt
 never_differs P fault.OutOfMemory never = tt
 never_differs P (fault.Damaged damage) never = tt
 never_differs P (fault.PartitionerDiffers asked kept) never = absurd never
+never_differs P (fault.AnalyzerMissing class) never = tt
 
 -- ---- a sealed one
 
@@ -381,12 +387,40 @@ sealed_differs folder number asked fault.Failed sealed differs = tt
 sealed_differs folder number asked fault.OutOfMemory sealed differs = tt
 sealed_differs folder number asked (fault.Damaged damage) sealed differs = tt
 sealed_differs folder number asked (fault.PartitionerDiffers wanted kept) sealed differs = (differs.0, (number, sealed, differs.1), differs.2)
+sealed_differs folder number asked (fault.AnalyzerMissing class) sealed differs = tt
+
+-- a missing analyzer
+pub never_missing : (P : Class → Type 0) (f : OpenFault) → OnMissing (λ class. ⊥) f → OnMissing P f
+never_missing P fault.Failed never = tt
+never_missing P fault.OutOfMemory never = tt
+never_missing P (fault.Damaged damage) never = tt
+never_missing P (fault.PartitionerDiffers asked kept) never = tt
+never_missing P (fault.AnalyzerMissing class) never = absurd never
+
+pub unsealed_lacks : (v : View) (names : List FileName) (folder : Folder) (kinds : List Class) (class : Class) → Lists v names → v.files ≡ Some folder → IsHighestSeal names None → LacksClass kinds folder class → ⊥
+unsealed_lacks v names folder kinds class lists files none lacks = none lacks.0 (held_is_listed v names folder (seal_name lacks.0) lists files lacks.1.there)
+
+pub sealed_lacks : (folder : Folder) (number : ℕ) (kinds : List Class) (class : Class) → IsSealed folder number → LacksClass kinds folder class → LacksUnder kinds folder number class
+sealed_lacks folder number kinds class sealed lacks =
+    let same : lacks.0 ≡ number = ⊎_elim
+    (λ below. absurd (none_is_not (get folder (seal_name number)) (lacks.1.highest number below) sealed.there))
+    (λ other. ⊎_elim (λ is. is) (λ above. absurd (none_is_not (get folder (seal_name lacks.0)) (sealed.highest lacks.0 above) lacks.1.there)) other)
+    (below_or lacks.0 number) in
+    subst (λ n. LacksUnder kinds folder n class) same lacks.2
+
+pub sealed_missing : (folder : Folder) (number : ℕ) (kinds : List Class) (f : OpenFault) → IsSealed folder number → OnMissing (LacksUnder kinds folder number) f → OnMissing (LacksClass kinds folder) f
+sealed_missing folder number kinds fault.Failed sealed lacks = tt
+sealed_missing folder number kinds fault.OutOfMemory sealed lacks = tt
+sealed_missing folder number kinds (fault.Damaged damage) sealed lacks = tt
+sealed_missing folder number kinds (fault.PartitionerDiffers asked kept) sealed lacks = tt
+sealed_missing folder number kinds (fault.AnalyzerMissing class) sealed lacks = (number, sealed, lacks)
 
 pub sealed_damage : (folder : Folder) (number : ℕ) (f : OpenFault) → IsSealed folder number → OnOpenDamage (ShowsManifestOrListed folder number) f → OnOpenDamage (FolderShows folder) f
 sealed_damage folder number fault.Failed sealed shows = tt
 sealed_damage folder number fault.OutOfMemory sealed shows = tt
 sealed_damage folder number (fault.Damaged damage) sealed shows = inr (record { number = number; sealed = sealed; shows = shows })
 sealed_damage folder number (fault.PartitionerDiffers asked kept) sealed shows = tt
+sealed_damage folder number (fault.AnalyzerMissing class) sealed shows = tt
 
 pub sealed_opens : (folder : Folder) (result : Result Opened OpenFault) → OnOk result (Opens folder) → OnOk result (CanOpen folder)
 sealed_opens folder (Ok opened) opens = inr opens

@@ -13,6 +13,7 @@ pub mod KeptFiles
 pub mod KeptShapes
 pub mod ListedFiles
 pub mod ListedNumbers
+pub mod MissingLaws
 pub mod OpenedState
 pub mod OpenedStore
 pub mod PerTable

@@ -2,7 +2,7 @@
 use Rattle.std.proofs.Common.{◌≡◌, ℕ, true, List, Option, None, Some, IsSome, is_some, sym, ◌∙◌, ap, subst}
 use Rattle.std.specs.FinMap.{get}
 use Rattle.sasi_host.specs.declared.name.FileName.{FileName}
-use Rattle.sasi_host.specs.Names.{Bytes, Folder, manifest_name, seal_name}
+use Rattle.sasi_host.specs.Names.{Folder, manifest_name, seal_name}
 use Rattle.sasi_host.specs.View.{View, IsThere, contents_in}
 use Rattle.sasi_host.specs.Disk.{Changes, Lists, Same}
 use Rattle.sasi_host.proofs.ChangeLaws.{changes_as, changes_on}

@@ -10,16 +10,17 @@ use Rattle.sasi_cells.specs.Maps.{merge_maps, merged, put}
 use Rattle.sasi_cells.specs.declared.mutation.Mutation.{Mutation}
 use Rattle.sasi_model.specs.Abbreviations.{Partitions}
 use Rattle.sasi_model.specs.State.{Definition, decorated}
-use Rattle.sasi_manifest.specs.Consistent.{FilesRise, IsConsistent}
+use Rattle.sasi_manifest.specs.Consistent.{FilesRise, HasIndexes, IsConsistent}
 use Rattle.sasi_manifest.specs.declared.files.ListedFile.{ListedFile}
 use Rattle.sasi_manifest.specs.declared.listing.Listing.{Listing}
 use Rattle.sasi_manifest.specs.ListedDefinition.{ListedDefinition}
-use Rattle.sasi_manifest.specs.Listings.{listed_definitions}
+use Rattle.sasi_manifest.specs.Listings.{largest_index, listed_definitions}
+use Rattle.sasi_model.specs.Cells.{largest}
 use Rattle.sasi_layout.specs.Layout.{Layout, TableParts, Used, bare, bare_table, largest_data, largest_file, listed_of, listing_of, unflushed}
 use Rattle.sasi_layout.specs.Serving.{AreTablesReady, TableInMemory}
 use Rattle.sasi_layout.specs.Serving as serving
 use Rattle.sasi_layout.specs.Shape.{AreShaped, HasShape, replay, replay_segment}
-use Rattle.sasi_layout.specs.NumbersInOrder.{HasFilesInOrder, HasNumbersInOrder, Rising}
+use Rattle.sasi_layout.specs.NumbersInOrder.{HasFilesInOrder, HasIndexesNumbered, HasNumbersInOrder, Rising}
 use Rattle.sasi_recover.specs.declared.opened.TableMap.{TableMap}
 use Rattle.sasi_recover.specs.OpenedFolder.{opened_table}
 use Rattle.sasi_recover.specs.ReplayState.{AreMapsFrom}
@@ -117,6 +118,17 @@ tables_in_order high last (t ∷ ts) rise since most = (
 pub consistent_in_order : (listing : Listing) (high : ℕ) → IsConsistent listing → largest_data listing.tables ≤ high → AllByRecursion (HasFilesInOrder high listing.last) listing.tables
 consistent_in_order listing high known most = tables_in_order high listing.last listing.tables known.files known.since most
 
+all_within : (high : ℕ) (ns : List ℕ) → largest ns ≤ high → AllByRecursion (λ (n : ℕ). n ≤ high) ns
+all_within high [] most = tt
+all_within high (n ∷ ns) most = (omega (arith, most), all_within high ns (omega (arith, most)))
+
+pub indexes_numbered : (high : ℕ) (ts : List ListedDefinition) → AllByRecursion HasIndexes ts → largest_index ts ≤ high → AllByRecursion (HasIndexesNumbered high) ts
+indexes_numbered high [] has most = tt
+indexes_numbered high (t ∷ ts) has most = (record { counted = has.0.counted; within = all_within high t.numbers (omega (arith, most)) }, indexes_numbered high ts has.1 (omega (arith, most)))
+
 -- **The numbers of the layout of a shape are in order.**
 pub shape_in_order : (x : Folder) (l : Layout) (logs : List (List Mutation)) → HasShape x l logs → IsConsistent (listing_of l) → HasNumbersInOrder l
-shape_in_order x l logs has known = consistent_in_order (listing_of l) l.used.«data» known (omega (arith, ap (λ (u : Used). u.«data») has.used))
+shape_in_order x l logs has known = record {
+  files = consistent_in_order (listing_of l) l.used.«data» known (omega (arith, ap (λ (u : Used). u.«data») has.used));
+  indexes = indexes_numbered l.used.index (listing_of l).tables known.indexes (omega (arith, ap (λ (u : Used). u.index) has.used));
+}

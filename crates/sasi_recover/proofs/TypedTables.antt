@@ -39,7 +39,7 @@ typed_of t =
     }
   where
     types_by : (cs : List Column) (k : ℕ) (c : Column) → slice_get cs k ≡ Some c
-        → option_map (λ (column : Column). column.1 ∷ map (λ (c : Column). c.1) (remove cs k)) (slice_get cs k) ≡ Some (types_of (record { name = (listed t).definition.name; columns = cs; key = k }))
+        → option_map (λ (column : Column). column.1 ∷ map (λ (c : Column). c.1) (remove cs k)) (slice_get cs k) ≡ Some (types_of (record { name = (listed t).definition.name; columns = cs; key = k; indexes = [] }))
     types_by cs k c is = by (slice_get cs k) c is
       where
         by : (o : Option Column) (c : Column) → o ≡ Some c → option_map (λ (column : Column). column.1 ∷ map (λ (c : Column). c.1) (remove cs k)) o ≡ Some (type_or_text o ∷ map (λ (c : Column). c.1) (remove cs k))

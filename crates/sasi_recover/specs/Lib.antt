@@ -10,3 +10,4 @@ pub mod Promises
 pub mod ReplayState
 pub mod Replaying
 pub mod SealedFolder
+pub mod Missing

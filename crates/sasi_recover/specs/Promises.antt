@@ -1,16 +1,21 @@
 -- What an opening promises, whatever it gives: of the folder, and of what it reports.
-use Rattle.std.specs.Prelude.{◌≡◌, ◌≢◌, ◌⊎◌, ℕ, IfErr, Option, Some}
+use Rattle.std.specs.Prelude.{◌≡◌, ◌≢◌, ◌⊎◌, ℕ, IfErr, List, Option, Some}
 use Rattle.std.specs.declared.result.Result.{Result}
+use Rattle.sasi_types.specs.declared.class.Class.{Class}
 use Rattle.sasi_types.specs.declared.partitioner.Partitioner.{Partitioner}
 use Rattle.sasi_host.specs.Disk.{Changes, Same}
-use Rattle.sasi_host.specs.Names.{Folder}
+use Rattle.std.specs.FinMap.{get}
+use Rattle.sasi_host.specs.Names.{Bytes, Folder, manifest_name}
+use Rattle.sasi_manifest.specs.Format.{IsManifest}
+use Rattle.sasi_manifest.specs.declared.listing.Listing.{Listing}
+use Rattle.sasi_layout.specs.Classes.{IsFirstMissing, classes_listed}
 use Rattle.sasi_host.specs.View.{View}
 use Rattle.sasi_folder.specs.Damages.{FolderShows}
 use Rattle.sasi_folder.specs.Opens.{KeepsPartitioner}
 use Rattle.sasi_folder.specs.FolderContents.{IsSealed}
 use Rattle.sasi_layout.specs.Layout.{Layout}
 use Rattle.sasi_layout.specs.Shape.{ShapeOf}
-use Rattle.sasi_recover.specs.Faults.{OnDiffers, OnOpenDamage, TellsDifference}
+use Rattle.sasi_recover.specs.Faults.{OnDiffers, OnMissing, OnOpenDamage, TellsDifference, TellsMissing}
 use Rattle.sasi_recover.specs.KeptListed.{KeepsListed}
 use Rattle.sasi_recover.specs.NewFolder.{IsForeign}
 use Rattle.sasi_recover.specs.OpenedFolder.{AnyFolderChange}
@@ -30,8 +35,20 @@ pub record OpensSafely (asked : Option Partitioner) (a b : View) : Type 0 where
   -- no reply is emitted
   pub changes : Changes AnyFolderChange a b
 
--- **What is reported stands in the folder**: corruption, and another partitioner than is asked.
-pub record ReportsTruly {T : Type 0} (asked : Option Partitioner) (a : View) (result : Result T OpenFault) : Type 0 where
+-- the manifest of this number lists indexes, and this class of analyzer is the first that is missing
+pub record LacksUnder (kinds : List Class) (folder : Folder) (number : ℕ) (class : Class) : Type 0 where
+  pub bytes : Bytes
+  pub listing : Listing
+  pub there : get folder (manifest_name number) ≡ Some bytes
+  pub lists : IsManifest number bytes listing
+  pub first : IsFirstMissing kinds (classes_listed listing.tables) class
+
+-- the same of the manifest that counts
+abbrev pub LacksClass : List Class → Folder → Class → Type 0
+LacksClass kinds folder class = (number : ℕ) × IsSealed folder number × LacksUnder kinds folder number class
+
+-- **What is reported stands in the folder**: corruption, another partitioner than is asked, and an index whose analyzer isn't among those of these classes.
+pub record ReportsTruly {T : Type 0} (asked : Option Partitioner) (kinds : List Class) (a : View) (result : Result T OpenFault) : Type 0 where
   -- the folder shows the corruption
   pub damaged : (folder : Folder) → a.files ≡ Some folder → IfErr result (OnOpenDamage (FolderShows folder))
   -- and has no shape then
@@ -40,3 +57,7 @@ pub record ReportsTruly {T : Type 0} (asked : Option Partitioner) (a : View) (re
   pub differs : (folder : Folder) (wanted kept : Partitioner) → a.files ≡ Some folder → asked ≡ Some wanted → KeepsPartitioner folder kept → wanted ≢ kept → TellsDifference wanted kept result
   -- and only then
   pub differs_only : (folder : Folder) → a.files ≡ Some folder → IfErr result (OnDiffers (λ wanted kept. (asked ≡ Some wanted) × KeepsPartitioner folder kept × (wanted ≢ kept)))
+  -- where the analyzer of a listed index is missing, that is reported
+  pub lacks : (folder : Folder) (class : Class) → a.files ≡ Some folder → LacksClass kinds folder class → TellsMissing result
+  -- with the class of the index that has the least number, and only then
+  pub lacks_only : (folder : Folder) → a.files ≡ Some folder → IfErr result (OnMissing (LacksClass kinds folder))

@@ -2,9 +2,10 @@
 ghost use Rattle.std.specs.Prelude.{◌≡◌};
 ghost use Rattle.sasi_host.specs.Faults.{read_fault_of};
 ghost use Rattle.sasi_recover.specs.Faults.{open_fault_of};
+ghost use Rattle.sasi_recover.specs.declared.fault.OpenFault.TheVariants.{AnalyzerMissing};
 
 use sasi_host::{Damage, HostFault, ReadFault};
-use sasi_types::Partitioner;
+use sasi_types::{Class, Partitioner};
 
 /// Why a folder isn't opened.
 #[derive(Clone, Copy)]
@@ -17,6 +18,16 @@ pub enum OpenFault {
         asked: Partitioner,
         kept: Partitioner,
     },
+    /// A listed index needs an analyzer of this class, and none was handed in.
+    AnalyzerMissing(Class),
+}
+
+impl From<Class> for OpenFault {
+    ghost from_gives = { λ class f. f ≡ AnalyzerMissing class };
+
+    fn from(class: Class) -> OpenFault {
+        OpenFault::AnalyzerMissing(class)
+    }
 }
 
 impl From<ReadFault> for OpenFault {

@@ -3,6 +3,7 @@
 //! sasi_commitlog, sasi_memtable and sasi_dataread, and promises that what is opened is what the folder holds.
 #![tactic(auto)]
 
+mod classes;
 mod data_files;
 mod fault;
 mod files;

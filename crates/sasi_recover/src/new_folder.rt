@@ -32,6 +32,7 @@ pub fn create_store<H: Host>(
 ) -> Result<Opened, ReadFault>
     requires lists { Lists (H.view host.old) names.now }
     requires sorted { IsStrictlySortedBy name_cmp names.now }
+    ensures empty { IfOk result (λ opened. opened.manifest.listing.tables ≡ []) }
     ensures tables { IfOk result (λ opened. AreMaps opened.manifest.listing opened.tables.items) }
     ensures timed { IfOk result (λ opened. IsTimed (opened_store opened)) }
     ensures ready { IfOk result (λ opened. CanChange (H.view host.new) (opened_store opened)) }
@@ -79,6 +80,7 @@ fn clear_and_create<H: Host>(
 ) -> Result<Opened, HostFault>
     requires lists { Lists (H.view host.old) names.now }
     requires sorted { IsStrictlySortedBy name_cmp names.now }
+    ensures empty { IfOk result (λ opened. opened.manifest.listing.tables ≡ []) }
     ensures tables { IfOk result (λ opened. AreMaps opened.manifest.listing opened.tables.items) }
     ensures timed { IfOk result (λ opened. IsTimed (opened_store opened)) }
     ensures ready { IfOk result (λ opened. CanChange (H.view host.new) (opened_store opened)) }
@@ -100,6 +102,7 @@ fn create_files<H: Host>(
 ) -> Result<Opened, HostFault>
     requires none { (name : AName) → IsAbsent (H.view host.old) name }
     requires synced { IsFolderSynced (H.view host.old) }
+    ensures empty { IfOk result (λ opened. opened.manifest.listing.tables ≡ []) }
     ensures tables { IfOk result (λ opened. AreMaps opened.manifest.listing opened.tables.items) }
     ensures timed { IfOk result (λ opened. IsTimed (opened_store opened)) }
     ensures ready { IfOk result (λ opened. CanChange (H.view host.new) (opened_store opened)) }

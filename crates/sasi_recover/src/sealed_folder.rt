@@ -71,6 +71,7 @@ pub fn open_listed<H: Host>(
     requires sorted { IsStrictlySortedBy name_cmp names.now }
     requires folder_durable { IsFolderDurable (H.view host.old) }
     requires read { IsManifestRead (H.view host.old) manifest }
+    ensures listing { IfOk result (λ opened. opened.manifest.listing ≡ manifest.listing) }
     ensures ready { IfOk result (λ opened. CanChange (H.view host.new) (opened_store opened)) }
     ensures tables { IfOk result (λ opened. AreMaps opened.manifest.listing opened.tables.items) }
     ensures timed { IfOk result (λ opened. IsTimed (opened_store opened)) }
@@ -152,7 +153,7 @@ fn numbers_in(manifest: &Manifest) -> Numbers
         manifest: manifest.number(),
         log: listing.last,
         data: largest_number(listing.tables.as_slice()),
-        index: 0,
+        index: listing.tables.largest_index(),
         part: 0,
     }
 }

@@ -2,18 +2,22 @@
 use Rattle.std.proofs.Common.{◌≡◌, ℕ, ◌+◌, ◌^◌, ◌<◌, List, [], ◌∷◌, ◌++◌, map, Option, Some, None, is_some, if◌then◌else◌, refl, sym, ap, ◌∙◌, subst, arith, append_assoc}
 use Rattle.std.proofs.lemmas.List.{append-nil}
 use Rattle.std.specs.Io.KnownBytes.{Appends}
+use Rattle.sasi_types.specs.declared.class.Class.{Class}
 use Rattle.sasi_host.specs.View.{AllOut, Emits, View, counted, counted_by}
 use Rattle.sasi_host.specs.Disk.{Changes}
 use Rattle.sasi_layout.specs.Between.{Between}
-use Rattle.sasi_layout.specs.Layout.{TableParts, state_of, table_of}
+use Rattle.sasi_layout.specs.Layout.{state_of}
 use Rattle.sasi_layout.specs.Running.{after_pieces}
-use Rattle.sasi_layout.specs.Serving.{StoreInMemory}
+use Rattle.sasi_layout.specs.Classes.{HasNeeded, LacksNeeded}
+use Rattle.sasi_layout.specs.Serving.{StoreInMemory, known_in_memory}
+use Rattle.sasi_layout.specs.Statements.{known_in}
 use Rattle.sasi_layout.specs.Spent.{spent}
 use Rattle.sasi_layout.specs.Worlds.{ServesWorld, World, steps}
+use Rattle.sasi_layout.proofs.StatementLaws.{known_is}
 use Rattle.sasi_model.specs.Pieces.{Piece}
-use Rattle.sasi_model.specs.Refusals.{Refusal}
-use Rattle.sasi_model.specs.Abbreviations.{definitions}
-use Rattle.sasi_model.specs.State.{Definition, State}
+use Rattle.sasi_model.specs.Asked.{Asked, asks, class_needed}
+use Rattle.sasi_model.specs.Refusals.{Known, Refusal}
+use Rattle.sasi_model.specs.State.{State}
 use Rattle.sasi_model.specs.Step.{state_after, step}
 use Rattle.sasi_cql.specs.SplitterState.{resume, behind}
 use Rattle.sasi_machine.specs.declared.outcome.Outcome.{Outcome}
@@ -21,12 +25,12 @@ use Rattle.sasi_machine.specs.Outcome.{outcome_of}
 use Rattle.sasi_machine.specs.Prepares.{IsStateOf}
 use Rattle.sasi_recover.specs.OpenedFolder.{AnyFolderChange}
 use Rattle.sasi_store.specs.Answers.{Answered, AnsweredButRows}
-use Rattle.sasi_store.specs.Faults.{OnSpent, OnStepDamage}
+use Rattle.sasi_store.specs.Faults.{OnMissing, OnSpent, OnStepDamage}
 use Rattle.sasi_store.specs.StoreView.{IsReady, StoreView}
 use Rattle.sasi_store.specs.declared.fault.StepFault.{StepFault}
 use Rattle.sasi_store.specs.declared.fault.StepFault.TheVariants as fault
 use Rattle.sasi_run.specs.EmitCounts.{emits_of}
-use Rattle.sasi_run.specs.Crashing.{AnswersCrashSafe, CrashLeavesPieces, EmittedButRows, FailsCrashSafe, FeedsCrashSafe, FinishesCrashSafe, IsOfState, RanPieces, StoppedPieces, StopsCrashSafe}
+use Rattle.sasi_run.specs.Crashing.{AnswersCrashSafe, CrashLeavesPieces, EmittedButRows, FailsCrashSafe, FeedsCrashSafe, FinishesCrashSafe, IsOfState, LacksAtStop, RanPieces, StoppedPieces, StopsCrashSafe}
 use Rattle.sasi_run.specs.FileCalls.{emits_after}
 use Rattle.sasi_run.specs.Session.{counted_outcome, refusals_of, stop_of}
 use Rattle.sasi_run.specs.declared.session.Session.{Session}
@@ -40,32 +44,55 @@ use Rattle.sasi_run.proofs.RunParts.{appends_none, ran_both, ran_nothing, reads_
 -- ---- the answer
 
 -- what a store promises of a piece that it didn't do
-pub record StepFailed (fault : StepFault) (session : Session) (a b : View) (piece : Piece) : Type 0 where
+pub record StepFailed (kinds : List Class) (fault : StepFault) (session : Session) (a b : View) (piece : Piece) : Type 0 where
   pub change : Changes AnyFolderChange a b
   pub moments : (w : World) → ServesWorld a session.store.memory w → Changes (λ x y. Between w.layout (steps.moves w piece) y) a b
   pub spends : OnSpent (λ kind. (w : World) → ServesWorld a session.store.memory w → spent w.layout (steps.moves w piece) ≡ Some kind) fault
   pub undamaged : (w : World) → ServesWorld a session.store.memory w → OnStepDamage (λ _. ⊥) fault
+  pub analyzer : OnSpent (λ kind. HasNeeded kinds (class_needed (asks (known_in_memory session.store.memory) piece))) fault
+  pub lacks : OnMissing (LacksNeeded kinds (asks (known_in_memory session.store.memory) piece)) fault
 
-stopped_moving : (f : StepFault) (session : Session) (a b : View) (piece : Piece) → StepFailed f session a b piece → (w : World)
-    → ServesWorld a session.store.memory w → StoppedPieces (stop_of f) w [] (piece ∷ []) a b
+-- what the store judges a piece by is what is known of the layout that it serves
+known_served : (v : View) (store : StoreInMemory) (w : World) → ServesWorld v store w → known_in_memory store ≡ known_in w.layout
+known_served v store w serves = λ i. record { tables = serves.definitions i; max_timestamp = serves.timestamp i }
+
+stopped_moving : {kinds : List Class} (f : StepFault) (session : Session) (a b : View) (piece : Piece) → StepFailed kinds f session a b piece → (w : World)
+    → ServesWorld a session.store.memory w → StoppedPieces kinds (stop_of f) w [] (piece ∷ []) a b
 stopped_moving fault.Failed session a b piece failed w serves = record {
   shown = unmoved a b failed.change.emitted;
   crashes = leaves_moved a b w piece (failed.moments w serves);
   emits = makes_behind_none 0 a.emits b.emits (makes_none a.emits b.emits failed.change.emits);
-  unspent = tt;
+  supplied = tt;
 }
 stopped_moving fault.OutOfMemory session a b piece failed w serves = record {
   shown = unmoved a b failed.change.emitted;
   crashes = leaves_moved a b w piece (failed.moments w serves);
   emits = makes_behind_none 0 a.emits b.emits (makes_none a.emits b.emits failed.change.emits);
-  unspent = tt;
+  supplied = tt;
 }
 stopped_moving (fault.Damaged damage) session a b piece failed w serves = absurd (failed.undamaged w serves)
-stopped_moving (fault.NumbersSpent kind) session a b piece failed w serves = record {
-  shown = (piece, refl, unmoved a b failed.change.emitted, failed.spends w serves);
+stopped_moving {kinds} (fault.AnalyzerMissing class) session a b piece failed w serves = record {
+  shown = (
+    piece,
+    refl,
+    unmoved a b failed.change.emitted,
+    subst (λ (known : Known). LacksNeeded kinds (asks known piece) class) (known_served a session.store.memory w serves) failed.lacks,
+  );
   crashes = leaves_moved a b w piece (failed.moments w serves);
   emits = makes_behind_none 0 a.emits b.emits (makes_none a.emits b.emits failed.change.emits);
-  unspent = tt;
+  supplied = tt;
+}
+stopped_moving {kinds} (fault.NumbersSpent kind) session a b piece failed w serves = record {
+  shown = (
+    piece,
+    refl,
+    unmoved a b failed.change.emitted,
+    subst (λ (known : Known). HasNeeded kinds (class_needed (asks known piece))) (known_served a session.store.memory w serves) failed.analyzer,
+    failed.spends w serves,
+  );
+  crashes = leaves_moved a b w piece (failed.moments w serves);
+  emits = makes_behind_none 0 a.emits b.emits (makes_none a.emits b.emits failed.change.emits);
+  supplied = tt;
 }
 
 -- nothing of the piece was emitted
@@ -73,32 +100,43 @@ stopped_silent : (f : StepFault) (s : State) (piece : Piece) → EmittedButRows 
 stopped_silent fault.Failed s piece = refl
 stopped_silent fault.OutOfMemory s piece = refl
 stopped_silent (fault.Damaged damage) s piece = refl
+stopped_silent (fault.AnalyzerMissing class) s piece = refl
 stopped_silent (fault.NumbersSpent kind) s piece = (piece, refl, refl)
 
+-- no analyzer is of the class that is missing
+missing_lacks : (kinds : List Class) (f : StepFault) (asked : Asked) → OnMissing (LacksNeeded kinds asked) f → LacksAtStop kinds (stop_of f)
+missing_lacks kinds fault.Failed asked lacks = tt
+missing_lacks kinds fault.OutOfMemory asked lacks = tt
+missing_lacks kinds (fault.Damaged damage) asked lacks = tt
+missing_lacks kinds (fault.NumbersSpent kind) asked lacks = tt
+missing_lacks kinds (fault.AnalyzerMissing class) asked lacks = lacks.lacks
+
 -- the store failed before anything was emitted
-pub fails_moving : (f : StepFault) (session : Session) (a b : View) (piece : Piece) → StepFailed f session a b piece
-    → FailsCrashSafe (stop_of f) session a b (piece ∷ [])
+pub fails_moving : {kinds : List Class} (f : StepFault) (session : Session) (a b : View) (piece : Piece) → StepFailed kinds f session a b piece
+    → FailsCrashSafe kinds (stop_of f) session a b (piece ∷ [])
 fails_moving f session a b piece failed = record {
   anywhere = λ s of. record { shown = []; emitted = unmoved a b failed.change.emitted; replies = stopped_silent f s piece };
   stopped = λ w serves. stopped_moving f session a b piece failed w serves;
+  lacks = missing_lacks _ f (asks (known_in_memory session.store.memory) piece) failed.lacks;
 }
 
 -- what a store promises of a piece that it did
-pub record StepDone (session : Session) (later : StoreView) (a b : View) (piece : Piece) (reply : List ℕ) (outcome : Outcome) : Type 0 where
+pub record StepDone (kinds : List Class) (session : Session) (later : StoreView) (a b : View) (piece : Piece) (reply : List ℕ) (outcome : Outcome) : Type 0 where
   pub change : Changes AnyFolderChange a b
   pub moments : (w : World) → ServesWorld a session.store.memory w → Changes (λ x y. Between w.layout (steps.moves w piece) y) a b
   pub answers : (w : World) → ServesWorld a session.store.memory w → Answered b later.memory w piece reply outcome
   pub anywhere : (s : State) → IsOfState session.store s → AnsweredButRows later.memory s piece reply outcome
+  pub analyzer : HasNeeded kinds (class_needed (asks (known_in_memory session.store.memory) piece))
 
-module _ (session : Session) (later : StoreView) (a b d : View) (piece : Piece) (reply bytes : List ℕ) (outcome : Outcome)
-    (done : StepDone session later a b piece reply outcome) (same : bytes ≡ reply) (emits : Emits bytes b d) where
+module _ {kinds : List Class} (session : Session) (later : StoreView) (a b d : View) (piece : Piece) (reply bytes : List ℕ) (outcome : Outcome)
+    (done : StepDone kinds session later a b piece reply outcome) (same : bytes ≡ reply) (emits : Emits bytes b d) where
   crashes : (w : World) → ServesWorld a session.store.memory w → CrashLeavesPieces a d w (piece ∷ [])
   crashes w serves =
       let is = done.answers w serves in
       leaves_answered a b w piece (done.moments w serves) d bytes (same ∙ is.reply_is) (each_of_shape b later.memory _ is.serves) emits
 
   -- the reply was not emitted whole
-  pub fails_shown : d.emits ≡ counted b.emits → FailsCrashSafe Output session a d (piece ∷ [])
+  pub fails_shown : d.emits ≡ counted b.emits → FailsCrashSafe kinds Output session a d (piece ∷ [])
   fails_shown once = record {
     anywhere = λ s of.
         let is = done.anywhere s of in
@@ -120,8 +158,9 @@ module _ (session : Session) (later : StoreView) (a b d : View) (piece : Piece) 
           );
           crashes = crashes w serves;
           emits = makes_behind_none 1 a.emits d.emits (makes_one a.emits d.emits (once ∙ ap counted done.change.emits));
-          unspent = tt;
+          supplied = tt;
         });
+    lacks = tt;
   }
 
   counts : (refused : ℕ) (o : Option Refusal) → refused < 2 ^ 64
@@ -130,7 +169,7 @@ module _ (session : Session) (later : StoreView) (a b d : View) (piece : Piece) 
   counts refused (Some r) small = omega arith
 
   pub answers_on : (new : Session) → new.store ≡ later → session.refused < 2 ^ 64 → new.refused ≡ counted_outcome session.refused outcome
-      → new.splitter ≡ session.splitter → IsReady b later → AllOut bytes b d → d.emits ≡ emits_after b.emits bytes → AnswersCrashSafe session new a d piece
+      → new.splitter ≡ session.splitter → IsReady b later → AllOut bytes b d → d.emits ≡ emits_after b.emits bytes → AnswersCrashSafe kinds session new a d piece
   answers_on new store_is small count reading ready all call = record {
     reading = reading;
     anywhere = λ s of.
@@ -153,16 +192,22 @@ module _ (session : Session) (later : StoreView) (a b d : View) (piece : Piece) 
           crashes = crashes w serves;
           emits = makes_alone (emits_of (steps.reply w piece)) a.emits d.emits
               (makes_reply a.emits d.emits (steps.reply w piece) (emits_reply a.emits b.emits d.emits bytes (steps.reply w piece) done.change.emits (same ∙ is.reply_is) call));
-          unspent = (is.unspent, tt);
+          supplied = (
+            record {
+              analyzer = subst (λ (known : Known). HasNeeded kinds (class_needed (asks known piece))) (known_served a session.store.memory w serves) done.analyzer;
+              numbers = is.unspent;
+            },
+            tt,
+          );
         });
   }
 
 -- ---- one byte
 
 -- no piece ended
-pub feeds_no_end : (old new : Session) (a : View) (byte : ℕ) → IsReady a old.store → old.refused < 2 ^ 64
+pub feeds_no_end : {kinds : List Class} (old new : Session) (a : View) (byte : ℕ) → IsReady a old.store → old.refused < 2 ^ 64
     → ((left : List ℕ) → resume old.splitter (byte ∷ left) ≡ behind [] (resume new.splitter left)) → new.store ≡ old.store → new.refused ≡ old.refused
-    → FeedsCrashSafe old new a a (byte ∷ [])
+    → FeedsCrashSafe kinds old new a a (byte ∷ [])
 feeds_no_end old new a byte ready small next store count = record {
   feeds = record { done = []; reading = next };
   anywhere = λ s of. ran_nothing_but s old new a small store count of;
@@ -171,7 +216,7 @@ feeds_no_end old new a byte ready small next store count = record {
 }
 
 -- nothing was taken yet
-pub feeds_nothing : (session : Session) (a : View) → IsReady a session.store → session.refused < 2 ^ 64 → FeedsCrashSafe session session a a []
+pub feeds_nothing : {kinds : List Class} (session : Session) (a : View) → IsReady a session.store → session.refused < 2 ^ 64 → FeedsCrashSafe kinds session session a a []
 feeds_nothing session a ready small = record {
   feeds = record { done = []; reading = λ left. refl };
   anywhere = λ s of. ran_nothing_but s session session a small refl refl of;
@@ -184,20 +229,20 @@ module _ (old stand : Session) (store : stand.store ≡ old.store) (count : stan
   stands_of : (s : State) → IsOfState old.store s → IsOfState stand.store s
   stands_of s of = subst (λ (k : StoreView). IsOfState k s) (sym store) of
 
-  ran_from : (w : World) (pieces : List Piece) (new : Session) (a b : View) → RanPieces w pieces stand new a b → RanPieces w pieces old new a b
+  ran_from : {kinds : List Class} (w : World) (pieces : List Piece) (new : Session) (a b : View) → RanPieces kinds w pieces stand new a b → RanPieces kinds w pieces old new a b
   ran_from w pieces new a b ran = record {
     serves = ran.serves;
     shown = ran.shown;
     count = ran.count ∙ ap (λ n. counted_by n (refusals_of w pieces)) count;
     crashes = ran.crashes;
     emits = ran.emits;
-    unspent = ran.unspent;
+    supplied = ran.supplied;
   }
 
   -- a piece ended, and was answered
-  pub feeds_answer : (new : Session) (a b : View) (byte : ℕ) (piece : Piece)
-      → ((left : List ℕ) → resume old.splitter (byte ∷ left) ≡ behind (piece ∷ []) (resume stand.splitter left)) → AnswersCrashSafe stand new a b piece
-      → FeedsCrashSafe old new a b (byte ∷ [])
+  pub feeds_answer : {kinds : List Class} (new : Session) (a b : View) (byte : ℕ) (piece : Piece)
+      → ((left : List ℕ) → resume old.splitter (byte ∷ left) ≡ behind (piece ∷ []) (resume stand.splitter left)) → AnswersCrashSafe kinds stand new a b piece
+      → FeedsCrashSafe kinds old new a b (byte ∷ [])
   feeds_answer new a b byte piece next answered = record {
     feeds = record { done = piece ∷ []; reading = λ left. rw answered.reading (next left) };
     anywhere = λ s of. ran_from_but s (piece ∷ []) old stand new a b count (answered.anywhere s (stands_of s of));
@@ -206,34 +251,36 @@ module _ (old stand : Session) (store : stand.store ≡ old.store) (count : stan
   }
 
   -- it stopped at the answer
-  pub stops_at : (stop : Stop) (a b : View) (byte : ℕ) (piece : Piece)
-      → ((left : List ℕ) → resume old.splitter (byte ∷ left) ≡ behind (piece ∷ []) (resume stand.splitter left)) → FailsCrashSafe stop stand a b (piece ∷ [])
-      → StopsCrashSafe stop old a b (byte ∷ [])
+  pub stops_at : {kinds : List Class} (stop : Stop) (a b : View) (byte : ℕ) (piece : Piece)
+      → ((left : List ℕ) → resume old.splitter (byte ∷ left) ≡ behind (piece ∷ []) (resume stand.splitter left)) → FailsCrashSafe kinds stop stand a b (piece ∷ [])
+      → StopsCrashSafe kinds stop old a b (byte ∷ [])
   stops_at stop a b byte piece next fails = record {
     stops = record { taken = byte ∷ []; rest = []; parts = refl; done = []; next = piece ∷ []; stand = stand.splitter; reading = next };
     anywhere = λ s of. fails.anywhere s (stands_of s of);
     stopped = λ w serves. fails.stopped w (rw store serves);
+    lacks = fails.lacks;
   }
 
   -- ---- the last piece
 
-  pub finishes_answer : (new : Session) (a b : View) (piece : Piece) → (resume old.splitter []).last ≡ piece ∷ [] → AnswersCrashSafe stand new a b piece
-      → FinishesCrashSafe old new a b
+  pub finishes_answer : {kinds : List Class} (new : Session) (a b : View) (piece : Piece) → (resume old.splitter []).last ≡ piece ∷ [] → AnswersCrashSafe kinds stand new a b piece
+      → FinishesCrashSafe kinds old new a b
   finishes_answer new a b piece last answered = record {
     anywhere = λ s of. rw last (ran_from_but s (piece ∷ []) old stand new a b count (answered.anywhere s (stands_of s of)));
     ready = answered.ready;
     ran = λ w serves. rw last (ran_from w (piece ∷ []) new a b (answered.ran w (rw store serves)));
   }
 
-  pub fails_last : (stop : Stop) (a b : View) (piece : Piece) → (resume old.splitter []).last ≡ piece ∷ [] → FailsCrashSafe stop stand a b (piece ∷ [])
-      → FailsCrashSafe stop old a b (resume old.splitter []).last
+  pub fails_last : {kinds : List Class} (stop : Stop) (a b : View) (piece : Piece) → (resume old.splitter []).last ≡ piece ∷ [] → FailsCrashSafe kinds stop stand a b (piece ∷ [])
+      → FailsCrashSafe kinds stop old a b (resume old.splitter []).last
   fails_last stop a b piece last fails = record {
     anywhere = λ s of. rw last (fails.anywhere s (stands_of s of));
     stopped = λ w serves. rw last (fails.stopped w (rw store serves));
+    lacks = fails.lacks;
   }
 
-pub finishes_nothing : (old new : Session) (a : View) → (resume old.splitter []).last ≡ [] → new.store ≡ old.store → new.refused ≡ old.refused
-    → old.refused < 2 ^ 64 → IsReady a old.store → FinishesCrashSafe old new a a
+pub finishes_nothing : {kinds : List Class} (old new : Session) (a : View) → (resume old.splitter []).last ≡ [] → new.store ≡ old.store → new.refused ≡ old.refused
+    → old.refused < 2 ^ 64 → IsReady a old.store → FinishesCrashSafe kinds old new a a
 finishes_nothing old new a last store count small ready = record {
   anywhere = λ s of. rw last (ran_nothing_but s old new a small store count of);
   ready = rw store ready;
@@ -241,17 +288,18 @@ finishes_nothing old new a last store count small ready = record {
 }
 
 -- it stopped before the byte was taken
-pub stops_before : (old : Session) (a : View) (bytes : List ℕ) → StopsCrashSafe Memory old a a bytes
+pub stops_before : {kinds : List Class} (old : Session) (a : View) (bytes : List ℕ) → StopsCrashSafe kinds Memory old a a bytes
 stops_before old a bytes = record {
   stops = record { taken = []; rest = bytes; parts = refl; done = []; next = []; stand = old.splitter; reading = λ left. refl };
   anywhere = λ s of. record { shown = []; emitted = appends_none a.emitted; replies = refl };
-  stopped = λ w serves. record { shown = appends_none a.emitted; crashes = leaves_nothing a w []; emits = makes_behind_none 0 a.emits a.emits (makes_none a.emits a.emits refl); unspent = tt };
+  stopped = λ w serves. record { shown = appends_none a.emitted; crashes = leaves_nothing a w []; emits = makes_behind_none 0 a.emits a.emits (makes_none a.emits a.emits refl); supplied = tt };
+  lacks = tt;
 }
 
 -- ---- bytes, one part after another
 
-pub feeds_both : (old mid new : Session) (a b c : View) (xs ys : List ℕ) → FeedsCrashSafe old mid a b xs → FeedsCrashSafe mid new b c ys
-    → FeedsCrashSafe old new a c (xs ++ ys)
+pub feeds_both : {kinds : List Class} (old mid new : Session) (a b c : View) (xs ys : List ℕ) → FeedsCrashSafe kinds old mid a b xs → FeedsCrashSafe kinds mid new b c ys
+    → FeedsCrashSafe kinds old new a c (xs ++ ys)
 feeds_both old mid new a b c xs ys t u = record {
   feeds = record {
     done = t.feeds.done ++ u.feeds.done;
@@ -267,8 +315,8 @@ feeds_both old mid new a b c xs ys t u = record {
 }
 
 -- a part, and then a stop
-pub stops_later : (stop : Stop) (old mid : Session) (a b c : View) (bytes xs ys rest : List ℕ) → FeedsCrashSafe old mid a b xs
-    → StopsCrashSafe stop mid b c ys → bytes ≡ xs ++ ys ++ rest → StopsCrashSafe stop old a c bytes
+pub stops_later : {kinds : List Class} (stop : Stop) (old mid : Session) (a b c : View) (bytes xs ys rest : List ℕ) → FeedsCrashSafe kinds old mid a b xs
+    → StopsCrashSafe kinds stop mid b c ys → bytes ≡ xs ++ ys ++ rest → StopsCrashSafe kinds stop old a c bytes
 stops_later stop old mid a b c bytes xs ys rest t u parts = record {
   stops = record {
     taken = xs ++ u.stops.taken;
@@ -286,17 +334,11 @@ stops_later stop old mid a b c bytes xs ys rest t u parts = record {
   stopped = λ w serves.
       (let first = t.ran w serves in
       stopped_behind stop w t.feeds.done u.stops.done u.stops.next old mid a b c first (u.stopped (after_pieces steps w t.feeds.done) first.serves));
+  lacks = u.lacks;
 }
 
 -- ---- the state of a store
 
-of_tables : (ts : List TableParts) → definitions (map table_of ts) ≡ map (λ (t : TableParts). t.definition) ts
-of_tables [] = refl
-of_tables (t ∷ ts) = ap (λ (ds : List Definition). t.definition ∷ ds) (of_tables ts)
-
 -- the state of the world that a store serves has its definitions and its largest timestamp
-pub state_served : (v : View) (store : StoreInMemory) (w : World) → ServesWorld v store w → IsStateOf store.definitions store.max_timestamp (state_of w.layout)
-state_served v store w serves = record {
-  definitions_are = of_tables w.layout.tables ∙ sym serves.definitions;
-  max_time_is = sym serves.timestamp;
-}
+pub state_served : (v : View) (store : StoreInMemory) (w : World) → ServesWorld v store w → IsStateOf (known_in_memory store) (state_of w.layout)
+state_served v store w serves = sym (known_is w.layout) ∙ sym (known_served v store w serves)

@@ -11,7 +11,7 @@ use Rattle.sasi_run.specs.Crashing.{EmittedButRows, IsOfState, RanButRows, Stopp
 use Rattle.sasi_run.specs.Headline.{AreRepliesButRows, EmitsByStatus, IsFirstPart, IsReplyButRows, READ_MOST, ReadsToEnd, Runs, SCRIPT_MOST, but_rows, script_of, status_of_stop}
 use Rattle.sasi_run.specs.declared.session.Session.{Session}
 use Rattle.sasi_run.specs.declared.session.Stop.{Stop}
-use Rattle.sasi_run.specs.declared.session.Stop.TheVariants.{Disk, Output, Memory, Corrupt, Spent}
+use Rattle.sasi_run.specs.declared.session.Stop.TheVariants.{Disk, Output, Memory, Corrupt, Spent, Missing}
 use Rattle.sasi_run.proofs.RepliesAtEnd.{without_next}
 use Rattle.sasi_run.proofs.RunParts.{appends_both, appends_none, counted_twice}
 
@@ -61,6 +61,7 @@ replied_later : (stop : Stop) (s : State) (xs done next : List Piece) (first sho
 replied_later Memory s xs done next first shown before at = replied_both xs done s first shown before at
 replied_later Disk s xs done next first shown before at = replied_both xs done s first shown before at
 replied_later (Corrupt damage) s xs done next first shown before at = replied_both xs done s first shown before at
+replied_later (Missing class) s xs done next first shown before at = replied_both xs done s first shown before at
 replied_later (Spent kind) s xs done next first shown before (piece, one, at) = (piece, one, replied_both xs done s first shown before at)
 replied_later Output s xs done next first shown before (piece, whole, front, back, one, at, reply, parts) = (
   piece,
@@ -101,12 +102,14 @@ stop_anywhere Disk left = tt
 stop_anywhere Output left = tt
 stop_anywhere (Corrupt damage) left = tt
 stop_anywhere (Spent kind) left = tt
+stop_anywhere (Missing class) left = tt
 
 stop_shows : (stop : Stop) (s : State) (script read : List ℕ) (done next : List Piece) (shown : List ℕ) → IsFirstPart script read done next → EmittedButRows stop s done next shown
     → EmitsByStatus grammar_parser (but_rows grammar_parser) (status_of_stop stop) s script read shown
 stop_shows Memory s script read done next shown first at = record { done = done; first = without_next script read done next first; replied = at }
 stop_shows Disk s script read done next shown first at = record { done = done; first = without_next script read done next first; replied = at }
 stop_shows (Corrupt damage) s script read done next shown first at = record { done = done; first = without_next script read done next first; replied = at }
+stop_shows (Missing class) s script read done next shown first at = record { done = done; first = without_next script read done next first; replied = at }
 stop_shows (Spent kind) s script read done next shown first (piece, one, at) =
     record { done = done; piece = piece; first = subst (λ (ps : List Piece). IsFirstPart script read done ps) one first; replied = at }
 stop_shows Output s script read done next shown first (piece, whole, front, back, one, at, reply, parts) = record {

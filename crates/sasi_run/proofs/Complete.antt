@@ -6,7 +6,7 @@ use Rattle.sasi_model.specs.State.{State}
 use Rattle.sasi_run.specs.Headline.{Replies, Runs, SCRIPT_MOST}
 use Rattle.sasi_run.specs.Causes.{RanThrough}
 use Rattle.sasi_run.specs.declared.status.Status.{Status}
-use Rattle.sasi_run.specs.declared.status.Status.TheVariants.{Done, Refused, Usage, ScriptFault, FolderFault, OutputFault, OutOfMemory, Damaged, PartitionerDiffers, NumbersSpent, ScriptTooLong}
+use Rattle.sasi_run.specs.declared.status.Status.TheVariants.{Done, Refused, Usage, ScriptFault, FolderFault, OutputFault, OutOfMemory, Damaged, AnalyzerMissing, PartitionerDiffers, NumbersSpent, ScriptTooLong}
 
 -- no more is read than there is
 within : (script read : List ℕ) (left : Option (List ℕ)) → Consumes (Some script) left read → length read ≤ length script
@@ -24,6 +24,7 @@ through parser r ScriptFault s (Some script) l2 o o2 runs u f e d = absurd (f re
 through parser r OutputFault s (Some script) l2 o o2 runs u f e d = absurd (e refl)
 through parser r FolderFault s (Some script) l2 o o2 runs u f e d = absurd (d refl)
 through parser r (Damaged damage) s (Some script) l2 o o2 runs u f e d = λ _. tt
+through parser r (AnalyzerMissing class) s (Some script) l2 o o2 runs u f e d = λ _. tt
 through parser r (PartitionerDiffers asked kept) s (Some script) l2 o o2 runs u f e d = λ _. tt
 through parser r (NumbersSpent kind) s (Some script) l2 o o2 runs u f e d = λ _. tt
 through parser r ScriptTooLong s (Some script) l2 o o2 runs u f e d = λ short.

@@ -1,12 +1,16 @@
--- The emits of a whole run, and the numbers that its pieces needed.
-use Rattle.std.proofs.Common.{◌≡◌, ℕ, List, [], Option, refl, subst}
+-- The emits of a whole run, and the numbers and analyzers that its pieces needed.
+use Rattle.std.proofs.Common.{◌≡◌, ℕ, List, [], Option, refl, subst, inl, inr}
 use Rattle.std.specs.Io.KnownBytes.{Appends}
+use Rattle.sasi_types.specs.declared.class.Class.{Class}
 use Rattle.sasi_layout.specs.Layout.{Layout, state_of}
 use Rattle.sasi_layout.specs.Worlds.{new_world}
 use Rattle.sasi_model.specs.State.{State}
 use Rattle.sasi_model.specs.Parsers.{grammar_parser}
+use Rattle.sasi_host.specs.Names.{Folder}
 use Rattle.sasi_host.specs.View.{SourceView, View}
 use Rattle.sasi_cql.proofs.Parsing.{is_parser}
+use Rattle.sasi_recover.specs.Faults.{OnMissing}
+use Rattle.sasi_recover.specs.Promises.{LacksClass}
 use Rattle.sasi_recover.specs.declared.fault.OpenFault.{OpenFault}
 use Rattle.sasi_recover.specs.declared.fault.OpenFault.TheVariants as open_fault
 use Rattle.sasi_run.specs.Causes.{CountsFrom}
@@ -19,15 +23,15 @@ use Rattle.sasi_run.proofs.EmitLaws.{makes_none}
 use Rattle.sasi_run.proofs.WholeRun.{first_runs, moved, nothing_read, nothing_runs}
 
 -- the words name no script
-pub counts_unused : (l : Layout) (script : SourceView) (a : View) → CountsFrom Usage l script script a a
-counts_unused l script a = record {
+pub counts_unused : {kinds : List Class} (folder : Folder) (l : Layout) (script : SourceView) (a : View) → CountsFrom kinds folder Usage l script script a a
+counts_unused folder l script a = record {
   emits = record {
     parser = grammar_parser;
     parses = is_parser;
     runs = nothing_runs (exact grammar_parser) (state_of l) script.left a.emitted;
     counted = record { answered = []; by_status = refl; emits = makes_none a.emits a.emits refl };
   };
-  numbers = tt;
+  needs = inr tt;
 }
 
 module _ (s : State) (l o o2 : Option (List ℕ)) (silent : Appends o o2 []) (n m : ℕ) (none : m ≡ n) where
@@ -40,58 +44,69 @@ module _ (s : State) (l o o2 : Option (List ℕ)) (silent : Appends o o2 []) (n 
   none_counted open_fault.OutOfMemory =
       record { answered = []; by_status = (nothing_read (exact grammar_parser) s (script_of l []) refl, refl); emits = makes_none n m none }
   none_counted (open_fault.Damaged damage) = record { answered = []; by_status = refl; emits = makes_none n m none }
+  none_counted (open_fault.AnalyzerMissing class) =
+      record { answered = []; by_status = (nothing_read (exact grammar_parser) s (script_of l []) refl, refl); emits = makes_none n m none }
   none_counted (open_fault.PartitionerDiffers asked kept) = record { answered = []; by_status = refl; emits = makes_none n m none }
 
 -- the folder wasn't opened
-pub counts_unopened : (fault : OpenFault) (l : Layout) (script : SourceView) (a b : View) → Appends a.emitted b.emitted [] → b.emits ≡ a.emits
-    → CountsFrom (status_of_fault fault) l script script a b
-counts_unopened open_fault.Failed l script a b silent none = record {
+pub counts_unopened : {kinds : List Class} (folder : Folder) (fault : OpenFault) (l : Layout) (script : SourceView) (a b : View) → Appends a.emitted b.emitted [] → b.emits ≡ a.emits
+    → OnMissing (LacksClass kinds folder) fault → CountsFrom kinds folder (status_of_fault fault) l script script a b
+counts_unopened folder open_fault.Failed l script a b silent none lacks = record {
   emits = record {
     parser = grammar_parser;
     parses = is_parser;
     runs = first_runs (exact grammar_parser) open_fault.Failed (state_of l) script.left a.emitted b.emitted refl silent;
     counted = none_counted (state_of l) script.left a.emitted b.emitted silent a.emits b.emits none open_fault.Failed;
   };
-  numbers = tt;
+  needs = inr tt;
 }
-counts_unopened open_fault.OutOfMemory l script a b silent none = record {
+counts_unopened folder open_fault.OutOfMemory l script a b silent none lacks = record {
   emits = record {
     parser = grammar_parser;
     parses = is_parser;
     runs = first_runs (exact grammar_parser) open_fault.OutOfMemory (state_of l) script.left a.emitted b.emitted refl silent;
     counted = none_counted (state_of l) script.left a.emitted b.emitted silent a.emits b.emits none open_fault.OutOfMemory;
   };
-  numbers = tt;
+  needs = inr tt;
 }
-counts_unopened (open_fault.Damaged damage) l script a b silent none = record {
+counts_unopened folder (open_fault.Damaged damage) l script a b silent none lacks = record {
   emits = record {
     parser = grammar_parser;
     parses = is_parser;
     runs = first_runs (exact grammar_parser) (open_fault.Damaged damage) (state_of l) script.left a.emitted b.emitted refl silent;
     counted = none_counted (state_of l) script.left a.emitted b.emitted silent a.emits b.emits none (open_fault.Damaged damage);
   };
-  numbers = tt;
+  needs = inr tt;
 }
-counts_unopened (open_fault.PartitionerDiffers asked kept) l script a b silent none = record {
+counts_unopened folder (open_fault.AnalyzerMissing class) l script a b silent none lacks = record {
+  emits = record {
+    parser = grammar_parser;
+    parses = is_parser;
+    runs = first_runs (exact grammar_parser) (open_fault.AnalyzerMissing class) (state_of l) script.left a.emitted b.emitted refl silent;
+    counted = none_counted (state_of l) script.left a.emitted b.emitted silent a.emits b.emits none (open_fault.AnalyzerMissing class);
+  };
+  needs = inl lacks;
+}
+counts_unopened folder (open_fault.PartitionerDiffers asked kept) l script a b silent none lacks = record {
   emits = record {
     parser = grammar_parser;
     parses = is_parser;
     runs = first_runs (exact grammar_parser) (open_fault.PartitionerDiffers asked kept) (state_of l) script.left a.emitted b.emitted refl silent;
     counted = none_counted (state_of l) script.left a.emitted b.emitted silent a.emits b.emits none (open_fault.PartitionerDiffers asked kept);
   };
-  numbers = tt;
+  needs = inr tt;
 }
 
 -- the script was run
-pub counts_opened : (status : Status) (l : Layout) (script later : SourceView) (a b c : View) → b.emitted ≡ a.emitted → b.emits ≡ a.emits
-    → RunsWorld status (new_world l) script.left later.left b c → CountsFrom status l script later a c
+pub counts_opened : {kinds : List Class} (folder : Folder) (status : Status) (l : Layout) (script later : SourceView) (a b c : View) → b.emitted ≡ a.emitted → b.emits ≡ a.emits
+    → RunsWorld kinds status (new_world l) script.left later.left b c → CountsFrom kinds folder status l script later a c
 unfolding moved
-counts_opened status l script later a b c silent none on = record {
+counts_opened folder status l script later a b c silent none on = record {
   emits = record {
     parser = grammar_parser;
     parses = is_parser;
     runs = moved (exact grammar_parser) status (state_of l) script.left later.left b.emitted a.emitted c.emitted silent on.runs;
     counted = subst (λ (n : ℕ). EmitsCounted grammar_parser status (state_of l) (script_of script.left on.runs.read) on.runs.read on.runs.shown n c.emits) none on.emits;
   };
-  numbers = on.spends;
+  needs = inr on.needs;
 }

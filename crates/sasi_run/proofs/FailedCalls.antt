@@ -12,9 +12,9 @@ use Rattle.sasi_store.specs.Faults.{OnStepDamage, StepCauses}
 use Rattle.sasi_store.specs.declared.fault.StepFault.{StepFault}
 use Rattle.sasi_store.specs.declared.fault.StepFault.TheVariants as step_fault
 use Rattle.sasi_run.specs.declared.session.Stop.{Stop}
-use Rattle.sasi_run.specs.declared.session.Stop.TheVariants.{Disk, Memory, Output, Corrupt, Spent}
+use Rattle.sasi_run.specs.declared.session.Stop.TheVariants.{Disk, Memory, Output, Corrupt, Spent, Missing}
 use Rattle.sasi_run.specs.declared.status.Status.{Status}
-use Rattle.sasi_run.specs.declared.status.Status.TheVariants.{Done, Refused, ScriptFault, FolderFault, OutputFault, Damaged, NumbersSpent, PartitionerDiffers}
+use Rattle.sasi_run.specs.declared.status.Status.TheVariants.{Done, Refused, ScriptFault, FolderFault, OutputFault, Damaged, AnalyzerMissing, NumbersSpent, PartitionerDiffers}
 use Rattle.sasi_run.specs.Causes.{FailedCalls, ReportsNow}
 use Rattle.sasi_run.specs.Headline.{status_of_count, status_of_fault, status_of_stop}
 use Rattle.sasi_run.specs.Session.{NoneFailed, ShowsNow, StopFaults, stop_of}
@@ -37,6 +37,7 @@ stops_behind Disk a b c none stops = record {
 }
 stops_behind (Corrupt damage) a b c none stops = (none_on a b c none stops.0, stops.1)
 stops_behind (Spent kind) a b c none stops = none_on a b c none stops
+stops_behind (Missing class) a b c none stops = none_on a b c none stops
 stops_behind Output a b c none stops = record {
   disk = stops.disk ∙ none.disk;
   out = failed_behind a.out_faults b.out_faults c.out_faults c.failed_last none.out stops.out;
@@ -49,6 +50,7 @@ step_stops step_fault.Failed a b causes shows = record { disk = causes.failed re
 step_stops step_fault.OutOfMemory a b causes shows = record { disk = causes.others (λ is. cc); out = causes.out }
 step_stops (step_fault.Damaged damage) a b causes shows = (record { disk = causes.others (λ is. cc); out = causes.out }, shows)
 step_stops (step_fault.NumbersSpent kind) a b causes shows = record { disk = causes.others (λ is. cc); out = causes.out }
+step_stops (step_fault.AnalyzerMissing class) a b causes shows = record { disk = causes.others (λ is. cc); out = causes.out }
 
 -- and one that was
 pub step_went : {T : Type 0} (x : T) (a b : View) → StepCauses a b (Ok x) → NoneFailed a b
@@ -163,6 +165,8 @@ stop_calls (Corrupt damage) script a b stops told =
     unfailed_calls (Damaged damage) script script a b (λ is. cc) (λ is. cc) (λ is. cc) (nothing_of_host script a b stops.0 told)
 stop_calls (Spent kind) script a b stops told =
     unfailed_calls (NumbersSpent kind) script script a b (λ is. cc) (λ is. cc) (λ is. cc) (nothing_of_host script a b stops told)
+stop_calls (Missing class) script a b stops told =
+    unfailed_calls (AnalyzerMissing class) script script a b (λ is. cc) (λ is. cc) (λ is. cc) (nothing_of_host script a b stops told)
 stop_calls Output script a b stops told = record {
   script_fault = λ is. cc;
   folder_fault = λ is. cc;
@@ -194,6 +198,9 @@ unopened_calls open_fault.OutOfMemory script a b causes told = stop_calls Memory
 unopened_calls (open_fault.Damaged damage) script a b causes told =
     unfailed_calls (Damaged damage) script script a b (λ is. cc) (λ is. cc) (λ is. cc)
     (nothing_of_host script a b (record { disk = causes.others (λ is. cc); out = causes.out }) told)
+unopened_calls (open_fault.AnalyzerMissing class) script a b causes told =
+    unfailed_calls (AnalyzerMissing class) script script a b (λ is. cc) (λ is. cc) (λ is. cc)
+    (nothing_of_host script a b (record { disk = causes.others (λ is. cc); out = causes.out }) told)
 unopened_calls (open_fault.PartitionerDiffers asked kept) script a b causes told =
     unfailed_calls (PartitionerDiffers asked kept) script script a b (λ is. cc) (λ is. cc) (λ is. cc)
     (nothing_of_host script a b (record { disk = causes.others (λ is. cc); out = causes.out }) told)
@@ -214,6 +221,7 @@ stop_reports Memory a b stops damage is = cc
 stop_reports Disk a b stops damage is = cc
 stop_reports Output a b stops damage is = cc
 stop_reports (Spent kind) a b stops damage is = cc
+stop_reports (Missing class) a b stops damage is = cc
 stop_reports (Corrupt told) a b stops damage is = subst (λ (d : Damage). ShowsNow b d) (damage_same told damage is) stops.1
 
 pub ended_reports : (status : Status) (a b : View) → FailedWith status a b → ReportsNow status b

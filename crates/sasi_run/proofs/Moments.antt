@@ -1,23 +1,24 @@
 -- What a crash leaves of layouts, told by the states for which their shapes stand: a first part of the moves of a piece leaves the
 -- state before the piece, or the state after it.
 use Rattle.std.proofs.Common.{◌≡◌, ◌⊎◌, ℕ, Bool, true, false, cond, List, [], ◌∷◌, ◌++◌, refl, sym, ◌∙◌, ap, subst, inl, inr, ⊎_elim, append_assoc}
-use Rattle.std.specs.Prelude.{⊤}
+use Rattle.std.specs.List.{AllByRecursion}
 use Rattle.std.proofs.lemmas.List.{append-nil}
 use Rattle.sasi_host.specs.Names.{Folder}
-use Rattle.sasi_model.specs.Asked.{Asked, NoChange, Creates, Writes, Flushes}
+use Rattle.sasi_model.specs.Asked.{Asked, NoChange, Creates, Defines, Writes, Flushes, asks}
+use Rattle.sasi_model.specs.Parsers.{grammar_parser}
 use Rattle.sasi_model.specs.Pieces.{Piece}
 use Rattle.sasi_model.specs.State.{State}
 use Rattle.sasi_model.specs.Step.{step, state_after, replies}
 use Rattle.sasi_layout.specs.Layout.{Layout, bare, state_of}
-use Rattle.sasi_layout.specs.Moves.{Create, Flush, Freeze, Move, Put, after_moves, states}
+use Rattle.sasi_layout.specs.Moves.{Create, Define, Flush, Freeze, Move, Put, after_moves, moved_state, states}
 use Rattle.sasi_layout.specs.Running as running
 use Rattle.sasi_layout.specs.Running.{IsBusy, IsMoving, IsQuiet, after_pieces, replies_of}
 use Rattle.sasi_layout.specs.Shape.{IsOfShape, StandsSealed}
-use Rattle.sasi_layout.specs.Statements.{moves_asked}
+use Rattle.sasi_layout.specs.Statements.{known_in, moves_asked, moves_of}
 use Rattle.sasi_layout.specs.NumbersInOrder.{HasNumbersInOrder}
 use Rattle.sasi_layout.specs.Worlds.{World, steps}
-use Rattle.sasi_layout.proofs.LayoutLaws.{bare_state, moves_state}
-use Rattle.sasi_layout.proofs.StatementLaws.{step_state}
+use Rattle.sasi_layout.proofs.LayoutLaws.{bare_state}
+use Rattle.sasi_layout.proofs.StatementLaws.{front_state_by, step_state}
 use Rattle.sasi_run.proofs.Worlds.{in_order_after, replies_are, state_is}
 
 -- ---- moments by states
@@ -47,57 +48,69 @@ pub record Crashed (s : State) (before : List ℕ) (pieces : List Piece) (folder
 
 -- ---- the moves of a piece
 
--- moves that leave the state
+-- the move leaves the state
+abbrev leaves : Move → Bool
+leaves (Put m) = false
+leaves (Freeze table) = true
+leaves (Flush table) = true
+leaves (Create d) = false
+leaves (Define table index) = false
+
+leaves_state : (m : Move) (s : State) → leaves m ≡ true → moved_state m s ≡ s
+leaves_state (Freeze table) s keep = refl
+leaves_state (Flush table) s keep = refl
+leaves_state (Put m) s keep = cc
+leaves_state (Create d) s keep = cc
+leaves_state (Define table index) s keep = cc
+
+-- moves that leave it
 abbrev KeepState : List Move → Type 0
-KeepState [] = ⊤
-KeepState (Put m ∷ ms) = ⊥
-KeepState (Create d ∷ ms) = ⊥
-KeepState (Freeze table ∷ ms) = KeepState ms
-KeepState (Flush table ∷ ms) = KeepState ms
+KeepState ms = AllByRecursion (λ m. leaves m ≡ true) ms
 
 states_kept : (ms : List Move) (s : State) → KeepState ms → states ms s ≡ s
 states_kept [] s keep = refl
-states_kept (Put m ∷ ms) s keep = absurd keep
-states_kept (Create d ∷ ms) s keep = absurd keep
-states_kept (Freeze table ∷ ms) s keep = states_kept ms s keep
-states_kept (Flush table ∷ ms) s keep = states_kept ms s keep
+states_kept (m ∷ ms) s keep = ap (states ms) (leaves_state m s keep.0) ∙ states_kept ms s keep.1
 
 front_kept : (ms more : List Move) → KeepState (ms ++ more) → KeepState ms
 front_kept [] more keep = tt
-front_kept (Put m ∷ ms) more keep = absurd keep
-front_kept (Create d ∷ ms) more keep = absurd keep
-front_kept (Freeze table ∷ ms) more keep = front_kept ms more keep
-front_kept (Flush table ∷ ms) more keep = front_kept ms more keep
+front_kept (m ∷ ms) more keep = (keep.0, front_kept ms more keep.1)
 
 flush_keeps : (table : ℕ) (test : Bool) → KeepState (cond test (Flush table ∷ []) [])
-flush_keeps table true = tt
+flush_keeps table true = (refl, tt)
 flush_keeps table false = tt
 
 -- after a first part of the moves the state is that before them, or that after all
 abbrev IsEither : Layout → List Move → List Move → Type 0
 IsEither l ms done = (state_of (after_moves done l) ≡ state_of l) ⊎ (state_of (after_moves done l) ≡ state_of (after_moves ms l))
 
-kept_either : (l : Layout) (ms done rest : List Move) → ms ≡ done ++ rest → KeepState ms → IsEither l ms done
-kept_either l ms done rest parts keep =
-    inl (moves_state done l ∙ states_kept done (state_of l) (front_kept done rest (subst (λ (k : List Move). KeepState k) parts keep)))
+kept_either : (l : Layout) (ms done rest : List Move) → ms ≡ done ++ rest → KeepState ms → state_of (after_moves done l) ≡ states done (state_of l) → IsEither l ms done
+kept_either l ms done rest parts keep front =
+    inl (front ∙ states_kept done (state_of l) (front_kept done rest (subst (λ (k : List Move). KeepState k) parts keep)))
 
 -- one move, and then such as leave the state
-first_either : (l : Layout) (m : Move) (ms done rest : List Move) → m ∷ ms ≡ done ++ rest → KeepState ms → IsEither l (m ∷ ms) done
-first_either l m ms [] rest parts keep = inl refl
-first_either l m ms (d ∷ done) rest parts keep =
+first_either : (l : Layout) (m : Move) (ms done rest : List Move) → m ∷ ms ≡ done ++ rest → KeepState ms → state_of (after_moves done l) ≡ states done (state_of l)
+    → state_of (after_moves (m ∷ ms) l) ≡ states (m ∷ ms) (state_of l) → IsEither l (m ∷ ms) done
+first_either l m ms [] rest parts keep front whole = inl refl
+first_either l m ms (d ∷ done) rest parts keep front whole =
     let same : m ≡ d = cc in
     let behind : ms ≡ done ++ rest = cc in
-    let later : Layout = after_moves (d ∷ []) l in
     inr (
-    moves_state done later ∙ states_kept done (state_of later) (front_kept done rest (subst (λ (k : List Move). KeepState k) behind keep))
-    ∙ sym (states_kept ms (state_of later) keep) ∙ sym (moves_state ms later)
-    ∙ ap (λ (k : Move). state_of (after_moves ms (after_moves (k ∷ []) l))) (sym same))
+    front ∙ states_kept done (moved_state d (state_of l)) (front_kept done rest (subst (λ (k : List Move). KeepState k) behind keep))
+    ∙ ap (λ (k : Move). moved_state k (state_of l)) (sym same) ∙ sym (states_kept ms (moved_state m (state_of l)) keep) ∙ sym whole)
 
-either : (l : Layout) (asked : Asked) (done rest : List Move) → moves_asked l asked ≡ done ++ rest → IsEither l (moves_asked l asked) done
-either l NoChange done rest parts = kept_either l [] done rest parts tt
-either l (Creates d) done rest parts = first_either l (Create d) [] done rest parts tt
-either l (Writes table key change) done rest parts = first_either l (Put _) _ done rest parts (flush_keeps table _)
-either l (Flushes table) done rest parts = kept_either l _ done rest parts (flush_keeps table _)
+either : (l : Layout) (asked : Asked) (done rest : List Move) → moves_asked l asked ≡ done ++ rest → state_of (after_moves done l) ≡ states done (state_of l)
+    → state_of (after_moves (moves_asked l asked) l) ≡ states (moves_asked l asked) (state_of l) → IsEither l (moves_asked l asked) done
+either l NoChange done rest parts front whole = kept_either l [] done rest parts tt front
+either l (Creates d) done rest parts front whole = first_either l (Create d) [] done rest parts tt front whole
+either l (Defines table index) done rest parts front whole = first_either l (Define table index) [] done rest parts tt front whole
+either l (Writes table key change) done rest parts front whole = first_either l (Put _) _ done rest parts (flush_keeps table _) front whole
+either l (Flushes table) done rest parts front whole = kept_either l _ done rest parts (flush_keeps table _) front
+
+-- so it is with the moves of a piece
+piece_either : (l : Layout) (piece : Piece) (done rest : List Move) → moves_of l piece ≡ done ++ rest → HasNumbersInOrder l → IsEither l (moves_of l piece) done
+piece_either l piece done rest parts in_order =
+    either l (asks (known_in l) piece) done rest parts (front_state_by grammar_parser l piece done rest parts in_order)
+    (front_state_by grammar_parser l piece (moves_of l piece) [] (sym (append-nil (moves_of l piece))) in_order)
 
 -- ---- from layouts to states
 
@@ -148,7 +161,7 @@ module _ (w : World) (in_order : HasNumbersInOrder w.layout) (before : List ℕ)
           went = is.went ∙ ap (λ (r : List ℕ). before ++ r) (replies_are done w in_order ∙ sym (append-nil (replies (state_of w.layout) done)));
           stands = of_shape (after_moves b.done l) folder _ b.shape (late ∙ stepped);
         }))
-        (either l _ b.done b.rest b.parts)
+        (piece_either l piece b.done b.rest b.parts (in_order_after done w in_order))
 
   busy : (done rest : List Piece) → IsBusy steps (after_pieces steps w done) (before ++ replies_of steps w done) rest folder out
       → IsBetweenPieces (state_of w.layout) before done folder out ⊎ IsAnswering (state_of w.layout) before done rest folder out

@@ -3,7 +3,7 @@ use Rattle.std.proofs.Common.{◌≡◌, ◌⊎◌, ℕ, zero, suc, ◌+◌, ◌
 use Rattle.std.proofs.lemmas.List.{append-nil, append_cancel_left}
 use Rattle.std.proofs.Math.Seq.{take-append-add, take-append_seam, drop-append_seam}
 use Rattle.sasi_types.specs.declared.statement.Statement.{Statement}
-use Rattle.sasi_types.specs.declared.statement.Statement.TheVariants.{CreateTable, Insert, Update, Delete}
+use Rattle.sasi_types.specs.declared.statement.Statement.TheVariants.{CreateTable, CreateIndex, Insert, Update, Delete}
 use Rattle.sasi_host.specs.Names.{Folder}
 use Rattle.sasi_model.specs.Pieces.{Piece}
 use Rattle.sasi_model.specs.Refusals.{ParsedPiece, Nothing, Says, Bad, Refusal, read, refusal}
@@ -31,6 +31,7 @@ replies-append (p ∷ ps) qs s = rw (replies-append ps qs (step s p).state)
 silent_or : (s : State) (statement : Statement) (r : Option Refusal) → (execute_or s statement r).reply ≡ [] → (execute_or s statement r).state ≡ s
 silent_or s statement (Some r) none = refl
 silent_or s (CreateTable table columns keys) None none = cc
+silent_or s (CreateIndex name table column class options stepped) None none = cc
 silent_or s (Insert table columns values time) None none = cc
 silent_or s (Update table time sets key value) None none = cc
 silent_or s (Delete table columns time key value) None none = cc

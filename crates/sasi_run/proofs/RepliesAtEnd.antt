@@ -3,6 +3,7 @@
 use Rattle.std.proofs.Common.{◌≡◌, ℕ, ◌+◌, ◌≤◌, List, [], ◌∷◌, ◌++◌, length, Option, None, Some, refl, sym, ap, ◌∙◌, subst, append_assoc}
 use Rattle.std.proofs.lemmas.List.{append-nil}
 use Rattle.std.specs.Io.KnownBytes.{Consumes, IsAtEnd}
+use Rattle.sasi_types.specs.declared.class.Class.{Class}
 use Rattle.sasi_host.specs.View.{View}
 use Rattle.sasi_layout.specs.Layout.{state_of}
 use Rattle.sasi_layout.specs.Running.{replies_of}
@@ -20,7 +21,7 @@ use Rattle.sasi_run.specs.Headline.{EmitsCutReply, EmitsFirstReplies, IsFirstPar
 use Rattle.sasi_run.specs.Session.{Feeds, IsAtScriptStart}
 use Rattle.sasi_run.specs.declared.session.Session.{Session}
 use Rattle.sasi_run.specs.declared.session.Stop.{Stop}
-use Rattle.sasi_run.specs.declared.session.Stop.TheVariants.{Disk, Output, Memory, Corrupt, Spent}
+use Rattle.sasi_run.specs.declared.session.Stop.TheVariants.{Disk, Output, Memory, Corrupt, Spent, Missing}
 use Rattle.sasi_run.proofs.Running.{leaves_more}
 use Rattle.sasi_run.proofs.Worlds.{emits_are, replies_are, state_is}
 
@@ -102,14 +103,14 @@ module _ (w : World) (in_order : HasNumbersInOrder w.layout) (read : List ℕ) (
   makes others counted = subst (λ (n : ℕ). MakesEmits (n + others) a.emits c.emits) (emits_are done w in_order) counted
 
   -- from a world
-  pub stops_world : (stop : Stop) → StoppedPieces stop w done next a c → RunsWorld (status_of_stop stop) w l l2 a c
+  pub stops_world : {kinds : List Class} (stop : Stop) → StoppedPieces kinds stop w done next a c → RunsWorld kinds (status_of_stop stop) w l l2 a c
   stops_world Memory stopped = record {
     runs = record { read = read; shown = replies_of steps w done; consumed = consumed; emitted = stopped.shown; at_end = tt; shows = first_replies; bounded = bounded };
     crashes = crashes stopped.crashes;
     told = λ is. absurd is;
     ends = λ is. absurd is;
     emits = record { answered = done; by_status = (first_replies, refl); emits = makes 0 stopped.emits };
-    spends = tt;
+    needs = tt;
     undamaged = λ damage is. cc;
   }
   stops_world Disk stopped = record {
@@ -118,7 +119,7 @@ module _ (w : World) (in_order : HasNumbersInOrder w.layout) (read : List ℕ) (
     told = λ is. absurd is;
     ends = λ is. absurd is;
     emits = record { answered = done; by_status = (first_replies, refl); emits = makes 0 stopped.emits };
-    spends = tt;
+    needs = tt;
     undamaged = λ damage is. cc;
   }
   stops_world (Corrupt damage) stopped = absurd stopped.shown
@@ -143,7 +144,19 @@ module _ (w : World) (in_order : HasNumbersInOrder w.layout) (read : List ℕ) (
           by_status = (record { done = done; piece = at.0; first = here; replied = replies_are done w in_order }, refl);
           emits = makes 0 stopped.emits;
         };
-        spends = record { done = done; piece = at.0; first = here; replied = refl; spends = at.3; earlier = stopped.unspent };
+        needs = record { done = done; piece = at.0; first = here; replied = refl; analyzer = at.3; spends = at.4; earlier = stopped.supplied };
+        undamaged = λ damage is. cc;
+      }
+  stops_world (Missing class) stopped =
+      let at = stopped.shown in
+      let here : IsFirstPart (script_of l read) read done (at.0 ∷ []) = subst (λ (ps : List Piece). IsFirstPart (script_of l read) read done ps) at.1 first in
+      record {
+        runs = record { read = read; shown = replies_of steps w done; consumed = consumed; emitted = at.2; at_end = tt; shows = first_replies; bounded = bounded };
+        crashes = crashes stopped.crashes;
+        told = λ is. absurd is;
+        ends = λ is. absurd is;
+        emits = record { answered = done; by_status = (first_replies, refl); emits = makes 0 stopped.emits };
+        needs = record { done = done; piece = at.0; first = here; replied = refl; lacks = at.3; earlier = stopped.supplied };
         undamaged = λ damage is. cc;
       }
   stops_world Output stopped =
@@ -175,6 +188,6 @@ module _ (w : World) (in_order : HasNumbersInOrder w.layout) (read : List ℕ) (
         told = λ is. absurd is;
         ends = λ is. absurd is;
         emits = record { answered = done; by_status = (cut, refl); emits = makes 1 stopped.emits };
-        spends = tt;
+        needs = tt;
         undamaged = λ damage is. cc;
       }

@@ -2,22 +2,27 @@
 use Rattle.std.proofs.Common.{◌≡◌, ℕ, ◌+◌, ◌<◌, ◌^◌, List, [], ◌∷◌, ◌++◌, length, take, drop, get_or, Option, None, Some, refl, sym, ap, subst, ◌∙◌, arith, append_assoc}
 use Rattle.std.proofs.lemmas.List.{append-nil, take_more, take-append-drop}
 use Rattle.std.specs.Io.KnownBytes.{Appends}
+use Rattle.sasi_types.specs.declared.class.Class.{Class}
 use Rattle.sasi_host.specs.View.{View, counted_by}
 use Rattle.sasi_layout.specs.Running.{after_pieces, replies_of}
+use Rattle.sasi_layout.specs.Classes.{HasNeeded, LacksNeeded}
 use Rattle.sasi_layout.specs.Spent.{spent}
+use Rattle.sasi_layout.specs.Statements.{known_in}
 use Rattle.sasi_layout.specs.Worlds.{ServesWorld, World, steps}
+use Rattle.sasi_model.specs.Asked.{asks}
 use Rattle.sasi_model.specs.Pieces.{Piece, Pieces}
 use Rattle.sasi_cql.specs.SplitterState.{SplitterState, resume, behind}
 use Rattle.sasi_run.specs.Crashing.{CrashLeavesPieces, RanPieces, StoppedPieces}
 use Rattle.sasi_run.specs.EmitCounts.{emits_failed}
 use Rattle.sasi_run.specs.Headline.{status_of_stop}
+use Rattle.sasi_run.specs.Needs.{class_asked}
 use Rattle.sasi_run.specs.Session.{EmittedAtStop, refusals_of}
 use Rattle.sasi_run.specs.declared.session.Session.{Session}
 use Rattle.sasi_run.specs.declared.session.Stop.{Stop}
-use Rattle.sasi_run.specs.declared.session.Stop.TheVariants.{Disk, Output, Memory, Corrupt, Spent}
+use Rattle.sasi_run.specs.declared.session.Stop.TheVariants.{Disk, Output, Memory, Corrupt, Spent, Missing}
 use Rattle.sasi_run.proofs.EmitLaws.{makes_more, makes_more_and, makes_none}
 use Rattle.sasi_run.proofs.Running.{leaves_both, leaves_nothing}
-use Rattle.sasi_run.proofs.Worlds.{after_both, refusals_both, replies_both, spends_both}
+use Rattle.sasi_run.proofs.Worlds.{after_both, refusals_both, replies_both, supplied_both}
 
 -- ---- known bytes
 
@@ -56,20 +61,20 @@ around xs i h = sym (take-append-drop (i + 1) xs) ∙ ap (λ t. t ++ drop (i + 1
 -- ---- what was run
 
 -- nothing was
-pub ran_nothing : (w : World) (old new : Session) (a : View) → old.refused < 2 ^ 64 → new.store ≡ old.store → new.refused ≡ old.refused
-    → ServesWorld a old.store.memory w → RanPieces w [] old new a a
+pub ran_nothing : {kinds : List Class} (w : World) (old new : Session) (a : View) → old.refused < 2 ^ 64 → new.store ≡ old.store → new.refused ≡ old.refused
+    → ServesWorld a old.store.memory w → RanPieces kinds w [] old new a a
 ran_nothing w old new a small store count serves = record {
   serves = rw store serves;
   shown = appends_none a.emitted;
   count = omega (arith, count, small);
   crashes = leaves_nothing a w [];
   emits = makes_none a.emits a.emits refl;
-  unspent = tt;
+  supplied = tt;
 }
 
 -- some pieces, and then others
-pub ran_both : (w : World) (xs ys : List Piece) (old mid new : Session) (a b c : View) → RanPieces w xs old mid a b
-    → RanPieces (after_pieces steps w xs) ys mid new b c → RanPieces w (xs ++ ys) old new a c
+pub ran_both : {kinds : List Class} (w : World) (xs ys : List Piece) (old mid new : Session) (a b c : View) → RanPieces kinds w xs old mid a b
+    → RanPieces kinds (after_pieces steps w xs) ys mid new b c → RanPieces kinds w (xs ++ ys) old new a c
 ran_both w xs ys old mid new a b c t u =
     let later : World = after_pieces steps w xs in
     record {
@@ -79,21 +84,28 @@ ran_both w xs ys old mid new a b c t u =
           ∙ ap (counted_by old.refused) (sym (refusals_both xs ys w));
       crashes = leaves_both a b c w xs ys t.shown t.crashes u.crashes;
       emits = makes_more w xs ys a.emits b.emits c.emits t.emits u.emits;
-      unspent = spends_both xs ys w t.unspent u.unspent;
+      supplied = supplied_both _ xs ys w t.supplied u.supplied;
     }
 
-emitted_later : (stop : Stop) (w : World) (xs done next : List Piece) (a b c : Option (List ℕ)) → Appends a b (replies_of steps w xs)
-    → EmittedAtStop stop (after_pieces steps w xs) b c done next → EmittedAtStop stop w a c (xs ++ done) next
-emitted_later Memory w xs done next a b c shown at = rw replies_both (appends_both a b c _ _ shown at)
-emitted_later Disk w xs done next a b c shown at = rw replies_both (appends_both a b c _ _ shown at)
-emitted_later (Corrupt damage) w xs done next a b c shown at = at
-emitted_later (Spent kind) w xs done next a b c shown (piece, one, rest, spends) = (
+emitted_later : (kinds : List Class) (stop : Stop) (w : World) (xs done next : List Piece) (a b c : Option (List ℕ)) → Appends a b (replies_of steps w xs)
+    → EmittedAtStop kinds stop (after_pieces steps w xs) b c done next → EmittedAtStop kinds stop w a c (xs ++ done) next
+emitted_later kinds Memory w xs done next a b c shown at = rw replies_both (appends_both a b c _ _ shown at)
+emitted_later kinds Disk w xs done next a b c shown at = rw replies_both (appends_both a b c _ _ shown at)
+emitted_later kinds (Corrupt damage) w xs done next a b c shown at = at
+emitted_later kinds (Missing class) w xs done next a b c shown (piece, one, rest, lacks) = (
   piece,
   one,
   rw replies_both (appends_both a b c _ _ shown rest),
+  subst (λ (k : World). LacksNeeded kinds (asks (known_in k.layout) piece) class) (sym (after_both xs done w)) lacks,
+)
+emitted_later kinds (Spent kind) w xs done next a b c shown (piece, one, rest, has, spends) = (
+  piece,
+  one,
+  rw replies_both (appends_both a b c _ _ shown rest),
+  subst (λ (k : World). HasNeeded kinds (class_asked k piece)) (sym (after_both xs done w)) has,
   subst (λ (k : World). spent k.layout (steps.moves k piece) ≡ Some kind) (sym (after_both xs done w)) spends,
 )
-emitted_later Output w xs done next a b c shown (piece, front, back, one, parts, rest) = (
+emitted_later kinds Output w xs done next a b c shown (piece, front, back, one, parts, rest) = (
   piece,
   front,
   back,
@@ -103,11 +115,11 @@ emitted_later Output w xs done next a b c shown (piece, front, back, one, parts,
 )
 
 -- some pieces, and then a stop
-pub stopped_behind : (stop : Stop) (w : World) (xs done next : List Piece) (old mid : Session) (a b c : View) → RanPieces w xs old mid a b
-    → StoppedPieces stop (after_pieces steps w xs) done next b c → StoppedPieces stop w (xs ++ done) next a c
+pub stopped_behind : {kinds : List Class} (stop : Stop) (w : World) (xs done next : List Piece) (old mid : Session) (a b c : View) → RanPieces kinds w xs old mid a b
+    → StoppedPieces kinds stop (after_pieces steps w xs) done next b c → StoppedPieces kinds stop w (xs ++ done) next a c
 stopped_behind stop w xs done next old mid a b c t u = record {
-  shown = emitted_later stop w xs done next a.emitted b.emitted c.emitted t.shown u.shown;
+  shown = emitted_later _ stop w xs done next a.emitted b.emitted c.emitted t.shown u.shown;
   crashes = subst (λ (l : List Piece). CrashLeavesPieces a c w l) (sym (append_assoc xs done next)) (leaves_both a b c w xs (done ++ next) t.shown t.crashes u.crashes);
   emits = makes_more_and w xs done a.emits b.emits c.emits t.emits (emits_failed (status_of_stop stop)) u.emits;
-  unspent = spends_both xs done w t.unspent u.unspent;
+  supplied = supplied_both _ xs done w t.supplied u.supplied;
 }

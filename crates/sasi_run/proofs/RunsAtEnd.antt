@@ -4,9 +4,11 @@ use Rattle.std.proofs.Common.{◌≡◌, ◌≢◌, ℕ, ◌+◌, ◌≤◌, ◌
 use Rattle.std.proofs.lemmas.List.{append-nil, length-take-le, take-append-drop, take_all}
 use Rattle.std.proofs.Math.Seq.{take-append_seam}
 use Rattle.std.specs.Io.KnownBytes.{Appends, Consumes, IsAtEnd, Keeps}
+use Rattle.sasi_types.specs.declared.class.Class.{Class}
 use Rattle.sasi_host.specs.View.{View, counted_by}
 use Rattle.sasi_host.proofs.ContentLaws.{told_after}
 use Rattle.sasi_host.specs.Disk.{Changes}
+use Rattle.sasi_analyzers.specs.Kits.{has_class}
 use Rattle.sasi_layout.specs.Between.{Between}
 use Rattle.sasi_layout.specs.Layout.{state_of}
 use Rattle.sasi_layout.specs.Running.{after_pieces, replies_of}
@@ -19,16 +21,16 @@ use Rattle.sasi_model.specs.Step.{refusals, replies, state_after}
 use Rattle.sasi_cql.specs.SplitterState.{resume, behind}
 use Rattle.sasi_store.specs.StoreView.{IsReady}
 use Rattle.sasi_run.specs.Causes.{IsOfStore}
-use Rattle.sasi_run.specs.Crashing.{CrashLeavesPieces, EndsAtRead, FailsCrashSafe, FeedsCrashSafe, FeedsRead, FinishesCrashSafe, IsOfState, RanButRows, RanPieces, RanScript, ReadsCrashSafe, RunsCrashSafe, StoppedButRows, StoppedPieces, StopsCrashSafe, StopsWith}
+use Rattle.sasi_run.specs.Crashing.{CrashLeavesPieces, EndsAtRead, FailsCrashSafe, FeedsCrashSafe, FeedsRead, FinishesCrashSafe, IsOfState, LacksAtStop, RanButRows, RanPieces, RanScript, ReadsCrashSafe, RunsCrashSafe, StoppedButRows, StoppedPieces, StopsCrashSafe, StopsWith}
 use Rattle.sasi_run.specs.EmitCounts.{MakesEmits, emits_for, emits_in}
 use Rattle.sasi_run.specs.Headline.{AreRepliesButRows, EmitsAllReplies, EmitsByStatus, IsFirstPart, READ_MOST, ReadsToEnd, Runs, SCRIPT_MOST, but_rows, exact, script_of, status_of_count, status_of_stop}
 use Rattle.sasi_run.specs.Session.{IsAtScriptStart, refusals_of}
-use Rattle.sasi_run.specs.Spending.{SpendsNone}
+use Rattle.sasi_run.specs.Needs.{AreSupplied}
 use Rattle.sasi_run.specs.declared.session.Session.{Session}
 use Rattle.sasi_run.specs.declared.session.Stop.{Stop}
-use Rattle.sasi_run.specs.declared.session.Stop.TheVariants.{Disk, Output, Memory, Corrupt, Spent}
+use Rattle.sasi_run.specs.declared.session.Stop.TheVariants.{Disk, Output, Memory, Corrupt, Spent, Missing}
 use Rattle.sasi_run.specs.declared.status.Status.{Status}
-use Rattle.sasi_run.specs.declared.status.Status.TheVariants.{Done, FolderFault, Refused, ScriptFault, ScriptTooLong}
+use Rattle.sasi_run.specs.declared.status.Status.TheVariants.{AnalyzerMissing, Done, FolderFault, Refused, ScriptFault, ScriptTooLong}
 use Rattle.sasi_run.proofs.Answering.{feeds_both, feeds_nothing}
 use Rattle.sasi_run.proofs.ButRows.{ran_both_but, stop_runs, stopped_behind_but}
 use Rattle.sasi_run.proofs.ConsumedBytes.{consumes_both, consumes_kept, consumes_none, consumes_nothing}
@@ -38,10 +40,19 @@ use Rattle.sasi_run.proofs.Running.{leaves_closed}
 use Rattle.sasi_run.proofs.RunParts.{ran_both, stopped_behind}
 use Rattle.sasi_run.proofs.Worlds.{emits_are, refusals_are, replies_are}
 
+-- no analyzer is of the class that stopped the run
+stop_lacks : (kinds : List Class) (stop : Stop) → LacksAtStop kinds stop → (class : Class) → status_of_stop stop ≡ AnalyzerMissing class → has_class class kinds ≡ false
+stop_lacks kinds Disk lacks class is = cc
+stop_lacks kinds Output lacks class is = cc
+stop_lacks kinds Memory lacks class is = cc
+stop_lacks kinds (Corrupt damage) lacks class is = cc
+stop_lacks kinds (Spent kind) lacks class is = cc
+stop_lacks kinds (Missing told) lacks class is = let same : told ≡ class = cc in subst (λ (c : Class). has_class c kinds ≡ false) same lacks
+
 -- ---- a read failed
 
-pub ends_fault : (from mid : Session) (l l1 l2 : Option (List ℕ)) (a b : View) (n : ℕ) → IsAtScriptStart from → ReadsCrashSafe from mid l l1 a b n
-    → n ≤ 2 ^ 40 → Keeps l1 l2 → RunsCrashSafe ScriptFault from.store l l2 a b
+pub ends_fault : {kinds : List Class} (from mid : Session) (l l1 l2 : Option (List ℕ)) (a b : View) (n : ℕ) → IsAtScriptStart from → ReadsCrashSafe kinds from mid l l1 a b n
+    → n ≤ 2 ^ 40 → Keeps l1 l2 → RunsCrashSafe kinds ScriptFault from.store l l2 a b
 ends_fault from mid l l1 l2 a b n fresh on few kept =
     let consumed = consumes_kept l l1 l2 on.read on.consumed kept in
     let t = on.feeds.feeds in
@@ -79,17 +90,18 @@ ends_fault from mid l l1 l2 a b n fresh on few kept =
               by_status = sym (whole_now from mid on.read fresh t);
               emits = makes_alone _ a.emits b.emits (subst (λ (k : ℕ). MakesEmits k a.emits b.emits) (emits_are t.done w serves.in_order) ran.emits);
             };
-            spends = tt;
+            needs = tt;
             undamaged = λ damage is. cc;
           });
+      lacks = λ class is. cc;
     }
 
 -- ---- the script ended
 
-pub ends_script : (from mid to : Session) (l l1 l2 : Option (List ℕ)) (a b c : View) (n : ℕ) (none : List ℕ) → IsAtScriptStart from
-    → ReadsCrashSafe from mid l l1 a b n → n ≤ 2 ^ 40 → Consumes l1 l2 none → length none ≡ 0 → IsAtEnd l2 → FinishesCrashSafe mid to b c
-    → RanScript from to l l2 a c
-ends_script from mid to l l1 l2 a b c n none fresh on few ate empty end fin = record {
+pub ends_script : {kinds : List Class} (from mid to : Session) (l l1 l2 : Option (List ℕ)) (a b c : View) (n : ℕ) (none : List ℕ) → IsAtScriptStart from
+    → ReadsCrashSafe kinds from mid l l1 a b n → n ≤ 2 ^ 40 → Consumes l1 l2 none → length none ≡ 0 → IsAtEnd l2 → FinishesCrashSafe kinds mid to b c
+    → RanScript kinds from to l l2 a c
+ends_script {kinds} from mid to l l1 l2 a b c n none fresh on few ate empty end fin = record {
   read = on.read;
   consumed = consumes_none l l1 l2 on.read none on.consumed ate empty;
   short = omega (arith, on.length_is, few);
@@ -101,11 +113,11 @@ ends_script from mid to l l1 l2 a b c n none fresh on few ate empty end fin = re
   ready = fin.ready;
   ran = λ w serves.
       (let first = on.feeds.ran w serves in
-      subst (λ (ps : List Piece). RanPieces w ps from to a c) (sym (all_now from mid on.read fresh on.feeds.feeds))
+      subst (λ (ps : List Piece). RanPieces kinds w ps from to a c) (sym (all_now from mid on.read fresh on.feeds.feeds))
       (ran_both w on.feeds.feeds.done (resume mid.splitter []).last from mid to a b c first (fin.ran (after_pieces steps w on.feeds.feeds.done) first.serves)));
 }
 
-module _ (from to : Session) (l l2 : Option (List ℕ)) (a b c : View) (fresh : IsAtScriptStart from) (on : RanScript from to l l2 a b)
+module _ {kinds : List Class} (from to : Session) (l l2 : Option (List ℕ)) (a b c : View) (fresh : IsAtScriptStart from) (on : RanScript kinds from to l l2 a b)
     (silent : c.emitted ≡ b.emitted) (none_out : c.emits ≡ b.emits)
     (moments : (w : World) → ServesWorld b to.store.memory w → Changes (λ x y. Between w.layout [] y) b c) where
   -- nothing was emitted since
@@ -159,7 +171,7 @@ module _ (from to : Session) (l l2 : Option (List ℕ)) (a b c : View) (fresh : 
   -- ---- the use of the store was ended
 
   module _ (ends : (w : World) → ServesWorld b to.store.memory w → Ended c (closed w.layout)) where
-    ended_by : (none : Bool) → nat_eq to.refused 0 ≡ none → RunsCrashSafe (cond none Done (Refused to.refused)) from.store l l2 a c
+    ended_by : (none : Bool) → nat_eq to.refused 0 ≡ none → RunsCrashSafe kinds (cond none Done (Refused to.refused)) from.store l l2 a c
     ended_by true is =
         let zero_is : to.refused ≡ 0 = grind arith in
         record {
@@ -180,9 +192,10 @@ module _ (from to : Session) (l l2 : Option (List ℕ)) (a b c : View) (fresh : 
                 told = λ _. told_after _ b c (moments (after_pieces steps w (all_pieces on.read)) ran.serves) ran.serves.told;
                 ends = λ _. of_script (λ ps. Ended c (closed (after_pieces steps w ps).layout)) (ends (after_pieces steps w (all_pieces on.read)) ran.serves);
                 emits = record { answered = all_pieces on.read; by_status = refl; emits = emits_all w serves };
-                spends = of_script (λ ps. SpendsNone w ps) ran.unspent;
+                needs = of_script (λ ps. AreSupplied kinds w ps) ran.supplied;
                 undamaged = λ damage is. cc;
               });
+          lacks = λ class is. cc;
         }
     ended_by false is =
         let some : 0 < to.refused = grind arith in
@@ -204,16 +217,17 @@ module _ (from to : Session) (l l2 : Option (List ℕ)) (a b c : View) (fresh : 
                 told = λ _. told_after _ b c (moments (after_pieces steps w (all_pieces on.read)) ran.serves) ran.serves.told;
                 ends = λ _. of_script (λ ps. Ended c (closed (after_pieces steps w ps).layout)) (ends (after_pieces steps w (all_pieces on.read)) ran.serves);
                 emits = record { answered = all_pieces on.read; by_status = refl; emits = emits_all w serves };
-                spends = of_script (λ ps. SpendsNone w ps) ran.unspent;
+                needs = of_script (λ ps. AreSupplied kinds w ps) ran.supplied;
                 undamaged = λ damage is. cc;
               });
+          lacks = λ class is. cc;
         }
 
-    pub ends_closed : RunsCrashSafe (status_of_count to.refused) from.store l l2 a c
+    pub ends_closed : RunsCrashSafe kinds (status_of_count to.refused) from.store l l2 a c
     ends_closed = ended_by (nat_eq to.refused 0) refl
 
   -- and wasn't, since a call failed
-  pub ends_unclosed : RunsCrashSafe FolderFault from.store l l2 a c
+  pub ends_unclosed : RunsCrashSafe kinds FolderFault from.store l l2 a c
   ends_unclosed = record {
     anywhere = λ s of.
         let ran = on.anywhere s of in
@@ -225,8 +239,9 @@ module _ (from to : Session) (l l2 : Option (List ℕ)) (a b c : View) (fresh : 
           shown = appends_on _ ran.shown;
           crashes = subst (λ (ps : List Piece). CrashLeavesPieces a c w ps) (sym (append-nil (all_pieces on.read))) (crashes w serves);
           emits = makes_alone _ a.emits c.emits (emits_in_all w serves);
-          unspent = ran.unspent;
+          supplied = ran.supplied;
         }));
+    lacks = λ class is. cc;
   }
     where
       nothing_behind : all_pieces on.read ≡ all_pieces on.read ++ [] ++ []
@@ -248,9 +263,9 @@ module _ (from to : Session) (l l2 : Option (List ℕ)) (a b c : View) (fresh : 
 
 -- ---- the last piece wasn't answered
 
-pub ends_last : (stop : Stop) (from mid : Session) (l l1 l2 : Option (List ℕ)) (a b c : View) (n : ℕ) (none : List ℕ) → IsAtScriptStart from
-    → ReadsCrashSafe from mid l l1 a b n → n ≤ 2 ^ 40 → Consumes l1 l2 none → length none ≡ 0 → IsAtEnd l2
-    → FailsCrashSafe stop mid b c (resume mid.splitter []).last → RunsCrashSafe (status_of_stop stop) from.store l l2 a c
+pub ends_last : {kinds : List Class} (stop : Stop) (from mid : Session) (l l1 l2 : Option (List ℕ)) (a b c : View) (n : ℕ) (none : List ℕ) → IsAtScriptStart from
+    → ReadsCrashSafe kinds from mid l l1 a b n → n ≤ 2 ^ 40 → Consumes l1 l2 none → length none ≡ 0 → IsAtEnd l2
+    → FailsCrashSafe kinds stop mid b c (resume mid.splitter []).last → RunsCrashSafe kinds (status_of_stop stop) from.store l l2 a c
 ends_last stop from mid l l1 l2 a b c n none fresh on few ate empty end fails =
     let t = on.feeds.feeds in
     let last = (resume mid.splitter []).last in
@@ -278,15 +293,16 @@ ends_last stop from mid l l1 l2 a b c n none fresh on few ate empty end fails =
       from = λ w serves.
           (let ran = on.feeds.ran w serves in
           stops_world w serves.in_order on.read t.done last l l2 a c consumed bounded first stop
-          (subst (λ (ps : List Piece). StoppedPieces stop w ps last a c) (append-nil t.done)
+          (subst (λ (ps : List Piece). StoppedPieces _ stop w ps last a c) (append-nil t.done)
           (stopped_behind stop w t.done [] last from mid a b c ran (fails.stopped (after_pieces steps w t.done) ran.serves))));
+      lacks = stop_lacks _ stop fails.lacks;
     }
 
 -- ---- the script was too long
 
-pub ends_long : (from mid to : Session) (l l1 l2 : Option (List ℕ)) (a b c : View) (n : ℕ) (chunk part rest : List ℕ) → IsAtScriptStart from
-    → ReadsCrashSafe from mid l l1 a b n → n ≤ 2 ^ 40 → Consumes l1 l2 chunk → length chunk ≤ READ_MOST → chunk ≡ part ++ rest
-    → n + length part ≡ SCRIPT_MOST → 0 < length rest → FeedsCrashSafe mid to b c part → RunsCrashSafe ScriptTooLong from.store l l2 a c
+pub ends_long : {kinds : List Class} (from mid to : Session) (l l1 l2 : Option (List ℕ)) (a b c : View) (n : ℕ) (chunk part rest : List ℕ) → IsAtScriptStart from
+    → ReadsCrashSafe kinds from mid l l1 a b n → n ≤ 2 ^ 40 → Consumes l1 l2 chunk → length chunk ≤ READ_MOST → chunk ≡ part ++ rest
+    → n + length part ≡ SCRIPT_MOST → 0 < length rest → FeedsCrashSafe kinds mid to b c part → RunsCrashSafe kinds ScriptTooLong from.store l l2 a c
 ends_long from mid to l l1 l2 a b c n chunk part rest fresh on few ate small parts full over more =
     let t = feeds_both from mid to a b c on.read part on.feeds more in
     let read = on.read ++ chunk in
@@ -332,16 +348,17 @@ ends_long from mid to l l1 l2 a b c n chunk part rest fresh on few ate small par
               by_status = sym whole;
               emits = makes_alone _ a.emits c.emits (subst (λ (k : ℕ). MakesEmits k a.emits c.emits) (emits_are t.feeds.done w serves.in_order) ran.emits);
             };
-            spends = tt;
+            needs = tt;
             undamaged = λ damage is. cc;
           });
+      lacks = λ class is. cc;
     }
 
 -- ---- it stopped within what a read gave
 
-pub ends_within : (stop : Stop) (from mid : Session) (l l1 l2 : Option (List ℕ)) (a b c : View) (n : ℕ) (chunk part rest : List ℕ)
-    → IsAtScriptStart from → ReadsCrashSafe from mid l l1 a b n → n ≤ 2 ^ 40 → Consumes l1 l2 chunk → length chunk ≤ READ_MOST → chunk ≡ part ++ rest
-    → StopsCrashSafe stop mid b c part → RunsCrashSafe (status_of_stop stop) from.store l l2 a c
+pub ends_within : {kinds : List Class} (stop : Stop) (from mid : Session) (l l1 l2 : Option (List ℕ)) (a b c : View) (n : ℕ) (chunk part rest : List ℕ)
+    → IsAtScriptStart from → ReadsCrashSafe kinds from mid l l1 a b n → n ≤ 2 ^ 40 → Consumes l1 l2 chunk → length chunk ≤ READ_MOST → chunk ≡ part ++ rest
+    → StopsCrashSafe kinds stop mid b c part → RunsCrashSafe kinds (status_of_stop stop) from.store l l2 a c
 ends_within stop from mid l l1 l2 a b c n chunk part rest fresh on few ate small parts u =
     let t = on.feeds.feeds in
     let read = on.read ++ chunk in
@@ -371,6 +388,7 @@ ends_within stop from mid l l1 l2 a b c n chunk part rest fresh on few ate small
           (let ran = on.feeds.ran w serves in
           stops_world w serves.in_order read (t.done ++ u.stops.done) u.stops.next l l2 a c consumed bounded first stop
           (stopped_behind stop w t.done u.stops.done u.stops.next from mid a b c ran (u.stopped (after_pieces steps w t.done) ran.serves)));
+      lacks = stop_lacks _ stop u.lacks;
     }
   where
     -- the pieces of what was read, and of more behind it
@@ -384,12 +402,12 @@ ends_within stop from mid l l1 l2 a b c n chunk part rest fresh on few ate small
 -- ---- it goes on
 
 -- nothing was read yet
-pub starts_on : (session : Session) (l : Option (List ℕ)) (a : View) → IsReady a session.store → session.refused < 2 ^ 64
-    → ReadsCrashSafe session session l l a a 0
+pub starts_on : {kinds : List Class} (session : Session) (l : Option (List ℕ)) (a : View) → IsReady a session.store → session.refused < 2 ^ 64
+    → ReadsCrashSafe kinds session session l l a a 0
 starts_on session l a ready small = record { read = []; consumed = consumes_nothing l; length_is = refl; feeds = feeds_nothing session a ready small }
 
-pub safe_behind_chunk : (from mid to : Session) (l l1 l2 : Option (List ℕ)) (a b c : View) (n m : ℕ) (chunk : List ℕ) → ReadsCrashSafe from mid l l1 a b n
-    → Consumes l1 l2 chunk → FeedsCrashSafe mid to b c chunk → m ≡ length chunk → ReadsCrashSafe from to l l2 a c (n + m)
+pub safe_behind_chunk : {kinds : List Class} (from mid to : Session) (l l1 l2 : Option (List ℕ)) (a b c : View) (n m : ℕ) (chunk : List ℕ) → ReadsCrashSafe kinds from mid l l1 a b n
+    → Consumes l1 l2 chunk → FeedsCrashSafe kinds mid to b c chunk → m ≡ length chunk → ReadsCrashSafe kinds from to l l2 a c (n + m)
 safe_behind_chunk from mid to l l1 l2 a b c n m chunk on ate more is = record {
   read = on.read ++ chunk;
   consumed = consumes_both l l1 l2 on.read chunk on.consumed ate;
@@ -400,14 +418,14 @@ safe_behind_chunk from mid to l l1 l2 a b c n m chunk on ate more is = record {
 -- ---- one read
 
 -- a read ended the run
-pub ends_at_read : (status : Status) (from mid : Session) (l l1 l2 : Option (List ℕ)) (a b c : View) (n room : ℕ) → IsAtScriptStart from
-    → ReadsCrashSafe from mid l l1 a b n → n ≤ 2 ^ 40 → EndsAtRead status mid l1 l2 b c room → (status ≡ ScriptFault → c ≡ b)
-    → RunsCrashSafe status from.store l l2 a c
-ends_at_read status from mid l l1 l2 a b c n room fresh on few (inl (is, kept)) unread =
-    subst (λ (v : View). RunsCrashSafe status from.store l l2 a v) (sym (unread is))
-    (subst (λ (s : Status). RunsCrashSafe s from.store l l2 a b) (sym is) (ends_fault from mid l l1 l2 a b n fresh on few kept))
-ends_at_read status from mid l l1 l2 a b c n room fresh on few (inr at) unread =
-    subst (λ (s : Status). RunsCrashSafe s from.store l l2 a c) (sym at.stops.gives)
+pub ends_at_read : {kinds : List Class} (status : Status) (from mid : Session) (l l1 l2 : Option (List ℕ)) (a b c : View) (n room : ℕ) → IsAtScriptStart from
+    → ReadsCrashSafe kinds from mid l l1 a b n → n ≤ 2 ^ 40 → EndsAtRead kinds status mid l1 l2 b c room → (status ≡ ScriptFault → c ≡ b)
+    → RunsCrashSafe kinds status from.store l l2 a c
+ends_at_read {kinds} status from mid l l1 l2 a b c n room fresh on few (inl (is, kept)) unread =
+    subst (λ (v : View). RunsCrashSafe kinds status from.store l l2 a v) (sym (unread is))
+    (subst (λ (s : Status). RunsCrashSafe kinds s from.store l l2 a b) (sym is) (ends_fault from mid l l1 l2 a b n fresh on few kept))
+ends_at_read {kinds} status from mid l l1 l2 a b c n room fresh on few (inr at) unread =
+    subst (λ (s : Status). RunsCrashSafe kinds s from.store l l2 a c) (sym at.stops.gives)
     (ends_within at.stops.stop from mid l l1 l2 a b c n at.read (take room at.read) (drop room at.read) fresh on few at.consumed at.short
     (sym (take-append-drop room at.read)) at.stops.stops)
 
@@ -417,6 +435,7 @@ stop_of_store Output = tt
 stop_of_store Memory = tt
 stop_of_store (Corrupt damage) = tt
 stop_of_store (Spent kind) = tt
+stop_of_store (Missing class) = tt
 
 stop_is_of_host : (stop : Stop) → status_of_stop stop ≢ ScriptFault
 stop_is_of_host Disk is = cc
@@ -424,14 +443,15 @@ stop_is_of_host Output is = cc
 stop_is_of_host Memory is = cc
 stop_is_of_host (Corrupt damage) is = cc
 stop_is_of_host (Spent kind) is = cc
+stop_is_of_host (Missing class) is = cc
 
 -- what stopped the session didn't fail to read
-pub stops_after_read : {T : Type 0} (status : Status) (old : Session) (a b : View) (bytes : List ℕ) → StopsWith status old a b bytes
+pub stops_after_read : {kinds : List Class} {T : Type 0} (status : Status) (old : Session) (a b : View) (bytes : List ℕ) → StopsWith kinds status old a b bytes
     → ¬ (IsErrOf {T = T} (Err status) ScriptFault)
 stops_after_read status old a b bytes s is = stop_is_of_host s.stop (let same : status ≡ ScriptFault = cc in sym s.gives ∙ same)
 
 -- that status is of a store that was opened
-pub end_of_store : (status : Status) (mid : Session) (l1 l2 : Option (List ℕ)) (b c : View) (room : ℕ) → EndsAtRead status mid l1 l2 b c room → IsOfStore status
+pub end_of_store : {kinds : List Class} (status : Status) (mid : Session) (l1 l2 : Option (List ℕ)) (b c : View) (room : ℕ) → EndsAtRead kinds status mid l1 l2 b c room → IsOfStore status
 end_of_store status mid l1 l2 b c room (inl (is, kept)) = subst (λ (s : Status). IsOfStore s) (sym is) tt
 end_of_store status mid l1 l2 b c room (inr at) = subst (λ (s : Status). IsOfStore s) (sym at.stops.gives) (stop_of_store at.stops.stop)
 
@@ -443,9 +463,9 @@ count_of_store n = by (nat_eq n 0)
     by false = tt
 
 -- it gave more than there is room for
-pub ends_beyond : (from mid to : Session) (l l1 l2 : Option (List ℕ)) (a b c : View) (n room count : ℕ) → IsAtScriptStart from
-    → ReadsCrashSafe from mid l l1 a b n → n + room ≡ SCRIPT_MOST → FeedsRead mid to l1 l2 b c room count → room < count
-    → RunsCrashSafe ScriptTooLong from.store l l2 a c
+pub ends_beyond : {kinds : List Class} (from mid to : Session) (l l1 l2 : Option (List ℕ)) (a b c : View) (n room count : ℕ) → IsAtScriptStart from
+    → ReadsCrashSafe kinds from mid l l1 a b n → n + room ≡ SCRIPT_MOST → FeedsRead kinds mid to l1 l2 b c room count → room < count
+    → RunsCrashSafe kinds ScriptTooLong from.store l l2 a c
 ends_beyond from mid to l l1 l2 a b c n room count fresh on all read more =
     let size : length (take room read.read) ≡ room = length-take-le room read.read (omega (arith, read.length_is, more)) in
     ends_long from mid to l l1 l2 a b c n read.read (take room read.read) (drop room read.read) fresh on (omega (arith, all)) read.consumed
@@ -453,9 +473,33 @@ ends_beyond from mid to l l1 l2 a b c n room count fresh on all read more =
     (rw length-drop (omega (arith, read.length_is, more))) read.feeds
 
 -- the run goes on behind a read
-pub safe_behind_read : (from mid to : Session) (l l1 l2 : Option (List ℕ)) (a b c : View) (n room count : ℕ) → ReadsCrashSafe from mid l l1 a b n
-    → FeedsRead mid to l1 l2 b c room count → count ≤ room → ReadsCrashSafe from to l l2 a c (n + count)
+pub safe_behind_read : {kinds : List Class} (from mid to : Session) (l l1 l2 : Option (List ℕ)) (a b c : View) (n room count : ℕ) → ReadsCrashSafe kinds from mid l l1 a b n
+    → FeedsRead kinds mid to l1 l2 b c room count → count ≤ room → ReadsCrashSafe kinds from to l l2 a c (n + count)
 safe_behind_read from mid to l l1 l2 a b c n room count on read fits =
     safe_behind_chunk from mid to l l1 l2 a b c n count read.read on read.consumed
-    (subst (λ (bytes : List ℕ). FeedsCrashSafe mid to b c bytes) (take_all room read.read (omega (arith, read.length_is, fits))) read.feeds)
+    (subst (λ (bytes : List ℕ). FeedsCrashSafe _ mid to b c bytes) (take_all room read.read (omega (arith, read.length_is, fits))) read.feeds)
     (sym read.length_is)
+
+-- ---- the same analyzers
+
+-- a part of a run over analyzers of the classes that they were of at the start
+module _ {k kinds : List Class} (same : k ≡ kinds) where
+  pub feeds_same : {old new : Session} {a b : View} {bytes : List ℕ} → FeedsCrashSafe k old new a b bytes → FeedsCrashSafe kinds old new a b bytes
+  feeds_same {old} {new} {a} {b} {bytes} = subst (λ (x : List Class). FeedsCrashSafe x old new a b bytes) same
+
+  pub stops_same : {stop : Stop} {old : Session} {a b : View} {bytes : List ℕ} → StopsCrashSafe k stop old a b bytes → StopsCrashSafe kinds stop old a b bytes
+  stops_same {stop} {old} {a} {b} {bytes} = subst (λ (x : List Class). StopsCrashSafe x stop old a b bytes) same
+
+  pub reads_same : {old new : Session} {l l2 : Option (List ℕ)} {a b : View} {room count : ℕ} → FeedsRead k old new l l2 a b room count
+      → FeedsRead kinds old new l l2 a b room count
+  reads_same {old} {new} {l} {l2} {a} {b} {room} {count} = subst (λ (x : List Class). FeedsRead x old new l l2 a b room count) same
+
+  pub ended_same : {status : Status} {old : Session} {l l2 : Option (List ℕ)} {a b : View} {room : ℕ} → EndsAtRead k status old l l2 a b room
+      → EndsAtRead kinds status old l l2 a b room
+  ended_same {status} {old} {l} {l2} {a} {b} {room} = subst (λ (x : List Class). EndsAtRead x status old l l2 a b room) same
+
+  pub finishes_same : {old new : Session} {a b : View} → FinishesCrashSafe k old new a b → FinishesCrashSafe kinds old new a b
+  finishes_same {old} {new} {a} {b} = subst (λ (x : List Class). FinishesCrashSafe x old new a b) same
+
+  pub fails_same : {stop : Stop} {old : Session} {a b : View} {next : List Piece} → FailsCrashSafe k stop old a b next → FailsCrashSafe kinds stop old a b next
+  fails_same {stop} {old} {a} {b} {next} = subst (λ (x : List Class). FailsCrashSafe x stop old a b next) same

@@ -2,6 +2,7 @@
 use Rattle.std.proofs.Common.{◌≡◌, ◌⊎◌, ℕ, List, [], ◌++◌, Option, Some, refl, sym, ◌∙◌, subst, inl, inr, ⊎_elim, arith}
 use Rattle.std.proofs.lemmas.List.{append-nil}
 use Rattle.std.specs.Io.KnownBytes.{Appends}
+use Rattle.sasi_types.specs.declared.class.Class.{Class}
 use Rattle.sasi_types.specs.declared.partitioner.Partitioner.{Partitioner}
 use Rattle.sasi_types.specs.declared.partitioner.Partitioner.TheVariants.{Lead8}
 use Rattle.sasi_host.specs.Names.{Folder}
@@ -199,12 +200,14 @@ pub first_shows : (r : Replies) (fault : OpenFault) (s : State) (script : List �
 first_shows r open_fault.Failed s script none = nothing_read r s script none
 first_shows r open_fault.OutOfMemory s script none = nothing_read r s script none
 first_shows r (open_fault.Damaged damage) s script none = nothing_read r s script none
+first_shows r (open_fault.AnalyzerMissing class) s script none = nothing_read r s script none
 first_shows r (open_fault.PartitionerDiffers asked kept) s script none = (refl, refl)
 
 pub first_anywhere : (fault : OpenFault) (left : Option (List ℕ)) → ReadsToEnd (status_of_fault fault) left
 first_anywhere open_fault.Failed left = tt
 first_anywhere open_fault.OutOfMemory left = tt
 first_anywhere (open_fault.Damaged damage) left = tt
+first_anywhere (open_fault.AnalyzerMissing class) left = tt
 first_anywhere (open_fault.PartitionerDiffers asked kept) left = tt
 
 -- the folder wasn't opened
@@ -223,6 +226,7 @@ not_ended : (fault : OpenFault) → RanToEnd (status_of_fault fault) → ⊥
 not_ended open_fault.Failed is = is
 not_ended open_fault.OutOfMemory is = is
 not_ended (open_fault.Damaged damage) is = is
+not_ended (open_fault.AnalyzerMissing class) is = is
 not_ended (open_fault.PartitionerDiffers asked kept) is = is
 
 runs_unopened : (asked : Option Partitioner) (fault : OpenFault) (a b : View) (m : Layout) (l : Option (List ℕ)) → IsSound a → StartsFromLayout asked a m
@@ -247,9 +251,9 @@ moved r status s l l2 o p q same runs = record {
 }
 
 -- it was opened, and the script run
-runs_opened : (asked : Option Partitioner) (status : Status) (a b c : View) (m : Layout) (store : StoreView) (l l2 : Option (List ℕ)) → IsSound a
+runs_opened : {kinds : List Class} (asked : Option Partitioner) (status : Status) (a b c : View) (m : Layout) (store : StoreView) (l l2 : Option (List ℕ)) → IsSound a
     → StartsFromLayout asked a m → Changes (UnchangedOrShaped asked m) a b → ServesWorld b store.memory (new_world m) → IsSound c
-    → RunsWorld status (new_world m) l l2 b c → RunsWhole asked status m l l2 a c
+    → RunsWorld kinds status (new_world m) l l2 b c → RunsWhole asked status m l l2 a c
 unfolding moved
 runs_opened asked status a b c m store l l2 sound starts change serves sound_c on = record {
   runs = moved (exact grammar_parser) status (state_of m) l l2 b.emitted a.emitted c.emitted change.emitted on.runs;
@@ -285,11 +289,11 @@ whole_unopened asked fault script a b sound silent change = record {
 }
 
 -- the script was run
-pub whole_opened : (asked : Option Partitioner) (status : Status) (script later : SourceView) (a b c : View) (store : StoreView) (s : State) → IsOfState store s → IsSound a → IsSound c
+pub whole_opened : {kinds : List Class} (asked : Option Partitioner) (status : Status) (script later : SourceView) (a b c : View) (store : StoreView) (s : State) → IsOfState store s → IsSound a → IsSound c
     → b.emitted ≡ a.emitted
     → ((folder : Folder) (l : Layout) → a.files ≡ Some folder → ShapeOf asked folder l → Changes (UnchangedOrShaped asked l) a b)
     → ((folder : Folder) (l : Layout) → a.files ≡ Some folder → ShapeOf asked folder l → ServesWorld b store.memory (new_world l))
-    → RunsCrashSafe status store script.left later.left b c → Whole asked status script later a c
+    → RunsCrashSafe kinds status store script.left later.left b c → Whole asked status script later a c
 whole_opened asked status script later a b c store s of sound sound_c silent change opened on = record {
   on_every_host = (s, moved (but_rows grammar_parser) status s script.left later.left b.emitted a.emitted c.emitted silent (on.anywhere s of));
   as_it_reads = λ folder l files shape.

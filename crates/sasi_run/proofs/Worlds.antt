@@ -1,5 +1,6 @@
 -- Pieces run from a world, one after another, and that they show what the model shows at its state.
 use Rattle.std.proofs.Common.{◌≡◌, ℕ, ◌+◌, List, [], ◌∷◌, ◌++◌, refl, sym, ap, ◌∙◌, arith, append_assoc}
+use Rattle.sasi_types.specs.declared.class.Class.{Class}
 use Rattle.sasi_model.specs.Pieces.{Piece}
 use Rattle.sasi_model.specs.State.{State}
 use Rattle.sasi_model.specs.Step.{refusals, replies, state_after}
@@ -10,7 +11,7 @@ use Rattle.sasi_layout.specs.Worlds.{World, steps}
 use Rattle.sasi_layout.proofs.StatementLaws.{step_in_order, step_state}
 use Rattle.sasi_run.specs.EmitCounts.{emits_for, emits_in, emits_of}
 use Rattle.sasi_run.specs.Session.{refusals_of, refused_by}
-use Rattle.sasi_run.specs.Spending.{SpendsNone}
+use Rattle.sasi_run.specs.Needs.{AreSupplied}
 
 -- ---- one after another
 
@@ -33,9 +34,9 @@ pub emits_both : (xs ys : List Piece) (w : World) → emits_in w (xs ++ ys) ≡ 
 emits_both [] ys w = omega arith
 emits_both (x ∷ xs) ys w = let e = emits_both xs ys (steps.after w x) in omega (arith, e)
 
-pub spends_both : (xs ys : List Piece) (w : World) → SpendsNone w xs → SpendsNone (after_pieces steps w xs) ys → SpendsNone w (xs ++ ys)
-spends_both [] ys w none later = later
-spends_both (x ∷ xs) ys w none later = (none.0, spends_both xs ys (steps.after w x) none.1 later)
+pub supplied_both : (kinds : List Class) (xs ys : List Piece) (w : World) → AreSupplied kinds w xs → AreSupplied kinds (after_pieces steps w xs) ys → AreSupplied kinds w (xs ++ ys)
+supplied_both kinds [] ys w none later = later
+supplied_both kinds (x ∷ xs) ys w none later = (none.0, supplied_both kinds xs ys (steps.after w x) none.1 later)
 
 -- ---- by the model
 

@@ -8,7 +8,7 @@ use Rattle.sasi_model.specs.Step.{step_by}
 use Rattle.sasi_layout.specs.Worlds.{World, steps}
 use Rattle.sasi_run.specs.Headline.{EmitsBeforePiece, EmitsCutReply, EmitsFirstReplies, Runs, SCRIPT_MOST, exact, script_of}
 use Rattle.sasi_run.specs.declared.status.Status.{Status}
-use Rattle.sasi_run.specs.declared.status.Status.TheVariants.{Done, Refused, Usage, ScriptFault, FolderFault, OutputFault, OutOfMemory, Damaged, PartitionerDiffers, NumbersSpent, ScriptTooLong}
+use Rattle.sasi_run.specs.declared.status.Status.TheVariants.{Done, Refused, Usage, ScriptFault, FolderFault, OutputFault, OutOfMemory, Damaged, AnalyzerMissing, PartitionerDiffers, NumbersSpent, ScriptTooLong}
 
 -- the emits of one reply
 abbrev pub emits_of : List ℕ → ℕ
@@ -48,6 +48,7 @@ AnsweredByStatus parser ScriptTooLong s script read shown answered = answered �
 AnsweredByStatus parser OutOfMemory s script read shown answered = (emits : EmitsFirstReplies (exact parser) s script read shown) × (answered ≡ emits.done)
 AnsweredByStatus parser FolderFault s script read shown answered = (emits : EmitsFirstReplies (exact parser) s script read shown) × (answered ≡ emits.done)
 AnsweredByStatus parser (Damaged damage) s script read shown answered = answered ≡ []
+AnsweredByStatus parser (AnalyzerMissing class) s script read shown answered = (emits : EmitsFirstReplies (exact parser) s script read shown) × (answered ≡ emits.done)
 AnsweredByStatus parser (PartitionerDiffers asked kept) s script read shown answered = answered ≡ []
 AnsweredByStatus parser (NumbersSpent kind) s script read shown answered = (emits : EmitsBeforePiece (exact parser) s script read shown) × (answered ≡ emits.done)
 AnsweredByStatus parser OutputFault s script read shown answered = (emits : EmitsCutReply parser (exact parser) s script read shown) × (answered ≡ emits.done)

@@ -15,9 +15,9 @@ use Rattle.sasi_recover.specs.declared.fault.OpenFault.TheVariants as open_fault
 use Rattle.sasi_store.specs.Answers.{PrintsRows}
 use Rattle.sasi_run.specs.Recovering.{Recovers, StandsRelation}
 use Rattle.sasi_run.specs.declared.session.Stop.{Stop}
-use Rattle.sasi_run.specs.declared.session.Stop.TheVariants.{Disk, Output, Memory, Corrupt, Spent}
+use Rattle.sasi_run.specs.declared.session.Stop.TheVariants.{Disk, Output, Memory, Corrupt, Spent, Missing}
 use Rattle.sasi_run.specs.declared.status.Status.{Status}
-use Rattle.sasi_run.specs.declared.status.Status.TheVariants.{Done, Refused, Usage, ScriptFault, FolderFault, OutputFault, OutOfMemory, Damaged, PartitionerDiffers, NumbersSpent, ScriptTooLong}
+use Rattle.sasi_run.specs.declared.status.Status.TheVariants.{Done, Refused, Usage, ScriptFault, FolderFault, OutputFault, OutOfMemory, Damaged, AnalyzerMissing, PartitionerDiffers, NumbersSpent, ScriptTooLong}
 
 -- the most bytes of a script that are run
 abbrev pub SCRIPT_MOST : ℕ
@@ -189,12 +189,14 @@ status_of_stop Output = OutputFault
 status_of_stop Disk = FolderFault
 status_of_stop (Corrupt damage) = Damaged damage
 status_of_stop (Spent kind) = NumbersSpent kind
+status_of_stop (Missing class) = AnalyzerMissing class
 
 abbrev pub status_of_fault : OpenFault → Status
 status_of_fault open_fault.Failed = FolderFault
 status_of_fault open_fault.OutOfMemory = OutOfMemory
 status_of_fault (open_fault.Damaged damage) = Damaged damage
 status_of_fault (open_fault.PartitionerDiffers asked kept) = PartitionerDiffers asked kept
+status_of_fault (open_fault.AnalyzerMissing class) = AnalyzerMissing class
 
 abbrev pub status_of_count : ℕ → Status
 status_of_count n = if n == 0 then Done else Refused n

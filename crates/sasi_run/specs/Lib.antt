@@ -6,7 +6,7 @@ pub mod Session
 pub mod CommandLine
 pub mod Crashing
 pub mod Recovering
-pub mod Spending
+pub mod Needs
 pub mod FileCalls
 pub mod EmitCounts
 pub mod Shapes

@@ -7,21 +7,26 @@ use Rattle.sasi_host.specs.declared.damage.Damage.{Damage}
 use Rattle.sasi_host.specs.Names.{Folder}
 use Rattle.sasi_host.specs.View.{View, FailedAtLast, counted}
 use Rattle.std.specs.Io.KnownBytes.{Appends}
+use Rattle.sasi_types.specs.declared.class.Class.{Class}
+use Rattle.sasi_model.specs.Asked.{asks}
 use Rattle.sasi_model.specs.Pieces.{Piece, pieces}
 use Rattle.sasi_model.specs.Step.{step}
 use Rattle.sasi_machine.specs.declared.outcome.Outcome.{Outcome}
 use Rattle.sasi_machine.specs.declared.outcome.Outcome.TheVariants as outcomes
 use Rattle.sasi_cql.specs.SplitterState.{SplitterState, resume, behind}
 use Rattle.sasi_folder.specs.Damages.{FolderShows}
+use Rattle.sasi_layout.specs.Classes.{HasNeeded, LacksNeeded}
 use Rattle.sasi_layout.specs.Layout.{state_of}
 use Rattle.sasi_layout.specs.Running.{after_pieces, replies_of}
 use Rattle.sasi_layout.specs.Spent.{spent}
+use Rattle.sasi_layout.specs.Statements.{known_in}
 use Rattle.sasi_layout.specs.Worlds.{World, steps}
+use Rattle.sasi_run.specs.Needs.{class_asked}
 use Rattle.sasi_store.specs.declared.fault.StepFault.{StepFault}
 use Rattle.sasi_store.specs.declared.fault.StepFault.TheVariants as step_fault
 use Rattle.sasi_run.specs.declared.session.Session.{Session}
 use Rattle.sasi_run.specs.declared.session.Stop.{Stop}
-use Rattle.sasi_run.specs.declared.session.Stop.TheVariants.{Output, Memory, Disk, Corrupt, Spent}
+use Rattle.sasi_run.specs.declared.session.Stop.TheVariants.{Output, Memory, Disk, Corrupt, Spent, Missing}
 
 -- why a statement wasn't done
 abbrev pub stop_of : StepFault → Stop
@@ -29,6 +34,7 @@ stop_of step_fault.Failed = Disk
 stop_of step_fault.OutOfMemory = Memory
 stop_of (step_fault.Damaged damage) = Corrupt damage
 stop_of (step_fault.NumbersSpent kind) = Spent kind
+stop_of (step_fault.AnalyzerMissing class) = Missing class
 
 abbrev pub counted_outcome : ℕ → Outcome → ℕ
 counted_outcome count outcomes.Done = count
@@ -58,13 +64,15 @@ pub record Feeds (old new : Session) (bytes : List ℕ) : Type 0 where
   pub reading : (left : List ℕ) → resume old.splitter (bytes ++ left) ≡ behind done (resume new.splitter left)
 
 -- what was emitted where a run stopped behind some pieces: nothing of the next reply, or a first part of it
-abbrev pub EmittedAtStop : Stop → World → Option (List ℕ) → Option (List ℕ) → List Piece → List Piece → Type 0
-EmittedAtStop Memory w out_old out_new done next = Appends out_old out_new (replies_of steps w done)
-EmittedAtStop Disk w out_old out_new done next = Appends out_old out_new (replies_of steps w done)
-EmittedAtStop (Corrupt damage) w out_old out_new done next = ⊥
-EmittedAtStop (Spent kind) w out_old out_new done next = (piece : Piece) × (next ≡ piece ∷ []) × Appends out_old out_new (replies_of steps w done)
-    × (spent (after_pieces steps w done).layout (steps.moves (after_pieces steps w done) piece) ≡ Some kind)
-EmittedAtStop Output w out_old out_new done next = (piece : Piece) × (front back : List ℕ) × (next ≡ piece ∷ []) × (steps.reply (after_pieces steps w done) piece ≡ front ++ back)
+abbrev pub EmittedAtStop : List Class → Stop → World → Option (List ℕ) → Option (List ℕ) → List Piece → List Piece → Type 0
+EmittedAtStop kinds Memory w out_old out_new done next = Appends out_old out_new (replies_of steps w done)
+EmittedAtStop kinds Disk w out_old out_new done next = Appends out_old out_new (replies_of steps w done)
+EmittedAtStop kinds (Corrupt damage) w out_old out_new done next = ⊥
+EmittedAtStop kinds (Spent kind) w out_old out_new done next = (piece : Piece) × (next ≡ piece ∷ []) × Appends out_old out_new (replies_of steps w done)
+    × HasNeeded kinds (class_asked (after_pieces steps w done) piece) × (spent (after_pieces steps w done).layout (steps.moves (after_pieces steps w done) piece) ≡ Some kind)
+EmittedAtStop kinds (Missing class) w out_old out_new done next = (piece : Piece) × (next ≡ piece ∷ []) × Appends out_old out_new (replies_of steps w done)
+    × LacksNeeded kinds (asks (known_in (after_pieces steps w done).layout) piece) class
+EmittedAtStop kinds Output w out_old out_new done next = (piece : Piece) × (front back : List ℕ) × (next ≡ piece ∷ []) × (steps.reply (after_pieces steps w done) piece ≡ front ++ back)
     × Appends out_old out_new (replies_of steps w done ++ front)
 
 -- the session was fed a first part of these bytes, and stopped
@@ -109,6 +117,7 @@ StopFaults Memory old new = NoneFailed old new
 StopFaults Disk old new = DiskFailed old new
 StopFaults (Corrupt damage) old new = NoneFailed old new × ShowsNow new damage
 StopFaults (Spent kind) old new = NoneFailed old new
+StopFaults (Missing class) old new = NoneFailed old new
 StopFaults Output old new = OutputFailed old new
 
 -- the same of a part of a run, where nothing failed if it went on

@@ -26,7 +26,7 @@ pub fn run_in_memory(
 ) -> Status
     ensures headline { Headline Stands (asked_by (map (λ w. string_bytes w) words.now)) result (source_view script.old) (source_view script.new) (host_view (memory_host host.old)) (host_view (memory_host host.new)) }
     ensures shapes { Shapes (asked_by (map (λ w. string_bytes w) words.now)) result (source_view script.old) (source_view script.new) (host_view (memory_host host.old)) (host_view (memory_host host.new)) }
-    ensures causes { RunCauses (map (λ w. string_bytes w) words.now) result (source_view script.old) (source_view script.new) (host_view (memory_host host.old)) (host_view (memory_host host.new)) }
+    ensures causes { RunCauses (map (λ w. string_bytes w) words.now) (map (λ b. kind b) analyzers.items) result (source_view script.old) (source_view script.new) (host_view (memory_host host.old)) (host_view (memory_host host.new)) }
     ensures untouched { result ≡ Status.Usage → (script.new ≡ script.old) × (host.new ≡ host.old) }
     ensures through { IsCommandLine (map (λ w. string_bytes w) words.now) → FailsNowhere script.old (memory_host host.old) → ¬ (Rose (memory_host host.old).refused (memory_host host.new).refused) → length script.old.left ≤ SCRIPT_MOST → RanThrough result }
 {

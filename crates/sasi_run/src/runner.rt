@@ -24,16 +24,15 @@ pub fn run<S: Source, H: Host>(
 ) -> Status
     ensures headline { Headline Stands (asked_by (map (λ w. string_bytes w) words.now)) result (S.view script.old) (S.view script.new) (H.view host.old) (H.view host.new) }
     ensures shapes { Shapes (asked_by (map (λ w. string_bytes w) words.now)) result (S.view script.old) (S.view script.new) (H.view host.old) (H.view host.new) }
-    ensures causes { RunCauses (map (λ w. string_bytes w) words.now) result (S.view script.old) (S.view script.new) (H.view host.old) (H.view host.new) }
+    ensures causes { RunCauses (map (λ w. string_bytes w) words.now) (map (λ b. kind b) analyzers.items) result (S.view script.old) (S.view script.new) (H.view host.old) (H.view host.new) }
     ensures untouched { result ≡ Status.Usage → (script.new ≡ script.old) × (host.new ≡ host.old) }
 {
-    // No index can be made yet, so none is asked.
-    let _ = Kit::new(analyzers);
+    let mut kit = Kit::new(analyzers);
     match command(words) {
         None => Status::Usage,
-        Some(command) => match Store::open(alloc, host, command.partitioner) {
+        Some(command) => match Store::open(alloc, host, &mut kit, command.partitioner) {
             Err(fault) => fault_status(fault),
-            Ok(store) => run_store(alloc, store, script, host),
+            Ok(store) => run_store(alloc, store, script, host, &mut kit),
         },
     }
 }
@@ -47,5 +46,6 @@ fn fault_status(fault: OpenFault) -> Status
         OpenFault::OutOfMemory => Status::OutOfMemory,
         OpenFault::Damaged(damage) => Status::Damaged(damage),
         OpenFault::PartitionerDiffers { asked, kept } => Status::PartitionerDiffers { asked, kept },
+        OpenFault::AnalyzerMissing(class) => Status::AnalyzerMissing(class),
     }
 }

@@ -1,6 +1,7 @@
 // A session: a run between two reads of its script.
-ghost use Rattle.std.specs.Prelude.{◌≡◌, OnErr, OnOk, IfErr, ◌∷◌, []};
+ghost use Rattle.std.specs.Prelude.{◌≡◌, OnErr, OnOk, IfErr, map, ◌∷◌, []};
 ghost use Rattle.sasi_host.specs.View.{AllOut, Emits, FailsOnlyAsTold, OutCauses, counted};
+ghost use Rattle.sasi_layout.specs.Classes.{KnowsClasses};
 ghost use Rattle.sasi_layout.specs.Layout.{state_of};
 ghost use Rattle.sasi_layout.specs.Worlds.{ServesWorld, World};
 ghost use Rattle.sasi_model.specs.Pieces.{piece_of};
@@ -12,11 +13,12 @@ ghost use Rattle.sasi_run.specs.Crashing.{AnswersCrashSafe, FailsCrashSafe, Fini
 ghost use Rattle.sasi_run.specs.FileCalls.{emits_after};
 ghost use Rattle.sasi_run.specs.Session.{counted_outcome, EmitAppends, Faults};
 
+use sasi_analyzers::Kit;
 use sasi_cql::Splitter;
 use sasi_host::{Damage, Failed, Host};
 use sasi_machine::{Outcome, Reply};
 use sasi_store::{NumberKind, StepFault, Store};
-use sasi_types::PieceEnd;
+use sasi_types::{Class, PieceEnd};
 use std::alloc::{AllocError, Global};
 
 /// A run between two reads of its script: its store, the splitter of the script, and the last reply.
@@ -37,6 +39,7 @@ pub enum Stop {
     Memory,
     Corrupt(Damage),
     Spent(NumberKind),
+    Missing(Class),
 }
 
 impl From<AllocError> for Stop {
@@ -66,6 +69,7 @@ impl From<StepFault> for Stop {
             StepFault::OutOfMemory => Stop::Memory,
             StepFault::Damaged(damage) => Stop::Corrupt(damage),
             StepFault::NumbersSpent(kind) => Stop::Spent(kind),
+            StepFault::AnalyzerMissing(class) => Stop::Missing(class),
         }
     }
 }
@@ -96,62 +100,87 @@ fn emit_reply<H: Host>(host: &mut H, reply: &[u8]) -> Result<(), Failed>
 }
 
 /// Runs the piece that has ended, and emits its reply.
-pub fn answer<H: Host>(session: &mut Session, host: &mut H, end: PieceEnd) -> Result<(), Stop>
+pub fn answer<H: Host>(
+    session: &mut Session,
+    host: &mut H,
+    kit: &mut Kit,
+    end: PieceEnd,
+) -> Result<(), Stop>
     requires ready { IsReady (H.view host.old) session.old.store }
-    ensures ok { OnOk result (AnswersCrashSafe session.old session.new (H.view host.old) (H.view host.new) (piece_of end session.old.splitter.text)) }
-    ensures err { IfErr result (λ stop. FailsCrashSafe stop session.old (H.view host.old) (H.view host.new) (piece_of end session.old.splitter.text ∷ [])) }
+    requires classes { KnowsClasses (map (λ b. kind (b.vtable, b.value)) kit.old.objects.items) session.old.store.memory }
+    ensures ok { OnOk result (AnswersCrashSafe (map (λ b. kind (b.vtable, b.value)) kit.old.objects.items) session.old session.new (H.view host.old) (H.view host.new) (piece_of end session.old.splitter.text)) }
+    ensures err { IfErr result (λ stop. FailsCrashSafe (map (λ b. kind (b.vtable, b.value)) kit.old.objects.items) stop session.old (H.view host.old) (H.view host.new) (piece_of end session.old.splitter.text ∷ [])) }
     ensures no_file_call { (w : World) → ServesWorld (H.view host.old) session.old.store.memory w → NeedsNoFile (state_of w.layout) (piece_of end session.old.splitter.text) → (H.view host.new).calls ≡ (H.view host.old).calls }
     ensures causes { Faults (H.view host.old) (H.view host.new) result }
     ensures told { FailsOnlyAsTold (H.view host.old) (H.view host.new) }
+    ensures classes { OnOk result (KnowsClasses (map (λ b. kind (b.vtable, b.value)) kit.new.objects.items) session.new.store.memory) }
+    ensures kinds { map (λ b. kind (b.vtable, b.value)) kit.new.objects.items ≡ map (λ b. kind (b.vtable, b.value)) kit.old.objects.items }
 {
-    let outcome = session
-        .store
-        .step(host, session.splitter.piece(), end, &mut session.reply)?;
+    let outcome = session.store.step(host, kit, session.splitter.piece(), end, &mut session.reply)?;
     session.refused = count_refused(session.refused, outcome);
     emit_reply(host, session.reply.bytes())?;
     Ok(())
 }
 
 // Pushes the next byte of the script, and runs the piece that it ends, if it ends one.
-fn feed_byte<H: Host>(session: &mut Session, host: &mut H, byte: u8) -> Result<(), Stop>
+fn feed_byte<H: Host>(
+    session: &mut Session,
+    host: &mut H,
+    kit: &mut Kit,
+    byte: u8,
+) -> Result<(), Stop>
     requires ready { IsReady (H.view host.old) session.old.store }
-    ensures ok { OnOk result (FeedsCrashSafe session.old session.new (H.view host.old) (H.view host.new) (byte ∷ [])) }
-    ensures err { IfErr result (λ stop. StopsCrashSafe stop session.old (H.view host.old) (H.view host.new) (byte ∷ [])) }
+    requires classes { KnowsClasses (map (λ b. kind (b.vtable, b.value)) kit.old.objects.items) session.old.store.memory }
+    ensures ok { OnOk result (FeedsCrashSafe (map (λ b. kind (b.vtable, b.value)) kit.old.objects.items) session.old session.new (H.view host.old) (H.view host.new) (byte ∷ [])) }
+    ensures err { IfErr result (λ stop. StopsCrashSafe (map (λ b. kind (b.vtable, b.value)) kit.old.objects.items) stop session.old (H.view host.old) (H.view host.new) (byte ∷ [])) }
     ensures causes { Faults (H.view host.old) (H.view host.new) result }
     ensures told { FailsOnlyAsTold (H.view host.old) (H.view host.new) }
+    ensures classes { OnOk result (KnowsClasses (map (λ b. kind (b.vtable, b.value)) kit.new.objects.items) session.new.store.memory) }
+    ensures kinds { map (λ b. kind (b.vtable, b.value)) kit.new.objects.items ≡ map (λ b. kind (b.vtable, b.value)) kit.old.objects.items }
 {
     let _refused = session.refused;
     match session.splitter.push(byte)? {
-        Some(end) => answer(session, host, end),
+        Some(end) => answer(session, host, kit, end),
         None => Ok(()),
     }
 }
 
 /// Feeds the next bytes of the script, and runs each piece that ends in them.
-pub fn feed<H: Host>(session: &mut Session, host: &mut H, bytes: &[u8]) -> Result<(), Stop>
+pub fn feed<H: Host>(
+    session: &mut Session,
+    host: &mut H,
+    kit: &mut Kit,
+    bytes: &[u8],
+) -> Result<(), Stop>
     requires ready { IsReady (H.view host.old) session.old.store }
-    ensures ok { OnOk result (FeedsCrashSafe session.old session.new (H.view host.old) (H.view host.new) bytes.now) }
-    ensures err { IfErr result (λ stop. StopsCrashSafe stop session.old (H.view host.old) (H.view host.new) bytes.now) }
+    requires classes { KnowsClasses (map (λ b. kind (b.vtable, b.value)) kit.old.objects.items) session.old.store.memory }
+    ensures ok { OnOk result (FeedsCrashSafe (map (λ b. kind (b.vtable, b.value)) kit.old.objects.items) session.old session.new (H.view host.old) (H.view host.new) bytes.now) }
+    ensures err { IfErr result (λ stop. StopsCrashSafe (map (λ b. kind (b.vtable, b.value)) kit.old.objects.items) stop session.old (H.view host.old) (H.view host.new) bytes.now) }
     ensures causes { Faults (H.view host.old) (H.view host.new) result }
     ensures told { FailsOnlyAsTold (H.view host.old) (H.view host.new) }
+    ensures classes { OnOk result (KnowsClasses (map (λ b. kind (b.vtable, b.value)) kit.new.objects.items) session.new.store.memory) }
+    ensures kinds { map (λ b. kind (b.vtable, b.value)) kit.new.objects.items ≡ map (λ b. kind (b.vtable, b.value)) kit.old.objects.items }
 {
     for byte in bytes {
-        feed_byte(session, host, *byte)?;
+        feed_byte(session, host, kit, *byte)?;
     }
     Ok(())
 }
 
 /// Runs the piece that the script's end cuts off, if there is one.
-pub fn finish<H: Host>(session: &mut Session, host: &mut H) -> Result<(), Stop>
+pub fn finish<H: Host>(session: &mut Session, host: &mut H, kit: &mut Kit) -> Result<(), Stop>
     requires ready { IsReady (H.view host.old) session.old.store }
-    ensures ok { OnOk result (FinishesCrashSafe session.old session.new (H.view host.old) (H.view host.new)) }
-    ensures err { IfErr result (λ stop. FailsCrashSafe stop session.old (H.view host.old) (H.view host.new) (resume session.old.splitter []).last) }
+    requires classes { KnowsClasses (map (λ b. kind (b.vtable, b.value)) kit.old.objects.items) session.old.store.memory }
+    ensures ok { OnOk result (FinishesCrashSafe (map (λ b. kind (b.vtable, b.value)) kit.old.objects.items) session.old session.new (H.view host.old) (H.view host.new)) }
+    ensures err { IfErr result (λ stop. FailsCrashSafe (map (λ b. kind (b.vtable, b.value)) kit.old.objects.items) stop session.old (H.view host.old) (H.view host.new) (resume session.old.splitter []).last) }
     ensures causes { Faults (H.view host.old) (H.view host.new) result }
     ensures told { FailsOnlyAsTold (H.view host.old) (H.view host.new) }
+    ensures classes { OnOk result (KnowsClasses (map (λ b. kind (b.vtable, b.value)) kit.new.objects.items) session.new.store.memory) }
+    ensures kinds { map (λ b. kind (b.vtable, b.value)) kit.new.objects.items ≡ map (λ b. kind (b.vtable, b.value)) kit.old.objects.items }
 {
     let _refused = session.refused;
     match session.splitter.end() {
-        Some(end) => answer(session, host, end),
+        Some(end) => answer(session, host, kit, end),
         None => Ok(()),
     }
 }

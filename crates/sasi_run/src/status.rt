@@ -4,7 +4,7 @@ ghost use Rattle.sasi_run.specs.StatusCodes.{code_of};
 
 use sasi_host::Damage;
 use sasi_layout::NumberKind;
-use sasi_types::Partitioner;
+use sasi_types::{Class, Partitioner};
 
 /// How a run ended.
 #[derive(Clone, Copy, Debug, PartialEq, Eq)]
@@ -29,6 +29,8 @@ pub enum Status {
         asked: Partitioner,
         kept: Partitioner,
     },
+    /// An index needs an analyzer of this class, and none was handed in.
+    AnalyzerMissing(Class),
     /// A statement needs another number of this kind, and the last one is used.
     NumbersSpent(NumberKind),
     /// The source gave more than 2^40 bytes.
@@ -49,6 +51,7 @@ impl Status {
             Status::OutputFault => 5,
             Status::OutOfMemory => 6,
             Status::Damaged(_) => 7,
+            Status::AnalyzerMissing(_) => 8,
             Status::PartitionerDiffers { .. } => 9,
             Status::NumbersSpent(_) => 10,
             Status::ScriptTooLong => 11,

@@ -2,7 +2,7 @@
 use sasi_host::{Damage, FileName, FormatRule, Kind, found};
 use sasi_message::Message;
 use sasi_run::{NumberKind, Status};
-use sasi_types::Partitioner;
+use sasi_types::{Class, Partitioner};
 use std::alloc::Global;
 use std::process::Abort;
 
@@ -79,6 +79,23 @@ fn other_partitioner_is_told(rt: HostRuntime) {
     };
     let line = "partitioner differs: asked murmur3, kept lead8";
     check(&rt, rt.alloc(), status, line);
+}
+
+#[test]
+fn missing_analyzers_have_their_lines(rt: HostRuntime) {
+    let cases = [
+        (
+            Class::NonTokenizing,
+            "no analyzer for org.apache.cassandra.index.sasi.analyzer.NonTokenizingAnalyzer",
+        ),
+        (
+            Class::Standard,
+            "no analyzer for org.apache.cassandra.index.sasi.analyzer.StandardAnalyzer",
+        ),
+    ];
+    for (class, line) in cases {
+        check(&rt, rt.alloc(), Status::AnalyzerMissing(class), line);
+    }
 }
 
 #[test]

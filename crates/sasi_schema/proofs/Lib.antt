@@ -1,3 +1,9 @@
+pub mod IndexColumns
+pub mod Numbered
+pub mod IndexFacts
+pub mod Indexed
+pub mod NewIndexes
+pub mod OptionsGiven
 pub mod RuleLaws
 pub mod Allowed
 pub mod Keys

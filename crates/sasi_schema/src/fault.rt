@@ -2,7 +2,7 @@
 ghost use Rattle.std.specs.Prelude.{◌≡◌};
 ghost use Rattle.sasi_schema.specs.declared.fault.SchemaFault.TheVariants.{OutOfMemory};
 
-use sasi_types::Name;
+use sasi_types::{Name, Text};
 use std::alloc::{AllocError, AllocFailed};
 
 /// A limit on definitions.
@@ -18,10 +18,19 @@ pub enum Limit {
 #[derive(Debug, Drop)]
 pub enum SchemaFault {
     OutOfMemory,
+    NoTable(Name),
     TableExists(Name),
     NoColumn(Name),
     ColumnRepeated(Name),
     KeyMissing(Name),
+    /// The name of the index that is there.
+    IndexExists(Name),
+    /// The option, as it is written.
+    BadOption(Text),
+    /// The class behind USING.
+    BadUsing,
+    /// The column.
+    ModeType(Name),
     TooMany(Limit),
 }
 

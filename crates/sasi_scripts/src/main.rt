@@ -6,6 +6,7 @@
 //! - `put NAME DIGITS` puts a file of these bytes, in hexadecimal, into the folder.
 //! - `then SCRIPT` runs a script over the folder.
 //! - `ask NAME SCRIPT` does so where the partitioner of this name is asked.
+//! - `whole SCRIPT` does so where the run is handed the analyzer of whole texts alone, and `bare SCRIPT` where it is handed none.
 //! - `cut NAME FROM TO SCRIPT` runs a script over copies of the folder in which the file is cut to each of these lengths. It
 //!   prints the length, and then whether the run left the file as it was.
 //! - `change NAME OFFSET BYTE SCRIPT` does so with a copy in which the file has this byte at this offset.
@@ -27,7 +28,9 @@ mod runs;
 
 use crate::crashes::{Shown, run_crashes};
 use crate::files::{print_files, print_lengths, put_file, run_changed, run_cuts};
-use crate::runs::{run_asking, run_filled, run_many, run_outside, run_script, run_words};
+use crate::runs::{
+    Handed, run_asking, run_filled, run_handed, run_many, run_outside, run_script, run_words,
+};
 use sasi_host::MemHost;
 use std::alloc::Global;
 use std::io::{self, BufRead, BufReader};
@@ -38,6 +41,8 @@ fn take_line(rt: &impl Print, alloc: Global, host: &mut MemHost, line: &str) -> 
     match word {
         "then" => run_script(rt, alloc, rest, host),
         "ask" => run_asking(rt, alloc, rest, host),
+        "whole" => run_handed(rt, alloc, rest, host, Handed::WholeAlone),
+        "bare" => run_handed(rt, alloc, rest, host, Handed::Nothing),
         "put" => put_file(rt, alloc, rest, host),
         "cut" => run_cuts(rt, alloc, rest, host),
         "change" => run_changed(rt, alloc, rest, host),

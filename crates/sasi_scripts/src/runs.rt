@@ -1,4 +1,5 @@
 // Runs over a host, whose replies and statuses are printed.
+use sasi_analyzers::{Analyzer, Whole, Words};
 use sasi_host::{MemHost, MemSource};
 use sasi_run::{Status, run};
 use std::alloc::{AllocError, Global};
@@ -34,49 +35,87 @@ fn replies_behind(host: &MemHost, before: usize) -> &str {
     str::from_utf8(replies).unwrap_or("replies that are not UTF-8\n")
 }
 
+/// The analyzers that a run is handed.
+#[derive(Clone, Copy)]
+pub enum Handed {
+    Both,
+    WholeAlone,
+    Nothing,
+}
+
+impl Handed {
+    const fn has_whole(self) -> bool {
+        !matches!(self, Handed::Nothing)
+    }
+
+    const fn has_words(self) -> bool {
+        matches!(self, Handed::Both)
+    }
+}
+
+// A run as it is asked: the words of its command line, and its analyzers.
+#[derive(Clone, Copy)]
+struct Asked<'a> {
+    words: &'a [&'a str],
+    handed: Handed,
+}
+
+const fn asking<'a>(words: &'a [&'a str], handed: Handed) -> Asked<'a> {
+    Asked { words, handed }
+}
+
 // Runs a command line, and gives its status. It borrows the words, so nothing that `run` promises is carried over their drop.
 fn status_over(
     alloc: Global,
     words: &[String],
     source: &mut MemSource,
     host: &mut MemHost,
+    analyzers: Vec<Box<dyn Analyzer>>,
 ) -> Status {
-    run(alloc, words, source, host, Vec::new(alloc))
+    run(alloc, words, source, host, analyzers)
 }
 
-// Runs a command line of these words, and gives its status.
+// Runs as asked, and gives the status.
 fn status_of(
     alloc: Global,
-    words: &[&str],
+    asked: Asked<'_>,
     source: &mut MemSource,
     host: &mut MemHost,
 ) -> Result<Status, AllocError> {
-    Ok(status_over(alloc, &strings(alloc, words)?, source, host))
+    let words = strings(alloc, asked.words)?;
+    let mut analyzers: Vec<Box<dyn Analyzer>> = Vec::new(alloc);
+    if asked.handed.has_whole() {
+        analyzers.push(Box::new(alloc, Whole::new())?)?;
+    }
+    if asked.handed.has_words() {
+        analyzers.push(Box::new(alloc, Words::new(alloc))?)?;
+    }
+    Ok(status_over(alloc, &words, source, host, analyzers))
 }
 
-// Runs a command line, and prints the replies and the status.
+// Runs as asked, and prints the replies and the status.
 fn run_from(
     rt: &impl Print,
     alloc: Global,
-    words: &[&str],
+    asked: Asked<'_>,
     source: &mut MemSource,
     host: &mut MemHost,
 ) -> io::Result<()> {
     let before = host.emitted().len();
-    let status = status_of(alloc, words, source, host)?;
+    let status = status_of(alloc, asked, source, host)?;
     print!(rt; "{}{status:?}\n", replies_behind(host, before))
 }
 
-// Runs a script under a command line of these words.
+// Runs a script as asked.
 fn run_under(
     rt: &impl Print,
     alloc: Global,
-    words: &[&str],
+    asked: Asked<'_>,
     script: &str,
     host: &mut MemHost,
 ) -> io::Result<()> {
     let mut source = source_of(alloc, script, 4096, 0)?;
-    run_from(rt, alloc, words, &mut source, host)
+    run_from(rt, alloc, asked, &mut source, host)
 }
 
 /// Runs a script.
@@ -86,7 +125,18 @@ pub fn run_script(
     script: &str,
     host: &mut MemHost,
 ) -> io::Result<()> {
-    run_under(rt, alloc, &WORDS, script, host)
+    run_handed(rt, alloc, script, host, Handed::Both)
+}
+
+/// Runs a script with these analyzers.
+pub fn run_handed(
+    rt: &impl Print,
+    alloc: Global,
+    script: &str,
+    host: &mut MemHost,
+    handed: Handed,
+) -> io::Result<()> {
+    run_under(rt, alloc, asking(&WORDS, handed), script, host)
 }
 
 /// Runs a script where a partitioner is asked: `NAME SCRIPT`.
@@ -100,7 +150,7 @@ pub fn run_asking(
         return println!(rt; "a name is missing");
     };
     let words = ["--partitioner", partitioner, "folder", "script"];
-    run_under(rt, alloc, &words, script, host)
+    run_under(rt, alloc, asking(&words, Handed::Both), script, host)
 }
 
 // The number before the first space, and what stands behind it.
@@ -138,7 +188,7 @@ pub fn run_outside(
     };
     host.fail_emits(vec![in alloc; failing_emit]?);
     let mut source = source_of(alloc, script, piece as usize, failing_read)?;
-    run_from(rt, alloc, &WORDS, &mut source, host)
+    run_from(rt, alloc, asking(&WORDS, Handed::Both), &mut source, host)
 }
 
 // The letter that is this byte, so many times.
@@ -189,7 +239,7 @@ fn copies(alloc: Global, script: &str, from: u64, to: u64) -> Result<String, All
 fn run_counted(rt: &impl Print, alloc: Global, script: &str, host: &mut MemHost) -> io::Result<()> {
     let before = host.emitted().len();
     let mut source = source_of(alloc, script, 4096, 0)?;
-    let status = status_of(alloc, &WORDS, &mut source, host)?;
+    let status = status_of(alloc, asking(&WORDS, Handed::Both), &mut source, host)?;
     let lines = replies_behind(host, before).lines().count();
     print!(rt; "{lines} lines\n{status:?}\n")
 }
@@ -207,5 +257,5 @@ pub fn run_many(rt: &impl Print, alloc: Global, line: &str, host: &mut MemHost) 
 pub fn run_words(rt: &impl Print, alloc: Global, line: &str, host: &mut MemHost) -> io::Result<()> {
     let words: Vec<&str> = line.split('|').skip(1).collect(alloc)?;
     let script = "CREATE TABLE t (k text PRIMARY KEY);";
-    run_under(rt, alloc, &words, script, host)
+    run_under(rt, alloc, asking(&words, Handed::Both), script, host)
 }

@@ -59,6 +59,7 @@ module _ (m : Mutation) (more : MovesOf) where
     unspent = tt;
     spent_is = by e first.spent_is;
     undamaged = first.undamaged;
+    present = first.present;
     changes = first.changes;
     reads = first.reads;
     causes = record { disk = first.causes.disk; out = first.causes.out; ok = tt; failed = first.causes.failed; others = first.causes.others };
@@ -69,6 +70,7 @@ module _ (m : Mutation) (more : MovesOf) where
       by fault.OutOfMemory is = tt
       by (fault.Damaged damage) is = tt
       by (fault.NumbersSpent kind) is = λ l serves. absurd (none_spent kind (is l serves))
+      by (fault.AnalyzerMissing class) is = tt
 
   -- it was, and these moves come after it
   pub put_then : {T U : Type 0} (x : T) (a b c : View) (old mid new : StoreInMemory) (result : Result U StepFault) → MakesMoves {T = T} (λ l. Put m ∷ []) a b old mid (Ok x) → MakesMoves more b c mid new result → MakesMoves both a c old new result
@@ -79,6 +81,7 @@ module _ (m : Mutation) (more : MovesOf) where
     unspent = by_ok result (λ all l serves. all (after_put m l) (first.serves l serves)) second.unspent;
     spent_is = by_spent result second.spent_is;
     undamaged = second.undamaged;
+    present = second.present;
     changes = changes_both a b c first.changes second.changes;
     reads = second.reads ∙ first.reads;
     causes = causes_on a b c x result first.causes second.causes;
@@ -93,6 +96,7 @@ module _ (m : Mutation) (more : MovesOf) where
       by_fault fault.OutOfMemory is = tt
       by_fault (fault.Damaged damage) is = tt
       by_fault (fault.NumbersSpent kind) is = λ l serves. is (after_put m l) (first.serves l serves)
+      by_fault (fault.AnalyzerMissing class) is = tt
 
       by_spent : {V : Type 0} (r : Result V StepFault) → IfErr r (OnSpent (λ kind. (l : Layout) → Serves b mid l → spent l (more l) ≡ Some kind)) → IfErr r (OnSpent (λ kind. (l : Layout) → Serves a old l → spent l (both l) ≡ Some kind))
       by_spent (Ok y) is = tt
@@ -139,6 +143,7 @@ module _ (test : List Partitions → Bool) (table : ℕ) (v : View) (store : Sto
     unspent = λ l serves. ap (spent l) (moves_where false is l serves);
     spent_is = tt;
     undamaged = tt;
+    present = tt;
     changes = any_change Same v v (stays v);
     reads = refl;
     causes = none_made v done (λ e is. cc);
@@ -153,6 +158,7 @@ module _ (test : List Partitions → Bool) (table : ℕ) (v : View) (store : Sto
     unspent = by_ok result (λ all l serves. ap (spent l) (moves_where true is l serves) ∙ all l serves) makes.unspent;
     spent_is = by_spent result makes.spent_is;
     undamaged = makes.undamaged;
+    present = makes.present;
     changes = makes.changes;
     reads = makes.reads;
     causes = makes.causes;
@@ -167,6 +173,7 @@ module _ (test : List Partitions → Bool) (table : ℕ) (v : View) (store : Sto
       by_fault fault.OutOfMemory is_spent = tt
       by_fault (fault.Damaged damage) is_spent = tt
       by_fault (fault.NumbersSpent kind) is_spent = λ l serves. ap (spent l) (moves_where true is l serves) ∙ is_spent l serves
+      by_fault (fault.AnalyzerMissing class) is_spent = tt
 
       by_spent : {V : Type 0} (r : Result V StepFault) → IfErr r (OnSpent (λ kind. (l : Layout) → Serves v store l → spent l (Flush table ∷ []) ≡ Some kind)) → IfErr r (OnSpent (λ kind. (l : Layout) → Serves v store l → spent l (flush_where test table l) ≡ Some kind))
       by_spent (Ok y) is_spent = tt

@@ -20,7 +20,7 @@ use Rattle.sasi_layout.specs.Kept.{HasKept, has_data, has_segment, is_kept}
 use Rattle.sasi_layout.specs.Layout.{Layout, TableParts, listing_of, state_of}
 use Rattle.sasi_layout.specs.Moves.{Create, after_create, create_edits, new_parts}
 use Rattle.sasi_layout.specs.Serving.{CanChange, IsTyped, Serves, StoreInMemory, TableInMemory, kept_by, table_in_memory}
-use Rattle.sasi_layout.specs.NumbersInOrder.{HasFilesInOrder}
+use Rattle.sasi_layout.specs.NumbersInOrder.{HasFilesInOrder, HasIndexesNumbered}
 use Rattle.sasi_machine.proofs.TableColumns.{small}
 use Rattle.sasi_machine.proofs.MaxTimestamps.{max_timestamp_push, nothing_held}
 use Rattle.sasi_manifest.proofs.Consistency.{record_consistent}
@@ -35,7 +35,7 @@ use Rattle.sasi_manifest.specs.Listings.{listed_definitions}
 use Rattle.sasi_manifest.specs.OpenManifest.{IsEither, ManifestState, ManifestStands}
 use Rattle.sasi_model.specs.Abbreviations.{types_of}
 use Rattle.sasi_model.specs.Changes.{empty_table, with_new_table}
-use Rattle.sasi_model.specs.State.{Definition, State, max_timestamp}
+use Rattle.sasi_model.specs.State.{Definition, Index, State, max_timestamp}
 use Rattle.sasi_schema.proofs.Keys.{column_types_are}
 use Rattle.sasi_schema.specs.Defined.{definition}
 use Rattle.sasi_schema.specs.declared.table.Table.{Table}
@@ -43,7 +43,7 @@ use Rattle.sasi_store.specs.Faults.{StepCauses}
 use Rattle.sasi_store.specs.MakesMoves.{MakesMoves}
 use Rattle.sasi_store.specs.declared.fault.StepFault.{StepFault}
 use Rattle.sasi_store.specs.Writable.{IsCreatable}
-use Rattle.sasi_store.proofs.MoveCauses.{IsPlain, any_change, plain_undamaged, plain_unspent}
+use Rattle.sasi_store.proofs.MoveCauses.{IsPlain, any_change, plain_present, plain_undamaged, plain_unspent}
 use Rattle.sasi_layout.proofs.KeptLaws.{keeps_manifest}
 use Rattle.sasi_store.proofs.Frames.{changed_kept, end_other, reached_there}
 use Rattle.sasi_store.proofs.TablesInMemory.{all_push, ready_push}
@@ -93,7 +93,7 @@ module _ (a b : View) (sound : IsSound a) (store : StoreInMemory) (t : Table) (r
   next_is : (l : Layout) → Serves a store l → IsNext listing (edits_for store t) (listing_of (after_create (definition t) l))
   next_is l serves =
       subst (λ (k : Listing). IsNext k (edits_for store t) (listing_of (after_create (definition t) l))) (sym serves.listing)
-      (subst (λ (es : List Edit). IsNext (listing_of l) es (listing_of (after_create (definition t) l))) (sym (edits_are l serves)) (create_is_next (definition t) l))
+      (subst (λ (es : List Edit). IsNext (listing_of l) es (listing_of (after_create (definition t) l))) (sym (edits_are l serves)) (create_is_next (definition t) l creatable.unindexed))
 
   stands_in : (l : Layout) → Serves a store l → ManifestStands a store.manifest.number store.manifest.at listing
   stands_in l serves = subst (λ (n : ℕ). ManifestStands a n store.manifest.at listing) (sym serves.manifest) (subst (ManifestStands a l.used.manifest store.manifest.at) (sym serves.listing) serves.manifest_end)
@@ -120,7 +120,7 @@ module _ (a b : View) (sound : IsSound a) (store : StoreInMemory) (t : Table) (r
       let end : ManifestStands b l.used.manifest new.at next = subst (λ (n : ℕ). ManifestStands b n new.at next) serves.manifest (subst (ManifestStands b store.manifest.number new.at) listed (stands (stands_in l serves))) in
       record {
         told = told_after (FileChange (manifest_name store.manifest.number) AnyChange) a b change serves.told;
-        in_order = moved_in_order (Create d) l serves.in_order;
+        in_order = moved_in_order (Create d) l creatable.unindexed serves.in_order;
         definitions = ap (λ (ds : List Definition). ds ++ d ∷ []) serves.definitions ∙ sym (map-append (λ (t : TableParts). t.definition) l.tables (new_parts d l.last ∷ []));
         tables = ap (λ (ts : List TableInMemory). ts ++ nothing_held_yet ∷ []) serves.tables ∙ sym (map-append table_in_memory l.tables (new_parts d l.last ∷ []));
         used = serves.used;
@@ -137,8 +137,14 @@ module _ (a b : View) (sound : IsSound a) (store : StoreInMemory) (t : Table) (r
 
   -- what is listed then
   pub listed_after : (next : Listing) → IsNext listing (edits_for store t) next → (next.partitioner ≡ listing.partitioner) × (next.floor ≡ listing.floor) × (next.last ≡ listing.last)
-      × (next.tables ≡ listing.tables ++ record { definition = definition t; since = listing.last; files = [] } ∷ [])
-  listed_after next is = (cc, cc, cc, cc)
+      × (next.tables ≡ listing.tables ++ record { definition = definition t; numbers = []; since = listing.last; files = [] } ∷ [])
+  listed_after next is = (cc, cc, cc, tables_are ∙ ap (λ (indexes : List Index). listing.tables ++ row_with indexes ∷ []) (sym creatable.unindexed))
+    where
+      row_with : List Index → ListedDefinition
+      row_with indexes = record { definition = record { name = t.name; columns = t.columns; key = t.key; indexes = indexes }; numbers = []; since = listing.last; files = [] }
+
+      tables_are : next.tables ≡ listing.tables ++ row_with [] ∷ []
+      tables_are = cc
 
   -- **It is ready after it.**
   pub create_ready : (new : ManifestState) → Changes (FileChange (manifest_name store.manifest.number) AnyChange) a b → new.number ≡ store.manifest.number → IsNext listing (edits_for store t) new.listing
@@ -147,7 +153,7 @@ module _ (a b : View) (sound : IsSound a) (store : StoreInMemory) (t : Table) (r
   create_ready new change number is stands room usable =
       let d = definition t in
       let listed = listed_after new.listing is in
-      let row : ListedDefinition = record { definition = d; since = listing.last; files = [] } in
+      let row : ListedDefinition = record { definition = d; numbers = []; since = listing.last; files = [] } in
       let consistent = record_consistent (Some listing) (encoded (edits_for store t)) (edits_for store t) new.listing (creatable.applies, tt) is ready.consistent in
       record {
         consistent = consistent;
@@ -158,6 +164,7 @@ module _ (a b : View) (sound : IsSound a) (store : StoreInMemory) (t : Table) (r
           manifest_is = ready.numbered.manifest_is ∙ sym number;
           log_is = ready.numbered.log_is ∙ sym listed.2;
           files = rw (listed.2, listed.3) (all_push (HasFilesInOrder store.used.«data» listing.last) listing.tables row ready.numbered.files (record { rise = omega arith; since = omega arith }));
+          indexes = rw listed.3 (all_push (HasIndexesNumbered store.used.index) listing.tables row ready.numbered.indexes (record { counted = sym (ap length creatable.unindexed); within = tt }));
           fits = ready.numbered.fits;
         };
         timestamp = ready.timestamp;
@@ -179,14 +186,14 @@ module _ (a b : View) (sound : IsSound a) (store : StoreInMemory) (t : Table) (r
       typed = record { types = column_types_are (definition t) t.key_is_there; few = (small (definition t) t.key_is_there t.few).types }
 
       same_kept : (new : ManifestState) (name : FileName) → new.number ≡ store.manifest.number → new.listing.floor ≡ listing.floor → new.listing.last ≡ listing.last
-          → new.listing.tables ≡ listing.tables ++ record { definition = definition t; since = listing.last; files = [] } ∷ [] → is_kept (record { manifest = new.number; listing = new.listing }) name ≡ is_kept (kept_by store) name
+          → new.listing.tables ≡ listing.tables ++ record { definition = definition t; numbers = []; since = listing.last; files = [] } ∷ [] → is_kept (record { manifest = new.number; listing = new.listing }) name ≡ is_kept (kept_by store) name
       same_kept new name number floor last tables =
           let kept_data : has_data new.listing.tables name ≡ has_data listing.tables name =
           ap (λ (ts : List ListedDefinition). has_data ts name) tables ∙ ap (λ b. name_eq name (data_name name.number) && b) (any_push (λ (t : ListedDefinition). has_file t.files name.number) listing.tables _ refl) in
           λ i. name_eq name (manifest_name (number i)) || (name_eq name (seal_name (number i)) || (has_segment (floor i) (last i) name || kept_data i))
 
       kept_same : (new : ManifestState) → new.number ≡ store.manifest.number → new.listing.floor ≡ listing.floor → new.listing.last ≡ listing.last
-          → new.listing.tables ≡ listing.tables ++ record { definition = definition t; since = listing.last; files = [] } ∷ [] → (folder : Folder) → HasKept (kept_by store) folder → HasKept (record { manifest = new.number; listing = new.listing }) folder
+          → new.listing.tables ≡ listing.tables ++ record { definition = definition t; numbers = []; since = listing.last; files = [] } ∷ [] → (folder : Folder) → HasKept (kept_by store) folder → HasKept (record { manifest = new.number; listing = new.listing }) folder
       kept_same new number floor last tables folder has name = has name ∙ sym (same_kept new name number floor last tables)
 
 module _ (a b : View) (sound : IsSound a) (store : StoreInMemory) (t : Table) (ready : CanChange a store) (creatable : IsCreatable store t) where
@@ -201,6 +208,7 @@ module _ (a b : View) (sound : IsSound a) (store : StoreInMemory) (t : Table) (r
     unspent = tt;
     spent_is = plain_unspent _ e plain;
     undamaged = plain_undamaged e plain;
+    present = plain_present _ e plain;
     changes = any_change (FileChange (manifest_name store.manifest.number) AnyChange) a b change;
     reads = reads;
     causes = causes;
@@ -216,6 +224,7 @@ module _ (a b : View) (sound : IsSound a) (store : StoreInMemory) (t : Table) (r
     unspent = λ l serves. refl;
     spent_is = tt;
     undamaged = tt;
+    present = tt;
     changes = any_change (FileChange (manifest_name store.manifest.number) AnyChange) a b change;
     reads = reads;
     causes = causes;

@@ -60,7 +60,7 @@ module _ (n : FlushNumbers) (x y : Folder) (made : MakesFiles n x y) where
     seals = λ other. made (seal_name other) (kinds_apart _ _ (omega arith)) (kinds_apart _ _ (omega arith));
     manifest = manifest_unmade l.used.manifest;
     logs = λ segment above below. made (log_name segment) (kinds_apart _ _ (omega arith)) (numbers_apart _ _ (omega (arith, last, below)));
-    files = tables_unmade l.used.«data» l.last file l.tables in_order;
+    files = tables_unmade l.used.«data» l.last file l.tables in_order.files;
   }
 
 -- ---- the segments that are deleted

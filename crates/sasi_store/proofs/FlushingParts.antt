@@ -39,7 +39,7 @@ use Rattle.sasi_store.specs.declared.fault.StepFault.TheVariants.{NumbersSpent}
 use Rattle.sasi_store.specs.declared.flush.FlushNumbers.{FlushNumbers}
 use Rattle.sasi_store.specs.declared.parts.Parts.{Parts}
 use Rattle.sasi_store.proofs.FlushingTables.{can_flush, flush_of, flush_ready, flush_serves, listed_after}
-use Rattle.sasi_store.proofs.MoveCauses.{any_change, call_failed, call_made, call_plain, makes_nothing, plain_undamaged, plain_unspent}
+use Rattle.sasi_store.proofs.MoveCauses.{any_change, call_failed, call_made, call_plain, makes_nothing, plain_present, plain_undamaged, plain_unspent}
 use Rattle.sasi_store.proofs.TablesInMemory.{all_at, all_set, inside_there, map_there, set_numbered, there_inside, unseen_set}
 
 -- ---- the table
@@ -84,7 +84,7 @@ spent_as v p number l serves = ap (λ (u : Used). first_spent ((kinds.Data, u.«
 
 -- no number is left
 pub numbers_spent : {T : Type 0} (v : View) (sound : IsSound v) (p : Parts) (number : ℕ) (kind : NumberKind) → AreSpent p.numbers kind → MakesMoves {T = T} (λ l. Flush number ∷ []) v v (memory_of p) (memory_of p) (Err (NumbersSpent kind))
-numbers_spent v sound p number kind is = makes_nothing (λ l. Flush number ∷ []) v sound (memory_of p) (memory_of p) (NumbersSpent kind) tt (λ l serves. spent_as v p number l serves ∙ is) (λ e. cc)
+numbers_spent v sound p number kind is = makes_nothing (λ l. Flush number ∷ []) v sound (memory_of p) (memory_of p) (NumbersSpent kind) tt tt (λ l serves. spent_as v p number l serves ∙ is) (λ e. cc)
 
 -- ---- the flush
 
@@ -131,6 +131,7 @@ module _ (a : View) (sound : IsSound a) (p : Parts) (of : IsOfParts p) (ready : 
       unspent = tt;
       spent_is = plain_unspent _ (fault_of_call f) (call_plain f);
       undamaged = plain_undamaged (fault_of_call f) (call_plain f);
+      present = plain_present _ (fault_of_call f) (call_plain f);
       changes = any_change (ChangesInFlush p.manifest.number p.manifest.listing.floor numbers) a b change;
       reads = causes.reads;
       causes = call_failed a b f causes;
@@ -150,6 +151,7 @@ module _ (a : View) (sound : IsSound a) (p : Parts) (of : IsOfParts p) (ready : 
       unspent = λ l serves. spent_as a p number l serves ∙ is.unspent;
       spent_is = tt;
       undamaged = tt;
+      present = tt;
       changes = any_change (ChangesInFlush p.manifest.number p.manifest.listing.floor numbers) a b change;
       reads = causes.reads;
       causes = call_made a b x y causes;
@@ -163,14 +165,14 @@ module _ (p : Parts) (of : IsOfParts p) (number : ℕ) (some : 0 < number) (t : 
   emptied = record t { memtable = memtable; first = None }
 
   pub flushed_memory : (manifest : ManifestState) (log : Handle) (next : Numbers) → AreNext p.numbers next → memtable.partitions ≡ map_.empty
-      → record { definitions = p.schema; manifest = manifest; log = log; tables = map opened_table tables; used = used_numbers next; max_timestamp = p.max_timestamp } ≡ memory_after_flush number manifest log (memory_of p)
+      → record { definitions = p.schema.definitions; manifest = manifest; log = log; tables = map opened_table tables; used = used_numbers next; max_timestamp = p.max_timestamp } ≡ memory_after_flush number manifest log (memory_of p)
   flushed_memory manifest log next is empty =
       let seen : opened_table emptied ≡ flushed_in_memory (opened_table t) = ap (λ (m : Partitions). record { first = None; frozen = []; memtable = m }) empty in
       let tables_are : map opened_table tables ≡ at_number 1 number flushed_in_memory (map opened_table p.tables.items) =
       ap (map opened_table) cleared ∙ set_numbered opened_table flushed_in_memory number p.tables.items t emptied some there seen in
       let used_are : used_numbers next ≡ record (used_numbers p.numbers) { log = suc p.numbers.log; «data» = suc p.numbers.«data» } =
       λ i. record { manifest = is.manifest i; log = is.log i; «data» = is.file i; index = is.index i; part = is.part i } in
-      λ i. record { definitions = p.schema; manifest = manifest; log = log; tables = tables_are i; used = used_are i; max_timestamp = p.max_timestamp }
+      λ i. record { definitions = p.schema.definitions; manifest = manifest; log = log; tables = tables_are i; used = used_are i; max_timestamp = p.max_timestamp }
 
   pub flushed_parts : (partitioner : Partitioner) → partitioner ≡ p.manifest.listing.partitioner → memtable.partitioner ≡ partitioner → AreTables partitioner tables
   flushed_parts partitioner same is =

@@ -29,7 +29,7 @@ use Rattle.sasi_layout.specs.Kept.{HasKept, Kept, is_listed}
 use Rattle.sasi_layout.specs.Layout.{Layout, TableParts, Used, listing_of, unflushed}
 use Rattle.sasi_layout.specs.Moves.{Flush, after_flush, flush_table, floor_without, lesser, new_listed_file, next_floor}
 use Rattle.sasi_layout.specs.Serving.{AreTablesReady, CanChange, IsLive, IsStorable, IsTableReady, Serves, StoreInMemory, TableInMemory, kept_by, table_in_memory}
-use Rattle.sasi_layout.specs.NumbersInOrder.{HasFilesInOrder, Rising}
+use Rattle.sasi_layout.specs.NumbersInOrder.{HasFilesInOrder, HasIndexesNumbered, Rising}
 use Rattle.sasi_manifest.proofs.Applying.{replace_applies}
 use Rattle.sasi_manifest.proofs.Consistency.{record_consistent}
 use Rattle.sasi_manifest.specs.declared.listing.Listing.{Listing}
@@ -230,6 +230,10 @@ module _ (a : View) (store : StoreInMemory) (ready : CanChange a store) (n : Flu
         (λ t in_order. record { rise = rising_higher 0 store.used.«data» n.file t.files (omega (arith, file)) in_order.rise; since = omega (arith, in_order.since, last) })
         1 n.table listing.tables ready.numbered.files)
 
+    pub next_indexes : AllByRecursion (HasIndexesNumbered store.used.index) next.tables
+    next_indexes = rw listed_after.3 (all_changed (HasIndexesNumbered store.used.index) (HasIndexesNumbered store.used.index) (replaced [] (new_listed_file n.file ∷ []) n.last)
+        (λ t numbered. record { counted = numbered.counted; within = numbered.within }) (λ t numbered. numbered) 1 n.table listing.tables ready.numbered.indexes)
+
     -- the files of the folder afterwards
     pub next_kept : (b : View) (manifest : ManifestState) → manifest.listing ≡ next → manifest.number ≡ store.manifest.number → Changes (ChangesInFlush store.manifest.number listing.floor n) a b → HasFlushedFiles b listing.floor n
         → Reaches b (manifest_name manifest.number) (manifest.at + 1) → (folder : Folder) → b.files ≡ Some folder → HasKept (record { manifest = manifest.number; listing = manifest.listing }) folder
@@ -309,7 +313,7 @@ module _ (a : View) (store : StoreInMemory) (ready : CanChange a store) (n : Flu
         let change_table : TableParts → TableParts = flush_table (suc l.used.«data») (suc l.last) in
         record {
           told = told_after S a b change serves.told;
-          in_order = moved_in_order (Flush n.table) l serves.in_order;
+          in_order = moved_in_order (Flush n.table) l tt serves.in_order;
           definitions = serves.definitions ∙ sym (unseen_at (λ (t : TableParts). t.definition) change_table (λ t. refl) 1 n.table l.tables);
           tables = ap (at_number 1 n.table flushed_in_memory) serves.tables ∙ sym (seen_at table_in_memory change_table flushed_in_memory (λ t. refl) 1 n.table l.tables);
           used = ap (λ (k : ℕ). record store.used { log = suc k; «data» = suc store.used.«data» }) used_log ∙ ap (λ (u : Used). record u { log = suc l.last; «data» = suc u.«data» }) serves.used;
@@ -339,6 +343,7 @@ module _ (a : View) (store : StoreInMemory) (ready : CanChange a store) (n : Flu
           manifest_is = ready.numbered.manifest_is ∙ sym number;
           log_is = ap (λ (k : ℕ). suc k) ready.numbered.log_is ∙ sym last ∙ sym after.2;
           files = subst (λ (k : ℕ). AllByRecursion (HasFilesInOrder k manifest.listing.last) manifest.listing.tables) file (next_files manifest.listing is);
+          indexes = next_indexes manifest.listing is;
           fits = subst (λ (k : ℕ). k < 2 ^ 32) file fits.1;
         };
         timestamp = ready.timestamp;

@@ -19,6 +19,7 @@ pub mod OneMap
 pub mod MoveCauses
 pub mod Putting
 pub mod Creating
+pub mod Defining
 pub mod ListedSchema
 pub mod FlushingTables
 pub mod Composition

@@ -11,7 +11,8 @@ use Rattle.sasi_layout.specs.Serving.{Serves, StoreInMemory}
 use Rattle.sasi_layout.specs.Spent.{spent}
 use Rattle.sasi_layout.specs.declared.number_kind.NumberKind.{NumberKind}
 use Rattle.sasi_recover.specs.OpenedFolder.{AnyFolderChange}
-use Rattle.sasi_store.specs.Faults.{OnSpent, OnStepDamage, StepCauses, fault_of_call}
+use Rattle.sasi_types.specs.declared.class.Class.{Class}
+use Rattle.sasi_store.specs.Faults.{OnMissing, OnSpent, OnStepDamage, StepCauses, fault_of_call}
 use Rattle.sasi_store.specs.MakesMoves.{MakesMoves, MovesOf}
 use Rattle.sasi_store.specs.declared.fault.StepFault.{StepFault}
 use Rattle.sasi_store.specs.declared.fault.StepFault.TheVariants as fault
@@ -23,18 +24,28 @@ IsPlain fault.Failed = Unit {0}
 IsPlain fault.OutOfMemory = Unit {0}
 IsPlain (fault.Damaged damage) = ⊥
 IsPlain (fault.NumbersSpent kind) = ⊥
+IsPlain (fault.AnalyzerMissing class) = ⊥
 
 pub plain_undamaged : (e : StepFault) → IsPlain e → OnStepDamage (λ _. ⊥) e
 plain_undamaged fault.Failed plain = tt
 plain_undamaged fault.OutOfMemory plain = tt
 plain_undamaged (fault.Damaged damage) plain = plain
 plain_undamaged (fault.NumbersSpent kind) plain = tt
+plain_undamaged (fault.AnalyzerMissing class) plain = tt
 
 pub plain_unspent : (P : NumberKind → Type 0) (e : StepFault) → IsPlain e → OnSpent P e
 plain_unspent P fault.Failed plain = tt
 plain_unspent P fault.OutOfMemory plain = tt
 plain_unspent P (fault.Damaged damage) plain = tt
 plain_unspent P (fault.NumbersSpent kind) plain = absurd plain
+plain_unspent P (fault.AnalyzerMissing class) plain = tt
+
+pub plain_present : (P : Class → Type 0) (e : StepFault) → IsPlain e → OnMissing P e
+plain_present P fault.Failed plain = tt
+plain_present P fault.OutOfMemory plain = tt
+plain_present P (fault.Damaged damage) plain = tt
+plain_present P (fault.NumbersSpent kind) plain = tt
+plain_present P (fault.AnalyzerMissing class) plain = absurd plain
 
 pub call_plain : (f : HostFault) → IsPlain (fault_of_call f)
 call_plain host.Failed = tt
@@ -67,14 +78,15 @@ pub any_change : (S : Relation) (a b : View) → Changes S a b → Changes AnyFo
 any_change S a b change = changes_as a b S AnyFolderChange change (λ x y step. tt)
 
 -- memory ran out, or a number was spent, before anything was done
-pub makes_nothing : {T : Type 0} (moves : MovesOf) (v : View) (sound : IsSound v) (old new : StoreInMemory) (e : StepFault) → OnStepDamage (λ _. ⊥) e → OnSpent (λ kind. (l : Layout) → Serves v old l → spent l (moves l) ≡ Some kind) e → e ≢ fault.Failed → MakesMoves {T = T} moves v v old new (Err e)
-makes_nothing moves v sound old new e undamaged spent_is other = record {
+pub makes_nothing : {T : Type 0} (moves : MovesOf) (v : View) (sound : IsSound v) (old new : StoreInMemory) (e : StepFault) → OnStepDamage (λ _. ⊥) e → OnMissing (λ _. ⊥) e → OnSpent (λ kind. (l : Layout) → Serves v old l → spent l (moves l) ≡ Some kind) e → e ≢ fault.Failed → MakesMoves {T = T} moves v v old new (Err e)
+makes_nothing moves v sound old new e undamaged present spent_is other = record {
   any_moment = λ l serves. moves_none l v (moves l) sound (λ x now. (_, serves.shape x now));
   serves = tt;
   ready = tt;
   unspent = tt;
   spent_is = spent_is;
   undamaged = undamaged;
+  present = present;
   changes = any_change Same v v (stays v);
   reads = refl;
   causes = none_made v (Err e) (λ f is same. (let one : e ≡ f = cc in other (one_then one same)));

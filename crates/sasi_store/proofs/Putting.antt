@@ -32,7 +32,7 @@ use Rattle.sasi_manifest.specs.OpenManifest.{ManifestStands}
 use Rattle.sasi_manifest.specs.Types.{numbered_types}
 use Rattle.sasi_cells.proofs.Laws.Times.{body_limit}
 use Rattle.sasi_machine.proofs.StatementPreparing.{empty_definitions}
-use Rattle.sasi_model.specs.Abbreviations.{definitions, types_of}
+use Rattle.sasi_model.specs.Abbreviations.{types_of}
 use Rattle.sasi_model.specs.Cells.{max_timestamp_of}
 use Rattle.sasi_model.specs.Changes.{empty_table}
 use Rattle.sasi_model.specs.State.{Definition, State, Table, max_timestamp}
@@ -49,7 +49,7 @@ use Rattle.sasi_store.specs.StoreView.{AreTables, IsOfParts, memory_of}
 use Rattle.sasi_store.specs.declared.fault.StepFault.{StepFault}
 use Rattle.sasi_store.specs.declared.parts.Parts.{Parts}
 use Rattle.sasi_store.specs.Puts.{HasTableFor, IsPutAt, memory_after_put, put_in_memory, put_map}
-use Rattle.sasi_store.proofs.MoveCauses.{IsPlain, any_change, plain_undamaged, plain_unspent}
+use Rattle.sasi_store.proofs.MoveCauses.{IsPlain, any_change, plain_present, plain_undamaged, plain_unspent}
 use Rattle.sasi_store.specs.Writable.{IsWritableMutation}
 use Rattle.sasi_layout.proofs.KeptLaws.{keeps_segment}
 use Rattle.sasi_store.proofs.Frames.{changed_kept, manifest_other, reached_there}
@@ -109,7 +109,7 @@ module _ (a b : View) (sound : IsSound a) (store : StoreInMemory) (m : Mutation)
       let change_table : TableParts → TableParts = put_table l.partitioner l.last m in
       record {
         told = told_after (FileChange store.log.file AnyChange) a b change serves.told;
-        in_order = moved_in_order (Put m) l serves.in_order;
+        in_order = moved_in_order (Put m) l tt serves.in_order;
         definitions = serves.definitions ∙ sym (unseen_at (λ (t : TableParts). t.definition) change_table (λ t. refl) 1 m.table l.tables);
         tables =
             ap (λ (ts : List TableInMemory). at_number 1 m.table (put_in_memory listing.partitioner store.used.log m) ts) serves.tables
@@ -177,6 +177,7 @@ module _ (a b : View) (sound : IsSound a) (store : StoreInMemory) (m : Mutation)
     unspent = tt;
     spent_is = plain_unspent _ e plain;
     undamaged = plain_undamaged e plain;
+    present = plain_present _ e plain;
     changes = any_change (FileChange store.log.file AnyChange) a b change;
     reads = reads;
     causes = causes;
@@ -192,6 +193,7 @@ module _ (a b : View) (sound : IsSound a) (store : StoreInMemory) (m : Mutation)
     unspent = λ l serves. refl;
     spent_is = tt;
     undamaged = tt;
+    present = tt;
     changes = any_change (FileChange store.log.file AnyChange) a b change;
     reads = reads;
     causes = causes;
@@ -216,9 +218,9 @@ module _ (p : Parts) (m : Mutation) (of : IsOfParts p) (there : HasTableFor m.ta
 
   -- **The store is as it is after the put.**
   pub put_memory : (log : Handle) (n : ℕ) → n ≡ max p.max_timestamp (max_timestamp_of m.change)
-      → record { definitions = p.schema; manifest = p.manifest; log = log; tables = map open_table tables; used = used_numbers p.numbers; max_timestamp = n } ≡ record (memory_after_put m (memory_of p)) { log = log }
+      → record { definitions = p.schema.definitions; manifest = p.manifest; log = log; tables = map open_table tables; used = used_numbers p.numbers; max_timestamp = n } ≡ record (memory_after_put m (memory_of p)) { log = log }
   put_memory log n time =
-      ap (λ (ts : List TableInMemory). record { definitions = p.schema; manifest = p.manifest; log = log; tables = ts; used = used_numbers p.numbers; max_timestamp = n }) put_tables
+      ap (λ (ts : List TableInMemory). record { definitions = p.schema.definitions; manifest = p.manifest; log = log; tables = ts; used = used_numbers p.numbers; max_timestamp = n }) put_tables
       ∙ ap (λ (k : ℕ). record (memory_after_put m (memory_of p)) { log = log; max_timestamp = k }) time
 
   pub put_of_parts : AreTables p.manifest.listing.partitioner tables
@@ -236,9 +238,9 @@ module _ (p : Parts) (m : Mutation) (of : IsOfParts p) (there : HasTableFor m.ta
       record { some = there.some; inside = omega (arith, there.inside, size, ap length (is found.0 found.1)) }
 
 -- a table that can be written to has a memtable
-pub has_table : (v : View) (p : Parts) (number : ℕ) (d : Definition) → CanChange v (memory_of p) → 0 < number → slice_get p.schema (number - 1) ≡ Some d → HasTableFor number p.tables.items
+pub has_table : (v : View) (p : Parts) (number : ℕ) (d : Definition) → CanChange v (memory_of p) → 0 < number → slice_get p.schema.definitions (number - 1) ≡ Some d → HasTableFor number p.tables.items
 has_table v p number d ready some there =
     let listing = p.manifest.listing in
-    let count = as_many listing.partitioner listing.floor listing.last p.schema (map open_table p.tables.items) ready.tables in
+    let count = as_many listing.partitioner listing.floor listing.last p.schema.definitions (map open_table p.tables.items) ready.tables in
     let size : length (map open_table p.tables.items) ≡ length p.tables.items = length-map p.tables.items open_table in
-    record { some = some; inside = omega (arith, some, there_inside p.schema (number - 1) d there, count, size) }
+    record { some = some; inside = omega (arith, some, there_inside p.schema.definitions (number - 1) d there, count, size) }

@@ -44,7 +44,6 @@ use Rattle.sasi_recover.specs.OpenedFolder.{opened_table}
 use Rattle.sasi_recover.specs.declared.opened.TableMap.{TableMap}
 use Rattle.sasi_schema.specs.Defined.{definition}
 use Rattle.sasi_types.specs.declared.column.ColumnType.{ColumnType}
-use Rattle.sasi_types.specs.declared.column.ColumnType.TheVariants as types
 use Rattle.sasi_types.specs.declared.partitioner.Partitioner.{Partitioner}
 use Rattle.sasi_store.specs.Faults.{OnStepDamage, fault_of_read}
 use Rattle.sasi_store.specs.Scanning.{IsTableOf}

@@ -1,5 +1,5 @@
 -- What the parts of a step make of its promises.
-use Rattle.std.proofs.Common.{◌≡◌, ◌+◌, ◌≤◌, ◌++◌, ◌∷◌, ℕ, List, [], Option, None, Some, IsSome, Result, Ok, Err, refl, sym, ap, subst, ◌∙◌, inl, inr, arith}
+use Rattle.std.proofs.Common.{◌≡◌, ◌≢◌, ◌+◌, ◌≤◌, ◌++◌, ◌∷◌, ℕ, List, [], Option, None, Some, IsSome, Ok, Err, refl, sym, ap, subst, ◌∙◌, inl, inr, arith}
 use Rattle.std.specs.Option.{option_map_or}
 use Rattle.sasi_folder.specs.Damages.{FolderShows}
 use Rattle.sasi_host.proofs.ChangeLaws.{at_each_moment, stays}
@@ -12,33 +12,34 @@ use Rattle.sasi_layout.proofs.Fewer.{manifest_fewer, serves_fewer}
 use Rattle.sasi_layout.proofs.StatementLaws.{definitions_are}
 use Rattle.sasi_layout.proofs.Trails.{moves_none, none_done}
 use Rattle.sasi_layout.specs.Between.{Between}
+use Rattle.sasi_layout.specs.Classes.{HasNeeded, KnowsClasses, LacksNeeded}
 use Rattle.sasi_layout.specs.Layout.{Layout, bare, state_of}
 use Rattle.sasi_layout.specs.Moves.{Move, after_moves}
-use Rattle.sasi_layout.specs.Serving.{CanChange, Serves, StoreInMemory}
+use Rattle.sasi_layout.specs.Serving.{CanChange, Serves, StoreInMemory, known_in_memory}
 use Rattle.sasi_layout.specs.Shape.{HasShape}
 use Rattle.sasi_layout.specs.Spent.{spent}
 use Rattle.sasi_layout.specs.Statements.{moves_asked}
 use Rattle.sasi_layout.specs.Worlds.{ServesWorld, World, steps}
 use Rattle.sasi_layout.specs.declared.number_kind.NumberKind.{NumberKind}
+use Rattle.sasi_machine.proofs.KnownStates.{knows}
 use Rattle.sasi_machine.specs.Outcome.{outcome_of}
 use Rattle.sasi_machine.specs.Prepares.{IsQuery, IsStateOf, SaysOne, SelectsRows, StepsTo}
 use Rattle.sasi_machine.specs.declared.prepared.Selection.{Selection}
 use Rattle.sasi_machine.specs.declared.outcome.Outcome.{Outcome}
 use Rattle.sasi_machine.specs.declared.outcome.Outcome.TheVariants.{Done}
+use Rattle.sasi_types.specs.declared.class.Class.{Class}
 use Rattle.sasi_types.specs.declared.statement.Statement.{Statement}
 use Rattle.sasi_types.specs.declared.statement.Statement.TheVariants.{Query}
 use Rattle.sasi_manifest.specs.Edits.{files_of}
-use Rattle.sasi_manifest.specs.declared.listing.Listing.{Listing}
-use Rattle.sasi_manifest.specs.OpenManifest.{ManifestStands}
 use Rattle.sasi_model.specs.Abbreviations.{definitions}
 use Rattle.sasi_model.specs.Asked as ask
-use Rattle.sasi_model.specs.Asked.{Asked, asks}
+use Rattle.sasi_model.specs.Asked.{Asked, asks, class_needed}
 use Rattle.sasi_model.specs.Pieces.{Piece}
 use Rattle.sasi_model.specs.Refusals.{Nothing, Refusal, Says, read}
 use Rattle.sasi_model.specs.State.{Definition, State, max_timestamp}
 use Rattle.sasi_model.specs.Step.{step}
 use Rattle.sasi_store.specs.Answers.{AnsweredButRows, NeedsNoFile}
-use Rattle.sasi_store.specs.Faults.{OnSpent, OnStepDamage, StepCauses}
+use Rattle.sasi_store.specs.Faults.{OnMissing, OnSpent, OnStepDamage, StepCauses}
 use Rattle.sasi_schema.specs.Numbers.{number_of_table}
 use Rattle.sasi_store.specs.MakesMoves.{MakesMoves}
 use Rattle.sasi_store.specs.Paging.{table_reads}
@@ -50,14 +51,14 @@ use Rattle.sasi_store.proofs.MoveCauses.{any_change, none_made}
 
 -- ---- a world and its state
 
-pub state_is : (v : View) (store : StoreInMemory) (l : Layout) → Serves v store l → IsStateOf store.definitions store.max_timestamp (state_of l)
-state_is v store l serves = record { definitions_are = sym (serves.definitions ∙ definitions_are l); max_time_is = sym serves.timestamp }
+pub state_is : (v : View) (store : StoreInMemory) (l : Layout) → Serves v store l → IsStateOf (known_in_memory store) (state_of l)
+state_is v store l serves = knows (known_in_memory store) (state_of l) (sym (serves.definitions ∙ definitions_are l)) (sym serves.timestamp)
 
-module _ (v : View) (store : StoreInMemory) (piece : Piece) (asked : Asked) (is : asks store.definitions store.max_timestamp piece ≡ asked) where
+module _ (v : View) (store : StoreInMemory) (piece : Piece) (asked : Asked) (is : asks (known_in_memory store) piece ≡ asked) where
   pub moves_are : (w : World) → ServesWorld v store w → steps.moves w piece ≡ moves_asked w.layout asked
   moves_are w serves =
-      ap (λ (ds : List Definition). moves_asked w.layout (asks ds (max_timestamp (state_of w.layout)) piece)) (sym serves.definitions)
-      ∙ ap (λ (time : ℕ). moves_asked w.layout (asks store.definitions time piece)) (sym serves.timestamp)
+      ap (λ (ds : List Definition). moves_asked w.layout (asks (record { tables = ds; max_timestamp = max_timestamp (state_of w.layout) }) piece)) (sym serves.definitions)
+      ∙ ap (λ (time : ℕ). moves_asked w.layout (asks (record { tables = store.definitions; max_timestamp = time }) piece)) (sym serves.timestamp)
       ∙ ap (moves_asked w.layout) is
 
 -- ---- moves
@@ -67,28 +68,48 @@ by_spent P Q f fault.Failed is = tt
 by_spent P Q f fault.OutOfMemory is = tt
 by_spent P Q f (fault.Damaged damage) is = tt
 by_spent P Q f (fault.NumbersSpent kind) is = f kind is
+by_spent P Q f (fault.AnalyzerMissing class) is = tt
 
 by_damage : (P Q : Damage → Type 0) → ((damage : Damage) → P damage → Q damage) → (e : StepFault) → OnStepDamage P e → OnStepDamage Q e
 by_damage P Q f fault.Failed is = tt
 by_damage P Q f fault.OutOfMemory is = tt
 by_damage P Q f (fault.Damaged damage) is = f damage is
 by_damage P Q f (fault.NumbersSpent kind) is = tt
+by_damage P Q f (fault.AnalyzerMissing class) is = tt
+
+-- what holds anyhow
+where_spent : (P : Type 0) (e : StepFault) → P → OnSpent (λ _. P) e
+where_spent P fault.Failed holds = tt
+where_spent P fault.OutOfMemory holds = tt
+where_spent P (fault.Damaged damage) holds = tt
+where_spent P (fault.NumbersSpent kind) holds = holds
+where_spent P (fault.AnalyzerMissing class) holds = tt
+
+never_missing : (P : Class → Type 0) (e : StepFault) → OnMissing (λ _. ⊥) e → OnMissing P e
+never_missing P fault.Failed never = tt
+never_missing P fault.OutOfMemory never = tt
+never_missing P (fault.Damaged damage) never = tt
+never_missing P (fault.NumbersSpent kind) never = tt
+never_missing P (fault.AnalyzerMissing class) never = absurd never
+
+needed_asked : (kinds : List Class) (asked other : Asked) → asked ≡ other → HasNeeded kinds (class_needed other) → HasNeeded kinds (class_needed asked)
+needed_asked kinds asked other is has = subst (λ (a : Asked). HasNeeded kinds (class_needed a)) (sym is) has
 
 -- the whole reply was known from the state
-answered_as : (store : StoreInMemory) (s after : State) (piece : Piece) (reply : List ℕ) (outcome : Outcome) → StepsTo s piece after reply outcome → IsStateOf store.definitions store.max_timestamp after → AnsweredButRows store s piece reply outcome
+answered_as : (store : StoreInMemory) (s after : State) (piece : Piece) (reply : List ℕ) (outcome : Outcome) → StepsTo s piece after reply outcome → IsStateOf (known_in_memory store) after → AnsweredButRows store s piece reply outcome
 answered_as store s after piece reply outcome to of = record {
-  state_is = subst (IsStateOf store.definitions store.max_timestamp) (sym to.state_is) of;
+  state_is = subst (IsStateOf (known_in_memory store)) (sym to.state_is) of;
   outcome_is = to.outcome_is;
   reply_is = λ _. sym to.reply_is;
 }
 
-module _ {T : Type 0} (a b : View) (old new : StoreInMemory) (piece : Piece) (reply : List ℕ) (asked : Asked) (is : asks old.definitions old.max_timestamp piece ≡ asked) (changing : asked ≡ ask.NoChange → ⊥) where
+module _ {T : Type 0} (kinds : List Class) (a b : View) (old new : StoreInMemory) (piece : Piece) (reply : List ℕ) (asked : Asked) (is : asks (known_in_memory old) piece ≡ asked) (changing : asked ≡ ask.NoChange → ⊥) where
   -- its moves were made; `after` is the state after the piece
   pub step_made : (x : T) (after : State → State) → MakesMoves {T = T} (λ l. moves_asked l asked) a b old new (Ok x)
-      → ((s : State) → IsStateOf old.definitions old.max_timestamp s → StepsTo s piece (after s) reply Done)
-      → ((s : State) → IsStateOf old.definitions old.max_timestamp s → IsStateOf new.definitions new.max_timestamp (after s))
-      → StepPromises piece a b old new reply (Ok Done)
-  step_made x after makes steps_to known = record {
+      → ((s : State) → IsStateOf (known_in_memory old) s → StepsTo s piece (after s) reply Done)
+      → ((s : State) → IsStateOf (known_in_memory old) s → IsStateOf (known_in_memory new) (after s))
+      → (KnowsClasses kinds old → KnowsClasses kinds new) → HasNeeded kinds (class_needed asked) → StepPromises kinds piece a b old new reply (Ok Done)
+  step_made x after makes steps_to known classes has = record {
     answers = λ w serves.
         let to = steps_to (state_of w.layout) (state_is a old w.layout serves) in
         record {
@@ -101,6 +122,10 @@ module _ {T : Type 0} (a b : View) (old new : StoreInMemory) (piece : Piece) (re
     ready = makes.ready;
     any_moment = λ w serves. subst (λ (ms : List Move). Changes (λ x y. Between w.layout ms y) a b) (sym (moves_are a old piece asked is w serves)) (makes.any_moment w.layout serves);
     spent_is = tt;
+    classes = classes;
+    needed = needed_asked kinds (asks (known_in_memory old) piece) asked is has;
+    needed_first = tt;
+    missing = tt;
     damaged = λ folder files. tt;
     undamaged = λ w serves. tt;
     reads_only = λ none. absurd (changing (sym is ∙ none));
@@ -111,13 +136,17 @@ module _ {T : Type 0} (a b : View) (old new : StoreInMemory) (piece : Piece) (re
   }
 
   -- they weren't, or not all of them
-  pub step_failed : (e : StepFault) → MakesMoves {T = T} (λ l. moves_asked l asked) a b old new (Err e) → StepPromises piece a b old new reply (Err e)
-  step_failed e makes = record {
+  pub step_failed : (e : StepFault) → MakesMoves {T = T} (λ l. moves_asked l asked) a b old new (Err e) → HasNeeded kinds (class_needed asked) → StepPromises kinds piece a b old new reply (Err e)
+  step_failed e makes has = record {
     answers = tt;
     everywhere = tt;
     ready = tt;
     any_moment = λ w serves. subst (λ (ms : List Move). Changes (λ x y. Between w.layout ms y) a b) (sym (moves_are a old piece asked is w serves)) (makes.any_moment w.layout serves);
     spent_is = by_spent _ _ (λ kind on w serves. ap (spent w.layout) (moves_are a old piece asked is w serves) ∙ on w.layout serves) e makes.spent_is;
+    classes = tt;
+    needed = tt;
+    needed_first = where_spent _ e (needed_asked kinds (asks (known_in_memory old) piece) asked is has);
+    missing = never_missing _ e makes.present;
     damaged = λ folder files. by_damage (λ _. ⊥) (FolderShows folder) (λ damage none. absurd none) e makes.undamaged;
     undamaged = λ w serves. makes.undamaged;
     reads_only = λ none. absurd (changing (sym is ∙ none));
@@ -132,36 +161,49 @@ module _ {T : Type 0} (a b : View) (old new : StoreInMemory) (piece : Piece) (re
 no_kind : (kind : NumberKind) → None ≡ Some kind → ⊥
 no_kind kind e = cc
 
-abbrev none_left : Result Outcome StepFault
-none_left = Err fault.OutOfMemory
-
--- memory ran out before anything was done
-pub step_full : (v : View) (sound : IsSound v) (old : StoreInMemory) (piece : Piece) (reply : List ℕ) → StepPromises piece v v old old reply (Err fault.OutOfMemory)
-step_full v sound old piece reply = record {
+-- nothing was done: memory ran out, or the analyzer of a new index is missing
+step_not_made : (kinds : List Class) (v : View) (sound : IsSound v) (old : StoreInMemory) (piece : Piece) (reply : List ℕ) (e : StepFault) → e ≢ fault.Failed
+    → OnSpent (λ _. ⊥) e → OnStepDamage (λ _. ⊥) e → OnMissing (LacksNeeded kinds (asks (known_in_memory old) piece)) e → StepPromises kinds piece v v old old reply (Err e)
+step_not_made kinds v sound old piece reply e other unspent undamaged missing = record {
   answers = tt;
   everywhere = tt;
   ready = tt;
   any_moment = λ w serves. moves_none w.layout v (steps.moves w piece) sound (λ x now. (_, serves.shape x now));
-  spent_is = tt;
-  damaged = λ folder files. tt;
-  undamaged = λ w serves. tt;
+  spent_is = by_spent (λ _. ⊥) _ (λ kind none. absurd none) e unspent;
+  classes = tt;
+  needed = tt;
+  needed_first = by_spent (λ _. ⊥) _ (λ kind none. absurd none) e unspent;
+  missing = missing;
+  damaged = λ folder files. by_damage (λ _. ⊥) (FolderShows folder) (λ damage none. absurd none) e undamaged;
+  undamaged = λ w serves. undamaged;
   reads_only = λ none. stays v;
   unread = λ other. refl;
   reads = λ w serves. omega arith;
   changes = any_change Same v v (stays v);
-  causes = none_made v (Err fault.OutOfMemory) (λ e is same. memory_only e is same);
+  causes = none_made v (Err e) (λ f is same. (let one : e ≡ f = cc in other (one_then one same)));
 }
   where
-    memory_only : (e : StepFault) → none_left ≡ Err e → e ≡ fault.Failed → ⊥
-    memory_only e is same = (let one : fault.OutOfMemory ≡ e = cc in both (one ∙ same))
-      where
-        both : fault.OutOfMemory ≡ fault.Failed → ⊥
-        both e = cc
+    one_then : {f : StepFault} → e ≡ f → f ≡ fault.Failed → e ≡ fault.Failed
+    one_then one same = cc
+
+pub step_full : (kinds : List Class) (v : View) (sound : IsSound v) (old : StoreInMemory) (piece : Piece) (reply : List ℕ) → StepPromises kinds piece v v old old reply (Err fault.OutOfMemory)
+step_full kinds v sound old piece reply = step_not_made kinds v sound old piece reply fault.OutOfMemory both tt tt tt
+  where
+    both : fault.OutOfMemory ≡ fault.Failed → ⊥
+    both e = cc
+
+pub step_missing : (kinds : List Class) (v : View) (sound : IsSound v) (old : StoreInMemory) (piece : Piece) (reply : List ℕ) (asked : Asked) (class : Class) → asks (known_in_memory old) piece ≡ asked → LacksNeeded kinds asked class
+    → StepPromises kinds piece v v old old reply (Err (fault.AnalyzerMissing class))
+step_missing kinds v sound old piece reply asked class is lacks =
+    step_not_made kinds v sound old piece reply (fault.AnalyzerMissing class) both tt tt (subst (λ (a : Asked). LacksNeeded kinds a class) (sym is) lacks)
+  where
+    both : fault.AnalyzerMissing class ≡ fault.Failed → ⊥
+    both e = cc
 
 -- it is answered without a change
-pub step_answered : (v : View) (sound : IsSound v) (old : StoreInMemory) (piece : Piece) (reply : List ℕ) (outcome : Outcome) → CanChange v old → asks old.definitions old.max_timestamp piece ≡ ask.NoChange
-    → ((s : State) → IsStateOf old.definitions old.max_timestamp s → StepsTo s piece s reply outcome) → StepPromises piece v v old old reply (Ok outcome)
-step_answered v sound old piece reply outcome ready is steps_to = record {
+pub step_answered : (kinds : List Class) (v : View) (sound : IsSound v) (old : StoreInMemory) (piece : Piece) (reply : List ℕ) (outcome : Outcome) → CanChange v old → asks (known_in_memory old) piece ≡ ask.NoChange
+    → ((s : State) → IsStateOf (known_in_memory old) s → StepsTo s piece s reply outcome) → StepPromises kinds piece v v old old reply (Ok outcome)
+step_answered kinds v sound old piece reply outcome ready is steps_to = record {
   answers = λ w serves.
       let to = steps_to (state_of w.layout) (state_is v old w.layout serves) in
       record {
@@ -174,6 +216,10 @@ step_answered v sound old piece reply outcome ready is steps_to = record {
   ready = ready;
   any_moment = λ w serves. moves_none w.layout v (steps.moves w piece) sound (λ x now. (_, serves.shape x now));
   spent_is = tt;
+  classes = λ known. known;
+  needed = needed_asked kinds (asks (known_in_memory old) piece) ask.NoChange is tt;
+  needed_first = tt;
+  missing = tt;
   damaged = λ folder files. tt;
   undamaged = λ w serves. tt;
   reads_only = λ none. stays v;
@@ -237,16 +283,16 @@ module _ (a b : View) (change : Changes Same a b) where
     kept = λ folder files. ready.kept folder (files_before folder files);
   }
 
-module _ (a b : View) (sound : IsSound a) (old : StoreInMemory) (piece : Piece) (change : Changes Same a b) (is : asks old.definitions old.max_timestamp piece ≡ ask.NoChange) (query : IsQuery (read piece)) where
+module _ (kinds : List Class) (a b : View) (sound : IsSound a) (old : StoreInMemory) (piece : Piece) (change : Changes Same a b) (is : asks (known_in_memory old) piece ≡ ask.NoChange) (query : IsQuery (read piece)) where
   moments : (w : World) → ServesWorld a old w → Changes (λ x y. Between w.layout (steps.moves w piece) y) a b
   moments w serves = at_each_moment a b Same (λ x. HasShape x (bare w.layout) (serves.older ++ serves.current ∷ [])) (λ y. Between w.layout (steps.moves w piece) y) sound change serves.shape
       (λ x y has same. none_done w.layout (steps.moves w piece) y (_, subst (λ (z : Folder). HasShape z (bare w.layout) (serves.older ++ serves.current ∷ [])) (sym same) has))
 
   pub select_answered : {T : Type 0} (x : T) (reply : List ℕ) → CanChange a old → ((w : World) → ServesWorld a old w → (step (state_of w.layout) piece).reply ≡ reply)
-      → ((s : State) → IsStateOf old.definitions old.max_timestamp s → ((step s piece).state ≡ s) × (Done ≡ outcome_of (step s piece).refused))
+      → ((s : State) → IsStateOf (known_in_memory old) s → ((step s piece).state ≡ s) × (Done ≡ outcome_of (step s piece).refused))
       → (number : ℕ) → select_reads a.files old (read piece) ≡ table_reads a.files (files_of old.manifest.listing.tables number)
       → ((l : Layout) → Serves a old l → b.reads ≤ a.reads + table_reads a.files (files_of old.manifest.listing.tables number))
-      → StepCauses {T = T} a b (Ok x) → StepPromises piece a b old old reply (Ok Done)
+      → StepCauses {T = T} a b (Ok x) → StepPromises kinds piece a b old old reply (Ok Done)
   select_answered x reply ready replied steps_to number cost costs causes = record {
     answers = λ w serves. record {
       serves = subst (λ (ms : List Move). Serves b old (after_moves ms w.layout)) (sym (moves_are a old piece ask.NoChange is w serves)) (serves_same a b change old w.layout serves);
@@ -257,13 +303,17 @@ module _ (a b : View) (sound : IsSound a) (old : StoreInMemory) (piece : Piece) 
     everywhere = λ s of.
         let to = steps_to s of in
         record {
-          state_is = subst (IsStateOf old.definitions old.max_timestamp) (sym to.0) of;
+          state_is = subst (IsStateOf (known_in_memory old)) (sym to.0) of;
           outcome_is = to.1;
           reply_is = λ other. absurd (other (query, none_refused (step s piece).refused to.1));
         };
     ready = ready_same a b change old ready;
     any_moment = moments;
     spent_is = tt;
+    classes = λ known. known;
+    needed = needed_asked kinds (asks (known_in_memory old) piece) ask.NoChange is tt;
+    needed_first = tt;
+    missing = tt;
     damaged = λ folder files. tt;
     undamaged = λ w serves. tt;
     reads_only = λ none. change;
@@ -273,16 +323,20 @@ module _ (a b : View) (sound : IsSound a) (old : StoreInMemory) (piece : Piece) 
     causes = record { disk = causes.disk; out = causes.out; ok = causes.ok; failed = tt; others = tt };
   }
 
-  pub select_failed : {T : Type 0} (e : StepFault) (reply : List ℕ) → ((folder : Folder) → b.files ≡ Some folder → OnStepDamage (FolderShows folder) e) → ((l : Layout) → Serves a old l → OnStepDamage (λ _. ⊥) e) → OnSpent (λ _. ⊥) e
+  pub select_failed : {T : Type 0} (e : StepFault) (reply : List ℕ) → ((folder : Folder) → b.files ≡ Some folder → OnStepDamage (FolderShows folder) e) → ((l : Layout) → Serves a old l → OnStepDamage (λ _. ⊥) e) → OnSpent (λ _. ⊥) e → OnMissing (λ _. ⊥) e
       → (number : ℕ) → select_reads a.files old (read piece) ≡ table_reads a.files (files_of old.manifest.listing.tables number)
       → ((l : Layout) → Serves a old l → b.reads ≤ a.reads + table_reads a.files (files_of old.manifest.listing.tables number))
-      → StepCauses {T = T} a b (Err e) → StepPromises piece a b old old reply (Err e)
-  select_failed e reply damaged undamaged unspent number cost costs causes = record {
+      → StepCauses {T = T} a b (Err e) → StepPromises kinds piece a b old old reply (Err e)
+  select_failed e reply damaged undamaged unspent present number cost costs causes = record {
     answers = tt;
     everywhere = tt;
     ready = tt;
     any_moment = moments;
     spent_is = by_spent (λ _. ⊥) _ (λ kind none. absurd none) e unspent;
+    classes = tt;
+    needed = tt;
+    needed_first = by_spent (λ _. ⊥) _ (λ kind none. absurd none) e unspent;
+    missing = never_missing _ e present;
     damaged = damaged;
     undamaged = λ w serves. undamaged w.layout serves;
     reads_only = λ none. change;

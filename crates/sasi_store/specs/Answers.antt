@@ -2,7 +2,7 @@
 use Rattle.std.specs.Prelude.{◌≡◌, ◌⊎◌, ℕ, List, IsSome, None}
 use Rattle.sasi_host.specs.View.{View}
 use Rattle.sasi_layout.specs.Layout.{state_of}
-use Rattle.sasi_layout.specs.Serving.{StoreInMemory}
+use Rattle.sasi_layout.specs.Serving.{StoreInMemory, known_in_memory}
 use Rattle.sasi_layout.specs.Spent.{spent}
 use Rattle.sasi_layout.specs.Worlds.{ServesWorld, World, steps}
 use Rattle.sasi_machine.specs.Outcome.{outcome_of}
@@ -27,7 +27,7 @@ PrintsRows parser s piece = IsQuery (read_by parser piece) × ((step_by parser s
 
 -- Whatever the files are: the outcome is that of the model's step, and so is the reply, but where it has rows. The store has the definitions and the largest timestamp of the state after the piece.
 pub record AnsweredButRows (store : StoreInMemory) (s : State) (piece : Piece) (reply : List ℕ) (outcome : Outcome) : Type 0 where
-  pub state_is : IsStateOf store.definitions store.max_timestamp (step s piece).state
+  pub state_is : IsStateOf (known_in_memory store) (step s piece).state
   pub outcome_is : outcome ≡ outcome_of (step s piece).refused
   pub reply_is : ¬ (PrintsRows grammar_parser s piece) → reply ≡ (step s piece).reply
 

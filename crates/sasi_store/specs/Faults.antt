@@ -1,5 +1,6 @@
 -- Why a store makes no step.
 use Rattle.std.specs.Prelude.{◌≡◌, ◌≢◌, ◌≤◌, IfErr, OnOk, Result}
+use Rattle.sasi_types.specs.declared.class.Class.{Class}
 use Rattle.sasi_host.specs.declared.damage.Damage.{Damage}
 use Rattle.sasi_host.specs.declared.fault.HostFault.{HostFault}
 use Rattle.sasi_host.specs.declared.fault.HostFault.TheVariants as host_fault
@@ -30,6 +31,11 @@ OnStepDamage P _ = Unit {0}
 abbrev pub OnSpent : (NumberKind → Type 0) → StepFault → Type 0
 OnSpent P (fault.NumbersSpent kind) = P kind
 OnSpent P _ = Unit {0}
+
+-- if the analyzer of a class is missing, the class has P
+abbrev pub OnMissing : (Class → Type 0) → StepFault → Type 0
+OnMissing P (fault.AnalyzerMissing class) = P class
+OnMissing P _ = Unit {0}
 
 -- where the host failed, the last file call did, and none before it; else none did
 pub record StepCauses {T : Type 0} (old new : View) (result : Result T StepFault) : Type 0 where

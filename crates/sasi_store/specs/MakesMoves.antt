@@ -9,7 +9,7 @@ use Rattle.sasi_layout.specs.Serving.{CanChange, Serves, StoreInMemory}
 use Rattle.sasi_layout.specs.Spent.{spent}
 use Rattle.sasi_model.specs.State.{Definition}
 use Rattle.sasi_recover.specs.OpenedFolder.{AnyFolderChange}
-use Rattle.sasi_store.specs.Faults.{OnSpent, OnStepDamage, StepCauses}
+use Rattle.sasi_store.specs.Faults.{OnMissing, OnSpent, OnStepDamage, StepCauses}
 use Rattle.sasi_store.specs.declared.fault.StepFault.{StepFault}
 
 -- what the store knows of its state without its files
@@ -21,7 +21,7 @@ pub record Knows (store : StoreInMemory) (definitions : List Definition) (max_ti
 abbrev pub MovesOf : Type 0
 MovesOf = Layout → List Move
 
--- Whichever layout the store serves, each moment is one between its moves. Afterwards it serves the layout after them. It ends early only where a number is spent that they need, or where a call or memory fails.
+-- Whichever layout the store serves, each moment is one between its moves. Afterwards it serves the layout after them. It ends early only where a number is spent that they need, or where a call or memory fails, and never for an analyzer.
 pub record MakesMoves {T : Type 0} (moves : MovesOf) (a b : View) (old new : StoreInMemory) (result : Result T StepFault) : Type 0 where
   pub any_moment : (l : Layout) → Serves a old l → Changes (λ x y. Between l (moves l) y) a b
   pub serves : OnOk result ((l : Layout) → Serves a old l → Serves b new (after_moves (moves l) l))
@@ -29,6 +29,7 @@ pub record MakesMoves {T : Type 0} (moves : MovesOf) (a b : View) (old new : Sto
   pub unspent : OnOk result ((l : Layout) → Serves a old l → spent l (moves l) ≡ None)
   pub spent_is : IfErr result (OnSpent (λ kind. (l : Layout) → Serves a old l → spent l (moves l) ≡ Some kind))
   pub undamaged : IfErr result (OnStepDamage (λ _. ⊥))
+  pub present : IfErr result (OnMissing (λ _. ⊥))
   pub changes : Changes AnyFolderChange a b
   pub reads : b.reads ≡ a.reads
   pub causes : StepCauses a b result

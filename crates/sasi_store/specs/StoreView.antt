@@ -27,7 +27,7 @@ pub record IsReady (v : View) (store : StoreView) : Type 0 where
 
 abbrev pub memory_of : Parts → StoreInMemory
 memory_of p = record {
-  definitions = p.schema;
+  definitions = p.schema.definitions;
   manifest = p.manifest;
   log = p.log;
   tables = map opened_table p.tables.items;

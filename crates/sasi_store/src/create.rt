@@ -23,7 +23,7 @@ pub fn create<H: Host>(parts: &mut Parts, host: &mut H, table: Table) -> Result<
     requires parts { IsOfParts parts.old }
     requires creatable { IsCreatable (memory_of parts.old) table }
     ensures makes { MakesMoves (λ l. moves_asked l (Creates (definition table))) (H.view host.old) (H.view host.new) (memory_of parts.old) (memory_of parts.new) result }
-    ensures knows { OnOk result (Knows (memory_of parts.new) (parts.old.schema ++ definition table ∷ []) parts.old.max_timestamp) }
+    ensures knows { OnOk result (Knows (memory_of parts.new) (parts.old.schema.definitions ++ definition table ∷ []) parts.old.max_timestamp) }
     ensures parts { OnOk result (IsOfParts parts.new) }
 {
     let edits = create_edits(parts.alloc, &table, parts.manifest.listing().last)?;

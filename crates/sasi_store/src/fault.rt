@@ -1,9 +1,10 @@
 // Why a store makes no step.
 ghost use Rattle.std.specs.Prelude.{◌≡◌};
-ghost use Rattle.sasi_store.specs.declared.fault.StepFault.TheVariants.{NumbersSpent, OutOfMemory};
+ghost use Rattle.sasi_store.specs.declared.fault.StepFault.TheVariants.{AnalyzerMissing, NumbersSpent, OutOfMemory};
 
 use sasi_host::{Damage, HostFault, ReadFault};
 use sasi_layout::NumberKind;
+use sasi_types::Class;
 use std::alloc::AllocError;
 
 /// Why a store makes no step.
@@ -14,6 +15,16 @@ pub enum StepFault {
     Damaged(Damage),
     /// The statement needs a number, and the last one of this kind is used.
     NumbersSpent(NumberKind),
+    /// The statement makes an index that needs an analyzer of this class, and none was handed in.
+    AnalyzerMissing(Class),
+}
+
+impl From<Class> for StepFault {
+    ghost from_gives = { λ class f. f ≡ AnalyzerMissing class };
+
+    fn from(class: Class) -> StepFault {
+        StepFault::AnalyzerMissing(class)
+    }
 }
 
 impl From<AllocError> for StepFault {

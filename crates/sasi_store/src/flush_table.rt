@@ -31,7 +31,7 @@ pub fn flush_unless_empty<H: Host>(
     requires parts { IsOfParts parts.old }
     requires there { HasTableFor table parts.old.tables.items }
     ensures makes { MakesMoves (flush_where any_partition table) (H.view host.old) (H.view host.new) (memory_of parts.old) (memory_of parts.new) result }
-    ensures knows { OnOk result (Knows (memory_of parts.new) parts.old.schema parts.old.max_timestamp) }
+    ensures knows { OnOk result (Knows (memory_of parts.new) parts.old.schema.definitions parts.old.max_timestamp) }
     ensures parts { OnOk result (IsOfParts parts.new) }
 {
     if parts.tables[table as usize - 1].memtable.is_empty() {
@@ -50,7 +50,7 @@ pub fn flush_table<H: Host>(
     requires parts { IsOfParts parts.old }
     requires held { IsUnflushed table (memory_of parts.old) }
     ensures makes { MakesMoves (λ l. Flush table ∷ []) (H.view host.old) (H.view host.new) (memory_of parts.old) (memory_of parts.new) result }
-    ensures knows { OnOk result (Knows (memory_of parts.new) parts.old.schema parts.old.max_timestamp) }
+    ensures knows { OnOk result (Knows (memory_of parts.new) parts.old.schema.definitions parts.old.max_timestamp) }
     ensures parts { OnOk result (IsOfParts parts.new) }
 {
     let next = next_numbers(parts.numbers)?;

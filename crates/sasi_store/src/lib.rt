@@ -4,6 +4,7 @@
 #![tactic(auto)]
 
 mod create;
+mod define;
 mod fault;
 mod flush;
 mod flush_file;

@@ -49,7 +49,7 @@ pub fn parts_of(alloc: Global, opened: Opened) -> Result<Parts, AllocError>
 fn schema_of(alloc: Global, tables: &[ListedTable]) -> Result<Schema, AllocError>
     requires numbers { RisesFrom 1 (map (λ t. t.table.number) tables.now) }
     requires apart { AreApart [] (map (λ t. t.table.name) tables.now) }
-    ensures { IfOk result (λ schema. schema ≡ map (λ t. definition t.table) tables.now) }
+    ensures { IfOk result (λ schema. schema.definitions ≡ map (λ t. definition t.table) tables.now) }
 {
     let mut schema = Schema::new(alloc);
     for listed in tables {

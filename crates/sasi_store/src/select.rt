@@ -7,7 +7,7 @@ ghost use Rattle.sasi_layout.specs.Layout.{Layout, state_of};
 ghost use Rattle.sasi_layout.specs.Serving.{CanChange, Serves};
 ghost use Rattle.sasi_machine.specs.Prepares.{answer_rows};
 ghost use Rattle.sasi_manifest.specs.Edits.{files_of};
-ghost use Rattle.sasi_store.specs.Faults.{OnSpent, OnStepDamage, StepCauses};
+ghost use Rattle.sasi_store.specs.Faults.{OnMissing, OnSpent, OnStepDamage, StepCauses};
 ghost use Rattle.sasi_store.specs.Paging.{table_reads};
 ghost use Rattle.sasi_store.specs.Selects.{IsSelectable};
 ghost use Rattle.sasi_store.specs.StoreView.{IsOfParts, memory_of};
@@ -35,6 +35,7 @@ pub fn select<H: Host>(
     ensures damaged { (folder : Folder) → (H.view host.new).files ≡ Some folder → IfErr result (OnStepDamage (FolderShows folder)) }
     ensures undamaged { (l : Layout) → Serves (H.view host.old) (memory_of parts.now) l → IfErr result (OnStepDamage (λ _. ⊥)) }
     ensures unspent { IfErr result (OnSpent (λ _. ⊥)) }
+    ensures present { IfErr result (OnMissing (λ _. ⊥)) }
     ensures changes { Changes Same (H.view host.old) (H.view host.new) }
     ensures causes { StepCauses (H.view host.old) (H.view host.new) result }
 {

@@ -1,6 +1,6 @@
 // Steps.
-ghost use Rattle.std.specs.Prelude.{◌≡◌, ◌<◌, ◌^◌, OnOk};
-ghost use Rattle.sasi_layout.specs.Serving.{CanChange};
+ghost use Rattle.std.specs.Prelude.{◌≡◌, ◌<◌, ◌^◌, OnOk, map};
+ghost use Rattle.sasi_layout.specs.Serving.{CanChange, known_in_memory};
 ghost use Rattle.sasi_machine.specs.Prepares.{IsStateOf};
 ghost use Rattle.sasi_model.specs.Pieces.{piece_of};
 ghost use Rattle.sasi_model.specs.State.{State};
@@ -10,10 +10,12 @@ ghost use Rattle.sasi_store.specs.StoreView.{IsOfParts, memory_of};
 
 use crate::StepFault;
 use crate::create::create;
+use crate::define::{check_class, define};
 use crate::flush_table::flush_unless_empty;
 use crate::parts::Parts;
 use crate::select::select;
 use crate::write::write;
+use sasi_analyzers::Kit;
 use sasi_host::Host;
 use sasi_machine::{Outcome, Prepared, Reply, prepare};
 use sasi_types::{PieceEnd, TableNumber};
@@ -22,14 +24,16 @@ use sasi_types::{PieceEnd, TableNumber};
 pub fn step<H: Host>(
     parts: &mut Parts,
     host: &mut H,
+    kit: &mut Kit,
     piece: &[u8],
     end: PieceEnd,
     reply: &mut Reply,
 ) -> Result<Outcome, StepFault>
     requires ready { CanChange (H.view host.old) (memory_of parts.old) }
     requires parts { IsOfParts parts.old }
-    ensures steps { StepPromises (piece_of end piece.now) (H.view host.old) (H.view host.new) (memory_of parts.old) (memory_of parts.new) reply.new result }
-    ensures no_file_call { (s : State) → IsStateOf parts.old.schema parts.old.max_timestamp s → NeedsNoFile s (piece_of end piece.now) → host.new ≡ host.old }
+    ensures kinds { map (λ b. kind (b.vtable, b.value)) kit.new.objects.items ≡ map (λ b. kind (b.vtable, b.value)) kit.old.objects.items }
+    ensures steps { StepPromises (map (λ b. kind (b.vtable, b.value)) kit.old.objects.items) (piece_of end piece.now) (H.view host.old) (H.view host.new) (memory_of parts.old) (memory_of parts.new) reply.new result }
+    ensures no_file_call { (s : State) → IsStateOf (known_in_memory (memory_of parts.old)) s → NeedsNoFile s (piece_of end piece.now) → host.new ≡ host.old }
     ensures parts { OnOk result (IsOfParts parts.new) }
 {
     match prepare(
@@ -43,6 +47,13 @@ pub fn step<H: Host>(
         Prepared::Answered(outcome) => Ok(outcome),
         Prepared::Create(table) => {
             create(parts, host, table)?;
+            Ok(Outcome::Done)
+        }
+        Prepared::Define(index) => {
+            note_number(index.table);
+            note_column(index.column);
+            check_class(kit, &index)?;
+            define(parts, host, index)?;
             Ok(Outcome::Done)
         }
         Prepared::Write(mutation) => {
@@ -66,4 +77,11 @@ fn note_number(number: TableNumber)
     ensures { number < 2 ^ 32 }
 {
     let _ = number;
+}
+
+// The same of a column's number, which has 16.
+fn note_column(column: u16)
+    ensures { column < 2 ^ 16 }
+{
+    let _ = column;
 }

@@ -1,9 +1,9 @@
 // Stores.
-ghost use Rattle.std.specs.Prelude.{◌≡◌, ◌+◌, ◌≤◌, [], IfErr, IfOk, OnOk, Some, is_ok};
+ghost use Rattle.std.specs.Prelude.{◌≡◌, ◌+◌, ◌≤◌, [], IfErr, IfOk, OnOk, Some, false, is_ok, map};
 ghost use Rattle.sasi_host.specs.Disk.{Changes, Same};
 ghost use Rattle.sasi_host.specs.Names.{Folder};
 ghost use Rattle.sasi_host.specs.View.{DiskCauses, counted};
-ghost use Rattle.sasi_model.specs.Asked.{NoChange, asks};
+ghost use Rattle.sasi_model.specs.Asked.{NoChange, asks, class_needed};
 ghost use Rattle.sasi_model.specs.Pieces.{piece_of};
 ghost use Rattle.sasi_model.specs.Refusals.{read};
 ghost use Rattle.sasi_model.specs.State.{State};
@@ -11,22 +11,25 @@ ghost use Rattle.sasi_folder.specs.Damages.{FolderShows};
 ghost use Rattle.sasi_folder.specs.Opens.{CanOpen};
 ghost use Rattle.sasi_layout.specs.Between.{Between};
 ghost use Rattle.sasi_layout.specs.Layout.{Layout};
-ghost use Rattle.sasi_layout.specs.Serving.{Ended, closed};
+ghost use Rattle.sasi_analyzers.specs.Kits.{has_class};
+ghost use Rattle.sasi_layout.specs.Classes.{HasNeeded, KnowsClasses, LacksNeeded};
+ghost use Rattle.sasi_layout.specs.Serving.{Ended, closed, known_in_memory};
 ghost use Rattle.sasi_layout.specs.Shape.{ShapeOf};
 ghost use Rattle.sasi_layout.specs.Spent.{spent};
 ghost use Rattle.sasi_layout.specs.Worlds.{ServesWorld, World, new_world, steps};
 ghost use Rattle.sasi_machine.specs.Prepares.{IsQuery, IsStateOf};
-ghost use Rattle.sasi_recover.specs.Faults.{OnDiffers, OpenCauses};
+ghost use Rattle.sasi_recover.specs.Faults.{OnDiffers, OnMissing, OpenCauses};
 ghost use Rattle.sasi_recover.specs.OpenedFolder.{AnyFolderChange};
 ghost use Rattle.sasi_recover.specs.Promises.{OpensSafely, ReportsTruly};
 ghost use Rattle.sasi_store.specs.Answers.{Answered, AnsweredButRows, NeedsNoFile};
-ghost use Rattle.sasi_store.specs.Faults.{OnSpent, OnStepDamage, StepCauses};
+ghost use Rattle.sasi_store.specs.Faults.{OnMissing as OnMissingClass, OnSpent, OnStepDamage, StepCauses};
 ghost use Rattle.sasi_store.specs.Selects.{select_reads};
 ghost use Rattle.sasi_store.specs.StoreView.{IsReady};
 
 use crate::StepFault;
 use crate::parts::{Parts, parts_of};
 use crate::step::step;
+use sasi_analyzers::Kit;
 use sasi_host::{Failed, Host};
 use sasi_machine::{Outcome, Reply};
 use sasi_recover::OpenFault;
@@ -61,20 +64,26 @@ impl Store {
     pub fn open<H: Host>(
         alloc: Global,
         host: &mut H,
+        kit: &mut Kit,
         asked: Option<Partitioner>,
     ) -> Result<Store, OpenFault>
         ensures ready { IfOk result (λ store. IsReady (H.view host.new) store) }
-        ensures state { IfOk result (λ store. (s : State) × IsStateOf store.memory.definitions store.memory.max_timestamp s) }
+        ensures state { IfOk result (λ store. (s : State) × IsStateOf (known_in_memory store.memory) s) }
         ensures serves { (folder : Folder) (l : Layout) → (H.view host.old).files ≡ Some folder → ShapeOf asked folder l → IfOk result (λ store. ServesWorld (H.view host.new) store.memory (new_world l)) }
         ensures opens { (folder : Folder) → (H.view host.old).files ≡ Some folder → OnOk result (CanOpen folder) }
         ensures safe { OpensSafely asked (H.view host.old) (H.view host.new) }
-        ensures reports { ReportsTruly asked (H.view host.old) result }
-        // A folder that keeps another partitioner stays as it is.
+        // An analyzer is there for each index.
+        ensures classes { IfOk result (λ store. KnowsClasses (map (λ b. kind (b.vtable, b.value)) kit.old.objects.items) store.memory) }
+        ensures kit { kit.new ≡ kit.old }
+        ensures reports { ReportsTruly asked (map (λ b. kind (b.vtable, b.value)) kit.old.objects.items) (H.view host.old) result }
+        // A folder that keeps another partitioner, or that needs an analyzer that isn't there, stays as it is.
         ensures untouched { IfErr result (OnDiffers (λ wanted kept. Changes Same (H.view host.old) (H.view host.new))) }
+        ensures absent { IfErr result (OnMissing (λ class. has_class class (map (λ b. kind (b.vtable, b.value)) kit.old.objects.items) ≡ false)) }
+        ensures unopened { IfErr result (OnMissing (λ class. Changes Same (H.view host.old) (H.view host.new))) }
         ensures causes { OpenCauses (H.view host.old) (H.view host.new) result }
         ensures steps { IfOk result (λ store. store.steps ≡ 0) }
     {
-        let opened = sasi_recover::open(alloc, host, asked)?;
+        let opened = sasi_recover::open(alloc, host, kit, asked)?;
         let Ok(parts) = parts_of(alloc, opened) else {
             return Err(OpenFault::OutOfMemory);
         };
@@ -90,20 +99,28 @@ impl Store {
     pub fn step<H: Host>(
         &mut self,
         host: &mut H,
+        kit: &mut Kit,
         piece: &[u8],
         end: PieceEnd,
         reply: &mut Reply,
     ) -> Result<Outcome, StepFault>
-        requires { IsReady (H.view host.old) self.old }
+        requires ready { IsReady (H.view host.old) self.old }
+        requires classes { KnowsClasses (map (λ b. kind (b.vtable, b.value)) kit.old.objects.items) self.old.memory }
         ensures answers { IfOk result (λ outcome. (w : World) → ServesWorld (H.view host.old) self.old.memory w → Answered (H.view host.new) self.new.memory w (piece_of end piece.now) reply.new outcome) }
-        ensures everywhere { IfOk result (λ outcome. (s : State) → IsStateOf self.old.memory.definitions self.old.memory.max_timestamp s → AnsweredButRows self.new.memory s (piece_of end piece.now) reply.new outcome) }
+        ensures everywhere { IfOk result (λ outcome. (s : State) → IsStateOf (known_in_memory self.old.memory) s → AnsweredButRows self.new.memory s (piece_of end piece.now) reply.new outcome) }
         ensures ready { OnOk result (IsReady (H.view host.new) self.new) }
         ensures any_moment { (w : World) → ServesWorld (H.view host.old) self.old.memory w → Changes (λ x y. Between w.layout (steps.moves w (piece_of end piece.now)) y) (H.view host.old) (H.view host.new) }
         ensures spent { IfErr result (OnSpent (λ kind. (w : World) → ServesWorld (H.view host.old) self.old.memory w → spent w.layout (steps.moves w (piece_of end piece.now)) ≡ Some kind)) }
+        // An analyzer is there for each index, also for a new one. Where none is for a new one, no number was looked at.
+        ensures classes { OnOk result (KnowsClasses (map (λ b. kind (b.vtable, b.value)) kit.new.objects.items) self.new.memory) }
+        ensures kinds { map (λ b. kind (b.vtable, b.value)) kit.new.objects.items ≡ map (λ b. kind (b.vtable, b.value)) kit.old.objects.items }
+        ensures needed { IfOk result (λ outcome. HasNeeded (map (λ b. kind (b.vtable, b.value)) kit.old.objects.items) (class_needed (asks (known_in_memory self.old.memory) (piece_of end piece.now)))) }
+        ensures needed_first { IfErr result (OnSpent (λ _. HasNeeded (map (λ b. kind (b.vtable, b.value)) kit.old.objects.items) (class_needed (asks (known_in_memory self.old.memory) (piece_of end piece.now))))) }
+        ensures missing { IfErr result (OnMissingClass (LacksNeeded (map (λ b. kind (b.vtable, b.value)) kit.old.objects.items) (asks (known_in_memory self.old.memory) (piece_of end piece.now)))) }
         ensures damaged { (folder : Folder) → (H.view host.new).files ≡ Some folder → IfErr result (OnStepDamage (FolderShows folder)) }
         ensures undamaged { (w : World) → ServesWorld (H.view host.old) self.old.memory w → IfErr result (OnStepDamage (λ _. ⊥)) }
-        ensures no_file_call { (s : State) → IsStateOf self.old.memory.definitions self.old.memory.max_timestamp s → NeedsNoFile s (piece_of end piece.now) → host.new ≡ host.old }
-        ensures reads_only { asks self.old.memory.definitions self.old.memory.max_timestamp (piece_of end piece.now) ≡ NoChange → Changes Same (H.view host.old) (H.view host.new) }
+        ensures no_file_call { (s : State) → IsStateOf (known_in_memory self.old.memory) s → NeedsNoFile s (piece_of end piece.now) → host.new ≡ host.old }
+        ensures reads_only { asks (known_in_memory self.old.memory) (piece_of end piece.now) ≡ NoChange → Changes Same (H.view host.old) (H.view host.new) }
         ensures unread { (IsQuery (read (piece_of end piece.now)) → ⊥) → (H.view host.new).reads ≡ (H.view host.old).reads }
         ensures reads { (w : World) → ServesWorld (H.view host.old) self.old.memory w → (H.view host.new).reads ≤ (H.view host.old).reads + select_reads (H.view host.old).files self.old.memory (read (piece_of end piece.now)) }
         ensures changes { Changes AnyFolderChange (H.view host.old) (H.view host.new) }
@@ -113,7 +130,7 @@ impl Store {
     {
         self.steps = self.steps.saturating_add(1);
         self.usable = false;
-        let outcome = step(&mut self.parts, host, piece, end, reply)?;
+        let outcome = step(&mut self.parts, host, kit, piece, end, reply)?;
         self.usable = true;
         Ok(outcome)
     }

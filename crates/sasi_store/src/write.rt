@@ -32,7 +32,7 @@ pub fn write<H: Host>(parts: &mut Parts, host: &mut H, mutation: Mutation) -> Re
     requires parts { IsOfParts parts.old }
     requires writable { IsWritableMutation (memory_of parts.old) mutation }
     ensures makes { MakesMoves (λ l. moves_asked l (Writes mutation.table mutation.key mutation.change)) (H.view host.old) (H.view host.new) (memory_of parts.old) (memory_of parts.new) result }
-    ensures knows { OnOk result (Knows (memory_of parts.new) parts.old.schema (max parts.old.max_timestamp (max_timestamp_of mutation.change))) }
+    ensures knows { OnOk result (Knows (memory_of parts.new) parts.old.schema.definitions (max parts.old.max_timestamp (max_timestamp_of mutation.change))) }
     ensures parts { OnOk result (IsOfParts parts.new) }
 {
     let table = mutation.table;
@@ -46,7 +46,7 @@ fn flush_full<H: Host>(parts: &mut Parts, host: &mut H, table: TableNumber) -> R
     requires parts { IsOfParts parts.old }
     requires there { HasTableFor table parts.old.tables.items }
     ensures makes { MakesMoves (flush_where are_full table) (H.view host.old) (H.view host.new) (memory_of parts.old) (memory_of parts.new) result }
-    ensures knows { OnOk result (Knows (memory_of parts.new) parts.old.schema parts.old.max_timestamp) }
+    ensures knows { OnOk result (Knows (memory_of parts.new) parts.old.schema.definitions parts.old.max_timestamp) }
     ensures parts { OnOk result (IsOfParts parts.new) }
 {
     if is_full(&parts.tables[table as usize - 1].memtable) {
@@ -68,7 +68,7 @@ fn put<H: Host>(parts: &mut Parts, host: &mut H, mutation: Mutation) -> Result<(
     requires parts { IsOfParts parts.old }
     requires writable { IsWritableMutation (memory_of parts.old) mutation }
     ensures makes { MakesMoves (λ l. Put mutation ∷ []) (H.view host.old) (H.view host.new) (memory_of parts.old) (memory_of parts.new) result }
-    ensures knows { OnOk result (Knows (memory_of parts.new) parts.old.schema (max parts.old.max_timestamp (max_timestamp_of mutation.change))) }
+    ensures knows { OnOk result (Knows (memory_of parts.new) parts.old.schema.definitions (max parts.old.max_timestamp (max_timestamp_of mutation.change))) }
     ensures parts { OnOk result (IsOfParts parts.new) }
     ensures there { OnOk result (HasTableFor mutation.table parts.new.tables.items) }
 {

@@ -91,15 +91,20 @@ fn check_both(rt: &impl Abort, alloc: Global, kit: &mut Kit) {
     check_terms(rt, alloc, kit, rule, "The Quick fox", "|the|quick|fox");
 }
 
+/// A kit of both analyzers.
+pub fn kit_of_both(rt: &impl Abort, alloc: Global) -> Kit {
+    let mut objects: Vec<Box<dyn Analyzer>> = Vec::new(alloc);
+    let words = Box::new(alloc, Words::new(alloc)).expect(rt, "memory");
+    hand_in(rt, &mut objects, words);
+    let whole = Box::new(alloc, Whole::new()).expect(rt, "memory");
+    hand_in(rt, &mut objects, whole);
+    Kit::new(objects)
+}
+
 #[test]
 fn kit_finds_the_analyzer_of_a_rule(rt: HostRuntime) {
-    let alloc = rt.alloc();
-    let mut objects: Vec<Box<dyn Analyzer>> = Vec::new(alloc);
-    let words = Box::new(alloc, Words::new(alloc)).expect(&rt, "memory");
-    hand_in(&rt, &mut objects, words);
-    let whole = Box::new(alloc, Whole::new()).expect(&rt, "memory");
-    hand_in(&rt, &mut objects, whole);
-    check_both(&rt, alloc, &mut Kit::new(objects));
+    let mut kit = kit_of_both(&rt, rt.alloc());
+    check_both(&rt, rt.alloc(), &mut kit);
 }
 
 /// A kit without an analyzer of words says so, and gives no term.

@@ -1,9 +1,11 @@
-//! Tests of what an index is made of: patterns and terms, analyzers, and the gathering of postings.
+//! Tests of what an index is made of: patterns and terms, analyzers, the gathering of postings, and the indexes of memtables.
 #![tactic(auto)]
 
 #[cfg(test)]
 mod analyzers;
 #[cfg(test)]
 mod gathering;
+#[cfg(test)]
+mod mem_indexes;
 #[cfg(test)]
 mod patterns;

@@ -1,5 +1,5 @@
 // The definitions of indexes.
-ghost use Rattle.std.specs.Prelude.{◌≡◌, ◌++◌, ◌∷◌, [], OnOk, OnErr};
+ghost use Rattle.std.specs.Prelude.{◌≡◌, ◌++◌, ◌∷◌, [], IfOk, OnOk, OnErr};
 
 use crate::{ColumnType, Mode, Name, Rule, TableNumber};
 use std::alloc::{AllocError, Global};
@@ -21,6 +21,33 @@ pub struct IndexDef {
     pub mode: Mode,
     /// How terms are made of a text. The term of a number is the number.
     pub rule: Option<Rule>,
+}
+
+impl IndexDef {
+    /// A copy of the definition.
+    pub fn copy(&self, alloc: Global) -> Result<IndexDef, AllocError>
+        ensures { IfOk result (λ copy. copy ≡ self.now) }
+    {
+        Ok(IndexDef {
+            number: self.number,
+            table: self.table,
+            name: self.name.copy(alloc)?,
+            column: self.column,
+            kind: self.kind,
+            mode: self.mode,
+            rule: self.rule,
+        })
+    }
+}
+
+fn copies(alloc: Global, defs: &[IndexDef]) -> Result<Vec<IndexDef>, AllocError>
+    ensures { IfOk result (λ copies. copies.items ≡ defs.now) }
+{
+    let mut copies = Vec::with_capacity(alloc, defs.len())?;
+    for def in defs {
+        copies.push(def.copy(alloc)?)?;
+    }
+    Ok(copies)
 }
 
 /// The definitions of some indexes.
@@ -53,6 +80,14 @@ impl IndexList {
         ensures { result.now ≡ self.now }
     {
         &self.items
+    }
+
+    /// A copy of the definitions.
+    pub fn copy(&self, alloc: Global) -> Result<IndexList, AllocError>
+        ensures { IfOk result (λ copy. copy ≡ self.now) }
+    {
+        let items = copies(alloc, &self.items)?;
+        Ok(IndexList { items })
     }
 
     /// Adds a definition at the end.

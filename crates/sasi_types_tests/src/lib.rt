@@ -9,6 +9,8 @@ mod definitions;
 #[cfg(test)]
 mod fields;
 #[cfg(test)]
+mod indexes;
+#[cfg(test)]
 mod splitter;
 #[cfg(test)]
 mod tokens;

@@ -1,6 +1,7 @@
 use Rattle.std.proofs.Common.{ap, sym, subst, ◌∙◌}
 use Rattle.sasi_machine.specs.ParsedPiece.{IsReadFrom, model_piece}
 use Rattle.sasi_machine.specs.Refusal.{refusal_of}
+use Rattle.sasi_machine.specs.Prepares.{known_by}
 use Rattle.sasi_machine.proofs.PreparedPieces.{bad_steps, nothing_steps}
 use Rattle.sasi_machine.proofs.StatementPreparing.{piece_asks, piece_prepares, piece_selects, piece_timeless}
 use Rattle.sasi_machine.proofs.preparing.prepare.Goals as goal
@@ -15,12 +16,12 @@ returns-in_ok-outcome-in-Bad-clause-prepares c s of =
 
 pub returns-in-Says-clause-prepares : goal.returns-in-Says-clause-prepares
 returns-in-Says-clause-prepares c =
-    piece_prepares c.args.schema.now c.args.max_timestamp _ c.in-Says.statement c.clear.new.self c.prepare_statement.new.reply c.prepare_statement.result
+    piece_prepares (known_by c.args.schema.now c.args.max_timestamp) _ c.in-Says.statement c.clear.new.self c.prepare_statement.new.reply c.prepare_statement.result
     (sym c.in_ok-read.ensures.reads ∙ ap model_piece c.in-Says.is) (subst IsReadFrom c.in-Says.is c.in_ok-read.ensures.written).0 c.clear.ensures c.prepare_statement.ensures
 
 pub returns-in-Says-clause-asked : goal.returns-in-Says-clause-asked
 returns-in-Says-clause-asked c =
-    piece_asks c.args.schema.now c.args.max_timestamp _ c.in-Says.statement c.clear.new.self c.prepare_statement.new.reply c.prepare_statement.result
+    piece_asks (known_by c.args.schema.now c.args.max_timestamp) _ c.in-Says.statement c.clear.new.self c.prepare_statement.new.reply c.prepare_statement.result
     (sym c.in_ok-read.ensures.reads ∙ ap model_piece c.in-Says.is) c.prepare_statement.ensures
 
 pub returns-in-Nothing-clause-timeless : goal.returns-in-Nothing-clause-timeless
@@ -31,7 +32,7 @@ returns-in_ok-outcome-in-Bad-clause-timeless c = λ none. absurd none
 
 pub returns-in-Says-clause-timeless : goal.returns-in-Says-clause-timeless
 returns-in-Says-clause-timeless c =
-    piece_timeless c.args.schema.now c.args.max_timestamp _ c.in-Says.statement c.clear.new.self c.prepare_statement.new.reply c.prepare_statement.result
+    piece_timeless (known_by c.args.schema.now c.args.max_timestamp) _ c.in-Says.statement c.clear.new.self c.prepare_statement.new.reply c.prepare_statement.result
     (sym c.in_ok-read.ensures.reads ∙ ap model_piece c.in-Says.is) (subst IsReadFrom c.in-Says.is c.in_ok-read.ensures.written).0 c.clear.ensures c.prepare_statement.ensures
 
 pub returns-in-Nothing-clause-selects : goal.returns-in-Nothing-clause-selects
@@ -42,5 +43,5 @@ returns-in_ok-outcome-in-Bad-clause-selects c = λ none. absurd none
 
 pub returns-in-Says-clause-selects : goal.returns-in-Says-clause-selects
 returns-in-Says-clause-selects c =
-    piece_selects c.args.schema.now c.args.max_timestamp _ c.in-Says.statement c.clear.new.self c.prepare_statement.new.reply c.prepare_statement.result
+    piece_selects (known_by c.args.schema.now c.args.max_timestamp) _ c.in-Says.statement c.clear.new.self c.prepare_statement.new.reply c.prepare_statement.result
     (sym c.in_ok-read.ensures.reads ∙ ap model_piece c.in-Says.is) c.prepare_statement.ensures

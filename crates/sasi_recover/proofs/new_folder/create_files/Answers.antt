@@ -1,4 +1,4 @@
-use Rattle.std.proofs.Common.{◌+◌, ◌≤◌, ◌^◌, None, length, refl, sym, subst, arith}
+use Rattle.std.proofs.Common.{◌+◌, ◌≤◌, ◌^◌, None, length, refl, sym, ap, subst, arith}
 use Rattle.sasi_host.specs.Disk.{AnyChange, FileChange}
 use Rattle.sasi_host.proofs.ContentLaws.{absent_where, contents_other, told_after}
 use Rattle.sasi_host.specs.Names.{log_name, manifest_name, seal_name}
@@ -9,7 +9,7 @@ use Rattle.sasi_manifest.specs.Listings.{rewrite_edits}
 use Rattle.sasi_folder.proofs.FolderLaws.{kinds_apart}
 use Rattle.sasi_recover.specs.declared.opened.Opened.{Opened}
 use Rattle.sasi_recover.proofs.FirstFiles.{kept_first}
-use Rattle.sasi_recover.proofs.FirstStore.{create_moments, first_ready, first_apply, first_serves, first_short, fresh_moments, fresh_unsealed, is_rewritten, log_fresh, log_room, log_any_change, made_listing, made_any_change, still_fresh}
+use Rattle.sasi_recover.proofs.FirstStore.{create_moments, first_ready, first_apply, first_serves, first_short, fresh_moments, fresh_unsealed, is_rewritten, log_fresh, log_room, log_any_change, made_is, made_listing, made_any_change, still_fresh}
 use Rattle.sasi_recover.proofs.new_folder.create_files.Goals as goal
 
 pub returns-in_err-log-clause-any_moment : goal.returns-in_err-log-clause-any_moment
@@ -90,3 +90,8 @@ returns-clause-serves g c told fresh =
     first_serves c.args.partitioner opened (rewritten, c.in_ok-manifest.ensures.number, c.in_ok-log.ensures.file, c.new.ensures.items, refl, refl) a b now told_now fresh
     c.create.ensures.changes c.in_ok-log.ensures.ok c.create-2.ensures.changes c.in_ok-manifest.ensures.sealed
     c.in_ok-manifest.ensures.ok
+
+pub returns-clause-empty : goal.returns-clause-empty
+returns-clause-empty g c =
+    ap (λ (l : Listing). l.tables) (made_is c.args.partitioner c.in_ok-manifest.manifest.listing
+    (subst (λ (l : Listing). IsRewritten l c.in_ok-manifest.manifest.listing) c.new-listing.ensures c.in_ok-manifest.ensures.listing))

@@ -1,16 +1,21 @@
-use Rattle.std.proofs.Common.{◌≡◌, ◌∙◌, All, Contains, IfErr, List, None, OnOk, Option, Some, ap, inl, inr, is_some, subst, sym, true}
-use Rattle.std.proofs.lemmas.Result.{IfErr-weaker, err_from_is_err_and}
+use Rattle.std.proofs.Common.{◌≡◌, ◌∙◌, All, Contains, IfErr, List, None, OnOk, Option, Some, ap, inl, inr, is_some, map, subst, sym, true}
+use Rattle.std.specs.List.{AllByRecursion}
+use Rattle.std.proofs.lemmas.Result.{IfErr-weaker, IfOk-weaker, err_from_is_err_and}
 use Rattle.sasi_host.specs.declared.name.FileName.{FileName}
 use Rattle.sasi_host.proofs.ChangeLaws.{then_same}
 use Rattle.sasi_host.specs.Disk.{Same}
+use Rattle.sasi_host.specs.Faults.{read_fault_of}
 use Rattle.sasi_host.specs.Names.{Folder, seal_name}
+use Rattle.sasi_layout.specs.Classes.{KnowsIndexes}
+use Rattle.sasi_manifest.specs.ListedDefinition.{ListedDefinition}
+use Rattle.sasi_manifest.specs.Listings.{listed_definitions}
 use Rattle.sasi_recover.specs.Faults.{OnOpenDamage}
 use Rattle.sasi_recover.specs.NewFolder.{ReportsForeign, is_initial}
 use Rattle.sasi_recover.specs.declared.opened.Opened.{Opened}
 use Rattle.sasi_recover.specs.Opening.{IsHighestSeal}
 use Rattle.sasi_recover.proofs.Damaged.{sealed_highest}
-use Rattle.sasi_recover.proofs.Differences.{causes_behind, host_causes, host_differs_only, host_reports, untouched_behind}
-use Rattle.sasi_recover.proofs.FolderOpening.{files_same, never_differs, new_damage, new_moments, new_opens, new_serves, new_undamaged, same_moments_of, same_then_any, sealed_damage, sealed_differs, sealed_keeps, sealed_moments, sealed_opens, sealed_shape, unsealed_fresh, unsealed_keeps}
+use Rattle.sasi_recover.proofs.Differences.{causes_behind, host_causes, host_differs_only, host_reports, read_missing, unopened_behind, untouched_behind}
+use Rattle.sasi_recover.proofs.FolderOpening.{files_same, never_differs, never_missing, new_damage, new_moments, new_opens, new_serves, new_undamaged, same_moments_of, same_then_any, sealed_damage, sealed_differs, sealed_keeps, sealed_lacks, sealed_missing, sealed_moments, sealed_opens, sealed_shape, unsealed_fresh, unsealed_keeps, unsealed_lacks}
 use Rattle.sasi_recover.proofs.ReadsOfOpening.{store_behind}
 use Rattle.sasi_recover.proofs.SealedStore.{held_is_listed, listed_is_there}
 use Rattle.sasi_recover.proofs.Checking.{same_any}
@@ -33,7 +38,7 @@ returns-in_err-names-clause-safe g c =
 pub returns-in_err-names-clause-reports : goal.returns-in_err-names-clause-reports
 returns-in_err-names-clause-reports g c =
     let p = err_from_is_err_and c.from_residual.result c.from_residual.ensures.1 in
-    rw (p.1, p.2) (host_reports Opened c.args.asked (g.H.Host.view c.args.host.now) c.in_err-names.field-0.0)
+    rw (p.1, p.2) (host_reports Opened c.args.asked (map (λ b. (goal.Analyzer-dyn g (b.vtable, b.value)).kind b.value) c.args.kit.now.objects.items) (g.H.Host.view c.args.host.now) c.in_err-names.field-0.0)
 
 pub returns-in_err-names-clause-causes : goal.returns-in_err-names-clause-causes
 returns-in_err-names-clause-causes g c =
@@ -91,6 +96,8 @@ returns-in-None-clause-reports g c =
           IfErr-weaker c.open_new.result _ _ (λ fault no_false. new_undamaged b folder fault no_false files_b new.0) c.open_new.ensures.undamaged);
       differs = λ folder wanted kept files asks keeps apart. absurd (unsealed_keeps b c.in_ok-names.names.items folder kept c.in_ok-names.ensures.names (files_same a b folder c.sync_all.ensures.changes files) none keeps);
       differs_only = λ folder files. IfErr-weaker c.open_new.result _ _ (λ fault never. never_differs _ fault never) c.open_new.ensures.same;
+      lacks = λ folder class files lacks. absurd (unsealed_lacks b c.in_ok-names.names.items folder (map (λ b. (goal.Analyzer-dyn g (b.vtable, b.value)).kind b.value) c.args.kit.now.objects.items) class c.in_ok-names.ensures.names (files_same a b folder c.sync_all.ensures.changes files) none lacks);
+      lacks_only = λ folder files. IfErr-weaker c.open_new.result _ _ (λ fault never. never_missing _ fault never) c.open_new.ensures.none_missing;
     }
 
 pub returns-in-None-clause-causes : goal.returns-in-None-clause-causes
@@ -161,6 +168,12 @@ returns-clause-reports g c =
       differs_only = λ folder files. (
           let files_b = files_same a b folder c.sync_all.ensures.changes files in
           IfErr-weaker c.open_sealed.result _ _ (λ fault. sealed_differs folder number c.args.asked fault (sealed_highest b folder files_b c.in_ok-names.names.items c.in_ok-names.ensures.names number highest)) (c.open_sealed.ensures.differs_only folder files_b));
+      lacks = λ folder class files lacks. (
+          let files_b = files_same a b folder c.sync_all.ensures.changes files in
+          c.open_sealed.ensures.lacks folder class files_b (sealed_lacks folder number (map (λ b. (goal.Analyzer-dyn g (b.vtable, b.value)).kind b.value) c.args.kit.now.objects.items) class (sealed_highest b folder files_b c.in_ok-names.names.items c.in_ok-names.ensures.names number highest) lacks));
+      lacks_only = λ folder files. (
+          let files_b = files_same a b folder c.sync_all.ensures.changes files in
+          IfErr-weaker c.open_sealed.result _ _ (λ fault. sealed_missing folder number (map (λ b. (goal.Analyzer-dyn g (b.vtable, b.value)).kind b.value) c.args.kit.now.objects.items) fault (sealed_highest b folder files_b c.in_ok-names.names.items c.in_ok-names.ensures.names number highest)) (c.open_sealed.ensures.lacks_only folder files_b));
     }
 
 pub returns-clause-causes : goal.returns-clause-causes
@@ -178,3 +191,28 @@ pub returns-clause-untouched : goal.returns-clause-untouched
 returns-clause-untouched g c =
     IfErr-weaker c.open_sealed.result _ _
     (λ fault. untouched_behind (g.H.Host.view c.args.host.now) (g.H.Host.view c.sync_all.new.host) (g.H.Host.view c.open_sealed.new.host) fault c.sync_all.ensures.changes) c.open_sealed.ensures.untouched
+
+pub returns-in_err-names-clause-unopened : goal.returns-in_err-names-clause-unopened
+returns-in_err-names-clause-unopened g c =
+    let p = err_from_is_err_and c.from_residual.result c.from_residual.ensures.1 in
+    rw (p.1, p.2) (read_missing _ (read_fault_of c.in_err-names.field-0.0))
+
+pub returns-in-None-clause-unopened : goal.returns-in-None-clause-unopened
+returns-in-None-clause-unopened g c = IfErr-weaker c.open_new.result _ _ (λ fault never. never_missing _ fault never) c.open_new.ensures.none_missing
+
+pub returns-clause-unopened : goal.returns-clause-unopened
+returns-clause-unopened g c =
+    IfErr-weaker c.open_sealed.result _ _
+    (λ fault. unopened_behind (g.H.Host.view c.args.host.now) (g.H.Host.view c.sync_all.new.host) (g.H.Host.view c.open_sealed.new.host) fault c.sync_all.ensures.changes) c.open_sealed.ensures.unopened
+
+pub returns-in-None-clause-classes : goal.returns-in-None-clause-classes
+returns-in-None-clause-classes g c =
+    IfOk-weaker c.open_new.result _ _ (λ opened empty. subst (λ (ts : List ListedDefinition). AllByRecursion (KnowsIndexes (map (λ b. (goal.Analyzer-dyn g (b.vtable, b.value)).kind b.value) c.args.kit.now.objects.items)) (listed_definitions ts)) (sym empty) tt) c.open_new.ensures.empty
+
+pub returns-in_err-names-clause-absent : goal.returns-in_err-names-clause-absent
+returns-in_err-names-clause-absent g c =
+    let p = err_from_is_err_and c.from_residual.result c.from_residual.ensures.1 in
+    rw (p.1, p.2) (read_missing _ (read_fault_of c.in_err-names.field-0.0))
+
+pub returns-in-None-clause-absent : goal.returns-in-None-clause-absent
+returns-in-None-clause-absent g c = IfErr-weaker c.open_new.result _ _ (λ fault never. never_missing _ fault never) c.open_new.ensures.none_missing

@@ -1,6 +1,6 @@
 use Rattle.std.proofs.lemmas.Result.{err_from_is_err_and}
 use Rattle.sasi_recover.specs.NewFolder.{NoFalseFreshDamage, ReportsForeign}
-use Rattle.sasi_recover.proofs.Differences.{ok_causes, open_damage, read_causes, read_differs}
+use Rattle.sasi_recover.proofs.Differences.{ok_causes, open_damage, read_causes, read_differs, read_missing}
 use Rattle.sasi_recover.proofs.opening.open_new.Goals as goal
 
 pub returns-in_err-opened-clause-damaged : goal.returns-in_err-opened-clause-damaged
@@ -26,3 +26,8 @@ returns-in_err-opened-clause-causes g c =
 pub returns-clause-causes : goal.returns-clause-causes
 returns-clause-causes g c =
     ok_causes (g.H.Host.view c.args.host.now) (g.H.Host.view c.create_store.new.host) c.in_ok-opened.ensures.causes
+
+pub returns-in_err-opened-clause-none_missing : goal.returns-in_err-opened-clause-none_missing
+returns-in_err-opened-clause-none_missing g c =
+    let p = err_from_is_err_and c.from_residual.result c.from_residual.ensures.1 in
+    rw (p.1, p.2) (read_missing _ c.in_err-opened.field-0.0)

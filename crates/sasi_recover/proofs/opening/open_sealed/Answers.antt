@@ -1,12 +1,15 @@
-use Rattle.std.proofs.Common.{◌∙◌, ap, subst, sym}
+use Rattle.std.proofs.Common.{◌∙◌, List, ap, map, subst, sym}
 use Rattle.std.proofs.lemmas.Result.{err_from_is_err_and}
 use Rattle.sasi_host.specs.Damages.{OnDamage}
 use Rattle.sasi_host.specs.Disk.{Changes, Same}
 use Rattle.sasi_folder.specs.Damages.{ShowsManifestOrListed}
 use Rattle.sasi_folder.specs.FolderContents.{IsSealed}
+use Rattle.sasi_layout.specs.Classes.{HasAll, IsFirstMissing, classes_listed}
+use Rattle.sasi_layout.proofs.ClassLaws.{known_listed}
+use Rattle.sasi_manifest.specs.ListedDefinition.{ListedDefinition}
 use Rattle.sasi_manifest.specs.declared.listing.Listing.{Listing}
 use Rattle.sasi_recover.specs.declared.opened.Opened.{Opened}
-use Rattle.sasi_recover.proofs.Differences.{causes_behind, difference_causes, difference_only, difference_told, keeps_read, manifest_differs, kept_as_read, no_damage, ok_causes, open_damage, read_causes, read_differs}
+use Rattle.sasi_recover.proofs.Differences.{causes_behind, difference_causes, difference_only, difference_told, keeps_read, manifest_differs, kept_as_read, no_damage, difference_lacks, difference_missing, lacks_as_read, manifest_lacks, missing_causes, none_lacks, ok_causes, open_damage, read_causes, read_differs, read_missing}
 use Rattle.sasi_recover.proofs.FolderOpening.{files_same, manifest_is_read, moments_on, no_shape_damage, same_then_any, shape_damage}
 use Rattle.sasi_recover.proofs.ReadsOfOpening.{manifest_read, store_read}
 use Rattle.sasi_recover.proofs.Checking.{same_any, same_moments}
@@ -201,3 +204,142 @@ pub returns-in_err-opened-clause-untouched : goal.returns-in_err-opened-clause-u
 returns-in_err-opened-clause-untouched g c =
     let p = err_from_is_err_and c.from_residual-in_err-opened.result c.from_residual-in_err-opened.ensures.1 in
     rw (p.1, p.2) (read_differs _ c.in_err-opened.field-0.0)
+
+-- ---- an analyzer that is missing
+
+pub returns-in_err-manifest-clause-lacks : goal.returns-in_err-manifest-clause-lacks
+returns-in_err-manifest-clause-lacks g c folder class files lacks =
+    let p = err_from_is_err_and c.from_residual.result c.from_residual.ensures.1 in
+    rw (p.1, p.2) (manifest_lacks Opened (g.H.Host.view c.args.host.now) folder c.args.number (map (λ b. (goal.Analyzer-dyn g (b.vtable, b.value)).kind b.value) c.args.kit.now.objects.items) class c.in_err-manifest.field-0.0 files lacks c.in_err-manifest.ensures.undamaged)
+
+pub returns-in_err-manifest-clause-lacks_only : goal.returns-in_err-manifest-clause-lacks_only
+returns-in_err-manifest-clause-lacks_only g c folder files =
+    let p = err_from_is_err_and c.from_residual.result c.from_residual.ensures.1 in
+    rw (p.1, p.2) (read_missing _ c.in_err-manifest.field-0.0)
+
+pub returns-in_err-manifest-clause-unopened : goal.returns-in_err-manifest-clause-unopened
+returns-in_err-manifest-clause-unopened g c =
+    let p = err_from_is_err_and c.from_residual.result c.from_residual.ensures.1 in
+    rw (p.1, p.2) (read_missing _ c.in_err-manifest.field-0.0)
+
+pub returns-in_err-check_partitioner-clause-lacks : goal.returns-in_err-check_partitioner-clause-lacks
+returns-in_err-check_partitioner-clause-lacks g c folder class files lacks =
+    let p = err_from_is_err_and c.from_residual-in_err-check_partitioner.result c.from_residual-in_err-check_partitioner.ensures.1 in
+    rw (p.1, p.2) (difference_lacks Opened c.args.asked c.listing.result.now.partitioner c.in_err-check_partitioner.field-0.0 c.in_err-check_partitioner.ensures.other)
+
+pub returns-in_err-check_partitioner-clause-lacks_only : goal.returns-in_err-check_partitioner-clause-lacks_only
+returns-in_err-check_partitioner-clause-lacks_only g c folder files =
+    let p = err_from_is_err_and c.from_residual-in_err-check_partitioner.result c.from_residual-in_err-check_partitioner.ensures.1 in
+    rw (p.1, p.2) (difference_missing c.args.asked c.listing.result.now.partitioner _ c.in_err-check_partitioner.field-0.0 c.in_err-check_partitioner.ensures.other)
+
+pub returns-in_err-check_partitioner-clause-unopened : goal.returns-in_err-check_partitioner-clause-unopened
+returns-in_err-check_partitioner-clause-unopened g c =
+    let p = err_from_is_err_and c.from_residual-in_err-check_partitioner.result c.from_residual-in_err-check_partitioner.ensures.1 in
+    rw (p.1, p.2) (difference_missing c.args.asked c.listing.result.now.partitioner _ c.in_err-check_partitioner.field-0.0 c.in_err-check_partitioner.ensures.other)
+
+pub returns-in_err-opened-clause-lacks_only : goal.returns-in_err-opened-clause-lacks_only
+returns-in_err-opened-clause-lacks_only g c folder files =
+    let p = err_from_is_err_and c.from_residual-in_err-opened.result c.from_residual-in_err-opened.ensures.1 in
+    rw (p.1, p.2) (read_missing _ c.in_err-opened.field-0.0)
+
+pub returns-in_err-opened-clause-unopened : goal.returns-in_err-opened-clause-unopened
+returns-in_err-opened-clause-unopened g c =
+    let p = err_from_is_err_and c.from_residual-in_err-opened.result c.from_residual-in_err-opened.ensures.1 in
+    rw (p.1, p.2) (read_missing _ c.in_err-opened.field-0.0)
+
+pub returns-in_err-opened-clause-lacks : goal.returns-in_err-opened-clause-lacks
+returns-in_err-opened-clause-lacks g c folder class files lacks =
+    let tables_are = c.as_slice.ensures.tables ∙ ap (λ (l : Listing). l.tables) c.listing-2.ensures.listing in
+    absurd (none_lacks (g.H.Host.view c.args.host.now) folder c.args.number c.in_ok-manifest.manifest.listing (map (λ b. (goal.Analyzer-dyn g (b.vtable, b.value)).kind b.value) c.args.kit.now.objects.items) class files lacks c.in_ok-manifest.ensures.reads
+    (subst (λ (ts : List ListedDefinition). HasAll (map (λ b. (goal.Analyzer-dyn g (b.vtable, b.value)).kind b.value) c.args.kit.now.objects.items) (classes_listed ts)) tables_are c.in_ok-check_classes.ensures.all))
+
+pub returns-clause-lacks : goal.returns-clause-lacks
+returns-clause-lacks g c folder class files lacks =
+    let tables_are = c.as_slice.ensures.tables ∙ ap (λ (l : Listing). l.tables) c.listing-2.ensures.listing in
+    absurd (none_lacks (g.H.Host.view c.args.host.now) folder c.args.number c.in_ok-manifest.manifest.listing (map (λ b. (goal.Analyzer-dyn g (b.vtable, b.value)).kind b.value) c.args.kit.now.objects.items) class files lacks c.in_ok-manifest.ensures.reads
+    (subst (λ (ts : List ListedDefinition). HasAll (map (λ b. (goal.Analyzer-dyn g (b.vtable, b.value)).kind b.value) c.args.kit.now.objects.items) (classes_listed ts)) tables_are c.in_ok-check_classes.ensures.all))
+
+pub returns-clause-classes : goal.returns-clause-classes
+returns-clause-classes g c =
+    let tables_are = c.as_slice.ensures.tables ∙ ap (λ (l : Listing). l.tables) c.listing-2.ensures.listing ∙ ap (λ (l : Listing). l.tables) (sym c.in_ok-opened.ensures.listing) in
+    known_listed (map (λ b. (goal.Analyzer-dyn g (b.vtable, b.value)).kind b.value) c.args.kit.now.objects.items) _ c.in_ok-opened.opened.manifest.listing.tables c.in_ok-opened.ensures.ready.numbered.indexes
+    (subst (λ (ts : List ListedDefinition). HasAll (map (λ b. (goal.Analyzer-dyn g (b.vtable, b.value)).kind b.value) c.args.kit.now.objects.items) (classes_listed ts)) tables_are c.in_ok-check_classes.ensures.all)
+
+pub returns-in_err-check_classes-clause-any_moment : goal.returns-in_err-check_classes-clause-any_moment
+returns-in_err-check_classes-clause-any_moment g c folder l logs files number has =
+    same_moments (g.H.Host.view c.args.host.now) (g.H.Host.view c.read_manifest.new.host) l logs c.read_manifest.ensures.changes
+
+pub returns-in_err-check_classes-clause-damaged : goal.returns-in_err-check_classes-clause-damaged
+returns-in_err-check_classes-clause-damaged g c folder files =
+    let p = err_from_is_err_and c.from_residual-in_err-check_classes.result c.from_residual-in_err-check_classes.ensures.1 in
+    rw (p.1, p.2) tt
+
+pub returns-in_err-check_classes-clause-undamaged : goal.returns-in_err-check_classes-clause-undamaged
+returns-in_err-check_classes-clause-undamaged g c folder l logs files number has =
+    let p = err_from_is_err_and c.from_residual-in_err-check_classes.result c.from_residual-in_err-check_classes.ensures.1 in
+    rw (p.1, p.2) tt
+
+pub returns-in_err-check_classes-clause-differs : goal.returns-in_err-check_classes-clause-differs
+returns-in_err-check_classes-clause-differs g c folder wanted kept files asks keeps apart =
+    absurd (apart (c.in_ok-check_partitioner.ensures.same wanted asks ∙ ap (λ (l : Listing). l.partitioner) c.listing.ensures.listing ∙ keeps_read (g.H.Host.view c.args.host.now) folder c.args.number c.in_ok-manifest.manifest.listing kept files keeps c.in_ok-manifest.ensures.reads))
+
+pub returns-in_err-check_classes-clause-differs_only : goal.returns-in_err-check_classes-clause-differs_only
+returns-in_err-check_classes-clause-differs_only g c folder files =
+    let p = err_from_is_err_and c.from_residual-in_err-check_classes.result c.from_residual-in_err-check_classes.ensures.1 in
+    rw (p.1, p.2) tt
+
+pub returns-in_err-check_classes-clause-lacks : goal.returns-in_err-check_classes-clause-lacks
+returns-in_err-check_classes-clause-lacks g c folder class files lacks =
+    let p = err_from_is_err_and c.from_residual-in_err-check_classes.result c.from_residual-in_err-check_classes.ensures.1 in
+    rw (p.1, p.2) tt
+
+pub returns-in_err-check_classes-clause-lacks_only : goal.returns-in_err-check_classes-clause-lacks_only
+returns-in_err-check_classes-clause-lacks_only g c folder files =
+    let p = err_from_is_err_and c.from_residual-in_err-check_classes.result c.from_residual-in_err-check_classes.ensures.1 in
+    let tables_are = c.as_slice.ensures.tables ∙ ap (λ (l : Listing). l.tables) c.listing-2.ensures.listing in
+    rw (p.1, p.2) (lacks_as_read (g.H.Host.view c.args.host.now) folder c.args.number c.in_ok-manifest.manifest.listing (map (λ b. (goal.Analyzer-dyn g (b.vtable, b.value)).kind b.value) c.args.kit.now.objects.items) c.in_err-check_classes.field-0.0 files c.in_ok-manifest.ensures.there c.in_ok-manifest.ensures.reads
+    (subst (λ (ts : List ListedDefinition). IsFirstMissing (map (λ b. (goal.Analyzer-dyn g (b.vtable, b.value)).kind b.value) c.args.kit.now.objects.items) (classes_listed ts) c.in_err-check_classes.field-0.0) tables_are c.in_err-check_classes.ensures.missing))
+
+pub returns-in_err-check_classes-clause-untouched : goal.returns-in_err-check_classes-clause-untouched
+returns-in_err-check_classes-clause-untouched g c =
+    let p = err_from_is_err_and c.from_residual-in_err-check_classes.result c.from_residual-in_err-check_classes.ensures.1 in
+    rw (p.1, p.2) tt
+
+pub returns-in_err-check_classes-clause-unopened : goal.returns-in_err-check_classes-clause-unopened
+returns-in_err-check_classes-clause-unopened g c =
+    let p = err_from_is_err_and c.from_residual-in_err-check_classes.result c.from_residual-in_err-check_classes.ensures.1 in
+    rw (p.1, p.2) c.read_manifest.ensures.changes
+
+pub returns-in_err-check_classes-clause-kept : goal.returns-in_err-check_classes-clause-kept
+returns-in_err-check_classes-clause-kept g c folder files = listed_same (g.H.Host.view c.args.host.now) (g.H.Host.view c.read_manifest.new.host) folder c.args.number c.read_manifest.ensures.changes
+
+pub returns-in_err-check_classes-clause-changes : goal.returns-in_err-check_classes-clause-changes
+returns-in_err-check_classes-clause-changes g c = same_any (g.H.Host.view c.args.host.now) (g.H.Host.view c.read_manifest.new.host) c.read_manifest.ensures.changes
+
+pub returns-in_err-check_classes-clause-once : goal.returns-in_err-check_classes-clause-once
+returns-in_err-check_classes-clause-once g c folder files = manifest_read (g.H.Host.view c.args.host.now) (g.H.Host.view c.read_manifest.new.host) folder c.args.number files c.read_manifest.ensures.once
+
+pub returns-in_err-check_classes-clause-causes : goal.returns-in_err-check_classes-clause-causes
+returns-in_err-check_classes-clause-causes g c =
+    let p = err_from_is_err_and c.from_residual-in_err-check_classes.result c.from_residual-in_err-check_classes.ensures.1 in
+    rw (p.1, p.2) (missing_causes (g.H.Host.view c.args.host.now) (g.H.Host.view c.read_manifest.new.host) c.in_err-check_classes.field-0.0 c.in_ok-manifest.ensures.causes.ok c.read_manifest.ensures.causes.out)
+
+pub returns-in_err-manifest-clause-absent : goal.returns-in_err-manifest-clause-absent
+returns-in_err-manifest-clause-absent g c =
+    let p = err_from_is_err_and c.from_residual.result c.from_residual.ensures.1 in
+    rw (p.1, p.2) (read_missing _ c.in_err-manifest.field-0.0)
+
+pub returns-in_err-check_partitioner-clause-absent : goal.returns-in_err-check_partitioner-clause-absent
+returns-in_err-check_partitioner-clause-absent g c =
+    let p = err_from_is_err_and c.from_residual-in_err-check_partitioner.result c.from_residual-in_err-check_partitioner.ensures.1 in
+    rw (p.1, p.2) (difference_missing c.args.asked c.listing.result.now.partitioner _ c.in_err-check_partitioner.field-0.0 c.in_err-check_partitioner.ensures.other)
+
+pub returns-in_err-check_classes-clause-absent : goal.returns-in_err-check_classes-clause-absent
+returns-in_err-check_classes-clause-absent g c =
+    let p = err_from_is_err_and c.from_residual-in_err-check_classes.result c.from_residual-in_err-check_classes.ensures.1 in
+    rw (p.1, p.2) c.in_err-check_classes.ensures.missing.lacks
+
+pub returns-in_err-opened-clause-absent : goal.returns-in_err-opened-clause-absent
+returns-in_err-opened-clause-absent g c =
+    let p = err_from_is_err_and c.from_residual-in_err-opened.result c.from_residual-in_err-opened.ensures.1 in
+    rw (p.1, p.2) (read_missing _ c.in_err-opened.field-0.0)

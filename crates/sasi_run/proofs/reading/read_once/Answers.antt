@@ -1,4 +1,4 @@
-use Rattle.std.proofs.Common.{arith, ℕ, List, take, inr, ap, ◌∙◌, subst}
+use Rattle.std.proofs.Common.{arith, ℕ, List, map, take, inr, ap, ◌∙◌, subst}
 use Rattle.std.proofs.lemmas.List.{length-take, take_min}
 use Rattle.sasi_run.specs.Crashing.{FeedsCrashSafe, StopsWith}
 use Rattle.sasi_run.proofs.RunsAtEnd.{stops_after_read}
@@ -13,7 +13,7 @@ returns-in-Ok-feed_bytes-clause-ok g c = record {
   length_is = omega (arith, c.in-Ok.ensures.bound, length-take {A = ℕ});
   short = omega (arith, c.in-Ok.ensures.bound);
   at_end = λ is. c.in-Ok.ensures.bytes.1 is (omega arith);
-  feeds = subst (λ (l : List ℕ). FeedsCrashSafe c.args.session.now c.feed_bytes.new.session (g.H.Host.view c.args.host.now) (g.H.Host.view c.feed_bytes.new.host) l)
+  feeds = subst (λ (l : List ℕ). FeedsCrashSafe (map (λ b. (goal.Analyzer-dyn g (b.vtable, b.value)).kind b.value) c.args.kit.now.objects.items) c.args.session.now c.feed_bytes.new.session (g.H.Host.view c.args.host.now) (g.H.Host.view c.feed_bytes.new.host) l)
       (ap (λ n. take n (take c.in-Ok.count c.read.new.buf)) c.min.ensures ∙ take_min c.args.room (take c.in-Ok.count c.read.new.buf)) c.in-Ok-feed_bytes.ensures.ok;
 }
 
@@ -23,7 +23,7 @@ returns-in-Err-feed_bytes-clause-err g c = inr
       read = take c.in-Ok.count c.read.new.buf;
       consumed = c.in-Ok.ensures.bytes.0;
       short = omega (arith, c.in-Ok.ensures.bound, length-take {A = ℕ});
-      stops = subst (λ (l : List ℕ). StopsWith c.in-Err-feed_bytes.status c.args.session.now (g.H.Host.view c.args.host.now) (g.H.Host.view c.feed_bytes.new.host) l)
+      stops = subst (λ (l : List ℕ). StopsWith (map (λ b. (goal.Analyzer-dyn g (b.vtable, b.value)).kind b.value) c.args.kit.now.objects.items) c.in-Err-feed_bytes.status c.args.session.now (g.H.Host.view c.args.host.now) (g.H.Host.view c.feed_bytes.new.host) l)
           (ap (λ n. take n (take c.in-Ok.count c.read.new.buf)) c.min.ensures ∙ take_min c.args.room (take c.in-Ok.count c.read.new.buf)) c.in-Err-feed_bytes.ensures.err;
     })
 

@@ -1,6 +1,6 @@
 use Rattle.std.proofs.Common.{arith, refl, [], ap, Err, ◌∙◌}
 use Rattle.sasi_run.proofs.ConsumedBytes.{consumes_nothing}
-use Rattle.sasi_run.proofs.RunsAtEnd.{end_of_store, ends_at_read, ends_beyond, ends_last, ends_script, safe_behind_read, starts_on, stop_of_store}
+use Rattle.sasi_run.proofs.RunsAtEnd.{end_of_store, ended_same, ends_at_read, ends_beyond, ends_last, ends_script, fails_same, finishes_same, reads_same, safe_behind_read, starts_on, stop_of_store}
 use Rattle.sasi_run.specs.declared.status.Status.TheVariants.{ScriptTooLong}
 use Rattle.sasi_run.proofs.FailedCalls.{calls_behind, nothing_failed, nothing_of_host, nothing_on, stop_calls, stop_reports, unfailed_calls}
 use Rattle.sasi_run.proofs.reading.run_script.Goals as goal
@@ -10,12 +10,14 @@ reads-init g c = record {
   crash_safe = starts_on c.args.session.now (g.S.Source.view c.args.script.now).left (g.H.Host.view c.args.host.now) c.requires.ready (omega arith);
   few = omega arith;
   unfailed = nothing_failed (g.S.Source.view c.args.script.now) (g.H.Host.view c.args.host.now);
+  known = c.requires.classes;
+  kinds = refl;
 }
 
 pub returns-in-Err-clause-runs : goal.returns-in-Err-clause-runs
 returns-in-Err-clause-runs g c =
     ends_at_read c.in-Err.status c.args.session.now c.reads.session _ _ _ _ _ _ _ _ c.requires.fresh c.reads.invariant.crash_safe c.reads.invariant.few
-    c.in-Err.ensures.err (λ is. ap (λ h. g.H.Host.view h) (c.read_once.ensures.unread (c.in-Err.is ∙ ap (λ s. Err s) is)))
+    (ended_same c.reads.invariant.kinds c.in-Err.ensures.err) (λ is. ap (λ h. g.H.Host.view h) (c.read_once.ensures.unread (c.in-Err.is ∙ ap (λ s. Err s) is)))
 
 pub returns-in-Err-clause-calls : goal.returns-in-Err-clause-calls
 returns-in-Err-clause-calls g c = calls_behind c.in-Err.status _ _ _ _ _ _ c.reads.invariant.unfailed c.in-Err.ensures.calls
@@ -28,12 +30,12 @@ returns-in-Err-clause-of_store g c = end_of_store c.in-Err.status c.reads.sessio
 
 pub returns-in-Ok-finish-clause-ran : goal.returns-in-Ok-finish-clause-ran
 returns-in-Ok-finish-clause-ran g c =
-    let read = c.in-Ok.ensures.ok in
+    let read = reads_same c.reads.invariant.kinds c.in-Ok.ensures.ok in
     let on = safe_behind_read c.args.session.now c.reads.session c.read_once.new.session _ _ _ _ _ _ c.reads.taken _ c.in-Ok.count c.reads.invariant.crash_safe
     read (omega (arith, c.if-count-eq0.true)) in
     ends_script c.args.session.now c.read_once.new.session c.finish.new.session _ _ _ _ _ _ _ [] c.requires.fresh on
     (omega (arith, c.if-count-eq0.true, c.reads.invariant.few)) (consumes_nothing _) refl (read.at_end (omega (arith, c.if-count-eq0.true)))
-    c.in-Ok-finish.ensures.ok
+    (finishes_same (c.read_once.ensures.kinds ∙ c.reads.invariant.kinds) c.in-Ok-finish.ensures.ok)
 
 pub returns-in-Ok-finish-clause-unfailed : goal.returns-in-Ok-finish-clause-unfailed
 returns-in-Ok-finish-clause-unfailed g c =
@@ -45,13 +47,13 @@ returns-in-Ok-finish-clause-unfailed g c =
 
 pub returns-in-Err-finish-clause-runs : goal.returns-in-Err-finish-clause-runs
 returns-in-Err-finish-clause-runs g c =
-    let read = c.in-Ok.ensures.ok in
+    let read = reads_same c.reads.invariant.kinds c.in-Ok.ensures.ok in
     let on = safe_behind_read c.args.session.now c.reads.session c.read_once.new.session _ _ _ _ _ _ c.reads.taken _ c.in-Ok.count c.reads.invariant.crash_safe
     read (omega (arith, c.if-count-eq0.true)) in
     rw c.stop_status.ensures
     (ends_last _ c.args.session.now c.read_once.new.session _ _ _ _ _ _ _ [] c.requires.fresh on
     (omega (arith, c.if-count-eq0.true, c.reads.invariant.few)) (consumes_nothing _) refl (read.at_end (omega (arith, c.if-count-eq0.true)))
-    c.in-Err-finish.ensures.err)
+    (fails_same (c.read_once.ensures.kinds ∙ c.reads.invariant.kinds) c.in-Err-finish.ensures.err))
 
 pub returns-in-Err-finish-clause-calls : goal.returns-in-Err-finish-clause-calls
 returns-in-Err-finish-clause-calls g c =
@@ -72,7 +74,9 @@ returns-in-Err-finish-clause-of_store g c = rw c.stop_status.ensures (stop_of_st
 pub returns-then-count-room-clause-runs : goal.returns-then-count-room-clause-runs
 returns-then-count-room-clause-runs g c =
     ends_beyond c.args.session.now c.reads.session c.read_once.new.session _ _ _ _ _ _ c.reads.taken _ c.in-Ok.count c.requires.fresh
-    c.reads.invariant.crash_safe (omega (arith, c.reads.invariant.few)) c.in-Ok.ensures.ok (omega (arith, c.if-count-room.true))
+    c.reads.invariant.crash_safe (omega (arith, c.reads.invariant.few))
+    (reads_same c.reads.invariant.kinds c.in-Ok.ensures.ok)
+    (omega (arith, c.if-count-room.true))
 
 pub returns-then-count-room-clause-calls : goal.returns-then-count-room-clause-calls
 returns-then-count-room-clause-calls g c =
@@ -85,7 +89,9 @@ returns-then-count-room-clause-damage g c = λ damage is. cc
 pub reads-preserved : goal.reads-preserved
 reads-preserved g c = record {
   crash_safe = safe_behind_read c.args.session.now c.reads.session c.read_once.new.session _ _ _ _ _ _ c.reads.taken _ c.in-Ok.count c.reads.invariant.crash_safe
-      c.in-Ok.ensures.ok (omega (arith, c.if-count-room.false));
+      (reads_same c.reads.invariant.kinds c.in-Ok.ensures.ok) (omega (arith, c.if-count-room.false));
   few = omega (arith, c.if-count-room.false);
   unfailed = nothing_on _ _ _ _ _ _ c.reads.invariant.unfailed c.in-Ok.ensures.unfailed;
+  known = c.in-Ok.ensures.classes;
+  kinds = c.read_once.ensures.kinds ∙ c.reads.invariant.kinds;
 }

@@ -17,6 +17,8 @@ returns-in_err-outcome-clause-err g c =
       moments = rw c.piece.ensures at c.step.ensures.any_moment;
       spends = rw c.piece.ensures at c.in_err-outcome.ensures.spent;
       undamaged = c.in_err-outcome.ensures.undamaged;
+      analyzer = rw c.piece.ensures at c.in_err-outcome.ensures.needed_first;
+      lacks = rw c.piece.ensures at c.in_err-outcome.ensures.missing;
     }))
 
 pub returns-in_err-emit_reply-clause-err : goal.returns-in_err-emit_reply-clause-err
@@ -30,6 +32,7 @@ returns-in_err-emit_reply-clause-err g c =
       moments = rw c.piece.ensures at c.step.ensures.any_moment;
       answers = rw c.piece.ensures at c.in_ok-outcome.ensures.answers;
       anywhere = rw c.piece.ensures at c.in_ok-outcome.ensures.everywhere;
+      analyzer = rw c.piece.ensures at c.in_ok-outcome.ensures.needed;
     })
     c.bytes.ensures c.emit_reply.ensures.emits c.in_err-emit_reply.ensures.failed_call)
 
@@ -42,6 +45,7 @@ returns-clause-ok g c =
       moments = rw c.piece.ensures at c.step.ensures.any_moment;
       answers = rw c.piece.ensures at c.in_ok-outcome.ensures.answers;
       anywhere = rw c.piece.ensures at c.in_ok-outcome.ensures.everywhere;
+      analyzer = rw c.piece.ensures at c.in_ok-outcome.ensures.needed;
     })
     c.bytes.ensures c.emit_reply.ensures.emits _ refl (omega arith) c.count_refused-session.ensures refl c.in_ok-outcome.ensures.ready
     c.in_ok-emit_reply.ensures.all c.emit_reply.ensures.call

@@ -16,6 +16,7 @@ use Rattle.sasi_recover.specs.declared.opened.TableMap.{TableMap}
 use Rattle.sasi_schema.specs.Numbers.{RisesFrom}
 use Rattle.sasi_types.specs.declared.partitioner.Partitioner.{Partitioner}
 use Rattle.sasi_schema.specs.Defined.{definition}
+use Rattle.sasi_schema.specs.SchemaViews.{SchemaView}
 use Rattle.sasi_store.specs.MakesMoves.{MakesMoves}
 use Rattle.sasi_store.specs.StoreView.{memory_of}
 use Rattle.sasi_store.specs.Faults.{fault_of_call}
@@ -29,7 +30,7 @@ pub returns-in_err-edits-clause-makes : goal.returns-in_err-edits-clause-makes
 returns-in_err-edits-clause-makes g c =
     let p = err_from_is_err_and c.from_residual.result c.from_residual.ensures.1 in
     let v = g.H.Host.view c.args.host.now in
-    rw (p.1, p.2) (makes_nothing (λ l. Create (definition c.args.table) ∷ []) v (g.met.H.Host.sound c.args.host.now) (memory_of c.args.parts.now) (memory_of c.args.parts.now) OutOfMemory tt tt (λ e. cc))
+    rw (p.1, p.2) (makes_nothing (λ l. Create (definition c.args.table) ∷ []) v (g.met.H.Host.sound c.args.host.now) (memory_of c.args.parts.now) (memory_of c.args.parts.now) OutOfMemory tt tt tt (λ e. cc))
 
 pub append-requires-clause-short : goal.append-requires-clause-short
 append-requires-clause-short g c =
@@ -77,7 +78,7 @@ returns-clause-makes g c =
     let listed : IsNext c.args.parts.now.manifest.listing (edits_for (memory_of c.args.parts.now) c.args.table) c.append.new.self.listing = subst (λ (es : List Edit). IsNext c.args.parts.now.manifest.listing es c.append.new.self.listing) edits e.listing in
     let pushed : map opened_table c.push.new.tables.items ≡ map opened_table c.args.parts.now.tables.items ++ nothing_held_yet ∷ [] =
     ap (map opened_table) c.in_ok-push.ensures ∙ map-append opened_table c.args.parts.now.tables.items _ ∙ ap (λ (m : MemtableView). map opened_table c.args.parts.now.tables.items ++ record { first = None; frozen = []; memtable = m.partitions } ∷ []) c.new.ensures in
-    let defined = c.in_ok-restore_table.ensures.ok in
+    let defined = ap (λ (v : SchemaView). v.definitions) c.in_ok-restore_table.ensures.ok in
     let memory_is : memory_of (record c.args.parts.now { schema = c.restore_table.new.self; manifest = c.append.new.self; tables = c.push.new.tables }) ≡ memory_after_create c.args.table c.append.new.self (memory_of c.args.parts.now) =
     λ i. record (memory_of c.args.parts.now) { definitions = defined i; manifest = c.append.new.self; tables = pushed i } in
     subst (λ (s : StoreInMemory). MakesMoves (λ l. Create (definition c.args.table) ∷ []) a b (memory_of c.args.parts.now) s (Ok tt)) (sym memory_is)
@@ -108,4 +109,4 @@ returns-clause-parts g c =
     }
 
 pub returns-clause-knows : goal.returns-clause-knows
-returns-clause-knows g c = record { definitions_are = c.in_ok-restore_table.ensures.ok; timestamp_is = refl }
+returns-clause-knows g c = record { definitions_are = ap (λ (v : SchemaView). v.definitions) c.in_ok-restore_table.ensures.ok; timestamp_is = refl }

@@ -1,4 +1,4 @@
-use Rattle.std.proofs.Common.{◌≤◌, ◌+◌, ◌-◌, ◌++◌, List, ℕ, ap, sym, subst, ◌∙◌, arith}
+use Rattle.std.proofs.Common.{◌≤◌, ◌+◌, ◌++◌, List, ℕ, ap, sym, subst, ◌∙◌, arith}
 use Rattle.std.proofs.lemmas.Result.{err_from_is_err_and}
 use Rattle.sasi_folder.specs.Damages.{FolderShows}
 use Rattle.sasi_host.proofs.ChangeLaws.{stays}

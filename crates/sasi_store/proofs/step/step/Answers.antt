@@ -1,22 +1,24 @@
-use Rattle.std.proofs.Common.{◌++◌, List, ℕ, ap, subst, sym, ◌∙◌}
+use Rattle.std.proofs.Common.{◌++◌, List, ℕ, ap, map, subst, sym, ◌∙◌}
 use Rattle.std.proofs.lemmas.Result.{err_from_is_err_and}
 use Rattle.sasi_cells.specs.Mutations.{state_with_mutation}
+use Rattle.sasi_layout.proofs.ClassLaws.{known_created, known_defined}
 use Rattle.sasi_layout.specs.Layout.{state_of}
 use Rattle.sasi_machine.specs.Prepares.{answer_rows}
 use Rattle.sasi_model.specs.Asked as ask
-use Rattle.sasi_model.specs.Changes.{with_new_table}
+use Rattle.sasi_model.specs.Changes.{state_with_index, with_new_table}
 use Rattle.sasi_model.specs.Pieces.{piece_of}
 use Rattle.sasi_schema.specs.Defined.{definition}
+use Rattle.sasi_schema.specs.SchemaViews.{index_of_new}
 use Rattle.sasi_store.specs.StoreView.{memory_of}
-use Rattle.sasi_store.proofs.Known.{created_state, known_as, written_state}
-use Rattle.sasi_store.proofs.Prepared.{HasPrepared, blank, blank_definitions, creatable, has_table_for, selectable, writable}
-use Rattle.sasi_store.proofs.Stepping.{select_answered, select_costs, select_failed, state_is, step_answered, step_failed, step_full, step_made}
+use Rattle.sasi_store.proofs.Known.{created_state, defined_state, known_after, known_as, written_state}
+use Rattle.sasi_store.proofs.Prepared.{HasPrepared, blank, blank_definitions, creatable, definable, has_table_for, new_unindexed, selectable, writable}
+use Rattle.sasi_store.proofs.Stepping.{select_answered, select_costs, select_failed, state_is, step_answered, step_failed, step_full, step_made, step_missing}
 use Rattle.sasi_store.proofs.step.step.Goals as goal
 
 pub returns-in_err-outcome-clause-steps : goal.returns-in_err-outcome-clause-steps
 returns-in_err-outcome-clause-steps g c =
     let p = err_from_is_err_and c.from_residual.result c.from_residual.ensures.1 in
-    rw (p.1, p.2) (step_full (g.H.Host.view c.args.host.now) (g.met.H.Host.sound c.args.host.now) (memory_of c.args.parts.now) (piece_of c.args.end c.args.piece.now) c.prepare.new.reply)
+    rw (p.1, p.2) (step_full (map (λ b. (goal.Analyzer-dyn g (b.vtable, b.value)).kind b.value) c.args.kit.now.objects.items) (g.H.Host.view c.args.host.now) (g.met.H.Host.sound c.args.host.now) (memory_of c.args.parts.now) (piece_of c.args.end c.args.piece.now) c.prepare.new.reply)
 
 pub returns-in-Answered-clause-steps : goal.returns-in-Answered-clause-steps
 returns-in-Answered-clause-steps g c =
@@ -26,7 +28,7 @@ returns-in-Answered-clause-steps g c =
     let e = c.in_ok-outcome.ensures in
     let all : HasPrepared parts piece c.prepare.new.reply c.in_ok-outcome.field-0 = record { asked = e.asked; prepares = e.prepares; timeless = e.timeless; selects = e.selects } in
     let has = subst (HasPrepared parts piece c.prepare.new.reply) c.in-Answered.is all in
-    step_answered v (g.met.H.Host.sound c.args.host.now) (memory_of parts) piece c.prepare.new.reply _ c.requires.ready has.asked has.prepares
+    step_answered (map (λ b. (goal.Analyzer-dyn g (b.vtable, b.value)).kind b.value) c.args.kit.now.objects.items) v (g.met.H.Host.sound c.args.host.now) (memory_of parts) piece c.prepare.new.reply _ c.requires.ready has.asked has.prepares
 
 pub create-requires-clause-creatable : goal.create-requires-clause-creatable
 create-requires-clause-creatable g c =
@@ -46,7 +48,7 @@ write-requires-clause-writable g c =
     let e = c.in_ok-outcome.ensures in
     let all : HasPrepared parts piece c.prepare.new.reply c.in_ok-outcome.field-0 = record { asked = e.asked; prepares = e.prepares; timeless = e.timeless; selects = e.selects } in
     let has = subst (HasPrepared parts piece c.prepare.new.reply) c.in-Write.is all in
-    writable v parts c.requires.ready c.in-Write.mutation piece c.prepare.new.reply c.note_number.ensures has.asked has.prepares
+    writable v parts c.requires.ready c.in-Write.mutation piece c.prepare.new.reply c.note_number-in-Write.ensures has.asked has.prepares
 
 pub flush_unless_empty-requires-clause-there : goal.flush_unless_empty-requires-clause-there
 flush_unless_empty-requires-clause-there g c =
@@ -77,7 +79,7 @@ returns-in_err-create-in-Create-clause-steps g c =
     let all : HasPrepared parts piece c.prepare.new.reply c.in_ok-outcome.field-0 = record { asked = e.asked; prepares = e.prepares; timeless = e.timeless; selects = e.selects } in
     let has = subst (HasPrepared parts piece c.prepare.new.reply) c.in-Create.is all in
     let p = err_from_is_err_and c.from_residual-in_err-create-in-Create.result c.from_residual-in_err-create-in-Create.ensures.1 in
-    rw (p.1, p.2) (step_failed v (g.H.Host.view c.create.new.host) (memory_of parts) (memory_of c.create.new.parts) piece c.prepare.new.reply (ask.Creates (definition c.in-Create.table)) has.asked (λ none. cc) _ c.in_err-create-in-Create.ensures.makes)
+    rw (p.1, p.2) (step_failed (map (λ b. (goal.Analyzer-dyn g (b.vtable, b.value)).kind b.value) c.args.kit.now.objects.items) v (g.H.Host.view c.create.new.host) (memory_of parts) (memory_of c.create.new.parts) piece c.prepare.new.reply (ask.Creates (definition c.in-Create.table)) has.asked (λ none. cc) _ c.in_err-create-in-Create.ensures.makes tt)
 
 pub returns-in_ok-create-in-Create-clause-steps : goal.returns-in_ok-create-in-Create-clause-steps
 returns-in_ok-create-in-Create-clause-steps g c =
@@ -87,9 +89,10 @@ returns-in_ok-create-in-Create-clause-steps g c =
     let e = c.in_ok-outcome.ensures in
     let all : HasPrepared parts piece c.prepare.new.reply c.in_ok-outcome.field-0 = record { asked = e.asked; prepares = e.prepares; timeless = e.timeless; selects = e.selects } in
     let has = subst (HasPrepared parts piece c.prepare.new.reply) c.in-Create.is all in
-    step_made v (g.H.Host.view c.create.new.host) (memory_of parts) (memory_of c.create.new.parts) piece c.prepare.new.reply (ask.Creates (definition c.in-Create.table)) has.asked (λ none. cc) _
+    step_made (map (λ b. (goal.Analyzer-dyn g (b.vtable, b.value)).kind b.value) c.args.kit.now.objects.items) v (g.H.Host.view c.create.new.host) (memory_of parts) (memory_of c.create.new.parts) piece c.prepare.new.reply (ask.Creates (definition c.in-Create.table)) has.asked (λ none. cc) _
     (λ s. with_new_table s (definition c.in-Create.table)) c.in_ok-create-in-Create.ensures.makes (λ s of. (has.prepares s of).0)
-    (λ s of. known_as (memory_of c.create.new.parts) _ _ _ c.in_ok-create-in-Create.ensures.knows (created_state parts.schema parts.max_timestamp s (definition c.in-Create.table) of))
+    (λ s of. known_as (memory_of c.create.new.parts) _ _ _ c.in_ok-create-in-Create.ensures.knows (created_state parts.schema.definitions parts.max_timestamp s (definition c.in-Create.table) of))
+    (λ known. known_after (map (λ b. (goal.Analyzer-dyn g (b.vtable, b.value)).kind b.value) c.args.kit.now.objects.items) (memory_of c.create.new.parts) _ _ c.in_ok-create-in-Create.ensures.knows (known_created (map (λ b. (goal.Analyzer-dyn g (b.vtable, b.value)).kind b.value) c.args.kit.now.objects.items) parts.schema.definitions (definition c.in-Create.table) (new_unindexed v parts c.requires.ready c.in-Create.table piece c.prepare.new.reply (has.timeless tt (blank v parts c.requires.ready) (blank_definitions v parts c.requires.ready))) known)) tt
 
 pub returns-in_err-write-in-Write-clause-steps : goal.returns-in_err-write-in-Write-clause-steps
 returns-in_err-write-in-Write-clause-steps g c =
@@ -100,7 +103,7 @@ returns-in_err-write-in-Write-clause-steps g c =
     let all : HasPrepared parts piece c.prepare.new.reply c.in_ok-outcome.field-0 = record { asked = e.asked; prepares = e.prepares; timeless = e.timeless; selects = e.selects } in
     let has = subst (HasPrepared parts piece c.prepare.new.reply) c.in-Write.is all in
     let p = err_from_is_err_and c.from_residual-in_err-write-in-Write.result c.from_residual-in_err-write-in-Write.ensures.1 in
-    rw (p.1, p.2) (step_failed v (g.H.Host.view c.write.new.host) (memory_of parts) (memory_of c.write.new.parts) piece c.prepare.new.reply (ask.Writes c.in-Write.mutation.table c.in-Write.mutation.key c.in-Write.mutation.change) has.asked (λ none. cc) _ c.in_err-write-in-Write.ensures.makes)
+    rw (p.1, p.2) (step_failed (map (λ b. (goal.Analyzer-dyn g (b.vtable, b.value)).kind b.value) c.args.kit.now.objects.items) v (g.H.Host.view c.write.new.host) (memory_of parts) (memory_of c.write.new.parts) piece c.prepare.new.reply (ask.Writes c.in-Write.mutation.table c.in-Write.mutation.key c.in-Write.mutation.change) has.asked (λ none. cc) _ c.in_err-write-in-Write.ensures.makes tt)
 
 pub returns-in_ok-write-in-Write-clause-steps : goal.returns-in_ok-write-in-Write-clause-steps
 returns-in_ok-write-in-Write-clause-steps g c =
@@ -110,9 +113,10 @@ returns-in_ok-write-in-Write-clause-steps g c =
     let e = c.in_ok-outcome.ensures in
     let all : HasPrepared parts piece c.prepare.new.reply c.in_ok-outcome.field-0 = record { asked = e.asked; prepares = e.prepares; timeless = e.timeless; selects = e.selects } in
     let has = subst (HasPrepared parts piece c.prepare.new.reply) c.in-Write.is all in
-    step_made v (g.H.Host.view c.write.new.host) (memory_of parts) (memory_of c.write.new.parts) piece c.prepare.new.reply (ask.Writes c.in-Write.mutation.table c.in-Write.mutation.key c.in-Write.mutation.change) has.asked (λ none. cc) _
+    step_made (map (λ b. (goal.Analyzer-dyn g (b.vtable, b.value)).kind b.value) c.args.kit.now.objects.items) v (g.H.Host.view c.write.new.host) (memory_of parts) (memory_of c.write.new.parts) piece c.prepare.new.reply (ask.Writes c.in-Write.mutation.table c.in-Write.mutation.key c.in-Write.mutation.change) has.asked (λ none. cc) _
     (λ s. state_with_mutation s c.in-Write.mutation) c.in_ok-write-in-Write.ensures.makes (λ s of. (has.prepares s of).0)
-    (λ s of. known_as (memory_of c.write.new.parts) _ _ _ c.in_ok-write-in-Write.ensures.knows (written_state parts.schema parts.max_timestamp s c.in-Write.mutation (has.prepares s of).2 of))
+    (λ s of. known_as (memory_of c.write.new.parts) _ _ _ c.in_ok-write-in-Write.ensures.knows (written_state parts.schema.definitions parts.max_timestamp s c.in-Write.mutation (has.prepares s of).2 of))
+    (λ known. known_after (map (λ b. (goal.Analyzer-dyn g (b.vtable, b.value)).kind b.value) c.args.kit.now.objects.items) (memory_of c.write.new.parts) _ _ c.in_ok-write-in-Write.ensures.knows known) tt
 
 pub returns-in_err-flush_unless_empty-in-Flush-clause-steps : goal.returns-in_err-flush_unless_empty-in-Flush-clause-steps
 returns-in_err-flush_unless_empty-in-Flush-clause-steps g c =
@@ -123,7 +127,7 @@ returns-in_err-flush_unless_empty-in-Flush-clause-steps g c =
     let all : HasPrepared parts piece c.prepare.new.reply c.in_ok-outcome.field-0 = record { asked = e.asked; prepares = e.prepares; timeless = e.timeless; selects = e.selects } in
     let has = subst (HasPrepared parts piece c.prepare.new.reply) c.in-Flush.is all in
     let p = err_from_is_err_and c.from_residual-in_err-flush_unless_empty-in-Flush.result c.from_residual-in_err-flush_unless_empty-in-Flush.ensures.1 in
-    rw (p.1, p.2) (step_failed v (g.H.Host.view c.flush_unless_empty.new.host) (memory_of parts) (memory_of c.flush_unless_empty.new.parts) piece c.prepare.new.reply (ask.Flushes c.in-Flush.table) has.asked (λ none. cc) _ c.in_err-flush_unless_empty-in-Flush.ensures.makes)
+    rw (p.1, p.2) (step_failed (map (λ b. (goal.Analyzer-dyn g (b.vtable, b.value)).kind b.value) c.args.kit.now.objects.items) v (g.H.Host.view c.flush_unless_empty.new.host) (memory_of parts) (memory_of c.flush_unless_empty.new.parts) piece c.prepare.new.reply (ask.Flushes c.in-Flush.table) has.asked (λ none. cc) _ c.in_err-flush_unless_empty-in-Flush.ensures.makes tt)
 
 pub returns-in_ok-flush_unless_empty-in-Flush-clause-steps : goal.returns-in_ok-flush_unless_empty-in-Flush-clause-steps
 returns-in_ok-flush_unless_empty-in-Flush-clause-steps g c =
@@ -133,9 +137,10 @@ returns-in_ok-flush_unless_empty-in-Flush-clause-steps g c =
     let e = c.in_ok-outcome.ensures in
     let all : HasPrepared parts piece c.prepare.new.reply c.in_ok-outcome.field-0 = record { asked = e.asked; prepares = e.prepares; timeless = e.timeless; selects = e.selects } in
     let has = subst (HasPrepared parts piece c.prepare.new.reply) c.in-Flush.is all in
-    step_made v (g.H.Host.view c.flush_unless_empty.new.host) (memory_of parts) (memory_of c.flush_unless_empty.new.parts) piece c.prepare.new.reply (ask.Flushes c.in-Flush.table) has.asked (λ none. cc) _
+    step_made (map (λ b. (goal.Analyzer-dyn g (b.vtable, b.value)).kind b.value) c.args.kit.now.objects.items) v (g.H.Host.view c.flush_unless_empty.new.host) (memory_of parts) (memory_of c.flush_unless_empty.new.parts) piece c.prepare.new.reply (ask.Flushes c.in-Flush.table) has.asked (λ none. cc) _
     (λ s. s) c.in_ok-flush_unless_empty-in-Flush.ensures.makes (λ s of. (has.prepares s of).0)
     (λ s of. known_as (memory_of c.flush_unless_empty.new.parts) _ _ _ c.in_ok-flush_unless_empty-in-Flush.ensures.knows of)
+    (λ known. known_after (map (λ b. (goal.Analyzer-dyn g (b.vtable, b.value)).kind b.value) c.args.kit.now.objects.items) (memory_of c.flush_unless_empty.new.parts) _ _ c.in_ok-flush_unless_empty-in-Flush.ensures.knows known) tt
 
 pub returns-in_err-select-in-Select-clause-steps : goal.returns-in_err-select-in-Select-clause-steps
 returns-in_err-select-in-Select-clause-steps g c =
@@ -148,7 +153,7 @@ returns-in_err-select-in-Select-clause-steps g c =
     let p = err_from_is_err_and c.from_residual-in_err-select-in-Select.result c.from_residual-in_err-select-in-Select.ensures.1 in
     let i = c.in_err-select-in-Select.ensures in
     let prepared = has.timeless tt (blank v parts c.requires.ready) (blank_definitions v parts c.requires.ready) in
-    rw (p.1, p.2) (select_failed v (g.H.Host.view c.select.new.host) (g.met.H.Host.sound c.args.host.now) (memory_of parts) piece c.select.ensures.changes has.asked (has.selects tt) _ c.select.new.reply i.damaged i.undamaged i.unspent c.in-Select.rows.table
+    rw (p.1, p.2) (select_failed (map (λ b. (goal.Analyzer-dyn g (b.vtable, b.value)).kind b.value) c.args.kit.now.objects.items) v (g.H.Host.view c.select.new.host) (g.met.H.Host.sound c.args.host.now) (memory_of parts) piece c.select.ensures.changes has.asked (has.selects tt) _ c.select.new.reply i.damaged i.undamaged i.unspent i.present c.in-Select.rows.table
     (select_costs v.files (memory_of parts) (blank v parts c.requires.ready) piece c.in-Select.rows (blank_definitions v parts c.requires.ready) prepared.3) c.select.ensures.reads i.causes)
 
 pub returns-in_ok-select-in-Select-clause-steps : goal.returns-in_ok-select-in-Select-clause-steps
@@ -161,7 +166,55 @@ returns-in_ok-select-in-Select-clause-steps g c =
     let has = subst (HasPrepared parts piece c.prepare.new.reply) c.in-Select.is all in
     let i = c.in_ok-select-in-Select.ensures in
     let prepared = has.timeless tt (blank v parts c.requires.ready) (blank_definitions v parts c.requires.ready) in
-    select_answered v (g.H.Host.view c.select.new.host) (g.met.H.Host.sound c.args.host.now) (memory_of parts) piece c.select.ensures.changes has.asked (has.selects tt) _ c.select.new.reply c.requires.ready
+    select_answered (map (λ b. (goal.Analyzer-dyn g (b.vtable, b.value)).kind b.value) c.args.kit.now.objects.items) v (g.H.Host.view c.select.new.host) (g.met.H.Host.sound c.args.host.now) (memory_of parts) piece c.select.ensures.changes has.asked (has.selects tt) _ c.select.new.reply c.requires.ready
     (λ w serves. (has.prepares (state_of w.layout) (state_is v (memory_of parts) w.layout serves)).0.reply_is ∙ sym (i.ok w.layout serves ∙ ap (λ (front : List ℕ). front ++ answer_rows (state_of w.layout) c.in-Select.rows) prepared.1))
     (λ s of. let to = (has.prepares s of).0 in (to.state_is, to.outcome_is)) c.in-Select.rows.table
     (select_costs v.files (memory_of parts) (blank v parts c.requires.ready) piece c.in-Select.rows (blank_definitions v parts c.requires.ready) prepared.3) c.select.ensures.reads i.causes
+
+-- ---- a new index
+
+pub define-requires-clause-definable : goal.define-requires-clause-definable
+define-requires-clause-definable g c =
+    let v = g.H.Host.view c.args.host.now in
+    let parts = c.args.parts.now in
+    let piece = piece_of c.args.end c.args.piece.now in
+    let e = c.in_ok-outcome.ensures in
+    let all : HasPrepared parts piece c.prepare.new.reply c.in_ok-outcome.field-0 = record { asked = e.asked; prepares = e.prepares; timeless = e.timeless; selects = e.selects } in
+    let has = subst (HasPrepared parts piece c.prepare.new.reply) c.in-Define.is all in
+    definable v parts c.requires.ready c.in-Define.index piece c.prepare.new.reply c.note_number.ensures c.note_column.ensures (has.timeless tt (blank v parts c.requires.ready) (blank_definitions v parts c.requires.ready))
+
+pub returns-in_err-check_class-in-Define-clause-steps : goal.returns-in_err-check_class-in-Define-clause-steps
+returns-in_err-check_class-in-Define-clause-steps g c =
+    let v = g.H.Host.view c.args.host.now in
+    let parts = c.args.parts.now in
+    let piece = piece_of c.args.end c.args.piece.now in
+    let e = c.in_ok-outcome.ensures in
+    let all : HasPrepared parts piece c.prepare.new.reply c.in_ok-outcome.field-0 = record { asked = e.asked; prepares = e.prepares; timeless = e.timeless; selects = e.selects } in
+    let has = subst (HasPrepared parts piece c.prepare.new.reply) c.in-Define.is all in
+    let p = err_from_is_err_and c.from_residual-in_err-check_class-in-Define.result c.from_residual-in_err-check_class-in-Define.ensures.1 in
+    rw (p.1, p.2) (step_missing (map (λ b. (goal.Analyzer-dyn g (b.vtable, b.value)).kind b.value) c.args.kit.now.objects.items) v (g.met.H.Host.sound c.args.host.now) (memory_of parts) piece c.prepare.new.reply (ask.Defines c.in-Define.index.table (index_of_new c.in-Define.index)) c.in_err-check_class-in-Define.field-0.0 has.asked c.in_err-check_class-in-Define.ensures.missing)
+
+pub returns-in_err-define-in-Define-clause-steps : goal.returns-in_err-define-in-Define-clause-steps
+returns-in_err-define-in-Define-clause-steps g c =
+    let v = g.H.Host.view c.args.host.now in
+    let parts = c.args.parts.now in
+    let piece = piece_of c.args.end c.args.piece.now in
+    let e = c.in_ok-outcome.ensures in
+    let all : HasPrepared parts piece c.prepare.new.reply c.in_ok-outcome.field-0 = record { asked = e.asked; prepares = e.prepares; timeless = e.timeless; selects = e.selects } in
+    let has = subst (HasPrepared parts piece c.prepare.new.reply) c.in-Define.is all in
+    let p = err_from_is_err_and c.from_residual-in_err-define-in-Define.result c.from_residual-in_err-define-in-Define.ensures.1 in
+    rw (p.1, p.2) (step_failed (map (λ b. (goal.Analyzer-dyn g (b.vtable, b.value)).kind b.value) c.args.kit.now.objects.items) v (g.H.Host.view c.define.new.host) (memory_of parts) (memory_of c.define.new.parts) piece c.prepare.new.reply (ask.Defines c.in-Define.index.table (index_of_new c.in-Define.index)) has.asked (λ none. cc) _ c.in_err-define-in-Define.ensures.makes c.in_ok-check_class-in-Define.ensures.there)
+
+pub returns-in_ok-define-in-Define-clause-steps : goal.returns-in_ok-define-in-Define-clause-steps
+returns-in_ok-define-in-Define-clause-steps g c =
+    let v = g.H.Host.view c.args.host.now in
+    let parts = c.args.parts.now in
+    let piece = piece_of c.args.end c.args.piece.now in
+    let e = c.in_ok-outcome.ensures in
+    let all : HasPrepared parts piece c.prepare.new.reply c.in_ok-outcome.field-0 = record { asked = e.asked; prepares = e.prepares; timeless = e.timeless; selects = e.selects } in
+    let has = subst (HasPrepared parts piece c.prepare.new.reply) c.in-Define.is all in
+    step_made (map (λ b. (goal.Analyzer-dyn g (b.vtable, b.value)).kind b.value) c.args.kit.now.objects.items) v (g.H.Host.view c.define.new.host) (memory_of parts) (memory_of c.define.new.parts) piece c.prepare.new.reply (ask.Defines c.in-Define.index.table (index_of_new c.in-Define.index)) has.asked (λ none. cc) _
+    (λ s. state_with_index s c.in-Define.index.table (index_of_new c.in-Define.index)) c.in_ok-define-in-Define.ensures.makes (λ s of. (has.prepares s of).0)
+    (λ s of. known_as (memory_of c.define.new.parts) _ _ _ c.in_ok-define-in-Define.ensures.knows (defined_state parts.schema.definitions parts.max_timestamp s c.in-Define.index.table (index_of_new c.in-Define.index) of))
+    (λ known. known_after (map (λ b. (goal.Analyzer-dyn g (b.vtable, b.value)).kind b.value) c.args.kit.now.objects.items) (memory_of c.define.new.parts) _ _ c.in_ok-define-in-Define.ensures.knows (known_defined (map (λ b. (goal.Analyzer-dyn g (b.vtable, b.value)).kind b.value) c.args.kit.now.objects.items) parts.schema.definitions c.in-Define.index.table (index_of_new c.in-Define.index) c.in_ok-check_class-in-Define.ensures.there known))
+    c.in_ok-check_class-in-Define.ensures.there

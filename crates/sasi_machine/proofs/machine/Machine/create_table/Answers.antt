@@ -10,12 +10,12 @@ use Rattle.sasi_machine.proofs.machine.Machine.create_table.Goals as goal
 pub restore_table-requires-clause-number : goal.restore_table-requires-clause-number
 restore_table-requires-clause-number c =
     let s = c.self.inside in
-    next_number c.args.self.now s.partitioner s.schema s.memtables.items s.max_timestamp c.args.table c.self.view_is c.self.invariant c.requires
+    next_number c.args.self.now s.partitioner s.schema.definitions s.memtables.items s.max_timestamp c.args.table c.self.view_is c.self.invariant c.requires
 
 pub restore_table-requires-clause-free : goal.restore_table-requires-clause-free
 restore_table-requires-clause-free c =
     let s = c.self.inside in
-    next_free c.args.self.now s.partitioner s.schema s.memtables.items s.max_timestamp c.args.table c.self.view_is c.self.invariant c.requires
+    next_free c.args.self.now s.partitioner s.schema.definitions s.memtables.items s.max_timestamp c.args.table c.self.view_is c.self.invariant c.requires
 
 pub invariant_of-self-2 : goal.invariant_of-self-2
 invariant_of-self-2 c =
@@ -23,7 +23,7 @@ invariant_of-self-2 c =
     let d = definition c.args.table in
     let memtables = pushed s.partitioner s.memtables.items c.reserve_one.new.memtables.items c.add_within.new.memtables.items c.new-memtable.result
     c.in_ok-reserve_one.ensures.items c.add_within.ensures c.new-memtable.ensures in
-    rw (c.in_ok-restore_table.ensures.ok, memtables) (create_kept s.partitioner s.schema s.memtables.items s.max_timestamp d c.self.invariant)
+    rw (c.in_ok-restore_table.ensures.ok, memtables) (create_kept s.partitioner s.schema.definitions s.memtables.items s.max_timestamp d c.self.invariant)
 
 pub returns-clause-ok : goal.returns-clause-ok
 returns-clause-ok c =
@@ -31,5 +31,5 @@ returns-clause-ok c =
     let d = definition c.args.table in
     let memtables = pushed s.partitioner s.memtables.items c.reserve_one.new.memtables.items c.add_within.new.memtables.items c.new-memtable.result
     c.in_ok-reserve_one.ensures.items c.add_within.ensures c.new-memtable.ensures in
-    subst (λ (old : State). state_of s.partitioner c.restore_table.new.self c.add_within.new.memtables.items ≡ with_new_table old d) c.self.view_is
-    (rw (c.in_ok-restore_table.ensures.ok, memtables) (created_state s.partitioner s.schema s.memtables.items s.max_timestamp d c.self.invariant))
+    subst (λ (old : State). state_of s.partitioner c.restore_table.new.self.definitions c.add_within.new.memtables.items ≡ with_new_table old d) c.self.view_is
+    (rw (c.in_ok-restore_table.ensures.ok, memtables) (created_state s.partitioner s.schema.definitions s.memtables.items s.max_timestamp d c.self.invariant))

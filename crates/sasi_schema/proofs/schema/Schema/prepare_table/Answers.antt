@@ -1,4 +1,7 @@
-use Rattle.std.proofs.Common.{◌<◌, sym, ◌∙◌, rules}
+use Rattle.std.proofs.Common.{◌<◌, ◌+◌, sym, ◌∙◌, rules, subst}
+use Rattle.std.specs.List.{All}
+use Rattle.std.proofs.lemmas.List.Elements.{All-nil}
+use Rattle.sasi_schema.specs.IndexFacts.{IsIndexOf}
 use Rattle.sasi_schema.specs.Defined.{definitions}
 use Rattle.sasi_schema.proofs.Allowed.{allowed, few_tables}
 use Rattle.sasi_schema.proofs.schema.Schema.prepare_table.Goals as goal
@@ -24,4 +27,5 @@ invariant_of-result c =
     record {
       key_is_there = rw (c.in_ok-copy-2.ensures, c.key_position-key.ensures, ← c.as_slice-columns_in.ensures) is.key;
       few = rw (c.in_ok-copy-2.ensures, ← c.as_slice-columns_in.ensures) is.few;
+      index_facts = subst (All (IsIndexOf (c.len.result + 1) c.in_ok-copy-2.field-0 c.key_position-key.result)) (sym c.new.ensures) (All-nil _);
     }

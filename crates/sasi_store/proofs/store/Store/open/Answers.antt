@@ -1,6 +1,7 @@
-use Rattle.std.proofs.Common.{List, subst, sym}
+use Rattle.std.proofs.Common.{List, map, subst, sym}
 use Rattle.std.proofs.lemmas.Result.{err_from_is_err_and}
-use Rattle.sasi_layout.specs.Serving.{Serves, StoreInMemory}
+use Rattle.sasi_layout.specs.Classes.{KnowsClasses}
+use Rattle.sasi_layout.specs.Serving.{Serves, StoreInMemory, known_in_memory}
 use Rattle.sasi_manifest.specs.OpenManifest.{ManifestState}
 use Rattle.sasi_machine.specs.Prepares.{IsStateOf}
 use Rattle.sasi_model.specs.State.{State}
@@ -14,7 +15,7 @@ use Rattle.sasi_store.proofs.store.Store.open.Goals as goal
 pub returns-in_err-opened-clause-reports : goal.returns-in_err-opened-clause-reports
 returns-in_err-opened-clause-reports g c =
     let p = err_from_is_err_and c.from_residual.result c.from_residual.ensures.1 in
-    rw (p.1, p.2) (reports_on c.args.asked (g.H.Host.view c.args.host.now) c.in_err-opened.field-0.0 c.in_err-opened.ensures.reports)
+    rw (p.1, p.2) (reports_on c.args.asked (map (λ b. (goal.Analyzer-dyn g (b.vtable, b.value)).kind b.value) c.args.kit.now.objects.items) (g.H.Host.view c.args.host.now) c.in_err-opened.field-0.0 c.in_err-opened.ensures.reports)
 
 pub invariant_of-result : goal.invariant_of-result
 invariant_of-result g c usable =
@@ -27,9 +28,23 @@ returns-clause-serves g c folder l files shape =
 
 pub returns-clause-state : goal.returns-clause-state
 returns-clause-state g c =
-    subst (λ (h : StoreInMemory). (s : State) × IsStateOf h.definitions h.max_timestamp s) (sym c.in-Ok.ensures.memory) (opened_state (opened_store c.in_ok-opened.opened) c.in_ok-opened.ensures.timed)
+    subst (λ (h : StoreInMemory). (s : State) × IsStateOf (known_in_memory h) s) (sym c.in-Ok.ensures.memory) (opened_state (opened_store c.in_ok-opened.opened) c.in_ok-opened.ensures.timed)
 
 pub returns-in_err-opened-clause-untouched : goal.returns-in_err-opened-clause-untouched
 returns-in_err-opened-clause-untouched g c =
     let p = err_from_is_err_and c.from_residual.result c.from_residual.ensures.1 in
     rw (p.1, p.2) c.in_err-opened.ensures.untouched
+
+pub returns-in_err-opened-clause-unopened : goal.returns-in_err-opened-clause-unopened
+returns-in_err-opened-clause-unopened g c =
+    let p = err_from_is_err_and c.from_residual.result c.from_residual.ensures.1 in
+    rw (p.1, p.2) c.in_err-opened.ensures.unopened
+
+pub returns-clause-classes : goal.returns-clause-classes
+returns-clause-classes g c =
+    subst (KnowsClasses (map (λ b. (goal.Analyzer-dyn g (b.vtable, b.value)).kind b.value) c.args.kit.now.objects.items)) (sym c.in-Ok.ensures.memory) c.in_ok-opened.ensures.classes
+
+pub returns-in_err-opened-clause-absent : goal.returns-in_err-opened-clause-absent
+returns-in_err-opened-clause-absent g c =
+    let p = err_from_is_err_and c.from_residual.result c.from_residual.ensures.1 in
+    rw (p.1, p.2) c.in_err-opened.ensures.absent

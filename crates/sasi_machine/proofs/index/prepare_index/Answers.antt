@@ -1,0 +1,20 @@
+use Rattle.std.proofs.Common.{subst}
+use Rattle.std.specs.Option.{option_copied}
+use Rattle.sasi_types.specs.declared.statement.Statement.TheVariants.{CreateIndex}
+use Rattle.sasi_schema.specs.Faults as schema
+use Rattle.sasi_machine.specs.Prepares.{known_by}
+use Rattle.sasi_machine.specs.StatementSteps.{IsRefused}
+use Rattle.sasi_machine.proofs.DefinedIndexes.{index_asks}
+use Rattle.sasi_machine.proofs.StatementStepping.{refuses}
+use Rattle.sasi_machine.proofs.index.prepare_index.Goals as goal
+
+pub returns-in_ok-ok-in-Ok : goal.returns-in_ok-ok-in-Ok
+returns-in_ok-ok-in-Ok c stepped max_time =
+    index_asks (known_by c.args.schema.now max_time) (option_copied c.args.name) c.args.table.now c.args.column.now c.args.class.now c.args.options.now stepped c.in-Ok.new c.args.reply.now c.ok.new.self
+    c.in-Ok.ensures.answers c.in-Ok.ensures.made c.in_ok-ok-in-Ok.ensures.ok
+
+pub returns-in_ok-outcome-in-Err : goal.returns-in_ok-outcome-in-Err
+returns-in_ok-outcome-in-Err c stepped max_time =
+    let o = c.in_ok-outcome-in-Err.outcome in
+    refuses (known_by c.args.schema.now max_time) (CreateIndex (option_copied c.args.name) c.args.table.now c.args.column.now c.args.class.now c.args.options.now stepped) (schema.refusal_of_fault c.in-Err.fault) c.args.reply.now c.reply_fault.new.reply o
+    c.in-Err.ensures.answers (subst (λ refused. IsRefused refused c.args.reply.now c.reply_fault.new.reply o) c.of_schema.ensures c.in_ok-outcome-in-Err.ensures)

@@ -1,0 +1,14 @@
+pub mod PostingLaws
+pub mod PutLaws
+pub mod HitLaws
+pub mod FirstTerms
+pub mod FirstPostings
+pub mod SearchLaws
+pub mod OneTerm
+pub mod MergedValues
+pub mod Parts
+pub mod BookLaws
+pub mod AddedIndexes
+pub mod Places
+pub mod ChangedIndexes
+pub mod BuiltIndexes

@@ -1,0 +1,50 @@
+-- The rows that a SELECT answers: conditions joined by AND and OR, over the partitions of a table.
+use Rattle.std.specs.Prelude.{Bool, true, false, ◌&&◌, ◌||◌, List, [], ◌∷◌, map}
+use Rattle.std.specs.List.{filter}
+use Rattle.sasi_types.specs.declared.decorated_key.DecoratedKey.{DecoratedKey}
+use Rattle.sasi_types.specs.declared.relation.Relation.{Relation}
+use Rattle.sasi_model.specs.Cells.{Partition, is_live}
+use Rattle.sasi_model.specs.Conditions.{Condition, condition_of, meets}
+use Rattle.sasi_model.specs.State.{Definition}
+
+-- A WHERE without OR is the conjunction of its relations.
+mutual
+  pub data Filter : Type 0 where
+    Leaf : Condition → Filter
+    AllOf : Filters → Filter
+    AnyOf : Filters → Filter
+
+  pub data Filters : Type 0 where
+    no_filters : Filters
+    one_more : Filter → Filters → Filters
+
+-- the filter holds where its leaves are as told
+abbrev mutual
+  pub tree : (Condition → Bool) → Filter → Bool
+  tree leaf (Leaf condition) = leaf condition
+  tree leaf (AllOf filters) = all_of leaf filters
+  tree leaf (AnyOf filters) = any_of leaf filters
+
+  pub all_of : (Condition → Bool) → Filters → Bool
+  all_of leaf no_filters = true
+  all_of leaf (one_more f fs) = tree leaf f && all_of leaf fs
+
+  pub any_of : (Condition → Bool) → Filters → Bool
+  any_of leaf no_filters = false
+  any_of leaf (one_more f fs) = tree leaf f || any_of leaf fs
+
+abbrev pub leaves : List Condition → Filters
+leaves [] = no_filters
+leaves (condition ∷ conditions) = one_more (Leaf condition) (leaves conditions)
+
+-- what the WHERE of a SELECT asks of the rows of a table
+abbrev pub filter_of : Definition → List Relation → Filter
+filter_of d relations = AllOf (leaves (map (condition_of d) relations))
+
+-- the row is there, and as asked
+abbrev pub answers : Filter → DecoratedKey × Partition → Bool
+answers f e = is_live e.1 && tree (meets e.0 e.1) f
+
+-- **The rows of the answer**, before its columns are chosen: the table's partitions, filtered one by one.
+abbrev pub rows : Filter → List (DecoratedKey × Partition) → List (DecoratedKey × Partition)
+rows f entries = filter (answers f) entries
