@@ -23,7 +23,7 @@ use Rattle.sasi_schema.specs.SchemaViews.{IsNewIndex, SchemaView, index_of_new, 
 use Rattle.sasi_schema.specs.declared.index.NewIndex.{NewIndex}
 use Rattle.sasi_machine.specs.Outcome.{outcome_of}
 use Rattle.sasi_machine.specs.Prepares.{IsAddable, IsPrepared}
-use Rattle.sasi_machine.specs.TableRows.{KeysStored}
+use Rattle.sasi_machine.specs.TableRows.{AreStored}
 use Rattle.sasi_machine.specs.Tables.{AreMemtables, IsMachineState, state_of, table_with, tables_of}
 use Rattle.sasi_machine.specs.declared.prepared.Prepared.TheVariants.{Define}
 use Rattle.sasi_machine.proofs.KnownStates.{definitions_are}
@@ -111,7 +111,7 @@ memtables_indexed : (n number : ℕ) (i : Index) (ds : List Definition) (cs : Li
 memtables_indexed n number i [] cs held = held
 memtables_indexed n number i (d ∷ ds) [] held = absurd held
 memtables_indexed n number i (d ∷ ds) (c ∷ cs) held = (
-  elim (nat_eq n number) as (λ b. KeysStored (key_type (if b then with_index i d else d)) c.partitions) [ true ↦ held.0 | false ↦ held.0 ],
+  elim (nat_eq n number) as (λ b. AreStored (key_type (if b then with_index i d else d)) c.partitions) [ true ↦ held.0 | false ↦ held.0 ],
   memtables_indexed (suc n) number i ds cs held.1,
 )
 

@@ -1,4 +1,8 @@
 pub mod CheckSteps
+pub mod Texts
+pub mod Asking
+pub mod AskedKeys
+pub mod Lacking
 pub mod Accepted
 pub mod Assigning
 pub mod KnownStates

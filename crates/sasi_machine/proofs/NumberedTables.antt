@@ -85,3 +85,24 @@ table_numbered name ts number d is found =
     let some = number_some name (definitions ts) number is in
     let suc_is : number ≡ suc (number - 1) = omega arith in
     table_at name ts (number - 1) d (is ∙ ap Some suc_is) found
+
+-- ---- the definition of a name
+
+pub defined_at : (ts : List Table) (at : ℕ) (t : Table) → slice_get ts at ≡ Some t → slice_get (definitions ts) at ≡ Some t.definition
+defined_at [] at t there = cc
+defined_at (x ∷ ts) zero t there = (let same : x ≡ t = cc in ap (λ (t : Table). Some t.definition) same)
+defined_at (x ∷ ts) (suc at) t there = defined_at ts at t there
+
+definition_at : (name : List ℕ) (ds : List Definition) (at : ℕ) (d : Definition) → number_of_table name ds ≡ Some (suc at) → slice_get ds at ≡ Some d → definition_of name ds ≡ Some d
+definition_at name [] at d is there = cc
+definition_at name (x ∷ ds) at d is there =
+    elim (first_or_later name x ds at is) [
+      | inl first ↦ rw first.0 (rw first.1 at there)
+      | inr later ↦ rw later.other (definition_at name ds later.index d later.later (rw later.index_is at there))
+    ]
+
+pub definition_numbered : (name : List ℕ) (ds : List Definition) (number : ℕ) (d : Definition) → number_of_table name ds ≡ Some number → slice_get ds (number - 1) ≡ Some d → definition_of name ds ≡ Some d
+definition_numbered name ds number d is there =
+    let some = number_some name ds number is in
+    let suc_is : number ≡ suc (number - 1) = omega arith in
+    definition_at name ds (number - 1) d (is ∙ ap Some suc_is) there

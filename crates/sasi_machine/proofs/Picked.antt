@@ -1,20 +1,27 @@
 -- Columns that are picked by their numbers.
-use Rattle.std.proofs.Common.{◌≡◌, ℕ, zero, suc, ◌+◌, ◌<◌, List, [], ◌∷◌, ◌++◌, length, drop, get_or, map, Option, None, Some, refl, sym, ap, ◌∙◌, add-one, append_assoc, arith}
+use Rattle.std.proofs.Common.{◌≡◌, ℕ, zero, suc, ◌+◌, ◌<◌, Bool, true, false, cond, if◌then◌else◌, List, [], ◌∷◌, ◌++◌, length, drop, get_or, map, Option, None, Some, refl, sym, ap, ◌∙◌, add-one, append_assoc, arith}
 use Rattle.std.specs.List.{cons_option}
 use Rattle.std.specs.Option.{option_map}
 use Rattle.std.proofs.Math.Seq.{drop-cons}
 use Rattle.std.proofs.lemmas.List.{append-nil, map-append}
+use Rattle.sasi_types.specs.declared.column.ColumnType.{ColumnType}
 use Rattle.sasi_types.specs.declared.decorated_key.DecoratedKey.{DecoratedKey}
+use Rattle.sasi_types.specs.declared.statement.Select.{Select}
 use Rattle.sasi_cells.specs.declared.picked.PickedColumn.{PickedColumn}
 use Rattle.sasi_cells.specs.Rows.{picked_value}
 use Rattle.sasi_model.specs.Cells.{Partition}
 use Rattle.sasi_model.specs.State.{Column, Definition, number_of_column}
-use Rattle.sasi_model.specs.Step.{live_rows, value_numbered, value_stored}
+use Rattle.sasi_model.specs.Conditions.{Condition, condition_of}
+use Rattle.sasi_model.specs.Filters.{Filter, answers, filter_of, rows}
+use Rattle.sasi_model.specs.Lines.{rows_lines}
+use Rattle.sasi_model.specs.Step.{select_lines, selected_columns, value_numbered, values_numbered}
+use Rattle.sasi_model.specs.Values.{value_stored}
 use Rattle.sasi_model.specs.Abbreviations.{count_up, numbers_of, key_type}
 use Rattle.sasi_schema.specs.Numbers.{IsKeyAt}
 use Rattle.sasi_schema.proofs.Keys.{key_is}
 use Rattle.sasi_machine.specs.TableRows.{rows_picked}
 use Rattle.sasi_machine.specs.Picks.{pick}
+use Rattle.sasi_machine.specs.Where.{where_of}
 
 count_push : (from n : ℕ) → count_up from (suc n) ≡ count_up from n ++ (from + n) ∷ []
 count_push from zero = ap (λ m. m ∷ []) (omega arith)
@@ -55,6 +62,22 @@ values_picked d decorated_key p [] at = refl
 values_picked d decorated_key p (n ∷ numbers) at = rw (value_picked d decorated_key p n at, values_picked d decorated_key p numbers at) refl
 
 -- the rows with the values that are picked are those of the numbers
-pub rows_by_numbers : (d : Definition) (numbers : List ℕ) (entries : List (DecoratedKey × Partition)) → IsKeyAt d.key d.columns → rows_picked (key_type d) (map pick numbers) entries ≡ live_rows d numbers entries
-rows_by_numbers d numbers [] at = refl
-rows_by_numbers d numbers (entry ∷ entries) at = rw (values_picked d entry.0 entry.1 numbers at, rows_by_numbers d numbers entries at) refl
+rows_by_numbers : (d : Definition) (numbers : List ℕ) (f : Filter) (entries : List (DecoratedKey × Partition)) → IsKeyAt d.key d.columns → rows_picked (key_type d) (map pick numbers) f entries ≡ map (values_numbered d numbers) (rows f entries)
+rows_by_numbers d numbers f [] at = refl
+rows_by_numbers d numbers f (entry ∷ entries) at = by (answers f entry) (rows_by_numbers d numbers f entries at)
+  where
+    by : (b : Bool) → rows_picked (key_type d) (map pick numbers) f entries ≡ map (values_numbered d numbers) (rows f entries)
+        → (if b then map (picked_value (key_type d) entry.0.key entry.1) (map pick numbers) ∷ rows_picked (key_type d) (map pick numbers) f entries else rows_picked (key_type d) (map pick numbers) f entries)
+        ≡ map (values_numbered d numbers) (cond b (entry ∷ rows f entries) (rows f entries))
+    by true rest = rw (values_picked d entry.0 entry.1 numbers at, rest) refl
+    by false rest = rest
+
+-- **The lines of picked rows are those of the SELECT that picks them.**
+pub lines_by_numbers : (d : Definition) (select : Select) (kind : ColumnType) (columns : List PickedColumn) (conditions : List Condition) (entries : List (DecoratedKey × Partition)) → IsKeyAt d.key d.columns
+    → kind ≡ key_type d → columns ≡ map pick (selected_columns d select.columns) → conditions ≡ map (condition_of d) select.relations
+    → rows_lines (rows_picked kind columns (where_of conditions) entries) ≡ select_lines d select entries
+lines_by_numbers d select kind columns conditions entries at kind_is columns_are conditions_are =
+    ap (λ (k : ColumnType). rows_lines (rows_picked k columns (where_of conditions) entries)) kind_is
+    ∙ ap (λ (cs : List PickedColumn). rows_lines (rows_picked (key_type d) cs (where_of conditions) entries)) columns_are
+    ∙ ap (λ (cs : List Condition). rows_lines (rows_picked (key_type d) (map pick (selected_columns d select.columns)) (where_of cs) entries)) conditions_are
+    ∙ ap rows_lines (rows_by_numbers d (selected_columns d select.columns) (filter_of d select.relations) entries at)

@@ -11,23 +11,21 @@ use Rattle.sasi_types.specs.declared.statement.Statement.{Statement}
 use Rattle.sasi_types.specs.declared.statement.Statement.TheVariants.{CreateTable, CreateIndex, Flush, Query}
 use Rattle.sasi_cells.proofs.Laws.Times.{body_limit}
 use Rattle.sasi_cells.specs.Rows.{IsStored}
-use Rattle.sasi_cells.specs.declared.picked.PickedColumn.{PickedColumn}
 use Rattle.sasi_model.specs.Asked as ask
 use Rattle.sasi_model.specs.Asked.{Asked, asks, parsed_asks}
 use Rattle.sasi_model.specs.Cells.{Partition, max_timestamp_of}
-use Rattle.sasi_model.specs.Abbreviations.{key_position, max_timestamp_of_tables, definitions, ok_line, selected_lines, NoTable, TableExists, first_refusal, new_definition, key_type, types_of}
+use Rattle.sasi_model.specs.Abbreviations.{key_position, max_timestamp_of_tables, definitions, ok_line, NoTable, TableExists, first_refusal, new_definition, key_type, types_of}
 use Rattle.sasi_model.specs.Stored.{IsBodyOf, IsValueOf, column_types}
-use Rattle.sasi_model.specs.WellFormed.{IsWellFormed}
+use Rattle.sasi_model.specs.WellFormed.{IsWellFormed, IsWellFormedSelect}
 use Rattle.sasi_types.specs.declared.column.ColumnType.{ColumnType}
 use Rattle.sasi_types.specs.declared.column.ColumnType.TheVariants as types
 use Rattle.sasi_machine.proofs.StatementBodies.{change_fits}
 use Rattle.sasi_model.specs.Changes.{changed_tables, empty_table, state_with_index, with_new_table}
-use Rattle.sasi_model.specs.Lines.{rows_lines}
 use Rattle.sasi_model.specs.Pieces.{Piece}
 use Rattle.sasi_model.specs.Refusals.{Known, Refusal, RefusalRule, Says, create_rules, flush_rules, known_of, read, refusal, rules, select_rules}
 use Rattle.sasi_model.specs.State as model
 use Rattle.sasi_model.specs.State.{Column, Definition, State, definition_of, max_timestamp, decorated}
-use Rattle.sasi_model.specs.Step.{StepResult, answer_of, live_rows, primary_key, selected_columns, step, step_as, step_by}
+use Rattle.sasi_model.specs.Step.{StepResult, answer_of, primary_key, select_lines, step, step_as, step_by}
 use Rattle.sasi_schema.specs.Answers.{IsFirstRefusal}
 use Rattle.sasi_schema.specs.Defined.{definition}
 use Rattle.sasi_schema.specs.Numbers.{number_of_table}
@@ -41,19 +39,19 @@ use Rattle.sasi_machine.specs.declared.prepared.Selection.{Selection}
 use Rattle.sasi_cells.specs.declared.mutation.Mutation.{Mutation}
 use Rattle.sasi_memtable.specs.MemtableView.{MemtableView, empty_memtable}
 use Rattle.sasi_machine.specs.Outcome.{outcome_of}
-use Rattle.sasi_machine.specs.Picks.{pick}
+use Rattle.sasi_machine.specs.Operands.{CanSelect}
 use Rattle.sasi_cells.specs.Mutations.{state_with_mutation}
-use Rattle.sasi_machine.specs.Prepares.{CreatesTable, DefinesIndex, FlushesTable, HasRows, HasTable, IsAddable, IsApplicable, IsNewTable, IsPrepared, IsPreparedFor, IsQuery, IsSelect, IsStateOf, IsTimeless, Prepares, StatementPrepares, SelectsRows, StepsTo, WritesTo, answer_rows, asked_by, lines_of}
-use Rattle.sasi_machine.specs.Selections.{IsSelection, PreparesRows}
-use Rattle.sasi_machine.specs.TableRows.{KeysStored, rows_picked}
+use Rattle.sasi_machine.specs.Prepares.{CreatesTable, DefinesIndex, FlushesTable, HasRows, HasTable, IsAddable, IsApplicable, IsNewTable, IsPrepared, IsPreparedFor, IsQuery, IsSelect, IsStateOf, IsTimeless, Prepares, StatementPrepares, SelectsRows, StepsTo, WritesTo, answer_rows, asked_by}
+use Rattle.sasi_machine.specs.Selections.{PreparesRows}
+use Rattle.sasi_machine.specs.TableRows.{AreStored}
 use Rattle.sasi_machine.specs.Tables.{AreMemtables, IsMachineState, HasMemtableFor, IsWrittenAt, state_of, tables_of, written}
 use Rattle.sasi_machine.specs.StatementSteps.{IsRefused, StatementStepsTo}
 use Rattle.sasi_machine.specs.Writes.{IsWrite, IsWriting, table_named}
 use Rattle.sasi_machine.proofs.KnownStates.{definitions_are, knows}
 use Rattle.sasi_machine.proofs.MaxTimestamps.{max_timestamp_put, max_timestamp_set}
 use Rattle.sasi_machine.proofs.NumberedTables.{number_some, table_numbered}
-use Rattle.sasi_machine.proofs.Picked.{rows_by_numbers}
 use Rattle.sasi_machine.proofs.Stored.{put_stored}
+use Rattle.sasi_machine.proofs.Texts.{body_texts, put_texts}
 use Rattle.sasi_machine.proofs.TablesOfMemtables.{changed_at, memtable_at, memtable_inside, definitions_of, memtables_set, length_tables, tables_push, under_at, under_set}
 use Rattle.sasi_machine.proofs.WrittenKeys.{found_rules}
 use Rattle.sasi_schema.proofs.Allowed.{allowed}
@@ -149,49 +147,51 @@ first_is rules = by (first_refusal rules) refl
     by None is = tt
     by (Some r) is = is
 
-answer_is : (s : State) (d : Definition) (select : Select) (rows : Selection) (t : Table) (found : model.Table) → model.table_of select.table s.tables ≡ Some found → slice_get s.tables (rows.table - 1) ≡ Some found
-    → found.definition ≡ definition t → IsSelection t select.columns rows → answer_of s (Query select) ≡ answer_rows s rows
-answer_is s d select rows t found named there is selection =
-    let entries = fin.entries found.partitions in
-    let numbers : Definition → List ℕ = λ d. selected_columns d select.columns in
-    ap (λ (o : Option model.Table). selected_lines select.columns o) named
-    ∙ ap (λ (d : Definition). rows_lines (live_rows d (numbers d) entries)) is
-    ∙ ap rows_lines (sym (rows_by_numbers (definition t) (numbers (definition t)) entries t.key_is_there))
-    ∙ ap (λ (kind : ColumnType). rows_lines (rows_picked kind (map pick (numbers (definition t))) entries)) (sym selection.key)
-    ∙ ap (λ (columns : List PickedColumn). rows_lines (rows_picked rows.picked.key columns entries)) (sym selection.columns_are)
-    ∙ ap (λ (o : Option model.Table). option_map_or (λ t. lines_of rows t.partitions) o []) (sym there)
+answer_is : (s : State) (select : Select) (rows : Selection) (found : model.Table) → model.table_of select.table s.tables ≡ Some found → slice_get s.tables (rows.table - 1) ≡ Some found
+    → rows.select ≡ select → answer_of s (Query select) ≡ answer_rows s rows
+answer_is s select rows found named there is =
+    ap (λ (o : Option model.Table). option_map_or (λ t. select_lines t.definition select (fin.entries t.partitions)) o []) named
+    ∙ ap (λ (q : Select). select_lines found.definition q (fin.entries found.partitions)) (sym is)
+    ∙ ap (λ (o : Option model.Table). option_map_or (λ t. select_lines t.definition rows.select (fin.entries t.partitions)) o []) (sym there)
 
-pub select_asks : (known : Known) (select : Select) (found : Option Table) (reply_old reply_new : List ℕ) (prepared : Prepared) → option_map definition found ≡ definition_of select.table known.tables → option_map (λ (t : Table). t.number) found ≡ number_of_table select.table known.tables
-    → PreparesRows found select.table select.columns reply_old reply_new prepared → IsPrepared known (Query select) reply_old reply_new prepared
-select_asks known select found reply_old reply_new (Answered outcome) defined numbered prepares =
-    let refused = first_refusal (select_rules select.table select.columns (option_map definition found)) in
-    refuses known (Query select) refused reply_old reply_new outcome (subst (λ (o : Option Definition). IsFirstRefusal refused (select_rules select.table select.columns o)) defined (first_is (select_rules select.table select.columns (option_map definition found)))) prepares
-select_asks known select None reply_old reply_new (Selects rows) defined numbered prepares = absurd prepares.2
-select_asks known select (Some t) reply_old reply_new (Selects rows) defined numbered prepares =
-    let none : first_refusal (rules known (Query select)) ≡ None = subst (λ (o : Option Definition). first_refusal (select_rules select.table select.columns o) ≡ None) defined prepares.0 in
+-- it isn't refused on its table
+can_select : (select asked : Select) (d e : Definition) → IsWellFormedSelect select → first_refusal (select_rules select (Some d)) ≡ None → e ≡ d → asked ≡ select → CanSelect e asked
+can_select select asked d e written none same is = record { written = subst IsWellFormedSelect (sym is) written; taken = rw (same, is) none }
+
+pub select_asks : (known : Known) (select : Select) (found : Option Table) (reply_old reply_new : List ℕ) (prepared : Prepared) → IsWellFormedSelect select
+    → option_map definition found ≡ definition_of select.table known.tables → option_map (λ (t : Table). t.number) found ≡ number_of_table select.table known.tables
+    → PreparesRows found select reply_old reply_new prepared → IsPrepared known (Query select) reply_old reply_new prepared
+select_asks known select found reply_old reply_new (Answered outcome) written defined numbered prepares =
+    let refused = first_refusal (select_rules select (option_map definition found)) in
+    refuses known (Query select) refused reply_old reply_new outcome (subst (λ (o : Option Definition). IsFirstRefusal refused (select_rules select o)) defined (first_is (select_rules select (option_map definition found)))) prepares
+select_asks known select None reply_old reply_new (Selects rows) written defined numbered prepares = absurd prepares.2
+select_asks known select (Some t) reply_old reply_new (Selects rows) written defined numbered prepares =
+    let none : first_refusal (rules known (Query select)) ≡ None = subst (λ (o : Option Definition). first_refusal (select_rules select o) ≡ None) defined prepares.0 in
     record {
       asked_is = taken_asks known (Query select) none;
       of_state = λ s of.
-          let at = table_numbered select.table s.tables t.number (definition t) (ap (number_of_table select.table) (definitions_are known s of) ∙ sym numbered) (ap (definition_of select.table) (definitions_are known s of) ∙ sym defined) in
+          let here : number_of_table select.table (definitions s.tables) ≡ Some t.number = ap (number_of_table select.table) (definitions_are known s of) ∙ sym numbered in
+          let at = table_numbered select.table s.tables t.number (definition t) here (ap (definition_of select.table) (definitions_are known s of) ∙ sym defined) in
           let there : slice_get s.tables (rows.table - 1) ≡ Some at.table = ap (λ (n : ℕ). slice_get s.tables (n - 1)) prepares.2.number ∙ at.there in (
             prepares.1,
-            (
-              not_refused s known (Query select) of none,
-              answer_is s (definition t) select rows t at.table at.found there at.definition_is prepares.2,
-              record {
-                some = omega (arith, number_some select.table known.tables t.number (sym numbered), prepares.2.number);
+            record {
+              taken = not_refused s known (Query select) of none;
+              select_is = prepares.2.select_is;
+              answer = answer_is s select rows at.table at.found there prepares.2.select_is;
+              has = record {
+                some = omega (arith, number_some select.table (definitions s.tables) t.number here, prepares.2.number);
                 table = at.table;
                 there = there;
-                key = prepares.2.key ∙ ap key_type (sym at.definition_is);
-              },
-              ap (number_of_table select.table) (definitions_are known s of) ∙ sym numbered ∙ ap Some (sym prepares.2.number),
-            ),
+                named = ap (λ (q : Select). number_of_table q.table (definitions s.tables)) prepares.2.select_is ∙ here ∙ ap Some (sym prepares.2.number);
+                can = can_select select rows.select (definition t) at.table.definition written prepares.0 at.definition_is prepares.2.select_is;
+              };
+            },
           );
     }
-select_asks known select found reply_old reply_new (Create t) defined numbered prepares = absurd prepares
-select_asks known select found reply_old reply_new (Define new) defined numbered prepares = absurd prepares
-select_asks known select found reply_old reply_new (Writes w) defined numbered prepares = absurd prepares
-select_asks known select found reply_old reply_new (Flushes table) defined numbered prepares = absurd prepares
+select_asks known select found reply_old reply_new (Create t) written defined numbered prepares = absurd prepares
+select_asks known select found reply_old reply_new (Define new) written defined numbered prepares = absurd prepares
+select_asks known select found reply_old reply_new (Writes w) written defined numbered prepares = absurd prepares
+select_asks known select found reply_old reply_new (Flushes table) written defined numbered prepares = absurd prepares
 
 -- whatever the largest timestamp
 pub for_any : {E : Type 0} (known : Known) (statement : Statement) (reply_old reply_new : List ℕ) (result : Result Prepared E) → IfOk result (λ prepared. (max_time : ℕ) → IsPrepared (record known { max_timestamp = max_time }) statement reply_old reply_new prepared) → IfOk result (IsPreparedFor known statement reply_old reply_new)
@@ -251,7 +251,10 @@ fit_kept p ds cs new g w kept fit is =
     let changed : MemtableView = written p w held.0 in
     let new_is : new ≡ set cs at changed = is held.0 held.1 in
     let times = max_timestamp_set ds cs at held.0 changed (max_timestamp_of w.change) kept.held held.1 (max_timestamp_put held.0.partitions (decorated p w.key) w.change) in
-    let stored : KeysStored (key_type fit.table.definition) changed.partitions = put_stored (key_type fit.table.definition) held.0.partitions (decorated p w.key) w.change (fit_stored (state_of p ds cs) w fit) held.2 in
+    let stored : AreStored (key_type fit.table.definition) changed.partitions = record {
+      keys = put_stored (key_type fit.table.definition) held.0.partitions (decorated p w.key) w.change (fit_stored (state_of p ds cs) w fit) held.2.keys;
+      texts = put_texts held.0.partitions (decorated p w.key) w.change held.2.texts (body_texts fit.types w.key w.change fit.body);
+    } in
     record {
       held = rw new_is (memtables_set ds cs at fit.table changed kept.held fit.there stored);
       under = rw new_is (under_set p cs at changed kept.under (under_at p cs at held.0 kept.under held.1));
@@ -299,11 +302,11 @@ steps s piece statement state reply_old reply outcome says empty takes =
 
 -- the answer of a SELECT, once its rows are printed
 rows_step : (s : State) (statement : Statement) (rows : Selection) → SelectsRows s statement rows → StatementStepsTo s statement s [] (answer_rows s rows) (outcome_of None)
-rows_step s (Query select) rows selects = takes s (Query select) s [] (answer_rows s rows) (outcome_of None) selects.0 refl (sym selects.1) refl
+rows_step s (Query select) rows selects = takes s (Query select) s [] (answer_rows s rows) (outcome_of None) selects.taken refl (sym selects.answer) refl
 rows_step s statement rows selects = absurd selects
 
 rows_there : (s : State) (statement : Statement) (rows : Selection) → SelectsRows s statement rows → HasRows s rows
-rows_there s (Query select) rows selects = selects.2
+rows_there s (Query select) rows selects = selects.has
 rows_there s statement rows selects = absurd selects
 
 flush_there : (s : State) (statement : Statement) (table : ℕ) → FlushesTable s statement table → HasTable s table

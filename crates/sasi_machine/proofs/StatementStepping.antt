@@ -26,7 +26,8 @@ use Rattle.sasi_machine.specs.KeyLiteral.{IsKeyLiteral}
 use Rattle.sasi_memtable.specs.MemtableView.{MemtableView, empty_memtable}
 use Rattle.sasi_machine.specs.Outcome.{outcome_of}
 use Rattle.sasi_machine.specs.Prepares.{IsPrepared, IsStateOf}
-use Rattle.sasi_machine.specs.TableRows.{KeysStored}
+use Rattle.sasi_machine.specs.TableRows.{AreStored}
+use Rattle.sasi_machine.proofs.Texts.{no_texts}
 use Rattle.sasi_machine.specs.Tables.{IsMachineState, table_with, tables_of}
 use Rattle.sasi_machine.specs.StatementSteps.{IsRefused, StatementStepsTo}
 use Rattle.sasi_machine.specs.Writes.{IsWrite, IsWriting, change_in, key_in, table_named, time_in}
@@ -183,9 +184,9 @@ write_asked known statement w writing write none =
 
 -- ---- CREATE TABLE
 
--- an empty memtable has no key of another type
-pub none_stored : (p : Partitioner) (d : Definition) → KeysStored (key_type d) (empty_memtable p).partitions
-none_stored p d key there = (let none : false ≡ true = sym (ap is_some (fin.get-empty {X = Partition} decorated_cmp key)) ∙ there in cc)
+-- an empty memtable has nothing that isn't stored so
+pub none_stored : (p : Partitioner) (d : Definition) → AreStored (key_type d) (empty_memtable p).partitions
+none_stored p d = record { keys = λ key there. (let none : false ≡ true = sym (ap is_some (fin.get-empty {X = Partition} decorated_cmp key)) ∙ there in cc); texts = no_texts }
 
 pub create_kept : (p : Partitioner) (ds : List Definition) (cs : List MemtableView) (g : ℕ) (d : Definition) → IsMachineState p ds cs g → IsMachineState p (ds ++ d ∷ []) (cs ++ empty_memtable p ∷ []) g
 create_kept p ds cs g d kept =

@@ -1,4 +1,4 @@
--- Keys that are values of their type.
+-- Keys that are values of their type, and texts that are UTF-8.
 use Rattle.std.proofs.Common.{◌≡◌, ◌≤◌, true, false, cond, if◌then◌else◌, List, [], ◌∷◌, length, map, suc, Some, is_some, unwrap_or, refl, sym, ap, subst, ◌∙◌, arith}
 use Rattle.std.specs.FinMap as fin
 use Rattle.std.specs.List.{AllByRecursion}
@@ -10,26 +10,34 @@ use Rattle.sasi_cells.proofs.Laws.Decorated.{entries_have, equal_keys}
 use Rattle.sasi_cells.specs.Maps.{put}
 use Rattle.sasi_cells.specs.declared.picked.PickedColumn.{PickedColumn}
 use Rattle.sasi_cells.specs.Rows.{IsStored, picked_value}
-use Rattle.sasi_model.specs.Cells.{Partition, empty_partition, is_live, merge}
+use Rattle.sasi_model.specs.Cells.{Partition, empty_partition, merge}
+use Rattle.sasi_model.specs.Filters.{Filter, answers}
 use Rattle.sasi_model.specs.Abbreviations.{Partitions}
-use Rattle.sasi_machine.specs.TableRows.{KeysStored, rows_picked}
+use Rattle.sasi_machine.specs.TableRows.{KeysStored, TextsStored, rows_picked}
+use Rattle.sasi_machine.specs.Where.{HasTexts}
 
 -- entry by entry
 abbrev pub AllStored : ColumnType → List (DecoratedKey × Partition) → Type 0
 AllStored kind = AllByRecursion (λ entry. IsStored kind entry.0.key)
 
+abbrev pub AllTexts : List (DecoratedKey × Partition) → Type 0
+AllTexts = AllByRecursion (λ entry. HasTexts entry.1)
+
+pub all_texts : (m : Partitions) → TextsStored m → AllTexts (fin.entries m)
+all_texts m stored = entries_have (λ entry. HasTexts entry.1) m stored
+
 pub all_stored : (kind : ColumnType) (m : Partitions) → KeysStored kind m → AllStored kind (fin.entries m)
 all_stored kind m stored = entries_have (λ entry. IsStored kind entry.0.key) m (λ q part is. stored q (ap is_some is))
 
 -- there are no more rows than partitions
-pub rows_at_most : (kind : ColumnType) (columns : List PickedColumn) (entries : List (DecoratedKey × Partition)) → length (rows_picked kind columns entries) ≤ length entries
-rows_at_most kind columns [] = omega arith
-rows_at_most kind columns (entry ∷ entries) =
-    let rest = rows_picked kind columns entries in
+pub rows_at_most : (kind : ColumnType) (columns : List PickedColumn) (f : Filter) (entries : List (DecoratedKey × Partition)) → length (rows_picked kind columns f entries) ≤ length entries
+rows_at_most kind columns f [] = omega arith
+rows_at_most kind columns f (entry ∷ entries) =
+    let rest = rows_picked kind columns f entries in
     let row = map (picked_value kind entry.0.key entry.1) columns in
-    elim (is_live entry.1) as (λ b. length (if b then row ∷ rest else rest) ≤ suc (length entries)) [
-      | true ↦ omega (arith, rows_at_most kind columns entries)
-      | false ↦ omega (arith, rows_at_most kind columns entries)
+    elim (answers f entry) as (λ b. length (if b then row ∷ rest else rest) ≤ suc (length entries)) [
+      | true ↦ omega (arith, rows_at_most kind columns f entries)
+      | false ↦ omega (arith, rows_at_most kind columns f entries)
     ]
 
 -- a change keeps them

@@ -10,7 +10,7 @@ use Rattle.sasi_model.specs.Changes.{changed_behind}
 use Rattle.sasi_model.specs.State.{Definition, Table, apply, decorated}
 use Rattle.sasi_model.specs.Abbreviations.{definitions, key_type}
 use Rattle.sasi_memtable.specs.MemtableView.{MemtableView}
-use Rattle.sasi_machine.specs.TableRows.{KeysStored}
+use Rattle.sasi_machine.specs.TableRows.{AreStored}
 use Rattle.sasi_machine.specs.Tables.{AreMemtables, AreUnder, IsChangedAt, IsWrittenAt, table_with, tables_of}
 
 -- ---- the definitions
@@ -37,22 +37,22 @@ changed_at (d ∷ ds) (x ∷ cs) (suc at) decorated_key change c held got new is
 
 -- the memtable of a table of a number
 pub memtable_at : (ds : List Definition) (cs : List MemtableView) (at : ℕ) (t : Table) → AreMemtables ds cs → slice_get
-    (tables_of ds cs) at ≡ Some t → (c : MemtableView) × (slice_get cs at ≡ Some c) × KeysStored (key_type t.definition) c.partitions × (t.partitions ≡ c.partitions)
+    (tables_of ds cs) at ≡ Some t → (c : MemtableView) × (slice_get cs at ≡ Some c) × AreStored (key_type t.definition) c.partitions × (t.partitions ≡ c.partitions)
 memtable_at [] cs at t held got = cc
 memtable_at (d ∷ ds) [] at t held got = absurd held
 memtable_at (d ∷ ds) (c ∷ cs) zero t held got =
     let is : table_with d c ≡ t = (let e : Some (table_with d c) ≡ Some t = got in cc) in
-    (c, refl, subst (λ (t : Table). KeysStored (key_type t.definition) c.partitions) is held.0, ap (λ (t : Table). t.partitions) (sym is))
+    (c, refl, subst (λ (t : Table). AreStored (key_type t.definition) c.partitions) is held.0, ap (λ (t : Table). t.partitions) (sym is))
 memtable_at (d ∷ ds) (c ∷ cs) (suc at) t held got = memtable_at ds cs at t held.1 got
 
 -- a memtable can be changed
 pub memtables_set : (ds : List Definition) (cs : List MemtableView) (at : ℕ) (t : Table) (new : MemtableView) → AreMemtables ds cs → slice_get
-    (tables_of ds cs) at ≡ Some t → KeysStored (key_type t.definition) new.partitions → AreMemtables ds (set cs at new)
+    (tables_of ds cs) at ≡ Some t → AreStored (key_type t.definition) new.partitions → AreMemtables ds (set cs at new)
 memtables_set [] cs at t new held got stored = cc
 memtables_set (d ∷ ds) [] at t new held got stored = absurd held
 memtables_set (d ∷ ds) (c ∷ cs) zero t new held got stored =
     let is : table_with d c ≡ t = (let e : Some (table_with d c) ≡ Some t = got in cc) in
-    (subst (λ (t : Table). KeysStored (key_type t.definition) new.partitions) (sym is) stored, held.1)
+    (subst (λ (t : Table). AreStored (key_type t.definition) new.partitions) (sym is) stored, held.1)
 memtables_set (d ∷ ds) (c ∷ cs) (suc at) t new held got stored = (held.0, memtables_set ds cs at t new held.1 got stored)
 
 -- under the same partitioner
@@ -94,7 +94,7 @@ tables_push [] (x ∷ cs) d c held = absurd held
 tables_push (t ∷ ds) [] d c held = absurd held
 tables_push (t ∷ ds) (x ∷ cs) d c held = ap (λ (rest : List Table). table_with t x ∷ rest) (tables_push ds cs d c held.1)
 
-pub memtables_push : (ds : List Definition) (cs : List MemtableView) (d : Definition) (c : MemtableView) → AreMemtables ds cs → KeysStored (key_type d) c.partitions → AreMemtables (ds ++ d ∷ []) (cs ++ c ∷ [])
+pub memtables_push : (ds : List Definition) (cs : List MemtableView) (d : Definition) (c : MemtableView) → AreMemtables ds cs → AreStored (key_type d) c.partitions → AreMemtables (ds ++ d ∷ []) (cs ++ c ∷ [])
 memtables_push [] [] d c held stored = (stored, tt)
 memtables_push [] (x ∷ cs) d c held stored = absurd held
 memtables_push (t ∷ ds) [] d c held stored = absurd held

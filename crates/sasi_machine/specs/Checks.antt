@@ -1,10 +1,12 @@
--- The rules of writes, by the checks that try them. In each the time comes last.
-use Rattle.std.specs.Prelude.{◌≡◌, ℕ, ◌<◌, ◌≤◌, not, ◌&&◌, List, ◌∷◌, ◌++◌, Option, Some}
+-- The rules of writes and of SELECTs, by the checks that try them. In those of writes the time comes last.
+use Rattle.std.specs.Prelude.{◌≡◌, ℕ, ◌<◌, ◌≤◌, Bool, not, ◌&&◌, ◌||◌, nat_le, nat_lt, List, [], ◌∷◌, ◌++◌, length, Option, Some}
+use Rattle.std.specs.List.{list_any}
 use Rattle.sasi_types.specs.declared.literal.Literal.{Literal}
 use Rattle.sasi_types.specs.declared.literal.Number.{Number}
+use Rattle.sasi_types.specs.declared.relation.Relation.{Relation}
 use Rattle.sasi_model.specs.State.{Definition}
-use Rattle.sasi_model.specs.Refusals.{RefusalRule, each, is_column, is_key, key_empty, number_range, time_rules, value_too_long, wrong_type, wrong_where}
-use Rattle.sasi_model.specs.Abbreviations.{KeyMissing, TIME_LIMIT, gives_key, key_name}
+use Rattle.sasi_model.specs.Refusals.{RefusalRule, each, is_column, is_filtered, is_key, key_empty, number_range, relation_rules, time_rules, value_too_long, wrong_type, wrong_where}
+use Rattle.sasi_model.specs.Abbreviations.{KeyMissing, NeedsFiltering, TIME_LIMIT, TooManyRelations, gives_key, key_name}
 use Rattle.sasi_model.specs.Step.{timestamp}
 use Rattle.sasi_machine.specs.declared.relation.KeyRelation.{KeyRelation}
 
@@ -41,3 +43,13 @@ range_rules d max_timestamp sets relation time = each (number_range d) sets ++ n
 
 abbrev pub kind_rules : Definition → ℕ → List (List ℕ × Literal) → KeyRelation → Option Number → List RefusalRule
 kind_rules d max_timestamp sets relation time = each (wrong_type d) sets ++ wrong_where d relation.column relation.value ∷ range_rules d max_timestamp sets relation time
+
+-- ---- SELECT
+
+-- what the number of relations and their columns need
+abbrev pub count_rules : Definition → Bool → List Relation → List RefusalRule
+count_rules d filtering relations =
+    (not filtering && (nat_le 2 (length relations) || list_any (is_filtered d) relations), NeedsFiltering) ∷ (nat_lt 32 (length relations), TooManyRelations) ∷ []
+
+abbrev pub after_columns_rules : Definition → Bool → List Relation → List RefusalRule
+after_columns_rules d filtering relations = relation_rules d relations ++ count_rules d filtering relations

@@ -1,8 +1,10 @@
 pub mod Checks
+pub mod Classes
 pub mod Assignment
 pub mod TableRows
 pub mod Faults
 pub mod KeyLiteral
+pub mod Operands
 pub mod Outcome
 pub mod Picks
 pub mod Prepares
@@ -12,4 +14,6 @@ pub mod Rules
 pub mod Selections
 pub mod Tables
 pub mod StatementSteps
+pub mod Where
+pub mod WhereCodes
 pub mod Writes

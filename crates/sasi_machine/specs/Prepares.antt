@@ -1,8 +1,9 @@
 -- What a piece prepares: an answer alone, a new table, a new index, a mutation, a flush, or rows to print.
-use Rattle.std.specs.Prelude.{◌≡◌, ℕ, ◌+◌, ◌-◌, ◌<◌, ◌≤◌, List, length, slice_get, [], None, Some, ⊤}
+use Rattle.std.specs.Prelude.{◌≡◌, ℕ, ◌+◌, ◌-◌, ◌<◌, ◌≤◌, List, length, slice_get, [], None, Some, true, ⊤}
 use Rattle.std.specs.FinMap as map_
 use Rattle.std.specs.Option.{option_map_or}
 use Rattle.sasi_types.specs.declared.column.ColumnType.{ColumnType}
+use Rattle.sasi_types.specs.declared.statement.Select.{Select}
 use Rattle.sasi_types.specs.declared.statement.Statement.{Statement}
 use Rattle.sasi_types.specs.declared.statement.Statement.TheVariants.{CreateTable, CreateIndex, Flush, Query}
 use Rattle.sasi_cells.specs.declared.mutation.Mutation.{Mutation}
@@ -13,21 +14,20 @@ use Rattle.sasi_schema.specs.Numbers.{number_of_table}
 use Rattle.sasi_schema.specs.SchemaViews.{IsNewIndex, SchemaView, index_of_new, numbered_def}
 use Rattle.sasi_schema.specs.declared.index.NewIndex.{NewIndex}
 use Rattle.sasi_schema.specs.declared.table.Table.{Table}
-use Rattle.sasi_model.specs.Lines.{rows_lines}
 use Rattle.sasi_model.specs.Pieces.{Piece}
 use Rattle.sasi_model.specs.State as model
 use Rattle.sasi_model.specs.State.{State, definition_of}
 use Rattle.sasi_model.specs.Asked as ask
 use Rattle.sasi_model.specs.Asked.{Asked, parsed_asks}
-use Rattle.sasi_model.specs.Abbreviations.{Partitions, definitions, key_type, new_definition}
+use Rattle.sasi_model.specs.Abbreviations.{definitions, new_definition}
 use Rattle.sasi_model.specs.Changes.{state_with_index, with_new_table}
-use Rattle.sasi_model.specs.Refusals.{Known, ParsedPiece, Says, known_of, read, refusal}
-use Rattle.sasi_model.specs.Step.{answer_of, step}
+use Rattle.sasi_model.specs.Refusals.{Known, ParsedPiece, Says, is_built, known_of, read, refusal}
+use Rattle.sasi_model.specs.Step.{answer_of, select_lines, step}
 use Rattle.sasi_model.specs.Stored.{IsBodyOf, column_types}
 use Rattle.sasi_model.specs.WellFormed.{IsWellFormed}
+use Rattle.sasi_machine.specs.Operands.{CanSelect}
 use Rattle.sasi_machine.specs.Outcome.{outcome_of}
 use Rattle.sasi_machine.specs.StatementSteps.{StatementStepsTo}
-use Rattle.sasi_machine.specs.TableRows.{rows_picked}
 use Rattle.sasi_machine.specs.Writes.{IsWrite, IsWriting}
 use Rattle.sasi_machine.specs.declared.outcome.Outcome.{Outcome}
 use Rattle.sasi_machine.specs.declared.prepared.Prepared.{Prepared}
@@ -90,24 +90,27 @@ abbrev pub FlushesTable : State → Statement → ℕ → Type 0
 FlushesTable s (Flush table) number = (refusal s (Flush table) ≡ None) × (number_of_table table (definitions s.tables) ≡ Some number) × HasTable s number
 FlushesTable s statement number = ⊥
 
--- the table of the rows is there, with a key of this type
+-- the table of the rows is there, and the SELECT names it and isn't refused on it
 pub record HasRows (s : State) (rows : Selection) : Type 0 where
   pub some : 0 < rows.table
   pub table : model.Table
   pub there : slice_get s.tables (rows.table - 1) ≡ Some table
-  pub key : rows.picked.key ≡ key_type table.definition
+  pub named : number_of_table rows.select.table (definitions s.tables) ≡ Some rows.table
+  pub can : CanSelect table.definition rows.select
 
--- the lines of the picked rows of partitions
-abbrev pub lines_of : Selection → Partitions → List ℕ
-lines_of rows partitions = rows_lines (rows_picked rows.picked.key rows.picked.columns (map_.entries partitions))
-
--- those of the table that they name
+-- the lines of the SELECT, over the table with its number
 abbrev pub answer_rows : State → Selection → List ℕ
-answer_rows s rows = option_map_or (λ t. lines_of rows t.partitions) (slice_get s.tables (rows.table - 1)) []
+answer_rows s rows = option_map_or (λ t. select_lines t.definition rows.select (map_.entries t.partitions)) (slice_get s.tables (rows.table - 1)) []
 
--- the statement isn't refused, and asks for these rows of the table that it names
+-- the statement isn't refused, and is this SELECT, of the table that it names
+pub record SelectsFrom (s : State) (select : Select) (rows : Selection) : Type 0 where
+  pub taken : refusal s (Query select) ≡ None
+  pub select_is : rows.select ≡ select
+  pub answer : answer_of s (Query select) ≡ answer_rows s rows
+  pub has : HasRows s rows
+
 abbrev pub SelectsRows : State → Statement → Selection → Type 0
-SelectsRows s (Query select) rows = (refusal s (Query select) ≡ None) × (answer_of s (Query select) ≡ answer_rows s rows) × HasRows s rows × (number_of_table select.table (definitions s.tables) ≡ Some rows.table)
+SelectsRows s (Query select) rows = SelectsFrom s select rows
 SelectsRows s statement rows = ⊥
 
 -- what a statement prepares, with its reply appended; that of a SELECT is still to come
@@ -146,6 +149,11 @@ IsTimeless (Selects rows) = ⊤
 pub record IsPreparedFor (known : Known) (statement : Statement) (reply_old reply_new : List ℕ) (prepared : Prepared) : Type 0 where
   pub now : IsPrepared known statement reply_old reply_new prepared
   pub timeless : IsTimeless prepared → (other : ℕ) → IsPrepared (record known { max_timestamp = other }) statement reply_old reply_new prepared
+
+-- the statement is built, and isn't a SELECT
+abbrev pub IsChanging : Statement → Type 0
+IsChanging (Query select) = ⊥
+IsChanging statement = is_built statement ≡ true
 
 -- ---- what a piece asks for
 

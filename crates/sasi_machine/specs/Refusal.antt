@@ -3,7 +3,7 @@ use Rattle.sasi_schema.specs.Faults.{limit_refusal}
 use Rattle.sasi_model.specs.Refusals as rules
 use Rattle.sasi_model.specs.Abbreviations as model
 use Rattle.sasi_machine.specs.declared.refusal.Refusal.{Refusal}
-use Rattle.sasi_machine.specs.declared.refusal.Refusal.TheVariants.{Syntax, StatementTooLong, NotUtf8, NoTable, TableExists, NoColumn, ColumnRepeated, WrongType, NumberRange, KeyMissing, KeyEmpty, ValueTooLong, IndexExists, BadOption, BadUsing, ModeType, TimestampRange, ClockSpent, TooMany, ScriptEnds, NotBuilt}
+use Rattle.sasi_machine.specs.declared.refusal.Refusal.TheVariants.{Syntax, StatementTooLong, NotUtf8, NoTable, TableExists, NoColumn, ColumnRepeated, WrongType, NumberRange, KeyMissing, KeyEmpty, ValueTooLong, IndexExists, BadOption, BadUsing, ModeType, OperatorUnsupported, LikeEmpty, NeedsFiltering, TimestampRange, ClockSpent, TooMany, TooManyRelations, ScriptEnds, NotBuilt}
 
 -- the model's refusal of that name
 abbrev pub refusal_of : Refusal → rules.Refusal
@@ -23,8 +23,12 @@ refusal_of (IndexExists name) = model.IndexExists name
 refusal_of (BadOption option) = model.BadOption option
 refusal_of BadUsing = model.BadUsing
 refusal_of (ModeType column) = model.ModeType column
+refusal_of (OperatorUnsupported column) = model.OperatorUnsupported column
+refusal_of (LikeEmpty column) = model.LikeEmpty column
+refusal_of NeedsFiltering = model.NeedsFiltering
 refusal_of TimestampRange = model.TimestampRange
 refusal_of ClockSpent = model.ClockSpent
 refusal_of (TooMany limit) = limit_refusal limit
+refusal_of TooManyRelations = model.TooManyRelations
 refusal_of ScriptEnds = model.ScriptEnds
 refusal_of NotBuilt = model.NotBuilt

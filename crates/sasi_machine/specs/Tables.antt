@@ -7,7 +7,7 @@ use Rattle.sasi_cells.specs.declared.mutation.Mutation.{Mutation}
 use Rattle.sasi_model.specs.State.{Definition, State, Table, decorated}
 use Rattle.sasi_model.specs.Abbreviations.{max_timestamp_of_tables, TIME_LIMIT, key_type}
 use Rattle.sasi_memtable.specs.MemtableView.{MemtableView, with_change}
-use Rattle.sasi_machine.specs.TableRows.{KeysStored}
+use Rattle.sasi_machine.specs.TableRows.{AreStored}
 
 abbrev pub table_with : Definition → MemtableView → Table
 table_with d c = record { definition = d; partitions = c.partitions }
@@ -20,12 +20,12 @@ tables_of (d ∷ ds) (c ∷ cs) = table_with d c ∷ tables_of ds cs
 abbrev pub state_of : Partitioner → List Definition → List MemtableView → State
 state_of partitioner ds cs = record { partitioner = partitioner; tables = tables_of ds cs }
 
--- there is a memtable for each table, with keys of its key's type
+-- there is a memtable for each table, with keys of its key's type and with texts that are UTF-8
 abbrev pub AreMemtables : List Definition → List MemtableView → Type 0
 AreMemtables [] [] = ⊤
 AreMemtables [] (c ∷ cs) = ⊥
 AreMemtables (d ∷ ds) [] = ⊥
-AreMemtables (d ∷ ds) (c ∷ cs) = KeysStored (key_type d) c.partitions × AreMemtables ds cs
+AreMemtables (d ∷ ds) (c ∷ cs) = AreStored (key_type d) c.partitions × AreMemtables ds cs
 
 -- all are under the one partitioner
 abbrev pub AreUnder : Partitioner → List MemtableView → Type 0

@@ -1,12 +1,16 @@
-//! Prepares pieces: parses one, refuses it or tells what it asks, and prints its reply. `Machine` applies that to tables in memory
-//! alone. It stands on sasi_cql, sasi_schema and sasi_memtable, and promises the state, the reply and the refusal of the model's step.
+//! Prepares pieces: parses one, refuses it or tells what it asks, and prints its reply. `RowQuery` is what a SELECT asks of the rows
+//! of a table, and `Machine` applies all that to tables in memory alone. It stands on sasi_cql, sasi_schema, sasi_memtable and
+//! sasi_analyzers, and promises the state, the reply and the refusal of the model's step.
 #![tactic(auto)]
 
 mod assign;
+mod bounds;
 mod builder;
 mod built;
 mod change;
 mod check;
+mod condition;
+mod conditions;
 mod fault;
 mod index;
 mod key;
@@ -15,6 +19,7 @@ mod literals;
 mod machine;
 mod memtables;
 mod name_rule;
+mod operators;
 mod outcome;
 mod picking;
 mod prepared;
@@ -23,10 +28,16 @@ pub mod print;
 mod read;
 mod refusal;
 mod relation;
+mod relation_rule;
 mod reply_refusal;
+mod row_filter;
+mod row_query;
+mod search;
 mod select;
+mod select_refusal;
 mod statement_mutation;
 mod table_rows;
+mod terms;
 mod time;
 
 pub use machine::Machine;
@@ -35,3 +46,5 @@ pub use prepared::{Prepared, Selection};
 pub use preparing::prepare;
 pub use print::Reply;
 pub use refusal::Refusal;
+pub use row_filter::RowFilter;
+pub use row_query::RowQuery;

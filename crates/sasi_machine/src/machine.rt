@@ -1,11 +1,13 @@
 // The machine.
-ghost use Rattle.std.specs.Prelude.{◌≡◌, ◌++◌, IfOk, OnOk, OnErr};
+ghost use Rattle.std.specs.Prelude.{◌≡◌, ◌++◌, false, map, IfErr, IfOk, OnOk, OnErr};
+ghost use Rattle.sasi_analyzers.specs.Kits.{has_class};
 ghost use Rattle.sasi_model.specs.Pieces.{piece_of};
 ghost use Rattle.sasi_model.specs.Abbreviations.{empty_state};
 ghost use Rattle.sasi_model.specs.Changes.{state_with_index, with_new_table};
 ghost use Rattle.sasi_model.specs.Step.{step};
 ghost use Rattle.sasi_schema.specs.Defined.{definition};
 ghost use Rattle.sasi_schema.specs.SchemaViews.{index_of_new};
+ghost use Rattle.sasi_machine.specs.Classes.{OnMissing};
 ghost use Rattle.sasi_machine.specs.Outcome.{outcome_of};
 ghost use Rattle.sasi_cells.specs.Mutations.{state_with_mutation};
 ghost use Rattle.sasi_machine.specs.Prepares.{HasRows, IsAddable, IsApplicable, IsNewTable, Prepares, answer_rows};
@@ -14,11 +16,12 @@ use crate::memtables::{add_within, merge_into, reserve_one};
 use crate::prepared::{Prepared, Selection};
 use crate::preparing::prepare;
 use crate::table_rows::print_rows;
-use crate::{Outcome, Reply};
+use crate::{Outcome, Reply, RowQuery};
+use sasi_analyzers::{Analyzer, Kit, Whole, Words};
 use sasi_cells::Mutation;
 use sasi_memtable::Memtable;
 use sasi_schema::{NewIndex, Schema, Table};
-use sasi_types::{Partitioner, PieceEnd};
+use sasi_types::{KitFault, Partitioner, PieceEnd};
 use std::alloc::{AllocError, Global};
 use std::marker::Model;
 
@@ -80,7 +83,32 @@ impl Machine {
         ensures outcome { IfOk result (λ o. o ≡ outcome_of (step self.old (piece_of end piece.now)).refused) }
         ensures err { OnErr result (self.new ≡ self.old) }
     {
-        match self.prepare(piece, end, reply)? {
+        let mut analyzers: Vec<Box<dyn Analyzer>> = Vec::new(self.alloc);
+        analyzers.push(Box::new(self.alloc, Whole::new())?)?;
+        analyzers.push(Box::new(self.alloc, Words::new(self.alloc))?)?;
+        let mut kit = Kit::new(analyzers);
+        match self.step_with(&mut kit, piece, end, reply) {
+            Ok(outcome) => Ok(outcome),
+            Err(KitFault::OutOfMemory) => Err(AllocError),
+            Err(KitFault::Missing(_)) => unreachable!(),
+        }
+    }
+
+    // The same with the analyzers of a kit, which the indexes may ask for.
+    fn step_with(
+        &mut self,
+        kit: &mut Kit,
+        piece: &[u8],
+        end: PieceEnd,
+        reply: &mut Reply,
+    ) -> Result<Outcome, KitFault>
+        ensures state { OnOk result (self.new ≡ (step self.old (piece_of end piece.now)).state) }
+        ensures reply { OnOk result (reply.new ≡ (step self.old (piece_of end piece.now)).reply) }
+        ensures outcome { IfOk result (λ o. o ≡ outcome_of (step self.old (piece_of end piece.now)).refused) }
+        ensures err { OnErr result (self.new ≡ self.old) }
+        ensures missing { IfErr result (OnMissing (λ class. has_class class (map (λ b. kind (b.vtable, b.value)) kit.old.objects.items) ≡ false)) }
+    {
+        match self.prepare(kit, piece, end, reply)? {
             Prepared::Answered(outcome) => Ok(outcome),
             Prepared::Create(table) => {
                 self.create_table(table)?;
@@ -96,7 +124,7 @@ impl Machine {
             }
             Prepared::Flush(_) => Ok(Outcome::Done),
             Prepared::Select(rows) => {
-                self.print(&rows, reply)?;
+                self.print(&rows, kit, reply)?;
                 Ok(Outcome::Done)
             }
         }
@@ -105,16 +133,20 @@ impl Machine {
     // Prepares a piece. The reply is replaced; after an error it may be incomplete.
     fn prepare(
         &self,
+        kit: &mut Kit,
         piece: &[u8],
         end: PieceEnd,
         reply: &mut Reply,
-    ) -> Result<Prepared, AllocError>
-        ensures { IfOk result (λ prepared. Prepares self.now (piece_of end piece.now) reply.new prepared) }
+    ) -> Result<Prepared, KitFault>
+        ensures prepares { IfOk result (λ prepared. Prepares self.now (piece_of end piece.now) reply.new prepared) }
+        ensures missing { IfErr result (OnMissing (λ class. has_class class (map (λ b. kind (b.vtable, b.value)) kit.old.objects.items) ≡ false)) }
+        ensures kinds { map (λ b. kind (b.vtable, b.value)) kit.new.objects.items ≡ map (λ b. kind (b.vtable, b.value)) kit.old.objects.items }
     {
         prepare(
             self.alloc,
             &self.schema,
             self.max_timestamp,
+            kit,
             piece,
             end,
             reply,
@@ -122,12 +154,17 @@ impl Machine {
     }
 
     // Prints the rows that a SELECT asks for.
-    fn print(&self, rows: &Selection, reply: &mut Reply) -> Result<(), AllocError>
+    fn print(&self, rows: &Selection, kit: &mut Kit, reply: &mut Reply) -> Result<(), KitFault>
         requires { HasRows self.now rows.now }
-        ensures { OnOk result (reply.new ≡ reply.old ++ answer_rows self.now rows.now) }
+        ensures ok { OnOk result (reply.new ≡ reply.old ++ answer_rows self.now rows.now) }
+        ensures missing { IfErr result (OnMissing (λ class. has_class class (map (λ b. kind (b.vtable, b.value)) kit.old.objects.items) ≡ false)) }
     {
+        let Some(table) = self.schema.table(&rows.select.table) else {
+            unreachable!()
+        };
+        let query = RowQuery::new(self.alloc, table, &rows.select, kit)?;
         let memtable = &self.memtables[rows.table as usize - 1];
-        print_rows(self.alloc, memtable, &rows.picked, reply)
+        print_rows(self.alloc, memtable, &query, kit, reply)
     }
 
     /// Creates a table that was prepared.

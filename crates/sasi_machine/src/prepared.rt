@@ -1,8 +1,8 @@
 // Prepared pieces.
 use crate::Outcome;
-use sasi_cells::{Mutation, Picked};
+use sasi_cells::Mutation;
 use sasi_schema::{NewIndex, Table};
-use sasi_types::TableNumber;
+use sasi_types::{Select, TableNumber};
 
 /// What is left to do for a piece, once its reply is known.
 #[derive(Drop)]
@@ -17,13 +17,13 @@ pub enum Prepared {
     Write(Mutation),
     /// A table to flush.
     Flush(TableNumber),
-    /// The rows of a table to print, behind the reply so far.
+    /// A SELECT, whose rows are to be printed behind the reply so far.
     Select(Selection),
 }
 
-/// The rows that a SELECT asks for.
+/// A SELECT that isn't refused, and the number of its table.
 #[derive(Drop)]
 pub struct Selection {
     pub table: TableNumber,
-    pub picked: Picked,
+    pub select: Select,
 }

@@ -1,5 +1,5 @@
 // The preparing of pieces, before anything changes.
-ghost use Rattle.std.specs.Prelude.{◌≡◌, ◌≤◌, ℕ, true, IfOk};
+ghost use Rattle.std.specs.Prelude.{◌≡◌, ◌≤◌, ℕ, true, map, IfErr, IfOk};
 ghost use Rattle.sasi_types.specs.declared.statement.Statement.TheVariants.{CreateTable, Flush};
 ghost use Rattle.sasi_model.specs.Abbreviations.{TIME_LIMIT as time_limit};
 ghost use Rattle.sasi_model.specs.Asked.{asks};
@@ -7,7 +7,9 @@ ghost use Rattle.sasi_model.specs.Pieces.{piece_of};
 ghost use Rattle.sasi_model.specs.Abbreviations.{definitions};
 ghost use Rattle.sasi_model.specs.Refusals.{is_built, read as parsed};
 ghost use Rattle.sasi_model.specs.State.{State};
-ghost use Rattle.sasi_machine.specs.Prepares.{IsPrepared, IsPreparedFor, IsQuery, IsSelect, IsStateOf, IsTimeless, Prepares, asked_by, known_by};
+ghost use Rattle.sasi_model.specs.WellFormed.{IsWellFormed};
+ghost use Rattle.sasi_machine.specs.Classes.{OnMissing, TablesLack};
+ghost use Rattle.sasi_machine.specs.Prepares.{IsChanging, IsPrepared, IsPreparedFor, IsQuery, IsSelect, IsStateOf, IsTimeless, Prepares, asked_by, known_by};
 ghost use Rattle.sasi_machine.specs.Writes.{IsWriting};
 
 use crate::builder::MutationBuilder;
@@ -19,8 +21,9 @@ use crate::reply_refusal::{reply_fault, reply_refusal};
 use crate::select::prepare_select;
 use crate::statement_mutation::statement_mutation;
 use crate::{Outcome, Refusal, Reply};
+use sasi_analyzers::Kit;
 use sasi_schema::Schema;
-use sasi_types::{Columns, DeclaredColumns, Name, Names, PieceEnd, Statement};
+use sasi_types::{Columns, DeclaredColumns, KitFault, Name, Names, PieceEnd, Statement};
 use std::alloc::{AllocError, Global};
 
 /// Prepares a piece for these tables, where this is the largest timestamp of their state. The reply is replaced; after an
@@ -29,16 +32,20 @@ pub fn prepare(
     alloc: Global,
     schema: &Schema,
     max_timestamp: u64,
+    kit: &mut Kit,
     piece: &[u8],
     end: PieceEnd,
     reply: &mut Reply,
-) -> Result<Prepared, AllocError>
+) -> Result<Prepared, KitFault>
     requires { max_timestamp ≤ time_limit }
     ensures asked { IfOk result (λ prepared. asks (known_by schema.now max_timestamp) (piece_of end piece.now) ≡ asked_by prepared) }
     ensures prepares { IfOk result (λ prepared. (s : State) → IsStateOf (known_by schema.now max_timestamp) s → Prepares s (piece_of end piece.now) reply.new prepared) }
     // What doesn't depend on the time is prepared for each state with these definitions.
     ensures timeless { IfOk result (λ prepared. IsTimeless prepared → (s : State) → definitions s.tables ≡ schema.now.definitions → Prepares s (piece_of end piece.now) reply.new prepared) }
     ensures selects { IfOk result (λ prepared. IsSelect prepared → IsQuery (parsed (piece_of end piece.now))) }
+    // A class is missing only where an index needs it.
+    ensures missing { IfErr result (OnMissing (TablesLack (map (λ b. kind (b.vtable, b.value)) kit.old.objects.items) schema.now.definitions)) }
+    ensures kinds { map (λ b. kind (b.vtable, b.value)) kit.new.objects.items ≡ map (λ b. kind (b.vtable, b.value)) kit.old.objects.items }
 {
     reply.clear();
     match read(alloc, piece, end)? {
@@ -52,7 +59,7 @@ pub fn prepare(
                 alloc,
                 max_timestamp,
             };
-            prepare_statement(&builder, schema, statement, reply)
+            prepare_statement(&builder, schema, statement, kit, reply)
         }
     }
 }
@@ -62,10 +69,31 @@ fn prepare_statement(
     builder: &MutationBuilder,
     schema: &Schema,
     statement: Statement,
+    kit: &mut Kit,
+    reply: &mut Reply,
+) -> Result<Prepared, KitFault>
+    requires limit { builder.now.max_timestamp ≤ time_limit }
+    requires built { is_built statement ≡ true }
+    requires written { IsWellFormed statement }
+    ensures prepares { IfOk result (IsPreparedFor (known_by schema.now builder.now.max_timestamp) statement reply.old reply.new) }
+    ensures missing { IfErr result (OnMissing (TablesLack (map (λ b. kind (b.vtable, b.value)) kit.old.objects.items) schema.now.definitions)) }
+    ensures kinds { map (λ b. kind (b.vtable, b.value)) kit.new.objects.items ≡ map (λ b. kind (b.vtable, b.value)) kit.old.objects.items }
+{
+    match statement {
+        Statement::Query { select } => prepare_select(builder.alloc, schema, select, kit, reply),
+        other => Ok(prepare_change(builder, schema, other, reply)?),
+    }
+}
+
+// Prepares a statement that isn't a SELECT.
+fn prepare_change(
+    builder: &MutationBuilder,
+    schema: &Schema,
+    statement: Statement,
     reply: &mut Reply,
 ) -> Result<Prepared, AllocError>
     requires limit { builder.now.max_timestamp ≤ time_limit }
-    requires built { is_built statement ≡ true }
+    requires change { IsChanging statement }
     ensures { IfOk result (IsPreparedFor (known_by schema.now builder.now.max_timestamp) statement reply.old reply.new) }
 {
     match statement {
@@ -90,7 +118,6 @@ fn prepare_statement(
             &options,
             reply,
         ),
-        Statement::Query { select } => prepare_select(builder.alloc, schema, &select, reply),
         Statement::Flush { table } => prepare_flush(schema, table, reply),
         write => prepare_mutation(builder, schema, write, reply),
     }

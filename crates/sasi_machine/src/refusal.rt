@@ -30,9 +30,16 @@ pub enum Refusal {
     BadUsing,
     /// The column that can't have such an index.
     ModeType(Name),
+    /// The column, which doesn't take the relation.
+    OperatorUnsupported(Name),
+    /// The column of a LIKE that asks for nothing.
+    LikeEmpty(Name),
+    /// ALLOW FILTERING isn't said.
+    NeedsFiltering,
     TimestampRange,
     ClockSpent,
     TooMany(Limit),
+    TooManyRelations,
     ScriptEnds,
     NotBuilt,
 }
@@ -60,9 +67,12 @@ impl Refusal {
             Refusal::IndexExists(_) => 13,
             Refusal::BadOption(_) | Refusal::BadUsing => 15,
             Refusal::ModeType(_) => 16,
+            Refusal::OperatorUnsupported(_) => 17,
+            Refusal::LikeEmpty(_) => 18,
+            Refusal::NeedsFiltering => 19,
             Refusal::TimestampRange => 20,
             Refusal::ClockSpent => 21,
-            Refusal::TooMany(_) => 24,
+            Refusal::TooMany(_) | Refusal::TooManyRelations => 24,
             Refusal::ScriptEnds => 25,
             Refusal::NotBuilt => 90,
         }

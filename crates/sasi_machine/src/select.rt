@@ -1,73 +1,70 @@
 // The preparing of SELECTs.
-ghost use Rattle.std.specs.Prelude.{ℕ, List, None, Some, IfOk};
+ghost use Rattle.std.specs.Prelude.{◌≡◌, ℕ, None, Some, IfOk, IfErr, map};
+ghost use Rattle.sasi_types.specs.declared.kit_fault.KitFault.TheVariants.{OutOfMemory};
 ghost use Rattle.sasi_types.specs.declared.statement.Statement.TheVariants.{Query};
-ghost use Rattle.sasi_model.specs.Refusals.{select_rules};
-ghost use Rattle.sasi_schema.specs.Answers.{Answers};
+ghost use Rattle.sasi_model.specs.WellFormed.{IsWellFormedSelect};
 ghost use Rattle.sasi_schema.specs.Defined.{definition};
-ghost use Rattle.sasi_machine.specs.Faults.{refusal_of_fault};
+ghost use Rattle.sasi_machine.specs.Classes.{OnMissing, TableLacks, TablesLack};
 ghost use Rattle.sasi_machine.specs.Prepares.{IsPrepared, known_by};
 ghost use Rattle.sasi_machine.specs.Selections.{PreparesRows};
 
-use crate::fault::Fault;
-use crate::name_rule::NameRule;
-use crate::picking::picked;
 use crate::prepared::{Prepared, Selection};
-use crate::reply_refusal::{reply_fault, reply_refusal};
+use crate::reply_refusal::reply_refusal;
+use crate::select_refusal::select_refusal;
 use crate::{Refusal, Reply};
+use sasi_analyzers::Kit;
 use sasi_schema::{Schema, Table};
-use sasi_types::{Names, Select};
-use std::alloc::{AllocError, Global};
+use sasi_types::{KitFault, Select};
+use std::alloc::Global;
 
 /// Prepares a SELECT, or refuses it.
 pub fn prepare_select(
     alloc: Global,
     schema: &Schema,
-    select: &Select,
+    select: Select,
+    kit: &mut Kit,
     reply: &mut Reply,
-) -> Result<Prepared, AllocError>
-    ensures { IfOk result (λ prepared. (max_time : ℕ) → IsPrepared (known_by schema.now max_time) (Query select.now) reply.old reply.new prepared) }
+) -> Result<Prepared, KitFault>
+    requires { IsWellFormedSelect select }
+    ensures prepares { IfOk result (λ prepared. (max_time : ℕ) → IsPrepared (known_by schema.now max_time) (Query select) reply.old reply.new prepared) }
+    ensures missing { IfErr result (OnMissing (TablesLack (map (λ b. kind (b.vtable, b.value)) kit.old.objects.items) schema.now.definitions)) }
+    ensures kinds { map (λ b. kind (b.vtable, b.value)) kit.new.objects.items ≡ map (λ b. kind (b.vtable, b.value)) kit.old.objects.items }
 {
     match schema.table(&select.table) {
-        None => refuse_table(alloc, select, reply),
-        Some(table) => prepare_rows(alloc, table, select, reply),
+        None => refuse_table(select, reply),
+        Some(table) => prepare_rows(alloc, table, select, kit, reply),
     }
 }
 
-fn refuse_table(alloc: Global, select: &Select, reply: &mut Reply) -> Result<Prepared, AllocError>
-    ensures { IfOk result (λ prepared. PreparesRows None select.now.table select.now.columns reply.old reply.new prepared) }
+fn refuse_table(select: Select, reply: &mut Reply) -> Result<Prepared, KitFault>
+    ensures prepares { IfOk result (λ prepared. PreparesRows None select reply.old reply.new prepared) }
+    ensures err { IfErr result (λ fault. fault ≡ OutOfMemory) }
 {
-    let outcome = reply_refusal(reply, Refusal::NoTable(select.table.copy(alloc)?))?;
+    let outcome = reply_refusal(reply, Refusal::NoTable(select.table))?;
     Ok(Prepared::Answered(outcome))
 }
 
-// Prepares the rows of a table, or refuses them.
+// Prepares a SELECT on a table, or refuses it.
 fn prepare_rows(
     alloc: Global,
     table: &Table,
-    select: &Select,
+    select: Select,
+    kit: &mut Kit,
     reply: &mut Reply,
-) -> Result<Prepared, AllocError>
-    ensures { IfOk result (λ prepared. PreparesRows (Some table.now) select.now.table select.now.columns reply.old reply.new prepared) }
+) -> Result<Prepared, KitFault>
+    requires { IsWellFormedSelect select }
+    ensures prepares { IfOk result (λ prepared. PreparesRows (Some table.now) select reply.old reply.new prepared) }
+    ensures missing { IfErr result (OnMissing (TableLacks (map (λ b. kind (b.vtable, b.value)) kit.old.objects.items) (definition table.now))) }
+    ensures kinds { map (λ b. kind (b.vtable, b.value)) kit.new.objects.items ≡ map (λ b. kind (b.vtable, b.value)) kit.old.objects.items }
 {
-    match check(alloc, table, &select.columns) {
-        Err(fault) => {
-            let outcome = reply_fault(reply, fault)?;
+    match select_refusal(alloc, table, &select, kit)? {
+        Some(refusal) => {
+            let outcome = reply_refusal(reply, refusal)?;
             Ok(Prepared::Answered(outcome))
         }
-        Ok(()) => {
-            let picked = picked(alloc, table, &select.columns)?;
+        None => {
             let table = table.number;
-            Ok(Prepared::Select(Selection { table, picked }))
+            Ok(Prepared::Select(Selection { table, select }))
         }
-    }
-}
-
-// Checks that the selected names are columns of the table.
-fn check(alloc: Global, table: &Table, columns: &Option<Names>) -> Result<(), Fault>
-    ensures { (name : List ℕ) → Answers refusal_of_fault (select_rules name columns.now (Some (definition table.now))) result }
-{
-    match columns {
-        None => Ok(()),
-        Some(names) => NameRule::NoColumn.check_names(alloc, table, &names.unpack(alloc)?),
     }
 }

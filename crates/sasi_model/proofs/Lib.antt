@@ -1,1 +1,3 @@
 mod Examples
+mod WhereExamples
+pub mod WhereLaws

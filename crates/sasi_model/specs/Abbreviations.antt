@@ -23,8 +23,9 @@ use Rattle.sasi_model.specs.State.{Column, Definition, State, Table, key_column,
 use Rattle.sasi_model.specs.Pieces.{begins}
 use Rattle.sasi_model.specs.Tokens.{Lexeme, Uuid, is_digit, is_word_byte, lower_byte}
 use Rattle.sasi_model.specs.Refusals.{Refusal, RefusalRule, detail, is_key_value, is_text_with}
-use Rattle.sasi_model.specs.Lines.{line, printed, rows_lines}
-use Rattle.sasi_model.specs.Step.{StepResult, cells_set, execute, given_key, live_rows, primary_key, refused_step, selected_columns, value_given}
+use Rattle.sasi_model.specs.Lines.{line, printed}
+use Rattle.sasi_model.specs.Step.{StepResult, cells_set, execute, given_key, primary_key, refused_step}
+use Rattle.sasi_model.specs.Values.{value_given}
 
 -- ---- columns
 
@@ -146,10 +147,6 @@ new_definition name columns keys = record { name = name; columns = columns; key 
 abbrev pub marker : ℕ → Cell
 marker time = record { time = time; value = Some (values.Text []) }
 
--- the reply of a SELECT of these columns
-abbrev pub selected_lines : Option (List (List ℕ)) → Option Table → List ℕ
-selected_lines columns found = option_map_or (λ t. rows_lines (live_rows t.definition (selected_columns t.definition columns) (map_.entries t.partitions))) found []
-
 abbrev pub ok_line : List ℕ
 ok_line = line (codes "ok")
 
@@ -269,6 +266,15 @@ BadUsing = (15, codes "BadOption using")
 abbrev pub ModeType : List ℕ → Refusal
 ModeType column = (16, codes "ModeType " ++ column)
 
+abbrev pub OperatorUnsupported : List ℕ → Refusal
+OperatorUnsupported column = (17, codes "OperatorUnsupported " ++ column)
+
+abbrev pub LikeEmpty : List ℕ → Refusal
+LikeEmpty column = (18, codes "LikeEmpty " ++ column)
+
+abbrev pub NeedsFiltering : Refusal
+NeedsFiltering = (19, codes "NeedsFiltering")
+
 abbrev pub TimestampRange : Refusal
 TimestampRange = (20, codes "TimestampRange")
 
@@ -280,6 +286,9 @@ TooManyTables = (24, codes "TooMany tables 256")
 
 abbrev pub TooManyColumns : Refusal
 TooManyColumns = (24, codes "TooMany columns 64")
+
+abbrev pub TooManyRelations : Refusal
+TooManyRelations = (24, codes "TooMany relations 32")
 
 abbrev pub ScriptEnds : Refusal
 ScriptEnds = (25, codes "Unfinished")

@@ -16,8 +16,9 @@ use Rattle.sasi_model.specs.Cells.{Partition}
 use Rattle.sasi_model.specs.Pieces.{Piece}
 use Rattle.sasi_model.specs.Refusals.{Known, ParsedPiece, Nothing, Says, Bad, read, rules}
 use Rattle.sasi_model.specs.State.{Definition, Index, State, decorated, key_column}
-use Rattle.sasi_model.specs.Step.{cells_set, delete_change, given_key, index_given, insert_change, primary_key, timestamp, value_given}
+use Rattle.sasi_model.specs.Step.{cells_set, delete_change, given_key, index_given, insert_change, primary_key, timestamp}
 use Rattle.sasi_model.specs.Tokens.{same}
+use Rattle.sasi_model.specs.Values.{value_given}
 
 pub data Asked : Type 0 where
   NoChange : Asked

@@ -1,5 +1,5 @@
--- The rows that a SELECT answers: conditions joined by AND and OR, over the partitions of a table.
-use Rattle.std.specs.Prelude.{Bool, true, false, ◌&&◌, ◌||◌, List, [], ◌∷◌, map}
+-- The rows that a SELECT answers: those that are there, and of which its WHERE holds.
+use Rattle.std.specs.Prelude.{ℕ, Bool, true, false, ◌&&◌, ◌||◌, List, [], ◌∷◌, map}
 use Rattle.std.specs.List.{filter}
 use Rattle.sasi_types.specs.declared.decorated_key.DecoratedKey.{DecoratedKey}
 use Rattle.sasi_types.specs.declared.relation.Relation.{Relation}
@@ -7,7 +7,7 @@ use Rattle.sasi_model.specs.Cells.{Partition, is_live}
 use Rattle.sasi_model.specs.Conditions.{Condition, condition_of, meets}
 use Rattle.sasi_model.specs.State.{Definition}
 
--- A WHERE without OR is the conjunction of its relations.
+-- conditions that are joined by AND and OR; a WHERE of relations alone has an AND of them
 mutual
   pub data Filter : Type 0 where
     Leaf : Condition → Filter
@@ -41,9 +41,13 @@ leaves (condition ∷ conditions) = one_more (Leaf condition) (leaves conditions
 abbrev pub filter_of : Definition → List Relation → Filter
 filter_of d relations = AllOf (leaves (map (condition_of d) relations))
 
+-- the filter holds of the partition of a key
+abbrev pub accepts : Filter → List ℕ → Partition → Bool
+accepts f key p = tree (meets key p) f
+
 -- the row is there, and as asked
 abbrev pub answers : Filter → DecoratedKey × Partition → Bool
-answers f e = is_live e.1 && tree (meets e.0 e.1) f
+answers f e = is_live e.1 && accepts f e.0.key e.1
 
 -- **The rows of the answer**, before its columns are chosen: the table's partitions, filtered one by one.
 abbrev pub rows : Filter → List (DecoratedKey × Partition) → List (DecoratedKey × Partition)

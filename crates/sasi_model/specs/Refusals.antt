@@ -1,7 +1,7 @@
 -- Which pieces are refused, and why. A piece is parsed first, then the rules of its statement are tried: the first rule that
 -- applies gives the refusal. Rules are in the order of their numbers, and those of one number in the order of the text.
-use Rattle.std.specs.Prelude.{ℕ, codes, pos, negsuc, ◌-◌, ◌^◌, Bool, true, false, not, ◌==◌, nat_lt, nat_le, ◌||◌, ◌&&◌, if◌then◌else◌, List, [], ◌∷◌, ◌++◌, length, map, Option, None, Some, is_some, slice_get}
-use Rattle.std.specs.List.{list_any, zip}
+use Rattle.std.specs.Prelude.{ℕ, codes, pos, negsuc, ◌-◌, ◌^◌, Bool, true, false, not, ◌==◌, nat_lt, nat_le, ◌||◌, ◌&&◌, if◌then◌else◌, List, [], ◌∷◌, ◌++◌, length, map, Option, None, Some, is_some, slice_get, unwrap_or}
+use Rattle.std.specs.List.{flat_map, list_any, zip}
 use Rattle.std.specs.Option.{option_and_then, option_map, option_map_or}
 use Rattle.std.specs.Prelude.{int_le}
 use Rattle.std.specs.Fmt.{decimal}
@@ -14,6 +14,7 @@ use Rattle.sasi_types.specs.declared.literal.Literal.{Literal}
 use Rattle.sasi_types.specs.declared.literal.Literal.TheVariants.{Text, Number as Integer, Uuid, Null}
 use Rattle.sasi_types.specs.declared.literal.Number.{Number}
 use Rattle.sasi_types.specs.declared.literal.Number.TheVariants.{Fits, Wide}
+use Rattle.sasi_types.specs.declared.relation.Relation.{Relation}
 use Rattle.sasi_types.specs.declared.statement.Statement.{Statement}
 use Rattle.sasi_types.specs.declared.statement.Select.{Select}
 use Rattle.sasi_types.specs.declared.class.Class.{Class}
@@ -23,6 +24,7 @@ use Rattle.sasi_model.specs.Tokens.{same}
 use Rattle.sasi_model.specs.Parsers.{Parsed, Parses, FailsAt, Parser, grammar_parser}
 use Rattle.sasi_model.specs.State.{Column, State, Definition, Index, definition_of, position_in, key_column, number_of_column, max_timestamp}
 use Rattle.sasi_model.specs.Indexes.{IndexOption, class_given, index_class, index_name, index_named, index_on, is_allowed, mode_fits, mode_given}
+use Rattle.sasi_model.specs.Relations.{is_empty_like, is_unindexed, takes}
 
 -- the number of a refusal, and its name with what it is about
 abbrev pub Refusal : Type 0
@@ -37,10 +39,6 @@ pub data ParsedPiece : Type 0 where
   Says : Statement → ParsedPiece
   Bad : Refusal → ParsedPiece
 
--- a SELECT without WHERE, LIMIT and ALLOW FILTERING
-abbrev pub is_plain : Select → Bool
-is_plain select = length select.relations == 0 && not (is_some select.limit) && not select.filtering
-
 -- what is built of the grammar
 abbrev pub is_built : Statement → Bool
 is_built (CreateTable table columns keys) = true
@@ -48,7 +46,7 @@ is_built (CreateIndex name table column class options stepped) = not stepped
 is_built (Insert table columns values time) = true
 is_built (Update table time sets key value) = true
 is_built (Delete table columns time key value) = true
-is_built (Query select) = is_plain select
+is_built (Query select) = not (is_some select.limit)
 is_built (Flush table) = true
 is_built statement = false
 
@@ -223,14 +221,52 @@ delete_rules max_timestamp table columns key value time (Some d) =
     map (no_regular_column d) columns ++ no_column d key ∷ (repeat_rules [] columns ++ wrong_where d key value ∷ number_range d key value
     ∷ (other_key d key ++ key_empty d key value ∷ value_too_long d key value ∷ time_rules max_timestamp time))
 
-abbrev pub select_rules : List ℕ → Option (List (List ℕ)) → Option Definition → List RefusalRule
-select_rules table columns None = (true, (4, codes "NoTable " ++ table)) ∷ []
-select_rules table None (Some d) = []
-select_rules table (Some columns) (Some d) = map (no_column d) columns
-
 abbrev pub flush_rules : List ℕ → Option Definition → List RefusalRule
 flush_rules table None = (true, (4, codes "NoTable " ++ table)) ∷ []
 flush_rules table (Some d) = []
+
+-- ---- SELECT
+
+-- the test of the number of the column, if the table has it
+abbrev pub tests_number : (ℕ → Bool) → Option ℕ → Bool
+tests_number test number = option_map_or test number false
+
+-- the column takes the relation, or isn't there
+abbrev pub is_taken : Definition → Relation → Option ℕ → Option ColumnType → Bool
+is_taken d r (Some number) (Some type) = takes d number type r.test r.value
+is_taken d r number type = true
+
+abbrev pub operator_unsupported : Definition → Relation → RefusalRule
+operator_unsupported d r = (not (is_taken d r (number_of_column d r.column) (type_of_column d r.column)), (17, codes "OperatorUnsupported " ++ r.column))
+
+abbrev pub like_empty : Definition → Relation → RefusalRule
+like_empty d r = (tests_number (λ number. is_empty_like d number r.test r.value) (number_of_column d r.column), (18, codes "LikeEmpty " ++ r.column))
+
+-- the rules of a relation, in order: the first one is tried on all relations of the WHERE before the second is, and so on
+abbrev pub rules_of_relations : List (Definition → Relation → RefusalRule)
+rules_of_relations =
+    (λ d r. no_column d r.column) ∷ (λ d r. wrong_where d r.column r.value) ∷ (λ d r. number_range d r.column r.value)
+    ∷ (λ d r. key_empty d r.column r.value) ∷ (λ d r. value_too_long d r.column r.value) ∷ operator_unsupported ∷ like_empty ∷ []
+
+abbrev pub relation_rules : Definition → List Relation → List RefusalRule
+relation_rules d relations = flat_map (λ rule. map (rule d) relations) rules_of_relations
+
+-- the relation is on a column that is neither the key nor indexed
+abbrev pub is_filtered : Definition → Relation → Bool
+is_filtered d r = tests_number (is_unindexed d) (number_of_column d r.column)
+
+-- two relations, or one on such a column, are allowed with ALLOW FILTERING alone
+abbrev pub needs_filtering : Definition → Select → RefusalRule
+needs_filtering d select = (not select.filtering && (nat_le 2 (length select.relations) || list_any (is_filtered d) select.relations), (19, codes "NeedsFiltering"))
+
+abbrev pub too_many_relations : Select → RefusalRule
+too_many_relations select = (nat_lt 32 (length select.relations), (24, codes "TooMany relations 32"))
+
+-- the columns that it names stand before its WHERE
+abbrev pub select_rules : Select → Option Definition → List RefusalRule
+select_rules select None = (true, (4, codes "NoTable " ++ select.table)) ∷ []
+select_rules select (Some d) =
+    map (no_column d) (unwrap_or select.columns []) ++ (relation_rules d select.relations ++ needs_filtering d select ∷ too_many_relations select ∷ [])
 
 -- ---- CREATE CUSTOM INDEX
 
@@ -278,7 +314,7 @@ rules known (CreateIndex name table column class options stepped) = index_rules 
 rules known (Insert table columns values time) = insert_rules known.max_timestamp table columns (zip columns values) time (definition_of table known.tables)
 rules known (Update table time sets key value) = update_rules known.max_timestamp table sets key value time (definition_of table known.tables)
 rules known (Delete table columns time key value) = delete_rules known.max_timestamp table columns key value time (definition_of table known.tables)
-rules known (Query select) = select_rules select.table select.columns (definition_of select.table known.tables)
+rules known (Query select) = select_rules select (definition_of select.table known.tables)
 rules known (Flush table) = flush_rules table (definition_of table known.tables)
 rules known statement = []
 

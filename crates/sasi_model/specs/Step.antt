@@ -3,11 +3,8 @@
 use Rattle.std.specs.Prelude.{ℕ, pos, codes, ◌+◌, suc, zero, List, [], ◌∷◌, ◌++◌, length, map, Option, None, Some, slice_get, is_some, if◌then◌else◌}
 use Rattle.std.specs.List.{filter_map, find, range_with_len, zip}
 use Rattle.std.specs.Option.{option_and_then, option_map, option_map_or}
-use Rattle.std.specs.Int.{w32, w64, cast_signed, from_be_bytes}
 use Rattle.std.specs.FinMap as map_
 use Rattle.sasi_types.specs.declared.cell.Cell.{Cell}
-use Rattle.sasi_types.specs.declared.column.ColumnType.{ColumnType}
-use Rattle.sasi_types.specs.declared.column.ColumnType.TheVariants as types
 use Rattle.sasi_types.specs.declared.literal.Literal.{Literal}
 use Rattle.sasi_types.specs.declared.literal.Literal.TheVariants as literals
 use Rattle.sasi_types.specs.declared.literal.Number.{Number}
@@ -15,35 +12,21 @@ use Rattle.sasi_types.specs.declared.literal.Number.TheVariants.{Fits}
 use Rattle.sasi_types.specs.declared.partitioner.Partitioner.{Partitioner}
 use Rattle.sasi_types.specs.declared.decorated_key.DecoratedKey.{DecoratedKey}
 use Rattle.sasi_types.specs.declared.value.Value.{Value}
-use Rattle.sasi_types.specs.declared.value.Value.TheVariants.{Text, Int, BigInt, Uuid}
+use Rattle.sasi_types.specs.declared.value.Value.TheVariants.{Text}
 use Rattle.sasi_types.specs.Value.{stored}
+use Rattle.sasi_types.specs.declared.statement.Select.{Select}
 use Rattle.sasi_types.specs.declared.statement.Statement.{Statement}
 use Rattle.sasi_types.specs.declared.statement.Statement.TheVariants.{CreateTable, CreateIndex, Insert, Update, Delete, Query, Flush}
 use Rattle.sasi_model.specs.Pieces.{Piece}
-use Rattle.sasi_model.specs.Cells.{Cells, Partition, is_live, value_at}
+use Rattle.sasi_model.specs.Cells.{Cells, Partition, value_at}
 use Rattle.sasi_model.specs.State.{Column, Definition, Index, Table, State, decorated, table_of, with_table, position_in, number_of_column, key_column, apply, max_timestamp}
 use Rattle.sasi_model.specs.Indexes.{IndexOption, index_made, index_name}
 use Rattle.sasi_model.specs.Changes.{empty_table, table_with_index}
 use Rattle.sasi_model.specs.Parsers.{Parser, grammar_parser}
 use Rattle.sasi_model.specs.Refusals.{Refusal, ParsedPiece, Nothing, Says, Bad, read_by, refusal, type_of_column, is_key_value}
+use Rattle.sasi_model.specs.Filters.{filter_of, rows}
 use Rattle.sasi_model.specs.Lines.{line, rows_lines, refusal_line}
-
--- ---- values
-
--- the value that a literal gives a column of that type; none for NULL, and where the literal is of another type
-abbrev pub value_given : ColumnType → Literal → Option Value
-value_given types.Text (literals.Text text) = Some (Text text)
-value_given types.Int (literals.Number (Fits number)) = Some (Int number)
-value_given types.BigInt (literals.Number (Fits number)) = Some (BigInt number)
-value_given types.Uuid (literals.Uuid bytes) = Some (Uuid bytes)
-value_given type literal = None
-
--- the value whose stored bytes these are
-abbrev pub value_stored : ColumnType → List ℕ → Value
-value_stored types.Text bytes = Text bytes
-value_stored types.Int bytes = Int (cast_signed w32 (from_be_bytes w32 bytes))
-value_stored types.BigInt bytes = BigInt (cast_signed w64 (from_be_bytes w64 bytes))
-value_stored types.Uuid bytes = Uuid bytes
+pub use Rattle.sasi_model.specs.Values.{value_given, value_stored}
 
 -- ---- what a write changes
 
@@ -92,11 +75,13 @@ value_numbered d decorated_key p (suc n) = value_at p (suc n)
 abbrev pub selected_columns : Definition → Option (List (List ℕ)) → List ℕ
 selected_columns d names = option_map_or (filter_map (number_of_column d)) names (range_with_len 0 (length d.columns))
 
--- the live rows, in order
-abbrev pub live_rows : Definition → List ℕ → List (DecoratedKey × Partition) → List (List (Option Value))
-live_rows d numbers [] = []
-live_rows d numbers (entry ∷ entries) =
-    if is_live entry.1 then map (value_numbered d entry.0 entry.1) numbers ∷ live_rows d numbers entries else live_rows d numbers entries
+-- the values of a partition in the columns with these numbers
+abbrev pub values_numbered : Definition → List ℕ → DecoratedKey × Partition → List (Option Value)
+values_numbered d numbers entry = map (value_numbered d entry.0 entry.1) numbers
+
+-- the lines of a SELECT over the partitions of a table, in their order
+abbrev pub select_lines : Definition → Select → List (DecoratedKey × Partition) → List ℕ
+select_lines d select entries = rows_lines (map (values_numbered d (selected_columns d select.columns)) (rows (filter_of d select.relations) entries))
 
 -- ---- one statement
 
@@ -133,8 +118,7 @@ tables_after s statement = s.tables
 
 -- a SELECT answers its rows, and each other statement that is built `ok`
 abbrev pub answer_of : State → Statement → List ℕ
-answer_of s (Query select) = option_map_or (λ t. rows_lines (live_rows t.definition (selected_columns t.definition select.columns)
-    (map_.entries t.partitions))) (table_of select.table s.tables) []
+answer_of s (Query select) = option_map_or (λ t. select_lines t.definition select (map_.entries t.partitions)) (table_of select.table s.tables) []
 answer_of s (CreateTable table columns keys) = line (codes "ok")
 answer_of s (CreateIndex name table column class options stepped) = line (codes "ok")
 answer_of s (Insert table columns values time) = line (codes "ok")

@@ -45,6 +45,31 @@ fn tables_in_memory_answer_statements(rt: HostRuntime) {
     check_steps(&rt, &mut machine, &mut reply);
 }
 
+/// An index that folds letters, and what it makes of a WHERE.
+fn check_where(rt: &impl Abort, machine: &mut Machine, reply: &mut Reply) {
+    let create = b"CREATE TABLE t (k text PRIMARY KEY, a text);";
+    check_step(rt, machine, reply, create, Outcome::Done, "ok\n");
+    let index =
+        b"CREATE CUSTOM INDEX ON t (a) USING 'org.apache.cassandra.index.sasi.SASIIndex' WITH OPTIONS = {'case_sensitive': 'false'};";
+    check_step(rt, machine, reply, index, Outcome::Done, "ok\n");
+    let insert = b"INSERT INTO t (k, a) VALUES ('k1', 'Nuts');";
+    check_step(rt, machine, reply, insert, Outcome::Done, "ok\n");
+    let select = b"SELECT k FROM t WHERE a LIKE 'nU%';";
+    let row = "'k1'\n(1 rows)\n";
+    check_step(rt, machine, reply, select, Outcome::Done, row);
+    let refused = b"SELECT k FROM t WHERE a > 'nuts';";
+    let outcome = Outcome::Refused(17);
+    let unsupported = "error 17 OperatorUnsupported a\n";
+    check_step(rt, machine, reply, refused, outcome, unsupported);
+}
+
+#[test]
+fn index_in_memory_says_how_a_where_compares(rt: HostRuntime) {
+    let mut machine = Machine::new(rt.alloc(), Partitioner::Lead8);
+    let mut reply = Reply::new(rt.alloc());
+    check_where(&rt, &mut machine, &mut reply);
+}
+
 #[test]
 fn piece_that_is_not_utf8_is_refused_at_its_offset(rt: HostRuntime) {
     let mut machine = Machine::new(rt.alloc(), Partitioner::Lead8);

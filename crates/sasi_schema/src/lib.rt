@@ -18,5 +18,5 @@ pub use fault::{Limit, SchemaFault};
 pub use index::NewIndex;
 pub use repeats::{repeated_column, repeated_name};
 pub use schema::Schema;
-pub use search::position_in;
+pub use search::{index_on, position_in};
 pub use table::Table;

@@ -1,5 +1,5 @@
 -- What scans leave of the folder, and why they fail.
-use Rattle.std.proofs.Common.{◌≡◌, ◌≢◌, Option, None, Some, Ok, Err, ap, sym, ◌∙◌, arith, refl}
+use Rattle.std.proofs.Common.{◌≡◌, ◌≢◌, Option, None, Some, Ok, Err, IfErr, OnOk, ap, sym, ◌∙◌, arith, refl}
 use Rattle.std.specs.declared.result.Result.{Result}
 use Rattle.sasi_host.specs.declared.damage.Damage.{Damage}
 use Rattle.sasi_host.specs.declared.fault.ReadFault.{ReadFault}
@@ -60,3 +60,12 @@ pub damage_as : (P Q : Damage → Type 0) (f : ReadFault) → ((damage : Damage)
 damage_as P Q fault.Failed follows on = tt
 damage_as P Q fault.OutOfMemory follows on = tt
 damage_as P Q (fault.Damaged damage) follows on = follows damage on
+
+pub damage_err : {T : Type 0} (P Q : Damage → Type 0) (result : Result T ReadFault) → ((damage : Damage) → P damage → Q damage) → IfErr result (OnDamage P) → IfErr result (OnDamage Q)
+damage_err P Q (Ok x) follows on = tt
+damage_err P Q (Err f) follows on = damage_as P Q f follows on
+
+-- what follows where a call succeeds
+pub ok_as : {T E : Type 0} (P Q : Type 0) (result : Result T E) → (P → Q) → OnOk result P → OnOk result Q
+ok_as P Q (Ok x) follows on = follows on
+ok_as P Q (Err e) follows on = tt

@@ -12,14 +12,14 @@ use Rattle.sasi_host.specs.Names.{log_name, manifest_name}
 use Rattle.sasi_host.specs.View.{IsSound, ListCauses, Reaches, View}
 use Rattle.sasi_layout.specs.Between.{Between}
 use Rattle.sasi_layout.specs.Layout.{Layout, Used}
-use Rattle.sasi_layout.specs.Moves.{Flush}
+use Rattle.sasi_layout.specs.Moves.{Flush, new_listed_file}
 use Rattle.sasi_layout.specs.Serving.{CanChange, Serves, StoreInMemory, TableInMemory}
 use Rattle.sasi_layout.specs.Spent.{first_spent, spent}
 use Rattle.sasi_layout.specs.Statements.{any_partition}
 use Rattle.sasi_layout.specs.declared.number_kind.NumberKind.{NumberKind}
 use Rattle.sasi_layout.specs.declared.number_kind.NumberKind.TheVariants as kinds
 use Rattle.sasi_manifest.specs.Format.{IsNext}
-use Rattle.sasi_manifest.specs.Listings.{at_number}
+use Rattle.sasi_manifest.specs.Listings.{at_number, replaced}
 use Rattle.sasi_manifest.specs.OpenManifest.{ManifestState, ManifestStands}
 use Rattle.sasi_memtable.specs.MemtableView.{MemtableView}
 use Rattle.sasi_model.specs.Abbreviations.{Partitions}
@@ -34,30 +34,37 @@ use Rattle.sasi_store.specs.Flushing.{CanFlush, ChangesInFlush, HasFlushedFiles,
 use Rattle.sasi_store.specs.MakesMoves.{MakesMoves}
 use Rattle.sasi_store.specs.Numbers.{AreNext, AreSpent}
 use Rattle.sasi_store.specs.Puts.{HasTableFor}
-use Rattle.sasi_store.specs.StoreView.{AreTables, IsOfParts, memory_of}
-use Rattle.sasi_store.specs.declared.fault.StepFault.TheVariants.{NumbersSpent}
+use Rattle.sasi_store.specs.StoreView.{AreTables, IsOfParts, held_in, memory_of}
+use Rattle.sasi_store.specs.declared.fault.StepFault.TheVariants.{NumbersSpent, OutOfMemory}
 use Rattle.sasi_store.specs.declared.flush.FlushNumbers.{FlushNumbers}
 use Rattle.sasi_store.specs.declared.parts.Parts.{Parts}
 use Rattle.sasi_store.proofs.FlushingTables.{can_flush, flush_of, flush_ready, flush_serves, listed_after}
-use Rattle.sasi_store.proofs.MoveCauses.{any_change, call_failed, call_made, call_plain, makes_nothing, plain_present, plain_undamaged, plain_unspent}
+use Rattle.sasi_store.proofs.MoveCauses.{any_change, call_failed, call_made, call_plain, made_then_full, makes_nothing, plain_present, plain_undamaged, plain_unspent}
 use Rattle.sasi_store.proofs.TablesInMemory.{all_at, all_set, inside_there, map_there, set_numbered, there_inside, unseen_set}
 
 -- ---- the table
 
 module _ (p : Parts) (number : ℕ) where
-  pub table_at : HasTableFor number p.tables.items → (t : TableMap) × (slice_get p.tables.items (number - 1) ≡ Some t)
-  table_at there = inside_there p.tables.items (number - 1) (omega (arith, there.some, there.inside))
+  pub table_at : HasTableFor number (held_in p) → (t : TableMap) × (slice_get (held_in p) (number - 1) ≡ Some t)
+  table_at there = inside_there (held_in p) (number - 1) (omega (arith, there.some, there.inside))
 
-  pub memory_at : (t : TableMap) → slice_get p.tables.items (number - 1) ≡ Some t → slice_get (memory_of p).tables (number - 1) ≡ Some (opened_table t)
-  memory_at t there = map_there opened_table p.tables.items (number - 1) t there
+  pub memory_at : (t : TableMap) → slice_get (held_in p) (number - 1) ≡ Some t → slice_get (memory_of p).tables (number - 1) ≡ Some (opened_table t)
+  memory_at t there = map_there opened_table (held_in p) (number - 1) t there
 
-  pub is_unflushed : 0 < number → (t : TableMap) → slice_get p.tables.items (number - 1) ≡ Some t → 1 ≤ length (map_.entries t.memtable.partitions) → IsUnflushed number (memory_of p)
+  pub is_unflushed : 0 < number → (t : TableMap) → slice_get (held_in p) (number - 1) ≡ Some t → 1 ≤ length (map_.entries t.memtable.partitions) → IsUnflushed number (memory_of p)
   is_unflushed some t there held = record { some = some; there_is = opened_table t; there = memory_at t there; idle = refl; held = held }
 
-  pub unflushed_there : IsUnflushed number (memory_of p) → HasTableFor number p.tables.items
+  pub unflushed_there : IsUnflushed number (memory_of p) → HasTableFor number (held_in p)
   unflushed_there held =
-      let size : length (map opened_table p.tables.items) ≡ length p.tables.items = length-map p.tables.items opened_table in
+      let size : length (map opened_table (held_in p)) ≡ length (held_in p) = length-map (held_in p) opened_table in
       record { some = held.some; inside = omega (arith, held.some, there_inside (memory_of p).tables (number - 1) held.there_is held.there, size) }
+
+  -- a table whose memtable this is
+  abbrev pub row_with : HasTableFor number (held_in p) → MemtableView → TableMap
+  row_with there m = record (table_at there).0 { memtable = m }
+
+  pub row_there : (there : HasTableFor number (held_in p)) (m : MemtableView) → ((t : TableMap) → slice_get (held_in p) (number - 1) ≡ Some t → m ≡ t.memtable) → slice_get (held_in p) (number - 1) ≡ Some (row_with there m)
+  row_there there m is = let t = table_at there in t.1 ∙ ap (λ (v : MemtableView). Some (record t.0 { memtable = v })) (sym (is t.0 t.1))
 
 -- ---- a test of the memtable
 
@@ -89,7 +96,7 @@ numbers_spent v sound p number kind is = makes_nothing (λ l. Flush number ∷ [
 -- ---- the flush
 
 module _ (a : View) (sound : IsSound a) (p : Parts) (of : IsOfParts p) (ready : CanChange a (memory_of p)) (number : ℕ) (small : number < 2 ^ 32) (held : IsUnflushed number (memory_of p)) (next : Numbers) (is : AreNext p.numbers next)
-    (floor : ℕ) (floor_is : floor ≡ floor_in_memory 1 number next.log (map opened_table p.tables.items)) (t : TableMap) (there : slice_get p.tables.items (number - 1) ≡ Some t) where
+    (floor : ℕ) (floor_is : floor ≡ floor_in_memory 1 number next.log (map opened_table (held_in p))) (t : TableMap) (there : slice_get (held_in p) (number - 1) ≡ Some t) where
   abbrev pub numbers : FlushNumbers
   numbers = record { table = number; file = next.«data»; floor = floor; last = next.log }
 
@@ -106,7 +113,7 @@ module _ (a : View) (sound : IsSound a) (p : Parts) (of : IsOfParts p) (ready : 
   memtable_is = ap (λ (h : TableInMemory). h.memtable) row_is
 
   under : t.memtable.partitioner ≡ p.manifest.listing.partitioner
-  under = all_at (λ (t : TableMap). t.memtable.partitioner ≡ p.manifest.listing.partitioner) (number - 1) p.tables.items t of.under there
+  under = all_at (λ (t : TableMap). t.memtable.partitioner ≡ p.manifest.listing.partitioner) (number - 1) (held_in p) t of.tables.under there
 
   fits : (number < 2 ^ 32) × (next.«data» < 2 ^ 32) × (next.log < 2 ^ 32)
   fits = (small, is.file_fits, is.log_fits)
@@ -116,6 +123,9 @@ module _ (a : View) (sound : IsSound a) (p : Parts) (of : IsOfParts p) (ready : 
 
   pub partitioner_after : (manifest : ManifestState) → IsNext p.manifest.listing (edit_of numbers ∷ []) manifest.listing → manifest.listing.partitioner ≡ p.manifest.listing.partitioner
   partitioner_after manifest listed = (listed_after a (memory_of p) ready numbers t.memtable held is.file last_is floor_is fits memtable_is under manifest.listing listed).0
+
+  pub tables_after : (manifest : ManifestState) → IsNext p.manifest.listing (edit_of numbers ∷ []) manifest.listing → manifest.listing.tables ≡ at_number 1 number (replaced [] (new_listed_file next.«data» ∷ []) next.log) p.manifest.listing.tables
+  tables_after manifest listed = (listed_after a (memory_of p) ready numbers t.memtable held is.file last_is floor_is fits memtable_is under manifest.listing listed).3
 
   module _ (b : View) (moments : (l : Layout) (logs : List (List Mutation)) → IsFlushOf a p.manifest t.memtable numbers l logs → Changes (λ x y. Between l (Flush number ∷ []) y) a b)
       (change : Changes (ChangesInFlush p.manifest.number p.manifest.listing.floor numbers) a b) where
@@ -135,6 +145,21 @@ module _ (a : View) (sound : IsSound a) (p : Parts) (of : IsOfParts p) (ready : 
       changes = any_change (ChangesInFlush p.manifest.number p.manifest.listing.floor numbers) a b change;
       reads = causes.reads;
       causes = call_failed a b f causes;
+    }
+
+    -- the flush was made, and then memory ran out
+    pub flush_unfinished : {T U : Type 0} (new : StoreInMemory) (x : T) → ListCauses {T = T} a b (Ok x) → MakesMoves {T = U} (λ l. Flush number ∷ []) a b (memory_of p) new (Err OutOfMemory)
+    flush_unfinished new x causes = record {
+      any_moment = λ l serves. moments l (serves.older ++ serves.current ∷ []) (flush_at l serves);
+      serves = tt;
+      ready = tt;
+      unspent = tt;
+      spent_is = tt;
+      undamaged = tt;
+      present = tt;
+      changes = any_change (ChangesInFlush p.manifest.number p.manifest.listing.floor numbers) a b change;
+      reads = causes.reads;
+      causes = made_then_full a b x causes;
     }
 
     -- **The flush was made.**
@@ -159,8 +184,8 @@ module _ (a : View) (sound : IsSound a) (p : Parts) (of : IsOfParts p) (ready : 
 
 -- ---- what the store has in memory then
 
-module _ (p : Parts) (of : IsOfParts p) (number : ℕ) (some : 0 < number) (t : TableMap) (there : slice_get p.tables.items (number - 1) ≡ Some t) (memtable : MemtableView) (tables : List TableMap)
-    (cleared : tables ≡ slice_set p.tables.items (number - 1) (record t { memtable = memtable; first = None })) where
+module _ (p : Parts) (of : IsOfParts p) (number : ℕ) (some : 0 < number) (t : TableMap) (there : slice_get (held_in p) (number - 1) ≡ Some t) (memtable : MemtableView) (tables : List TableMap)
+    (cleared : tables ≡ slice_set (held_in p) (number - 1) (record t { memtable = memtable; first = None })) where
   abbrev emptied : TableMap
   emptied = record t { memtable = memtable; first = None }
 
@@ -168,8 +193,8 @@ module _ (p : Parts) (of : IsOfParts p) (number : ℕ) (some : 0 < number) (t : 
       → record { definitions = p.schema.definitions; manifest = manifest; log = log; tables = map opened_table tables; used = used_numbers next; max_timestamp = p.max_timestamp } ≡ memory_after_flush number manifest log (memory_of p)
   flushed_memory manifest log next is empty =
       let seen : opened_table emptied ≡ flushed_in_memory (opened_table t) = ap (λ (m : Partitions). record { first = None; frozen = []; memtable = m }) empty in
-      let tables_are : map opened_table tables ≡ at_number 1 number flushed_in_memory (map opened_table p.tables.items) =
-      ap (map opened_table) cleared ∙ set_numbered opened_table flushed_in_memory number p.tables.items t emptied some there seen in
+      let tables_are : map opened_table tables ≡ at_number 1 number flushed_in_memory (map opened_table (held_in p)) =
+      ap (map opened_table) cleared ∙ set_numbered opened_table flushed_in_memory number (held_in p) t emptied some there seen in
       let used_are : used_numbers next ≡ record (used_numbers p.numbers) { log = suc p.numbers.log; «data» = suc p.numbers.«data» } =
       λ i. record { manifest = is.manifest i; log = is.log i; «data» = is.file i; index = is.index i; part = is.part i } in
       λ i. record { definitions = p.schema.definitions; manifest = manifest; log = log; tables = tables_are i; used = used_are i; max_timestamp = p.max_timestamp }
@@ -177,7 +202,7 @@ module _ (p : Parts) (of : IsOfParts p) (number : ℕ) (some : 0 < number) (t : 
   pub flushed_parts : (partitioner : Partitioner) → partitioner ≡ p.manifest.listing.partitioner → memtable.partitioner ≡ partitioner → AreTables partitioner tables
   flushed_parts partitioner same is =
       subst (AreTables partitioner) (sym cleared) (record {
-        numbers = subst (RisesFrom 1) (sym (unseen_set (λ (t : TableMap). t.number) (number - 1) p.tables.items t emptied there refl)) of.numbers;
-        under = all_set (λ (t : TableMap). t.memtable.partitioner ≡ partitioner) (number - 1) p.tables.items emptied
-            (subst (λ (q : Partitioner). AllByRecursion (λ (t : TableMap). t.memtable.partitioner ≡ q) p.tables.items) (sym same) of.under) is;
+        numbers = subst (RisesFrom 1) (sym (unseen_set (λ (t : TableMap). t.number) (number - 1) (held_in p) t emptied there refl)) of.tables.numbers;
+        under = all_set (λ (t : TableMap). t.memtable.partitioner ≡ partitioner) (number - 1) (held_in p) emptied
+            (subst (λ (q : Partitioner). AllByRecursion (λ (t : TableMap). t.memtable.partitioner ≡ q) (held_in p)) (sym same) of.tables.under) is;
       })

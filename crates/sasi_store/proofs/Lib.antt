@@ -6,6 +6,9 @@ mod Openings
 mod Tables
 mod Printing
 mod Pages
+mod KeyLookups
+mod KeyFinding
+mod KeyRows
 pub mod SegmentDeletions
 pub mod MapWriting
 pub mod FlushFrames
@@ -14,6 +17,14 @@ pub mod FlushedFiles
 pub mod FlushedNames
 pub mod Frames
 pub mod TablesInMemory
+pub mod HeldMaps
+pub mod HeldChanges
+pub mod AddedToMaps
+pub mod IndexedTables
+pub mod FlushedMaps
+pub mod DefinedMaps
+pub mod DefinedParts
+pub mod OpenedMaps
 pub mod Timestamps
 pub mod OneMap
 pub mod MoveCauses
@@ -29,3 +40,4 @@ pub mod FlushingParts
 pub mod Selecting
 pub mod Prepared
 pub mod Known
+pub mod KnownClasses

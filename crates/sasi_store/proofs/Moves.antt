@@ -1,22 +1,27 @@
 -- The sources whose heads have the least key go on: what all have left, and what stays true of them.
-use Rattle.std.proofs.Common.{◌≡◌, ◌<◌, ℕ, suc, zero, true, false, cond, List, [], ◌∷◌, length, map, set, get_or, slice_get, Option, None, Some, refl, sym, ap, subst, ◌∙◌, arith}
+use Rattle.std.proofs.Common.{◌≡◌, ◌<◌, ℕ, suc, zero, true, false, cond, if◌then◌else◌, List, [], ◌∷◌, length, map, set, get_or, slice_get, Option, None, Some, IfSome, refl, sym, ap, subst, ◌∙◌, arith}
 use Rattle.std.specs.List.{AllByRecursion}
 use Rattle.sasi_types.specs.declared.column.ColumnType.{ColumnType}
 use Rattle.sasi_types.specs.declared.decorated_key.DecoratedKey.{DecoratedKey}
 use Rattle.sasi_types.specs.declared.partitioner.Partitioner.{Partitioner}
-use Rattle.sasi_model.specs.Cells.{Partition}
+use Rattle.sasi_model.specs.Cells.{Partition, empty_partition}
+use Rattle.sasi_types.specs.DecoratedKey.{decorated_cmp}
+use Rattle.std.specs.Ordering.{eq_by_cmp}
+use Rattle.sasi_cells.specs.Maps.{joined}
 use Rattle.sasi_cells.specs.Rows.{IsStored}
-use Rattle.sasi_cells.specs.declared.picked.Picked.{Picked}
+use Rattle.sasi_machine.proofs.Texts.{empty_texts, merged_texts}
+use Rattle.sasi_machine.specs.Where.{HasTexts}
+use Rattle.sasi_machine.specs.declared.row_query.RowQuery.{RowQuery}
 use Rattle.sasi_host.specs.declared.fault.ReadFault.{ReadFault}
 use Rattle.sasi_host.specs.Names.{Folder}
 use Rattle.sasi_host.specs.Damages.{OnDamage}
 use Rattle.sasi_manifest.specs.declared.files.ListedFile.{ListedFile}
-use Rattle.sasi_merge.specs.Merging.{GivesLeast, Head, has_key, with_token}
+use Rattle.sasi_merge.specs.Merging.{GivesLeast, Head, has_key, merged_heads, part_at, with_token}
 use Rattle.sasi_merge.specs.Streams.{Entries, IsRising, behind, head_of, merged_entries, moved}
 use Rattle.sasi_merge.proofs.LeastKeys.{given_has}
 use Rattle.sasi_merge.proofs.Streams.{all_rising, next_entry, no_entry}
 use Rattle.sasi_store.specs.declared.source.Source.{Source}
-use Rattle.sasi_store.specs.Sources.{AreMoved, AreReady, CanStep, IsHeadKeyed, IsKeyed, IsListedSource, IsMoved, IsMovedAt, NoFalseSourceDamage, StepsTo, advances, stays}
+use Rattle.sasi_store.specs.Sources.{AreMoved, AreReady, CanStep, IsHeadKeyed, IsKeyed, IsListedSource, IsMoved, IsMovedAt, IsPrintable, NoFalseSourceDamage, StepsTo, advances, stays}
 use Rattle.sasi_store.specs.Left.{AreLeft, ArePrinted, HasLeft, IsLeft, IsNextPrinted}
 use Rattle.sasi_store.proofs.Steps.{no_false_source, steps_can, steps_keyed, steps_left, steps_listed}
 
@@ -178,18 +183,40 @@ left_at seen p (h ∷ heads) (s ∷ sources) [] at source f are was no_false = a
 
 -- ---- the next partition of the merge
 
--- the key that is given is one of the type
-pub least_keyed : (kind : ColumnType) (heads : List Head) (token : ℕ) (key : List ℕ) (part : Partition) → AllByRecursion (IsHeadKeyed kind) heads → GivesLeast heads token (Some (key, part)) → IsStored kind key
-least_keyed kind heads token key part keyed least = given_has (IsStored kind) (with_token token key) None heads part keyed least.0 refl
+heads_stored : (kind : ColumnType) (heads : List Head) → AllByRecursion (IsHeadKeyed kind) heads → AllByRecursion (λ (h : Head). IfSome h (λ x. IsStored kind x.1)) heads
+heads_stored kind [] all = tt
+heads_stored kind (None ∷ heads) all = (tt, heads_stored kind heads all.1)
+heads_stored kind (Some h ∷ heads) all = (all.0.stored, heads_stored kind heads all.1)
+
+-- merged texts are texts
+joined_texts : (a b : Option Partition) → IfSome a HasTexts → IfSome b HasTexts → IfSome (joined a b) HasTexts
+joined_texts a None one two = one
+joined_texts None (Some q) one two = merged_texts empty_partition q empty_texts two
+joined_texts (Some p) (Some q) one two = merged_texts p q one two
+
+part_texts : (kind : ColumnType) (key : DecoratedKey) (h : Head) → IsHeadKeyed kind h → IfSome (part_at key h) HasTexts
+part_texts kind key None keyed = tt
+part_texts kind key (Some h) keyed = elim (eq_by_cmp decorated_cmp key (with_token h.0 h.1)) as (λ b. IfSome (if b then Some h.2 else None) HasTexts) [ true ↦ keyed.texts | false ↦ tt ]
+
+heads_texts : (kind : ColumnType) (key : DecoratedKey) (base : Option Partition) (heads : List Head) → IfSome base HasTexts → AllByRecursion (IsHeadKeyed kind) heads → IfSome (merged_heads key base heads) HasTexts
+heads_texts kind key base [] one all = one
+heads_texts kind key base (h ∷ heads) one all = heads_texts kind key (joined base (part_at key h)) heads (joined_texts base (part_at key h) one (part_texts kind key h all.0)) all.1
+
+-- what is given can be printed
+pub least_printable : (kind : ColumnType) (heads : List Head) (token : ℕ) (key : List ℕ) (part : Partition) → AllByRecursion (IsHeadKeyed kind) heads → GivesLeast heads token (Some (key, part)) → IsPrintable kind key part
+least_printable kind heads token key part keyed least = record {
+  stored = given_has (IsStored kind) (with_token token key) None heads part (heads_stored kind heads keyed) least.0 refl;
+  texts = subst (λ (o : Option Partition). IfSome o HasTexts) least.0 (heads_texts kind (with_token token key) None heads tt keyed);
+}
 
 -- nothing is left where each source is at its end
 pub none_given : (seen : Option Folder) (p : Partitioner) (heads : List Head) (sources : List Source) (lefts : List Entries) (token : ℕ) → AreLeft seen p heads sources lefts → GivesLeast heads token None → merged_entries lefts ≡ []
 none_given seen p heads sources lefts token are least = no_entry lefts (subst (AllByRecursion (λ h. h ≡ None)) (heads_are seen p heads sources lefts are) least)
 
 -- the row of the least key was printed, and the sources went on
-pub next_given : (seen : Option Folder) (p : Partitioner) (picked : Picked) (heads : List Head) (sources : List Source) (nexts : List Head) (afters : List Source) (lefts : List Entries) (token : ℕ) (key : List ℕ) (part : Partition) (reply_old reply_new : List ℕ) (rows : ℕ) → AreLeft seen p heads sources lefts → AllByRecursion IsRising lefts → GivesLeast heads token (Some (key, part)) → AreMoved seen (with_token token key) (length sources) heads sources nexts afters → ArePrinted picked ((with_token token key, part) ∷ []) reply_old reply_new rows
-    → IsNextPrinted seen p picked lefts nexts afters reply_old reply_new rows
-next_given seen p picked heads sources nexts afters lefts token key part reply_old reply_new rows are rising least moved_all printed =
+pub next_given : (seen : Option Folder) (p : Partitioner) (query : RowQuery) (heads : List Head) (sources : List Source) (nexts : List Head) (afters : List Source) (lefts : List Entries) (token : ℕ) (key : List ℕ) (part : Partition) (reply_old reply_new : List ℕ) (rows : ℕ) → AreLeft seen p heads sources lefts → AllByRecursion IsRising lefts → GivesLeast heads token (Some (key, part)) → AreMoved seen (with_token token key) (length sources) heads sources nexts afters → ArePrinted query ((with_token token key, part) ∷ []) reply_old reply_new rows
+    → IsNextPrinted seen p query lefts nexts afters reply_old reply_new rows
+next_given seen p query heads sources nexts afters lefts token key part reply_old reply_new rows are rising least moved_all printed =
     let on = subst (λ (hs : List Head). GivesLeast hs token (Some (key, part))) (heads_are seen p heads sources lefts are) least in
     record {
       entry = (with_token token key, part);

@@ -14,7 +14,6 @@ use Rattle.sasi_types.specs.declared.partitioner.Partitioner.{Partitioner}
 use Rattle.sasi_types.specs.DecoratedKey.{decorated_cmp}
 use Rattle.sasi_model.specs.Abbreviations.{Partitions}
 use Rattle.sasi_model.specs.State.{decorated}
-use Rattle.sasi_cells.specs.Rows.{IsStored}
 use Rattle.sasi_cells.proofs.Laws.Decorated.{entries_have}
 use Rattle.sasi_host.specs.declared.fault.ReadFault.{ReadFault}
 use Rattle.sasi_host.specs.declared.fault.ReadFault.TheVariants as fault
@@ -25,14 +24,14 @@ use Rattle.sasi_host.specs.View.{IsThere, View, contents_in}
 use Rattle.sasi_datawrite.specs.Format.{Content, decorated_key}
 use Rattle.sasi_dataread.specs.Damages.{ShowsDataFile}
 use Rattle.sasi_dataread.specs.Scans.{DataScan}
-use Rattle.sasi_machine.specs.TableRows.{KeysStored}
+use Rattle.sasi_machine.specs.TableRows.{AreStored}
 use Rattle.sasi_manifest.specs.declared.files.ListedFile.{ListedFile}
 use Rattle.sasi_memtable.specs.MemtableView.{MemtableView}
 use Rattle.sasi_merge.specs.Merging.{Head}
 use Rattle.sasi_merge.specs.Streams.{Entries, IsRising, behind, head_of}
 use Rattle.sasi_store.specs.declared.source.Source.{Source}
 use Rattle.sasi_store.specs.declared.source.Source.TheVariants.{File, Map}
-use Rattle.sasi_store.specs.Sources.{AllStored, AreReady, CanStep, IsHeadKeyed, IsKeyed, IsListedSource, ShowsListed, StepsTo}
+use Rattle.sasi_store.specs.Sources.{AllStored, AreReady, CanStep, IsHeadKeyed, IsKeyed, IsListedSource, IsPrintable, ShowsListed, StepsTo}
 use Rattle.sasi_store.specs.Left.{AreLeft, entries_of}
 use Rattle.sasi_store.specs.Scanning.{AreContents, AreOpened, HasContent, IsAdded, IsOpened, IsOpenedFile}
 use Rattle.sasi_store.proofs.Costs.{damage_as, reads_same}
@@ -122,10 +121,10 @@ map_sources = map (λ (m : MemtableView). Map (behind (map_.entries m.partitions
 abbrev pub map_entries : List MemtableView → List Entries
 map_entries = map (λ (m : MemtableView). map_.entries m.partitions)
 
-map_stored : (kind : ColumnType) (m : Partitions) → KeysStored kind m → AllStored kind (map_.entries m)
-map_stored kind m stored = entries_have (λ entry. IsStored kind entry.0.key) m (λ q part is. stored q (ap is_some is))
+map_stored : (kind : ColumnType) (m : Partitions) → AreStored kind m → AllStored kind (map_.entries m)
+map_stored kind m are = entries_have (λ entry. IsPrintable kind entry.0.key entry.1) m (λ q part is. record { stored = are.keys q (ap is_some is); texts = are.texts q part is })
 
-pub maps_ready : (seen : Option Folder) (kind : ColumnType) (maps : List MemtableView) → AllByRecursion (λ (m : MemtableView). KeysStored kind m.partitions) maps → AreReady seen kind (map_heads maps) (map_sources maps)
+pub maps_ready : (seen : Option Folder) (kind : ColumnType) (maps : List MemtableView) → AllByRecursion (λ (m : MemtableView). AreStored kind m.partitions) maps → AreReady seen kind (map_heads maps) (map_sources maps)
 maps_ready seen kind [] stored = record { can = tt; keyed = tt; heads_keyed = tt; counted = refl }
 maps_ready seen kind (m ∷ maps) stored =
     let rest = maps_ready seen kind maps stored.1 in

@@ -54,7 +54,7 @@ use Rattle.sasi_types.specs.declared.statement.Statement.{Statement}
 use Rattle.sasi_types.specs.declared.statement.Statement.TheVariants.{CreateIndex, CreateTable}
 use Rattle.sasi_store.specs.Puts.{HasTableFor}
 use Rattle.sasi_store.specs.Selects.{IsSelectable}
-use Rattle.sasi_store.specs.StoreView.{memory_of}
+use Rattle.sasi_store.specs.StoreView.{held_in, memory_of}
 use Rattle.sasi_store.specs.Writable.{IsCreatable, IsDefinable, IsWritableMutation}
 use Rattle.sasi_store.specs.declared.parts.Parts.{Parts}
 use Rattle.sasi_machine.proofs.StatementPreparing.{empty_definitions}
@@ -133,11 +133,11 @@ module _ (v : View) (p : Parts) (ready : CanChange v (memory_of p)) where
         applies = define_applies new prepared.1.0 table_small column_small prepared.1.2 prepared.1.3;
       }
 
-  pub has_table_for : (number : ℕ) → HasTable blank number → HasTableFor number p.tables.items
+  pub has_table_for : (number : ℕ) → HasTable blank number → HasTableFor number (held_in p)
   has_table_for number has =
       let size : length (map empty_table p.schema.definitions) ≡ length p.schema.definitions = length-map p.schema.definitions empty_table in
-      let count = as_many listing.partitioner listing.floor listing.last p.schema.definitions (map opened_table p.tables.items) ready.tables in
-      let maps : length (map opened_table p.tables.items) ≡ length p.tables.items = length-map p.tables.items opened_table in
+      let count = as_many listing.partitioner listing.floor listing.last p.schema.definitions (map opened_table (held_in p)) ready.tables in
+      let maps : length (map opened_table (held_in p)) ≡ length (held_in p) = length-map (held_in p) opened_table in
       record { some = has.some; inside = omega (arith, has.inside, size, count, maps) }
 
   pub selectable : (rows : Selection) → HasRows blank rows → IsSelectable (memory_of p) rows
@@ -145,7 +145,7 @@ module _ (v : View) (p : Parts) (ready : CanChange v (memory_of p)) where
     some = has.some;
     definition = has.table.definition;
     there = ap (λ (ds : List Definition). slice_get ds (rows.table - 1)) (sym blank_definitions) ∙ map_there (λ (t : model.Table). t.definition) blank.tables (rows.table - 1) has.table has.there;
-    key = has.key;
+    can = has.can;
   }
 
 -- ---- a write

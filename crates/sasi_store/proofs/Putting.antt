@@ -1,8 +1,11 @@
 -- A mutation that a store logs and merges into its memtable.
 use Rattle.std.proofs.Common.{◌≡◌, ◌≢◌, ℕ, zero, suc, ◌+◌, ◌-◌, ◌<◌, List, [], ◌∷◌, ◌++◌, length, map, set, slice_get, Option, None, Some, refl, sym, ap, subst, ◌∙◌, true, arith}
 use Rattle.std.specs.Prelude.{IsTrue, max, Ok, Err}
+use Rattle.std.specs.FinMap.{get}
 use Rattle.std.proofs.lemmas.List.{length-map}
 use Rattle.sasi_types.specs.Token.{AreBytes}
+use Rattle.sasi_types.specs.declared.class.Class.{Class}
+use Rattle.sasi_memindex.specs.Book.{Book, CanChange as Changeable}
 use Rattle.sasi_host.proofs.ContentLaws.{contents_other, reaches_where, told_after, told_before}
 use Rattle.sasi_host.specs.Disk.{AnyChange, Changes, FileChange, LeftWith}
 use Rattle.sasi_host.specs.Names.{log_name, manifest_name}
@@ -22,11 +25,13 @@ use Rattle.sasi_layout.proofs.Storable.{put_storable}
 use Rattle.sasi_layout.proofs.Trails.{put_each, put_moves}
 use Rattle.sasi_layout.proofs.MovesInOrder.{moved_in_order}
 use Rattle.sasi_layout.specs.Between.{Between}
+use Rattle.sasi_layout.specs.Classes.{KnowsClasses, KnowsIndexes}
 use Rattle.sasi_layout.specs.Layout.{Layout, TableParts, listing_of, state_of, table_of}
 use Rattle.sasi_layout.specs.Moves.{Put, after_put, or_else, put_table}
 use Rattle.sasi_layout.specs.Kept.{is_kept}
 use Rattle.sasi_layout.specs.Serving.{AreTablesReady, CanChange, IsLive, IsTableReady, Serves, StoreInMemory, TableInMemory, kept_by, table_in_memory}
 use Rattle.sasi_manifest.specs.declared.listing.Listing.{Listing}
+use Rattle.sasi_manifest.specs.ListedDefinition.{ListedDefinition}
 use Rattle.sasi_manifest.specs.Listings.{at_number}
 use Rattle.sasi_manifest.specs.OpenManifest.{ManifestStands}
 use Rattle.sasi_manifest.specs.Types.{numbered_types}
@@ -45,7 +50,9 @@ use Rattle.sasi_types.specs.declared.partitioner.Partitioner.{Partitioner}
 use Rattle.sasi_cells.specs.Maps.{put}
 use Rattle.sasi_store.specs.Faults.{StepCauses}
 use Rattle.sasi_store.specs.MakesMoves.{MakesMoves}
-use Rattle.sasi_store.specs.StoreView.{AreTables, IsOfParts, memory_of}
+use Rattle.sasi_store.specs.Held.{AreMapped, HasIndexes, HasMapFor, HasRegularIndexes, IsPutIn, KnowsMap, held_of, subjects_of}
+use Rattle.sasi_store.specs.StoreView.{AreTables, IsOfParts, held_in, memory_of, wanted_of}
+use Rattle.sasi_store.specs.declared.table_maps.TableMaps.{TableMaps}
 use Rattle.sasi_store.specs.declared.fault.StepFault.{StepFault}
 use Rattle.sasi_store.specs.declared.parts.Parts.{Parts}
 use Rattle.sasi_store.specs.Puts.{HasTableFor, IsPutAt, memory_after_put, put_in_memory, put_map}
@@ -53,7 +60,10 @@ use Rattle.sasi_store.proofs.MoveCauses.{IsPlain, any_change, plain_present, pla
 use Rattle.sasi_store.specs.Writable.{IsWritableMutation}
 use Rattle.sasi_layout.proofs.KeptLaws.{keeps_segment}
 use Rattle.sasi_store.proofs.Frames.{changed_kept, manifest_other, reached_there}
-use Rattle.sasi_store.proofs.TablesInMemory.{all_at, all_set, as_many, at_numbered, inside_there, length_set, map_there, ready_changed, ready_there, seen_there, set_numbered, there_inside, unseen_set}
+use Rattle.sasi_store.proofs.HeldChanges.{has_map, put_held, put_mapped}
+use Rattle.sasi_store.proofs.IndexedTables.{can_put, knows_map}
+use Rattle.sasi_store.proofs.KnownClasses.{known_at}
+use Rattle.sasi_store.proofs.TablesInMemory.{all_at, all_set, as_many, at_numbered, inside_there, length_set, map_there, ready_changed, ready_there, seen_as, seen_there, set_numbered, there_inside, unseen_set}
 use Rattle.sasi_store.proofs.Timestamps.{put_timestamp}
 
 -- ---- the mutation
@@ -199,22 +209,67 @@ module _ (a b : View) (sound : IsSound a) (store : StoreInMemory) (m : Mutation)
     causes = causes;
   }
 
+-- a table that can be written to has a memtable
+pub has_table : (v : View) (p : Parts) (number : ℕ) (d : Definition) → CanChange v (memory_of p) → 0 < number → slice_get p.schema.definitions (number - 1) ≡ Some d → HasTableFor number (held_in p)
+has_table v p number d ready some there =
+    let listing = p.manifest.listing in
+    let count = as_many listing.partitioner listing.floor listing.last p.schema.definitions (map open_table (held_in p)) ready.tables in
+    let size : length (map open_table (held_in p)) ≡ length (held_in p) = length-map (held_in p) open_table in
+    record { some = some; inside = omega (arith, some, there_inside p.schema.definitions (number - 1) d there, count, size) }
+
+-- ---- the maps
+
+module _ (v : View) (p : Parts) (m : Mutation) (ready : CanChange v (memory_of p)) (of : IsOfParts p) (writable : IsWritableMutation (memory_of p) m) where
+  abbrev at : ℕ
+  at = m.table - 1
+
+  pub table_there : HasTableFor m.table (held_in p)
+  table_there = has_table v p m.table writable.definition ready writable.some writable.there
+
+  pub map_there_for : HasMapFor m.table p.tables.items p.maps
+  map_there_for = has_map p.maps p.last_map (wanted_of p) p.tables.items of.mapped m.table table_there
+
+  listed : (t : ListedDefinition) × (slice_get p.manifest.listing.tables at ≡ Some t) × (t.definition ≡ writable.definition)
+  listed = seen_as (λ (t : ListedDefinition). t.definition) p.manifest.listing.tables at writable.definition (ap (λ (ds : List Definition). slice_get ds at) (sym ready.definitions) ∙ writable.there)
+
+  has : (t : TableMaps) → slice_get p.tables.items at ≡ Some t → HasIndexes (subjects_of listed.0) (get p.maps t.memtable)
+  has t found = of.mapped.indexed at t (subjects_of listed.0) found (map_there subjects_of p.manifest.listing.tables at listed.0 listed.1)
+
+  pub put_can : (t : TableMaps) → slice_get p.tables.items at ≡ Some t → Changeable (get p.maps t.memtable) m.change
+  put_can t found =
+      can_put listed.0 (get p.maps t.memtable) m.key m.change (has t found) (all_at HasRegularIndexes at p.manifest.listing.tables listed.0 of.regular listed.1)
+      (subst (λ (d : Definition). IsBodyOf (types_of d) m.key m.change) (sym listed.2) writable.body)
+
+  pub put_known : (kinds : List Class) → KnowsClasses kinds (memory_of p) → (t : TableMaps) → slice_get p.tables.items at ≡ Some t → KnowsMap kinds (get p.maps t.memtable)
+  put_known kinds known t found =
+      knows_map kinds listed.0 (get p.maps t.memtable) (has t found) (subst (KnowsIndexes kinds) (sym listed.2) (known_at kinds p.schema.definitions at writable.definition known writable.there))
+
+  module _ (new : List TableMaps) (after : Book) (merged : (t : TableMaps) → slice_get p.tables.items at ≡ Some t → IsPutIn p.numbers.log m t p.tables.items new p.maps after) where
+    own : (t : TableMaps) × (slice_get p.tables.items at ≡ Some t)
+    own = inside_there p.tables.items at (omega (arith, map_there_for.some, map_there_for.inside))
+
+    pub put_at : IsPutAt p.numbers.log m (held_in p) (held_of after new)
+    put_at = put_held p.maps p.last_map (wanted_of p) p.tables.items of.mapped m p.numbers.log after new own.0 own.1 (merged own.0 own.1)
+
+    pub put_maps : AreMapped after p.last_map (wanted_of p) new
+    put_maps = put_mapped p.maps p.last_map (wanted_of p) p.tables.items of.mapped m p.numbers.log after new own.0 own.1 (merged own.0 own.1)
+
 -- ---- the memtables
 
-module _ (p : Parts) (m : Mutation) (of : IsOfParts p) (there : HasTableFor m.table p.tables.items) (tables : List TableMap) (is : IsPutAt p.numbers.log m p.tables.items tables) where
-  found : (t : TableMap) × (slice_get p.tables.items (m.table - 1) ≡ Some t)
-  found = inside_there p.tables.items (m.table - 1) (omega (arith, there.some, there.inside))
+module _ (p : Parts) (m : Mutation) (of : IsOfParts p) (there : HasTableFor m.table (held_in p)) (tables : List TableMap) (is : IsPutAt p.numbers.log m (held_in p) tables) where
+  found : (t : TableMap) × (slice_get (held_in p) (m.table - 1) ≡ Some t)
+  found = inside_there (held_in p) (m.table - 1) (omega (arith, there.some, there.inside))
 
   under : found.0.memtable.partitioner ≡ p.manifest.listing.partitioner
-  under = all_at (λ (t : TableMap). t.memtable.partitioner ≡ p.manifest.listing.partitioner) (m.table - 1) p.tables.items found.0 of.under found.1
+  under = all_at (λ (t : TableMap). t.memtable.partitioner ≡ p.manifest.listing.partitioner) (m.table - 1) (held_in p) found.0 of.tables.under found.1
 
-  pub put_tables : map open_table tables ≡ at_number 1 m.table (put_in_memory p.manifest.listing.partitioner p.numbers.log m) (map open_table p.tables.items)
+  pub put_tables : map open_table tables ≡ at_number 1 m.table (put_in_memory p.manifest.listing.partitioner p.numbers.log m) (map open_table (held_in p))
   put_tables =
       let t = found.0 in
       let new : TableMap = put_map p.numbers.log m.key m.change t in
       let seen : open_table new ≡ put_in_memory p.manifest.listing.partitioner p.numbers.log m (open_table t) =
       ap (λ (q : Partitioner). record { first = or_else t.first (Some p.numbers.log); frozen = []; memtable = put t.memtable.partitions (decorated q m.key) m.change }) under in
-      ap (map open_table) (is t found.1) ∙ set_numbered open_table (put_in_memory p.manifest.listing.partitioner p.numbers.log m) m.table p.tables.items t new there.some found.1 seen
+      ap (map open_table) (is t found.1) ∙ set_numbered open_table (put_in_memory p.manifest.listing.partitioner p.numbers.log m) m.table (held_in p) t new there.some found.1 seen
 
   -- **The store is as it is after the put.**
   pub put_memory : (log : Handle) (n : ℕ) → n ≡ max p.max_timestamp (max_timestamp_of m.change)
@@ -223,24 +278,16 @@ module _ (p : Parts) (m : Mutation) (of : IsOfParts p) (there : HasTableFor m.ta
       ap (λ (ts : List TableInMemory). record { definitions = p.schema.definitions; manifest = p.manifest; log = log; tables = ts; used = used_numbers p.numbers; max_timestamp = n }) put_tables
       ∙ ap (λ (k : ℕ). record (memory_after_put m (memory_of p)) { log = log; max_timestamp = k }) time
 
-  pub put_of_parts : AreTables p.manifest.listing.partitioner tables
-  put_of_parts =
+  pub put_tables_are : AreTables p.manifest.listing.partitioner tables
+  put_tables_are =
       let t = found.0 in
       let new : TableMap = put_map p.numbers.log m.key m.change t in
       subst (AreTables p.manifest.listing.partitioner) (sym (is t found.1)) (record {
-        numbers = subst (RisesFrom 1) (sym (unseen_set (λ (t : TableMap). t.number) (m.table - 1) p.tables.items t new found.1 refl)) of.numbers;
-        under = all_set (λ (t : TableMap). t.memtable.partitioner ≡ p.manifest.listing.partitioner) (m.table - 1) p.tables.items new of.under under;
+        numbers = subst (RisesFrom 1) (sym (unseen_set (λ (t : TableMap). t.number) (m.table - 1) (held_in p) t new found.1 refl)) of.tables.numbers;
+        under = all_set (λ (t : TableMap). t.memtable.partitioner ≡ p.manifest.listing.partitioner) (m.table - 1) (held_in p) new of.tables.under under;
       })
 
   pub put_there : HasTableFor m.table tables
   put_there =
-      let size : length (set p.tables.items (m.table - 1) (put_map p.numbers.log m.key m.change found.0)) ≡ length p.tables.items = length_set p.tables.items (m.table - 1) (put_map p.numbers.log m.key m.change found.0) in
+      let size : length (set (held_in p) (m.table - 1) (put_map p.numbers.log m.key m.change found.0)) ≡ length (held_in p) = length_set (held_in p) (m.table - 1) (put_map p.numbers.log m.key m.change found.0) in
       record { some = there.some; inside = omega (arith, there.inside, size, ap length (is found.0 found.1)) }
-
--- a table that can be written to has a memtable
-pub has_table : (v : View) (p : Parts) (number : ℕ) (d : Definition) → CanChange v (memory_of p) → 0 < number → slice_get p.schema.definitions (number - 1) ≡ Some d → HasTableFor number p.tables.items
-has_table v p number d ready some there =
-    let listing = p.manifest.listing in
-    let count = as_many listing.partitioner listing.floor listing.last p.schema.definitions (map open_table p.tables.items) ready.tables in
-    let size : length (map open_table p.tables.items) ≡ length p.tables.items = length-map p.tables.items open_table in
-    record { some = some; inside = omega (arith, some, there_inside p.schema.definitions (number - 1) d there, count, size) }

@@ -3,7 +3,7 @@ use Rattle.std.proofs.Common.{◌≡◌, ◌<◌, ◌-◌, ◌||◌, Bool, true,
 use Rattle.std.specs.Prelude.{Contains}
 use Rattle.std.proofs.lemmas.Bool.Decides.{nat_tests}
 use Rattle.std.proofs.lemmas.List.{length-map}
-use Rattle.std.specs.FinMap.{get}
+use Rattle.std.specs.FinMap.{entries, get}
 use Rattle.std.specs.List.{AllByRecursion}
 use Rattle.std.specs.Option.{option_map_or}
 use Rattle.sasi_cells.specs.Rows.{IsStored}
@@ -27,8 +27,15 @@ use Rattle.sasi_layout.specs.Layout.{File, Layout, TableParts, bare_table, liste
 use Rattle.sasi_layout.specs.Serving as layout
 use Rattle.sasi_layout.specs.Serving.{CanChange, Serves, TableInMemory, kept_by}
 use Rattle.sasi_layout.specs.Shape.{AreShaped, HasFile}
-use Rattle.sasi_machine.specs.Prepares.{answer_rows, lines_of}
-use Rattle.sasi_machine.specs.TableRows.{KeysStored}
+use Rattle.sasi_layout.specs.Classes.{KnowsClasses}
+use Rattle.sasi_machine.proofs.Texts.{body_texts}
+use Rattle.sasi_machine.specs.Classes.{TableLacks, WhereLacks}
+use Rattle.sasi_machine.specs.Operands.{CanSelect}
+use Rattle.sasi_machine.specs.Prepares.{answer_rows}
+use Rattle.sasi_machine.specs.TableRows.{AreStored, rows_picked}
+use Rattle.sasi_machine.specs.Where.{HasTexts, key_asked, where_of}
+use Rattle.sasi_model.specs.Stored.{IsBodyOf}
+use Rattle.sasi_machine.specs.declared.row_query.RowQuery.{RowQuery}
 use Rattle.sasi_machine.specs.declared.prepared.Selection.{Selection}
 use Rattle.sasi_manifest.specs.declared.files.ListedFile.{ListedFile}
 use Rattle.sasi_manifest.specs.declared.listed.ListedTable.{ListedTable}
@@ -37,21 +44,30 @@ use Rattle.sasi_manifest.specs.Edits.{files_of}
 use Rattle.sasi_manifest.specs.ListedDefinition.{ListedDefinition}
 use Rattle.sasi_manifest.specs.ListedFiles.{has_file}
 use Rattle.sasi_manifest.specs.ListedTables.{listed}
-use Rattle.sasi_memtable.specs.MemtableView.{MemtableView}
-use Rattle.sasi_model.specs.Abbreviations.{types_of}
+use Rattle.sasi_memtable.specs.MemtableView.{AreDecorated, MemtableView}
+use Rattle.sasi_model.specs.Abbreviations.{key_type, types_of}
+use Rattle.sasi_model.specs.Cells.{Partition}
+use Rattle.sasi_model.specs.Lines.{rows_lines}
+use Rattle.sasi_model.specs.Step.{select_lines}
+use Rattle.sasi_model.specs.Conditions.{Condition, condition_of}
 use Rattle.sasi_model.specs.State.{Definition, Table}
 use Rattle.sasi_recover.specs.OpenedFolder.{opened_table}
 use Rattle.sasi_recover.specs.declared.opened.TableMap.{TableMap}
 use Rattle.sasi_schema.specs.Defined.{definition}
+use Rattle.sasi_types.specs.declared.class.Class.{Class}
 use Rattle.sasi_types.specs.declared.column.ColumnType.{ColumnType}
+use Rattle.sasi_types.specs.declared.decorated_key.DecoratedKey.{DecoratedKey}
 use Rattle.sasi_types.specs.declared.partitioner.Partitioner.{Partitioner}
+use Rattle.sasi_store.specs.KeyLookups.{rows_reads, selection_reads}
 use Rattle.sasi_store.specs.Faults.{OnStepDamage, fault_of_read}
 use Rattle.sasi_store.specs.Scanning.{IsTableOf}
-use Rattle.sasi_store.specs.Selects.{IsSelectable}
+use Rattle.sasi_store.specs.Selects.{IsSelectable, KnowsWhere}
 use Rattle.sasi_store.specs.Sources.{ShowsListed}
-use Rattle.sasi_store.specs.StoreView.{memory_of}
+use Rattle.sasi_store.specs.Puts.{HasTableFor}
+use Rattle.sasi_store.specs.StoreView.{held_in, memory_of}
 use Rattle.sasi_store.specs.declared.parts.Parts.{Parts}
 use Rattle.sasi_store.proofs.FlushingParts.{memory_at, table_at}
+use Rattle.sasi_store.proofs.KnownClasses.{known_at, no_index_lacks}
 use Rattle.sasi_store.proofs.Putting.{has_table}
 use Rattle.sasi_store.proofs.TablesInMemory.{index_got, map_there, ready_at, seen_as, there_inside}
 
@@ -132,8 +148,15 @@ pub record HasTable (p : Parts) (rows : Selection) (definition : Definition) (ty
   pub types_are : types ≡ types_of definition
   pub files_are : files ≡ files_of p.manifest.listing.tables rows.table
   pub held : TableMap
-  pub unflushed_there : slice_get p.tables.items (rows.table - 1) ≡ Some held
+  pub unflushed_there : slice_get (held_in p) (rows.table - 1) ≡ Some held
   pub maps_are : maps ≡ held.memtable ∷ []
+
+-- what is asked of a table with this definition
+pub record HasQuery (rows : Selection) (definition : Definition) (query : RowQuery) : Type 0 where
+  pub key : query.picked.key ≡ key_type definition
+  pub lines : (all : List (DecoratedKey × Partition)) → rows_lines (rows_picked query.picked.key query.picked.columns (where_of query.filter) all) ≡ select_lines definition rows.select all
+  pub filter : query.filter ≡ map (condition_of definition) rows.select.relations
+  pub classes : (kinds : List Class) (class : Class) → WhereLacks kinds query.filter class → TableLacks kinds definition class
 
 module _ (v : View) (sound : IsSound v) (p : Parts) (ready : CanChange v (memory_of p)) (rows : Selection) (can : IsSelectable (memory_of p) rows) where
   abbrev listing : Listing
@@ -154,11 +177,11 @@ module _ (v : View) (sound : IsSound v) (p : Parts) (ready : CanChange v (memory
       let size : length (map listed tables) ≡ length tables = length-map tables listed in
       omega (arith, there_inside listing.tables at defined.0 defined.1, size, ap length seen)
 
-  row_in_memory : (t : TableMap) × (slice_get p.tables.items at ≡ Some t)
-  row_in_memory = table_at p rows.table (has_table v p rows.table can.definition ready can.some can.there)
+  pub in_memory : HasTableFor rows.table (held_in p)
+  in_memory = has_table v p rows.table can.definition ready can.some can.there
 
-  pub inside_memory : at < length p.tables.items
-  inside_memory = there_inside p.tables.items at row_in_memory.0 row_in_memory.1
+  row_in_memory : (t : TableMap) × (slice_get (held_in p) at ≡ Some t)
+  row_in_memory = table_at p rows.table in_memory
 
   row_defined : (tables : List ListedTable) → map listed tables ≡ listing.tables → (row : ListedTable) → slice_get tables at ≡ Some row → definition row.table ≡ can.definition
   row_defined tables seen row there =
@@ -168,18 +191,33 @@ module _ (v : View) (sound : IsSound v) (p : Parts) (ready : CanChange v (memory
   -- what stands at its index is looked up
   pub looked_up : (tables : List ListedTable) → map listed tables ≡ listing.tables → (row : ListedTable) → row ≡ get_or tables at row
       → (types : List ColumnType) → types ≡ types_of (definition row.table) → (files : List ListedFile) → files ≡ files_of listing.tables rows.table
-      → (held : TableMap) → held ≡ get_or p.tables.items at held → (maps : List MemtableView) → maps ≡ held.memtable ∷ [] → HasTable p rows can.definition types files maps
-  looked_up tables seen row is_row types types_are files files_are held is_held maps maps_are = record {
+      → (m : MemtableView) → ((t : TableMap) → slice_get (held_in p) at ≡ Some t → m ≡ t.memtable) → (maps : List MemtableView) → maps ≡ m ∷ [] → HasTable p rows can.definition types files maps
+  looked_up tables seen row is_row types types_are files files_are m is maps maps_are = record {
     types_are = types_are ∙ ap types_of (row_defined tables seen row (index_got tables at row (inside_listed tables seen) is_row));
     files_are = files_are;
-    held = held;
-    unflushed_there = index_got p.tables.items at held inside_memory is_held;
-    maps_are = maps_are;
+    held = row_in_memory.0;
+    unflushed_there = row_in_memory.1;
+    maps_are = maps_are ∙ ap (λ (v : MemtableView). v ∷ []) (is row_in_memory.0 row_in_memory.1);
   }
+
+  -- what stands at its index can be asked
+  pub can_ask : (tables : List ListedTable) → map listed tables ≡ listing.tables → (row : ListedTable) → row ≡ get_or tables at row → CanSelect (definition row.table) rows.select
+  can_ask tables seen row is_row = subst (λ (d : Definition). CanSelect d rows.select) (sym (row_defined tables seen row (index_got tables at row (inside_listed tables seen) is_row))) can.can
+
+  pub asked_of : (tables : List ListedTable) → map listed tables ≡ listing.tables → (row : ListedTable) → row ≡ get_or tables at row → (query : RowQuery) → HasQuery rows (definition row.table) query → HasQuery rows can.definition query
+  asked_of tables seen row is_row query = subst (λ (d : Definition). HasQuery rows d query) (row_defined tables seen row (index_got tables at row (inside_listed tables seen) is_row))
+
+  pub none_lacks : (kinds : List Class) → KnowsClasses kinds (memory_of p) → (tables : List ListedTable) → map listed tables ≡ listing.tables → (row : ListedTable) → row ≡ get_or tables at row → (class : Class) → TableLacks kinds (definition row.table) class → ⊥
+  none_lacks kinds known tables seen row is_row class lacks =
+      no_index_lacks kinds can.definition (known_at kinds (memory_of p).definitions at can.definition known can.there) class
+      (subst (λ (d : Definition). TableLacks kinds d class) (row_defined tables seen row (index_got tables at row (inside_listed tables seen) is_row)) lacks)
+
+  pub where_known : (kinds : List Class) → KnowsClasses kinds (memory_of p) → (query : RowQuery) → HasQuery rows can.definition query → KnowsWhere kinds query.filter
+  where_known kinds known query asks class lacks = no_index_lacks kinds can.definition (known_at kinds (memory_of p).definitions at can.definition known can.there) class (asks.classes kinds class lacks)
 
   -- ---- what it needs, and what it prints
 
-  module _ (types : List ColumnType) (files : List ListedFile) (maps : List MemtableView) (has : HasTable p rows can.definition types files maps) where
+  module _ (query : RowQuery) (asks : HasQuery rows can.definition query) (types : List ColumnType) (files : List ListedFile) (maps : List MemtableView) (has : HasTable p rows can.definition types files maps) where
     pub files_there : AllByRecursion (λ (f : ListedFile). IsThere v (data_name f.number)) files
     files_there =
         subst (AllByRecursion (λ (f : ListedFile). IsThere v (data_name f.number))) (sym (has.files_are ∙ listed_files))
@@ -187,17 +225,33 @@ module _ (v : View) (sound : IsSound v) (p : Parts) (ready : CanChange v (memory
         (λ f is_in. kept_there v (kept_by (memory_of p)) (data_name f.number) ready.kept (keeps_data (kept_by (memory_of p)) f.number ∙ listed_any listing.tables at defined.0 defined.1 f.number is_in))
         defined.0.files (has_each defined.0.files))
 
-    pub key_first : slice_get types 0 ≡ Some rows.picked.key
-    key_first = ap (λ (ts : List ColumnType). slice_get ts 0) has.types_are ∙ ap Some (sym can.key)
+    pub key_first : slice_get types 0 ≡ Some query.picked.key
+    key_first = ap (λ (ts : List ColumnType). slice_get ts 0) has.types_are ∙ ap Some (sym asks.key)
 
-    pub keys_stored : AllByRecursion (λ (m : MemtableView). KeysStored rows.picked.key m.partitions) maps
-    keys_stored = subst (AllByRecursion (λ (m : MemtableView). KeysStored rows.picked.key m.partitions)) (sym has.maps_are) (stored, tt)
+    pub maps_stored : AllByRecursion (λ (m : MemtableView). AreStored query.picked.key m.partitions) maps
+    maps_stored = subst (AllByRecursion (λ (m : MemtableView). AreStored query.picked.key m.partitions)) (sym has.maps_are) (record { keys = keys; texts = texts }, tt)
       where
-        stored : KeysStored rows.picked.key has.held.memtable.partitions
-        stored key some =
+        body : (key : DecoratedKey) (part : Partition) → get has.held.memtable.partitions key ≡ Some part → IsBodyOf (types_of can.definition) key.key part
+        body key part there =
+            let is = ready_at listing.partitioner listing.floor listing.last at (memory_of p).definitions (memory_of p).tables can.definition (opened_table has.held) ready.tables can.there (memory_at p rows.table has.held has.unflushed_there) in
+            (is.memtable key part there).body
+
+        keys : (key : DecoratedKey) → is_some (get has.held.memtable.partitions key) ≡ true → IsStored query.picked.key key.key
+        keys key some =
+            let part = some_in (get has.held.memtable.partitions key) some in
+            subst (λ (k : ColumnType). IsStored k key.key) (sym asks.key) (body_stored can.definition key.key part.0 (body key part.0 part.1))
+
+        texts : (key : DecoratedKey) (part : Partition) → get has.held.memtable.partitions key ≡ Some part → HasTexts part
+        texts key part there = body_texts (types_of can.definition) key.key part (body key part there)
+
+    pub maps_decorated : AllByRecursion (λ (m : MemtableView). AreDecorated listing.partitioner m.partitions) maps
+    maps_decorated = subst (AllByRecursion (λ (m : MemtableView). AreDecorated listing.partitioner m.partitions)) (sym has.maps_are) (by, tt)
+      where
+        by : AreDecorated listing.partitioner has.held.memtable.partitions
+        by key some =
             let part = some_in (get has.held.memtable.partitions key) some in
             let is = ready_at listing.partitioner listing.floor listing.last at (memory_of p).definitions (memory_of p).tables can.definition (opened_table has.held) ready.tables can.there (memory_at p rows.table has.held has.unflushed_there) in
-            subst (λ (k : ColumnType). IsStored k key.key) (sym can.key) (body_stored can.definition key.key part.0 (is.memtable key part.0 part.1).body)
+            (is.memtable key part.0 part.1).key_is
 
     module _ (l : Layout) (serves : Serves v (memory_of p) l) where
       parts : (x : TableParts) × (slice_get l.tables at ≡ Some x) × (layout.table_in_memory x ≡ opened_table has.held)
@@ -215,20 +269,34 @@ module _ (v : View) (sound : IsSound v) (p : Parts) (ready : CanChange v (memory
       parts_maps : map (λ (m : MemtableView). m.partitions) maps ≡ unflushed parts.0
       parts_maps = ap (λ (ms : List MemtableView). map (λ (m : MemtableView). m.partitions) ms) has.maps_are ∙ ap (λ (h : TableInMemory). h.frozen ++ h.memtable ∷ []) (sym parts.2)
 
+      under : (q : Partitioner) → q ≡ listing.partitioner → l.partitioner ≡ q
+      under q is = sym (ap (λ (k : Listing). k.partitioner) serves.listing) ∙ sym is
+
+      -- what its rows may read
+      reads_are : selection_reads v.files l rows ≡ rows_reads v.files l.partitioner parts.0 (key_asked query.filter)
+      reads_are =
+          ap (λ (o : Option TableParts). option_map_or (λ (t : TableParts). rows_reads v.files l.partitioner t (key_asked (map (condition_of t.definition) rows.select.relations))) o 0) parts.1
+          ∙ ap (λ (cs : List Condition). rows_reads v.files l.partitioner parts.0 (key_asked cs)) (ap (λ (d : Definition). map (condition_of d) rows.select.relations) parts_defined ∙ sym asks.filter)
+
       -- **The table that is printed is that of the layout.**
-      pub is_printed : (folder : Folder) × (v.files ≡ Some folder) × (x : TableParts) × IsTableOf folder l.partitioner types files (map (λ (m : MemtableView). m.partitions) maps) x × (answer_rows (state_of l) rows ≡ lines_of rows (table_of x).partitions)
-      is_printed =
+      pub is_printed : (q : Partitioner) → q ≡ listing.partitioner
+          → (folder : Folder) × (v.files ≡ Some folder) × (x : TableParts) × IsTableOf folder q types files (map (λ (m : MemtableView). m.partitions) maps) x × (rows_lines (rows_picked query.picked.key query.picked.columns (where_of query.filter) (entries (table_of x).partitions)) ≡ answer_rows (state_of l) rows)
+          × (selection_reads v.files l rows ≡ rows_reads v.files q x (key_asked query.filter))
+      is_printed q is_q =
           let told = told_files v serves.told in (
             told.0,
             told.1,
             parts.0,
-            record {
+            subst (λ (r : Partitioner). IsTableOf told.0 r types files (map (λ (m : MemtableView). m.partitions) maps) parts.0) (under q is_q) (record {
               types_are = has.types_are ∙ ap types_of (sym parts_defined);
               files_are = has.files_are ∙ listed_files ∙ parts_files;
               maps_are = parts_maps;
               have = shaped_at told.0 l.partitioner l.floor 1 (serves.older ++ serves.current ∷ []) l.tables at parts.0 (serves.shape told.0 (sound.reads told.0 told.1)).tables parts.1;
-            },
-            ap (λ (o : Option Table). option_map_or (λ (t : Table). lines_of rows t.partitions) o []) (map_there table_of l.tables at parts.0 parts.1),
+            }),
+            asks.lines (entries (table_of parts.0).partitions)
+                ∙ ap (λ (d : Definition). select_lines d rows.select (entries (table_of parts.0).partitions)) (sym parts_defined)
+                ∙ sym (ap (λ (o : Option Table). option_map_or (λ (t : Table). select_lines t.definition rows.select (entries t.partitions)) o []) (map_there table_of l.tables at parts.0 parts.1)),
+            reads_are ∙ ap (λ (r : Partitioner). rows_reads v.files r parts.0 (key_asked query.filter)) (under q is_q),
           )
 
   -- ---- damage

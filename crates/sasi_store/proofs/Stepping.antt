@@ -18,19 +18,22 @@ use Rattle.sasi_layout.specs.Moves.{Move, after_moves}
 use Rattle.sasi_layout.specs.Serving.{CanChange, Serves, StoreInMemory, known_in_memory}
 use Rattle.sasi_layout.specs.Shape.{HasShape}
 use Rattle.sasi_layout.specs.Spent.{spent}
-use Rattle.sasi_layout.specs.Statements.{moves_asked}
+use Rattle.sasi_layout.specs.Statements.{definitions_of, moves_asked}
 use Rattle.sasi_layout.specs.Worlds.{ServesWorld, World, steps}
 use Rattle.sasi_layout.specs.declared.number_kind.NumberKind.{NumberKind}
 use Rattle.sasi_machine.proofs.KnownStates.{knows}
+use Rattle.sasi_machine.specs.Classes as kits
 use Rattle.sasi_machine.specs.Outcome.{outcome_of}
 use Rattle.sasi_machine.specs.Prepares.{IsQuery, IsStateOf, SaysOne, SelectsRows, StepsTo}
 use Rattle.sasi_machine.specs.declared.prepared.Selection.{Selection}
 use Rattle.sasi_machine.specs.declared.outcome.Outcome.{Outcome}
 use Rattle.sasi_machine.specs.declared.outcome.Outcome.TheVariants.{Done}
 use Rattle.sasi_types.specs.declared.class.Class.{Class}
+use Rattle.sasi_types.specs.declared.kit_fault.KitFault.{KitFault}
+use Rattle.sasi_types.specs.declared.kit_fault.KitFault.TheVariants as kit_fault
+use Rattle.sasi_types.specs.declared.statement.Select.{Select}
 use Rattle.sasi_types.specs.declared.statement.Statement.{Statement}
 use Rattle.sasi_types.specs.declared.statement.Statement.TheVariants.{Query}
-use Rattle.sasi_manifest.specs.Edits.{files_of}
 use Rattle.sasi_model.specs.Abbreviations.{definitions}
 use Rattle.sasi_model.specs.Asked as ask
 use Rattle.sasi_model.specs.Asked.{Asked, asks, class_needed}
@@ -39,10 +42,11 @@ use Rattle.sasi_model.specs.Refusals.{Nothing, Refusal, Says, read}
 use Rattle.sasi_model.specs.State.{Definition, State, max_timestamp}
 use Rattle.sasi_model.specs.Step.{step}
 use Rattle.sasi_store.specs.Answers.{AnsweredButRows, NeedsNoFile}
-use Rattle.sasi_store.specs.Faults.{OnMissing, OnSpent, OnStepDamage, StepCauses}
+use Rattle.sasi_store.specs.Faults.{OnMissing, OnSpent, OnStepDamage, StepCauses, fault_of_kit}
+use Rattle.sasi_store.proofs.KnownClasses.{no_table_lacks}
 use Rattle.sasi_schema.specs.Numbers.{number_of_table}
 use Rattle.sasi_store.specs.MakesMoves.{MakesMoves}
-use Rattle.sasi_store.specs.Paging.{table_reads}
+use Rattle.sasi_store.specs.KeyLookups.{selection_reads}
 use Rattle.sasi_store.specs.Selects.{select_reads}
 use Rattle.sasi_store.specs.Steps.{StepPromises}
 use Rattle.sasi_store.specs.declared.fault.StepFault.{StepFault}
@@ -192,6 +196,12 @@ step_full kinds v sound old piece reply = step_not_made kinds v sound old piece 
     both : fault.OutOfMemory ≡ fault.Failed → ⊥
     both e = cc
 
+-- a piece isn't prepared for want of memory alone
+pub step_unprepared : (kinds : List Class) (v : View) (sound : IsSound v) (old : StoreInMemory) (piece : Piece) (reply : List ℕ) (f : KitFault) → KnowsClasses kinds old → kits.OnMissing (kits.TablesLack kinds old.definitions) f
+    → StepPromises kinds piece v v old old reply (Err (fault_of_kit f))
+step_unprepared kinds v sound old piece reply kit_fault.OutOfMemory known lacks = step_full kinds v sound old piece reply
+step_unprepared kinds v sound old piece reply (kit_fault.Missing class) known lacks = absurd (no_table_lacks kinds old.definitions known class lacks)
+
 pub step_missing : (kinds : List Class) (v : View) (sound : IsSound v) (old : StoreInMemory) (piece : Piece) (reply : List ℕ) (asked : Asked) (class : Class) → asks (known_in_memory old) piece ≡ asked → LacksNeeded kinds asked class
     → StepPromises kinds piece v v old old reply (Err (fault.AnalyzerMissing class))
 step_missing kinds v sound old piece reply asked class is lacks =
@@ -232,15 +242,19 @@ step_answered kinds v sound old piece reply outcome ready is steps_to = record {
 -- ---- a SELECT
 
 -- what it may read, by the number of the table that it names
-pub select_costs : (seen : Option Folder) (store : StoreInMemory) (s : State) (piece : Piece) (rows : Selection) → definitions s.tables ≡ store.definitions → SaysOne piece (λ statement. SelectsRows s statement rows)
-    → select_reads seen store (read piece) ≡ table_reads seen (files_of store.manifest.listing.tables rows.table)
-select_costs seen store s piece rows are (statement, says, in_order, selects) = ap (select_reads seen store) says ∙ by statement selects
+select_costs : (seen : Option Folder) (l : Layout) (s : State) (piece : Piece) (rows : Selection) → definitions s.tables ≡ definitions_of l → SaysOne piece (λ statement. SelectsRows s statement rows) → select_reads seen l (read piece) ≡ selection_reads seen l rows
+select_costs seen l s piece rows are (statement, says, in_order, selects) = ap (select_reads seen l) says ∙ by statement selects
   where
-    by : (statement : Statement) → SelectsRows s statement rows → select_reads seen store (Says statement) ≡ table_reads seen (files_of store.manifest.listing.tables rows.table)
+    by : (statement : Statement) → SelectsRows s statement rows → select_reads seen l (Says statement) ≡ selection_reads seen l rows
     by (Query select) selects =
-        ap (λ (o : Option ℕ). option_map_or (λ number. table_reads seen (files_of store.manifest.listing.tables number)) o 0)
-        (ap (number_of_table select.table) (sym are) ∙ selects.3)
+        ap (λ (o : Option ℕ). option_map_or (λ number. selection_reads seen l (record { table = number; select = select })) o 0)
+        (ap (number_of_table select.table) (sym are) ∙ ap (λ (q : Select). number_of_table q.table (definitions s.tables)) (sym selects.select_is) ∙ selects.has.named)
+        ∙ ap (λ (q : Select). selection_reads seen l (record { table = rows.table; select = q })) (sym selects.select_is)
     by statement selects = absurd selects
+
+pub select_within : (a b : View) (store : StoreInMemory) (s : State) (piece : Piece) (rows : Selection) → definitions s.tables ≡ store.definitions → SaysOne piece (λ statement. SelectsRows s statement rows)
+    → ((l : Layout) → Serves a store l → b.reads ≤ a.reads + selection_reads a.files l rows) → (w : World) → ServesWorld a store w → b.reads ≤ a.reads + select_reads a.files w.layout (read piece)
+select_within a b store s piece rows are says costs w serves = subst (λ (n : ℕ). b.reads ≤ a.reads + n) (sym (select_costs a.files w.layout s piece rows (are ∙ serves.definitions) says)) (costs w.layout serves)
 
 none_refused : (o : Option Refusal) → Done ≡ outcome_of o → o ≡ None
 none_refused None done = refl
@@ -290,10 +304,9 @@ module _ (kinds : List Class) (a b : View) (sound : IsSound a) (old : StoreInMem
 
   pub select_answered : {T : Type 0} (x : T) (reply : List ℕ) → CanChange a old → ((w : World) → ServesWorld a old w → (step (state_of w.layout) piece).reply ≡ reply)
       → ((s : State) → IsStateOf (known_in_memory old) s → ((step s piece).state ≡ s) × (Done ≡ outcome_of (step s piece).refused))
-      → (number : ℕ) → select_reads a.files old (read piece) ≡ table_reads a.files (files_of old.manifest.listing.tables number)
-      → ((l : Layout) → Serves a old l → b.reads ≤ a.reads + table_reads a.files (files_of old.manifest.listing.tables number))
+      → ((w : World) → ServesWorld a old w → b.reads ≤ a.reads + select_reads a.files w.layout (read piece))
       → StepCauses {T = T} a b (Ok x) → StepPromises kinds piece a b old old reply (Ok Done)
-  select_answered x reply ready replied steps_to number cost costs causes = record {
+  select_answered x reply ready replied steps_to costs causes = record {
     answers = λ w serves. record {
       serves = subst (λ (ms : List Move). Serves b old (after_moves ms w.layout)) (sym (moves_are a old piece ask.NoChange is w serves)) (serves_same a b change old w.layout serves);
       reply_is = sym (replied w serves);
@@ -318,16 +331,15 @@ module _ (kinds : List Class) (a b : View) (sound : IsSound a) (old : StoreInMem
     undamaged = λ w serves. tt;
     reads_only = λ none. change;
     unread = λ other. absurd (other query);
-    reads = λ w serves. subst (λ (n : ℕ). b.reads ≤ a.reads + n) (sym cost) (costs w.layout serves);
+    reads = costs;
     changes = any_change Same a b change;
     causes = record { disk = causes.disk; out = causes.out; ok = causes.ok; failed = tt; others = tt };
   }
 
   pub select_failed : {T : Type 0} (e : StepFault) (reply : List ℕ) → ((folder : Folder) → b.files ≡ Some folder → OnStepDamage (FolderShows folder) e) → ((l : Layout) → Serves a old l → OnStepDamage (λ _. ⊥) e) → OnSpent (λ _. ⊥) e → OnMissing (λ _. ⊥) e
-      → (number : ℕ) → select_reads a.files old (read piece) ≡ table_reads a.files (files_of old.manifest.listing.tables number)
-      → ((l : Layout) → Serves a old l → b.reads ≤ a.reads + table_reads a.files (files_of old.manifest.listing.tables number))
+      → ((w : World) → ServesWorld a old w → b.reads ≤ a.reads + select_reads a.files w.layout (read piece))
       → StepCauses {T = T} a b (Err e) → StepPromises kinds piece a b old old reply (Err e)
-  select_failed e reply damaged undamaged unspent present number cost costs causes = record {
+  select_failed e reply damaged undamaged unspent present costs causes = record {
     answers = tt;
     everywhere = tt;
     ready = tt;
@@ -341,7 +353,7 @@ module _ (kinds : List Class) (a b : View) (sound : IsSound a) (old : StoreInMem
     undamaged = λ w serves. undamaged w.layout serves;
     reads_only = λ none. change;
     unread = λ other. absurd (other query);
-    reads = λ w serves. subst (λ (n : ℕ). b.reads ≤ a.reads + n) (sym cost) (costs w.layout serves);
+    reads = costs;
     changes = any_change Same a b change;
     causes = record { disk = causes.disk; out = causes.out; ok = tt; failed = causes.failed; others = causes.others };
   }

@@ -25,6 +25,7 @@ use Rattle.sasi_dataread.specs.Opened.{IsOpenedAs, OpenDataFile}
 use Rattle.sasi_dataread.specs.Reads.{IsOpenOn, NoFalseDataDamage}
 use Rattle.sasi_dataread.specs.Scans.{DataScan, NoFalseOpenedDamage, ReadsNextPartition, StepsToPartition}
 use Rattle.sasi_manifest.specs.declared.files.ListedFile.{ListedFile}
+use Rattle.sasi_machine.proofs.Texts.{body_texts}
 use Rattle.sasi_merge.specs.Merging.{Head}
 use Rattle.sasi_merge.specs.Streams.{Entries, behind, head_of}
 use Rattle.sasi_store.specs.declared.source.Source.{Source}
@@ -101,14 +102,14 @@ body_keyed types kind key part first is =
     let same : is.key_typed.type ≡ kind = (let both : Some is.key_typed.type ≡ Some kind = sym is.key_typed.listed ∙ first in cc) in
     subst (λ (k : ColumnType). IsStored k key) same (value_stored is.key_typed.type key is.key_typed.value)
 
--- what is stepped to has a key of the type, and so have those behind
+-- what is stepped to can be printed, and so can those behind
 pub record Keyed (kind : ColumnType) (head : Head) (after : Source) : Type 0 where
   pub head_keyed : IsHeadKeyed kind head
   pub source_keyed : IsKeyed kind after
 
 head_in_file : (kind : ColumnType) (types : List ColumnType) (head : Head) → first_is types kind → IfSome head (λ one. IsBodyOf types one.1 one.2) → IsHeadKeyed kind head
 head_in_file kind types None first is = tt
-head_in_file kind types (Some one) first is = body_keyed types kind one.1 one.2 first is
+head_in_file kind types (Some one) first is = record { stored = body_keyed types kind one.1 one.2 first is; texts = body_texts types one.1 one.2 is }
 
 head_in_map : (kind : ColumnType) (es : Entries) → AllStored kind es → IsHeadKeyed kind (head_of es)
 head_in_map kind [] all = tt

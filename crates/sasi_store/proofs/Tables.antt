@@ -10,14 +10,14 @@ use Rattle.sasi_model.specs.Abbreviations.{Partitions, types_of}
 use Rattle.sasi_model.specs.State.{Definition}
 use Rattle.sasi_cells.specs.Maps.{merged}
 use Rattle.sasi_cells.proofs.Laws.Decorated.{same_maps}
-use Rattle.sasi_cells.specs.declared.picked.Picked.{Picked}
 use Rattle.sasi_host.specs.declared.fault.ReadFault.{ReadFault}
 use Rattle.sasi_host.specs.declared.fault.ReadFault.TheVariants as fault
 use Rattle.sasi_host.specs.Damages.{OnDamage}
 use Rattle.sasi_host.specs.Disk.{Changes, Same}
 use Rattle.sasi_host.specs.Names.{Folder}
 use Rattle.sasi_host.specs.View.{View}
-use Rattle.sasi_machine.specs.TableRows.{KeysStored}
+use Rattle.sasi_machine.specs.TableRows.{AreStored}
+use Rattle.sasi_machine.specs.declared.row_query.RowQuery.{RowQuery}
 use Rattle.sasi_datawrite.specs.Format.{Content}
 use Rattle.sasi_manifest.specs.declared.files.ListedFile.{ListedFile}
 use Rattle.sasi_memtable.specs.MemtableView.{MemtableView}
@@ -88,7 +88,7 @@ module _ (v w : View) (change : Changes Same v w) (types : List ColumnType) (fil
       subst (λ (o : Option Folder). P o heads_all sources_all) (sym (reads_same v w change))
       (subst (λ (hs : List Head). P v.files hs sources_all) (sym heads_are) (subst (λ (ss : List Source). P v.files (heads ++ map_heads ms) ss) (sym sources_are) is))
 
-  pub table_ready : (kind : ColumnType) → first_is types kind → AllByRecursion (λ (m : MemtableView). KeysStored kind m.partitions) ms → AreReady w.files kind heads_all sources_all
+  pub table_ready : (kind : ColumnType) → first_is types kind → AllByRecursion (λ (m : MemtableView). AreStored kind m.partitions) ms → AreReady w.files kind heads_all sources_all
   table_ready kind first stored =
       both_are (λ o hs ss. AreReady o kind hs ss)
       (ready_both v.files kind heads sources (map_heads ms) (map_sources ms) (opened_ready v.files types kind files heads sources first opened) (maps_ready v.files kind ms stored))
@@ -110,13 +110,13 @@ module _ (v w : View) (change : Changes Same v w) (types : List ColumnType) (fil
   here folder p contents told have = subst (λ (o : Option Folder). AreContents o p types files contents) (sym told) have
 
   -- the rows of the merge are those of the table
-  pub table_printed : (picked : Picked) (reply_old reply : List ℕ) (rows : ℕ) (folder : Folder) (p : Partitioner) (t : TableParts) → v.files ≡ Some folder → IsTableOf folder p types files (map (λ (m : MemtableView). m.partitions) ms) t
-      → ((q : Partitioner) (lefts : List Entries) → AreLeft w.files q heads_all sources_all lefts → AllByRecursion IsRising lefts → ArePrinted picked (merged_entries lefts) reply_old reply rows)
-      → ArePrinted picked (map_.entries (table_of t).partitions) reply_old reply rows
-  table_printed picked reply_old reply rows folder p t told is printed =
+  pub table_printed : (query : RowQuery) (reply_old reply : List ℕ) (rows : ℕ) (folder : Folder) (p : Partitioner) (t : TableParts) → v.files ≡ Some folder → IsTableOf folder p types files (map (λ (m : MemtableView). m.partitions) ms) t
+      → ((q : Partitioner) (lefts : List Entries) → AreLeft w.files q heads_all sources_all lefts → AllByRecursion IsRising lefts → ArePrinted query (merged_entries lefts) reply_old reply rows)
+      → ArePrinted query (map_.entries (table_of t).partitions) reply_old reply rows
+  table_printed query reply_old reply rows folder p t told is printed =
       let scanned = table_scanned folder p types files ms t is in
       let have = here folder p scanned.contents told scanned.have in
-      subst (λ (es : Entries). ArePrinted picked es reply_old reply rows) scanned.merge_is
+      subst (λ (es : Entries). ArePrinted query es reply_old reply rows) scanned.merge_is
       (printed p (map (entries_of p) scanned.contents ++ map_entries ms) (table_left p scanned.contents have) (table_rises p scanned.contents have))
 
   -- and where the files are those of the table, nothing is damaged

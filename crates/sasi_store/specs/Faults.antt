@@ -1,6 +1,8 @@
 -- Why a store makes no step.
 use Rattle.std.specs.Prelude.{◌≡◌, ◌≢◌, ◌≤◌, IfErr, OnOk, Result}
 use Rattle.sasi_types.specs.declared.class.Class.{Class}
+use Rattle.sasi_types.specs.declared.kit_fault.KitFault.{KitFault}
+use Rattle.sasi_types.specs.declared.kit_fault.KitFault.TheVariants as kit_fault
 use Rattle.sasi_host.specs.declared.damage.Damage.{Damage}
 use Rattle.sasi_host.specs.declared.fault.HostFault.{HostFault}
 use Rattle.sasi_host.specs.declared.fault.HostFault.TheVariants as host_fault
@@ -21,6 +23,11 @@ abbrev pub fault_of_read : ReadFault → StepFault
 fault_of_read read_fault.Failed = fault.Failed
 fault_of_read read_fault.OutOfMemory = fault.OutOfMemory
 fault_of_read (read_fault.Damaged damage) = fault.Damaged damage
+
+-- the fault of a step in which an analyzer failed
+abbrev pub fault_of_kit : KitFault → StepFault
+fault_of_kit kit_fault.OutOfMemory = fault.OutOfMemory
+fault_of_kit (kit_fault.Missing class) = fault.AnalyzerMissing class
 
 -- if it is corruption, it has P
 abbrev pub OnStepDamage : (Damage → Type 0) → StepFault → Type 0

@@ -7,11 +7,12 @@ use Rattle.sasi_model.specs.Abbreviations.{row_line}
 use Rattle.sasi_model.specs.Cells.{Partition}
 use Rattle.sasi_model.specs.State.{decorated}
 use Rattle.sasi_types.specs.declared.value.Value.{Value}
-use Rattle.sasi_cells.specs.declared.picked.Picked.{Picked}
 use Rattle.sasi_host.specs.Names.{Folder}
 use Rattle.sasi_datawrite.specs.Format.{Content}
 use Rattle.sasi_dataread.specs.Scans.{DataScan}
 use Rattle.sasi_machine.specs.TableRows.{rows_picked}
+use Rattle.sasi_machine.specs.Where.{where_of}
+use Rattle.sasi_machine.specs.declared.row_query.RowQuery.{RowQuery}
 use Rattle.sasi_merge.specs.Merging.{Head}
 use Rattle.sasi_merge.specs.Streams.{Entries, IsRising, behind, head_of, merged_entries}
 use Rattle.sasi_store.specs.Sources.{IsOpenIn}
@@ -49,24 +50,24 @@ AreLeft seen partitioner (head ∷ heads) (source ∷ sources) (left ∷ lefts) 
 
 -- ---- the printing of rows
 
-abbrev pub rows_of : Picked → Entries → List (List (Option Value))
-rows_of picked entries = rows_picked picked.key picked.columns entries
+abbrev pub rows_of : RowQuery → Entries → List (List (Option Value))
+rows_of query entries = rows_picked query.picked.key query.picked.columns (where_of query.filter) entries
 
--- the rows of these partitions were printed, so many
-pub record ArePrinted (picked : Picked) (entries : Entries) (reply_old reply_new : List ℕ) (rows : ℕ) : Type 0 where
-  pub reply_is : reply_new ≡ reply_old ++ flat_map row_line (rows_of picked entries)
-  pub rows_are : rows ≡ length (rows_of picked entries)
+-- the rows of these partitions that are asked for were printed, so many
+pub record ArePrinted (query : RowQuery) (entries : Entries) (reply_old reply_new : List ℕ) (rows : ℕ) : Type 0 where
+  pub reply_is : reply_new ≡ reply_old ++ flat_map row_line (rows_of query entries)
+  pub rows_are : rows ≡ length (rows_of query entries)
 
 -- the first partition of the merge was printed, and the sources have those behind it left
-pub record IsNextPrinted (seen : Option Folder) (partitioner : Partitioner) (picked : Picked) (lefts : List Entries) (heads : List Head) (sources : List Source) (reply_old reply_new : List ℕ) (rows : ℕ) : Type 0 where
+pub record IsNextPrinted (seen : Option Folder) (partitioner : Partitioner) (query : RowQuery) (lefts : List Entries) (heads : List Head) (sources : List Source) (reply_old reply_new : List ℕ) (rows : ℕ) : Type 0 where
   pub entry : DecoratedKey × Partition
   pub rest : List Entries
   pub gives : merged_entries lefts ≡ entry ∷ merged_entries rest
   pub left : AreLeft seen partitioner heads sources rest
   pub rising : AllByRecursion IsRising rest
-  pub printed : ArePrinted picked (entry ∷ []) reply_old reply_new rows
+  pub printed : ArePrinted query (entry ∷ []) reply_old reply_new rows
 
 -- or none is left
-abbrev pub PrintsNext : Option Folder → Partitioner → Picked → List Entries → List Head → List Source → List ℕ → List ℕ → Option ℕ → Type 0
-PrintsNext seen partitioner picked lefts heads sources reply_old reply_new None = (merged_entries lefts ≡ []) × (reply_new ≡ reply_old)
-PrintsNext seen partitioner picked lefts heads sources reply_old reply_new (Some rows) = IsNextPrinted seen partitioner picked lefts heads sources reply_old reply_new rows
+abbrev pub PrintsNext : Option Folder → Partitioner → RowQuery → List Entries → List Head → List Source → List ℕ → List ℕ → Option ℕ → Type 0
+PrintsNext seen partitioner query lefts heads sources reply_old reply_new None = (merged_entries lefts ≡ []) × (reply_new ≡ reply_old)
+PrintsNext seen partitioner query lefts heads sources reply_old reply_new (Some rows) = IsNextPrinted seen partitioner query lefts heads sources reply_old reply_new rows

@@ -1,4 +1,5 @@
 pub mod Faults
+pub mod Held
 pub mod StoreView
 pub mod Codes
 pub mod Answers
@@ -6,6 +7,7 @@ pub mod MakesMoves
 pub mod Puts
 pub mod Writable
 pub mod Selects
+pub mod KeyLookups
 pub mod Steps
 pub mod Floors
 pub mod Numbers

@@ -12,6 +12,7 @@ use Rattle.sasi_host.specs.Buffered.{IsBuffered}
 use Rattle.sasi_host.specs.Damages.{OnDamage}
 use Rattle.sasi_host.specs.View.{contents_in}
 use Rattle.sasi_body.specs.Body.{IsBodyOf}
+use Rattle.sasi_model.specs.Cells.{Partition}
 use Rattle.sasi_datawrite.specs.Files.{IsDataFile}
 use Rattle.sasi_datawrite.specs.Format.{Content}
 use Rattle.sasi_datawrite.specs.declared.footer.Footer.{Footer}
@@ -20,6 +21,7 @@ use Rattle.sasi_dataread.specs.HeaderAndFooter.{HasHeaderAndFooter}
 use Rattle.sasi_dataread.specs.Opened.{IsOpenedAs, OpenDataFile}
 use Rattle.sasi_dataread.specs.Scans.{DataScan, KeysAreBytes, StepsToPartition}
 use Rattle.sasi_manifest.specs.declared.files.ListedFile.{ListedFile}
+use Rattle.sasi_machine.specs.Where.{HasTexts}
 use Rattle.sasi_merge.specs.Merging.{Head, has_key}
 use Rattle.sasi_merge.specs.Streams.{Entries, behind, head_of}
 use Rattle.sasi_store.specs.declared.source.Source.{Source}
@@ -79,16 +81,21 @@ pub record ShowsListed (seen : Option Folder) (files : List ListedFile) (types :
 
 -- ---- all sources
 
--- the keys of a source are values of the type
+-- what a partition has to be, so that its row can be tested and printed: its key is a value of the type, and its texts are UTF-8
+pub record IsPrintable (kind : ColumnType) (key : List ℕ) (part : Partition) : Type 0 where
+  pub stored : IsStored kind key
+  pub texts : HasTexts part
+
+-- so are the partitions of a source
 abbrev pub AllStored : ColumnType → Entries → Type 0
-AllStored kind = AllByRecursion (λ entry. IsStored kind entry.0.key)
+AllStored kind = AllByRecursion (λ entry. IsPrintable kind entry.0.key entry.1)
 
 abbrev pub IsKeyed : ColumnType → Source → Type 0
 IsKeyed kind (File scan) = slice_get scan.opened.types 0 ≡ Some kind
 IsKeyed kind (Map left) = AllStored kind left
 
 abbrev pub IsHeadKeyed : ColumnType → Head → Type 0
-IsHeadKeyed kind head = IfSome head (λ one. IsStored kind one.1)
+IsHeadKeyed kind head = IfSome head (λ one. IsPrintable kind one.1 one.2)
 
 -- the sources can go on, and each has a head
 pub record AreReady (seen : Option Folder) (kind : ColumnType) (heads : List Head) (sources : List Source) : Type 0 where

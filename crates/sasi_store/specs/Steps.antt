@@ -38,6 +38,6 @@ pub record StepPromises (kinds : List Class) (piece : Piece) (a b : View) (old n
   pub undamaged : (w : World) → ServesWorld a old w → IfErr result (OnStepDamage (λ _. ⊥))
   pub reads_only : asks (known_in_memory old) piece ≡ NoChange → Changes Same a b
   pub unread : (IsQuery (read piece) → ⊥) → b.reads ≡ a.reads
-  pub reads : (w : World) → ServesWorld a old w → b.reads ≤ a.reads + select_reads a.files old (read piece)
+  pub reads : (w : World) → ServesWorld a old w → b.reads ≤ a.reads + select_reads a.files w.layout (read piece)
   pub changes : Changes AnyFolderChange a b
   pub causes : StepCauses a b result

@@ -8,6 +8,7 @@ use Rattle.sasi_layout.specs.Serving.{StoreInMemory}
 use Rattle.sasi_recover.specs.OpenedFolder.{opened_table, used_numbers}
 use Rattle.sasi_recover.specs.declared.opened.TableMap.{TableMap}
 use Rattle.sasi_schema.specs.Numbers.{RisesFrom}
+use Rattle.sasi_store.specs.Held.{AreMapped, HasRegularIndexes, Subject, held_of, subjects_of}
 use Rattle.sasi_store.specs.declared.parts.Parts.{Parts}
 
 pub record StoreView : Type 0 where
@@ -25,12 +26,16 @@ pub record IsReady (v : View) (store : StoreView) : Type 0 where
 
 -- ---- by its parts
 
+-- the tables with their maps
+abbrev pub held_in : Parts → List TableMap
+held_in p = held_of p.maps p.tables.items
+
 abbrev pub memory_of : Parts → StoreInMemory
 memory_of p = record {
   definitions = p.schema.definitions;
   manifest = p.manifest;
   log = p.log;
-  tables = map opened_table p.tables.items;
+  tables = map opened_table (held_in p);
   used = used_numbers p.numbers;
   max_timestamp = p.max_timestamp;
 }
@@ -40,5 +45,11 @@ pub record AreTables (partitioner : Partitioner) (tables : List TableMap) : Type
   pub numbers : RisesFrom 1 (map (λ (t : TableMap). t.number) tables)
   pub under : AllByRecursion (λ (t : TableMap). t.memtable.partitioner ≡ partitioner) tables
 
-abbrev pub IsOfParts : Parts → Type 0
-IsOfParts p = AreTables p.manifest.listing.partitioner p.tables.items
+-- the indexes that the map of each table has
+abbrev pub wanted_of : Parts → List (List Subject)
+wanted_of p = map subjects_of p.manifest.listing.tables
+
+pub record IsOfParts (p : Parts) : Type 0 where
+  pub tables : AreTables p.manifest.listing.partitioner (held_in p)
+  pub mapped : AreMapped p.maps p.last_map (wanted_of p) p.tables.items
+  pub regular : AllByRecursion HasRegularIndexes p.manifest.listing.tables

@@ -1,5 +1,5 @@
 // New tables.
-ghost use Rattle.std.specs.Prelude.{◌≡◌, ◌++◌, ◌∷◌, [], IfOk, OnOk};
+ghost use Rattle.std.specs.Prelude.{◌≡◌, ◌++◌, ◌∷◌, [], IfOk, OnOk, map};
 ghost use Rattle.sasi_layout.specs.Serving.{CanChange};
 ghost use Rattle.sasi_layout.specs.Statements.{moves_asked};
 ghost use Rattle.sasi_model.specs.Asked.{Creates};
@@ -10,6 +10,8 @@ ghost use Rattle.sasi_store.specs.Writable.{IsCreatable};
 
 use crate::StepFault;
 use crate::parts::Parts;
+use crate::table_maps::add_table;
+use sasi_analyzers::Kit;
 use sasi_host::{Host, SegmentNumber};
 use sasi_manifest::{Edit, EditList};
 use sasi_memtable::Memtable;
@@ -18,13 +20,19 @@ use sasi_schema::Table;
 use std::alloc::{AllocError, Global};
 
 /// Lists a table in the manifest, and creates it.
-pub fn create<H: Host>(parts: &mut Parts, host: &mut H, table: Table) -> Result<(), StepFault>
+pub fn create<H: Host>(
+    parts: &mut Parts,
+    host: &mut H,
+    kit: &mut Kit,
+    table: Table,
+) -> Result<(), StepFault>
     requires ready { CanChange (H.view host.old) (memory_of parts.old) }
     requires parts { IsOfParts parts.old }
     requires creatable { IsCreatable (memory_of parts.old) table }
     ensures makes { MakesMoves (λ l. moves_asked l (Creates (definition table))) (H.view host.old) (H.view host.new) (memory_of parts.old) (memory_of parts.new) result }
     ensures knows { OnOk result (Knows (memory_of parts.new) (parts.old.schema.definitions ++ definition table ∷ []) parts.old.max_timestamp) }
     ensures parts { OnOk result (IsOfParts parts.new) }
+    ensures kinds { map (λ b. kind (b.vtable, b.value)) kit.new.objects.items ≡ map (λ b. kind (b.vtable, b.value)) kit.old.objects.items }
 {
     let edits = create_edits(parts.alloc, &table, parts.manifest.listing().last)?;
     parts.manifest.append(host, &edits)?;
@@ -34,14 +42,14 @@ pub fn create<H: Host>(parts: &mut Parts, host: &mut H, table: Table) -> Result<
         first: None,
     };
     parts.schema.restore_table(table)?;
-    push(&mut parts.tables, new)?;
-    Ok(())
-}
-
-fn push(tables: &mut Vec<TableMap>, table: TableMap) -> Result<(), AllocError>
-    ensures { OnOk result (tables.new.items ≡ tables.old.items ++ table ∷ []) }
-{
-    tables.push(table)?;
+    add_table(
+        &mut parts.tables,
+        &mut parts.maps,
+        &mut parts.last_map,
+        kit,
+        new,
+        &[],
+    )?;
     Ok(())
 }
 

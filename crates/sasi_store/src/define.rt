@@ -15,6 +15,7 @@ ghost use Rattle.sasi_store.specs.Writable.{IsDefinable};
 
 use crate::StepFault;
 use crate::parts::Parts;
+use crate::table_maps::add_index;
 use sasi_analyzers::Kit;
 use sasi_host::Host;
 use sasi_layout::NumberKind;
@@ -36,18 +37,27 @@ pub fn check_class(kit: &Kit, index: &NewIndex) -> Result<(), Class>
 }
 
 /// Defines an index under the next number, and lists it in the manifest.
-pub fn define<H: Host>(parts: &mut Parts, host: &mut H, index: NewIndex) -> Result<(), StepFault>
+pub fn define<H: Host>(
+    parts: &mut Parts,
+    host: &mut H,
+    kit: &mut Kit,
+    index: NewIndex,
+) -> Result<(), StepFault>
     requires ready { CanChange (H.view host.old) (memory_of parts.old) }
     requires parts { IsOfParts parts.old }
     requires definable { IsDefinable (memory_of parts.old) index }
+    requires needed { HasNeeded (map (λ b. kind (b.vtable, b.value)) kit.old.objects.items) (class_needed (Defines index.table (index_of_new index))) }
     ensures makes { MakesMoves (λ l. moves_asked l (Defines index.table (index_of_new index))) (H.view host.old) (H.view host.new) (memory_of parts.old) (memory_of parts.new) result }
     ensures knows { OnOk result (Knows (memory_of parts.new) (at_number 1 index.table (with_index (index_of_new index)) parts.old.schema.definitions) parts.old.max_timestamp) }
     ensures parts { OnOk result (IsOfParts parts.new) }
+    ensures kinds { map (λ b. kind (b.vtable, b.value)) kit.new.objects.items ≡ map (λ b. kind (b.vtable, b.value)) kit.old.objects.items }
 {
     let number = next_index(parts.numbers.index)?;
     let def = index.numbered(number);
     let edits = define_edits(parts.alloc, &def)?;
     parts.manifest.append(host, &edits)?;
+    let map = parts.tables[def.table as usize - 1].memtable;
+    add_index(&mut parts.maps, kit, map, &def)?;
     parts.schema.restore_index(def)?;
     parts.numbers.index = number;
     Ok(())

@@ -4,7 +4,7 @@ ghost use Rattle.sasi_store.specs.declared.fault.StepFault.TheVariants.{Analyzer
 
 use sasi_host::{Damage, HostFault, ReadFault};
 use sasi_layout::NumberKind;
-use sasi_types::Class;
+use sasi_types::{Class, KitFault};
 use std::alloc::AllocError;
 
 /// Why a store makes no step.
@@ -24,6 +24,19 @@ impl From<Class> for StepFault {
 
     fn from(class: Class) -> StepFault {
         StepFault::AnalyzerMissing(class)
+    }
+}
+
+impl From<KitFault> for StepFault {
+    ghost use Rattle.sasi_store.specs.Faults.{fault_of_kit};
+
+    ghost from_gives = { λ fault f. f ≡ fault_of_kit fault };
+
+    fn from(fault: KitFault) -> StepFault {
+        match fault {
+            KitFault::OutOfMemory => StepFault::OutOfMemory,
+            KitFault::Missing(class) => StepFault::AnalyzerMissing(class),
+        }
     }
 }
 

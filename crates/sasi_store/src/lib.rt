@@ -9,6 +9,7 @@ mod fault;
 mod flush;
 mod flush_file;
 mod flush_table;
+mod key_lookup;
 mod map_scan;
 mod old_segments;
 mod parts;
@@ -18,6 +19,7 @@ mod source;
 mod sources;
 mod step;
 mod store;
+mod table_maps;
 mod write;
 
 pub use fault::StepFault;

@@ -1,5 +1,6 @@
 // Steps.
 ghost use Rattle.std.specs.Prelude.{◌≡◌, ◌<◌, ◌^◌, OnOk, map};
+ghost use Rattle.sasi_layout.specs.Classes.{KnowsClasses};
 ghost use Rattle.sasi_layout.specs.Serving.{CanChange, known_in_memory};
 ghost use Rattle.sasi_machine.specs.Prepares.{IsStateOf};
 ghost use Rattle.sasi_model.specs.Pieces.{piece_of};
@@ -31,6 +32,7 @@ pub fn step<H: Host>(
 ) -> Result<Outcome, StepFault>
     requires ready { CanChange (H.view host.old) (memory_of parts.old) }
     requires parts { IsOfParts parts.old }
+    requires classes { KnowsClasses (map (λ b. kind (b.vtable, b.value)) kit.old.objects.items) (memory_of parts.old) }
     ensures kinds { map (λ b. kind (b.vtable, b.value)) kit.new.objects.items ≡ map (λ b. kind (b.vtable, b.value)) kit.old.objects.items }
     ensures steps { StepPromises (map (λ b. kind (b.vtable, b.value)) kit.old.objects.items) (piece_of end piece.now) (H.view host.old) (H.view host.new) (memory_of parts.old) (memory_of parts.new) reply.new result }
     ensures no_file_call { (s : State) → IsStateOf (known_in_memory (memory_of parts.old)) s → NeedsNoFile s (piece_of end piece.now) → host.new ≡ host.old }
@@ -40,33 +42,34 @@ pub fn step<H: Host>(
         parts.alloc,
         &parts.schema,
         parts.max_timestamp,
+        kit,
         piece,
         end,
         reply,
     )? {
         Prepared::Answered(outcome) => Ok(outcome),
         Prepared::Create(table) => {
-            create(parts, host, table)?;
+            create(parts, host, kit, table)?;
             Ok(Outcome::Done)
         }
         Prepared::Define(index) => {
             note_number(index.table);
             note_column(index.column);
             check_class(kit, &index)?;
-            define(parts, host, index)?;
+            define(parts, host, kit, index)?;
             Ok(Outcome::Done)
         }
         Prepared::Write(mutation) => {
             note_number(mutation.table);
-            write(parts, host, mutation)?;
+            write(parts, host, kit, mutation)?;
             Ok(Outcome::Done)
         }
         Prepared::Flush(table) => {
-            flush_unless_empty(parts, host, table)?;
+            flush_unless_empty(parts, host, kit, table)?;
             Ok(Outcome::Done)
         }
         Prepared::Select(rows) => {
-            select(parts, host, &rows, reply)?;
+            select(parts, host, kit, &rows, reply)?;
             Ok(Outcome::Done)
         }
     }

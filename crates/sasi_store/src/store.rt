@@ -74,7 +74,7 @@ impl Store {
         ensures safe { OpensSafely asked (H.view host.old) (H.view host.new) }
         // An analyzer is there for each index.
         ensures classes { IfOk result (λ store. KnowsClasses (map (λ b. kind (b.vtable, b.value)) kit.old.objects.items) store.memory) }
-        ensures kit { kit.new ≡ kit.old }
+        ensures kinds { map (λ b. kind (b.vtable, b.value)) kit.new.objects.items ≡ map (λ b. kind (b.vtable, b.value)) kit.old.objects.items }
         ensures reports { ReportsTruly asked (map (λ b. kind (b.vtable, b.value)) kit.old.objects.items) (H.view host.old) result }
         // A folder that keeps another partitioner, or that needs an analyzer that isn't there, stays as it is.
         ensures untouched { IfErr result (OnDiffers (λ wanted kept. Changes Same (H.view host.old) (H.view host.new))) }
@@ -84,7 +84,7 @@ impl Store {
         ensures steps { IfOk result (λ store. store.steps ≡ 0) }
     {
         let opened = sasi_recover::open(alloc, host, kit, asked)?;
-        let Ok(parts) = parts_of(alloc, opened) else {
+        let Ok(parts) = parts_of(alloc, kit, opened) else {
             return Err(OpenFault::OutOfMemory);
         };
         Ok(Store {
@@ -122,7 +122,7 @@ impl Store {
         ensures no_file_call { (s : State) → IsStateOf (known_in_memory self.old.memory) s → NeedsNoFile s (piece_of end piece.now) → host.new ≡ host.old }
         ensures reads_only { asks (known_in_memory self.old.memory) (piece_of end piece.now) ≡ NoChange → Changes Same (H.view host.old) (H.view host.new) }
         ensures unread { (IsQuery (read (piece_of end piece.now)) → ⊥) → (H.view host.new).reads ≡ (H.view host.old).reads }
-        ensures reads { (w : World) → ServesWorld (H.view host.old) self.old.memory w → (H.view host.new).reads ≤ (H.view host.old).reads + select_reads (H.view host.old).files self.old.memory (read (piece_of end piece.now)) }
+        ensures reads { (w : World) → ServesWorld (H.view host.old) self.old.memory w → (H.view host.new).reads ≤ (H.view host.old).reads + select_reads (H.view host.old).files w.layout (read (piece_of end piece.now)) }
         ensures changes { Changes AnyFolderChange (H.view host.old) (H.view host.new) }
         ensures usable { self.new.usable ≡ is_ok result }
         ensures steps { self.new.steps ≡ counted self.old.steps }

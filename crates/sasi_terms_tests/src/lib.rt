@@ -8,4 +8,6 @@ mod gathering;
 #[cfg(test)]
 mod mem_indexes;
 #[cfg(test)]
+mod mem_ranges;
+#[cfg(test)]
 mod patterns;

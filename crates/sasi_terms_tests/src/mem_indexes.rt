@@ -49,7 +49,7 @@ fn add_index(rt: &impl Abort, book: &mut MapBook, def: &IndexDef, kit: &mut Kit)
 }
 
 /// A book whose map 1 is empty, with one index.
-fn book_of(
+pub fn book_of(
     rt: &impl Abort,
     alloc: Global,
     kind: ColumnType,
@@ -66,7 +66,7 @@ fn book_of(
 }
 
 /// A change of column 1: a value, or a tombstone where there is none.
-fn change_of(rt: &impl Abort, alloc: Global, time: u64, value: Option<Value>) -> Partition
+pub fn change_of(rt: &impl Abort, alloc: Global, time: u64, value: Option<Value>) -> Partition
     requires { 0 < time }
     ensures { value_at result 1 ≡ value }
 {
@@ -98,7 +98,7 @@ fn check_index(rt: &impl Abort, alloc: Global, index: &MemIndex, op: &Op, body: 
 }
 
 /// The index with this number of map 1 gives these keys.
-fn check_search(
+pub fn check_search(
     rt: &impl Abort,
     alloc: Global,
     book: &MapBook,
@@ -257,124 +257,6 @@ fn texts_are_found_by_their_current_terms(rt: HostRuntime) {
     check_lines(&rt, rt.alloc(), Rule::Words { fold: false }, WORDS);
 }
 
-// ---- numbers
-
-/// Writes a number at a key of one byte.
-fn write_number(
-    rt: &impl Abort,
-    alloc: Global,
-    book: &mut MapBook,
-    kind: ColumnType,
-    key: u8,
-    value: Value,
-    kit: &mut Kit,
-)
-    requires indexes { HasIndexes kind (fin.get book.old 1) }
-    requires value { IsValueOf kind value }
-    ensures { HasIndexes kind (fin.get book.new 1) }
-{
-    let key = Key::new(alloc, &[key]).expect(rt, "a key");
-    let change = change_of(rt, alloc, 1, Some(value));
-    book.put_from(1, key, change, kit).expect(rt, "memory");
-}
-
-// Keys with ints, and bounds with the keys of the ints from the one to the other.
-const INTS: [(u8, i32); 5] = [
-    (b'd', 7),
-    (b'a', i32::MIN),
-    (b'e', i32::MAX),
-    (b'c', 0),
-    (b'b', -1),
-];
-
-const INT_RANGES: [(i64, i64, &str); 9] = [
-    (i64::MIN, i64::MAX, "abcde"),
-    (i64::MIN, -2_147_483_649, ""),
-    (i64::MIN, -2_147_483_648, "a"),
-    (2_147_483_647, i64::MAX, "e"),
-    (2_147_483_648, i64::MAX, ""),
-    (-1, 0, "bc"),
-    (7, 7, "d"),
-    (1, 6, ""),
-    (7, 0, ""),
-];
-
-#[test]
-fn ints_are_found_between_bounds(rt: HostRuntime) {
-    let alloc = rt.alloc();
-    let mut kit = kit_of_both(&rt, alloc);
-    let mut book = book_of(&rt, alloc, ColumnType::Int, None, &mut kit);
-    for (key, number) in INTS {
-        write_number(
-            &rt,
-            alloc,
-            &mut book,
-            ColumnType::Int,
-            key,
-            Value::Int(number),
-            &mut kit,
-        );
-    }
-    for (least, greatest, want) in INT_RANGES {
-        check_search(
-            &rt,
-            alloc,
-            &book,
-            1,
-            &Op::Range { least, greatest },
-            b"",
-            want,
-        );
-    }
-}
-
-const BIGINTS: [(u8, i64); 5] = [
-    (b'd', 7),
-    (b'a', i64::MIN),
-    (b'e', i64::MAX),
-    (b'c', 0),
-    (b'b', -1),
-];
-
-const BIGINT_RANGES: [(i64, i64, &str); 7] = [
-    (i64::MIN, i64::MAX, "abcde"),
-    (i64::MIN, i64::MIN, "a"),
-    (i64::MIN + 1, 6, "bc"),
-    (i64::MAX, i64::MAX, "e"),
-    (8, i64::MAX - 1, ""),
-    (0, 7, "cd"),
-    (7, 0, ""),
-];
-
-#[test]
-fn bigints_are_found_between_bounds(rt: HostRuntime) {
-    let alloc = rt.alloc();
-    let mut kit = kit_of_both(&rt, alloc);
-    let mut book = book_of(&rt, alloc, ColumnType::BigInt, None, &mut kit);
-    for (key, number) in BIGINTS {
-        write_number(
-            &rt,
-            alloc,
-            &mut book,
-            ColumnType::BigInt,
-            key,
-            Value::BigInt(number),
-            &mut kit,
-        );
-    }
-    for (least, greatest, want) in BIGINT_RANGES {
-        check_search(
-            &rt,
-            alloc,
-            &book,
-            1,
-            &Op::Range { least, greatest },
-            b"",
-            want,
-        );
-    }
-}
-
 // ---- maps of a book
 
 #[test]
@@ -410,6 +292,14 @@ fn map_is_there_until_it_is_removed(rt: HostRuntime) {
     add_map(&rt, rt.alloc(), &mut book, 2);
     book.remove(1);
     assert!(rt; book.get(1).is_none() && book.get(2).is_some() && book.get(3).is_none());
+}
+
+#[test]
+fn indexes_of_a_map_are_listed(rt: HostRuntime) {
+    let mut kit = kit_of_both(&rt, rt.alloc());
+    let book = book_of(&rt, rt.alloc(), ColumnType::Int, None, &mut kit);
+    let part = book.get(1).expect(&rt, "a map");
+    assert!(rt; part.indexes.as_slice().len() == 1 && part.indexes.get(2).is_none());
 }
 
 /// An index whose class the kit lacks isn't added to map 1, which has a text.

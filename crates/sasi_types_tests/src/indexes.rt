@@ -62,7 +62,7 @@ fn words_of(rt: &impl Abort, alloc: Global, line: &str) -> Words {
 }
 
 /// Defines a table of these columns; the key is `k`.
-fn create_table(
+pub fn create_table(
     rt: &impl Abort,
     alloc: Global,
     schema: &mut Schema,
@@ -216,7 +216,7 @@ fn first_rule_that_applies_is_told(rt: HostRuntime) {
 }
 
 /// Defines the index of a line, which isn't refused.
-fn define(rt: &impl Abort, alloc: Global, schema: &mut Schema, line: &str) -> IndexNumber {
+pub fn define(rt: &impl Abort, alloc: Global, schema: &mut Schema, line: &str) -> IndexNumber {
     create(rt, alloc, schema, line).expect(rt, "an index")
 }
 

@@ -7,41 +7,41 @@ use Rattle.sasi_machine.proofs.StatementPreparing.{piece_asks, piece_prepares, p
 use Rattle.sasi_machine.proofs.preparing.prepare.Goals as goal
 
 pub returns-in-Nothing-clause-prepares : goal.returns-in-Nothing-clause-prepares
-returns-in-Nothing-clause-prepares c s of = nothing_steps s _ c.clear.new.self (sym c.in_ok-read.ensures.reads ∙ ap model_piece c.in-Nothing.is) c.clear.ensures
+returns-in-Nothing-clause-prepares g c s of = nothing_steps s _ c.clear.new.self (sym c.in_ok-read.ensures.reads ∙ ap model_piece c.in-Nothing.is) c.clear.ensures
 
 pub returns-in_ok-outcome-in-Bad-clause-prepares : goal.returns-in_ok-outcome-in-Bad-clause-prepares
-returns-in_ok-outcome-in-Bad-clause-prepares c s of =
+returns-in_ok-outcome-in-Bad-clause-prepares g c s of =
     bad_steps s _ (refusal_of c.in-Bad.refusal) c.clear.new.self c.reply_refusal.new.reply c.in_ok-outcome-in-Bad.outcome (sym c.in_ok-read.ensures.reads ∙ ap model_piece c.in-Bad.is) c.clear.ensures
     c.in_ok-outcome-in-Bad.ensures.reply c.in_ok-outcome-in-Bad.ensures.outcome
 
 pub returns-in-Says-clause-prepares : goal.returns-in-Says-clause-prepares
-returns-in-Says-clause-prepares c =
+returns-in-Says-clause-prepares g c =
     piece_prepares (known_by c.args.schema.now c.args.max_timestamp) _ c.in-Says.statement c.clear.new.self c.prepare_statement.new.reply c.prepare_statement.result
-    (sym c.in_ok-read.ensures.reads ∙ ap model_piece c.in-Says.is) (subst IsReadFrom c.in-Says.is c.in_ok-read.ensures.written).0 c.clear.ensures c.prepare_statement.ensures
+    (sym c.in_ok-read.ensures.reads ∙ ap model_piece c.in-Says.is) (subst IsReadFrom c.in-Says.is c.in_ok-read.ensures.written).0 c.clear.ensures c.prepare_statement.ensures.prepares
 
 pub returns-in-Says-clause-asked : goal.returns-in-Says-clause-asked
-returns-in-Says-clause-asked c =
+returns-in-Says-clause-asked g c =
     piece_asks (known_by c.args.schema.now c.args.max_timestamp) _ c.in-Says.statement c.clear.new.self c.prepare_statement.new.reply c.prepare_statement.result
-    (sym c.in_ok-read.ensures.reads ∙ ap model_piece c.in-Says.is) c.prepare_statement.ensures
+    (sym c.in_ok-read.ensures.reads ∙ ap model_piece c.in-Says.is) c.prepare_statement.ensures.prepares
 
 pub returns-in-Nothing-clause-timeless : goal.returns-in-Nothing-clause-timeless
-returns-in-Nothing-clause-timeless c = λ none. absurd none
+returns-in-Nothing-clause-timeless g c = λ none. absurd none
 
 pub returns-in_ok-outcome-in-Bad-clause-timeless : goal.returns-in_ok-outcome-in-Bad-clause-timeless
-returns-in_ok-outcome-in-Bad-clause-timeless c = λ none. absurd none
+returns-in_ok-outcome-in-Bad-clause-timeless g c = λ none. absurd none
 
 pub returns-in-Says-clause-timeless : goal.returns-in-Says-clause-timeless
-returns-in-Says-clause-timeless c =
+returns-in-Says-clause-timeless g c =
     piece_timeless (known_by c.args.schema.now c.args.max_timestamp) _ c.in-Says.statement c.clear.new.self c.prepare_statement.new.reply c.prepare_statement.result
-    (sym c.in_ok-read.ensures.reads ∙ ap model_piece c.in-Says.is) (subst IsReadFrom c.in-Says.is c.in_ok-read.ensures.written).0 c.clear.ensures c.prepare_statement.ensures
+    (sym c.in_ok-read.ensures.reads ∙ ap model_piece c.in-Says.is) (subst IsReadFrom c.in-Says.is c.in_ok-read.ensures.written).0 c.clear.ensures c.prepare_statement.ensures.prepares
 
 pub returns-in-Nothing-clause-selects : goal.returns-in-Nothing-clause-selects
-returns-in-Nothing-clause-selects c = λ none. absurd none
+returns-in-Nothing-clause-selects g c = λ none. absurd none
 
 pub returns-in_ok-outcome-in-Bad-clause-selects : goal.returns-in_ok-outcome-in-Bad-clause-selects
-returns-in_ok-outcome-in-Bad-clause-selects c = λ none. absurd none
+returns-in_ok-outcome-in-Bad-clause-selects g c = λ none. absurd none
 
 pub returns-in-Says-clause-selects : goal.returns-in-Says-clause-selects
-returns-in-Says-clause-selects c =
+returns-in-Says-clause-selects g c =
     piece_selects (known_by c.args.schema.now c.args.max_timestamp) _ c.in-Says.statement c.clear.new.self c.prepare_statement.new.reply c.prepare_statement.result
-    (sym c.in_ok-read.ensures.reads ∙ ap model_piece c.in-Says.is) c.prepare_statement.ensures
+    (sym c.in_ok-read.ensures.reads ∙ ap model_piece c.in-Says.is) c.prepare_statement.ensures.prepares

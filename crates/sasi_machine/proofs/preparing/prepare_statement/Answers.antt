@@ -4,22 +4,7 @@ use Rattle.sasi_machine.specs.Prepares.{IsPreparedFor, known_by}
 use Rattle.sasi_machine.proofs.StatementPreparing.{for_any}
 use Rattle.sasi_machine.proofs.preparing.prepare_statement.Goals as goal
 
-pub returns-in-CreateTable : goal.returns-in-CreateTable
-returns-in-CreateTable c =
-    subst (λ (statement : Statement). IfOk c.prepare_table.result (IsPreparedFor (known_by c.args.schema.now c.args.builder.now.max_timestamp) statement c.args.reply.now c.prepare_table.new.reply)) (sym c.in-CreateTable.is)
-    (for_any (known_by c.args.schema.now c.args.builder.now.max_timestamp) _ c.args.reply.now c.prepare_table.new.reply c.prepare_table.result c.prepare_table.ensures)
-
-pub returns-in-Query : goal.returns-in-Query
-returns-in-Query c =
+pub returns-in-Query-clause-prepares : goal.returns-in-Query-clause-prepares
+returns-in-Query-clause-prepares g c =
     subst (λ (statement : Statement). IfOk c.prepare_select.result (IsPreparedFor (known_by c.args.schema.now c.args.builder.now.max_timestamp) statement c.args.reply.now c.prepare_select.new.reply)) (sym c.in-Query.is)
-    (for_any (known_by c.args.schema.now c.args.builder.now.max_timestamp) _ c.args.reply.now c.prepare_select.new.reply c.prepare_select.result c.prepare_select.ensures)
-
-pub returns-in-Flush : goal.returns-in-Flush
-returns-in-Flush c =
-    subst (λ (statement : Statement). IfOk c.prepare_flush.result (IsPreparedFor (known_by c.args.schema.now c.args.builder.now.max_timestamp) statement c.args.reply.now c.prepare_flush.new.reply)) (sym c.in-Flush.is)
-    (for_any (known_by c.args.schema.now c.args.builder.now.max_timestamp) _ c.args.reply.now c.prepare_flush.new.reply c.prepare_flush.result c.prepare_flush.ensures)
-
-pub returns-in-CreateIndex : goal.returns-in-CreateIndex
-returns-in-CreateIndex c =
-    subst (λ (statement : Statement). IfOk c.prepare_index.result (IsPreparedFor (known_by c.args.schema.now c.args.builder.now.max_timestamp) statement c.args.reply.now c.prepare_index.new.reply)) (sym c.in-CreateIndex.is)
-    (for_any (known_by c.args.schema.now c.args.builder.now.max_timestamp) _ c.args.reply.now c.prepare_index.new.reply c.prepare_index.result (rw c.as_ref.ensures.value at (c.prepare_index.ensures c.in-CreateIndex.stepped)))
+    (for_any (known_by c.args.schema.now c.args.builder.now.max_timestamp) _ c.args.reply.now c.prepare_select.new.reply c.prepare_select.result c.prepare_select.ensures.prepares)

@@ -89,7 +89,7 @@ returns-clause-causes g c =
       agrees = rw c.in-Some.ensures.asked at c.in-Ok.ensures.reports.differs;
       complete = c.in-Ok.ensures.reports.lacks;
     })
-    (rw c.open.ensures.kit at c.run_store.ensures.runs)
+    (rw c.open.ensures.kinds at c.run_store.ensures.runs)
     (calls_behind c.run_store.result script script _ _ (g.H.Host.view c.open.new.host) _
     (opened_calls c.in-Ok.store script _ _ c.in-Ok.ensures.causes c.open.ensures.safe.changes.told) c.run_store.ensures.calls)
     c.run_store.ensures.damage c.run_store.ensures.of_store)

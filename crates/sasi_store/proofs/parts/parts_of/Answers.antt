@@ -1,12 +1,46 @@
-use Rattle.std.proofs.Common.{List, ap, ◌∙◌}
+use Rattle.std.proofs.Common.{◌≡◌, [], List, map, sym, subst, ap, ◌∙◌}
+use Rattle.std.specs.List.{AllByRecursion}
+use Rattle.sasi_layout.specs.Classes.{KnowsIndexes}
+use Rattle.sasi_manifest.specs.ListedDefinition.{ListedDefinition}
+use Rattle.sasi_manifest.specs.ListedTables.{listed}
 use Rattle.sasi_manifest.specs.declared.listing.Listing.{Listing}
 use Rattle.sasi_manifest.specs.Listings.{listed_definitions}
-use Rattle.sasi_model.specs.State.{Definition}
-use Rattle.sasi_recover.specs.OpenedFolder.{opened_store}
+use Rattle.sasi_memindex.specs.Book.{Book}
+use Rattle.sasi_recover.specs.OpenedFolder.{opened_store, opened_table}
+use Rattle.sasi_recover.specs.ReplayState.{AreMapsFrom}
+use Rattle.sasi_recover.specs.declared.opened.TableMap.{TableMap}
+use Rattle.sasi_store.specs.Held.{AreMapped, HasRegularIndexes, Subject, subjects_of}
+use Rattle.sasi_store.specs.StoreView.{AreTables}
 use Rattle.sasi_store.proofs.ListedSchema.{seen_definitions}
+use Rattle.sasi_store.proofs.OpenedMaps.{can_open, mapped_none, rows_regular, rows_wanted}
+use Rattle.sasi_store.proofs.TablesInMemory.{opened_tables}
 use Rattle.sasi_store.proofs.parts.parts_of.Goals as goal
 
+pub add_tables-requires-clause-mapped : goal.add_tables-requires-clause-mapped
+add_tables-requires-clause-mapped g c = subst (λ (book : Book). AreMapped book 0 [] []) (sym c.new-maps.ensures) (mapped_none 0)
+
+pub add_tables-requires-clause-can : goal.add_tables-requires-clause-can
+add_tables-requires-clause-can g c =
+    let k = c.args.opened.manifest.listing in
+    let rows : map listed c.as_slice-listed.result.now ≡ k.tables = c.as_slice-listed.ensures.tables ∙ ap (λ (l : Listing). l.tables) c.listing.ensures.listing in
+    can_open (map (λ b. (goal.Analyzer-dyn g (b.vtable, b.value)).kind b.value) c.args.kit.now.objects.items) k.partitioner k.floor k.last 1 c.as_slice-listed.result.now c.args.opened.tables.items
+    (subst (λ (ts : List ListedDefinition). AreMapsFrom k.partitioner k.floor k.last 1 ts c.args.opened.tables.items) (sym rows) c.requires.maps)
+    (subst (λ (ts : List ListedDefinition). AllByRecursion (KnowsIndexes (map (λ b. (goal.Analyzer-dyn g (b.vtable, b.value)).kind b.value) c.args.kit.now.objects.items)) (listed_definitions ts)) (sym rows) c.requires.classes)
+
 pub returns-clause-memory : goal.returns-clause-memory
-returns-clause-memory c =
-    let listed = c.as_slice.ensures.tables ∙ ap (λ (l : Listing). l.tables) c.listing.ensures.listing in
-    ap (λ (ds : List Definition). record (opened_store c.args.opened) { definitions = ds }) (c.in_ok-schema.ensures ∙ seen_definitions c.as_slice.result.now ∙ ap listed_definitions listed)
+returns-clause-memory g c =
+    let opened = c.args.opened in
+    let rows = c.as_slice-listed.ensures.tables ∙ ap (λ (l : Listing). l.tables) c.listing.ensures.listing in
+    let definitions = c.in_ok-schema.ensures ∙ seen_definitions c.as_slice-listed.result.now ∙ ap listed_definitions rows in
+    let held = c.in_ok-add_tables.ensures.held in
+    λ i. record (opened_store opened) { definitions = definitions i; tables = map opened_table (held i) }
+
+pub returns-clause-parts : goal.returns-clause-parts
+returns-clause-parts g c =
+    let opened = c.args.opened in
+    let rows : map listed c.as_slice-listed.result.now ≡ opened.manifest.listing.tables = c.as_slice-listed.ensures.tables ∙ ap (λ (l : Listing). l.tables) c.listing.ensures.listing in
+    record {
+      tables = subst (λ (xs : List TableMap). AreTables opened.manifest.listing.partitioner xs) (sym c.in_ok-add_tables.ensures.held) (opened_tables opened.manifest.listing opened.tables.items c.requires.maps);
+      mapped = subst (λ (w : List (List Subject)). AreMapped c.add_tables.new.maps c.add_tables.new.last w c.add_tables.new.tables.items) (sym (rows_wanted c.as_slice-listed.result.now) ∙ ap (map subjects_of) rows) c.in_ok-add_tables.ensures.mapped;
+      regular = subst (AllByRecursion HasRegularIndexes) rows (rows_regular c.as_slice-listed.result.now);
+    }

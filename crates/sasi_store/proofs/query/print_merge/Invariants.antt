@@ -1,4 +1,4 @@
-use Rattle.std.proofs.Common.{◌≡◌, ◌≤◌, List}
+use Rattle.std.proofs.Common.{◌≡◌, ◌≤◌, List, map}
 use Rattle.std.specs.List.{AllByRecursion}
 use Rattle.sasi_types.specs.declared.column.ColumnType.{ColumnType}
 use Rattle.sasi_types.specs.declared.partitioner.Partitioner.{Partitioner}
@@ -17,9 +17,10 @@ invariant-loop-turn g l =
     let view = g.H.Host.view in
     let seen = (view l.fn.host).files in
     record {
-      ready : AreReady seen l.picked.key l.heads l.sources.items;
-      printing : (partitioner : Partitioner) (lefts : List Entries) → AreLeft seen partitioner l.fn.heads l.fn.sources.items lefts → AllByRecursion IsRising lefts → IsPrinting seen partitioner l.picked lefts l.heads l.sources.items l.fn.reply l.reply l.rows;
+      ready : AreReady seen l.query.picked.key l.heads l.sources.items;
+      printing : (partitioner : Partitioner) (lefts : List Entries) → AreLeft seen partitioner l.fn.heads l.fn.sources.items lefts → AllByRecursion IsRising lefts → IsPrinting seen partitioner l.query lefts l.heads l.sources.items l.fn.reply l.reply l.rows;
       listed : (files : List ListedFile) (types : List ColumnType) → AllByRecursion (IsListedSource seen files types) l.fn.sources.items → AllByRecursion (IsListedSource seen files types) l.sources.items;
+      kinds : map (λ b. (goal.Analyzer-dyn g (b.vtable, b.value)).kind b.value) l.kit.objects.items ≡ map (λ b. (goal.Analyzer-dyn g (b.vtable, b.value)).kind b.value) l.fn.kit.objects.items;
       few : l.rows ≤ l._turn;
       reads : (partitioner : Partitioner) → MovesReading seen partitioner l.fn.sources.items l.sources.items (view l.fn.host).reads (view l.host).reads;
       changes : Changes Same (view l.fn.host) (view l.host);

@@ -20,11 +20,11 @@ returns-in_err-open_files-clause-undamaged g c =
     let p = err_from_is_err_and c.from_residual.result c.from_residual.ensures.1 in
     rw (p.1, p.2) (no_false_opening_table (view c.args.host.now) c.args.types.now c.args.files.now (map (λ (m : MemtableView). m.partitions) c.args.maps.now) c.args.maps.now c.in_err-open_files.field-0.0 refl c.in_err-open_files.ensures.undamaged)
 
-pub print_merge-requires : goal.print_merge-requires
-print_merge-requires g c =
+pub print_merge-requires-clause-ready : goal.print_merge-requires-clause-ready
+print_merge-requires-clause-ready g c =
     let view = g.H.Host.view in
     table_ready (view c.args.host.now) (view c.open_files.new.host) c.open_files.ensures.changes c.args.types.now c.args.files.now c.args.maps.now c.open_files.new.heads c.open_files.new.sources.items c.add_maps.new.heads c.add_maps.new.sources.items
-    c.in_ok-open_files.ensures.opened c.in_ok-add_maps.ensures.heads c.in_ok-add_maps.ensures.sources c.args.picked.now.key c.requires.key c.requires.stored
+    c.in_ok-open_files.ensures.opened c.in_ok-add_maps.ensures.heads c.in_ok-add_maps.ensures.sources c.args.query.now.picked.key c.requires.key c.requires.stored
 
 pub returns-in_err-rows-clause-damaged : goal.returns-in_err-rows-clause-damaged
 returns-in_err-rows-clause-damaged g c =
@@ -59,9 +59,9 @@ pub returns-clause-ok : goal.returns-clause-ok
 returns-clause-ok g c folder partitioner t told is =
     let view = g.H.Host.view in
     let es = map_.entries (table_of t).partitions in
-    answer_is c.args.picked.now es es c.args.reply.now c.print_merge.new.reply c.count.new.self c.in_ok-rows.rows refl
+    answer_is c.args.query.now es es c.args.reply.now c.print_merge.new.reply c.count.new.self c.in_ok-rows.rows refl
     (table_printed (view c.args.host.now) (view c.open_files.new.host) c.open_files.ensures.changes c.args.types.now c.args.files.now c.args.maps.now c.open_files.new.heads c.open_files.new.sources.items c.add_maps.new.heads c.add_maps.new.sources.items
-    c.in_ok-open_files.ensures.opened c.in_ok-add_maps.ensures.heads c.in_ok-add_maps.ensures.sources c.args.picked.now c.args.reply.now c.print_merge.new.reply c.in_ok-rows.rows folder partitioner t told is c.in_ok-rows.ensures.ok)
+    c.in_ok-open_files.ensures.opened c.in_ok-add_maps.ensures.heads c.in_ok-add_maps.ensures.sources c.args.query.now c.args.reply.now c.print_merge.new.reply c.in_ok-rows.rows folder partitioner t told is c.in_ok-rows.ensures.ok)
     c.in_ok-count.ensures.ok
 
 pub returns-clause-changes : goal.returns-clause-changes

@@ -2,23 +2,26 @@ use Rattle.std.proofs.Common.{◌++◌, List, ℕ, ap, map, subst, sym, ◌∙�
 use Rattle.std.proofs.lemmas.Result.{err_from_is_err_and}
 use Rattle.sasi_cells.specs.Mutations.{state_with_mutation}
 use Rattle.sasi_layout.proofs.ClassLaws.{known_created, known_defined}
+use Rattle.sasi_layout.specs.Classes.{HasNeeded, KnowsClasses, LacksNeeded}
 use Rattle.sasi_layout.specs.Layout.{state_of}
-use Rattle.sasi_machine.specs.Prepares.{answer_rows}
+use Rattle.sasi_machine.specs.Prepares.{SelectsRows, answer_rows}
 use Rattle.sasi_model.specs.Asked as ask
+use Rattle.sasi_model.specs.Asked.{class_needed}
 use Rattle.sasi_model.specs.Changes.{state_with_index, with_new_table}
 use Rattle.sasi_model.specs.Pieces.{piece_of}
 use Rattle.sasi_schema.specs.Defined.{definition}
 use Rattle.sasi_schema.specs.SchemaViews.{index_of_new}
+use Rattle.sasi_types.specs.declared.class.Class.{Class}
 use Rattle.sasi_store.specs.StoreView.{memory_of}
 use Rattle.sasi_store.proofs.Known.{created_state, defined_state, known_after, known_as, written_state}
 use Rattle.sasi_store.proofs.Prepared.{HasPrepared, blank, blank_definitions, creatable, definable, has_table_for, new_unindexed, selectable, writable}
-use Rattle.sasi_store.proofs.Stepping.{select_answered, select_costs, select_failed, state_is, step_answered, step_failed, step_full, step_made, step_missing}
+use Rattle.sasi_store.proofs.Stepping.{needs_more, select_answered, select_failed, select_within, state_is, step_answered, step_failed, step_made, step_missing, step_unprepared}
 use Rattle.sasi_store.proofs.step.step.Goals as goal
 
 pub returns-in_err-outcome-clause-steps : goal.returns-in_err-outcome-clause-steps
 returns-in_err-outcome-clause-steps g c =
     let p = err_from_is_err_and c.from_residual.result c.from_residual.ensures.1 in
-    rw (p.1, p.2) (step_full (map (λ b. (goal.Analyzer-dyn g (b.vtable, b.value)).kind b.value) c.args.kit.now.objects.items) (g.H.Host.view c.args.host.now) (g.met.H.Host.sound c.args.host.now) (memory_of c.args.parts.now) (piece_of c.args.end c.args.piece.now) c.prepare.new.reply)
+    rw (p.1, p.2) (step_unprepared (map (λ b. (goal.Analyzer-dyn g (b.vtable, b.value)).kind b.value) c.args.kit.now.objects.items) (g.H.Host.view c.args.host.now) (g.met.H.Host.sound c.args.host.now) (memory_of c.args.parts.now) (piece_of c.args.end c.args.piece.now) c.prepare.new.reply c.in_err-outcome.field-0.0 c.requires.classes c.in_err-outcome.ensures.missing)
 
 pub returns-in-Answered-clause-steps : goal.returns-in-Answered-clause-steps
 returns-in-Answered-clause-steps g c =
@@ -40,6 +43,9 @@ create-requires-clause-creatable g c =
     let has = subst (HasPrepared parts piece c.prepare.new.reply) c.in-Create.is all in
     creatable v parts c.requires.ready c.in-Create.table piece c.prepare.new.reply (has.timeless tt (blank v parts c.requires.ready) (blank_definitions v parts c.requires.ready))
 
+pub write-requires-clause-classes : goal.write-requires-clause-classes
+write-requires-clause-classes g c = subst (λ (kinds : List Class). KnowsClasses kinds (memory_of c.args.parts.now)) (sym c.prepare.ensures.kinds) c.requires.classes
+
 pub write-requires-clause-writable : goal.write-requires-clause-writable
 write-requires-clause-writable g c =
     let v = g.H.Host.view c.args.host.now in
@@ -50,6 +56,9 @@ write-requires-clause-writable g c =
     let has = subst (HasPrepared parts piece c.prepare.new.reply) c.in-Write.is all in
     writable v parts c.requires.ready c.in-Write.mutation piece c.prepare.new.reply c.note_number-in-Write.ensures has.asked has.prepares
 
+pub flush_unless_empty-requires-clause-classes : goal.flush_unless_empty-requires-clause-classes
+flush_unless_empty-requires-clause-classes g c = subst (λ (kinds : List Class). KnowsClasses kinds (memory_of c.args.parts.now)) (sym c.prepare.ensures.kinds) c.requires.classes
+
 pub flush_unless_empty-requires-clause-there : goal.flush_unless_empty-requires-clause-there
 flush_unless_empty-requires-clause-there g c =
     let v = g.H.Host.view c.args.host.now in
@@ -59,6 +68,9 @@ flush_unless_empty-requires-clause-there g c =
     let all : HasPrepared parts piece c.prepare.new.reply c.in_ok-outcome.field-0 = record { asked = e.asked; prepares = e.prepares; timeless = e.timeless; selects = e.selects } in
     let has = subst (HasPrepared parts piece c.prepare.new.reply) c.in-Flush.is all in
     has_table_for v parts c.requires.ready c.in-Flush.table (has.timeless tt (blank v parts c.requires.ready) (blank_definitions v parts c.requires.ready)).2
+
+pub select-requires-clause-classes : goal.select-requires-clause-classes
+select-requires-clause-classes g c = subst (λ (kinds : List Class). KnowsClasses kinds (memory_of c.args.parts.now)) (sym c.prepare.ensures.kinds) c.requires.classes
 
 pub select-requires-clause-there : goal.select-requires-clause-there
 select-requires-clause-there g c =
@@ -153,8 +165,8 @@ returns-in_err-select-in-Select-clause-steps g c =
     let p = err_from_is_err_and c.from_residual-in_err-select-in-Select.result c.from_residual-in_err-select-in-Select.ensures.1 in
     let i = c.in_err-select-in-Select.ensures in
     let prepared = has.timeless tt (blank v parts c.requires.ready) (blank_definitions v parts c.requires.ready) in
-    rw (p.1, p.2) (select_failed (map (λ b. (goal.Analyzer-dyn g (b.vtable, b.value)).kind b.value) c.args.kit.now.objects.items) v (g.H.Host.view c.select.new.host) (g.met.H.Host.sound c.args.host.now) (memory_of parts) piece c.select.ensures.changes has.asked (has.selects tt) _ c.select.new.reply i.damaged i.undamaged i.unspent i.present c.in-Select.rows.table
-    (select_costs v.files (memory_of parts) (blank v parts c.requires.ready) piece c.in-Select.rows (blank_definitions v parts c.requires.ready) prepared.3) c.select.ensures.reads i.causes)
+    rw (p.1, p.2) (select_failed (map (λ b. (goal.Analyzer-dyn g (b.vtable, b.value)).kind b.value) c.args.kit.now.objects.items) v (g.H.Host.view c.select.new.host) (g.met.H.Host.sound c.args.host.now) (memory_of parts) piece c.select.ensures.changes has.asked (has.selects tt) _ c.select.new.reply i.damaged i.undamaged i.unspent i.present
+    (select_within v (g.H.Host.view c.select.new.host) (memory_of parts) (blank v parts c.requires.ready) piece c.in-Select.rows (blank_definitions v parts c.requires.ready) prepared.3 c.select.ensures.reads) i.causes)
 
 pub returns-in_ok-select-in-Select-clause-steps : goal.returns-in_ok-select-in-Select-clause-steps
 returns-in_ok-select-in-Select-clause-steps g c =
@@ -168,8 +180,8 @@ returns-in_ok-select-in-Select-clause-steps g c =
     let prepared = has.timeless tt (blank v parts c.requires.ready) (blank_definitions v parts c.requires.ready) in
     select_answered (map (λ b. (goal.Analyzer-dyn g (b.vtable, b.value)).kind b.value) c.args.kit.now.objects.items) v (g.H.Host.view c.select.new.host) (g.met.H.Host.sound c.args.host.now) (memory_of parts) piece c.select.ensures.changes has.asked (has.selects tt) _ c.select.new.reply c.requires.ready
     (λ w serves. (has.prepares (state_of w.layout) (state_is v (memory_of parts) w.layout serves)).0.reply_is ∙ sym (i.ok w.layout serves ∙ ap (λ (front : List ℕ). front ++ answer_rows (state_of w.layout) c.in-Select.rows) prepared.1))
-    (λ s of. let to = (has.prepares s of).0 in (to.state_is, to.outcome_is)) c.in-Select.rows.table
-    (select_costs v.files (memory_of parts) (blank v parts c.requires.ready) piece c.in-Select.rows (blank_definitions v parts c.requires.ready) prepared.3) c.select.ensures.reads i.causes
+    (λ s of. let to = (has.prepares s of).0 in (to.state_is, to.outcome_is))
+    (select_within v (g.H.Host.view c.select.new.host) (memory_of parts) (blank v parts c.requires.ready) piece c.in-Select.rows (blank_definitions v parts c.requires.ready) prepared.3 c.select.ensures.reads) i.causes
 
 -- ---- a new index
 
@@ -192,7 +204,7 @@ returns-in_err-check_class-in-Define-clause-steps g c =
     let all : HasPrepared parts piece c.prepare.new.reply c.in_ok-outcome.field-0 = record { asked = e.asked; prepares = e.prepares; timeless = e.timeless; selects = e.selects } in
     let has = subst (HasPrepared parts piece c.prepare.new.reply) c.in-Define.is all in
     let p = err_from_is_err_and c.from_residual-in_err-check_class-in-Define.result c.from_residual-in_err-check_class-in-Define.ensures.1 in
-    rw (p.1, p.2) (step_missing (map (λ b. (goal.Analyzer-dyn g (b.vtable, b.value)).kind b.value) c.args.kit.now.objects.items) v (g.met.H.Host.sound c.args.host.now) (memory_of parts) piece c.prepare.new.reply (ask.Defines c.in-Define.index.table (index_of_new c.in-Define.index)) c.in_err-check_class-in-Define.field-0.0 has.asked c.in_err-check_class-in-Define.ensures.missing)
+    rw (p.1, p.2) (step_missing (map (λ b. (goal.Analyzer-dyn g (b.vtable, b.value)).kind b.value) c.args.kit.now.objects.items) v (g.met.H.Host.sound c.args.host.now) (memory_of parts) piece c.prepare.new.reply (ask.Defines c.in-Define.index.table (index_of_new c.in-Define.index)) c.in_err-check_class-in-Define.field-0.0 has.asked (subst (λ (kinds : List Class). LacksNeeded kinds (ask.Defines c.in-Define.index.table (index_of_new c.in-Define.index)) c.in_err-check_class-in-Define.field-0.0) c.prepare.ensures.kinds c.in_err-check_class-in-Define.ensures.missing))
 
 pub returns-in_err-define-in-Define-clause-steps : goal.returns-in_err-define-in-Define-clause-steps
 returns-in_err-define-in-Define-clause-steps g c =
@@ -203,7 +215,7 @@ returns-in_err-define-in-Define-clause-steps g c =
     let all : HasPrepared parts piece c.prepare.new.reply c.in_ok-outcome.field-0 = record { asked = e.asked; prepares = e.prepares; timeless = e.timeless; selects = e.selects } in
     let has = subst (HasPrepared parts piece c.prepare.new.reply) c.in-Define.is all in
     let p = err_from_is_err_and c.from_residual-in_err-define-in-Define.result c.from_residual-in_err-define-in-Define.ensures.1 in
-    rw (p.1, p.2) (step_failed (map (λ b. (goal.Analyzer-dyn g (b.vtable, b.value)).kind b.value) c.args.kit.now.objects.items) v (g.H.Host.view c.define.new.host) (memory_of parts) (memory_of c.define.new.parts) piece c.prepare.new.reply (ask.Defines c.in-Define.index.table (index_of_new c.in-Define.index)) has.asked (λ none. cc) _ c.in_err-define-in-Define.ensures.makes c.in_ok-check_class-in-Define.ensures.there)
+    rw (p.1, p.2) (step_failed (map (λ b. (goal.Analyzer-dyn g (b.vtable, b.value)).kind b.value) c.args.kit.now.objects.items) v (g.H.Host.view c.define.new.host) (memory_of parts) (memory_of c.define.new.parts) piece c.prepare.new.reply (ask.Defines c.in-Define.index.table (index_of_new c.in-Define.index)) has.asked (λ none. cc) _ c.in_err-define-in-Define.ensures.makes (subst (λ (kinds : List Class). HasNeeded kinds (class_needed (ask.Defines c.in-Define.index.table (index_of_new c.in-Define.index)))) c.prepare.ensures.kinds c.in_ok-check_class-in-Define.ensures.there))
 
 pub returns-in_ok-define-in-Define-clause-steps : goal.returns-in_ok-define-in-Define-clause-steps
 returns-in_ok-define-in-Define-clause-steps g c =
@@ -216,5 +228,23 @@ returns-in_ok-define-in-Define-clause-steps g c =
     step_made (map (λ b. (goal.Analyzer-dyn g (b.vtable, b.value)).kind b.value) c.args.kit.now.objects.items) v (g.H.Host.view c.define.new.host) (memory_of parts) (memory_of c.define.new.parts) piece c.prepare.new.reply (ask.Defines c.in-Define.index.table (index_of_new c.in-Define.index)) has.asked (λ none. cc) _
     (λ s. state_with_index s c.in-Define.index.table (index_of_new c.in-Define.index)) c.in_ok-define-in-Define.ensures.makes (λ s of. (has.prepares s of).0)
     (λ s of. known_as (memory_of c.define.new.parts) _ _ _ c.in_ok-define-in-Define.ensures.knows (defined_state parts.schema.definitions parts.max_timestamp s c.in-Define.index.table (index_of_new c.in-Define.index) of))
-    (λ known. known_after (map (λ b. (goal.Analyzer-dyn g (b.vtable, b.value)).kind b.value) c.args.kit.now.objects.items) (memory_of c.define.new.parts) _ _ c.in_ok-define-in-Define.ensures.knows (known_defined (map (λ b. (goal.Analyzer-dyn g (b.vtable, b.value)).kind b.value) c.args.kit.now.objects.items) parts.schema.definitions c.in-Define.index.table (index_of_new c.in-Define.index) c.in_ok-check_class-in-Define.ensures.there known))
-    c.in_ok-check_class-in-Define.ensures.there
+    (λ known. known_after (map (λ b. (goal.Analyzer-dyn g (b.vtable, b.value)).kind b.value) c.args.kit.now.objects.items) (memory_of c.define.new.parts) _ _ c.in_ok-define-in-Define.ensures.knows (known_defined (map (λ b. (goal.Analyzer-dyn g (b.vtable, b.value)).kind b.value) c.args.kit.now.objects.items) parts.schema.definitions c.in-Define.index.table (index_of_new c.in-Define.index) (subst (λ (kinds : List Class). HasNeeded kinds (class_needed (ask.Defines c.in-Define.index.table (index_of_new c.in-Define.index)))) c.prepare.ensures.kinds c.in_ok-check_class-in-Define.ensures.there) known))
+    (subst (λ (kinds : List Class). HasNeeded kinds (class_needed (ask.Defines c.in-Define.index.table (index_of_new c.in-Define.index)))) c.prepare.ensures.kinds c.in_ok-check_class-in-Define.ensures.there)
+
+pub returns-in_err-select-in-Select-clause-no_file_call : goal.returns-in_err-select-in-Select-clause-no_file_call
+returns-in_err-select-in-Select-clause-no_file_call g c s of needs =
+    let parts = c.args.parts.now in
+    let piece = piece_of c.args.end c.args.piece.now in
+    let e = c.in_ok-outcome.ensures in
+    let all : HasPrepared parts piece c.prepare.new.reply c.in_ok-outcome.field-0 = record { asked = e.asked; prepares = e.prepares; timeless = e.timeless; selects = e.selects } in
+    let prepared = (subst (HasPrepared parts piece c.prepare.new.reply) c.in-Select.is all).prepares s of in
+    absurd (needs_more s piece (λ statement. SelectsRows s statement c.in-Select.rows) prepared.0.outcome_is prepared.3 needs)
+
+pub returns-in_ok-select-in-Select-clause-no_file_call : goal.returns-in_ok-select-in-Select-clause-no_file_call
+returns-in_ok-select-in-Select-clause-no_file_call g c s of needs =
+    let parts = c.args.parts.now in
+    let piece = piece_of c.args.end c.args.piece.now in
+    let e = c.in_ok-outcome.ensures in
+    let all : HasPrepared parts piece c.prepare.new.reply c.in_ok-outcome.field-0 = record { asked = e.asked; prepares = e.prepares; timeless = e.timeless; selects = e.selects } in
+    let prepared = (subst (HasPrepared parts piece c.prepare.new.reply) c.in-Select.is all).prepares s of in
+    absurd (needs_more s piece (λ statement. SelectsRows s statement c.in-Select.rows) prepared.0.outcome_is prepared.3 needs)

@@ -1,15 +1,11 @@
-use Rattle.std.proofs.Common.{List, map, subst, sym}
+use Rattle.std.proofs.Common.{map, subst, sym}
 use Rattle.std.proofs.lemmas.Result.{err_from_is_err_and}
 use Rattle.sasi_layout.specs.Classes.{KnowsClasses}
 use Rattle.sasi_layout.specs.Serving.{Serves, StoreInMemory, known_in_memory}
-use Rattle.sasi_manifest.specs.OpenManifest.{ManifestState}
 use Rattle.sasi_machine.specs.Prepares.{IsStateOf}
 use Rattle.sasi_model.specs.State.{State}
 use Rattle.sasi_recover.specs.OpenedFolder.{opened_store}
-use Rattle.sasi_recover.specs.declared.opened.TableMap.{TableMap}
-use Rattle.sasi_store.specs.StoreView.{AreTables}
 use Rattle.sasi_store.proofs.Known.{opened_state, reports_on}
-use Rattle.sasi_store.proofs.TablesInMemory.{opened_tables}
 use Rattle.sasi_store.proofs.store.Store.open.Goals as goal
 
 pub returns-in_err-opened-clause-reports : goal.returns-in_err-opened-clause-reports
@@ -18,9 +14,7 @@ returns-in_err-opened-clause-reports g c =
     rw (p.1, p.2) (reports_on c.args.asked (map (λ b. (goal.Analyzer-dyn g (b.vtable, b.value)).kind b.value) c.args.kit.now.objects.items) (g.H.Host.view c.args.host.now) c.in_err-opened.field-0.0 c.in_err-opened.ensures.reports)
 
 pub invariant_of-result : goal.invariant_of-result
-invariant_of-result g c usable =
-    subst (λ (ts : List TableMap). AreTables c.in-Ok.parts.manifest.listing.partitioner ts) (sym c.in-Ok.ensures.tables)
-    (subst (λ (m : ManifestState). AreTables m.listing.partitioner c.in_ok-opened.opened.tables.items) (sym c.in-Ok.ensures.manifest) (opened_tables c.in_ok-opened.opened.manifest.listing c.in_ok-opened.opened.tables.items c.in_ok-opened.ensures.tables))
+invariant_of-result g c usable = c.in-Ok.ensures.parts
 
 pub returns-clause-serves : goal.returns-clause-serves
 returns-clause-serves g c folder l files shape =

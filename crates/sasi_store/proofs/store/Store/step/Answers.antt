@@ -27,4 +27,4 @@ returns-in_err-outcome-clause-reads g c =
     let a = g.H.Host.view c.args.host.now in
     let b = g.H.Host.view c.step.new.host in
     let piece = piece_of c.args.end c.args.piece.now in
-    subst (λ (store : StoreView). (w : World) → ServesWorld a store.memory w → b.reads ≤ a.reads + select_reads a.files store.memory (read piece)) c.self.view_is c.step.ensures.steps.reads
+    subst (λ (store : StoreView). (w : World) → ServesWorld a store.memory w → b.reads ≤ a.reads + select_reads a.files w.layout (read piece)) c.self.view_is c.step.ensures.steps.reads

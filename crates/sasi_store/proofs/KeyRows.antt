@@ -1,0 +1,94 @@
+-- The rows of a table that a SELECT with a relation on the key asks for are those of that key.
+use Rattle.std.proofs.Common.{◌≡◌, ◌&&◌, ℕ, Bool, true, false, cond, if◌then◌else◌, T, List, [], ◌∷◌, ◌++◌, map, Option, Some, is_some, refl, sym, ap, ◌∙◌}
+use Rattle.std.proofs.lemmas.Bool.{false_from_ne_true}
+use Rattle.std.proofs.lemmas.Cmp.{tied_itself}
+use Rattle.std.proofs.lemmas.List.{append-nil}
+use Rattle.std.specs.FinMap as map_
+use Rattle.std.specs.FinMap.{find, is_sorted}
+use Rattle.std.specs.FinMap.Entries.{below_all}
+use Rattle.std.specs.List.{AllByRecursion}
+use Rattle.std.specs.Ordering.{eq_by_cmp, is_eq}
+use Rattle.sasi_types.specs.declared.column.ColumnType.{ColumnType}
+use Rattle.sasi_types.specs.declared.decorated_key.DecoratedKey.{DecoratedKey}
+use Rattle.sasi_types.specs.declared.partitioner.Partitioner.{Partitioner}
+use Rattle.sasi_types.specs.declared.value.Value.{Value}
+use Rattle.sasi_types.specs.DecoratedKey.{decorated_cmp, decorated_total}
+use Rattle.sasi_model.specs.Abbreviations.{Partitions, count_line}
+use Rattle.sasi_model.specs.Cells.{Partition, is_live}
+use Rattle.sasi_model.specs.Conditions.{Condition}
+use Rattle.sasi_model.specs.Filters.{Filter, accepts, answers}
+use Rattle.sasi_model.specs.Lines.{rows_lines}
+use Rattle.sasi_model.specs.State.{decorated}
+use Rattle.sasi_cells.specs.declared.picked.PickedColumn.{PickedColumn}
+use Rattle.sasi_cells.specs.Rows.{picked_value}
+use Rattle.sasi_cells.proofs.Laws.Decorated.{entries_have, equal_keys, none_below}
+use Rattle.sasi_machine.specs.TableRows.{rows_picked}
+use Rattle.sasi_machine.specs.Where.{key_asked, where_of}
+use Rattle.sasi_machine.specs.declared.row_query.RowQuery.{RowQuery}
+use Rattle.sasi_machine.proofs.AskedKeys.{asked_alone}
+use Rattle.sasi_memtable.specs.MemtableView.{AreDecorated}
+use Rattle.sasi_merge.specs.Streams.{Entries, IsRising}
+use Rattle.sasi_store.specs.KeyLookups.{entry_found}
+use Rattle.sasi_store.specs.Left.{ArePrinted, rows_of}
+use Rattle.sasi_store.proofs.Printing.{answer_is}
+
+both_true : (a b : Bool) → T (a && b) → T a × T b
+both_true true b h = (tt, h)
+both_true false b h = absurd h
+
+second_true : (a b : Bool) → (a && b) ≡ true → b ≡ true
+second_true true b is = is
+second_true false b is = (let no : false ≡ true = is in cc)
+
+module _ (kind : ColumnType) (columns : List PickedColumn) (f : Filter) (key : DecoratedKey) where
+  abbrev rows : Entries → List (List (Option Value))
+  rows = rows_picked kind columns f
+
+  -- where no entry of another key is accepted, the rows are those of what a look-up of the key finds
+  rows_alone : (es : Entries) → IsRising es → AllByRecursion (λ e. answers f e ≡ true → e.0 ≡ key) es → rows es ≡ rows (entry_found key (find decorated_cmp key es))
+  rows_alone [] rising alone = refl
+  rows_alone (e ∷ es) rising alone = by (eq_by_cmp decorated_cmp key e.0) refl (rows_alone es parts.1 alone.1)
+    where
+      parts : T (below_all decorated_cmp e.0 es) × T (is_sorted decorated_cmp es)
+      parts = both_true _ _ rising
+
+      by : (b : Bool) → eq_by_cmp decorated_cmp key e.0 ≡ b → rows es ≡ rows (entry_found key (find decorated_cmp key es)) → rows (e ∷ es) ≡ rows (entry_found key (cond (eq_by_cmp decorated_cmp key e.0) (Some e.1) (find decorated_cmp key es)))
+      by true same rest =
+          let is : key ≡ e.0 = equal_keys key e.0 same in
+          let none : rows es ≡ [] = rest ∙ ap (λ (o : Option Partition). rows (entry_found key o)) (ap (λ (k : DecoratedKey). find decorated_cmp k es) is ∙ none_below e.0 es parts.0) in
+          ap (λ (rs : List (List (Option Value))). if answers f e then map (picked_value kind e.0.key e.1) columns ∷ rs else rs) none
+          ∙ ap (λ (k : DecoratedKey). rows ((k, e.1) ∷ [])) (sym is)
+          ∙ ap (λ b. rows (entry_found key (cond b (Some e.1) (find decorated_cmp key es)))) (sym same)
+      by false other rest =
+          let unasked : answers f e ≡ false = false_from_ne_true (answers f e) (λ asked. (
+          let is : e.0 ≡ key = alone.0 asked in
+          let no : true ≡ false = sym (ap is_eq (tied_itself decorated_total key)) ∙ ap (λ (k : DecoratedKey). eq_by_cmp decorated_cmp key k) (sym is) ∙ other in
+          cc)) in
+          ap (λ b. if b then map (picked_value kind e.0.key e.1) columns ∷ rows es else rows es) unasked
+          ∙ rest
+          ∙ ap (λ b. rows (entry_found key (cond b (Some e.1) (find decorated_cmp key es)))) (sym other)
+
+-- **The rows of all partitions of a table are those of the key's.**
+pub rows_of_key : (kind : ColumnType) (columns : List PickedColumn) (conditions : List Condition) (p : Partitioner) (asked : List ℕ) (m : Partitions) → key_asked conditions ≡ Some asked → AreDecorated p m
+    → rows_picked kind columns (where_of conditions) (map_.entries m) ≡ rows_picked kind columns (where_of conditions) (entry_found (decorated p asked) (map_.get m (decorated p asked)))
+rows_of_key kind columns conditions p asked m is all =
+    rows_alone kind columns (where_of conditions) (decorated p asked) (map_.entries m) (map_.entries_sorted m) (entries_have (λ e. answers (where_of conditions) e ≡ true → e.0 ≡ decorated p asked) m alone)
+    ∙ ap (λ (o : Option Partition). rows_picked kind columns (where_of conditions) (entry_found (decorated p asked) o)) (sym (map_.get-entries m (decorated p asked)))
+  where
+    alone : (q : DecoratedKey) (part : Partition) → map_.get m q ≡ Some part → answers (where_of conditions) (q, part) ≡ true → q ≡ decorated p asked
+    alone q part there answered =
+        all q (ap is_some there) ∙ ap (decorated p) (asked_alone conditions asked q.key part is (second_true (is_live part) (accepts (where_of conditions) q.key part) answered))
+
+-- ---- printing
+
+pub none_printed : (query : RowQuery) (reply : List ℕ) → ArePrinted query [] reply reply 0
+none_printed query reply = record { reply_is = sym (append-nil reply); rows_are = refl }
+
+-- with their number they are the answer
+pub key_answer : (query : RowQuery) (p : Partitioner) (asked : List ℕ) (found : Option Partition) (m : Partitions) (reply_old reply reply_new : List ℕ) (rows : ℕ) → key_asked query.filter ≡ Some asked → AreDecorated p m → found ≡ map_.get m (decorated p asked)
+    → ArePrinted query (entry_found (decorated p asked) found) reply_old reply rows → reply_new ≡ reply ++ count_line rows → reply_new ≡ reply_old ++ rows_lines (rows_of query (map_.entries m))
+key_answer query p asked found m reply_old reply reply_new rows is all found_is printed counted =
+    let es = entry_found (decorated p asked) found in
+    answer_is query es es reply_old reply reply_new rows refl printed counted
+    ∙ ap (λ (o : Option Partition). reply_old ++ rows_lines (rows_of query (entry_found (decorated p asked) o))) found_is
+    ∙ ap (λ (rs : List (List (Option Value))). reply_old ++ rows_lines rs) (sym (rows_of_key query.picked.key query.picked.columns query.filter p asked m is all))

@@ -1,0 +1,137 @@
+-- The maps of tables in memory: they stand in a book under numbers of their own, each with the indexes of its table.
+use Rattle.std.specs.Prelude.{◌≡◌, ◌<◌, ◌≤◌, ◌-◌, ◌++◌, ◌∷◌, [], ℕ, suc, false, nat_eq, List, length, map, slice_get, slice_set, Option, None, Some, IsSome, ⊤}
+use Rattle.std.specs.FinMap.{get}
+use Rattle.std.specs.List.{AllByRecursion, zip}
+use Rattle.std.specs.Option.{option_map, option_map_or}
+use Rattle.sasi_types.specs.Rule.{class_of}
+use Rattle.sasi_types.specs.declared.class.Class.{Class}
+use Rattle.sasi_types.specs.declared.column.ColumnType.{ColumnType}
+use Rattle.sasi_types.specs.declared.index_def.IndexDef.{IndexDef}
+use Rattle.sasi_types.specs.declared.partitioner.Partitioner.TheVariants.{Lead8}
+use Rattle.sasi_types.specs.declared.rule.Rule.{Rule}
+use Rattle.sasi_cells.specs.declared.mutation.Mutation.{Mutation}
+use Rattle.sasi_layout.specs.Classes.{HasNeeded}
+use Rattle.sasi_layout.specs.Moves.{or_else}
+use Rattle.sasi_manifest.specs.ListedDefinition.{ListedDefinition}
+use Rattle.sasi_manifest.specs.declared.listed.ListedTable.{ListedTable}
+use Rattle.sasi_memindex.specs.declared.map_part.MapPart.{MapPart}
+use Rattle.sasi_memindex.specs.Book.{AreKept, AreValuesOf, Book, IsChanged, IsMissingIn, bare, subjects}
+use Rattle.sasi_memtable.specs.MemtableView.{MemtableView, empty_memtable}
+use Rattle.sasi_model.specs.Abbreviations.{kind_of}
+use Rattle.sasi_model.specs.State.{Definition, Index}
+use Rattle.sasi_recover.specs.declared.opened.TableMap.{TableMap}
+use Rattle.sasi_store.specs.declared.table_maps.TableMaps.{TableMaps}
+
+-- ---- the maps of tables
+
+-- the map with this number, an empty one where there is none
+abbrev pub map_in : Book → ℕ → MemtableView
+map_in book number = option_map_or (λ (part : MapPart). part.map) (get book number) (empty_memtable Lead8)
+
+-- a table with its map
+abbrev pub held_by : Book → TableMaps → TableMap
+held_by book t = record { number = t.number; memtable = map_in book t.memtable; first = t.first }
+
+abbrev pub held_of : Book → List TableMaps → List TableMap
+held_of book tables = map (held_by book) tables
+
+-- ---- their indexes
+
+-- the number of an index, and what it is of
+abbrev pub Subject : Type 0
+Subject = ℕ × (ℕ × (ColumnType × Option Rule))
+
+abbrev pub subject_in : Definition → Index → ℕ × (ColumnType × Option Rule)
+subject_in d index = (index.column, (kind_of d index.column, index.rule))
+
+-- the indexes that a listed table has
+abbrev pub subjects_of : ListedDefinition → List Subject
+subjects_of t = zip t.numbers (map (subject_in t.definition) t.definition.indexes)
+
+-- the map has these indexes and no others, and each has the terms of the cells that are current in the map
+pub record IsIndexed (wanted : List Subject) (part : MapPart) : Type 0 where
+  pub subjects_are : subjects part.indexes ≡ wanted
+  pub kept : AreKept part.map.partitions part.indexes
+
+abbrev pub HasIndexes : List Subject → Option MapPart → Type 0
+HasIndexes wanted None = ⊥
+HasIndexes wanted (Some part) = IsIndexed wanted part
+
+-- The tables have maps of their own in the book, numbered up to the last used number, and each map has its table's indexes.
+pub record AreMapped (book : Book) (last : ℕ) (wanted : List (List Subject)) (tables : List TableMaps) : Type 0 where
+  pub counted : length wanted ≡ length tables
+  pub apart : (i j : ℕ) (x y : TableMaps) → slice_get tables i ≡ Some x → slice_get tables j ≡ Some y → x.memtable ≡ y.memtable → i ≡ j
+  pub used : (i : ℕ) (x : TableMaps) → slice_get tables i ≡ Some x → x.memtable ≤ last
+  pub indexed : (i : ℕ) (x : TableMaps) (subjects : List Subject) → slice_get tables i ≡ Some x → slice_get wanted i ≡ Some subjects → HasIndexes subjects (get book x.memtable)
+
+-- each index is of a regular column
+abbrev pub HasRegularIndexes : ListedDefinition → Type 0
+HasRegularIndexes t = AllByRecursion (λ (index : Index). 1 ≤ index.column) t.definition.indexes
+
+-- ---- changes
+
+-- the map with this number is another, and the others stay
+abbrev pub OthersStay : ℕ → Book → Book → Type 0
+OthersStay number old new = (other : ℕ) → nat_eq other number ≡ false → get new other ≡ get old other
+
+-- the table with this number is there, and so is its map
+pub record HasMapFor (number : ℕ) (tables : List TableMaps) (book : Book) : Type 0 where
+  pub some : 0 < number
+  pub inside : number ≤ length tables
+  pub there : (t : TableMaps) → slice_get tables (number - 1) ≡ Some t → IsSome (get book t.memtable)
+
+-- an analyzer of each class is there that the map's indexes need
+abbrev pub KnowsMap : List Class → Option MapPart → Type 0
+KnowsMap kinds part = (class : Class) → IsMissingIn kinds part class → ⊥
+
+-- The map of a table has the mutation, and this segment is the table's first one if it had none.
+pub record IsPutIn (segment : ℕ) (m : Mutation) (t : TableMaps) (old new : List TableMaps) (book after : Book) : Type 0 where
+  pub tables_are : new ≡ slice_set old (m.table - 1) (record t { first = or_else t.first (Some segment) })
+  pub changed : IsChanged m.key m.change (get book t.memtable) (get after t.memtable)
+  pub others : OthersStay t.memtable book after
+
+-- what an index is of that has this definition
+abbrev pub subject_of : IndexDef → Subject
+subject_of def = (def.number, (def.column, (def.kind, def.rule)))
+
+-- an analyzer is there for an index of this definition
+abbrev pub KnowsDef : List Class → IndexDef → Type 0
+KnowsDef kinds def = HasNeeded kinds (option_map class_of def.rule)
+
+-- the map has values of the type in the column of each of them
+abbrev pub CanAddAll : List IndexDef → Option MapPart → Type 0
+CanAddAll defs None = ⊥
+CanAddAll defs (Some part) = AllByRecursion (λ (def : IndexDef). AreValuesOf def.column def.kind part.map.partitions) defs
+
+-- indexes of these definitions come after the others; where those are kept, all are
+pub record HasNewIndexes (defs : List IndexDef) (old new : MapPart) : Type 0 where
+  pub map_is : new.map ≡ old.map
+  pub subjects_are : subjects new.indexes ≡ subjects old.indexes ++ map subject_of defs
+  pub kept : AreKept old.map.partitions old.indexes → AreKept new.map.partitions new.indexes
+
+abbrev pub AreAdded : List IndexDef → Option MapPart → Option MapPart → Type 0
+AreAdded defs (Some old) (Some new) = HasNewIndexes defs old new
+AreAdded defs old new = ⊥
+
+-- what the indexes of listed tables are of
+abbrev pub wanted_rows : List ListedTable → List (List Subject)
+wanted_rows rows = map (λ (row : ListedTable). map subject_of row.table.indexes) rows
+
+-- maps for the listed tables, whose indexes can be made
+abbrev pub CanIndexTables : List Class → List ListedTable → List TableMap → Type 0
+CanIndexTables kinds [] [] = ⊤
+CanIndexTables kinds [] (x ∷ xs) = ⊥
+CanIndexTables kinds (row ∷ rows) [] = ⊥
+CanIndexTables kinds (row ∷ rows) (x ∷ xs) = CanAddAll row.table.indexes (Some (bare x.memtable)) × AllByRecursion (KnowsDef kinds) row.table.indexes × CanIndexTables kinds rows xs
+
+-- a table more has its map under a new number, with indexes of these definitions
+pub record IsAddedTo (last : ℕ) (t : TableMap) (defs : List IndexDef) (old new : List TableMaps) (book after : Book) : Type 0 where
+  pub tables_are : new ≡ old ++ record { number = t.number; memtable = suc last; first = t.first } ∷ []
+  pub made : AreAdded defs (Some (bare t.memtable)) (get after (suc last))
+  pub others : OthersStay (suc last) book after
+
+-- another map with indexes of these definitions stands in the place of a table's own, and the table has no first segment
+pub record IsReplaced (index : ℕ) (memtable : MemtableView) (defs : List IndexDef) (t : TableMaps) (old new : List TableMaps) (book after : Book) : Type 0 where
+  pub tables_are : new ≡ slice_set old index (record t { first = None })
+  pub made : AreAdded defs (Some (bare memtable)) (get after t.memtable)
+  pub others : OthersStay t.memtable book after
